@@ -1,0 +1,20 @@
+//! The types that every layer speaks of: lists, boxes, journals, ends of cores, and the report.
+#![tactic(auto)]
+
+mod boxed;
+mod draft;
+mod ends;
+mod entry;
+mod list;
+mod memory;
+mod span;
+mod texts;
+
+pub use boxed::Boxed;
+pub use draft::Draft;
+pub use ends::{CoreEnd, EndWord, MachineEnd, Phase, Status, Trap, Waiting};
+pub use entry::{Answer, Entry, Event, Journal, Payload};
+pub use list::{Bytes, List, Name};
+pub use memory::NoMemory;
+pub use span::Span;
+pub use texts::{decimal, report, status};
