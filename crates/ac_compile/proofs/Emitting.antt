@@ -1,0 +1,179 @@
+-- What the loops of the compiler keep.
+use Rattle.std.proofs.Common.{◌≡◌, ℕ, suc, ◌+◌, ◌<◌, ◌≤◌, List, [], ◌∷◌, ◌++◌, length, drop, get_or, Option, Some, None, refl, sym, ap, ◌∙◌, subst, arith, append_assoc, append-nil, length-append, drop-cons, add-one}
+use Rattle.std.specs.Prelude.{map}
+use Rattle.std.specs.Option.{option_map}
+use Rattle.std.proofs.Math.ListN.{drop_of_length-le}
+use Rattle.ac_types.specs.Resolved.{Operation, Expression, Combine, Command, Print}
+use Rattle.ac_tree.specs.declared.expr.Link.{Link}
+use Rattle.ac_tree.specs.declared.expr.Expr.{Expr}
+use Rattle.ac_tree.specs.declared.expr.Expr.TheVariants as e
+use Rattle.ac_types.proofs.Folds.{chain_is, link_is}
+use Rattle.ac_tree.specs.declared.stmt.Stmt.TheVariants as st
+use Rattle.stack_code.specs.declared.instr.Instr.TheVariants as i
+use Rattle.std.proofs.lemmas.List.{length-map}
+use Rattle.ac_types.specs.Resolution.{operation_of, resolved_expr, resolved_link, resolved_stmt, joined, chained, all_of}
+use Rattle.stack_code.specs.declared.instr.Instr.{Instr}
+use Rattle.ac_compile.specs.Translation.{instr_of, expr_code, args_code, command_code, text_of, body_code}
+use Rattle.ac_compile.specs.Emitted.{AddsExpr, AddsOperation, AddsArgs, AddsLinks, AddsCommand, IsBody}
+
+-- ---- chains
+
+-- so far the code is that of a part of the chain on the left, and the rest makes it whole
+abbrev pub KeepsChain : List (Option Operation × Option Expression) → List (Option Operation × Option Expression) → List Instr → List Instr → Type 0
+KeepsChain links rest before now =
+    (front : List Instr) (left whole : Expression) → before ≡ front ++ expr_code left → chained (Some left) links ≡ Some whole → (at : Expression) × (now ≡ front ++ expr_code at) × (chained (Some at) rest ≡ Some whole)
+
+pub chain_begun : (links : List (Option Operation × Option Expression)) (now : List Instr) → KeepsChain links links now now
+chain_begun links now front left whole e c = (left, e, c)
+
+one_more : (op : Option Operation) (right : Option Expression) (rest : List (Option Operation × Option Expression)) (at whole : Expression) (front now mid after : List Instr) →
+    AddsExpr right now mid → AddsOperation op mid after → now ≡ front ++ expr_code at → chained (joined at op right) rest ≡ Some whole → (next : Expression) × (after ≡ front ++ expr_code next) × (chained (Some next) rest ≡ Some whole)
+one_more (Some op) (Some right) rest at whole front now mid after a b e c =
+    let code : after ≡ ((front ++ expr_code at) ++ expr_code right) ++ instr_of op ∷ [] = b ∙ ap (λ l. l ++ instr_of op ∷ []) (a ∙ ap (λ l. l ++ expr_code right) e) in
+    (Combine op at right, code ∙ simp append_assoc, c)
+one_more None right rest at whole front now mid after a b e c = let no : None ≡ Some whole = c in cc
+one_more (Some op) None rest at whole front now mid after a b e c = let no : None ≡ Some whole = c in cc
+
+pub chain_more : (links : List (Option Operation × Option Expression)) (op : Option Operation) (right : Option Expression) (rest : List (Option Operation × Option Expression)) (before now mid after : List Instr) →
+    KeepsChain links ((op, right) ∷ rest) before now → AddsExpr right now mid → AddsOperation op mid after → KeepsChain links rest before after
+chain_more links op right rest before now mid after k a b front left whole e c =
+    let x = k front left whole e c in one_more op right rest x.0 whole front now mid after a b x.1 x.2
+
+pub chain_done : (links : List (Option Operation × Option Expression)) (before now : List Instr) → KeepsChain links [] before now → AddsLinks links before now
+chain_done links before now k front left whole e c =
+    let x = k front left whole e c in
+    let same : x.0 ≡ whole = let both : Some x.0 ≡ Some whole = x.2 in cc in
+    x.1 ∙ ap (λ w. front ++ expr_code w) same
+
+whole_chain : (o : Option Expression) (first : Expression) (links : List (Option Operation × Option Expression)) (before mid after : List Instr) →
+    chained (Some first) links ≡ o → mid ≡ before ++ expr_code first → AddsLinks links mid after → AddsExpr o before after
+whole_chain None first links before mid after e m a = tt
+whole_chain (Some whole) first links before mid after e m a = a before first whole m e
+
+pub chain_adds : (first : Option Expression) (links : List (Option Operation × Option Expression)) (before mid after : List Instr) → AddsExpr first before mid → AddsLinks links mid after → AddsExpr (chained first links) before after
+chain_adds None links before mid after a b = tt
+chain_adds (Some first) links before mid after a b = whole_chain (chained (Some first) links) first links before mid after refl a b
+
+-- the links from a place on
+pub links_from : (links : List Link) (i : ℕ) (link : Link) → i < length links → link ≡ get_or links i link →
+    map resolved_link (drop i links) ≡ (operation_of link.op, resolved_expr link.operand) ∷ map resolved_link (drop (i + 1) links)
+links_from links i link lt is =
+    ap (map resolved_link) (drop-cons links i link lt ∙ ap (λ x. x ∷ drop (suc i) links) (sym is)) ∙ ap (λ x. x ∷ map resolved_link (drop (suc i) links)) (link_is link) ∙ rw add-one
+
+pub links_end : (links : List Link) (i : ℕ) → length links ≤ i → map resolved_link (drop i links) ≡ []
+links_end links i le = ap (map resolved_link) (drop_of_length-le links le)
+
+pub chain_expr : (at level : ℕ) (first : Expr) (rest : List Link) (before mid after : List Instr) → AddsExpr (resolved_expr first) before mid → AddsLinks (map resolved_link rest) mid after →
+    AddsExpr (resolved_expr (e.Chain at level first rest)) before after
+chain_expr at level first rest before mid after a b = rw (chain_is at level first rest) (chain_adds (resolved_expr first) (map resolved_link rest) before mid after a b)
+
+-- ---- arguments
+
+-- the arguments from a place on make the code whole
+pub record KeepsArgs (args : List (Option Expression)) (rest : List (Option Expression)) (before now : List Instr) : Type 0 where
+  pub more : (whole : List Expression) → all_of args ≡ Some whole → (es : List Expression) × (all_of rest ≡ Some es) × (now ++ args_code es ≡ before ++ args_code whole)
+
+pub args_begun : (args : List (Option Expression)) (now : List Instr) → KeepsArgs args args now now
+args_begun args now = record { more = λ whole e. (whole, e, refl) }
+
+-- the first of some values that are all there, and the others
+pub record First {A : Type 0} (o : Option A) (os : List (Option A)) (whole : List A) : Type 0 where
+  pub one : A
+  pub others : List A
+  pub first : o ≡ Some one
+  pub rest : all_of os ≡ Some others
+  pub whole_is : whole ≡ one ∷ others
+
+first_of : {A : Type 0} (x : A) (os : List (Option A)) (whole : List A) (rest : Option (List A)) → all_of os ≡ rest → option_map (λ xs. x ∷ xs) rest ≡ Some whole → First (Some x) os whole
+first_of x os whole None e h = cc
+first_of x os whole (Some xs) e h = record { one = x; others = xs; first = refl; rest = e; whole_is = let both : Some (x ∷ xs) ≡ Some whole = h in cc }
+
+pub all_more : {A : Type 0} (o : Option A) (os : List (Option A)) (whole : List A) → all_of (o ∷ os) ≡ Some whole → First o os whole
+all_more None os whole e = let no : None ≡ Some whole = e in cc
+all_more (Some x) os whole e = first_of x os whole (all_of os) refl e
+
+adds_some : (o : Option Expression) (e : Expression) (before after : List Instr) → o ≡ Some e → AddsExpr o before after → after ≡ before ++ expr_code e
+adds_some o e before after q a = subst (λ x. AddsExpr x before after) q a
+
+pub args_more : (args : List (Option Expression)) (o : Option Expression) (rest : List (Option Expression)) (before now after : List Instr) → KeepsArgs args (o ∷ rest) before now → AddsExpr o now after → KeepsArgs args rest before after
+args_more args o rest before now after k a = record { more = λ whole e.
+    let x = k.more whole e in
+    let f = all_more o rest x.0 x.1 in
+    let code : after ≡ now ++ expr_code f.one = adds_some o f.one now after f.first a in
+    (f.others, f.rest, ap (λ l. l ++ args_code f.others) code ∙ append_assoc now (expr_code f.one) (args_code f.others) ∙ ap (λ es. now ++ args_code es) (sym f.whole_is) ∙ x.2) }
+
+none_left : (rest : List (Option Expression)) (es : List Expression) → rest ≡ [] → all_of rest ≡ Some es → es ≡ []
+none_left rest es r e = let both : Some [] ≡ Some es = ap all_of (sym r) ∙ e in cc
+
+whole_args : (o : Option (List Expression)) (args : List (Option Expression)) (rest : List (Option Expression)) (before now : List Instr) → all_of args ≡ o → rest ≡ [] → KeepsArgs args rest before now → AddsArgs o before now
+whole_args None args rest before now q r k = tt
+whole_args (Some whole) args rest before now q r k =
+    let x = k.more whole q in
+    sym (append-nil now) ∙ ap (λ es. now ++ args_code es) (sym (none_left rest x.0 r x.1)) ∙ x.2
+
+pub args_done : (args rest : List (Option Expression)) (before now : List Instr) → rest ≡ [] → KeepsArgs args rest before now → AddsArgs (all_of args) before now
+args_done args rest before now r k = whole_args (all_of args) args rest before now refl r k
+
+pub items_from : {A B : Type 0} (f : A → B) (items : List A) (i : ℕ) (item : A) → i < length items → item ≡ get_or items i item → map f (drop i items) ≡ f item ∷ map f (drop (i + 1) items)
+items_from f items i item lt is = ap (map f) (drop-cons items i item lt ∙ ap (λ x. x ∷ drop (suc i) items) (sym is)) ∙ rw add-one
+
+pub items_end : {A B : Type 0} (f : A → B) (items : List A) (i : ℕ) → length items ≤ i → map f (drop i items) ≡ []
+items_end f items i le = ap (map f) (drop_of_length-le items le)
+
+-- ---- statements
+
+-- the statements from a place on make the code and the texts whole
+pub record KeepsBody (stmts rest : List (Option Command)) (instrs : List Instr) (texts : List (List ℕ)) : Type 0 where
+  pub more : (whole : List Command) → all_of stmts ≡ Some whole → (cs : List Command) × (all_of rest ≡ Some cs) × (instrs ++ body_code (length texts) cs ≡ body_code 0 whole) × (texts ++ map text_of cs ≡ map text_of whole)
+
+pub body_begun : (stmts : List (Option Command)) (instrs : List Instr) (texts : List (List ℕ)) → instrs ≡ [] → texts ≡ [] → KeepsBody stmts stmts instrs texts
+body_begun stmts instrs texts i t = record { more = λ whole e. (whole, e, rw (i, t) refl, rw t refl) }
+
+adds_command : (o : Option Command) (c : Command) (instrs : List Instr) (texts : List (List ℕ)) (instrs' : List Instr) (texts' : List (List ℕ)) → o ≡ Some c → AddsCommand o instrs texts instrs' texts' →
+    (instrs' ≡ instrs ++ command_code (length texts) c) × (texts' ≡ texts ++ text_of c ∷ [])
+adds_command o c instrs texts instrs' texts' q a = subst (λ x. AddsCommand x instrs texts instrs' texts') q a
+
+pub body_more : (stmts : List (Option Command)) (o : Option Command) (rest : List (Option Command)) (instrs : List Instr) (texts : List (List ℕ)) (instrs' : List Instr) (texts' : List (List ℕ)) →
+    KeepsBody stmts (o ∷ rest) instrs texts → AddsCommand o instrs texts instrs' texts' → KeepsBody stmts rest instrs' texts'
+body_more stmts o rest instrs texts instrs' texts' k a = record { more = λ whole e.
+    let x = k.more whole e in
+    let f = all_more o rest x.0 x.1 in
+    let added = adds_command o f.one instrs texts instrs' texts' f.first a in
+    let count : length texts' ≡ length texts + 1 = omega (arith, ap length added.1, length-append texts (text_of f.one ∷ [])) in
+    let code : instrs' ++ body_code (length texts') f.others ≡ instrs ++ body_code (length texts) (f.one ∷ f.others) =
+        ap (λ n. instrs' ++ body_code n f.others) count ∙ ap (λ l. l ++ body_code (length texts + 1) f.others) added.0 ∙ append_assoc instrs (command_code (length texts) f.one) (body_code (length texts + 1) f.others) in
+    let words : texts' ++ map text_of f.others ≡ texts ++ map text_of (f.one ∷ f.others) = ap (λ l. l ++ map text_of f.others) added.1 ∙ append_assoc texts (text_of f.one ∷ []) (map text_of f.others) in
+    (f.others, f.rest, code ∙ ap (λ cs. instrs ++ body_code (length texts) cs) (sym f.whole_is) ∙ x.2, words ∙ ap (λ cs. texts ++ map text_of cs) (sym f.whole_is) ∙ x.3) }
+
+no_commands : (rest : List (Option Command)) (cs : List Command) → rest ≡ [] → all_of rest ≡ Some cs → cs ≡ []
+no_commands rest cs r e = let both : Some [] ≡ Some cs = ap all_of (sym r) ∙ e in cc
+
+whole_body : (o : Option (List Command)) (stmts rest : List (Option Command)) (instrs : List Instr) (texts : List (List ℕ)) → all_of stmts ≡ o → rest ≡ [] → KeepsBody stmts rest instrs texts → IsBody o instrs texts
+whole_body None stmts rest instrs texts q r k = tt
+whole_body (Some whole) stmts rest instrs texts q r k =
+    let x = k.more whole q in
+    let none = no_commands rest x.0 r x.1 in
+    (sym (append-nil instrs) ∙ ap (λ cs. instrs ++ body_code (length texts) cs) (sym none) ∙ x.2, sym (append-nil texts) ∙ ap (λ cs. texts ++ map text_of cs) (sym none) ∙ x.3)
+
+pub body_done : (stmts rest : List (Option Command)) (instrs : List Instr) (texts : List (List ℕ)) → rest ≡ [] → KeepsBody stmts rest instrs texts → IsBody (all_of stmts) instrs texts
+body_done stmts rest instrs texts r k = whole_body (all_of stmts) stmts rest instrs texts refl r k
+
+-- as many values as parts
+all_of-length : {A : Type 0} (os : List (Option A)) (xs : List A) → all_of os ≡ Some xs → length xs ≡ length os
+all_of-length [] xs e = let same : [] ≡ xs = cc in ap length (sym same)
+all_of-length (o ∷ os) xs e = let f = all_more o os xs e in ap length f.whole_is ∙ ap (λ n. suc n) (all_of-length os f.others f.rest)
+
+print_whole : (o : Option (List Expression)) (format : List ℕ) (args : List (Option Expression)) (count text : ℕ) (i0 i1 i2 i3 : List Instr) (texts texts' : List (List ℕ)) → all_of args ≡ o →
+    i1 ≡ i0 ++ i.Step ∷ [] → AddsArgs o i1 i2 → i3 ≡ i2 ++ i.Print text count ∷ [] → text ≡ length texts → count ≡ length args → texts' ≡ texts ++ format ∷ [] → AddsCommand (option_map (λ es. Print format es) o) i0 texts i3 texts'
+print_whole None format args count text i0 i1 i2 i3 texts texts' q a b c n k t = tt
+print_whole (Some es) format args count text i0 i1 i2 i3 texts texts' q a b c n k t =
+    let many : count ≡ length es = k ∙ sym (all_of-length args es q) in
+    let joined : ((i0 ++ i.Step ∷ []) ++ args_code es) ++ i.Print text count ∷ [] ≡ i0 ++ i.Step ∷ (args_code es ++ i.Print text count ∷ []) = simp append_assoc in
+    let code : i3 ≡ i0 ++ i.Step ∷ (args_code es ++ i.Print text count ∷ []) = c ∙ ap (λ l. l ++ i.Print text count ∷ []) (b ∙ ap (λ l. l ++ args_code es) a) ∙ joined in
+    (code ∙ ap (λ m. i0 ++ i.Step ∷ (args_code es ++ i.Print m count ∷ [])) n ∙ ap (λ m. i0 ++ i.Step ∷ (args_code es ++ i.Print (length texts) m ∷ [])) many, t)
+
+pub print_adds : (at : ℕ) (format : List ℕ) (args : List Expr) (count text : ℕ) (i0 i1 i2 i3 : List Instr) (texts texts' : List (List ℕ)) →
+    i1 ≡ i0 ++ i.Step ∷ [] → AddsArgs (all_of (map resolved_expr args)) i1 i2 → i3 ≡ i2 ++ i.Print text count ∷ [] → text ≡ length texts → count ≡ length args → texts' ≡ texts ++ format ∷ [] →
+    AddsCommand (resolved_stmt (st.Print at format args)) i0 texts i3 texts'
+print_adds at format args count text i0 i1 i2 i3 texts texts' a b c n k t =
+    print_whole (all_of (map resolved_expr args)) format (map resolved_expr args) count text i0 i1 i2 i3 texts texts' refl a b c n (k ∙ sym (length-map args resolved_expr)) t

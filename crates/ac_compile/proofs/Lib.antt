@@ -1,0 +1,5 @@
+pub mod Placed
+pub mod Agrees
+pub mod Fitting
+pub mod Placing
+pub mod Emitting

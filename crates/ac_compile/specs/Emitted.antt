@@ -1,0 +1,43 @@
+-- What the compiler writes for a part of the tree, where that part has a meaning.
+use Rattle.std.specs.Prelude.{◌≡◌, ℕ, List, [], ◌∷◌, ◌++◌, length, map, Option, None, Some}
+use Rattle.ac_types.specs.Resolved.{Operation, Expression, Command}
+use Rattle.ac_types.specs.Resolution.{chained, one_core}
+use Rattle.stack_code.specs.Parts.{Parts}
+use Rattle.stack_code.specs.declared.instr.Instr.{Instr}
+use Rattle.ac_compile.specs.Translation.{instr_of, expr_code, args_code, command_code, text_of, body_code, last_code, code_of}
+
+abbrev pub AddsExpr : Option Expression → List Instr → List Instr → Type 0
+AddsExpr None before after = Unit {0}
+AddsExpr (Some e) before after = after ≡ before ++ expr_code e
+
+abbrev pub AddsOperation : Option Operation → List Instr → List Instr → Type 0
+AddsOperation None before after = Unit {0}
+AddsOperation (Some op) before after = after ≡ before ++ instr_of op ∷ []
+
+abbrev pub AddsArgs : Option (List Expression) → List Instr → List Instr → Type 0
+AddsArgs None before after = Unit {0}
+AddsArgs (Some es) before after = after ≡ before ++ args_code es
+
+-- after the code of what stands on the left, the links make that of the whole chain
+abbrev pub AddsLinks : List (Option Operation × Option Expression) → List Instr → List Instr → Type 0
+AddsLinks links before after =
+    (front : List Instr) (left whole : Expression) → before ≡ front ++ expr_code left → chained (Some left) links ≡ Some whole → after ≡ front ++ expr_code whole
+
+abbrev pub AddsCommand : Option Command → List Instr → List (List ℕ) → List Instr → List (List ℕ) → Type 0
+AddsCommand None instrs texts instrs' texts' = Unit {0}
+AddsCommand (Some c) instrs texts instrs' texts' = (instrs' ≡ instrs ++ command_code (length texts) c) × (texts' ≡ texts ++ text_of c ∷ [])
+
+-- the instructions and texts of a whole body
+abbrev pub IsBody : Option (List Command) → List Instr → List (List ℕ) → Type 0
+IsBody None instrs texts = Unit {0}
+IsBody (Some cs) instrs texts = (instrs ≡ body_code 0 cs) × (texts ≡ map text_of cs)
+
+-- the instructions and texts of a function with this body
+abbrev pub IsFunction : Option (List Command) → List Instr → List (List ℕ) → Type 0
+IsFunction None instrs texts = Unit {0}
+IsFunction (Some cs) instrs texts = (instrs ≡ body_code 0 cs ++ last_code) × (texts ≡ map text_of cs)
+
+-- the code of a core of that name that enters the only function, which has that name and that body
+abbrev pub IsCore : List ℕ → List ℕ → Option (List Command) → Parts → Type 0
+IsCore name function None code = Unit {0}
+IsCore name function (Some body) code = code ≡ code_of (one_core name function body)

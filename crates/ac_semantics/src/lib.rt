@@ -1,0 +1,2 @@
+//! What a program does: evaluation, steps and replay, as definitions.
+#![tactic(auto)]
