@@ -50,7 +50,7 @@ module _ (name function : List ℕ) (body : List Command) where
   texts = texts_after code [] body (append-nil (map text_of body))
 
   begins : Begins code 0 0
-  begins = record { entry = 0; function = record { name = function; at = 0 }; entry_is = refl; function_is = refl; at_is = refl }
+  begins = record { entry = 0; entry_is = refl; enters = record { function = record { name = function; at = 0 }; here = refl; at_is = refl } }
 
   enters : Enters meaning 0 body
   enters = record { here = record { name = name; entry = 0 }; function = record { name = function; body = body }; core_is = refl; function_is = refl; body_is = refl }
@@ -74,7 +74,7 @@ module _ (name function : List ℕ) (body : List Command) where
   only_function (suc entry) f e = let no : None ≡ Some f = e in cc
 
   only_start : (core at : ℕ) → Begins code core at → at ≡ 0
-  only_start core at b = sym b.at_is ∙ only_function b.entry b.function b.function_is
+  only_start core at b = sym b.enters.at_is ∙ only_function b.entry b.enters.function b.enters.here
 
   -- ---- the whole code
 

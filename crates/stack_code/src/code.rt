@@ -1,6 +1,7 @@
 //! A whole code.
 
 ghost use Rattle.std.specs.Prelude.{◌≡◌, ◌<◌, length, slice_get, Some};
+ghost use Rattle.stack_code.specs.Parts.{Begins, IsAddressOf};
 ghost use Rattle.stack_code.specs.Valid.{IsValid};
 
 use crate::instr::Instr;
@@ -81,4 +82,27 @@ impl Code {
     {
         &self.names
     }
+
+    /// The address at which a core begins.
+    pub fn begin(&self, core: u32) -> usize
+        requires { core < length self.now.entries }
+        ensures { Begins self.now core result }
+    {
+        let entry = entry_of(self.entries.as_slice(), core);
+        address_of(self.functions.as_slice(), entry)
+    }
+}
+
+fn entry_of(entries: &[u32], core: u32) -> u32
+    requires { core < length entries.now }
+    ensures { slice_get entries.now core ≡ Some result }
+{
+    entries[core as usize]
+}
+
+fn address_of(functions: &[Entered], entry: u32) -> usize
+    requires { entry < length functions.now }
+    ensures { IsAddressOf functions.now entry result }
+{
+    functions[entry as usize].at as usize
 }

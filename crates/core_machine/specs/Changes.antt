@@ -1,0 +1,23 @@
+-- What an instruction changes of a running core.
+use Rattle.std.specs.Prelude.{◌≡◌, Some, None}
+use Rattle.stack_code.specs.declared.instr.Instr.{Instr}
+use Rattle.stack_code.specs.Machine.{begin}
+use Rattle.core_machine.specs.declared.running.Running.{Running}
+use Rattle.core_machine.specs.State.{flat_of, state_of}
+
+-- the code, the core, the bound and the journal stay
+pub record Keeps (before after : Running) : Type 0 where
+  pub code : after.code.now ≡ before.code.now
+  pub core : after.core ≡ before.core
+  pub bound : after.bound ≡ before.bound
+  pub journal : after.journal.entries ≡ before.journal.entries
+
+-- the core has done this instruction
+abbrev pub Does : Running → Instr → Running → Type 0
+Does before instr after = state_of after ≡ begin before.code.now before.bound (flat_of before) (Some instr)
+
+-- nothing has changed that the code's meaning sees
+pub record Stays (before after : Running) : Type 0 where
+  pub flat : flat_of after ≡ flat_of before
+  pub depth : after.operands.items ≡ before.operands.items
+  pub ended : after.ended ≡ before.ended

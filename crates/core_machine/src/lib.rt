@@ -1,0 +1,11 @@
+//! The running core: a machine for stack code, whose state is the code's run.
+#![tactic(auto)]
+
+mod format;
+mod machine;
+mod operands;
+mod pause;
+mod running;
+
+pub use machine::CoreMachine;
+pub use pause::Pause;
