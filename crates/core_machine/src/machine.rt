@@ -79,6 +79,14 @@ impl<'a> CoreMachine<'a> {
         &self.running.journal
     }
 
+    /// The journal, out of the machine.
+    pub fn into_journal(self) -> Journal
+        ensures { result.entries ≡ self.entry.journal }
+    {
+        let CoreMachine { running } = self;
+        running.journal
+    }
+
     /// What is seen of the core at present; its word is `Stalled` where it has not ended.
     pub fn end(&self, alloc: Global) -> Result<MachineEnd, NoMemory>
         ensures { IfOk result (λ end. IsSeen self.now.state end) }

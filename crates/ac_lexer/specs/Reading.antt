@@ -1,0 +1,109 @@
+-- Reading bytes from left to right: the functions that the proofs go by.
+use Rattle.std.specs.Prelude.{ℕ, ◌+◌, ◌^◌, Bool, ◌&&◌, ◌==◌, nat_lt, if◌then◌else◌, List, [], ◌∷◌, ◌++◌, length, take, drop, Option, Some, None, pos}
+use Rattle.std.specs.Str.{bytes_eq}
+use Rattle.ac_lexer.specs.declared.token.Word.{Word}
+use Rattle.ac_lexer.specs.declared.token.Word.TheVariants as w
+use Rattle.ac_lexer.specs.declared.token.Mark.{Mark}
+use Rattle.ac_lexer.specs.declared.token.Mark.TheVariants as m
+use Rattle.ac_lexer.specs.declared.token.Kind.{Kind}
+use Rattle.ac_lexer.specs.declared.token.Kind.TheVariants as k
+use Rattle.ac_lexer.specs.declared.token.Token.{Token}
+use Rattle.ac_lexer.specs.declared.piece.Piece.{Piece}
+use Rattle.ac_lexer.specs.Spelling.{is_blank, is_letter, is_name, is_digit, is_zero, starts, value_of, letters, sign, placed}
+use Rattle.ac_lexer.specs.First.{is_first, format_spelled, format_value}
+
+-- ---- pieces
+
+abbrev pub token_piece : Kind → ℕ → Piece
+token_piece kind n = record { kind = Some kind; len = n }
+
+abbrev pub gap_piece : ℕ → Piece
+gap_piece n = record { kind = None; len = n }
+
+-- the tokens with one more, if there is one
+abbrev pub with_kind : List Token → ℕ → ℕ → Option Kind → List Token
+with_kind ts at end (Some kind) = ts ++ placed kind at end ∷ []
+with_kind ts at end None = ts
+
+-- ---- runs
+
+-- how many bytes at the front pass the test
+abbrev pub run : (ℕ → Bool) → List ℕ → ℕ
+run p [] = 0
+run p (b ∷ bs) = if p b then 1 + run p bs else 0
+
+-- ---- words
+
+-- the first of the words with these letters
+abbrev pub among : List Word → List ℕ → Option Word
+among [] a = None
+among (v ∷ vs) a = if bytes_eq a (letters v) then Some v else among vs a
+
+-- the words of so many letters
+abbrev pub words_of_two : List Word
+words_of_two = w.Do ∷ w.If ∷ w.Ok ∷ []
+
+abbrev pub words_of_three : List Word
+words_of_three = w.Int ∷ w.For ∷ []
+
+abbrev pub words_of_four : List Word
+words_of_four = w.Void ∷ w.Else ∷ w.Core ∷ w.File ∷ w.Send ∷ w.Recv ∷ w.Read ∷ []
+
+abbrev pub words_of_five : List Word
+words_of_five = w.Async ∷ w.Yield ∷ w.While ∷ w.Break ∷ w.Write ∷ w.Fault ∷ []
+
+abbrev pub long_words : List Word
+long_words = w.Finish ∷ w.Cancel ∷ w.Return ∷ w.Printf ∷ w.Channel ∷ w.Continue ∷ w.Cancelled ∷ []
+
+abbrev pub words_of : ℕ → List Word
+words_of n = if n == 2 then words_of_two else (if n == 3 then words_of_three else (if n == 4 then words_of_four else (if n == 5 then words_of_five else long_words)))
+
+unfoldable pub word_of : List ℕ → Option Word
+word_of a = among (words_of (length a)) a
+
+abbrev pub name_or_word : List ℕ → Option Word → Kind
+name_or_word a (Some v) = k.Word v
+name_or_word a None = k.Name a
+
+-- the name or word at the front
+unfoldable pub name_at : List ℕ → Piece
+name_at text = let a = take (run is_name text) text in token_piece (name_or_word a (word_of a)) (run is_name text)
+
+-- ---- marks
+
+-- the first of the marks that begins with the byte
+abbrev pub mark_among : List Mark → ℕ → Option Mark
+mark_among [] b = None
+mark_among (m ∷ ms) b = if starts (λ c. b == c) (sign m) then Some m else mark_among ms b
+
+-- the marks of one byte
+abbrev pub single_marks : List Mark
+single_marks = m.Plus ∷ m.Minus ∷ m.Star ∷ m.Slash ∷ m.Percent ∷ m.Less ∷ m.More ∷ m.And ∷ m.Bar ∷ m.Caret ∷ m.Not ∷ m.Tilde ∷ m.Assign ∷ m.OpenParen ∷ m.CloseParen ∷ m.OpenBracket
+    ∷ m.CloseBracket ∷ m.OpenBrace ∷ m.CloseBrace ∷ m.Comma ∷ m.Semicolon ∷ m.Colon ∷ []
+
+-- the mark that is this byte alone
+unfoldable pub mark_of_one : ℕ → Option Mark
+mark_of_one b = mark_among single_marks b
+
+-- ---- the first language
+
+abbrev pub first_mark : Option Mark → Option Piece
+first_mark (Some m) = if is_first m then Some (token_piece (k.Mark m) 1) else None
+first_mark None = None
+
+unfoldable pub first_number : List ℕ → Option Piece
+first_number text = if nat_lt (value_of 0 text) (2 ^ 63) then (if starts is_zero text && nat_lt 1 (run is_digit text) then None
+    else (if starts is_letter (drop (run is_digit text) text) then None else Some (token_piece (k.Number (pos (value_of 0 text))) (run is_digit text)))) else None
+
+unfoldable pub first_format : List ℕ → Option Piece
+first_format text = if bytes_eq (take 6 text) format_spelled then Some (token_piece (k.Text format_value) 6) else None
+
+-- what stands at the front, if anything does
+unfoldable pub first_piece : List ℕ → Option Piece
+first_piece [] = None
+first_piece (b ∷ bs) = if is_blank b then Some (gap_piece 1) else (if is_letter b then Some (name_at (b ∷ bs)) else (if is_digit b then first_number (b ∷ bs)
+    else (if b == 34 then first_format (b ∷ bs) else first_mark (mark_of_one b))))
+
+-- the tokens with one more, if one was found
+abbrev pub with_piece : List Token → ℕ → Piece → List Token
+with_piece ts at p = with_kind ts at (at + p.len) p.kind

@@ -1,0 +1,38 @@
+//! The table of marks.
+
+ghost use Rattle.std.specs.Prelude.{◌≡◌};
+ghost use Rattle.ac_lexer.specs.Reading.{mark_of_one};
+
+use crate::token::Mark;
+
+// The mark of one byte.
+#[tactic(auto, unfolding(crate::specs::Reading::mark_of_one))]
+pub fn mark_of_byte(b: u8) -> Option<Mark>
+    ensures { result ≡ mark_of_one b }
+{
+    match b {
+        b'+' => Some(Mark::Plus),
+        b'-' => Some(Mark::Minus),
+        b'*' => Some(Mark::Star),
+        b'/' => Some(Mark::Slash),
+        b'%' => Some(Mark::Percent),
+        b'<' => Some(Mark::Less),
+        b'>' => Some(Mark::More),
+        b'&' => Some(Mark::And),
+        b'|' => Some(Mark::Bar),
+        b'^' => Some(Mark::Caret),
+        b'!' => Some(Mark::Not),
+        b'~' => Some(Mark::Tilde),
+        b'=' => Some(Mark::Assign),
+        b'(' => Some(Mark::OpenParen),
+        b')' => Some(Mark::CloseParen),
+        b'[' => Some(Mark::OpenBracket),
+        b']' => Some(Mark::CloseBracket),
+        b'{' => Some(Mark::OpenBrace),
+        b'}' => Some(Mark::CloseBrace),
+        b',' => Some(Mark::Comma),
+        b';' => Some(Mark::Semicolon),
+        b':' => Some(Mark::Colon),
+        _ => None,
+    }
+}

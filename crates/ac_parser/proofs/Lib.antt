@@ -1,0 +1,13 @@
+pub mod CompleteExpressions
+pub mod CompletePrograms
+pub mod Levels
+pub mod LinkLoop
+pub mod Marks
+pub mod Parsed
+pub mod Shapes
+pub mod Signs
+pub mod Sound
+pub mod SoundExpressions
+pub mod SoundPrograms
+pub mod StatementLoop
+pub mod Steps

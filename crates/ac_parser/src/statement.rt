@@ -1,0 +1,58 @@
+//! Statements, and blocks of them.
+
+ghost use Rattle.std.specs.Prelude.{◌≡◌, length};
+ghost use Rattle.ac_parser.specs.Reading.{Gives, statement_at, statements_at, block_at};
+
+use crate::expression::expression;
+use crate::reader::{Reader, Stop, is_next, line, mark, place, word};
+use ac_base::List;
+use ac_lexer::{Mark, Word};
+use ac_tree::Stmt;
+use std::alloc::Global;
+
+// The level of a sum of products.
+const SUM: u8 = 9;
+
+#[tactic(auto, unfolding(crate::specs::Reading::statement_at))]
+fn statement(alloc: Global, r: &mut Reader<'_>) -> Result<Stmt, Stop>
+    ensures { Gives r.new.rest.now (λ x. (x, r.new.rest.now)) result (statement_at r.old.rest.now) }
+{
+    let at = place(r);
+    word(r, Word::Printf)?;
+    mark(r, Mark::OpenParen)?;
+    let format = line(alloc, r)?;
+    mark(r, Mark::Comma)?;
+    let value = expression(alloc, r, SUM)?;
+    mark(r, Mark::CloseParen)?;
+    mark(r, Mark::Semicolon)?;
+    let mut args = List::new(alloc);
+    args.push(value)?;
+    Ok(Stmt::Print { at, format, args })
+}
+
+// The statements up to the next closing brace.
+fn statements(alloc: Global, r: &mut Reader<'_>) -> Result<List<Stmt>, Stop>
+    ensures { Gives r.new.rest.now (λ xs. (xs, r.new.rest.now)) result (statements_at (length r.old.rest.now) r.old.rest.now) }
+{
+    let mut body = List::new(alloc);
+    let most = r.rest.len();
+    'body: for _ in 0..most {
+        if is_next(r, Mark::CloseBrace) {
+            return Ok(body);
+        }
+        let next = statement(alloc, r)?;
+        body.push(next)?;
+    }
+    Err(Stop::Unexpected)
+}
+
+/// The statements between the braces of a block.
+#[tactic(auto, unfolding(crate::specs::Reading::block_at))]
+pub fn block(alloc: Global, r: &mut Reader<'_>) -> Result<List<Stmt>, Stop>
+    ensures { Gives r.new.rest.now (λ xs. (xs, r.new.rest.now)) result (block_at r.old.rest.now) }
+{
+    mark(r, Mark::OpenBrace)?;
+    let body = statements(alloc, r)?;
+    mark(r, Mark::CloseBrace)?;
+    Ok(body)
+}

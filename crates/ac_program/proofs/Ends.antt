@@ -1,0 +1,91 @@
+-- What is seen of a machine that is over is its code's end, and so its source's.
+use Rattle.std.proofs.Common.{◌≡◌, ℕ, zero, suc, ◌<◌, ◌⊎◌, arith, true, List, [], ◌∷◌, length, Option, Some, None, refl, sym, ap, ◌∙◌, subst, inl, inr}
+use Rattle.std.specs.Prelude.{All, IfSome, map}
+use Rattle.ac_base.specs.Log.{Log}
+use Rattle.ac_base.specs.declared.ends.EndWord.{EndWord}
+use Rattle.ac_base.specs.declared.ends.CoreEnd.{CoreEnd}
+use Rattle.ac_base.specs.declared.ends.MachineEnd.{MachineEnd}
+use Rattle.ac_base.specs.declared.entry.Entry.{Entry}
+use Rattle.ac_tree.specs.declared.item.Program.{Program}
+use Rattle.ac_types.specs.Resolved.{Resolved, Core}
+use Rattle.core_state.specs.Moves.{Move, On, Over, moves, GoesOn, EndsAs}
+use Rattle.stack_code.specs.Parts.{Parts}
+use Rattle.stack_code.specs.Machine.{Flat, FlatEnd, exec, first_flat, Runs}
+use Rattle.core_machine.specs.declared.pause.Pause.{Pause}
+use Rattle.core_machine.specs.declared.pause.Pause.TheVariants as pause
+use Rattle.core_machine.specs.Words.{word_of}
+use Rattle.core_machine.specs.Machine.{Machine, IsRun, IsSeen, IsPaused}
+use Rattle.ac_compile.specs.Translation.{IsCodeOf, code_of}
+use Rattle.ac_compile.specs.Same.{IsSame}
+use Rattle.std.proofs.lemmas.List.{length-map}
+use Rattle.ac_program.specs.declared.running.Ended.{Ended}
+use Rattle.ac_program.specs.Run.{HasEnded, IsCoreRun, IsRunOf}
+
+abbrev flat_end : Option CoreEnd → ℕ → FlatEnd
+flat_end core count = record { core = core; count = count }
+
+-- the run of a machine that is over
+record Ends (m : Machine) (end : MachineEnd) : Type 0 where
+  runs : Runs m.code m.core m.bound m.journal (record { core = Some end.core; count = end.instructions })
+  ended : HasEnded end.core.word
+
+has_ended : (p : Pause) (word : EndWord) → word ≡ word_of p → HasEnded word
+has_ended pause.Finished word e = rw e tt
+has_ended pause.OutOfSteps word e = rw e tt
+
+word_seen : (p : Pause) (o : Option CoreEnd) (end : CoreEnd) → o ≡ Some end → IfSome o (λ e. e.word ≡ word_of p) → HasEnded end.word
+word_seen p o end e h = let w : end.word ≡ word_of p = rw e at h in has_ended p end.word w
+
+ends_at : (m : Machine) (end : MachineEnd) (p : Pause) (state : Move Flat FlatEnd) → m.state ≡ state → IsRun m → IsPaused state p → IsSeen state end → Ends m end
+ends_at m end p (On f) e r q s = absurd q
+ends_at m end p (Over x) e r q s =
+    let same : x ≡ flat_end (Some end.core) end.instructions = ap (λ (c : Option CoreEnd). flat_end c x.count) s.0 ∙ ap (flat_end (Some end.core)) s.1 in
+    record {
+      runs = record { at = r.at; begins = r.begins; ends = subst (EndsAs (exec m.code m.bound) (first_flat r.at m.journal)) same (r.goes.0, sym r.goes.1 ∙ e) };
+      ended = word_seen p x.core end.core s.0 q;
+    }
+
+ends : (m : Machine) (end : MachineEnd) (p : Pause) → IsRun m → IsPaused m.state p → IsSeen m.state end → Ends m end
+ends m end p r q s = ends_at m end p m.state refl r q s
+
+-- ---- the only core
+
+all_one : {A : Type 0} (P : A → Type 0) (x : A) → P x → All P (x ∷ [])
+all_one P x p zero d lt = p
+all_one P x p (suc k) d lt = absurd (omega arith)
+
+abbrev entries_of : Log → List Entry
+entries_of j = j.entries
+
+runs_as : (code code' : Parts) (core core' bound bound' : ℕ) (journal journal' : List Entry) (x : FlatEnd) → code ≡ code' → core ≡ core' → bound ≡ bound' → journal ≡ journal' → Runs code core bound journal x → Runs code' core' bound' journal' x
+runs_as code code' core core' bound bound' journal journal' x c k b j r = rw (← c, ← k, ← b, ← j) r
+
+module _ (program : Program) (code : Parts) (is_code : IsCodeOf program code) (is_same : IsSame code program) (only : length code.entries ≡ 1) (steps : ℕ) (m : Machine) (end : MachineEnd) (p : Pause) (core_log worker_log : Log)
+    (code_is : m.code ≡ code) (core_is : m.core ≡ 0) (bound_is : m.bound ≡ steps) (run : IsRun m) (paused : IsPaused m.state p) (seen : IsSeen m.state end)
+    (logged : core_log.entries ≡ m.journal) (none : m.journal ≡ []) (worker : worker_log.entries ≡ []) where
+  over : Ends m end
+  over = ends m end p run paused seen
+
+  runs : Runs code 0 steps core_log.entries (flat_end (Some end.core) end.instructions)
+  runs = runs_as m.code code m.core 0 m.bound steps m.journal core_log.entries (flat_end (Some end.core) end.instructions) code_is core_is bound_is (sym logged) over.runs
+
+  core_run : IsCoreRun program is_code.meaning 0 steps core_log end
+  core_run = record {
+    code = subst (λ c. Runs c 0 steps core_log.entries (flat_end (Some end.core) end.instructions)) is_code.code_is runs;
+    source = (is_same 0 steps core_log.entries (Some end.core)).1 (end.instructions, runs);
+  }
+
+  one_core : 1 ≡ length is_code.meaning.cores
+  one_core = sym only ∙ ap (λ (c : Parts). length c.entries) is_code.code_is ∙ length-map is_code.meaning.cores (λ (core : Core). core.entry)
+
+  pub only_run : (ended : Ended) → ended.steps ≡ steps → ended.start ≡ [] → ended.journals ≡ core_log ∷ worker_log ∷ [] → ended.cores ≡ end ∷ [] → IsRunOf program steps [] ended
+  only_run ended n f j c = record {
+    steps = n;
+    files = f;
+    meaning = is_code.meaning;
+    resolves = is_code.resolves;
+    every_core = ap length c ∙ one_core;
+    cores = rw (j, c) (core_run, refl);
+    legal = rw (j, logged ∙ none, worker) tt;
+    quiet = record { cores = rw c (all_one (λ e. HasEnded e.core.word ⊎ (e.core.idle ≡ true)) end (inl over.ended)) };
+  }

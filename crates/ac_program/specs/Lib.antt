@@ -1,0 +1,4 @@
+pub mod History
+pub mod Journals
+pub mod Run
+pub mod Source

@@ -1,0 +1,52 @@
+-- The run of a program.
+use Rattle.std.specs.Prelude.{◌≡◌, ℕ, suc, ◌<◌, ◌⊎◌, true, List, [], ◌∷◌, length, map, Option, Some, slice_get, All}
+use Rattle.ac_base.specs.Log.{Log}
+use Rattle.ac_base.specs.declared.ends.EndWord.{EndWord}
+use Rattle.ac_base.specs.declared.ends.EndWord.TheVariants.{Finished, Trapped, OutOfSteps, Stalled}
+use Rattle.ac_base.specs.declared.ends.MachineEnd.{MachineEnd}
+use Rattle.ac_base.specs.declared.entry.Entry.{Entry}
+use Rattle.ac_tree.specs.declared.item.Program.{Program}
+use Rattle.ac_types.specs.Resolved.{Resolved}
+use Rattle.ac_types.specs.Resolution.{resolved}
+use Rattle.ac_semantics.specs.Replay.{Replays}
+use Rattle.stack_code.specs.Parts.{Parts}
+use Rattle.stack_code.specs.Machine.{Runs}
+use Rattle.ac_compile.specs.Translation.{code_of}
+use Rattle.ac_program.specs.declared.running.Ended.{Ended}
+use Rattle.ac_program.specs.History.{Stamped, merged, IsLegal}
+
+-- what the source and the code of the program say of a core under its journal: just this end
+pub record IsCoreRun (program : Program) (meaning : Resolved) (core bound : ℕ) (journal : Log) (end : MachineEnd) : Type 0 where
+  pub code : Runs (code_of meaning) core bound journal.entries (record { core = Some end.core; count = end.instructions })
+  pub source : Replays program core bound journal.entries (Some end.core)
+
+-- each core, from this one on, has come to its end under its journal; the last journal is that of the worker
+abbrev pub AreCoreRuns : Program → Resolved → ℕ → ℕ → List Log → List MachineEnd → Type 0
+AreCoreRuns program meaning bound core journals [] = length journals ≡ 1
+AreCoreRuns program meaning bound core [] (end ∷ ends) = ⊥
+AreCoreRuns program meaning bound core (journal ∷ journals) (end ∷ ends) = IsCoreRun program meaning core bound journal end × AreCoreRuns program meaning bound (suc core) journals ends
+
+abbrev pub HasEnded : EndWord → Type 0
+HasEnded Finished = Unit {0}
+HasEnded (Trapped trap) = Unit {0}
+HasEnded OutOfSteps = Unit {0}
+HasEnded Stalled = ⊥
+
+-- Every core has ended or is idle, and nothing can arrive. No program of this language has a link on which something could.
+pub record IsQuiet (ends : List MachineEnd) (history : List Stamped) : Type 0 where
+  pub cores : All (λ end. HasEnded end.core.word ⊎ (end.core.idle ≡ true)) ends
+
+-- The journals of the run, merged by their stamps, are one run of the program with this bound on steps and these starting files.
+pub record IsRunOf (program : Program) (bound : ℕ) (start : List (List ℕ)) (ended : Ended) : Type 0 where
+  pub steps : ended.steps ≡ bound
+  pub files : ended.start ≡ start
+  pub meaning : Resolved
+  pub resolves : resolved program ≡ Some meaning
+  pub every_core : length ended.cores ≡ length meaning.cores
+  pub cores : AreCoreRuns program meaning bound 0 ended.journals ended.cores
+  pub legal : IsLegal (merged ended.journals)
+  pub quiet : IsQuiet ended.cores (merged ended.journals)
+
+-- the names of the cores, in the order of the source
+abbrev pub core_names : Resolved → List (List ℕ)
+core_names meaning = map (λ core. core.name) meaning.cores
