@@ -88,8 +88,8 @@ module _ (code : Parts) where
         let last = (has_back code.instrs (at + length ca) cb (instr_of op ∷ []) right).0 in
         let len : at + length (ca ++ (cb ++ instr_of op ∷ [])) ≡ at + length ca + length cb + 1 = omega (arith, length-append ca (cb ++ instr_of op ∷ []), length-append cb (instr_of op ∷ [])) in
         expr_keeps a s at ops r (has_front code.instrs at ca _ h)
-            (expr_keeps b s (at + length ca) (value_of a ∷ ops) r (has_front code.instrs (at + length ca) cb _ right)
-                (operation_keeps op (value_of a) (value_of b) s (at + length ca + length cb) ops r last (subst (λ z. KeepsAt s z (operate op (value_of a) (value_of b) ∷ ops) r) len f)))
+        (expr_keeps b s (at + length ca) (value_of a ∷ ops) r (has_front code.instrs (at + length ca) cb _ right)
+        (operation_keeps op (value_of a) (value_of b) s (at + length ca + length cb) ops r last (subst (λ z. KeepsAt s z (operate op (value_of a) (value_of b) ∷ ops) r) len f)))
 
     args_keep : (es : List Expression) (s : Shared) (at : ℕ) (ops : List ℤ) (r : Move CoreState (Option CoreEnd)) → HasAt code.instrs at (args_code es) →
         KeepsAt s (at + length (args_code es)) (pushed (values_of es) ops) r → KeepsAt s at ops r
@@ -98,7 +98,7 @@ module _ (code : Parts) where
         let ce = expr_code e in
         let len : at + length (ce ++ args_code es) ≡ at + length ce + length (args_code es) = omega (arith, length-append ce (args_code es)) in
         expr_keeps e s at ops r (has_front code.instrs at ce _ h)
-            (args_keep es s (at + length ce) (value_of e ∷ ops) r (has_back code.instrs at ce _ h) (subst (λ z. KeepsAt s z (pushed (values_of es) (value_of e ∷ ops)) r) len f))
+        (args_keep es s (at + length ce) (value_of e ∷ ops) r (has_back code.instrs at ce _ h) (subst (λ z. KeepsAt s z (pushed (values_of es) (value_of e ∷ ops)) r) len f))
 
     -- the arguments of a text
     print_begins : (vs : List ℤ) (count text : ℕ) (format : List ℕ) (s : Shared) (at k : ℕ) → count ≡ length vs → text_at code text ≡ format →
@@ -128,9 +128,9 @@ module _ (code : Parts) where
         let last = (has_back code.instrs (at + 1) ca (print ∷ []) d.0.1).0 in
         let len : at + length (command_code text (Print format args)) ≡ at + 1 + length ca + 1 = omega (arith, length-append ca (print ∷ [])) in
         args_keep args u (at + 1) [] (On (done (Print format args) rest u)) (has_front code.instrs (at + 1) ca _ d.0.1)
-            (lands u (done (Print format args) rest u) (at + 1 + length ca) (text + 1) (pushed (values_of args) []) print last
-                (λ k. print_begins (values_of args) (length args) text format u (at + 1 + length ca) k (sym (length-values args)) d.1)
-                (subst (λ z. Does z (text + 1) rest) len d.2))
+        (lands u (done (Print format args) rest u) (at + 1 + length ca) (text + 1) (pushed (values_of args) []) print last
+        (λ k. print_begins (values_of args) (length args) text format u (at + 1 + length ca) k (sym (length-values args)) d.1)
+        (subst (λ z. Does z (text + 1) rest) len d.2))
 
     next_keeps : (work : List Work) (s : Shared) (at text : ℕ) → Does at text work → KeepsAt s at [] (next_of bound s work)
     next_keeps [] s at text d =
@@ -155,7 +155,7 @@ module _ (code : Parts) where
       EndsAs (step bound) (first_state body journal) end ↔ ((count : ℕ) × EndsAs (exec code bound) (first_flat at journal) (record { core = end; count = count }))
   same_body body at bound journal end h t =
       let both = same_ends (step bound) (exec code bound) Stands (λ x. x.core) (follows bound) (first_state body journal) (first_flat at journal)
-                   (record { place = at; text = 0; count = 0; is = refl; does = body_does body at 0 h t }) end in (
+      (record { place = at; text = 0; count = 0; is = refl; does = body_does body at 0 h t }) end in (
         λ e. let x = both.0 e in (x.0.count, subst (λ c. EndsAs (exec code bound) (first_flat at journal) (record { core = c; count = x.0.count })) x.2 x.1),
         λ e. both.1 (record { core = end; count = e.0 }, e.1, refl),
       )

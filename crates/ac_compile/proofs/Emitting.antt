@@ -96,11 +96,13 @@ adds_some : (o : Option Expression) (e : Expression) (before after : List Instr)
 adds_some o e before after q a = subst (λ x. AddsExpr x before after) q a
 
 pub args_more : (args : List (Option Expression)) (o : Option Expression) (rest : List (Option Expression)) (before now after : List Instr) → KeepsArgs args (o ∷ rest) before now → AddsExpr o now after → KeepsArgs args rest before after
-args_more args o rest before now after k a = record { more = λ whole e.
-    let x = k.more whole e in
-    let f = all_more o rest x.0 x.1 in
-    let code : after ≡ now ++ expr_code f.one = adds_some o f.one now after f.first a in
-    (f.others, f.rest, ap (λ l. l ++ args_code f.others) code ∙ append_assoc now (expr_code f.one) (args_code f.others) ∙ ap (λ es. now ++ args_code es) (sym f.whole_is) ∙ x.2) }
+args_more args o rest before now after k a = record {
+  more = λ whole e.
+      let x = k.more whole e in
+      let f = all_more o rest x.0 x.1 in
+      let code : after ≡ now ++ expr_code f.one = adds_some o f.one now after f.first a in
+      (f.others, f.rest, ap (λ l. l ++ args_code f.others) code ∙ append_assoc now (expr_code f.one) (args_code f.others) ∙ ap (λ es. now ++ args_code es) (sym f.whole_is) ∙ x.2);
+}
 
 none_left : (rest : List (Option Expression)) (es : List Expression) → rest ≡ [] → all_of rest ≡ Some es → es ≡ []
 none_left rest es r e = let both : Some [] ≡ Some es = ap all_of (sym r) ∙ e in cc
@@ -135,15 +137,17 @@ adds_command o c instrs texts instrs' texts' q a = subst (λ x. AddsCommand x in
 
 pub body_more : (stmts : List (Option Command)) (o : Option Command) (rest : List (Option Command)) (instrs : List Instr) (texts : List (List ℕ)) (instrs' : List Instr) (texts' : List (List ℕ)) →
     KeepsBody stmts (o ∷ rest) instrs texts → AddsCommand o instrs texts instrs' texts' → KeepsBody stmts rest instrs' texts'
-body_more stmts o rest instrs texts instrs' texts' k a = record { more = λ whole e.
-    let x = k.more whole e in
-    let f = all_more o rest x.0 x.1 in
-    let added = adds_command o f.one instrs texts instrs' texts' f.first a in
-    let count : length texts' ≡ length texts + 1 = omega (arith, ap length added.1, length-append texts (text_of f.one ∷ [])) in
-    let code : instrs' ++ body_code (length texts') f.others ≡ instrs ++ body_code (length texts) (f.one ∷ f.others) =
-        ap (λ n. instrs' ++ body_code n f.others) count ∙ ap (λ l. l ++ body_code (length texts + 1) f.others) added.0 ∙ append_assoc instrs (command_code (length texts) f.one) (body_code (length texts + 1) f.others) in
-    let words : texts' ++ map text_of f.others ≡ texts ++ map text_of (f.one ∷ f.others) = ap (λ l. l ++ map text_of f.others) added.1 ∙ append_assoc texts (text_of f.one ∷ []) (map text_of f.others) in
-    (f.others, f.rest, code ∙ ap (λ cs. instrs ++ body_code (length texts) cs) (sym f.whole_is) ∙ x.2, words ∙ ap (λ cs. texts ++ map text_of cs) (sym f.whole_is) ∙ x.3) }
+body_more stmts o rest instrs texts instrs' texts' k a = record {
+  more = λ whole e.
+      let x = k.more whole e in
+      let f = all_more o rest x.0 x.1 in
+      let added = adds_command o f.one instrs texts instrs' texts' f.first a in
+      let count : length texts' ≡ length texts + 1 = omega (arith, ap length added.1, length-append texts (text_of f.one ∷ [])) in
+      let code : instrs' ++ body_code (length texts') f.others ≡ instrs ++ body_code (length texts) (f.one ∷ f.others) =
+      ap (λ n. instrs' ++ body_code n f.others) count ∙ ap (λ l. l ++ body_code (length texts + 1) f.others) added.0 ∙ append_assoc instrs (command_code (length texts) f.one) (body_code (length texts + 1) f.others) in
+      let words : texts' ++ map text_of f.others ≡ texts ++ map text_of (f.one ∷ f.others) = ap (λ l. l ++ map text_of f.others) added.1 ∙ append_assoc texts (text_of f.one ∷ []) (map text_of f.others) in
+      (f.others, f.rest, code ∙ ap (λ cs. instrs ++ body_code (length texts) cs) (sym f.whole_is) ∙ x.2, words ∙ ap (λ cs. texts ++ map text_of cs) (sym f.whole_is) ∙ x.3);
+}
 
 no_commands : (rest : List (Option Command)) (cs : List Command) → rest ≡ [] → all_of rest ≡ Some cs → cs ≡ []
 no_commands rest cs r e = let both : Some [] ≡ Some cs = ap all_of (sym r) ∙ e in cc

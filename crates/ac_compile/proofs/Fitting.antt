@@ -51,7 +51,7 @@ module _ (code : Parts) where
   command_finds (Print format args) text rest lt f =
       let print = i.Print text (length args) in
       next 0 0 i.Step ((args_code args ++ print ∷ []) ++ rest) refl
-          (subst (Finds 0) (sym (append_assoc (args_code args) (print ∷ []) rest)) (args_find args 0 _ (print_finds text (length args) rest lt f)))
+      (subst (Finds 0) (sym (append_assoc (args_code args) (print ∷ []) rest)) (args_find args 0 _ (print_finds text (length args) rest lt f)))
 
   last_finds : Finds 0 last_code
   last_finds = next 0 1 (i.Push (pos 0)) (i.Ret ∷ []) refl (finds 1 i.Ret [] Stops refl (stops []))

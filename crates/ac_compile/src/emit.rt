@@ -53,7 +53,12 @@ fn emit_expr(instrs: &mut Vec<Instr>, expr: &Expr) -> Result<(), NoMemory>
 {
     match expr {
         Expr::Number { at: _, value } => put(instrs, Instr::Push(*value)),
-        Expr::Chain { at: _, level: _, first, rest } => {
+        Expr::Chain {
+            at: _,
+            level: _,
+            first,
+            rest,
+        } => {
             emit_expr(instrs, first.get())?;
             emit_links(instrs, rest.as_slice())?;
             Ok(())
@@ -88,7 +93,12 @@ fn emit_stmt(alloc: Global, draft: &mut Draft, stmt: &Stmt) -> Result<(), NoMemo
     ensures adds { OnOk result (AddsCommand (resolved_stmt stmt.now) draft.old.instrs.items draft.old.texts.items draft.new.instrs.items draft.new.texts.items) }
     ensures count { OnOk result (vec_len draft.new.texts ≤ vec_len draft.old.texts + 1) }
 {
-    if let Stmt::Print { at: _, format, args } = stmt {
+    if let Stmt::Print {
+        at: _,
+        format,
+        args,
+    } = stmt
+    {
         let text = draft.texts.len() as u32;
         let count = args.len() as u32;
         put(&mut draft.instrs, Instr::Step)?;

@@ -20,9 +20,14 @@ fn translated(alloc: Global, program: &Program) -> Result<Code, NoMemory>
     ensures { IfOk result (λ code. IsCodeOf program.now code) }
 {
     match program.items.as_slice() {
-        [Item::Core { at: _, name, entry: _ }, Item::Function(function)] => {
-            whole::core_code(alloc, name, function)
-        }
+        [
+            Item::Core {
+                at: _,
+                name,
+                entry: _,
+            },
+            Item::Function(function),
+        ] => { whole::core_code(alloc, name, function) }
         _ => unreachable!(),
     }
 }

@@ -1,17 +1,15 @@
 -- From piece to piece through the whole text of the first language.
-use Rattle.std.proofs.Common.{◌≡◌, ℕ, ◌+◌, ◌<◌, List, [], ◌∷◌, ◌++◌, length, drop, Option, Some, None, refl, sym, ap, ◌∙◌, subst, append_assoc, length-append, length-drop, drop-drop, arith}
+use Rattle.std.proofs.Common.{◌≡◌, ℕ, ◌+◌, ◌<◌, ◌≤◌, List, [], ◌∷◌, ◌++◌, length, drop, Option, Some, None, refl, sym, ap, ◌∙◌, subst, append_assoc, length-append, length-drop, drop-drop, arith}
 use Rattle.std.proofs.lemmas.List.{append-nil}
 use Rattle.ac_lexer.specs.declared.token.Kind.{Kind}
 use Rattle.ac_lexer.specs.declared.token.Token.{Token}
 use Rattle.ac_lexer.specs.declared.piece.Piece.{Piece}
-use Rattle.ac_lexer.specs.declared.token.Word.{Word}
-use Rattle.ac_lexer.specs.declared.token.Mark.{Mark}
-use Rattle.ac_lexer.specs.declared.token.Mark.TheVariants as m
-use Rattle.ac_lexer.specs.Spelling.{letters, sign, placed}
+use Rattle.ac_lexer.specs.Spelling.{placed}
 use Rattle.ac_lexer.specs.First.{FirstSpelled, name, word, nought, number, format, mark, FirstStands, FirstFrom, end, blank, token}
 use Rattle.ac_lexer.specs.Reading.{token_piece, gap_piece, with_kind, first_piece}
 use Rattle.ac_lexer.proofs.Runs.{drop_front}
-use Rattle.ac_lexer.proofs.Vocabulary.{Named, named, word_named}
+use Rattle.ac_lexer.proofs.Vocabulary.{word_long}
+use Rattle.ac_lexer.proofs.Signs.{sign_long}
 use Rattle.ac_lexer.proofs.FirstPieces.{got, same_piece, no_piece, blank_piece, stands_read, FirstReads, gap_read, token_read, none_read, first_reads}
 
 abbrev pub a_kind : Kind → Option Kind
@@ -68,44 +66,6 @@ nothing _ _ _ (blank at b rest ts g d) lt h = no_piece (gap_piece 1) (sym h ∙ 
 nothing _ _ _ (token at kind a rest ts s d) lt h = no_piece (token_piece kind (length a)) (sym h ∙ stands_read kind a rest s)
 
 -- ---- each piece has a byte
-
-sign_long : (v : Mark) → 0 < length (sign v)
-sign_long m.OrOr = omega arith
-sign_long m.AndAnd = omega arith
-sign_long m.EqEq = omega arith
-sign_long m.NotEq = omega arith
-sign_long m.LessEq = omega arith
-sign_long m.MoreEq = omega arith
-sign_long m.Shl = omega arith
-sign_long m.Shr = omega arith
-sign_long m.Plus = omega arith
-sign_long m.Minus = omega arith
-sign_long m.Star = omega arith
-sign_long m.Slash = omega arith
-sign_long m.Percent = omega arith
-sign_long m.Less = omega arith
-sign_long m.More = omega arith
-sign_long m.And = omega arith
-sign_long m.Bar = omega arith
-sign_long m.Caret = omega arith
-sign_long m.Not = omega arith
-sign_long m.Tilde = omega arith
-sign_long m.Assign = omega arith
-sign_long m.OpenParen = omega arith
-sign_long m.CloseParen = omega arith
-sign_long m.OpenBracket = omega arith
-sign_long m.CloseBracket = omega arith
-sign_long m.OpenBrace = omega arith
-sign_long m.CloseBrace = omega arith
-sign_long m.Comma = omega arith
-sign_long m.Semicolon = omega arith
-sign_long m.Colon = omega arith
-
-named_long : (a : List ℕ) → Named a → 0 < length a
-named_long _ (named b bs l e) = omega arith
-
-word_long : (v : Word) → 0 < length (letters v)
-word_long v = named_long (letters v) (word_named v)
 
 spelled_long : (kind : Kind) (a : List ℕ) → FirstSpelled kind a → 0 < length a
 spelled_long _ _ (name b bs l e n) = omega arith
@@ -172,3 +132,13 @@ first_none whole ts at lt h so us d =
     let l : 0 < length (drop at whole) = rw (length-drop at whole) (omega arith) in
     let b = so.backwards us d in
     nothing at (drop at whole) b.0 b.1 l h
+
+-- ---- a text has at most as many tokens as bytes
+
+fewer : (a rest : List ℕ) (n : ℕ) → 0 < length a → n ≤ length rest → n + 1 ≤ length (a ++ rest)
+fewer a rest n lt h = omega (arith, length-append a rest)
+
+pub first_few : (at : ℕ) (bs : List ℕ) (ts : List Token) → FirstFrom at bs ts → length ts ≤ length bs
+first_few _ _ _ (end at) = omega arith
+first_few _ _ _ (blank at b rest ts h d) = omega (arith, first_few (at + 1) rest ts d)
+first_few _ _ _ (token at kind a rest ts s d) = omega (arith, fewer a rest (length ts) (spelled_long kind a s.spelled) (first_few (at + length a) rest ts d))

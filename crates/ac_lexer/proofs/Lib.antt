@@ -4,3 +4,10 @@ pub mod Vocabulary
 pub mod Signs
 pub mod FirstPieces
 pub mod FirstWhole
+pub mod Quotes
+pub mod Comments
+pub mod Numbers
+pub mod Faults
+pub mod Pieces
+pub mod Agree
+pub mod WholeText

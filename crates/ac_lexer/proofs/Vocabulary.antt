@@ -1,5 +1,5 @@
 -- Names and the table of words.
-use Rattle.std.proofs.Common.{◌≡◌, ℕ, ◌≤◌, Bool, true, false, List, [], ◌∷◌, ◌++◌, length, take, Option, Some, None, refl, sym, ap, ◌∙◌, subst}
+use Rattle.std.proofs.Common.{◌≡◌, ℕ, ◌≤◌, ◌<◌, Bool, true, false, List, [], ◌∷◌, ◌++◌, length, take, Option, Some, None, refl, sym, ap, ◌∙◌, subst, arith}
 use Rattle.std.specs.Prelude.{if◌then◌else◌, ◌&&◌}
 use Rattle.std.specs.Str.{bytes_eq}
 use Rattle.std.proofs.lemmas.Slice.Eq.{bytes_eq-Decides}
@@ -152,3 +152,9 @@ name_len bs = refl
 
 pub named_least : (a rest : List ℕ) → Named a → length a ≤ (name_at (a ++ rest)).len
 named_least a rest n = rw name_len (run_least is_name a rest (each_named a n))
+
+named_long : (a : List ℕ) → Named a → 0 < length a
+named_long _ (named b bs l e) = omega arith
+
+pub word_long : (v : Word) → 0 < length (letters v)
+word_long v = named_long (letters v) (word_named v)

@@ -1,3 +1,4 @@
 pub mod Spelling
 pub mod First
+pub mod Tokens
 pub mod Reading

@@ -16,6 +16,7 @@ use crate::token::{Kind, Mark, Token};
 use ac_base::{List, NoMemory};
 use std::alloc::Global;
 
+// The number at the front, which begins with a digit, if it is one of the language.
 #[tactic(auto, unfolding(crate::specs::Reading::first_number))]
 fn number_piece(text: &[u8]) -> Option<Piece>
     ensures piece { result ≡ first_number text.now }
@@ -41,6 +42,7 @@ fn begins_with_format(text: &[u8]) -> bool
     text.len() >= 6 && &text[..6] == b"\"%d\\n\"".as_slice()
 }
 
+// The one text of the language, if it stands at the front.
 #[tactic(auto, unfolding(crate::specs::Reading::first_format))]
 fn format_piece(alloc: Global, text: &[u8]) -> Result<Option<Piece>, NoMemory>
     ensures piece { IfOk result (λ piece. piece ≡ first_format text.now) }
@@ -73,6 +75,7 @@ fn is_first_mark(mark: Mark) -> bool
     )
 }
 
+// The mark that is one byte, if it is one of the language.
 fn mark_piece(b: u8) -> Option<Piece>
     ensures piece { result ≡ first_mark (mark_of_one b) }
     ensures within { IfSome result (λ piece. piece.len ≤ 1) }

@@ -2,13 +2,18 @@
 #![tactic(auto)]
 
 mod bytes;
+mod fault;
 mod first;
+mod lexer;
 mod marks;
 mod piece;
+mod text;
 mod token;
 mod words;
 
+pub use fault::LexFault;
 pub use first::lex_first;
+pub use lexer::lex;
 pub use token::{Kind, Mark, Token, Word};
 
 #[cfg(test)]

@@ -1,11 +1,11 @@
 //! The table of marks.
 
 ghost use Rattle.std.specs.Prelude.{◌≡◌};
-ghost use Rattle.ac_lexer.specs.Reading.{mark_of_one};
+ghost use Rattle.ac_lexer.specs.Reading.{mark_of_one, mark_of_two};
 
 use crate::token::Mark;
 
-// The mark of one byte.
+/// The mark that is one byte.
 #[tactic(auto, unfolding(crate::specs::Reading::mark_of_one))]
 pub fn mark_of_byte(b: u8) -> Option<Mark>
     ensures { result ≡ mark_of_one b }
@@ -33,6 +33,32 @@ pub fn mark_of_byte(b: u8) -> Option<Mark>
         b',' => Some(Mark::Comma),
         b';' => Some(Mark::Semicolon),
         b':' => Some(Mark::Colon),
+        _ => None,
+    }
+}
+
+/// The mark that is two bytes.
+#[tactic(auto, unfolding(crate::specs::Reading::mark_of_two))]
+pub fn mark_of_bytes(b: u8, next: u8) -> Option<Mark>
+    ensures { result ≡ mark_of_two b next }
+{
+    if next == b'=' {
+        return match b {
+            b'=' => Some(Mark::EqEq),
+            b'!' => Some(Mark::NotEq),
+            b'<' => Some(Mark::LessEq),
+            b'>' => Some(Mark::MoreEq),
+            _ => None,
+        };
+    }
+    if next != b {
+        return None;
+    }
+    match b {
+        b'|' => Some(Mark::OrOr),
+        b'&' => Some(Mark::AndAnd),
+        b'<' => Some(Mark::Shl),
+        b'>' => Some(Mark::Shr),
         _ => None,
     }
 }

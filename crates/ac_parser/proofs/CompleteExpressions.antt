@@ -1,5 +1,5 @@
 -- What is spelled so is read: expressions.
-use Rattle.std.proofs.Common.{◌≡◌, ◌≢◌, ℕ, zero, suc, ◌-◌, ◌+◌, ◌<◌, ◌≤◌, List, [], ◌∷◌, ◌++◌, length, Option, Some, None, Result, Ok, Err, refl, sym, ap, ◌∙◌, length-append, arith}
+use Rattle.std.proofs.Common.{◌≡◌, ◌≢◌, ℕ, zero, suc, ◌+◌, ◌≤◌, List, [], ◌∷◌, ◌++◌, length, Some, None, Result, Ok, refl, ap, ◌∙◌, length-append, arith}
 use Rattle.std.specs.Prelude.{true, false, ◌==◌}
 use Rattle.std.proofs.lemmas.Bool.Decides.{nat_tests}
 use Rattle.ac_tree.specs.declared.expr.Expr.{Expr}
@@ -8,7 +8,7 @@ use Rattle.ac_tree.specs.declared.expr.BinaryOp.{BinaryOp}
 use Rattle.ac_lexer.specs.declared.token.Mark.{Mark}
 use Rattle.ac_lexer.specs.declared.token.Token.{Token}
 use Rattle.ac_parser.specs.Grammar.{Marked, mark, tokens, IsMark, operator_of, Spells, number, alone, chain, LinksSpell, no_link, one_link}
-use Rattle.ac_parser.specs.Reading.{Fault, ◌>>=◌, operator_at, links_at, expr_at}
+use Rattle.ac_parser.specs.Reading.{Fault, operator_at, links_at, expr_at}
 use Rattle.ac_parser.proofs.Levels.{number_reads, chain_reads}
 use Rattle.ac_parser.proofs.Marks.{tokens-append, tokens-split}
 

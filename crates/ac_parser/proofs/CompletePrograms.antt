@@ -1,7 +1,6 @@
 -- What is spelled so is read: statements and the top level.
-use Rattle.std.proofs.Common.{◌≡◌, ℕ, zero, suc, ◌<◌, ◌≤◌, List, [], ◌∷◌, ◌++◌, length, Result, Ok, Err, refl, sym, ap, ◌∙◌, length-append, arith}
+use Rattle.std.proofs.Common.{◌≡◌, ℕ, zero, suc, ◌<◌, ◌≤◌, List, [], ◌∷◌, ◌++◌, length, Ok, refl, sym, ap, ◌∙◌, length-append, arith}
 use Rattle.std.specs.Prelude.{true, false}
-use Rattle.std.specs.Str.{bytes_eq}
 use Rattle.std.proofs.lemmas.List.{append-nil}
 use Rattle.ac_tree.specs.declared.stmt.Stmt.{Stmt}
 use Rattle.ac_tree.specs.declared.item.Function.{Function}
@@ -12,7 +11,7 @@ use Rattle.ac_lexer.specs.declared.token.Mark.TheVariants as m
 use Rattle.ac_lexer.specs.declared.token.Kind.TheVariants as k
 use Rattle.ac_lexer.specs.declared.token.Token.{Token}
 use Rattle.ac_parser.specs.Grammar.{Marked, mark, tokens, decimal_line, IsWord, StatementSpells, print, StatementsSpell, no_statement, one_statement, BlockSpells, block, CoreSpells, core, FunctionSpells, function, ProgramSpells, program, SpellsTokens}
-use Rattle.ac_parser.specs.Reading.{Fault, ◌>>=◌, word, sign, starts_with, name_at, line_at, expr_at, statement_at, statements_at, block_at, core_at, function_at, end_at, program_at}
+use Rattle.ac_parser.specs.Reading.{word, sign, starts_with, name_at, line_at, statement_at, statements_at, block_at, core_at, function_at, program_at}
 use Rattle.ac_parser.proofs.Marks.{tokens-append, tokens-split}
 use Rattle.ac_parser.proofs.Signs.{sign_complete, is_kind_of}
 use Rattle.ac_parser.proofs.CompleteExpressions.{no_operator, reads}

@@ -1,5 +1,5 @@
 -- What is spelled has the shape of a program of this language.
-use Rattle.std.proofs.Common.{◌≡◌, ℕ, ℤ, ◌+◌, Bool, true, List, [], ◌∷◌, ◌++◌, Option, Some, None, refl, sym, ap, ◌∙◌, subst, map}
+use Rattle.std.proofs.Common.{◌≡◌, ℕ, ℤ, ◌+◌, Bool, true, List, ◌∷◌, Some, refl, sym, ap, ◌∙◌, subst, map}
 use Rattle.std.specs.Prelude.{All, ◌&&◌}
 use Rattle.std.proofs.lemmas.List.Elements.{All-nil, All-cons}
 use Rattle.ac_tree.specs.declared.expr.Expr.{Expr}
@@ -13,7 +13,7 @@ use Rattle.ac_tree.specs.declared.item.Program.{Program}
 use Rattle.ac_lexer.specs.declared.token.Mark.{Mark}
 use Rattle.ac_lexer.specs.declared.token.Mark.TheVariants as m
 use Rattle.ac_lexer.specs.declared.token.Token.{Token}
-use Rattle.ac_parser.specs.Grammar.{Marked, mark, operator_of, link, decimal_line, Spells, number, alone, chain, LinksSpell, no_link, one_link, StatementSpells, print, StatementsSpell, no_statement, one_statement, BlockSpells, block, CoreSpells, core, FunctionSpells, function, ProgramSpells, program, SpellsTokens}
+use Rattle.ac_parser.specs.Grammar.{Marked, mark, operator_of, link, Spells, number, alone, chain, LinksSpell, no_link, one_link, StatementSpells, print, StatementsSpell, no_statement, one_statement, BlockSpells, block, core, function, ProgramSpells, program, SpellsTokens}
 use Rattle.ac_parser.specs.Shape.{IsOperatorOf, adds, subtracts, multiplies, IsArithmetic, is_number, is_chain, AreArithmetic, no_more, one_more, is_operator_of, links_step, expr_step, link_step, is_arithmetic, is_link_of, IsPrint, IsFirstProgram}
 
 same_operator : (a b : ℕ × BinaryOp) → Some a ≡ Some b → a ≡ b

@@ -1,5 +1,5 @@
 -- What is read is spelled so: expressions.
-use Rattle.std.proofs.Common.{◌≡◌, ℕ, zero, suc, ◌-◌, ◌+◌, ◌≤◌, List, [], ◌∷◌, ◌++◌, length, Option, Some, None, Result, Ok, Err, refl, sym, ap, ◌∙◌, subst, append_assoc, arith}
+use Rattle.std.proofs.Common.{◌≡◌, ℕ, zero, suc, ◌-◌, ◌+◌, ◌≤◌, List, [], ◌∷◌, ◌++◌, length, Option, Some, None, Result, Ok, refl, sym, ap, ◌∙◌, subst, arith}
 use Rattle.std.specs.Prelude.{Bool, true, false, ◌==◌, if◌then◌else◌}
 use Rattle.std.proofs.lemmas.Bool.Decides.{nat_tests}
 use Rattle.ac_tree.specs.declared.expr.Expr.{Expr}
@@ -11,7 +11,7 @@ use Rattle.ac_lexer.specs.declared.token.Kind.{Kind}
 use Rattle.ac_lexer.specs.declared.token.Kind.TheVariants as k
 use Rattle.ac_lexer.specs.declared.token.Token.{Token}
 use Rattle.ac_parser.specs.Grammar.{Marked, mark, tokens, IsMark, operator_of, link, Spells, number, alone, chain, LinksSpell, no_link, one_link}
-use Rattle.ac_parser.specs.Reading.{Fault, halt, unexpected, ◌>>=◌, first_place, number_of, number_at, at_level, operator_in, operator_at, after_operator, links_at, made, chain_of, chain_at, expr_at}
+use Rattle.ac_parser.specs.Reading.{Fault, ◌>>=◌, first_place, number_of, number_at, at_level, operator_in, operator_at, after_operator, links_at, made, chain_of, chain_at, expr_at}
 use Rattle.ac_parser.proofs.Marks.{tokens-split}
 use Rattle.ac_parser.proofs.Steps.{bind_ok, fine}
 use Rattle.ac_parser.proofs.Sound.{Read, read_again, Sound}

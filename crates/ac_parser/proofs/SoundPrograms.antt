@@ -1,5 +1,5 @@
 -- What is read is spelled so: statements and the top level.
-use Rattle.std.proofs.Common.{◌≡◌, ℕ, zero, suc, List, [], ◌∷◌, ◌++◌, length, Result, Ok, Err, refl, sym, ap, ◌∙◌, subst, append_assoc, arith}
+use Rattle.std.proofs.Common.{◌≡◌, ℕ, zero, suc, List, [], ◌∷◌, ◌++◌, length, Result, Ok, Err, refl, sym, ap, ◌∙◌, subst, arith}
 use Rattle.std.specs.Prelude.{Bool, true, false, if◌then◌else◌}
 use Rattle.std.specs.Str.{bytes_eq}
 use Rattle.std.proofs.lemmas.Slice.Eq.{bytes_eq-Decides}
@@ -17,7 +17,7 @@ use Rattle.ac_lexer.specs.declared.token.Kind.{Kind}
 use Rattle.ac_lexer.specs.declared.token.Kind.TheVariants as k
 use Rattle.ac_lexer.specs.declared.token.Token.{Token}
 use Rattle.ac_parser.specs.Grammar.{Marked, mark, tokens, decimal_line, Spells, StatementSpells, print, StatementsSpell, no_statement, one_statement, BlockSpells, block, CoreSpells, core, FunctionSpells, function, ProgramSpells, program, SpellsTokens}
-use Rattle.ac_parser.specs.Reading.{Fault, halt, unexpected, ◌>>=◌, first_place, Sign, word, sign, sign_at, starts_with, name_of, name_at, line_of, line_at, expr_at, statement_at, statements_at, block_at, core_at, function_at, end_at, program_at}
+use Rattle.ac_parser.specs.Reading.{Fault, halt, unexpected, ◌>>=◌, word, sign, sign_at, starts_with, name_of, name_at, line_of, line_at, expr_at, statement_at, statements_at, block_at, core_at, function_at, end_at, program_at}
 use Rattle.ac_parser.proofs.Steps.{bind_ok, fine, ok_one, ok_pair}
 use Rattle.ac_parser.proofs.Sound.{Read, read_again, Sound, Same, same, Seq, seq, After, after, One, one, sound_return, sound_map, sound_if, sound_bind, sound_sign}
 use Rattle.ac_parser.proofs.SoundExpressions.{expr_sound}

@@ -14,6 +14,7 @@ use ac_lexer::{Token, lex_first};
 use ac_tree::Program;
 use std::alloc::Global;
 
+// What reading the tokens gives.
 fn read_tokens(alloc: Global, tokens: &[Token]) -> Result<Option<Program>, NoMemory>
     ensures { IfOk result (λ found. found ≡ found_of (program_at tokens.now)) }
 {

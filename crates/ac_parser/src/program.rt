@@ -49,7 +49,7 @@ fn function(alloc: Global, r: &mut Reader<'_>) -> Result<Function, Stop>
     })
 }
 
-// That no token is left.
+// Stops where a token is left.
 fn end(r: &Reader<'_>) -> Result<(), Stop>
     ensures { Gives r.now.rest.now (λ _. r.now.rest.now) result (end_at r.now.rest.now) }
 {

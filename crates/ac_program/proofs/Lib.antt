@@ -1,3 +1,7 @@
+pub mod Endings
 pub mod Ends
-pub mod Meanings
 pub mod Lengths
+pub mod Meanings
+pub mod Names
+pub mod Pairs
+pub mod Streams

@@ -1,4 +1,9 @@
 pub mod History
 pub mod Journals
+pub mod Lines
+pub mod Outcome
+pub mod Reading
 pub mod Run
 pub mod Source
+pub mod Words
+pub mod Writing

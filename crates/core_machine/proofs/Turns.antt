@@ -23,7 +23,7 @@ running m o e = ap (end_or m) e
 pub run_on : (m n : Machine) → IsSameCore m n → IsRun m → (f : Flat) → m.state ≡ On f → n.state ≡ exec m.code m.bound f → IsRun n
 run_on m n s r f e g =
     let goes : GoesOn (exec m.code m.bound) (On (first_flat r.at m.journal)) n.state = subst (GoesOn (exec m.code m.bound) (On (first_flat r.at m.journal))) (sym g)
-        (GoesOn-more (exec m.code m.bound) (On (first_flat r.at m.journal)) f (subst (GoesOn (exec m.code m.bound) (On (first_flat r.at m.journal))) e r.goes)) in
+    (GoesOn-more (exec m.code m.bound) (On (first_flat r.at m.journal)) f (subst (GoesOn (exec m.code m.bound) (On (first_flat r.at m.journal))) e r.goes)) in
     record { at = r.at; begins = rw (s.code, s.core) r.begins; goes = rw (s.code, s.bound, s.journal) goes }
 
 same_core : (before after : Running) → Keeps before after → IsSameCore (machine_of before) (machine_of after)
@@ -77,7 +77,7 @@ pub goes_on : (a b c : Running) → Keeps a b → b.ended ≡ None → GoesOn (e
 goes_on a b c k still g e =
     let same : state_of c ≡ exec a.code.now a.bound (flat_of b) = e ∙ ap (λ code. exec code b.bound (flat_of b)) k.code ∙ ap (λ n. exec a.code.now n (flat_of b)) k.bound in
     subst (GoesOn (exec a.code.now a.bound) (state_of a)) (sym same)
-        (GoesOn-more (exec a.code.now a.bound) (state_of a) (flat_of b) (subst (GoesOn (exec a.code.now a.bound) (state_of a)) (running (flat_of b) b.ended still) g))
+    (GoesOn-more (exec a.code.now a.bound) (state_of a) (flat_of b) (subst (GoesOn (exec a.code.now a.bound) (state_of a)) (running (flat_of b) b.ended still) g))
 
 pub none_of : (o : Option Pause) → is_none o ≡ true → o ≡ None
 none_of None e = refl

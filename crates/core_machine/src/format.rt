@@ -13,7 +13,12 @@ struct Scan<'a> {
     values: &'a [i64],
 }
 
-fn add_byte<'a>(alloc: Global, output: &mut Vec<u8>, scan: Scan<'a>, byte: u8) -> Result<Scan<'a>, NoMemory>
+fn add_byte<'a>(
+    alloc: Global,
+    output: &mut Vec<u8>,
+    scan: Scan<'a>,
+    byte: u8,
+) -> Result<Scan<'a>, NoMemory>
     ensures ok { IfOk result (λ after. (text : List ℕ) →
         output.new.items ++ formatted_from after.directive text after.values.now ≡ output.old.items ++ formatted_from scan.entry.directive (byte ∷ text) scan.entry.values.now) }
     ensures front { (added : List ℕ) × (output.new.items ≡ output.old.items ++ added) }
@@ -45,7 +50,12 @@ fn add_byte<'a>(alloc: Global, output: &mut Vec<u8>, scan: Scan<'a>, byte: u8) -
 }
 
 // What was in the output before stays in front of it, also where memory is refused.
-fn append_formatted(alloc: Global, output: &mut Vec<u8>, text: &[u8], args: &[i64]) -> Result<(), NoMemory>
+fn append_formatted(
+    alloc: Global,
+    output: &mut Vec<u8>,
+    text: &[u8],
+    args: &[i64],
+) -> Result<(), NoMemory>
     ensures ok { OnOk result (output.new.items ≡ output.old.items ++ formatted text.now args.now) }
     ensures front { (added : List ℕ) × (output.new.items ≡ output.old.items ++ added) }
 {
@@ -61,7 +71,12 @@ fn append_formatted(alloc: Global, output: &mut Vec<u8>, text: &[u8], args: &[i6
 
 /// Appends a text whose directives are replaced by the arguments in order. After want of memory the
 /// output is as before.
-pub fn add_formatted(alloc: Global, output: &mut Vec<u8>, text: &[u8], args: &[i64]) -> Result<(), NoMemory>
+pub fn add_formatted(
+    alloc: Global,
+    output: &mut Vec<u8>,
+    text: &[u8],
+    args: &[i64],
+) -> Result<(), NoMemory>
     ensures ok { OnOk result (output.new.items ≡ output.old.items ++ formatted text.now args.now) }
     ensures err { OnErr result (output.new.items ≡ output.old.items) }
 {

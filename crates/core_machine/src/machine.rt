@@ -35,7 +35,12 @@ impl<'a> CoreMachine<'a> {
     ghost use Rattle.core_machine.specs.Machine.{IsRun, IsSameCore, IsSeen, IsPaused};
 
     /// A core of the code before its first instruction, with a bound on its steps.
-    pub fn new(alloc: Global, code: &'a Code, core: u32, steps: u64) -> Result<CoreMachine<'a>, NoMemory>
+    pub fn new(
+        alloc: Global,
+        code: &'a Code,
+        core: u32,
+        steps: u64,
+    ) -> Result<CoreMachine<'a>, NoMemory>
         requires { core < length code.now.entries }
         ensures code { IfOk result (λ m. m.code ≡ code.now) }
         ensures core { IfOk result (λ m. m.core ≡ core) }

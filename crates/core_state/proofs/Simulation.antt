@@ -81,9 +81,10 @@ module _ {S E C F : Type 0} (f : S → Move S E) (g : C → Move C F) (R : S →
 
     -- the second comes to just the ends that the first comes to
     pub same_ends : (s : S) (c : C) → R s c → (e : E) → EndsAs f s e ↔ ((x : F) × EndsAs g c x × (seen x ≡ e))
-    same_ends s c r e =
-        ( λ h. forth h.0 c e (subst (Kept g R seen h.0 c) h.1 (all_follows h.0 s c r)),
-          λ h. subst (EndsAs f s) h.2 (back h.1.0 s c h.0 (moves f h.1.0 s) refl h.1.1 (all_follows h.1.0 s c r)) )
+    same_ends s c r e = (
+      λ h. forth h.0 c e (subst (Kept g R seen h.0 c) h.1 (all_follows h.0 s c r)),
+      λ h. subst (EndsAs f s) h.2 (back h.1.0 s c h.0 (moves f h.1.0 s) refl h.1.1 (all_follows h.1.0 s c r)),
+    )
 
 -- moves of the second machine before it follows
 pub follows_later : {S E C F : Type 0} (g : C → Move C F) (R : S → C → Type 0) (seen : F → E) (c d : C) (m : Move S E) → Leads g c d → Follows g R seen d m → Follows g R seen c m

@@ -13,10 +13,10 @@ emit_expr-returns-in_ok-emit_links-in-Chain t c =
 pub emit_links-loop-link-preserved : goal.emit_links-loop-link-preserved
 emit_links-loop-link-preserved t c =
     chain_more (map resolved_link c.args.links.now) _ _ (map resolved_link (drop (c.loop-link.link-index + 1) c.args.links.now)) c.args.instrs.now.items c.loop-link.instrs.items c.emit_expr.new.instrs.items c.emit_operation.new.instrs.items
-        (subst (λ r. KeepsChain (map resolved_link c.args.links.now) r c.args.instrs.now.items c.loop-link.instrs.items) (links_from c.args.links.now c.loop-link.link-index c.link-item.result c.loop-link-test.true c.link-item.is) c.loop-link.invariant)
-        c.in_ok-emit_expr.ensures c.in_ok-emit_operation.ensures
+    (subst (λ r. KeepsChain (map resolved_link c.args.links.now) r c.args.instrs.now.items c.loop-link.instrs.items) (links_from c.args.links.now c.loop-link.link-index c.link-item.result c.loop-link-test.true c.link-item.is) c.loop-link.invariant)
+    c.in_ok-emit_expr.ensures c.in_ok-emit_operation.ensures
 
 pub emit_links-returns : goal.emit_links-returns
 emit_links-returns t c =
     chain_done (map resolved_link c.args.links.now) c.args.instrs.now.items c.loop-link.instrs.items
-        (subst (λ r. KeepsChain (map resolved_link c.args.links.now) r c.args.instrs.now.items c.loop-link.instrs.items) (links_end c.args.links.now c.loop-link.link-index c.loop-link-test.false) c.loop-link.invariant)
+    (subst (λ r. KeepsChain (map resolved_link c.args.links.now) r c.args.instrs.now.items c.loop-link.instrs.items) (links_end c.args.links.now c.loop-link.link-index c.loop-link-test.false) c.loop-link.invariant)

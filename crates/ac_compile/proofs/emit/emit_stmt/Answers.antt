@@ -10,4 +10,4 @@ returns-in_ok-push-clause-adds c =
     let text : c.len-text.result ≡ length c.args.draft.now.texts.items = omega (arith, c.len-text.ensures, c.args.draft.now.texts.ok.0) in
     let texts : c.push.new.self.items ≡ c.args.draft.now.texts.items ++ c.in-Print.format ∷ [] = c.in_ok-push.ensures.items ∙ ap (λ f. c.args.draft.now.texts.items ++ f ∷ []) c.in_ok-copy.ensures in
     rw c.in-Print.is (print_adds c.in-Print.at c.in-Print.format c.in-Print.args c.len-count.result c.len-text.result c.args.draft.now.instrs.items c.put.new.instrs.items c.emit_args.new.instrs.items c.put-in-Print.new.instrs.items c.args.draft.now.texts.items c.push.new.self.items
-        c.in_ok-put.ensures args c.in_ok-put-2.ensures text c.len-count.ensures texts)
+    c.in_ok-put.ensures args c.in_ok-put-2.ensures text c.len-count.ensures texts)

@@ -11,4 +11,4 @@ new-requires c =
     let names = c.in_ok-names.ensures ∙ ap (λ name. name ∷ []) c.in_ok-copy-2.ensures in
     let functions = c.in_ok-functions.ensures ∙ ap (λ name. entered_at name ∷ []) c.in_ok-copy.ensures in
     made_valid c.args.name.now c.args.function.now.name (resolved_body c.args.function.now.body) _ c.requires.built
-        (made c.args.name.now c.args.function.now.name (resolved_body c.args.function.now.body) c.in_ok-instrs.instrs c.in_ok-functions.functions c.in_ok-instrs.texts c.in_ok-entries.entries c.in_ok-names.names function functions c.in_ok-entries.ensures names)
+    (made c.args.name.now c.args.function.now.name (resolved_body c.args.function.now.body) c.in_ok-instrs.instrs c.in_ok-functions.functions c.in_ok-instrs.texts c.in_ok-entries.entries c.in_ok-names.names function functions c.in_ok-entries.ensures names)

@@ -1,6 +1,6 @@
-use Rattle.std.proofs.Common.{◌-◌, ◌+◌, length}
+use Rattle.std.proofs.Common.{◌+◌, length}
 use Rattle.std.proofs.lemmas.Result.{err_from_is_err_and}
-use Rattle.ac_parser.specs.Reading.{links_at, expr_at}
+use Rattle.ac_parser.specs.Reading.{expr_at}
 use Rattle.ac_parser.proofs.Levels.{below, links_stop, whole_reads, whole_gives}
 use Rattle.ac_parser.proofs.LinkLoop.{goes_on, ends, is_over, is_done}
 use Rattle.ac_parser.proofs.expression.+expression.Goals as goal

@@ -1,4 +1,4 @@
-use Rattle.std.proofs.Common.{◌≡◌, ◌<◌, ◌≤◌, ◌^◌, false, Option, sym, ap, ◌∙◌, subst, arith, length}
+use Rattle.std.proofs.Common.{◌≡◌, ◌<◌, ◌^◌, Option, sym, ap, ◌∙◌, subst, arith, length}
 use Rattle.std.specs.Prelude.{IfSome, IfNone}
 use Rattle.ac_tree.specs.declared.item.Program.{Program}
 use Rattle.ac_parser.specs.Shape.{IsFirstProgram}

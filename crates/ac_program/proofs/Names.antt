@@ -1,0 +1,23 @@
+-- The names of the cores, by the program and by its code.
+use Rattle.std.proofs.Common.{◌≡◌, ℕ, List, [], length, Option, Some, refl, sym, ap, ◌∙◌}
+use Rattle.std.specs.Prelude.{map}
+use Rattle.std.proofs.lemmas.List.{length-map}
+use Rattle.ac_tree.specs.declared.item.Program.{Program}
+use Rattle.ac_types.specs.Resolved.{Resolved, Core}
+use Rattle.ac_types.specs.Resolution.{resolved}
+use Rattle.stack_code.specs.Parts.{Parts}
+use Rattle.ac_compile.specs.Translation.{IsCodeOf, code_of}
+use Rattle.ac_program.specs.declared.running.Ended.{Ended}
+use Rattle.ac_program.specs.Run.{IsRunOf}
+use Rattle.ac_program.specs.Source.{names_in, names_of}
+
+abbrev name_in : Core → List ℕ
+name_in core = core.name
+
+pub names_are : (program : Program) (code : Parts) → IsCodeOf program code → code.names ≡ names_of program
+names_are program code h = ap (λ (c : Parts). c.names) h.code_is ∙ ap names_in (sym h.resolves)
+
+pub as_many : (program : Program) (code : Parts) (bound : ℕ) (ended : Ended) → IsCodeOf program code → IsRunOf program bound [] ended → length code.names ≡ length ended.cores
+as_many program code bound ended h r =
+    let same : r.meaning ≡ h.meaning = let both : Some r.meaning ≡ Some h.meaning = sym r.resolves ∙ h.resolves in cc in
+    ap (λ (c : Parts). length c.names) h.code_is ∙ length-map h.meaning.cores name_in ∙ ap (λ (m : Resolved). length m.cores) (sym same) ∙ sym r.every_core

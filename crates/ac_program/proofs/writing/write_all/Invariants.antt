@@ -1,0 +1,13 @@
+use Rattle.std.proofs.Common.{length, ◌-◌, ◌≡◌, ◌≤◌, take}
+use Rattle.ac_outside.specs.Told.{GrewBy}
+use Rattle.ac_program.proofs.writing.write_all.Given as goal
+
+abbrev pub invariant-writing : goal.invariant-writing
+invariant-writing g l = record {
+  within : l.at ≤ length l.text;
+  taken : GrewBy (g.K.Sink.held l.initial.sink) (g.K.Sink.held l.sink) (take l.at l.text);
+  well : g.K.Sink.faults l.sink ≡ g.K.Sink.faults l.initial.sink;
+}
+
+abbrev pub decreases-writing : goal.decreases-writing
+decreases-writing g l = length l.text - l.at

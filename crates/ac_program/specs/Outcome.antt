@@ -1,0 +1,62 @@
+-- What the program owes its caller.
+use Rattle.std.specs.Prelude.{◌≡◌, ℕ, ◌+◌, ◌≤◌, List, [], length, None, Some}
+use Rattle.std.specs.declared.option.Option.{Option}
+use Rattle.ac_base.specs.Report.{report_of, status_of}
+use Rattle.ac_tree.specs.declared.item.Program.{Program}
+use Rattle.ac_outside.specs.Causes.{Rose}
+use Rattle.ac_outside.specs.Told.{CountsOne, GrewBy}
+use Rattle.ac_program.specs.declared.running.Ended.{Ended}
+use Rattle.ac_program.specs.declared.execute.Done.{Done}
+use Rattle.ac_program.specs.Words.{IsRun}
+use Rattle.ac_program.specs.Reading.{Gave, TookBytes}
+use Rattle.ac_program.specs.Writing.{TookFront}
+use Rattle.ac_program.specs.Source.{IsAccepted, IsNotBuilt, names_of}
+use Rattle.ac_program.specs.Run.{IsRunOf}
+use Rattle.ac_program.specs.Lines.{usage_line, library_line, not_built_line}
+
+-- what is made of a source that is accepted: the run of its program with this bound on steps, and the report and the status of that very run
+pub record IsDone (source : List ℕ) (bound : ℕ) (done : Done) : Type 0 where
+  pub program : Program
+  pub is_accepted : IsAccepted source program
+  pub is_run : IsRunOf program bound [] done.ended
+  pub report : done.report ≡ report_of (names_of program) done.ended.cores
+  pub status : done.status.number ≡ status_of done.ended.cores
+
+-- The status, the text to be written and the run that a source of at most 1,048,576 bytes calls for.
+pub data IsDueOf (source : List ℕ) (bound status : ℕ) (text : List ℕ) (run : Option Ended) : Type 0 where
+  not_built : status ≡ 15 → text ≡ not_built_line → run ≡ None → IsNotBuilt source → IsDueOf source bound status text run
+  ran : (done : Done) → status ≡ done.status.number → text ≡ done.report → run ≡ Some done.ended → IsDone source bound done → IsDueOf source bound status text run
+
+-- what the library is seen to do in a call
+pub record Seen : Type 0 where
+  pub text_at : List ℕ → Option (List ℕ)
+  pub left_after : Option (List ℕ)
+  pub opens : Option ℕ
+  pub opens_after : Option ℕ
+  pub faults : ℕ
+  pub faults_after : ℕ
+
+-- the library was opened once, and no call of it failed
+pub record IsWell (seen : Seen) : Type 0 where
+  pub once : CountsOne seen.opens seen.opens_after
+  pub faults : seen.faults_after ≡ seen.faults
+
+-- The status, the text to be written and the run that these words call for, by the first refusal in the order of work.
+pub data IsDue (words : List (List ℕ)) (seen : Seen) (status : ℕ) (text : List ℕ) (run : Option Ended) : Type 0 where
+  usage : status ≡ 1 → text ≡ usage_line → run ≡ None → ((file : List ℕ) → IsRun words file → ⊥) → seen.opens_after ≡ seen.opens → seen.faults_after ≡ seen.faults → IsDue words seen status text run
+  library_fault : (file : List ℕ) → status ≡ 7 → text ≡ library_line → run ≡ None → IsRun words file → CountsOne seen.opens seen.opens_after → Rose seen.faults seen.faults_after → IsDue words seen status text run
+  too_long : (file : List ℕ) → status ≡ 15 → text ≡ not_built_line → run ≡ None → IsRun words file → IsWell seen → TookBytes (seen.text_at file) seen.left_after (1048576 + 1) → IsDue words seen status text run
+  source : (file source : List ℕ) → IsRun words file → IsWell seen → Gave (seen.text_at file) source → length source ≤ 1048576 → IsDueOf source 100000 status text run → IsDue words seen status text run
+
+-- the sink has taken all of a text that is due with this status and this run
+pub record TookWhole (Due : ℕ → List ℕ → Option Ended → Type 0) (status : ℕ) (run : Option Ended) (held held_after : Option (List ℕ)) : Type 0 where
+  pub text : List ℕ
+  pub due : Due status text run
+  pub taken : GrewBy held held_after text
+
+-- the sink has taken a front of a text that is due with some status and this run, and not the whole
+pub record TookPart (Due : ℕ → List ℕ → Option Ended → Type 0) (run : Option Ended) (held held_after : Option (List ℕ)) : Type 0 where
+  pub status : ℕ
+  pub text : List ℕ
+  pub due : Due status text run
+  pub taken : TookFront held held_after text

@@ -1,0 +1,146 @@
+//! Tests of the types and texts that every layer speaks of.
+
+use ac_base::{
+    Boxed, CoreEnd, Draft, EndWord, Entry, Event, Journal, List, MachineEnd, NoMemory, Trap,
+    decimal, report, status,
+};
+use std::alloc::Global;
+use std::test::Fail;
+
+#[test]
+fn decimals(rt: HostRuntime) -> Result<(), Fail> {
+    let alloc = rt.alloc();
+    for (value, text) in [
+        (0, "0"),
+        (-1, "-1"),
+        (9_223_372_036_854_775_807, "9223372036854775807"),
+        (-9_223_372_036_854_775_807 - 1, "-9223372036854775808"),
+    ] {
+        let seen = decimal(alloc, value)?;
+        assert_eq!(rt; seen.as_slice(), text.as_bytes());
+    }
+    Ok(())
+}
+
+fn bytes(alloc: Global, text: &str) -> Result<List<u8>, NoMemory> {
+    Ok(List::from_vec(Vec::from_slice(alloc, text.as_bytes())?))
+}
+
+fn ended(
+    alloc: Global,
+    word: EndWord,
+    steps: u64,
+    instructions: u64,
+    output: &str,
+) -> Result<MachineEnd, NoMemory> {
+    Ok(MachineEnd {
+        core: CoreEnd {
+            word,
+            steps,
+            output: bytes(alloc, output)?,
+            globals: List::new(alloc),
+            waiting: List::new(alloc),
+            idle: false,
+        },
+        instructions,
+    })
+}
+
+#[test]
+fn reports(rt: HostRuntime) -> Result<(), Fail> {
+    let alloc = rt.alloc();
+    let trapped = EndWord::Trapped(Trap::ZeroDivisor);
+    for (word, steps, count, output, line, number) in [
+        (
+            EndWord::Finished,
+            1,
+            9,
+            "7\n",
+            "a: finished after 1 steps, 9 instructions\n7\n",
+            0,
+        ),
+        (
+            EndWord::Finished,
+            1,
+            9,
+            "7",
+            "a: finished after 1 steps, 9 instructions\n7\n",
+            0,
+        ),
+        (
+            EndWord::Stalled,
+            2,
+            6,
+            "",
+            "a: stalled after 2 steps, 6 instructions\n",
+            5,
+        ),
+        (
+            EndWord::OutOfSteps,
+            1,
+            3,
+            "1\n",
+            "a: out-of-steps after 1 steps, 3 instructions\n1\n",
+            6,
+        ),
+        (
+            trapped,
+            3,
+            16,
+            "-9\n",
+            "a: zero-divisor after 3 steps, 16 instructions\n-9\n",
+            4,
+        ),
+    ] {
+        let mut names = List::new(alloc);
+        names.push(bytes(alloc, "a")?)?;
+        let mut ends = List::new(alloc);
+        ends.push(ended(alloc, word, steps, count, output)?)?;
+        let text = report(alloc, &names, &ends)?;
+        assert_eq!(rt; text.as_slice(), line.as_bytes());
+        assert_eq!(rt; status(&ends).number, number, "of {line}");
+    }
+    Ok(())
+}
+
+#[test]
+fn statuses(rt: HostRuntime) -> Result<(), Fail> {
+    let alloc = rt.alloc();
+    let trapped = EndWord::Trapped(Trap::Index);
+    for (first, second, number) in [
+        (EndWord::Finished, EndWord::Finished, 0),
+        (EndWord::Finished, EndWord::Stalled, 5),
+        (EndWord::Stalled, EndWord::OutOfSteps, 6),
+        (EndWord::OutOfSteps, trapped, 4),
+        (trapped, EndWord::Stalled, 4),
+    ] {
+        let mut ends = List::new(alloc);
+        ends.push(ended(alloc, first, 0, 0, "")?)?;
+        ends.push(ended(alloc, second, 0, 0, "")?)?;
+        assert_eq!(rt; status(&ends).number, number, "of {first:?}, {second:?}");
+    }
+    Ok(())
+}
+
+#[test]
+fn memory(rt: HostRuntime) -> Result<(), Fail> {
+    let alloc = rt.alloc();
+    let mut list = List::new(alloc);
+    list.push(4u8)?;
+    let copy = list.copy(alloc)?;
+    assert_eq!(rt; copy.as_slice(), [4u8].as_slice());
+    let mut draft = Draft::from_list(copy);
+    draft.reserve(1)?;
+    draft.push(5);
+    assert_eq!(rt; draft.as_slice(), [4u8, 5].as_slice());
+    assert_eq!(rt; *Boxed::new(alloc, 6u8)?.get(), 6);
+    let mut journal = Journal::new(alloc);
+    journal.reserve(1)?;
+    journal.push(Entry {
+        stamp: 1,
+        turn: 0,
+        event: Event::Know { link: 0, number: 0 },
+    });
+    assert_eq!(rt; journal.len(), 1);
+    Ok(())
+}

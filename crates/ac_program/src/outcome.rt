@@ -1,0 +1,12 @@
+//! What a call of the program gives.
+
+use crate::running::Ended;
+use ac_base::Status;
+
+/// The status of a call, and the run from whose journals and ends the report was made, where
+/// there was one.
+#[derive(Drop)]
+pub struct Outcome {
+    pub status: Status,
+    pub run: Option<Ended>,
+}

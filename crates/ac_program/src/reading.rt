@@ -1,0 +1,80 @@
+//! Reading a text of a library whole.
+
+ghost use Rattle.std.specs.Prelude.{◌≡◌, ◌≢◌, ◌+◌, ◌≤◌, length, IfOk, IsErrOf, Err};
+ghost use Rattle.ac_outside.specs.Causes.{Rose};
+ghost use Rattle.ac_outside.specs.Told.{CountsOne};
+ghost use Rattle.ac_program.specs.Reading.{Gave, TookBytes};
+
+use ac_base::{Bytes, List};
+use ac_outside::{Failed, Library};
+use std::alloc::{AllocError, Global};
+use thiserror::Error;
+
+/// How many bytes a source may have.
+pub const LIMIT: usize = 1_048_576;
+
+// How many bytes one call reads at most.
+const CHUNK: usize = 4096;
+
+/// Why a text was not read.
+#[derive(Clone, Copy, Debug, PartialEq, Eq, Error)]
+pub enum ReadFault {
+    /// A call of the library failed.
+    #[error("the library failed")]
+    Failed,
+    /// The text is over the limit.
+    #[error("the text has more than {LIMIT} bytes")]
+    TooLong,
+    /// Memory was refused.
+    #[error("memory was refused")]
+    NoMemory,
+}
+
+impl From<Failed> for ReadFault {
+    ghost use Rattle.std.specs.Prelude.{◌≡◌};
+    ghost use Rattle.ac_program.specs.declared.reading.ReadFault.TheVariants.{Failed as FailedFault};
+
+    ghost from_gives = { λ _ e. e ≡ FailedFault };
+
+    fn from(_: Failed) -> ReadFault {
+        ReadFault::Failed
+    }
+}
+
+impl From<AllocError> for ReadFault {
+    ghost use Rattle.std.specs.Prelude.{◌≡◌};
+    ghost use Rattle.ac_program.specs.declared.reading.ReadFault.TheVariants.{NoMemory};
+
+    ghost from_gives = { λ _ e. e ≡ NoMemory };
+
+    fn from(_: AllocError) -> ReadFault {
+        ReadFault::NoMemory
+    }
+}
+
+/// Opens the text of a name and reads it to its end, or to one byte past the limit. Whatever the
+/// answer, the text was opened once and no other.
+pub fn read_text<L: Library>(alloc: Global, library: &mut L, name: &str) -> Result<Bytes, ReadFault>
+    ensures same { L.text_at library.new ≡ L.text_at library.old }
+    ensures count { CountsOne (L.opens library.old) (L.opens library.new) }
+
+    ensures whole { IfOk result (λ text. Gave (L.text_at library.old name.now) text) }
+    ensures short { IfOk result (λ text. length text ≤ LIMIT) }
+    ensures long { IsErrOf result ReadFault.TooLong → TookBytes (L.text_at library.old name.now) (L.left library.new) (LIMIT + 1) }
+
+    ensures failed { IsErrOf result ReadFault.Failed → Rose (L.faults library.old) (L.faults library.new) }
+    ensures well { result ≢ Err ReadFault.Failed → L.faults library.new ≡ L.faults library.old }
+{
+    let mut text = Vec::new(alloc);
+    library.open_text(name)?;
+    let mut chunk = [0u8; CHUNK];
+    'reading: while text.len() <= LIMIT {
+        let want = CHUNK.min(LIMIT + 1 - text.len());
+        let count = library.read(&mut chunk[..want])?;
+        if count == 0 {
+            return Ok(List::from_vec(text));
+        }
+        text.extend_from_slice(&chunk[..count])?;
+    }
+    Err(ReadFault::TooLong)
+}

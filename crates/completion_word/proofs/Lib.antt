@@ -1,0 +1,9 @@
+pub mod Lists
+pub mod Codes
+pub mod Growth
+pub mod Keeps
+pub mod Moves
+pub mod Allowed
+pub mod Sides
+pub mod Notes
+pub mod Laws

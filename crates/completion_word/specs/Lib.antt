@@ -1,0 +1,4 @@
+pub mod Link
+pub mod Rule
+pub mod Steps
+pub mod Seats

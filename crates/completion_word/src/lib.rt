@@ -1,0 +1,18 @@
+//! The completion words of one link: each offer is decided once, by one exchange on its word, whoever looks.
+#![tactic(auto)]
+
+mod answers;
+mod rule;
+mod seats;
+mod standing;
+mod views;
+mod words;
+
+pub use answers::{Closed, Learnt, Look, Taking, Withdrawal};
+pub use seats::{OwnerSeat, PeerSeat};
+pub use standing::Standing;
+pub use views::{Decision, Offer, Outcome, Owner, OwnerNote, Peer, PeerNote, Sighting, View};
+pub use words::Words;
+
+#[cfg(test)]
+mod tests;
