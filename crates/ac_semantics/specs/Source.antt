@@ -5,8 +5,8 @@ use Rattle.ac_base.specs.declared.ends.EndWord.TheVariants.{Finished}
 use Rattle.ac_base.specs.declared.ends.CoreEnd.{CoreEnd}
 use Rattle.ac_base.specs.declared.entry.Entry.{Entry}
 use Rattle.core_state.specs.Moves.{Move, On, Over}
-use Rattle.core_state.specs.Shared.{Shared, first_shared, with_step, with_output, formatted, seen, if_step}
-use Rattle.ac_types.specs.Resolved.{Operation, Plus, Minus, Times, Expression, Number, Combine, Command, Print}
+use Rattle.core_state.specs.Shared.{Shared, first_shared, slot_value, with_slot, with_step, with_output, formatted, seen, if_step}
+use Rattle.ac_types.specs.Resolved.{Operation, Plus, Minus, Times, Expression, Number, Variable, Combine, Command, Set, Print, Function}
 
 -- ---- evaluation
 
@@ -16,13 +16,15 @@ operate Plus x y = int_wrapping_add w64 x y
 operate Minus x y = int_wrapping_sub w64 x y
 operate Times x y = int_wrapping_mul w64 x y
 
-abbrev pub value_of : Expression → ℤ
-value_of (Number v) = v
-value_of (Combine op left right) = operate op (value_of left) (value_of right)
+-- where the slots of the frame hold these values
+abbrev pub value_of : List ℤ → Expression → ℤ
+value_of slots (Number v) = v
+value_of slots (Variable slot) = slot_value slots slot
+value_of slots (Combine op left right) = operate op (value_of slots left) (value_of slots right)
 
-abbrev pub values_of : List Expression → List ℤ
-values_of [] = []
-values_of (e ∷ es) = value_of e ∷ values_of es
+abbrev pub values_of : List ℤ → List Expression → List ℤ
+values_of slots [] = []
+values_of slots (e ∷ es) = value_of slots e ∷ values_of slots es
 
 -- ---- the state of a core
 
@@ -42,7 +44,8 @@ pub record CoreState : Type 0 where
 
 -- a command whose step is used
 abbrev pub done : Command → List Work → Shared → CoreState
-done (Print text args) rest s = record { shared = with_output s (formatted text (values_of args)); work = rest }
+done (Set slot value) rest s = record { shared = with_slot s slot (value_of s.slots value); work = rest }
+done (Print text args) rest s = record { shared = with_output s (formatted text (values_of s.slots args)); work = rest }
 
 -- the next step of the running thread; its end costs none
 abbrev pub next_of : ℕ → Shared → List Work → Move CoreState (Option CoreEnd)
@@ -52,5 +55,6 @@ next_of bound s (Do command ∷ rest) = if_step bound s (On (done command rest (
 abbrev pub step : ℕ → CoreState → Move CoreState (Option CoreEnd)
 step bound c = next_of bound c.shared c.work
 
-abbrev pub first_state : List Command → List Entry → CoreState
-first_state body journal = record { shared = first_shared journal; work = work_of body }
+-- a core that is about to begin a function
+abbrev pub first_state : Function → List Entry → CoreState
+first_state function journal = record { shared = first_shared function.slots journal; work = work_of function.body }

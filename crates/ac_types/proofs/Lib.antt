@@ -1,1 +1,9 @@
+pub mod Checked
 pub mod Folds
+pub mod Within
+pub mod Firsts
+pub mod Inners
+pub mod Leasts
+pub mod Meanings
+pub mod Tables
+pub mod Tops

@@ -1,2 +1,10 @@
+pub mod Scopes
+pub mod Inner
+pub mod Table
+pub mod Top
 pub mod Resolved
 pub mod Resolution
+pub mod Rules
+pub mod First
+pub mod Counted
+pub mod Short

@@ -1,7 +1,6 @@
 -- The resolved program of a tree, or none where a name is not what its place needs or a form is not built.
-use Rattle.std.specs.Prelude.{ℕ, ℤ, Bool, true, false, not, ◌&&◌, ◌==◌, List, [], ◌∷◌, length, map, All, ◌<◌, ◌^◌, Option, Some, None, if◌then◌else◌}
+use Rattle.std.specs.Prelude.{ℕ, pos, ◌+◌, List, [], ◌∷◌, map, Option, Some, None}
 use Rattle.std.specs.Option.{option_map}
-use Rattle.std.specs.Str.{bytes_eq}
 use Rattle.ac_tree.specs.declared.expr.BinaryOp.{BinaryOp}
 use Rattle.ac_tree.specs.declared.expr.BinaryOp.TheVariants as b
 use Rattle.ac_tree.specs.declared.expr.Expr.{Expr, fold-Expr}
@@ -11,15 +10,19 @@ use Rattle.ac_tree.specs.declared.stmt.Stmt.{Stmt}
 use Rattle.ac_tree.specs.declared.stmt.Stmt.TheVariants as s
 use Rattle.ac_tree.specs.declared.item.Item.{Item}
 use Rattle.ac_tree.specs.declared.item.Item.TheVariants as i
-use Rattle.ac_tree.specs.declared.item.Function as tree
 use Rattle.ac_tree.specs.declared.item.Program.{Program}
-use Rattle.ac_types.specs.Resolved.{Operation, Plus, Minus, Times, Expression, Number, Combine, Command, Print, Function, Core, Resolved}
+use Rattle.ac_types.specs.declared.meaning.Meaning.{Meaning}
+use Rattle.ac_types.specs.declared.meaning.Meaning.TheVariants as m
+use Rattle.ac_types.specs.Resolved.{Operation, Plus, Minus, Times, Expression, Number, Variable, Combine, Command, Set, Print, Resolved}
+use Rattle.ac_types.specs.Scopes.{Declaration, visible, declared, top_scope}
 
 -- the values, where each is there
 abbrev pub all_of : {A : Type 0} → List (Option A) → Option (List A)
 all_of [] = Some []
 all_of (None ∷ os) = None
 all_of (Some x ∷ os) = option_map (λ xs. x ∷ xs) (all_of os)
+
+-- ---- expressions, in the scopes round them
 
 abbrev pub operation_of : BinaryOp → Option Operation
 operation_of b.Add = Some Plus
@@ -38,59 +41,107 @@ chained None links = None
 chained (Some left) [] = Some left
 chained (Some left) (l ∷ links) = chained (joined left l.0 l.1) links
 
-abbrev pub expr_step : Expr-F (Option Expression) (Option Operation × Option Expression) → Option Expression
-expr_step (Expr-F.Number at value) = Some (Number value)
-expr_step (Expr-F.Chain at level first rest) = chained first rest
-expr_step _ = None
+-- the slot of a variable
+abbrev pub slot_of : Option Meaning → Option ℕ
+slot_of (Some (m.Variable slot)) = Some slot
+slot_of _ = None
 
-abbrev pub link_step : Link-F (Option Expression) (Option Operation × Option Expression) → Option Operation × Option Expression
-link_step link = (operation_of link.op, link.operand)
+abbrev pub InScopes : Type 0 → Type 0
+InScopes A = List (List Declaration) → A
 
-abbrev pub resolved_expr : Expr → Option Expression
-resolved_expr = fold-Expr (Option Expression) (Option Operation × Option Expression) expr_step link_step
+abbrev pub expr_step : Expr-F (InScopes (Option Expression)) (InScopes (Option Operation × Option Expression)) → InScopes (Option Expression)
+expr_step (Expr-F.Number at value) scopes = Some (Number value)
+expr_step (Expr-F.Name at name) scopes = option_map Variable (slot_of (visible name scopes))
+expr_step (Expr-F.Chain at level first rest) scopes = chained (first scopes) (map (λ l. l scopes) rest)
+expr_step _ scopes = None
 
-abbrev pub resolved_link : Link → Option Operation × Option Expression
-resolved_link = fold-Link (Option Expression) (Option Operation × Option Expression) expr_step link_step
+abbrev pub link_step : Link-F (InScopes (Option Expression)) (InScopes (Option Operation × Option Expression)) → InScopes (Option Operation × Option Expression)
+link_step link scopes = (operation_of link.op, link.operand scopes)
 
-abbrev pub resolved_stmt : Stmt → Option Command
-resolved_stmt (s.Print at format args) = option_map (λ es. Print format es) (all_of (map resolved_expr args))
-resolved_stmt _ = None
+abbrev pub resolved_expr : Expr → InScopes (Option Expression)
+resolved_expr = fold-Expr (InScopes (Option Expression)) (InScopes (Option Operation × Option Expression)) expr_step link_step
 
-abbrev pub resolved_body : List Stmt → Option (List Command)
-resolved_body body = all_of (map resolved_stmt body)
+abbrev pub resolved_link : Link → InScopes (Option Operation × Option Expression)
+resolved_link = fold-Link (InScopes (Option Expression)) (InScopes (Option Operation × Option Expression)) expr_step link_step
 
--- a function of this language is async, gives nothing and takes nothing
-abbrev pub is_entry : tree.Function → Bool
-is_entry f = f.is_async && not f.gives_int && length f.params == 0
+-- ---- statements, in the scopes round them
 
--- the core enters the function, whose name is another than its own
-abbrev pub accepted_items : List Item → Bool
-accepted_items (i.Core at name entry ∷ i.Function f ∷ []) = is_entry f && bytes_eq entry f.name && not (bytes_eq name f.name)
-accepted_items _ = false
+-- the name that an expression is, where it is one
+abbrev pub name_step : Expr-F (Option (List ℕ)) (Unit {0}) → Option (List ℕ)
+name_step (Expr-F.Name at name) = Some name
+name_step _ = None
 
-abbrev pub accepted : Program → Bool
-accepted p = accepted_items p.items
+abbrev pub no_step : Link-F (Option (List ℕ)) (Unit {0}) → Unit {0}
+no_step link = tt
 
-abbrev pub one_core : List ℕ → List ℕ → List Command → Resolved
-one_core name function body = record { cores = record { name = name; entry = 0 } ∷ []; functions = record { name = function; body = body } ∷ [] }
+abbrev pub name_of : Expr → Option (List ℕ)
+name_of = fold-Expr (Option (List ℕ)) (Unit {0}) name_step no_step
 
-abbrev pub resolved_items : List Item → Option Resolved
-resolved_items (i.Core at name entry ∷ i.Function f ∷ []) = option_map (one_core name f.name) (resolved_body f.body)
-resolved_items _ = None
+abbrev pub place_of : Option (List ℕ) → InScopes (Option ℕ)
+place_of None scopes = None
+place_of (Some name) scopes = slot_of (visible name scopes)
+
+abbrev pub set_of : Option ℕ → Option Expression → Option Command
+set_of (Some slot) (Some value) = Some (Set slot value)
+set_of _ _ = None
+
+-- a declaration without a value sets its variable to 0
+abbrev pub initial : Option Expr → InScopes (Option Expression)
+initial None scopes = Some (Number (pos 0))
+initial (Some value) scopes = resolved_expr value scopes
+
+abbrev pub resolved_args : List Expr → InScopes (Option (List Expression))
+resolved_args args scopes = all_of (map (λ arg. resolved_expr arg scopes) args)
+
+-- a statement, before which so many slots are given
+abbrev pub resolved_stmt : InScopes (ℕ → Stmt → Option Command)
+resolved_stmt scopes slot (s.Int at name value) = set_of (Some slot) (initial value scopes)
+resolved_stmt scopes slot (s.Assign at place value) = set_of (place_of (name_of place) scopes) (resolved_expr value scopes)
+resolved_stmt scopes slot (s.Print at format args) = option_map (Print format) (resolved_args args scopes)
+resolved_stmt scopes slot _ = None
+
+-- the slots that a statement takes
+abbrev pub slots_of : Stmt → ℕ
+slots_of (s.Int at name value) = 1
+slots_of _ = 0
+
+-- a name is visible from the end of its declaration
+abbrev pub scopes_after : InScopes (ℕ → Stmt → List (List Declaration))
+scopes_after scopes slot (s.Int at name value) = declared name (m.Variable slot) scopes
+scopes_after scopes slot _ = scopes
+
+abbrev pub then_all : Option Command → Option (List Command) → Option (List Command)
+then_all (Some c) (Some cs) = Some (c ∷ cs)
+then_all _ _ = None
+
+abbrev pub resolved_from : InScopes (ℕ → List Stmt → Option (List Command))
+resolved_from scopes slot [] = Some []
+resolved_from scopes slot (x ∷ xs) = then_all (resolved_stmt scopes slot x) (resolved_from (scopes_after scopes slot x) (slot + slots_of x) xs)
+
+abbrev pub body_slots : List Stmt → ℕ
+body_slots [] = 0
+body_slots (x ∷ xs) = slots_of x + body_slots xs
+
+-- the body of a function: its declarations have a scope of their own within the top level
+abbrev pub resolved_body : List Declaration → List Stmt → Option (List Command)
+resolved_body top body = resolved_from ([] ∷ top ∷ []) 0 body
+
+-- ---- programs
+
+-- the number of a function
+abbrev pub function_of : Option Meaning → Option ℕ
+function_of (Some (m.Function number)) = Some number
+function_of _ = None
+
+abbrev pub one_core : List ℕ → List ℕ → ℕ → Option ℕ → Option (List Command) → Option Resolved
+one_core name function slots (Some entry) (Some body) =
+    Some (record { cores = record { name = name; entry = entry } ∷ []; functions = record { name = function; slots = slots; body = body } ∷ [] })
+one_core name function slots _ _ = None
+
+-- one core and one function are built
+abbrev pub resolved_in : List Declaration → List Item → Option Resolved
+resolved_in top (i.Core at name entry ∷ i.Function f ∷ []) = one_core name f.name (body_slots f.body) (function_of (visible entry (top ∷ []))) (resolved_body top f.body)
+resolved_in top _ = None
 
 abbrev pub resolved : Program → Option Resolved
-resolved p = if accepted p then resolved_items p.items else None
-
--- ---- numbers of 32 bits suffice
-
-abbrev pub IsShortStmt : Stmt → Type 0
-IsShortStmt (s.Print at format args) = length args < 2 ^ 32
-IsShortStmt _ = Unit {0}
-
-abbrev pub AreShort : List Item → Type 0
-AreShort (i.Core at name entry ∷ i.Function f ∷ []) = (length f.body < 2 ^ 32) × All IsShortStmt f.body
-AreShort _ = Unit {0}
-
--- the texts, and the arguments of each, are fewer than 2 ^ 32
-abbrev pub IsShort : Program → Type 0
-IsShort p = AreShort p.items
+resolved p = resolved_in (top_scope p.items) p.items

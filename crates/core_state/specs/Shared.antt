@@ -1,5 +1,5 @@
 -- What the source and the code of a core both have, and what is seen of it at an end.
-use Rattle.std.specs.Prelude.{ℕ, ℤ, ◌+◌, Bool, true, false, List, [], ◌∷◌, ◌++◌, ◌==◌, nat_lt, Option, Some, None, if◌then◌else◌}
+use Rattle.std.specs.Prelude.{ℕ, ℤ, pos, ◌+◌, Bool, true, false, List, [], ◌∷◌, ◌++◌, replicate, slice_index_or, slice_set, ◌==◌, nat_lt, Option, Some, None, if◌then◌else◌}
 use Rattle.std.specs.Fmt.{signed_decimal}
 use Rattle.ac_base.specs.declared.ends.EndWord.{EndWord}
 use Rattle.ac_base.specs.declared.ends.EndWord.TheVariants.{OutOfSteps}
@@ -7,14 +7,22 @@ use Rattle.ac_base.specs.declared.ends.CoreEnd.{CoreEnd}
 use Rattle.ac_base.specs.declared.entry.Entry.{Entry}
 use Rattle.core_state.specs.Moves.{Move, Over}
 
--- the steps used, the bytes printed, and the entries of the journal that have not come in yet
+-- the steps used, the bytes printed, the slots of the function's frame, and the entries of the journal that have not come in yet
 pub record Shared : Type 0 where
   pub steps : ℕ
   pub output : List ℕ
+  pub slots : List ℤ
   pub journal : List Entry
 
-abbrev pub first_shared : List Entry → Shared
-first_shared journal = record { steps = 0; output = []; journal = journal }
+-- at the beginning, so many slots, each of them 0
+abbrev pub first_shared : ℕ → List Entry → Shared
+first_shared slots journal = record { steps = 0; output = []; slots = replicate slots (pos 0); journal = journal }
+
+abbrev pub slot_value : List ℤ → ℕ → ℤ
+slot_value slots slot = slice_index_or slots slot (pos 0)
+
+abbrev pub with_slot : Shared → ℕ → ℤ → Shared
+with_slot s slot value = record s { slots = slice_set s.slots slot value }
 
 abbrev pub with_step : Shared → Shared
 with_step s = record s { steps = s.steps + 1 }

@@ -1,0 +1,22 @@
+-- Programs for which numbers of 32 bits suffice.
+use Rattle.std.specs.Prelude.{◌<◌, ◌^◌, List, [], ◌∷◌, length, All}
+use Rattle.ac_tree.specs.declared.stmt.Stmt.{Stmt}
+use Rattle.ac_tree.specs.declared.stmt.Stmt.TheVariants as s
+use Rattle.ac_tree.specs.declared.item.Item.{Item}
+use Rattle.ac_tree.specs.declared.item.Item.TheVariants as i
+use Rattle.ac_tree.specs.declared.item.Program.{Program}
+
+abbrev pub IsShortStmt : Stmt → Type 0
+IsShortStmt (s.Print at format args) = length args < 2 ^ 32
+IsShortStmt _ = Unit {0}
+
+abbrev pub IsShortBody : List Stmt → Type 0
+IsShortBody body = (length body < 2 ^ 32) × All IsShortStmt body
+
+abbrev pub AreShort : List Item → Type 0
+AreShort (i.Core at name entry ∷ i.Function f ∷ []) = IsShortBody f.body
+AreShort _ = Unit {0}
+
+-- the statements, and the arguments of each, are fewer than 2 ^ 32
+abbrev pub IsShort : Program → Type 0
+IsShort p = AreShort p.items
