@@ -14,6 +14,7 @@ abbrev pub is_first : Mark → Bool
 is_first m.Plus = true
 is_first m.Minus = true
 is_first m.Star = true
+is_first m.Assign = true
 is_first m.OpenParen = true
 is_first m.CloseParen = true
 is_first m.OpenBrace = true

@@ -66,6 +66,7 @@ fn is_first_mark(mark: Mark) -> bool
         Mark::Plus
             | Mark::Minus
             | Mark::Star
+            | Mark::Assign
             | Mark::OpenParen
             | Mark::CloseParen
             | Mark::OpenBrace

@@ -40,7 +40,7 @@ fn expect_tokens(rt: &impl Abort, tokens: &List<Token>, wanted: &[(u32, u32, See
 
 #[test]
 fn first_tokens(rt: HostRuntime) -> Result<(), Fail> {
-    let rows: [(&[u8], &[(u32, u32, Seen<'_>)]); 9] = [
+    let rows: [(&[u8], &[(u32, u32, Seen<'_>)]); 11] = [
         (b"", &[]),
         (b" \t\r\n", &[]),
         (
@@ -86,6 +86,25 @@ fn first_tokens(rt: HostRuntime) -> Result<(), Fail> {
             ],
         ),
         (
+            b"int x=1;",
+            &[
+                (0, 3, Seen::Word(Word::Int)),
+                (4, 5, Seen::Name(b"x")),
+                (5, 6, Seen::Mark(Mark::Assign)),
+                (6, 7, Seen::Number(1)),
+                (7, 8, Seen::Mark(Mark::Semicolon)),
+            ],
+        ),
+        (
+            b"x==y",
+            &[
+                (0, 1, Seen::Name(b"x")),
+                (1, 2, Seen::Mark(Mark::Assign)),
+                (2, 3, Seen::Mark(Mark::Assign)),
+                (3, 4, Seen::Name(b"y")),
+            ],
+        ),
+        (
             b"{_}\n",
             &[
                 (0, 1, Seen::Mark(Mark::OpenBrace)),
@@ -108,7 +127,7 @@ fn first_tokens(rt: HostRuntime) -> Result<(), Fail> {
 
 #[test]
 fn no_first_tokens(rt: HostRuntime) -> Result<(), Fail> {
-    let texts: [&[u8]; 12] = [
+    let texts: [&[u8]; 14] = [
         b"9223372036854775808",
         b"01",
         b"00",
@@ -116,6 +135,8 @@ fn no_first_tokens(rt: HostRuntime) -> Result<(), Fail> {
         b"1_",
         b"a @",
         b"a < b",
+        b"a <= b",
+        b"a != b",
         b"/* a */",
         b"\"\"",
         b"\"%d\"",

@@ -7,9 +7,9 @@ use Rattle.ac_tree.specs.declared.expr.Link.{Link}
 use Rattle.ac_tree.specs.declared.expr.BinaryOp.{BinaryOp}
 use Rattle.ac_lexer.specs.declared.token.Mark.{Mark}
 use Rattle.ac_lexer.specs.declared.token.Token.{Token}
-use Rattle.ac_parser.specs.Grammar.{Marked, mark, tokens, IsMark, operator_of, Spells, number, alone, chain, LinksSpell, no_link, one_link}
+use Rattle.ac_parser.specs.Grammar.{Marked, mark, tokens, IsMark, operator_of, Spells, number, name, alone, chain, LinksSpell, no_link, one_link}
 use Rattle.ac_parser.specs.Reading.{Fault, operator_at, links_at, expr_at}
-use Rattle.ac_parser.proofs.Levels.{number_reads, chain_reads}
+use Rattle.ac_parser.proofs.Levels.{atom_reads, chain_reads}
 use Rattle.ac_parser.proofs.Marks.{tokens-append, tokens-split}
 
 -- no operator comes that would go on a chain of that level or of one above
@@ -47,6 +47,7 @@ fewer _ _ _ _ (one_link depth level t sign op x ls ms ns q o d ds) =
 
 at_most : (depth level : ℕ) (x : Expr) (ms : List Marked) → Spells depth level x ms → level ≤ 11
 at_most _ _ _ _ (number depth n t q) = omega arith
+at_most _ _ _ _ (name depth a t q) = omega arith
 at_most _ _ _ _ (alone depth level x ms d) = let h = at_most depth (level + 1) x ms d in omega arith
 at_most _ _ _ _ (chain depth level first l ls t ms ns d ds) = let h = at_most depth (level + 1) first (mark depth t ∷ ms) d in omega arith
 
@@ -54,7 +55,8 @@ mutual
   unfolding links_at
 
   pub reads : (depth level : ℕ) (x : Expr) (ms : List Marked) → Spells depth level x ms → (rest : List Token) → Follow level rest → expr_at level (tokens ms ++ rest) ≡ Ok (x, rest)
-  reads _ _ _ _ (number depth n t q) rest f = number_reads (t ∷ rest) ∙ rw q refl
+  reads _ _ _ _ (number depth n t q) rest f = atom_reads (t ∷ rest) ∙ rw q refl
+  reads _ _ _ _ (name depth a t q) rest f = atom_reads (t ∷ rest) ∙ rw q refl
   reads _ _ _ _ (alone depth level x ms d) rest f =
       let le = at_most depth (level + 1) x ms d in
       let h : expr_at (level + 1) (tokens ms ++ rest) ≡ Ok (x, rest) = reads depth (level + 1) x ms d rest (λ j lt. f j (omega arith)) in

@@ -5,11 +5,11 @@ use Rattle.ac_tree.specs.declared.expr.Link.{Link}
 use Rattle.ac_lexer.specs.declared.token.Token.{Token}
 use Rattle.ac_parser.specs.declared.reader.Stop.{Stop}
 use Rattle.ac_parser.specs.declared.reader.Stop.TheVariants as stop
-use Rattle.ac_parser.specs.Reading.{◌>>=◌, Fault, halt, unexpected, Fails, Gives, first_place, number_at, links_at, made, chain_of, chain_at, expr_at}
+use Rattle.ac_parser.specs.Reading.{◌>>=◌, Fault, halt, unexpected, Fails, Gives, first_place, atom_at, links_at, made, chain_of, chain_at, expr_at}
 
-pub number_reads : (ts : List Token) → expr_at 11 ts ≡ number_at ts
+pub atom_reads : (ts : List Token) → expr_at 11 ts ≡ atom_at ts
 unfolding expr_at chain_at
-number_reads ts = refl
+atom_reads ts = refl
 
 up_reads : (up level : ℕ) (ts : List Token) → up ≡ suc (11 - (level + 1)) → chain_at up level ts ≡ chain_of level (expr_at (level + 1)) ts
 unfolding expr_at chain_at

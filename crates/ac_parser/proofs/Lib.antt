@@ -1,5 +1,6 @@
 pub mod CompleteExpressions
 pub mod CompletePrograms
+pub mod CompleteStatements
 pub mod Levels
 pub mod LinkLoop
 pub mod Marks
@@ -9,5 +10,6 @@ pub mod Signs
 pub mod Sound
 pub mod SoundExpressions
 pub mod SoundPrograms
+pub mod SoundStatements
 pub mod StatementLoop
 pub mod Steps

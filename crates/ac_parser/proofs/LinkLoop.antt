@@ -1,13 +1,13 @@
 -- Reading links one after the other, as a loop does.
 use Rattle.std.proofs.Common.{◌≡◌, ℕ, suc, ◌-◌, ◌+◌, ◌≤◌, ◌<◌, List, [], ◌∷◌, ◌++◌, Result, Ok, Err, Some, None, refl, sym, ap, ◌∙◌, append_assoc, arith}
 use Rattle.std.proofs.lemmas.List.{append-nil}
+use Rattle.ac_tree.specs.Shape.{link}
 use Rattle.ac_tree.specs.declared.expr.Expr.{Expr}
 use Rattle.ac_tree.specs.declared.expr.Link.{Link}
 use Rattle.ac_tree.specs.declared.expr.BinaryOp.{BinaryOp}
 use Rattle.ac_lexer.specs.declared.token.Token.{Token}
 use Rattle.ac_parser.specs.declared.reader.Stop.{Stop}
 use Rattle.ac_parser.specs.declared.reader.Stop.TheVariants as stop
-use Rattle.ac_parser.specs.Grammar.{link}
 use Rattle.ac_parser.specs.Reading.{◌>>=◌, Fault, halt, unexpected, Fails, links_at, operator_at}
 
 -- what was read before, and what is still read

@@ -2,12 +2,12 @@
 use Rattle.std.proofs.Common.{◌≡◌, ℕ, List, Option, Some, None, Result, Ok, Err, refl, sym, ap, ◌∙◌, subst}
 use Rattle.std.specs.Prelude.{IfOk, IfSome, IfNone}
 use Rattle.ac_base.specs.declared.memory.NoMemory.{NoMemory}
+use Rattle.ac_tree.specs.Shape.{IsFirstProgram}
 use Rattle.ac_tree.specs.declared.item.Program.{Program}
 use Rattle.ac_lexer.specs.declared.token.Token.{Token}
 use Rattle.ac_lexer.specs.First.{IsFirstTokensOf}
 use Rattle.ac_parser.specs.Grammar.{SpellsTokens}
 use Rattle.ac_parser.specs.Reading.{Fault, found_of, program_at}
-use Rattle.ac_parser.specs.Shape.{IsFirstProgram}
 use Rattle.ac_parser.specs.Text.{SpellsText}
 use Rattle.ac_parser.proofs.CompletePrograms.{program_reads}
 use Rattle.ac_parser.proofs.Shapes.{spelled_shape}

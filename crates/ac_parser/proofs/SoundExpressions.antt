@@ -2,6 +2,7 @@
 use Rattle.std.proofs.Common.{◌≡◌, ℕ, zero, suc, ◌-◌, ◌+◌, ◌≤◌, List, [], ◌∷◌, ◌++◌, length, Option, Some, None, Result, Ok, refl, sym, ap, ◌∙◌, subst, arith}
 use Rattle.std.specs.Prelude.{Bool, true, false, ◌==◌, if◌then◌else◌}
 use Rattle.std.proofs.lemmas.Bool.Decides.{nat_tests}
+use Rattle.ac_tree.specs.Shape.{link}
 use Rattle.ac_tree.specs.declared.expr.Expr.{Expr}
 use Rattle.ac_tree.specs.declared.expr.Expr.TheVariants as e
 use Rattle.ac_tree.specs.declared.expr.Link.{Link}
@@ -10,8 +11,8 @@ use Rattle.ac_lexer.specs.declared.token.Mark.{Mark}
 use Rattle.ac_lexer.specs.declared.token.Kind.{Kind}
 use Rattle.ac_lexer.specs.declared.token.Kind.TheVariants as k
 use Rattle.ac_lexer.specs.declared.token.Token.{Token}
-use Rattle.ac_parser.specs.Grammar.{Marked, mark, tokens, IsMark, operator_of, link, Spells, number, alone, chain, LinksSpell, no_link, one_link}
-use Rattle.ac_parser.specs.Reading.{Fault, ◌>>=◌, first_place, number_of, number_at, at_level, operator_in, operator_at, after_operator, links_at, made, chain_of, chain_at, expr_at}
+use Rattle.ac_parser.specs.Grammar.{Marked, mark, tokens, IsMark, operator_of, Spells, number, name, alone, chain, LinksSpell, no_link, one_link}
+use Rattle.ac_parser.specs.Reading.{Fault, ◌>>=◌, first_place, atom_of, atom_at, at_level, operator_in, operator_at, after_operator, links_at, made, chain_of, chain_at, expr_at}
 use Rattle.ac_parser.proofs.Marks.{tokens-split}
 use Rattle.ac_parser.proofs.Steps.{bind_ok, fine}
 use Rattle.ac_parser.proofs.Sound.{Read, read_again, Sound}
@@ -57,19 +58,20 @@ pub operator_sound : (level : ℕ) (ts : List Token) (y : BinaryOp × List Token
 operator_sound level [] y h = cc
 operator_sound level (t ∷ ts) y h = kind_case level t ts y t.kind refl h
 
--- ---- a number
+-- ---- a number or a name
 
-number_case : (depth : ℕ) (t : Token) (ts : List Token) (x : Expr) (r : List Token) (kind : Kind) → t.kind ≡ kind → number_of t kind ts ≡ Ok (x, r) → Read Expr (Spells depth 11) x (t ∷ ts) r
-number_case depth t ts x r (k.Number n) q h =
+atom_case : (depth : ℕ) (t : Token) (ts : List Token) (x : Expr) (r : List Token) (kind : Kind) → t.kind ≡ kind → atom_of t kind ts ≡ Ok (x, r) → Read Expr (Spells depth 11) x (t ∷ ts) r
+atom_case depth t ts x r (k.Number n) q h =
     read_again Expr (Spells depth 11) (e.Number t.span.at n) x (t ∷ ts) ts r h (record { used = mark depth t ∷ []; split = refl; spells = number depth n t q })
-number_case depth t ts x r (k.Name n) q h = cc
-number_case depth t ts x r (k.Text n) q h = cc
-number_case depth t ts x r (k.Word n) q h = cc
-number_case depth t ts x r (k.Mark n) q h = cc
+atom_case depth t ts x r (k.Name a) q h =
+    read_again Expr (Spells depth 11) (e.Name t.span.at a) x (t ∷ ts) ts r h (record { used = mark depth t ∷ []; split = refl; spells = name depth a t q })
+atom_case depth t ts x r (k.Text n) q h = cc
+atom_case depth t ts x r (k.Word n) q h = cc
+atom_case depth t ts x r (k.Mark n) q h = cc
 
-pub number_sound : (depth : ℕ) → Sound Expr number_at (Spells depth 11)
-number_sound depth [] x r h = cc
-number_sound depth (t ∷ ts) x r h = number_case depth t ts x r t.kind refl h
+pub atom_sound : (depth : ℕ) → Sound Expr atom_at (Spells depth 11)
+atom_sound depth [] x r h = cc
+atom_sound depth (t ∷ ts) x r h = atom_case depth t ts x r t.kind refl h
 
 -- ---- links
 
@@ -109,6 +111,7 @@ pub record Starts (depth : ℕ) (ms : List Marked) : Type 0 where
 
 pub starts : (depth level : ℕ) (x : Expr) (ms : List Marked) → Spells depth level x ms → Starts depth ms
 starts _ _ _ _ (number depth n t q) = record { head = t; others = []; is = refl }
+starts _ _ _ _ (name depth a t q) = record { head = t; others = []; is = refl }
 starts _ _ _ _ (alone depth level x ms d) = starts depth (level + 1) x ms d
 starts _ _ _ _ (chain depth level first l ls t ms ns d ds) = record { head = t; others = ms ++ ns; is = refl }
 
@@ -146,7 +149,7 @@ sound_above : (depth up level : ℕ) → level + up ≡ 11 → Sound Expr (chain
 unfolding chain_at
 sound_above depth zero level h =
     let p : 11 ≡ level = omega arith in
-    subst (λ (n : ℕ). Sound Expr number_at (Spells depth n)) p (number_sound depth)
+    subst (λ (n : ℕ). Sound Expr atom_at (Spells depth n)) p (atom_sound depth)
 sound_above depth (suc up) level h = chain_sound depth level (chain_at up (level + 1)) (sound_above depth up (level + 1) (omega arith))
 
 pub expr_sound : (depth level : ℕ) → level ≤ 11 → Sound Expr (expr_at level) (Spells depth level)

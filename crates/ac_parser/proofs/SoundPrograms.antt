@@ -1,133 +1,20 @@
--- What is read is spelled so: statements and the top level.
-use Rattle.std.proofs.Common.{◌≡◌, ℕ, zero, suc, List, [], ◌∷◌, ◌++◌, length, Result, Ok, Err, refl, sym, ap, ◌∙◌, subst, arith}
-use Rattle.std.specs.Prelude.{Bool, true, false, if◌then◌else◌}
-use Rattle.std.specs.Str.{bytes_eq}
-use Rattle.std.proofs.lemmas.Slice.Eq.{bytes_eq-Decides}
+-- What is read is spelled so: the top level.
+use Rattle.std.proofs.Common.{◌≡◌, ℕ, List, [], ◌∷◌, ◌++◌, Result, Ok, sym, ap, ◌∙◌, subst}
+use Rattle.std.specs.Prelude.{true, false}
 use Rattle.std.proofs.lemmas.List.{append-nil}
-use Rattle.ac_tree.specs.declared.expr.Expr.{Expr}
 use Rattle.ac_tree.specs.declared.stmt.Stmt.{Stmt}
-use Rattle.ac_tree.specs.declared.stmt.Stmt.TheVariants as s
 use Rattle.ac_tree.specs.declared.item.Function.{Function}
 use Rattle.ac_tree.specs.declared.item.Item.{Item}
 use Rattle.ac_tree.specs.declared.item.Item.TheVariants as i
 use Rattle.ac_tree.specs.declared.item.Program.{Program}
 use Rattle.ac_lexer.specs.declared.token.Word.TheVariants as w
 use Rattle.ac_lexer.specs.declared.token.Mark.TheVariants as m
-use Rattle.ac_lexer.specs.declared.token.Kind.{Kind}
-use Rattle.ac_lexer.specs.declared.token.Kind.TheVariants as k
 use Rattle.ac_lexer.specs.declared.token.Token.{Token}
-use Rattle.ac_parser.specs.Grammar.{Marked, mark, tokens, decimal_line, Spells, StatementSpells, print, StatementsSpell, no_statement, one_statement, BlockSpells, block, CoreSpells, core, FunctionSpells, function, ProgramSpells, program, SpellsTokens}
-use Rattle.ac_parser.specs.Reading.{Fault, halt, unexpected, ◌>>=◌, word, sign, sign_at, starts_with, name_of, name_at, line_of, line_at, expr_at, statement_at, statements_at, block_at, core_at, function_at, end_at, program_at}
-use Rattle.ac_parser.proofs.Steps.{bind_ok, fine, ok_one, ok_pair}
-use Rattle.ac_parser.proofs.Sound.{Read, read_again, Sound, Same, same, Seq, seq, After, after, One, one, sound_return, sound_map, sound_if, sound_bind, sound_sign}
-use Rattle.ac_parser.proofs.SoundExpressions.{expr_sound}
-
--- ---- names and texts
-
-abbrev pub IsName : List ℕ → Token → Type 0
-IsName name t = t.kind ≡ k.Name name
-
-pub data IsLine : List ℕ → Token → Type 0 where
-  is_line : (t : Token) → t.kind ≡ k.Text decimal_line → IsLine decimal_line t
-
-one_read : (X : Type 0) (depth : ℕ) (K : X → Token → Type 0) (x y : X) (t : Token) (ts r : List Token) → fine {A = X × List Token} (x, ts) ≡ Ok (y, r) → K x t → Read X (One X depth K) y (t ∷ ts) r
-one_read X depth K x y t ts r h q = read_again X (One X depth K) x y (t ∷ ts) ts r h (record { used = mark depth t ∷ []; split = refl; spells = one x t q })
-
-name_case : (depth : ℕ) (t : Token) (ts : List Token) (y : List ℕ) (r : List Token) (kind : Kind) → t.kind ≡ kind → name_of t kind ts ≡ Ok (y, r) → Read (List ℕ) (One (List ℕ) depth IsName) y (t ∷ ts) r
-name_case depth t ts y r (k.Name n) q h = one_read (List ℕ) depth IsName n y t ts r h q
-name_case depth t ts y r (k.Number n) q h = cc
-name_case depth t ts y r (k.Text n) q h = cc
-name_case depth t ts y r (k.Word n) q h = cc
-name_case depth t ts y r (k.Mark n) q h = cc
-
-name_sound : (depth : ℕ) → Sound (List ℕ) name_at (One (List ℕ) depth IsName)
-name_sound depth [] y r h = cc
-name_sound depth (t ∷ ts) y r h = name_case depth t ts y r t.kind refl h
-
-text_case : (depth : ℕ) (t : Token) (ts : List Token) (y text : List ℕ) (r : List Token) (b : Bool) → (b ≡ true → text ≡ decimal_line) → t.kind ≡ k.Text text
-    → (if b then Ok (text, ts) else Err (halt unexpected (t ∷ ts))) ≡ fine {A = List ℕ × List Token} (y, r) → Read (List ℕ) (One (List ℕ) depth IsLine) y (t ∷ ts) r
-text_case depth t ts y text r true d q h = one_read (List ℕ) depth IsLine text y t ts r h (subst (λ (n : List ℕ). IsLine n t) (sym (d refl)) (is_line t (q ∙ ap (λ (n : List ℕ). k.Text n) (d refl))))
-text_case depth t ts y text r false d q h = cc
-
-line_case : (depth : ℕ) (t : Token) (ts : List Token) (y : List ℕ) (r : List Token) (kind : Kind) → t.kind ≡ kind → line_of t kind ts ≡ Ok (y, r) → Read (List ℕ) (One (List ℕ) depth IsLine) y (t ∷ ts) r
-line_case depth t ts y r (k.Text text) q h = text_case depth t ts y text r (bytes_eq text decimal_line) ((bytes_eq-Decides text decimal_line).0) q h
-line_case depth t ts y r (k.Name n) q h = cc
-line_case depth t ts y r (k.Number n) q h = cc
-line_case depth t ts y r (k.Word n) q h = cc
-line_case depth t ts y r (k.Mark n) q h = cc
-
-line_sound : (depth : ℕ) → Sound (List ℕ) line_at (One (List ℕ) depth IsLine)
-line_sound depth [] y r h = cc
-line_sound depth (t ∷ ts) y r h = line_case depth t ts y r t.kind refl h
-
--- ---- statements
-
-abbrev Closed : ℕ → ℕ → List ℕ → Expr → Stmt → List Marked → Type 0
-Closed depth at format x = After Stmt (suc depth) (sign m.CloseParen) (λ _. After Stmt depth (sign m.Semicolon) (λ _. Same Stmt (s.Print at format (x ∷ []))))
-
-abbrev Argument : ℕ → ℕ → List ℕ → Stmt → List Marked → Type 0
-Argument depth at format = After Stmt (suc depth) (sign m.Comma) (λ _. Seq Expr Stmt (Spells (suc depth) 9) (Closed depth at format))
-
-abbrev Printed : ℕ → Stmt → List Marked → Type 0
-Printed depth = After Stmt depth (word w.Printf) (λ at. After Stmt depth (sign m.OpenParen) (λ _. Seq (List ℕ) Stmt (One (List ℕ) (suc depth) IsLine) (Argument depth at)))
-
-is_statement : (depth : ℕ) (x : Stmt) (ms : List Marked) → Printed depth x ms → StatementSpells depth x ms
-is_statement depth _ _ (after t _ _ a (after u _ _ b (seq _ _ _ _ (one _ v (is_line _ c)) (after d _ _ e (seq x _ ms _ f (after g _ _ h (after j _ _ l same))))))) = print depth t u v d g j x ms a b c e f h l
-
-statement_sound : (depth : ℕ) → Sound Stmt statement_at (StatementSpells depth)
-unfolding statement_at
-statement_sound depth = sound_map Stmt statement_at (Printed depth) (StatementSpells depth) (is_statement depth)
-    (sound_sign Stmt depth (word w.Printf) (λ at us. sign_at (sign m.OpenParen) us >>= λ vs. line_at vs >>= λ text. argument at text.0 text.1) (λ at. After Stmt depth (sign m.OpenParen) (λ _. Seq (List ℕ) Stmt (One (List ℕ) (suc depth) IsLine) (Argument depth at)))
-    (λ at. sound_sign Stmt depth (sign m.OpenParen) (λ _ vs. line_at vs >>= λ text. argument at text.0 text.1) (λ _. Seq (List ℕ) Stmt (One (List ℕ) (suc depth) IsLine) (Argument depth at))
-    (λ _. sound_bind (List ℕ) Stmt line_at (argument at) (One (List ℕ) (suc depth) IsLine) (Argument depth at) (line_sound (suc depth))
-    (λ text. sound_sign Stmt (suc depth) (sign m.Comma) (λ _ cs. expr_at 9 cs >>= λ x. closed at text x.0 x.1) (λ _. Seq Expr Stmt (Spells (suc depth) 9) (Closed depth at text))
-    (λ _. sound_bind Expr Stmt (expr_at 9) (closed at text) (Spells (suc depth) 9) (Closed depth at text) (expr_sound (suc depth) 9 (omega arith))
-    (λ x. sound_sign Stmt (suc depth) (sign m.CloseParen) (λ _ ds. sign_at (sign m.Semicolon) ds >>= λ r. Ok (s.Print at text (x ∷ []), r)) (λ _. After Stmt depth (sign m.Semicolon) (λ _. Same Stmt (s.Print at text (x ∷ []))))
-    (λ _. sound_sign Stmt depth (sign m.Semicolon) (λ _ r. Ok (s.Print at text (x ∷ []), r)) (λ _. Same Stmt (s.Print at text (x ∷ []))) (λ _. sound_return Stmt (s.Print at text (x ∷ []))))))))))
-  where
-    closed : ℕ → List ℕ → Expr → List Token → Result (Stmt × List Token) Fault
-    closed at text x ts = sign_at (sign m.CloseParen) ts >>= λ ds. sign_at (sign m.Semicolon) ds >>= λ r. Ok (s.Print at text (x ∷ []), r)
-
-    argument : ℕ → List ℕ → List Token → Result (Stmt × List Token) Fault
-    argument at text ts = sign_at (sign m.Comma) ts >>= λ cs. expr_at 9 cs >>= λ x. closed at text x.0 x.1
-
-abbrev Others : ℕ → Stmt → List Stmt → List Marked → Type 0
-Others depth x = Seq (List Stmt) (List Stmt) (StatementsSpell depth) (λ xs. Same (List Stmt) (x ∷ xs))
-
-is_more : (depth : ℕ) (xs : List Stmt) (ms : List Marked) → Seq Stmt (List Stmt) (StatementSpells depth) (Others depth) xs ms → StatementsSpell depth xs ms
-is_more depth _ _ (seq x _ ms _ a (seq xs _ ns _ b same)) =
-    subst (λ (us : List Marked). StatementsSpell depth (x ∷ xs) (ms ++ us)) (sym (append-nil ns)) (one_statement depth x xs ms ns a b)
-
-no_more : (depth : ℕ) (xs : List Stmt) (ms : List Marked) → Same (List Stmt) [] xs ms → StatementsSpell depth xs ms
-no_more depth _ _ same = no_statement depth
-
-stop_sound : (P : List Stmt → List Marked → Type 0) → Sound (List Stmt) (λ a. Err (halt unexpected a)) P
-stop_sound P a xs r h = cc
-
-statements_sound : (depth n : ℕ) → Sound (List Stmt) (statements_at n) (StatementsSpell depth)
-unfolding statements_at
-statements_sound depth zero = stop_sound (StatementsSpell depth)
-statements_sound depth (suc n) =
-    sound_if (List Stmt) (starts_with (sign m.CloseBrace)) (λ a. Ok ([], a)) (λ a. statement_at a >>= λ x. statements_at n x.1 >>= λ xs. Ok (x.0 ∷ xs.0, xs.1)) (StatementsSpell depth)
-    (sound_map (List Stmt) (λ a. Ok ([], a)) (Same (List Stmt) []) (StatementsSpell depth) (no_more depth) (sound_return (List Stmt) []))
-    (sound_map (List Stmt) (λ a. statement_at a >>= λ x. statements_at n x.1 >>= λ xs. Ok (x.0 ∷ xs.0, xs.1)) (Seq Stmt (List Stmt) (StatementSpells depth) (Others depth)) (StatementsSpell depth) (is_more depth)
-    (sound_bind Stmt (List Stmt) statement_at (λ x a. statements_at n a >>= λ xs. Ok (x ∷ xs.0, xs.1)) (StatementSpells depth) (Others depth) (statement_sound depth)
-    (λ x. sound_bind (List Stmt) (List Stmt) (statements_at n) (λ xs a. Ok (x ∷ xs, a)) (StatementsSpell depth) (λ xs. Same (List Stmt) (x ∷ xs)) (statements_sound depth n) (λ xs. sound_return (List Stmt) (x ∷ xs)))))
-
-abbrev BodyEnd : ℕ → List Stmt → List Stmt → List Marked → Type 0
-BodyEnd depth xs = After (List Stmt) depth (sign m.CloseBrace) (λ _. Same (List Stmt) xs)
-
-is_block : (depth : ℕ) (xs : List Stmt) (ms : List Marked) → After (List Stmt) depth (sign m.OpenBrace) (λ _. Seq (List Stmt) (List Stmt) (StatementsSpell (suc depth)) (BodyEnd depth)) xs ms → BlockSpells depth xs ms
-is_block depth _ _ (after t _ _ a (seq xs _ ms _ b (after u _ _ c same))) = block depth t u xs ms a b c
-
-block_sound : (depth : ℕ) → Sound (List Stmt) block_at (BlockSpells depth)
-unfolding block_at
-block_sound depth ts xs r h =
-    sound_map (List Stmt) (λ a. sign_at (sign m.OpenBrace) a >>= λ us. statements_at (length us) us >>= λ x. sign_at (sign m.CloseBrace) x.1 >>= λ r. Ok (x.0, r))
-    (After (List Stmt) depth (sign m.OpenBrace) (λ _. Seq (List Stmt) (List Stmt) (StatementsSpell (suc depth)) (BodyEnd depth))) (BlockSpells depth) (is_block depth)
-    (sound_sign (List Stmt) depth (sign m.OpenBrace) (λ _ us. statements_at (length us) us >>= λ x. sign_at (sign m.CloseBrace) x.1 >>= λ r. Ok (x.0, r)) (λ _. Seq (List Stmt) (List Stmt) (StatementsSpell (suc depth)) (BodyEnd depth))
-    (λ _ us. sound_bind (List Stmt) (List Stmt) (statements_at (length us)) (λ xs a. sign_at (sign m.CloseBrace) a >>= λ r. Ok (xs, r)) (StatementsSpell (suc depth)) (BodyEnd depth) (statements_sound (suc depth) (length us))
-    (λ xs. sound_sign (List Stmt) depth (sign m.CloseBrace) (λ _ r. Ok (xs, r)) (λ _. Same (List Stmt) xs) (λ _. sound_return (List Stmt) xs)) us)) ts xs r h
+use Rattle.ac_parser.specs.Grammar.{Marked, mark, tokens, BlockSpells, CoreSpells, core, FunctionSpells, function, ProgramSpells, program, SpellsTokens}
+use Rattle.ac_parser.specs.Reading.{Fault, ◌>>=◌, word, sign, sign_at, name_at, block_at, core_at, function_at, end_at, program_at}
+use Rattle.ac_parser.proofs.Steps.{bind_ok, ok_one, ok_pair}
+use Rattle.ac_parser.proofs.Sound.{Sound, Same, same, Seq, seq, After, after, One, one, sound_return, sound_map, sound_bind, sound_sign}
+use Rattle.ac_parser.proofs.SoundStatements.{IsName, name_sound, block_sound}
 
 -- ---- the top level
 

@@ -10,13 +10,15 @@
 --
 -- In `core a(f);` the name f and the `)` have depth 1, and the other tokens depth 0. In `async void f() { printf("%d\n", 1); }` the first `)`
 -- has depth 1; the braces are contained in the body block and have depth 1; `printf`, its `(` and the `;` are contained in the body block and
--- in the statement and have depth 2; the text, the comma, the number and the second `)` have depth 3.
+-- in the statement and have depth 2; the text, the comma, the number and the second `)` have depth 3. In `async void f() { int x = 1 + 2; x = 3; }`
+-- all tokens of the two statements have depth 2.
 --
 -- Each relation is given the depth of the first token of its part, and says from it how deep the others are. How deep a token may be is no
 -- matter of the grammar.
 use Rattle.std.specs.Prelude.{◌≡◌, ℕ, ℤ, ◌+◌, suc, true, false, List, [], ◌∷◌, ◌++◌, Option, Some, None}
 use Rattle.ac_tree.specs.declared.expr.Expr.{Expr}
 use Rattle.ac_tree.specs.declared.expr.Expr.TheVariants as e
+use Rattle.ac_tree.specs.Shape.{link, decimal_line}
 use Rattle.ac_tree.specs.declared.expr.Link.{Link}
 use Rattle.ac_tree.specs.declared.expr.BinaryOp.{BinaryOp}
 use Rattle.ac_tree.specs.declared.expr.BinaryOp.TheVariants as b
@@ -60,14 +62,12 @@ operator_of m.Minus = Some (9, b.Sub)
 operator_of m.Star = Some (10, b.Mul)
 operator_of _ = None
 
-abbrev pub link : BinaryOp → Expr → Link
-link op operand = record { op = op; operand = operand }
-
 mutual
-  -- An expression of a level: a number is of level 11; a chain is two or more expressions of the next level, with operators of its level
-  -- between them, and one alone is of this level too. So a product of numbers is of level 10, and a sum of products of level 9.
+  -- An expression of a level: a number or a name is of level 11; a chain is two or more expressions of the next level, with operators of its
+  -- level between them, and one alone is of this level too. So a product of numbers and names is of level 10, and a sum of products of level 9.
   pub data Spells : ℕ → ℕ → Expr → List Marked → Type 0 where
     number : (depth : ℕ) (n : ℤ) (t : Token) → t.kind ≡ k.Number n → Spells depth 11 (e.Number t.span.at n) (mark depth t ∷ [])
+    name : (depth : ℕ) (letters : List ℕ) (t : Token) → t.kind ≡ k.Name letters → Spells depth 11 (e.Name t.span.at letters) (mark depth t ∷ [])
     alone : (depth level : ℕ) (x : Expr) (ms : List Marked) → Spells depth (level + 1) x ms → Spells depth level x ms
     chain : (depth level : ℕ) (first : Expr) (l : Link) (ls : List Link) (head : Token) (ms ns : List Marked)
         → Spells depth (level + 1) first (mark depth head ∷ ms) → LinksSpell depth level (l ∷ ls) ns
@@ -82,12 +82,21 @@ mutual
 
 -- ---- statements
 
--- percent, d and a line feed
-abbrev pub decimal_line : List ℕ
-decimal_line = 37 ∷ 100 ∷ 10 ∷ []
-
--- `printf ( "%d\n" , sum ) ;`
+-- A sum after `=` is contained in no more than its statement, and one between the parentheses of `printf` is one deeper.
 pub data StatementSpells : ℕ → Stmt → List Marked → Type 0 where
+  -- `int NAME ;`
+  declare : (depth : ℕ) (int called semicolon : Token) (letters : List ℕ)
+      → IsWord w.Int int → called.kind ≡ k.Name letters → IsMark m.Semicolon semicolon
+      → StatementSpells depth (s.Int int.span.at letters None) (mark depth int ∷ mark depth called ∷ mark depth semicolon ∷ [])
+  -- `int NAME = sum ;`
+  declare_with : (depth : ℕ) (int called equals semicolon : Token) (letters : List ℕ) (value : Expr) (ms : List Marked)
+      → IsWord w.Int int → called.kind ≡ k.Name letters → IsMark m.Assign equals → Spells depth 9 value ms → IsMark m.Semicolon semicolon
+      → StatementSpells depth (s.Int int.span.at letters (Some value)) (mark depth int ∷ mark depth called ∷ mark depth equals ∷ (ms ++ mark depth semicolon ∷ []))
+  -- `NAME = sum ;`
+  assign : (depth : ℕ) (called equals semicolon : Token) (letters : List ℕ) (value : Expr) (ms : List Marked)
+      → called.kind ≡ k.Name letters → IsMark m.Assign equals → Spells depth 9 value ms → IsMark m.Semicolon semicolon
+      → StatementSpells depth (s.Assign called.span.at (e.Name called.span.at letters) value) (mark depth called ∷ mark depth equals ∷ (ms ++ mark depth semicolon ∷ []))
+  -- `printf ( "%d\n" , sum ) ;`
   print : (depth : ℕ) (printf left text comma right semicolon : Token) (x : Expr) (ms : List Marked)
       → IsWord w.Printf printf → IsMark m.OpenParen left → text.kind ≡ k.Text decimal_line → IsMark m.Comma comma → Spells (suc depth) 9 x ms → IsMark m.CloseParen right → IsMark m.Semicolon semicolon
       → StatementSpells depth (s.Print printf.span.at decimal_line (x ∷ []))

@@ -23,7 +23,8 @@ use Rattle.ac_lexer.specs.declared.token.Kind.TheVariants as k
 use Rattle.ac_lexer.specs.declared.token.Token.{Token}
 use Rattle.ac_parser.specs.declared.reader.Stop.{Stop}
 use Rattle.ac_parser.specs.declared.reader.Stop.TheVariants as stop
-use Rattle.ac_parser.specs.Grammar.{operator_of, link, decimal_line}
+use Rattle.ac_tree.specs.Shape.{link, decimal_line}
+use Rattle.ac_parser.specs.Grammar.{operator_of}
 
 -- why reading stops
 pub data Cause : Type 0 where
@@ -77,6 +78,14 @@ abbrev pub starts_with : Sign → List Token → Bool
 starts_with wanted [] = false
 starts_with wanted (t ∷ ts) = is_kind wanted t.kind
 
+abbrev pub is_name : Kind → Bool
+is_name (k.Name letters) = true
+is_name _ = false
+
+abbrev pub starts_with_name : List Token → Bool
+starts_with_name [] = false
+starts_with_name (t ∷ ts) = is_name t.kind
+
 abbrev pub sign_at : Sign → List Token → Result (List Token) Fault
 sign_at wanted [] = Err (halt unexpected [])
 sign_at wanted (t ∷ ts) = if is_kind wanted t.kind then Ok ts else Err (halt unexpected (t ∷ ts))
@@ -97,13 +106,15 @@ abbrev pub line_at : List Token → Result (List ℕ × List Token) Fault
 line_at [] = Err (halt unexpected [])
 line_at (t ∷ ts) = line_of t t.kind ts
 
-abbrev pub number_of : Token → Kind → List Token → Result (Expr × List Token) Fault
-number_of t (k.Number n) ts = Ok (e.Number t.span.at n, ts)
-number_of t _ ts = Err (halt unexpected (t ∷ ts))
+-- a number or a name
+abbrev pub atom_of : Token → Kind → List Token → Result (Expr × List Token) Fault
+atom_of t (k.Number n) ts = Ok (e.Number t.span.at n, ts)
+atom_of t (k.Name letters) ts = Ok (e.Name t.span.at letters, ts)
+atom_of t _ ts = Err (halt unexpected (t ∷ ts))
 
-abbrev pub number_at : List Token → Result (Expr × List Token) Fault
-number_at [] = Err (halt unexpected [])
-number_at (t ∷ ts) = number_of t t.kind ts
+abbrev pub atom_at : List Token → Result (Expr × List Token) Fault
+atom_at [] = Err (halt unexpected [])
+atom_at (t ∷ ts) = atom_of t t.kind ts
 
 abbrev pub at_level : ℕ → Option (ℕ × BinaryOp) → List Token → Option (BinaryOp × List Token)
 at_level level None ts = None
@@ -140,9 +151,9 @@ chain_of level inner ts = do
   rest ← links_at level inner (length first.1) first.1
   Ok (made (first_place ts) level first.0 rest.0, rest.1)
 
--- so many levels below a number
+-- so many levels below an atom
 unfoldable pub chain_at : ℕ → ℕ → List Token → Result (Expr × List Token) Fault
-chain_at zero level ts = number_at ts
+chain_at zero level ts = atom_at ts
 chain_at (suc up) level ts = chain_of level (chain_at up (level + 1)) ts
 
 -- an expression of that level
@@ -151,8 +162,28 @@ expr_at level = chain_at (11 - level) level
 
 -- ---- statements
 
-unfoldable pub statement_at : List Token → Result (Stmt × List Token) Fault
-statement_at ts = do
+-- `=` and a sum, or nothing where no `=` comes next
+unfoldable pub initial_at : List Token → Result (Option Expr × List Token) Fault
+initial_at ts = if starts_with (sign m.Assign) ts then (sign_at (sign m.Assign) ts >>= λ us. expr_at 9 us >>= λ x. Ok (Some x.0, x.1)) else Ok (None, ts)
+
+unfoldable pub declaration_at : List Token → Result (Stmt × List Token) Fault
+declaration_at ts = do
+  us ← sign_at (word w.Int) ts
+  name ← name_at us
+  value ← initial_at name.1
+  rest ← sign_at (sign m.Semicolon) value.1
+  Ok (s.Int (first_place ts) name.0 value.0, rest)
+
+unfoldable pub assignment_at : List Token → Result (Stmt × List Token) Fault
+assignment_at ts = do
+  name ← name_at ts
+  us ← sign_at (sign m.Assign) name.1
+  value ← expr_at 9 us
+  rest ← sign_at (sign m.Semicolon) value.1
+  Ok (s.Assign (first_place ts) (e.Name (first_place ts) name.0) value.0, rest)
+
+unfoldable pub print_at : List Token → Result (Stmt × List Token) Fault
+print_at ts = do
   us ← sign_at (word w.Printf) ts
   vs ← sign_at (sign m.OpenParen) us
   format ← line_at vs
@@ -161,6 +192,10 @@ statement_at ts = do
   ds ← sign_at (sign m.CloseParen) value.1
   rest ← sign_at (sign m.Semicolon) ds
   Ok (s.Print (first_place ts) format.0 (value.0 ∷ []), rest)
+
+-- the next token alone decides which statement it is
+unfoldable pub statement_at : List Token → Result (Stmt × List Token) Fault
+statement_at ts = if starts_with (word w.Int) ts then declaration_at ts else (if starts_with_name ts then assignment_at ts else print_at ts)
 
 -- at most n statements, up to a brace
 unfoldable pub statements_at : ℕ → List Token → Result (List Stmt × List Token) Fault

@@ -3,13 +3,13 @@
 ghost use Rattle.std.specs.Prelude.{◌≡◌, ◌≤◌, ◌<◌, ◌+◌, Ok, [], length};
 ghost use Rattle.ac_parser.specs.Reading.{Gives, expr_at, links_at, made};
 
-use crate::reader::{Reader, Stop, number, operator, place};
+use crate::reader::{Reader, Stop, atom, operator, place};
 use ac_base::{Boxed, List};
 use ac_tree::{Expr, Link};
 use std::alloc::Global;
 
-// The level of a number, above that of every operator.
-const NUMBER: u8 = 11;
+// The level of a number or a name, above that of every operator.
+const ATOM: u8 = 11;
 
 // A chain, or its first part alone.
 fn whole(alloc: Global, at: u32, level: u8, first: Expr, rest: List<Link>) -> Result<Expr, Stop>
@@ -34,8 +34,8 @@ pub fn expression(alloc: Global, r: &mut Reader<'_>, level: u8) -> Result<Expr, 
     requires { level ≤ 11 }
     ensures { Gives r.new.rest.now (λ e. (e, r.new.rest.now)) result (expr_at level r.old.rest.now) }
 {
-    if level == NUMBER {
-        return number(r);
+    if level == ATOM {
+        return atom(alloc, r);
     }
     let at = place(r);
     let first = expression(alloc, r, level + 1)?;

@@ -1,10 +1,10 @@
 //! The whole of a text.
 
 ghost use Rattle.std.specs.Prelude.{◌≡◌, ◌<◌, ◌^◌, length, IfOk, IfSome, IfNone};
+ghost use Rattle.ac_tree.specs.Shape.{IsFirstProgram};
 ghost use Rattle.ac_tree.specs.declared.item.Program.{Program};
 ghost use Rattle.ac_parser.specs.Grammar.{SpellsTokens};
 ghost use Rattle.ac_parser.specs.Reading.{found_of, program_at};
-ghost use Rattle.ac_parser.specs.Shape.{IsFirstProgram};
 ghost use Rattle.ac_parser.specs.Text.{SpellsText};
 
 use crate::program::program;
@@ -38,8 +38,9 @@ fn parse_first_tokens(alloc: Global, tokens: &[Token]) -> Result<Option<Program>
 
 /// The program that a text of the first language spells, or None where it spells none.
 ///
-/// The text has one core and then one async void function without parameters, whose body prints sums of products of numbers.
-/// It has fewer than 2^32 bytes.
+/// The text has one core and then one async void function without parameters. Each statement of its body declares a variable,
+/// with or without a value, assigns to one, or prints a number; values are sums of products of numbers and variables.
+/// The text has fewer than 2^32 bytes.
 pub fn parse_first(alloc: Global, text: &[u8]) -> Result<Option<Program>, NoMemory>
     requires { length text.now < 2 ^ 32 }
     // The text spells the program.

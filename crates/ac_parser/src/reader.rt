@@ -2,7 +2,7 @@
 
 ghost use Rattle.std.specs.Prelude.{◌≡◌, IfNone, IfSome, Some, None, Ok};
 ghost use Rattle.ac_parser.specs.Grammar.{operator_of};
-ghost use Rattle.ac_parser.specs.Reading.{Gives, first_place, word, sign, starts_with, sign_at, name_at, line_at, number_at, operator_at};
+ghost use Rattle.ac_parser.specs.Reading.{Gives, first_place, word, sign, starts_with, starts_with_name, sign_at, name_at, line_at, atom_at, operator_at};
 ghost use Rattle.ac_parser.specs.declared.reader.Stop.TheVariants.{Memory};
 
 use ac_base::{Bytes, Name, NoMemory};
@@ -97,6 +97,33 @@ pub fn is_next(r: &Reader<'_>, wanted: Mark) -> bool
     }
 }
 
+/// Whether that word comes next.
+#[tactic(auto, unfolding(crate::specs::Reading::same_word))]
+pub fn is_word_next(r: &Reader<'_>, wanted: Word) -> bool
+    ensures { result ≡ starts_with (word wanted) r.now.rest.now }
+{
+    match r.rest {
+        [] => false,
+        [first, ..] => match first.kind {
+            Kind::Word(found) => wanted == found,
+            _ => false,
+        },
+    }
+}
+
+/// Whether a name comes next.
+pub fn is_name_next(r: &Reader<'_>) -> bool
+    ensures { result ≡ starts_with_name r.now.rest.now }
+{
+    match r.rest {
+        [] => false,
+        [first, ..] => match first.kind {
+            Kind::Name(_) => true,
+            _ => false,
+        },
+    }
+}
+
 /// Takes a name.
 pub fn name(alloc: Global, r: &mut Reader<'_>) -> Result<Name, Stop>
     ensures { Gives r.new.rest.now (λ name. (name, r.new.rest.now)) result (name_at r.old.rest.now) }
@@ -131,17 +158,23 @@ pub fn line(alloc: Global, r: &mut Reader<'_>) -> Result<Bytes, Stop>
     }
 }
 
-/// Takes a number.
-pub fn number(r: &mut Reader<'_>) -> Result<Expr, Stop>
-    ensures { Gives r.new.rest.now (λ e. (e, r.new.rest.now)) result (number_at r.old.rest.now) }
+/// Takes a number or a name.
+pub fn atom(alloc: Global, r: &mut Reader<'_>) -> Result<Expr, Stop>
+    ensures { Gives r.new.rest.now (λ e. (e, r.new.rest.now)) result (atom_at r.old.rest.now) }
 {
     match r.rest {
         [] => Err(Stop::Unexpected),
-        [first, rest @ ..] => match first.kind {
+        [first, rest @ ..] => match &first.kind {
             Kind::Number(value) => {
                 r.rest = rest;
                 let at = first.span.at;
-                Ok(Expr::Number { at, value })
+                Ok(Expr::Number { at, value: *value })
+            }
+            Kind::Name(name) => {
+                let name = name.copy(alloc)?;
+                r.rest = rest;
+                let at = first.span.at;
+                Ok(Expr::Name { at, name })
             }
             _ => Err(Stop::Unexpected),
         },

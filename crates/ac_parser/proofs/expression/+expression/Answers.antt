@@ -26,11 +26,11 @@ links-returns t c = is_done c.args.level (expr_at (c.args.level + 1)) c.links.li
 pub expression-returns-in_err-rest : goal.expression-returns-in_err-rest
 expression-returns-in_err-rest t c =
     let p = err_from_is_err_and c.from_residual-in_err-rest.result c.from_residual-in_err-rest.ensures.1 in
-    rw (p.1, p.2) (links_stop c.args.level c.args.r.now.rest.now (below c.args.level c.requires c.if-level-eq-NUMBER.false) c.links.new.r.rest.now c.in_err-rest.field-0.0 c.in_ok-first.first c.expression.new.r.rest.now
+    rw (p.1, p.2) (links_stop c.args.level c.args.r.now.rest.now (below c.args.level c.requires c.if-level-eq-ATOM.false) c.links.new.r.rest.now c.in_err-rest.field-0.0 c.in_ok-first.first c.expression.new.r.rest.now
     c.in_ok-first.ensures c.in_err-rest.ensures)
 
 pub expression-returns : goal.expression-returns
 expression-returns t c =
     whole_gives (expr_at c.args.level c.args.r.now.rest.now) _ c.links.new.r.rest.now c.whole.result
-    (whole_reads c.args.level c.args.r.now.rest.now (below c.args.level c.requires c.if-level-eq-NUMBER.false) c.in_ok-first.first c.expression.new.r.rest.now c.in_ok-rest.rest c.links.new.r.rest.now
+    (whole_reads c.args.level c.args.r.now.rest.now (below c.args.level c.requires c.if-level-eq-ATOM.false) c.in_ok-first.first c.expression.new.r.rest.now c.in_ok-rest.rest c.links.new.r.rest.now
     c.in_ok-first.ensures c.in_ok-rest.ensures) (rw c.place-at.ensures at c.whole.ensures)
