@@ -1,6 +1,6 @@
 -- The machine on the code of a program follows the program.
-use Rattle.std.proofs.Common.{◌≡◌, ℕ, zero, suc, ◌+◌, ◌≤◌, List, [], ◌∷◌, ◌++◌, length, take, drop, Option, Some, None, Bool, true, false, refl, sym, ap, ◌∙◌, subst, arith, append_assoc, length-append, append-nil, w64, ◌↔◌}
-use Rattle.std.specs.Prelude.{slice_get, ℤ, pos, nat_lt, nat_le, reverse, map, if◌then◌else◌}
+use Rattle.std.proofs.Common.{◌≡◌, ℕ, ◌+◌, ◌≤◌, List, [], ◌∷◌, ◌++◌, length, Option, Some, Bool, true, false, refl, sym, ap, ◌∙◌, subst, arith, append_assoc, length-append, ◌↔◌}
+use Rattle.std.specs.Prelude.{slice_get, ℤ, pos, nat_lt, nat_le, reverse, if◌then◌else◌}
 use Rattle.std.proofs.lemmas.List.{reverse-append, reverse-reverse, length-reverse}
 use Rattle.std.proofs.Math.Seq.{take-append_seam, drop-append_seam}
 use Rattle.std.proofs.lemmas.Bool.Decides.{nat_tests}
@@ -8,15 +8,16 @@ use Rattle.ac_base.specs.declared.ends.EndWord.TheVariants.{Finished, OutOfSteps
 use Rattle.ac_base.specs.declared.ends.CoreEnd.{CoreEnd}
 use Rattle.ac_base.specs.declared.entry.Entry.{Entry}
 use Rattle.core_state.specs.Moves.{Move, On, Over, EndsAs}
-use Rattle.core_state.specs.Shared.{Shared, first_shared, with_step, with_output, formatted, seen, if_step}
-use Rattle.core_state.proofs.Simulation.{Leads, one, then_on, over_at, over_later, Follows, follows_on, follows_over, follows_later, same_ends}
-use Rattle.ac_types.specs.Resolved.{Operation, Plus, Minus, Times, Expression, Number, Combine, Command, Print}
+use Rattle.core_state.specs.Shared.{Shared, first_shared, slot_value, with_step, with_output, formatted, seen, if_step}
+use Rattle.core_state.proofs.Simulation.{one, over_at, Follows, follows_on, follows_over, follows_later, same_ends}
+use Rattle.ac_types.specs.Resolved.{Operation, Plus, Minus, Times, Expression, Number, Variable, Combine, Command, Set, Print, Function}
 use Rattle.ac_semantics.specs.Source.{operate, value_of, values_of, Work, Do, work_of, CoreState, done, next_of, step, first_state}
 use Rattle.stack_code.specs.declared.instr.Instr.{Instr}
 use Rattle.stack_code.specs.declared.instr.Instr.TheVariants as i
+use Rattle.stack_code.specs.declared.code.Entered.{Entered}
 use Rattle.stack_code.specs.Parts.{Parts}
-use Rattle.stack_code.specs.Machine.{Flat, FlatEnd, counted, ends, goes, text_at, begin, exec, first_flat}
-use Rattle.ac_compile.specs.Translation.{instr_of, expr_code, args_code, command_code, text_of, body_code, last_code}
+use Rattle.stack_code.specs.Machine.{Flat, counted, ends, text_at, begin, exec, first_flat}
+use Rattle.ac_compile.specs.Translation.{instr_of, expr_code, args_code, command_code, texts_in, body_code, last_code}
 use Rattle.ac_compile.proofs.Placed.{HasAt, has_front, has_back}
 
 abbrev flat : Shared → ℕ → List ℤ → ℕ → Flat
@@ -32,15 +33,20 @@ pushed-reverse [] ops = refl
 pushed-reverse (v ∷ vs) ops =
     pushed-reverse vs (v ∷ ops) ∙ sym (append_assoc (reverse vs) (v ∷ []) ops) ∙ ap (λ l. l ++ ops) (sym (reverse-append (v ∷ []) vs))
 
-length-values : (es : List Expression) → length (values_of es) ≡ length es
-length-values [] = refl
-length-values (e ∷ es) = omega (arith, length-values es)
+length-values : (slots : List ℤ) (es : List Expression) → length (values_of slots es) ≡ length es
+length-values slots [] = refl
+length-values slots (e ∷ es) = omega (arith, length-values slots es)
 
 module _ (code : Parts) where
+  -- the text of a command, where it has one, stands in the code under this number
+  abbrev pub TextAt : ℕ → Command → Type 0
+  TextAt text (Set slot value) = Unit {0}
+  TextAt text (Print format args) = text_at code text ≡ format
+
   -- the code at this place, whose texts begin with this number, does this work, and then ends
   abbrev Does : ℕ → ℕ → List Work → Type 0
   Does at text [] = HasAt code.instrs at last_code
-  Does at text (Do c ∷ rest) = HasAt code.instrs at (command_code text c) × (text_at code text ≡ text_of c) × Does (at + length (command_code text c)) (text + 1) rest
+  Does at text (Do c ∷ rest) = HasAt code.instrs at (command_code text c) × TextAt text c × Does (at + length (command_code text c)) (text + length (texts_in c)) rest
 
   -- a core of the machine that stands where a core of the semantics stands
   record Stands (c : CoreState) (m : Flat) : Type 0 where
@@ -53,7 +59,7 @@ module _ (code : Parts) where
   -- the texts of commands stand among those of the code, from this number on
   abbrev pub TextsAt : ℕ → List Command → Type 0
   TextsAt text [] = Unit {0}
-  TextsAt text (c ∷ cs) = (text_at code text ≡ text_of c) × TextsAt (text + 1) cs
+  TextsAt text (c ∷ cs) = TextAt text c × TextsAt (text + length (texts_in c)) cs
 
   module _ (bound : ℕ) where
     -- what a step of the semantics wants of the machine, whatever its count
@@ -79,26 +85,29 @@ module _ (code : Parts) where
     operation_keeps Times x y s at ops r h f = by_one s s at (y ∷ x ∷ ops) (operate Times x y ∷ ops) i.Mul r h (λ k. refl) f
 
     expr_keeps : (e : Expression) (s : Shared) (at : ℕ) (ops : List ℤ) (r : Move CoreState (Option CoreEnd)) → HasAt code.instrs at (expr_code e) →
-        KeepsAt s (at + length (expr_code e)) (value_of e ∷ ops) r → KeepsAt s at ops r
+        KeepsAt s (at + length (expr_code e)) (value_of s.slots e ∷ ops) r → KeepsAt s at ops r
     expr_keeps (Number v) s at ops r h f = by_one s s at ops (v ∷ ops) (i.Push v) r h.0 (λ k. refl) f
+    expr_keeps (Variable slot) s at ops r h f = by_one s s at ops (slot_value s.slots slot ∷ ops) (i.Load slot) r h.0 (λ k. refl) f
     expr_keeps (Combine op a b) s at ops r h f =
+        let va = value_of s.slots a in
+        let vb = value_of s.slots b in
         let ca = expr_code a in
         let cb = expr_code b in
         let right = has_back code.instrs at ca (cb ++ instr_of op ∷ []) h in
         let last = (has_back code.instrs (at + length ca) cb (instr_of op ∷ []) right).0 in
         let len : at + length (ca ++ (cb ++ instr_of op ∷ [])) ≡ at + length ca + length cb + 1 = omega (arith, length-append ca (cb ++ instr_of op ∷ []), length-append cb (instr_of op ∷ [])) in
         expr_keeps a s at ops r (has_front code.instrs at ca _ h)
-        (expr_keeps b s (at + length ca) (value_of a ∷ ops) r (has_front code.instrs (at + length ca) cb _ right)
-        (operation_keeps op (value_of a) (value_of b) s (at + length ca + length cb) ops r last (subst (λ z. KeepsAt s z (operate op (value_of a) (value_of b) ∷ ops) r) len f)))
+        (expr_keeps b s (at + length ca) (va ∷ ops) r (has_front code.instrs (at + length ca) cb _ right)
+        (operation_keeps op va vb s (at + length ca + length cb) ops r last (subst (λ z. KeepsAt s z (operate op va vb ∷ ops) r) len f)))
 
     args_keep : (es : List Expression) (s : Shared) (at : ℕ) (ops : List ℤ) (r : Move CoreState (Option CoreEnd)) → HasAt code.instrs at (args_code es) →
-        KeepsAt s (at + length (args_code es)) (pushed (values_of es) ops) r → KeepsAt s at ops r
+        KeepsAt s (at + length (args_code es)) (pushed (values_of s.slots es) ops) r → KeepsAt s at ops r
     args_keep [] s at ops r h f = let e : at + 0 ≡ at = omega arith in subst (λ z. KeepsAt s z ops r) e f
     args_keep (e ∷ es) s at ops r h f =
         let ce = expr_code e in
         let len : at + length (ce ++ args_code es) ≡ at + length ce + length (args_code es) = omega (arith, length-append ce (args_code es)) in
         expr_keeps e s at ops r (has_front code.instrs at ce _ h)
-        (args_keep es s (at + length ce) (value_of e ∷ ops) r (has_back code.instrs at ce _ h) (subst (λ z. KeepsAt s z (pushed (values_of es) (value_of e ∷ ops)) r) len f))
+        (args_keep es s (at + length ce) (value_of s.slots e ∷ ops) r (has_back code.instrs at ce _ h) (subst (λ z. KeepsAt s z (pushed (values_of s.slots es) (value_of s.slots e ∷ ops)) r) len f))
 
     -- the arguments of a text
     print_begins : (vs : List ℤ) (count text : ℕ) (format : List ℕ) (s : Shared) (at k : ℕ) → count ≡ length vs → text_at code text ≡ format →
@@ -120,6 +129,17 @@ module _ (code : Parts) where
     lands s c at text ops instr h e d k =
         follows_on (flat c.shared (at + 1) [] (counted k)) (one (exec code bound) _ _ (ap (begin code bound (flat s at ops k)) h ∙ e k)) (record { place = at + 1; text = text; count = counted k; is = refl; does = d })
 
+    set_keeps : (slot : ℕ) (value : Expression) (rest : List Work) (s : Shared) (at text : ℕ) → Does at text (Do (Set slot value) ∷ rest) → KeepsAt (with_step s) (at + 1) [] (On (done (Set slot value) rest (with_step s)))
+    set_keeps slot value rest s at text d =
+        let u = with_step s in
+        let cv = expr_code value in
+        let last = (has_back code.instrs (at + 1) cv (i.Store slot ∷ []) d.0.1).0 in
+        let len : at + length (command_code text (Set slot value)) ≡ at + 1 + length cv + 1 = omega (arith, length-append cv (i.Store slot ∷ [])) in
+        let none : text + 0 ≡ text = omega arith in
+        expr_keeps value u (at + 1) [] (On (done (Set slot value) rest u)) (has_front code.instrs (at + 1) cv _ d.0.1)
+        (lands u (done (Set slot value) rest u) (at + 1 + length cv) text (value_of u.slots value ∷ []) (i.Store slot) last (λ k. refl)
+        (subst (λ n. Does (at + 1 + length cv + 1) n rest) none (subst (λ z. Does z (text + 0) rest) len d.2)))
+
     print_keeps : (format : List ℕ) (args : List Expression) (rest : List Work) (s : Shared) (at text : ℕ) → Does at text (Do (Print format args) ∷ rest) → KeepsAt (with_step s) (at + 1) [] (On (done (Print format args) rest (with_step s)))
     print_keeps format args rest s at text d =
         let u = with_step s in
@@ -128,13 +148,15 @@ module _ (code : Parts) where
         let last = (has_back code.instrs (at + 1) ca (print ∷ []) d.0.1).0 in
         let len : at + length (command_code text (Print format args)) ≡ at + 1 + length ca + 1 = omega (arith, length-append ca (print ∷ [])) in
         args_keep args u (at + 1) [] (On (done (Print format args) rest u)) (has_front code.instrs (at + 1) ca _ d.0.1)
-        (lands u (done (Print format args) rest u) (at + 1 + length ca) (text + 1) (pushed (values_of args) []) print last
-        (λ k. print_begins (values_of args) (length args) text format u (at + 1 + length ca) k (sym (length-values args)) d.1)
+        (lands u (done (Print format args) rest u) (at + 1 + length ca) (text + 1) (pushed (values_of u.slots args) []) print last
+        (λ k. print_begins (values_of u.slots args) (length args) text format u (at + 1 + length ca) k (sym (length-values u.slots args)) d.1)
         (subst (λ z. Does z (text + 1) rest) len d.2))
 
     next_keeps : (work : List Work) (s : Shared) (at text : ℕ) → Does at text work → KeepsAt s at [] (next_of bound s work)
     next_keeps [] s at text d =
         by_one s s at [] (pos 0 ∷ []) (i.Push (pos 0)) (Over (seen Finished s)) d.0 (λ k. refl) (by_end s (at + 1) (pos 0 ∷ []) i.Ret (seen Finished s) counted d.1.0 (λ k. refl))
+    next_keeps (Do (Set slot value) ∷ rest) s at text d =
+        tested (nat_lt s.steps bound) s at [] (On (done (Set slot value) rest (with_step s))) refl d.0.0 (set_keeps slot value rest s at text d)
     next_keeps (Do (Print format args) ∷ rest) s at text d =
         tested (nat_lt s.steps bound) s at [] (On (done (Print format args) rest (with_step s))) refl d.0.0 (print_keeps format args rest s at text d)
 
@@ -144,18 +166,19 @@ module _ (code : Parts) where
   -- the commands of a body, whose code and texts stand in the code
   pub body_does : (body : List Command) (at text : ℕ) → HasAt code.instrs at (body_code text body ++ last_code) → TextsAt text body → Does at text (work_of body)
   body_does [] at text h t = h
-  body_does (Print format args ∷ cs) at text h t =
-      let c = command_code text (Print format args) in
-      let assoc : (c ++ body_code (text + 1) cs) ++ last_code ≡ c ++ (body_code (text + 1) cs ++ last_code) = append_assoc c (body_code (text + 1) cs) last_code in
+  body_does (command ∷ cs) at text h t =
+      let c = command_code text command in
+      let next = text + length (texts_in command) in
+      let assoc : (c ++ body_code next cs) ++ last_code ≡ c ++ (body_code next cs ++ last_code) = append_assoc c (body_code next cs) last_code in
       let h' = subst (HasAt code.instrs at) assoc h in
-      (has_front code.instrs at c _ h', t.0, body_does cs (at + length c) (text + 1) (has_back code.instrs at c _ h') t.1)
+      (has_front code.instrs at c _ h', t.0, body_does cs (at + length c) next (has_back code.instrs at c _ h') t.1)
 
   -- a body that stands in the code has the same ends there
-  pub same_body : (body : List Command) (at bound : ℕ) (journal : List Entry) (end : Option CoreEnd) → HasAt code.instrs at (body_code 0 body ++ last_code) → TextsAt 0 body →
-      EndsAs (step bound) (first_state body journal) end ↔ ((count : ℕ) × EndsAs (exec code bound) (first_flat at journal) (record { core = end; count = count }))
-  same_body body at bound journal end h t =
-      let both = same_ends (step bound) (exec code bound) Stands (λ x. x.core) (follows bound) (first_state body journal) (first_flat at journal)
-      (record { place = at; text = 0; count = 0; is = refl; does = body_does body at 0 h t }) end in (
-        λ e. let x = both.0 e in (x.0.count, subst (λ c. EndsAs (exec code bound) (first_flat at journal) (record { core = c; count = x.0.count })) x.2 x.1),
+  pub same_body : (f : Function) (entered : Entered) (bound : ℕ) (journal : List Entry) (end : Option CoreEnd) → entered.slots ≡ f.slots → HasAt code.instrs entered.at (body_code 0 f.body ++ last_code) → TextsAt 0 f.body →
+      EndsAs (step bound) (first_state f journal) end ↔ ((count : ℕ) × EndsAs (exec code bound) (first_flat entered journal) (record { core = end; count = count }))
+  same_body f entered bound journal end z h t =
+      let both = same_ends (step bound) (exec code bound) Stands (λ x. x.core) (follows bound) (first_state f journal) (first_flat entered journal)
+      (record { place = entered.at; text = 0; count = 0; is = ap (λ n. flat (first_shared n journal) entered.at [] 0) z; does = body_does f.body entered.at 0 h t }) end in (
+        λ e. let x = both.0 e in (x.0.count, subst (λ c. EndsAs (exec code bound) (first_flat entered journal) (record { core = c; count = x.0.count })) x.2 x.1),
         λ e. both.1 (record { core = end; count = e.0 }, e.1, refl),
       )

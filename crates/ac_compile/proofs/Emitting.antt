@@ -8,12 +8,14 @@ use Rattle.ac_tree.specs.declared.expr.Link.{Link}
 use Rattle.ac_tree.specs.declared.expr.Expr.{Expr}
 use Rattle.ac_tree.specs.declared.expr.Expr.TheVariants as e
 use Rattle.ac_types.proofs.Folds.{chain_is, link_is}
+use Rattle.ac_tree.specs.declared.stmt.Stmt.{Stmt}
 use Rattle.ac_tree.specs.declared.stmt.Stmt.TheVariants as st
 use Rattle.stack_code.specs.declared.instr.Instr.TheVariants as i
 use Rattle.std.proofs.lemmas.List.{length-map}
-use Rattle.ac_types.specs.Resolution.{operation_of, resolved_expr, resolved_link, resolved_stmt, joined, chained, all_of}
+use Rattle.ac_types.specs.Scopes.{Declaration}
+use Rattle.ac_types.specs.Resolution.{operation_of, resolved_expr, resolved_link, resolved_args, set_of, resolved_stmt, slots_of, scopes_after, then_all, resolved_from, body_slots, joined, chained, all_of}
 use Rattle.stack_code.specs.declared.instr.Instr.{Instr}
-use Rattle.ac_compile.specs.Translation.{instr_of, expr_code, args_code, command_code, text_of, body_code}
+use Rattle.ac_compile.specs.Translation.{instr_of, expr_code, args_code, command_code, texts_in, body_texts, body_code}
 use Rattle.ac_compile.specs.Emitted.{AddsExpr, AddsOperation, AddsArgs, AddsLinks, AddsCommand, IsBody}
 
 -- ---- chains
@@ -54,18 +56,22 @@ pub chain_adds : (first : Option Expression) (links : List (Option Operation × 
 chain_adds None links before mid after a b = tt
 chain_adds (Some first) links before mid after a b = whole_chain (chained (Some first) links) first links before mid after refl a b
 
+-- the links, in these scopes
+abbrev pub in_scopes : List (List Declaration) → Link → Option Operation × Option Expression
+in_scopes scopes link = resolved_link link scopes
+
 -- the links from a place on
-pub links_from : (links : List Link) (i : ℕ) (link : Link) → i < length links → link ≡ get_or links i link →
-    map resolved_link (drop i links) ≡ (operation_of link.op, resolved_expr link.operand) ∷ map resolved_link (drop (i + 1) links)
-links_from links i link lt is =
-    ap (map resolved_link) (drop-cons links i link lt ∙ ap (λ x. x ∷ drop (suc i) links) (sym is)) ∙ ap (λ x. x ∷ map resolved_link (drop (suc i) links)) (link_is link) ∙ rw add-one
+pub links_from : (scopes : List (List Declaration)) (links : List Link) (i : ℕ) (link : Link) → i < length links → link ≡ get_or links i link →
+    map (in_scopes scopes) (drop i links) ≡ (operation_of link.op, resolved_expr link.operand scopes) ∷ map (in_scopes scopes) (drop (i + 1) links)
+links_from scopes links i link lt is =
+    ap (map (in_scopes scopes)) (drop-cons links i link lt ∙ ap (λ x. x ∷ drop (suc i) links) (sym is)) ∙ ap (λ x. x ∷ map (in_scopes scopes) (drop (suc i) links)) (link_is link scopes) ∙ rw add-one
 
-pub links_end : (links : List Link) (i : ℕ) → length links ≤ i → map resolved_link (drop i links) ≡ []
-links_end links i le = ap (map resolved_link) (drop_of_length-le links le)
+pub links_end : (scopes : List (List Declaration)) (links : List Link) (i : ℕ) → length links ≤ i → map (in_scopes scopes) (drop i links) ≡ []
+links_end scopes links i le = ap (map (in_scopes scopes)) (drop_of_length-le links le)
 
-pub chain_expr : (at level : ℕ) (first : Expr) (rest : List Link) (before mid after : List Instr) → AddsExpr (resolved_expr first) before mid → AddsLinks (map resolved_link rest) mid after →
-    AddsExpr (resolved_expr (e.Chain at level first rest)) before after
-chain_expr at level first rest before mid after a b = rw (chain_is at level first rest) (chain_adds (resolved_expr first) (map resolved_link rest) before mid after a b)
+pub chain_expr : (scopes : List (List Declaration)) (at level : ℕ) (first : Expr) (rest : List Link) (before mid after : List Instr) → AddsExpr (resolved_expr first scopes) before mid → AddsLinks (map (in_scopes scopes) rest) mid after →
+    AddsExpr (resolved_expr (e.Chain at level first rest) scopes) before after
+chain_expr scopes at level first rest before mid after a b = rw (chain_is at level first rest scopes) (chain_adds (resolved_expr first scopes) (map (in_scopes scopes) rest) before mid after a b)
 
 -- ---- arguments
 
@@ -124,43 +130,70 @@ items_end f items i le = ap (map f) (drop_of_length-le items le)
 
 -- ---- statements
 
--- the statements from a place on make the code and the texts whole
-pub record KeepsBody (stmts rest : List (Option Command)) (instrs : List Instr) (texts : List (List ℕ)) : Type 0 where
-  pub more : (whole : List Command) → all_of stmts ≡ Some whole → (cs : List Command) × (all_of rest ≡ Some cs) × (instrs ++ body_code (length texts) cs ≡ body_code 0 whole) × (texts ++ map text_of cs ≡ map text_of whole)
+-- The statements from a place on, in the scopes there and with so many slots given, make the code and the texts whole.
+pub record KeepsBody (start : List (List Declaration)) (stmts : List Stmt) (scopes : List (List Declaration)) (slot : ℕ) (rest : List Stmt) (instrs : List Instr) (texts : List (List ℕ)) : Type 0 where
+  pub more : (whole : List Command) → resolved_from start 0 stmts ≡ Some whole →
+      (cs : List Command) × (resolved_from scopes slot rest ≡ Some cs) × (instrs ++ body_code (length texts) cs ≡ body_code 0 whole) × (texts ++ body_texts cs ≡ body_texts whole)
+  pub slots : slot + body_slots rest ≡ body_slots stmts
 
-pub body_begun : (stmts : List (Option Command)) (instrs : List Instr) (texts : List (List ℕ)) → instrs ≡ [] → texts ≡ [] → KeepsBody stmts stmts instrs texts
-body_begun stmts instrs texts i t = record { more = λ whole e. (whole, e, rw (i, t) refl, rw t refl) }
+pub body_begun : (start : List (List Declaration)) (stmts : List Stmt) (instrs : List Instr) (texts : List (List ℕ)) → instrs ≡ [] → texts ≡ [] → KeepsBody start stmts start 0 stmts instrs texts
+body_begun start stmts instrs texts i t = record { more = λ whole e. (whole, e, rw (i, t) refl, rw t refl); slots = omega arith }
+
+-- a first command and the others, which are all there
+record Both (o : Option Command) (os : Option (List Command)) (whole : List Command) : Type 0 where
+  one : Command
+  others : List Command
+  first : o ≡ Some one
+  rest : os ≡ Some others
+  whole_is : whole ≡ one ∷ others
+
+both_of : (o : Option Command) (os : Option (List Command)) (whole : List Command) → then_all o os ≡ Some whole → Both o os whole
+both_of (Some c) (Some cs) whole e = record { one = c; others = cs; first = refl; rest = refl; whole_is = let both : Some (c ∷ cs) ≡ Some whole = e in cc }
+both_of (Some c) None whole e = let no : None ≡ Some whole = e in cc
+both_of None os whole e = let no : None ≡ Some whole = e in cc
 
 adds_command : (o : Option Command) (c : Command) (instrs : List Instr) (texts : List (List ℕ)) (instrs' : List Instr) (texts' : List (List ℕ)) → o ≡ Some c → AddsCommand o instrs texts instrs' texts' →
-    (instrs' ≡ instrs ++ command_code (length texts) c) × (texts' ≡ texts ++ text_of c ∷ [])
+    (instrs' ≡ instrs ++ command_code (length texts) c) × (texts' ≡ texts ++ texts_in c)
 adds_command o c instrs texts instrs' texts' q a = subst (λ x. AddsCommand x instrs texts instrs' texts') q a
 
-pub body_more : (stmts : List (Option Command)) (o : Option Command) (rest : List (Option Command)) (instrs : List Instr) (texts : List (List ℕ)) (instrs' : List Instr) (texts' : List (List ℕ)) →
-    KeepsBody stmts (o ∷ rest) instrs texts → AddsCommand o instrs texts instrs' texts' → KeepsBody stmts rest instrs' texts'
-body_more stmts o rest instrs texts instrs' texts' k a = record {
+pub body_more : (start : List (List Declaration)) (stmts : List Stmt) (scopes : List (List Declaration)) (slot : ℕ) (x : Stmt) (rest : List Stmt) (instrs : List Instr) (texts : List (List ℕ)) (scopes' : List (List Declaration)) (slot' : ℕ) (instrs' : List Instr) (texts' : List (List ℕ)) →
+    KeepsBody start stmts scopes slot (x ∷ rest) instrs texts → AddsCommand (resolved_stmt scopes slot x) instrs texts instrs' texts' → scopes' ≡ scopes_after scopes slot x → slot' ≡ slot + slots_of x →
+    KeepsBody start stmts scopes' slot' rest instrs' texts'
+body_more start stmts scopes slot x rest instrs texts scopes' slot' instrs' texts' k a s z = record {
   more = λ whole e.
-      let x = k.more whole e in
-      let f = all_more o rest x.0 x.1 in
-      let added = adds_command o f.one instrs texts instrs' texts' f.first a in
-      let count : length texts' ≡ length texts + 1 = omega (arith, ap length added.1, length-append texts (text_of f.one ∷ [])) in
+      let before = k.more whole e in
+      let f = both_of (resolved_stmt scopes slot x) (resolved_from (scopes_after scopes slot x) (slot + slots_of x) rest) before.0 before.1 in
+      let added = adds_command (resolved_stmt scopes slot x) f.one instrs texts instrs' texts' f.first a in
+      let count : length texts' ≡ length texts + length (texts_in f.one) = ap length added.1 ∙ length-append texts (texts_in f.one) in
+      let next = length texts + length (texts_in f.one) in
       let code : instrs' ++ body_code (length texts') f.others ≡ instrs ++ body_code (length texts) (f.one ∷ f.others) =
-      ap (λ n. instrs' ++ body_code n f.others) count ∙ ap (λ l. l ++ body_code (length texts + 1) f.others) added.0 ∙ append_assoc instrs (command_code (length texts) f.one) (body_code (length texts + 1) f.others) in
-      let words : texts' ++ map text_of f.others ≡ texts ++ map text_of (f.one ∷ f.others) = ap (λ l. l ++ map text_of f.others) added.1 ∙ append_assoc texts (text_of f.one ∷ []) (map text_of f.others) in
-      (f.others, f.rest, code ∙ ap (λ cs. instrs ++ body_code (length texts) cs) (sym f.whole_is) ∙ x.2, words ∙ ap (λ cs. texts ++ map text_of cs) (sym f.whole_is) ∙ x.3);
+      ap (λ n. instrs' ++ body_code n f.others) count ∙ ap (λ l. l ++ body_code next f.others) added.0 ∙ append_assoc instrs (command_code (length texts) f.one) (body_code next f.others) in
+      let words : texts' ++ body_texts f.others ≡ texts ++ body_texts (f.one ∷ f.others) = ap (λ l. l ++ body_texts f.others) added.1 ∙ append_assoc texts (texts_in f.one) (body_texts f.others) in
+      let left : resolved_from scopes' slot' rest ≡ Some f.others = ap (λ c. resolved_from c slot' rest) s ∙ ap (λ n. resolved_from (scopes_after scopes slot x) n rest) z ∙ f.rest in
+      (f.others, left, code ∙ ap (λ cs. instrs ++ body_code (length texts) cs) (sym f.whole_is) ∙ before.2, words ∙ ap (λ cs. texts ++ body_texts cs) (sym f.whole_is) ∙ before.3);
+  slots = let same : slot + body_slots (x ∷ rest) ≡ body_slots stmts = k.slots in omega (arith, same, z);
 }
 
-no_commands : (rest : List (Option Command)) (cs : List Command) → rest ≡ [] → all_of rest ≡ Some cs → cs ≡ []
-no_commands rest cs r e = let both : Some [] ≡ Some cs = ap all_of (sym r) ∙ e in cc
-
-whole_body : (o : Option (List Command)) (stmts rest : List (Option Command)) (instrs : List Instr) (texts : List (List ℕ)) → all_of stmts ≡ o → rest ≡ [] → KeepsBody stmts rest instrs texts → IsBody o instrs texts
-whole_body None stmts rest instrs texts q r k = tt
-whole_body (Some whole) stmts rest instrs texts q r k =
+whole_body : (o : Option (List Command)) (start : List (List Declaration)) (stmts : List Stmt) (scopes : List (List Declaration)) (slot : ℕ) (instrs : List Instr) (texts : List (List ℕ)) → resolved_from start 0 stmts ≡ o → KeepsBody start stmts scopes slot [] instrs texts → IsBody o instrs texts
+whole_body None start stmts scopes slot instrs texts q k = tt
+whole_body (Some whole) start stmts scopes slot instrs texts q k =
     let x = k.more whole q in
-    let none = no_commands rest x.0 r x.1 in
-    (sym (append-nil instrs) ∙ ap (λ cs. instrs ++ body_code (length texts) cs) (sym none) ∙ x.2, sym (append-nil texts) ∙ ap (λ cs. texts ++ map text_of cs) (sym none) ∙ x.3)
+    let none : x.0 ≡ [] = let both : Some [] ≡ Some x.0 = x.1 in cc in
+    (sym (append-nil instrs) ∙ ap (λ cs. instrs ++ body_code (length texts) cs) (sym none) ∙ x.2, sym (append-nil texts) ∙ ap (λ cs. texts ++ body_texts cs) (sym none) ∙ x.3)
 
-pub body_done : (stmts rest : List (Option Command)) (instrs : List Instr) (texts : List (List ℕ)) → rest ≡ [] → KeepsBody stmts rest instrs texts → IsBody (all_of stmts) instrs texts
-body_done stmts rest instrs texts r k = whole_body (all_of stmts) stmts rest instrs texts refl r k
+pub body_done : (start : List (List Declaration)) (stmts : List Stmt) (scopes : List (List Declaration)) (slot : ℕ) (rest : List Stmt) (instrs : List Instr) (texts : List (List ℕ)) → rest ≡ [] → KeepsBody start stmts scopes slot rest instrs texts → IsBody (resolved_from start 0 stmts) instrs texts
+body_done start stmts scopes slot rest instrs texts r k = whole_body (resolved_from start 0 stmts) start stmts scopes slot instrs texts refl (subst (λ l. KeepsBody start stmts scopes slot l instrs texts) r k)
+
+pub slots_done : (start : List (List Declaration)) (stmts : List Stmt) (scopes : List (List Declaration)) (slot : ℕ) (rest : List Stmt) (instrs : List Instr) (texts : List (List ℕ)) → rest ≡ [] → KeepsBody start stmts scopes slot rest instrs texts → slot ≡ body_slots stmts
+slots_done start stmts scopes slot rest instrs texts r k = let same = k.slots in let none : body_slots rest ≡ 0 = ap body_slots r in omega (arith, same, none)
+
+-- a statement takes one slot at most
+pub slots_few : (x : Stmt) → slots_of x ≤ 1
+slots_few (st.Int at name value) = omega arith
+slots_few _ = omega arith
+
+pub stmts_from : (stmts : List Stmt) (i : ℕ) (x : Stmt) → i < length stmts → x ≡ get_or stmts i x → drop i stmts ≡ x ∷ drop (i + 1) stmts
+stmts_from stmts i x lt is = drop-cons stmts i x lt ∙ ap (λ y. y ∷ drop (suc i) stmts) (sym is) ∙ rw add-one
 
 -- as many values as parts
 all_of-length : {A : Type 0} (os : List (Option A)) (xs : List A) → all_of os ≡ Some xs → length xs ≡ length os
@@ -168,7 +201,7 @@ all_of-length [] xs e = let same : [] ≡ xs = cc in ap length (sym same)
 all_of-length (o ∷ os) xs e = let f = all_more o os xs e in ap length f.whole_is ∙ ap (λ n. suc n) (all_of-length os f.others f.rest)
 
 print_whole : (o : Option (List Expression)) (format : List ℕ) (args : List (Option Expression)) (count text : ℕ) (i0 i1 i2 i3 : List Instr) (texts texts' : List (List ℕ)) → all_of args ≡ o →
-    i1 ≡ i0 ++ i.Step ∷ [] → AddsArgs o i1 i2 → i3 ≡ i2 ++ i.Print text count ∷ [] → text ≡ length texts → count ≡ length args → texts' ≡ texts ++ format ∷ [] → AddsCommand (option_map (λ es. Print format es) o) i0 texts i3 texts'
+    i1 ≡ i0 ++ i.Step ∷ [] → AddsArgs o i1 i2 → i3 ≡ i2 ++ i.Print text count ∷ [] → text ≡ length texts → count ≡ length args → texts' ≡ texts ++ format ∷ [] → AddsCommand (option_map (Print format) o) i0 texts i3 texts'
 print_whole None format args count text i0 i1 i2 i3 texts texts' q a b c n k t = tt
 print_whole (Some es) format args count text i0 i1 i2 i3 texts texts' q a b c n k t =
     let many : count ≡ length es = k ∙ sym (all_of-length args es q) in
@@ -176,8 +209,15 @@ print_whole (Some es) format args count text i0 i1 i2 i3 texts texts' q a b c n 
     let code : i3 ≡ i0 ++ i.Step ∷ (args_code es ++ i.Print text count ∷ []) = c ∙ ap (λ l. l ++ i.Print text count ∷ []) (b ∙ ap (λ l. l ++ args_code es) a) ∙ joined in
     (code ∙ ap (λ m. i0 ++ i.Step ∷ (args_code es ++ i.Print m count ∷ [])) n ∙ ap (λ m. i0 ++ i.Step ∷ (args_code es ++ i.Print (length texts) m ∷ [])) many, t)
 
-pub print_adds : (at : ℕ) (format : List ℕ) (args : List Expr) (count text : ℕ) (i0 i1 i2 i3 : List Instr) (texts texts' : List (List ℕ)) →
-    i1 ≡ i0 ++ i.Step ∷ [] → AddsArgs (all_of (map resolved_expr args)) i1 i2 → i3 ≡ i2 ++ i.Print text count ∷ [] → text ≡ length texts → count ≡ length args → texts' ≡ texts ++ format ∷ [] →
-    AddsCommand (resolved_stmt (st.Print at format args)) i0 texts i3 texts'
-print_adds at format args count text i0 i1 i2 i3 texts texts' a b c n k t =
-    print_whole (all_of (map resolved_expr args)) format (map resolved_expr args) count text i0 i1 i2 i3 texts texts' refl a b c n (k ∙ sym (length-map args resolved_expr)) t
+pub print_adds : (scopes : List (List Declaration)) (format : List ℕ) (args : List Expr) (count text : ℕ) (i0 i1 i2 i3 : List Instr) (texts texts' : List (List ℕ)) →
+    i1 ≡ i0 ++ i.Step ∷ [] → AddsArgs (resolved_args args scopes) i1 i2 → i3 ≡ i2 ++ i.Print text count ∷ [] → text ≡ length texts → count ≡ length args → texts' ≡ texts ++ format ∷ [] →
+    AddsCommand (option_map (Print format) (resolved_args args scopes)) i0 texts i3 texts'
+print_adds scopes format args count text i0 i1 i2 i3 texts texts' a b c n k t =
+    print_whole (resolved_args args scopes) format (map (λ x. resolved_expr x scopes) args) count text i0 i1 i2 i3 texts texts' refl a b c n (k ∙ sym (length-map args (λ x. resolved_expr x scopes))) t
+
+-- the code that sets a slot
+pub set_adds : (slot : ℕ) (o : Option Expression) (i0 i1 i2 i3 : List Instr) (texts : List (List ℕ)) → i1 ≡ i0 ++ i.Step ∷ [] → AddsExpr o i1 i2 → i3 ≡ i2 ++ i.Store slot ∷ [] → AddsCommand (set_of (Some slot) o) i0 texts i3 texts
+set_adds slot None i0 i1 i2 i3 texts a b c = tt
+set_adds slot (Some value) i0 i1 i2 i3 texts a b c =
+    let joined : ((i0 ++ i.Step ∷ []) ++ expr_code value) ++ i.Store slot ∷ [] ≡ i0 ++ i.Step ∷ (expr_code value ++ i.Store slot ∷ []) = simp append_assoc in
+    (c ∙ ap (λ l. l ++ i.Store slot ∷ []) (b ∙ ap (λ l. l ++ expr_code value) a) ∙ joined, sym (append-nil texts))

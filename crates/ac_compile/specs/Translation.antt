@@ -1,7 +1,7 @@
 -- The code of a program. Addresses run from 0 over all functions, and texts are numbered from 0, in the order of the source.
 use Rattle.std.specs.Prelude.{◌≡◌, ℕ, ◌+◌, pos, List, [], ◌∷◌, ◌++◌, length, map, Some}
 use Rattle.ac_tree.specs.declared.item.Program.{Program}
-use Rattle.ac_types.specs.Resolved.{Operation, Plus, Minus, Times, Expression, Number, Combine, Command, Print, Function, Resolved}
+use Rattle.ac_types.specs.Resolved.{Operation, Plus, Minus, Times, Expression, Number, Variable, Combine, Command, Set, Print, Function, Resolved}
 use Rattle.ac_types.specs.Resolution.{resolved}
 use Rattle.stack_code.specs.declared.instr.Instr.{Instr}
 use Rattle.stack_code.specs.declared.instr.Instr.TheVariants as i
@@ -16,23 +16,30 @@ instr_of Times = i.Mul
 -- left, then right, then the operator
 abbrev pub expr_code : Expression → List Instr
 expr_code (Number v) = i.Push v ∷ []
+expr_code (Variable slot) = i.Load slot ∷ []
 expr_code (Combine op left right) = expr_code left ++ (expr_code right ++ instr_of op ∷ [])
 
 abbrev pub args_code : List Expression → List Instr
 args_code [] = []
 args_code (e ∷ es) = expr_code e ++ args_code es
 
--- a command, whose text has this number
+-- a command, whose text, where it has one, gets this number
 abbrev pub command_code : ℕ → Command → List Instr
+command_code text (Set slot value) = i.Step ∷ (expr_code value ++ i.Store slot ∷ [])
 command_code text (Print format args) = i.Step ∷ (args_code args ++ i.Print text (length args) ∷ [])
 
-abbrev pub text_of : Command → List ℕ
-text_of (Print format args) = format
+abbrev pub texts_in : Command → List (List ℕ)
+texts_in (Set slot value) = []
+texts_in (Print format args) = format ∷ []
 
--- commands, the first of whose texts has this number
+abbrev pub body_texts : List Command → List (List ℕ)
+body_texts [] = []
+body_texts (c ∷ cs) = texts_in c ++ body_texts cs
+
+-- commands, the first of whose texts gets this number
 abbrev pub body_code : ℕ → List Command → List Instr
 body_code text [] = []
-body_code text (c ∷ cs) = command_code text c ++ body_code (text + 1) cs
+body_code text (c ∷ cs) = command_code text c ++ body_code (text + length (texts_in c)) cs
 
 -- a function gives 0 at its end
 abbrev pub last_code : List Instr
@@ -43,16 +50,16 @@ function_code text f = body_code text f.body ++ last_code
 
 abbrev pub functions_code : ℕ → List Function → List Instr
 functions_code text [] = []
-functions_code text (f ∷ fs) = function_code text f ++ functions_code (text + length f.body) fs
+functions_code text (f ∷ fs) = function_code text f ++ functions_code (text + length (body_texts f.body)) fs
 
 abbrev pub functions_from : ℕ → ℕ → List Function → List Entered
 functions_from at text [] = []
 functions_from at text (f ∷ fs) =
-    record { name = f.name; at = at } ∷ functions_from (at + length (function_code text f)) (text + length f.body) fs
+    record { name = f.name; at = at; slots = f.slots } ∷ functions_from (at + length (function_code text f)) (text + length (body_texts f.body)) fs
 
 abbrev pub texts_of : List Function → List (List ℕ)
 texts_of [] = []
-texts_of (f ∷ fs) = map text_of f.body ++ texts_of fs
+texts_of (f ∷ fs) = body_texts f.body ++ texts_of fs
 
 abbrev pub code_of : Resolved → Parts
 code_of p = record {

@@ -2,7 +2,8 @@
 #![tactic(auto)]
 
 ghost use Rattle.std.specs.Prelude.{IfOk, IsSome};
-ghost use Rattle.ac_types.specs.Resolution.{resolved, IsShort};
+ghost use Rattle.ac_types.specs.Resolution.{resolved};
+ghost use Rattle.ac_types.specs.Short.{IsShort};
 ghost use Rattle.ac_compile.specs.Translation.{IsCodeOf};
 ghost use Rattle.ac_compile.specs.Same.{IsSame};
 
@@ -27,7 +28,7 @@ fn translated(alloc: Global, program: &Program) -> Result<Code, NoMemory>
                 entry: _,
             },
             Item::Function(function),
-        ] => { whole::core_code(alloc, name, function) }
+        ] => { whole::core_code(alloc, program.items.as_slice(), name, function) }
         _ => unreachable!(),
     }
 }

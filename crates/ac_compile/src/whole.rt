@@ -1,12 +1,15 @@
 //! The code of a whole program.
 
-ghost use Rattle.std.specs.Prelude.{◌≡◌, ◌<◌, ◌^◌, [], ◌∷◌, length, All, IfOk, IsSome};
-ghost use Rattle.ac_types.specs.Resolution.{resolved_body, IsShortStmt};
+ghost use Rattle.std.specs.Prelude.{◌≡◌, ◌<◌, ◌^◌, [], ◌∷◌, length, IfOk, IsSome};
+ghost use Rattle.ac_types.specs.Scopes.{top_scope};
+ghost use Rattle.ac_types.specs.Resolution.{resolved_from, resolved_body, body_slots};
+ghost use Rattle.ac_types.specs.Short.{IsShortBody};
 ghost use Rattle.ac_compile.specs.Emitted.{IsFunction, IsCore};
 
 use crate::emit::emit_body;
 use ac_base::{Bytes, List, Name, NoMemory};
-use ac_tree::{Function, Stmt};
+use ac_tree::{Function, Item, Stmt};
+use ac_types::{Scopes, top_level};
 use stack_code::{Code, Entered, Instr};
 use std::alloc::Global;
 
@@ -19,32 +22,52 @@ fn alone<T: Drop>(alloc: Global, item: T) -> Result<List<T>, NoMemory>
     Ok(List::from_vec(items))
 }
 
-// The instructions and the texts of a function, which gives 0 at its end.
-fn function_code(alloc: Global, body: &[Stmt]) -> Result<(List<Instr>, List<Bytes>), NoMemory>
-    requires few { length body.now < 2 ^ 32 }
-    requires short { All IsShortStmt body.now }
-    ensures { IfOk result (λ code. IsFunction (resolved_body body.now) code.0 code.1) }
-{
-    let mut draft = emit_body(alloc, body)?;
-    draft.instrs.push(Instr::Push(0))?;
-    draft.instrs.push(Instr::Ret)?;
-    Ok((List::from_vec(draft.instrs), List::from_vec(draft.texts)))
+// The instructions and the texts of a function, and how many slots its frame has.
+#[derive(Drop)]
+struct FunctionCode {
+    instrs: List<Instr>,
+    texts: List<Bytes>,
+    slots: u32,
 }
 
-/// The code of a core of that name that enters the only function.
-pub fn core_code(alloc: Global, name: &Name, function: &Function) -> Result<Code, NoMemory>
-    requires built { IsSome (resolved_body function.now.body) }
-    requires few { length function.now.body < 2 ^ 32 }
-    requires short { All IsShortStmt function.now.body }
-    ensures { IfOk result (λ code. IsCore name.now function.now.name (resolved_body function.now.body) code) }
+// The code of a function, which gives 0 at its end.
+fn function_code(alloc: Global, scopes: Scopes, body: &[Stmt]) -> Result<FunctionCode, NoMemory>
+    requires { IsShortBody body.now }
+    ensures code { IfOk result (λ code. IsFunction (resolved_from ([] ∷ scopes) 0 body.now) code.instrs code.texts) }
+    ensures slots { IfOk result (λ code. code.slots ≡ body_slots body.now) }
 {
-    let (instrs, texts) = function_code(alloc, function.body.as_slice())?;
+    let mut code = emit_body(alloc, scopes, body)?;
+    code.instrs.push(Instr::Push(0))?;
+    code.instrs.push(Instr::Ret)?;
+    Ok(FunctionCode {
+        instrs: List::from_vec(code.instrs),
+        texts: List::from_vec(code.texts),
+        slots: code.slots,
+    })
+}
+
+/// The code of a core of that name that enters the only function. The items are those of the
+/// program, whose names are visible in the function.
+pub fn core_code(
+    alloc: Global,
+    items: &[Item],
+    name: &Name,
+    function: &Function,
+) -> Result<Code, NoMemory>
+    requires items { length items.now < 2 ^ 32 }
+    requires built { IsSome (resolved_body (top_scope items.now) function.now.body) }
+    requires short { IsShortBody function.now.body }
+    ensures { IfOk result (λ code. IsCore name.now function.now.name (body_slots function.now.body) (resolved_body (top_scope items.now) function.now.body) code) }
+{
+    let scopes = top_level(alloc, items)?;
+    let code = function_code(alloc, scopes, function.body.as_slice())?;
     let entered = Entered {
         name: function.name.copy(alloc)?,
         at: 0,
+        slots: code.slots,
     };
     let functions = alone(alloc, entered)?;
     let entries = alone(alloc, 0)?;
     let names = alone(alloc, name.copy(alloc)?)?;
-    Ok(Code::new(instrs, functions, texts, entries, names))
+    Ok(Code::new(code.instrs, functions, code.texts, entries, names))
 }

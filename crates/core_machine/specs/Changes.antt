@@ -1,5 +1,5 @@
 -- What an instruction changes of a running core.
-use Rattle.std.specs.Prelude.{◌≡◌, Some, None}
+use Rattle.std.specs.Prelude.{◌≡◌, Some}
 use Rattle.stack_code.specs.declared.instr.Instr.{Instr}
 use Rattle.stack_code.specs.Machine.{begin}
 use Rattle.core_machine.specs.declared.running.Running.{Running}
@@ -20,4 +20,5 @@ Does before instr after = state_of after ≡ begin before.code.now before.bound 
 pub record Stays (before after : Running) : Type 0 where
   pub flat : flat_of after ≡ flat_of before
   pub depth : after.operands.items ≡ before.operands.items
+  pub slots : after.slots.items ≡ before.slots.items
   pub ended : after.ended ≡ before.ended

@@ -1,15 +1,15 @@
 -- What contracts see of a core that runs code.
-use Rattle.std.specs.Prelude.{◌≡◌, ℕ, Bool, true, false, List, Option, Some, IfSome}
+use Rattle.std.specs.Prelude.{◌≡◌, ℕ, false, List, Some, IfSome}
 use Rattle.ac_base.specs.declared.ends.EndWord.TheVariants.{Stalled}
-use Rattle.ac_base.specs.declared.ends.CoreEnd.{CoreEnd}
 use Rattle.ac_base.specs.declared.ends.MachineEnd.{MachineEnd}
 use Rattle.ac_base.specs.declared.entry.Entry.{Entry}
-use Rattle.core_state.specs.Moves.{Move, On, Over, moves, GoesOn}
-use Rattle.core_state.specs.Shared.{Shared, core_end}
+use Rattle.core_state.specs.Moves.{Move, On, Over, GoesOn}
+use Rattle.core_state.specs.Shared.{core_end}
 use Rattle.core_machine.specs.declared.pause.Pause.{Pause}
 use Rattle.core_machine.specs.Words.{word_of}
+use Rattle.stack_code.specs.declared.code.Entered.{Entered}
 use Rattle.stack_code.specs.Parts.{Parts, Begins}
-use Rattle.stack_code.specs.Machine.{Flat, FlatEnd, exec, first_flat, Runs}
+use Rattle.stack_code.specs.Machine.{Flat, FlatEnd, exec, first_flat}
 
 pub record Machine : Type 0 where
   pub code : Parts
@@ -18,11 +18,17 @@ pub record Machine : Type 0 where
   pub journal : List Entry
   pub state : Move Flat FlatEnd
 
+-- the machine stands before its first instruction
+pub record IsFirst (m : Machine) : Type 0 where
+  pub function : Entered
+  pub begins : Begins m.code m.core function
+  pub state : m.state ≡ On (first_flat function m.journal)
+
 -- the machine has come to its state from the core's beginning, by moves of the code under its journal
 pub record IsRun (m : Machine) : Type 0 where
-  pub at : ℕ
-  pub begins : Begins m.code m.core at
-  pub goes : GoesOn (exec m.code m.bound) (On (first_flat at m.journal)) m.state
+  pub function : Entered
+  pub begins : Begins m.code m.core function
+  pub goes : GoesOn (exec m.code m.bound) (On (first_flat function m.journal)) m.state
 
 -- all but the state stays
 pub record IsSameCore (before after : Machine) : Type 0 where

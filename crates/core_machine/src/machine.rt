@@ -32,9 +32,10 @@ impl<'a> CoreMachine<'a> {
     ghost use Rattle.std.specs.Prelude.{◌≡◌, ◌<◌, [], length, IfOk};
     ghost use Rattle.core_state.specs.Moves.{On, GoesOn};
     ghost use Rattle.stack_code.specs.Machine.{exec};
-    ghost use Rattle.core_machine.specs.Machine.{IsRun, IsSameCore, IsSeen, IsPaused};
+    ghost use Rattle.core_machine.specs.Machine.{IsFirst, IsRun, IsSameCore, IsSeen, IsPaused};
 
     /// A core of the code before its first instruction, with a bound on its steps.
+    /// It answers no memory where its frame has no place.
     pub fn new(
         alloc: Global,
         code: &'a Code,
@@ -46,16 +47,19 @@ impl<'a> CoreMachine<'a> {
         ensures core { IfOk result (λ m. m.core ≡ core) }
         ensures bound { IfOk result (λ m. m.bound ≡ steps) }
         ensures journal { IfOk result (λ m. m.journal ≡ []) }
+        ensures first { IfOk result IsFirst }
         ensures run { IfOk result IsRun }
     {
-        let place = code.begin(core);
+        let entered = code.begin(core);
+        let slots = vec![in alloc; 0; entered.slots as usize]?;
         Ok(CoreMachine {
             running: Running {
                 code,
                 core,
                 bound: steps,
                 journal: Journal::new(alloc),
-                place,
+                place: entered.at as usize,
+                slots,
                 operands: Vec::new(alloc),
                 steps: 0,
                 output: Vec::new(alloc),

@@ -13,6 +13,17 @@ pub fn push(operands: &mut Vec<i64>, value: i64) -> Result<(), NoMemory>
     Ok(())
 }
 
+/// Takes the topmost.
+pub fn pop(operands: &mut Vec<i64>) -> i64
+    requires { 1 ≤ vec_len operands.old }
+    ensures { reverse operands.old.items ≡ result ∷ reverse operands.new.items }
+{
+    let Some(value) = operands.pop() else {
+        unreachable!()
+    };
+    value
+}
+
 /// Takes the two topmost, left and right, and puts a value in their place.
 pub fn pop_two(operands: &mut Vec<i64>) -> (i64, i64)
     requires { 2 ≤ vec_len operands.old }

@@ -1,5 +1,8 @@
 //! A core that runs, instruction after instruction.
 
+ghost use Rattle.std.specs.Prelude.{◌≡◌, ◌<◌, length, slice_set};
+ghost use Rattle.core_state.specs.Shared.{slot_value};
+
 use crate::format::add_formatted;
 use crate::operands;
 use crate::pause::Pause;
@@ -7,8 +10,8 @@ use ac_base::{Journal, NoMemory};
 use stack_code::{Code, Instr};
 use std::alloc::Global;
 
-/// The fields of a core that runs: where it stands, its operands, the steps that it has used, the
-/// bytes that it has printed, the instructions begun, and how it has ended.
+/// The fields of a core that runs: where it stands, the slots of its frame, its operands, the steps
+/// that it has used, the bytes that it has printed, the instructions begun, and how it has ended.
 #[derive(Drop)]
 pub struct Running<'a> {
     pub code: &'a Code,
@@ -16,12 +19,27 @@ pub struct Running<'a> {
     pub bound: u64,
     pub journal: Journal,
     pub place: usize,
+    pub slots: Vec<i64>,
     pub operands: Vec<i64>,
     pub steps: u64,
     pub output: Vec<u8>,
     pub count: u64,
     pub ended: Option<Pause>,
     pub alloc: Global,
+}
+
+fn value_in(slots: &[i64], slot: u32) -> i64
+    requires { slot < length slots.now }
+    ensures { result ≡ slot_value slots.now slot }
+{
+    slots[slot as usize]
+}
+
+fn set_value(slots: &mut Vec<i64>, slot: u32, value: i64)
+    requires { slot < length slots.old.items }
+    ensures { slots.new.items ≡ slice_set slots.old.items slot value }
+{
+    slots[slot as usize] = value;
 }
 
 impl Running<'_> {
@@ -65,6 +83,33 @@ impl Running<'_> {
         operands::push(&mut self.operands, value)?;
         self.go_on();
         Ok(())
+    }
+
+    fn load(&mut self, slot: u32) -> Result<(), NoMemory>
+        requires running { self.old.ended ≡ None }
+        requires inside { self.old.place < 2 ^ 63 }
+        requires slot { slot < length self.old.slots.items }
+        ensures ok { OnOk result (Does self.old (Instr.Load slot) self.new) }
+        ensures err { OnErr result (Stays self.old self.new) }
+        ensures keeps { Keeps self.old self.new }
+    {
+        let value = value_in(self.slots.as_slice(), slot);
+        operands::push(&mut self.operands, value)?;
+        self.go_on();
+        Ok(())
+    }
+
+    fn store(&mut self, slot: u32)
+        requires running { self.old.ended ≡ None }
+        requires inside { self.old.place < 2 ^ 63 }
+        requires slot { slot < length self.old.slots.items }
+        requires one { 1 ≤ vec_len self.old.operands }
+        ensures does { Does self.old (Instr.Store slot) self.new }
+        ensures keeps { Keeps self.old self.new }
+    {
+        let value = operands::pop(&mut self.operands);
+        set_value(&mut self.slots, slot, value);
+        self.go_on();
     }
 
     fn add(&mut self)
@@ -131,11 +176,11 @@ impl Running<'_> {
         self.ended = Some(Pause::Finished);
     }
 
-    // One instruction, whose operands are there.
+    // One instruction, whose operands and slots are there.
     fn execute(&mut self, instr: Instr) -> Result<(), NoMemory>
         requires running { self.old.ended ≡ None }
         requires inside { self.old.place < 2 ^ 63 }
-        requires finds { IsSome (effect self.old.code.now instr (length self.old.operands.items)) }
+        requires finds { IsSome (effect self.old.code.now (length self.old.slots.items) instr (length self.old.operands.items)) }
         ensures ok { OnOk result (Does self.old instr self.new) }
         ensures err { OnErr result (Stays self.old self.new) }
         ensures keeps { Keeps self.old self.new }
@@ -143,6 +188,8 @@ impl Running<'_> {
         match instr {
             Instr::Step => self.step(),
             Instr::Push(value) => return self.push(value),
+            Instr::Load(slot) => return self.load(slot),
+            Instr::Store(slot) => self.store(slot),
             Instr::Add => self.add(),
             Instr::Sub => self.sub(),
             Instr::Mul => self.mul(),

@@ -3,7 +3,7 @@ use Rattle.std.proofs.Common.{◌≡◌, ℕ, ◌<◌, List, length, Some, refl,
 use Rattle.std.specs.Prelude.{slice_get}
 use Rattle.std.proofs.lemmas.Option.{slice_get_within}
 use Rattle.stack_code.specs.declared.code.Entered.{Entered}
-use Rattle.stack_code.specs.Parts.{Parts, Begins, IsAddressOf}
+use Rattle.stack_code.specs.Parts.{Parts}
 use Rattle.stack_code.specs.Valid.{IsValid}
 
 one_entry : (a b : ℕ) → Some a ≡ Some b → a ≡ b
@@ -12,6 +12,6 @@ one_entry a b e = cc
 -- the entry of a core is a function
 pub entry_within : (code : Parts) (core entry : ℕ) → IsValid code → core < length code.entries → slice_get code.entries core ≡ Some entry → entry < length code.functions
 entry_within code core entry v lt e =
-    let b = (v.enters core lt).1 in
-    let same : b.entry ≡ entry = one_entry b.entry entry (sym b.entry_is ∙ e) in
-    slice_get_within code.functions entry b.enters.function (subst (λ n. slice_get code.functions n ≡ Some b.enters.function) same b.enters.here)
+    let b = v.enters core lt in
+    let same : b.1.entry ≡ entry = one_entry b.1.entry entry (sym b.1.entry_is ∙ e) in
+    slice_get_within code.functions entry b.0 (subst (λ n. slice_get code.functions n ≡ Some b.0) same b.1.function_is)

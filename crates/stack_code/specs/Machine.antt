@@ -5,9 +5,10 @@ use Rattle.ac_base.specs.declared.ends.EndWord.TheVariants.{Finished, OutOfSteps
 use Rattle.ac_base.specs.declared.ends.CoreEnd.{CoreEnd}
 use Rattle.ac_base.specs.declared.entry.Entry.{Entry}
 use Rattle.core_state.specs.Moves.{Move, On, Over, EndsAs}
-use Rattle.core_state.specs.Shared.{Shared, first_shared, with_step, with_output, formatted, seen}
+use Rattle.core_state.specs.Shared.{Shared, first_shared, slot_value, with_slot, with_step, with_output, formatted, seen}
 use Rattle.stack_code.specs.declared.instr.Instr.{Instr}
-use Rattle.stack_code.specs.declared.instr.Instr.TheVariants.{Step, Push, Add, Sub, Mul, Print, Ret}
+use Rattle.stack_code.specs.declared.instr.Instr.TheVariants.{Step, Push, Load, Store, Add, Sub, Mul, Print, Ret}
+use Rattle.stack_code.specs.declared.code.Entered.{Entered}
 use Rattle.stack_code.specs.Parts.{Parts, Begins}
 
 -- a core in the machine: the operands of its thread stand with the topmost first, and the count is that of the instructions begun
@@ -54,6 +55,8 @@ abbrev pub begin : Parts → ℕ → Flat → Option Instr → Move Flat FlatEnd
 begin code bound m None = On m
 begin code bound m (Some Step) = if nat_lt m.shared.steps bound then goes m (with_step m.shared) m.operands else ends (seen OutOfSteps m.shared) m.count
 begin code bound m (Some (Push v)) = goes m m.shared (v ∷ m.operands)
+begin code bound m (Some (Load slot)) = goes m m.shared (slot_value m.shared.slots slot ∷ m.operands)
+begin code bound m (Some (Store slot)) = on_top m (λ v below. goes m (with_slot m.shared slot v) below) m.operands
 begin code bound m (Some Add) = on_two m (λ x y below. goes m m.shared (int_wrapping_add w64 x y ∷ below)) m.operands
 begin code bound m (Some Sub) = on_two m (λ x y below. goes m m.shared (int_wrapping_sub w64 x y ∷ below)) m.operands
 begin code bound m (Some Mul) = on_two m (λ x y below. goes m m.shared (int_wrapping_mul w64 x y ∷ below)) m.operands
@@ -64,11 +67,11 @@ begin code bound m (Some Ret) = on_top m (λ v below. ends (seen Finished m.shar
 abbrev pub exec : Parts → ℕ → Flat → Move Flat FlatEnd
 exec code bound m = begin code bound m (slice_get code.instrs m.place)
 
-abbrev pub first_flat : ℕ → List Entry → Flat
-first_flat at journal = record { shared = first_shared journal; place = at; operands = []; count = 0 }
+abbrev pub first_flat : Entered → List Entry → Flat
+first_flat function journal = record { shared = first_shared function.slots journal; place = function.at; operands = []; count = 0 }
 
 -- the code of the core, with at most so many steps, comes to this end under this journal
 pub record Runs (code : Parts) (core bound : ℕ) (journal : List Entry) (end : FlatEnd) : Type 0 where
-  pub at : ℕ
-  pub begins : Begins code core at
-  pub ends : EndsAs (exec code bound) (first_flat at journal) end
+  pub function : Entered
+  pub begins : Begins code core function
+  pub ends : EndsAs (exec code bound) (first_flat function journal) end

@@ -11,14 +11,8 @@ pub record Parts : Type 0 where
   pub entries : List ℕ
   pub names : List (List ℕ)
 
--- the function of this number begins at this address
-pub record IsAddressOf (functions : List Entered) (number at : ℕ) : Type 0 where
-  pub function : Entered
-  pub here : slice_get functions number ≡ Some function
-  pub at_is : function.at ≡ at
-
--- a core begins at this address
-pub record Begins (code : Parts) (core at : ℕ) : Type 0 where
+-- a core begins with this function
+pub record Begins (code : Parts) (core : ℕ) (function : Entered) : Type 0 where
   pub entry : ℕ
   pub entry_is : slice_get code.entries core ≡ Some entry
-  pub enters : IsAddressOf code.functions entry at
+  pub function_is : slice_get code.functions entry ≡ Some function

@@ -1,21 +1,24 @@
 //! A whole code.
 
 ghost use Rattle.std.specs.Prelude.{◌≡◌, ◌<◌, length, slice_get, Some};
-ghost use Rattle.stack_code.specs.Parts.{Begins, IsAddressOf};
+ghost use Rattle.stack_code.specs.Parts.{Begins};
 ghost use Rattle.stack_code.specs.Valid.{IsValid};
 
 use crate::instr::Instr;
 use ac_base::{Bytes, List, Name};
 use std::marker::Model;
 
-/// A function of the code: its name, and the address of its first instruction.
+/// A function of the code: its name, the address of its first instruction, and how many slots its
+/// frame has.
 #[derive(Debug, Drop)]
 pub struct Entered {
     pub name: Name,
     pub at: u32,
+    pub slots: u32,
 }
 
-/// A code that is valid: a machine that runs it never leaves it, and never lacks an operand.
+/// A code that is valid: a machine that runs it never leaves it, and never lacks an operand or a
+/// slot.
 ///
 /// Contracts see its parts.
 #[derive(Debug, Drop)]
@@ -83,13 +86,13 @@ impl Code {
         &self.names
     }
 
-    /// The address at which a core begins.
-    pub fn begin(&self, core: u32) -> usize
+    /// The function with which a core begins.
+    pub fn begin(&self, core: u32) -> &Entered
         requires { core < length self.now.entries }
-        ensures { Begins self.now core result }
+        ensures { Begins self.now core result.now }
     {
         let entry = entry_of(self.entries.as_slice(), core);
-        address_of(self.functions.as_slice(), entry)
+        function_of(self.functions.as_slice(), entry)
     }
 }
 
@@ -100,9 +103,9 @@ fn entry_of(entries: &[u32], core: u32) -> u32
     entries[core as usize]
 }
 
-fn address_of(functions: &[Entered], entry: u32) -> usize
+fn function_of(functions: &[Entered], entry: u32) -> &Entered
     requires { entry < length functions.now }
-    ensures { IsAddressOf functions.now entry result }
+    ensures { slice_get functions.now entry ≡ Some result.now }
 {
-    functions[entry as usize].at as usize
+    &functions[entry as usize]
 }

@@ -7,6 +7,10 @@ pub enum Instr {
     Step,
     /// Pushes the number.
     Push(i64),
+    /// Pushes the value in that slot of the frame.
+    Load(u32),
+    /// Pops into that slot of the frame.
+    Store(u32),
     /// Pops right, then left, and pushes their sum.
     Add,
     /// Pops right, then left, and pushes left less right.

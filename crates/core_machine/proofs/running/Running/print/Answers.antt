@@ -1,11 +1,10 @@
-use Rattle.std.proofs.Common.{◌≡◌, ◌+◌, ◌-◌, ◌∙◌, sym, ap, arith, length, drop, take, [], refl, rules, get_or, Some}
-use Rattle.std.specs.Prelude.{slice_get, reverse}
+use Rattle.std.proofs.Common.{◌≡◌, ◌-◌, ◌∙◌, sym, ap, arith, length, [], refl, get_or, Some}
+use Rattle.std.specs.Prelude.{slice_get}
 use Rattle.std.proofs.lemmas.Grind.{common_steps}
 use Rattle.std.proofs.lemmas.Option.{slice_get_read, get_or_from_slice_get}
 use Rattle.std.proofs.lemmas.List.{take_rest}
-use Rattle.core_state.specs.Shared.{with_output, formatted}
 use Rattle.core_machine.specs.State.{shared_of, state_of}
-use Rattle.stack_code.specs.Machine.{text_at, counted}
+use Rattle.stack_code.specs.Machine.{text_at}
 use Rattle.core_machine.proofs.Printing.{printed}
 use Rattle.core_machine.proofs.running.Running.print.Goals as goal
 

@@ -1,4 +1,3 @@
-use Rattle.std.proofs.Common.{◌≡◌}
 use Rattle.core_state.specs.Moves.{GoesOn}
 use Rattle.stack_code.specs.Machine.{exec}
 use Rattle.core_machine.specs.State.{state_of, left_of, IsSound}
