@@ -1,5 +1,5 @@
 -- What an answer to what is due gives.
-use Rattle.std.proofs.Common.{◌≡◌, ◌≢◌, ◌∙◌, ℕ, List, sym, subst}
+use Rattle.std.proofs.Common.{◌≡◌, ◌≢◌, ◌∙◌, ℕ, List, sym}
 use Rattle.std.specs.declared.option.Option.{Option}
 use Rattle.ac_outside.specs.Told.{GrewBy}
 use Rattle.ac_program.specs.declared.running.Ended.{Ended}

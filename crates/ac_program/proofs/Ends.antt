@@ -1,21 +1,21 @@
 -- What is seen of a machine that is over is its code's end, and so its source's.
-use Rattle.std.proofs.Common.{◌≡◌, ℕ, zero, suc, ◌<◌, ◌⊎◌, arith, true, List, [], ◌∷◌, length, Option, Some, None, refl, sym, ap, ◌∙◌, subst, inl, inr}
-use Rattle.std.specs.Prelude.{All, IfSome, map}
+use Rattle.std.proofs.Common.{◌≡◌, ℕ, zero, suc, ◌⊎◌, arith, true, List, [], ◌∷◌, length, Option, Some, refl, sym, ap, ◌∙◌, subst, inl}
+use Rattle.std.specs.Prelude.{All, IfSome}
 use Rattle.ac_base.specs.Log.{Log}
 use Rattle.ac_base.specs.declared.ends.EndWord.{EndWord}
 use Rattle.ac_base.specs.declared.ends.CoreEnd.{CoreEnd}
 use Rattle.ac_base.specs.declared.ends.MachineEnd.{MachineEnd}
 use Rattle.ac_base.specs.declared.entry.Entry.{Entry}
 use Rattle.ac_tree.specs.declared.item.Program.{Program}
-use Rattle.ac_types.specs.Resolved.{Resolved, Core}
-use Rattle.core_state.specs.Moves.{Move, On, Over, moves, GoesOn, EndsAs}
+use Rattle.ac_types.specs.Resolved.{Core}
+use Rattle.core_state.specs.Moves.{Move, On, Over, EndsAs}
 use Rattle.stack_code.specs.Parts.{Parts}
 use Rattle.stack_code.specs.Machine.{Flat, FlatEnd, exec, first_flat, Runs}
 use Rattle.core_machine.specs.declared.pause.Pause.{Pause}
 use Rattle.core_machine.specs.declared.pause.Pause.TheVariants as pause
 use Rattle.core_machine.specs.Words.{word_of}
 use Rattle.core_machine.specs.Machine.{Machine, IsRun, IsSeen, IsPaused}
-use Rattle.ac_compile.specs.Translation.{IsCodeOf, code_of}
+use Rattle.ac_compile.specs.Translation.{IsCodeOf}
 use Rattle.ac_compile.specs.Same.{IsSame}
 use Rattle.std.proofs.lemmas.List.{length-map}
 use Rattle.ac_program.specs.declared.running.Ended.{Ended}
@@ -41,7 +41,7 @@ ends_at m end p (On f) e r q s = absurd q
 ends_at m end p (Over x) e r q s =
     let same : x ≡ flat_end (Some end.core) end.instructions = ap (λ (c : Option CoreEnd). flat_end c x.count) s.0 ∙ ap (flat_end (Some end.core)) s.1 in
     record {
-      runs = record { at = r.at; begins = r.begins; ends = subst (EndsAs (exec m.code m.bound) (first_flat r.at m.journal)) same (r.goes.0, sym r.goes.1 ∙ e) };
+      runs = record { function = r.function; begins = r.begins; ends = subst (EndsAs (exec m.code m.bound) (first_flat r.function m.journal)) same (r.goes.0, sym r.goes.1 ∙ e) };
       ended = word_seen p x.core end.core s.0 q;
     }
 

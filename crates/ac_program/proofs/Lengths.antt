@@ -1,5 +1,5 @@
 -- A text has at least as many bytes as tokens, and a program at least as many tokens as statements.
-use Rattle.std.proofs.Common.{◌≡◌, ℕ, zero, suc, ◌+◌, ◌<◌, ◌≤◌, List, [], ◌∷◌, ◌++◌, length, refl, sym, ap, ◌∙◌, subst, arith, length-append, lit<}
+use Rattle.std.proofs.Common.{◌≡◌, ℕ, suc, ◌+◌, ◌≤◌, List, [], ◌∷◌, length, refl, ap, arith, length-append}
 use Rattle.ac_tree.specs.declared.stmt.Stmt.{Stmt}
 use Rattle.ac_tree.specs.declared.item.Item.{Item}
 use Rattle.ac_tree.specs.declared.item.Item.TheVariants as i
@@ -14,7 +14,7 @@ use Rattle.ac_lexer.specs.declared.token.Token.{Token}
 use Rattle.ac_lexer.specs.Spelling.{letters, sign}
 use Rattle.ac_lexer.specs.First.{FirstSpelled, name, word, nought, number, format, mark, FirstFrom, end, blank, token}
 use Rattle.ac_parser.specs.Grammar as g
-use Rattle.ac_parser.specs.Shape.{IsFirstProgram}
+use Rattle.ac_tree.specs.Shape.{IsFirstProgram}
 use Rattle.ac_parser.specs.Text.{SpellsText}
 
 word_length : (x : Word) → 1 ≤ length (letters x)
@@ -96,6 +96,9 @@ marks_length [] = refl
 marks_length (x ∷ ms) = ap (λ n. suc n) (marks_length ms)
 
 statement_length : (depth : ℕ) (x : Stmt) (ms : List g.Marked) → g.StatementSpells depth x ms → 1 ≤ length ms
+statement_length _ _ _ (g.declare depth a b c letters ha hb hc) = omega arith
+statement_length _ _ _ (g.declare_with depth a b c d letters x ms ha hb hc hx hd) = omega arith
+statement_length _ _ _ (g.assign depth a b c letters x ms ha hb hx hc) = omega arith
 statement_length _ _ _ (g.print depth a b c d e f x ms ha hb hc hd hx he hf) = omega arith
 
 statements_few : (depth : ℕ) (xs : List Stmt) (ms : List g.Marked) → g.StatementsSpell depth xs ms → length xs ≤ length ms

@@ -1,7 +1,8 @@
+pub mod Digits
 pub mod Endings
 pub mod Ends
 pub mod Lengths
-pub mod Meanings
 pub mod Names
-pub mod Pairs
+pub mod Reasons
+pub mod Scans
 pub mod Streams

@@ -1,12 +1,10 @@
 -- The names of the cores, by the program and by its code.
-use Rattle.std.proofs.Common.{◌≡◌, ℕ, List, [], length, Option, Some, refl, sym, ap, ◌∙◌}
-use Rattle.std.specs.Prelude.{map}
+use Rattle.std.proofs.Common.{◌≡◌, ℕ, List, [], length, Some, sym, ap, ◌∙◌}
 use Rattle.std.proofs.lemmas.List.{length-map}
 use Rattle.ac_tree.specs.declared.item.Program.{Program}
 use Rattle.ac_types.specs.Resolved.{Resolved, Core}
-use Rattle.ac_types.specs.Resolution.{resolved}
 use Rattle.stack_code.specs.Parts.{Parts}
-use Rattle.ac_compile.specs.Translation.{IsCodeOf, code_of}
+use Rattle.ac_compile.specs.Translation.{IsCodeOf}
 use Rattle.ac_program.specs.declared.running.Ended.{Ended}
 use Rattle.ac_program.specs.Run.{IsRunOf}
 use Rattle.ac_program.specs.Source.{names_in, names_of}

@@ -1,5 +1,5 @@
 -- The journals of a run of one core.
-use Rattle.std.specs.Prelude.{◌≡◌, ℕ, List, [], ◌∷◌}
+use Rattle.std.specs.Prelude.{◌≡◌, List, [], ◌∷◌}
 use Rattle.ac_base.specs.Log.{Log}
 
 -- that of the core, and that of a worker that has done nothing

@@ -1,9 +1,11 @@
+pub mod Causes
 pub mod History
 pub mod Journals
 pub mod Lines
 pub mod Outcome
 pub mod Reading
 pub mod Run
+pub mod Scanning
 pub mod Source
 pub mod Words
 pub mod Writing

@@ -6,13 +6,16 @@ use Rattle.ac_tree.specs.declared.item.Program.{Program}
 use Rattle.ac_outside.specs.Causes.{Rose}
 use Rattle.ac_outside.specs.Told.{CountsOne, GrewBy}
 use Rattle.ac_program.specs.declared.running.Ended.{Ended}
+use Rattle.ac_types.specs.declared.rule.Rule.{Rule}
 use Rattle.ac_program.specs.declared.execute.Done.{Done}
+use Rattle.ac_program.specs.declared.execute.Executed.{Executed}
+use Rattle.ac_program.specs.declared.execute.Executed.TheVariants as executed
 use Rattle.ac_program.specs.Words.{IsRun}
 use Rattle.ac_program.specs.Reading.{Gave, TookBytes}
 use Rattle.ac_program.specs.Writing.{TookFront}
-use Rattle.ac_program.specs.Source.{IsAccepted, IsNotBuilt, names_of}
+use Rattle.ac_program.specs.Source.{IsAccepted, IsBroken, IsNotSpelled, names_of}
 use Rattle.ac_program.specs.Run.{IsRunOf}
-use Rattle.ac_program.specs.Lines.{usage_line, library_line, not_built_line}
+use Rattle.ac_program.specs.Lines.{usage_line, library_line, limit_source_line, rule_line, not_built_line}
 
 -- what is made of a source that is accepted: the run of its program with this bound on steps, and the report and the status of that very run
 pub record IsDone (source : List ℕ) (bound : ℕ) (done : Done) : Type 0 where
@@ -22,9 +25,16 @@ pub record IsDone (source : List ℕ) (bound : ℕ) (done : Done) : Type 0 where
   pub report : done.report ≡ report_of (names_of program) done.ended.cores
   pub status : done.status.number ≡ status_of done.ended.cores
 
+-- what is made of a source
+abbrev pub IsExecuted : List ℕ → ℕ → Executed → Type 0
+IsExecuted source bound (executed.Done done) = IsDone source bound done
+IsExecuted source bound (executed.Broken rule) = IsBroken source rule
+IsExecuted source bound executed.NotSpelled = IsNotSpelled source
+
 -- The status, the text to be written and the run that a source of at most 1,048,576 bytes calls for.
 pub data IsDueOf (source : List ℕ) (bound status : ℕ) (text : List ℕ) (run : Option Ended) : Type 0 where
-  not_built : status ≡ 15 → text ≡ not_built_line → run ≡ None → IsNotBuilt source → IsDueOf source bound status text run
+  not_built : status ≡ 15 → text ≡ not_built_line → run ≡ None → IsNotSpelled source → IsDueOf source bound status text run
+  broken : (rule : Rule) → status ≡ 3 → text ≡ rule_line rule → run ≡ None → IsBroken source rule → IsDueOf source bound status text run
   ran : (done : Done) → status ≡ done.status.number → text ≡ done.report → run ≡ Some done.ended → IsDone source bound done → IsDueOf source bound status text run
 
 -- what the library is seen to do in a call
@@ -41,12 +51,16 @@ pub record IsWell (seen : Seen) : Type 0 where
   pub once : CountsOne seen.opens seen.opens_after
   pub faults : seen.faults_after ≡ seen.faults
 
--- The status, the text to be written and the run that these words call for, by the first refusal in the order of work.
+-- The status, the text to be written and the run that a call of `run` with this file and this bound on steps calls for, by the first refusal in the order of work.
+pub data IsDueOfFile (file : List ℕ) (bound : ℕ) (seen : Seen) (status : ℕ) (text : List ℕ) (run : Option Ended) : Type 0 where
+  library_fault : status ≡ 7 → text ≡ library_line → run ≡ None → CountsOne seen.opens seen.opens_after → Rose seen.faults seen.faults_after → IsDueOfFile file bound seen status text run
+  too_long : status ≡ 10 → text ≡ limit_source_line → run ≡ None → IsWell seen → TookBytes (seen.text_at file) seen.left_after (1048576 + 1) → IsDueOfFile file bound seen status text run
+  source : (source : List ℕ) → IsWell seen → Gave (seen.text_at file) source → length source ≤ 1048576 → IsDueOf source bound status text run → IsDueOfFile file bound seen status text run
+
+-- The status, the text to be written and the run that these words call for.
 pub data IsDue (words : List (List ℕ)) (seen : Seen) (status : ℕ) (text : List ℕ) (run : Option Ended) : Type 0 where
-  usage : status ≡ 1 → text ≡ usage_line → run ≡ None → ((file : List ℕ) → IsRun words file → ⊥) → seen.opens_after ≡ seen.opens → seen.faults_after ≡ seen.faults → IsDue words seen status text run
-  library_fault : (file : List ℕ) → status ≡ 7 → text ≡ library_line → run ≡ None → IsRun words file → CountsOne seen.opens seen.opens_after → Rose seen.faults seen.faults_after → IsDue words seen status text run
-  too_long : (file : List ℕ) → status ≡ 15 → text ≡ not_built_line → run ≡ None → IsRun words file → IsWell seen → TookBytes (seen.text_at file) seen.left_after (1048576 + 1) → IsDue words seen status text run
-  source : (file source : List ℕ) → IsRun words file → IsWell seen → Gave (seen.text_at file) source → length source ≤ 1048576 → IsDueOf source 100000 status text run → IsDue words seen status text run
+  usage : status ≡ 1 → text ≡ usage_line → run ≡ None → ((file : List ℕ) (steps : ℕ) → IsRun words file steps → ⊥) → seen.opens_after ≡ seen.opens → seen.faults_after ≡ seen.faults → IsDue words seen status text run
+  runs : (file : List ℕ) (steps : ℕ) → IsRun words file steps → IsDueOfFile file steps seen status text run → IsDue words seen status text run
 
 -- the sink has taken all of a text that is due with this status and this run
 pub record TookWhole (Due : ℕ → List ℕ → Option Ended → Type 0) (status : ℕ) (run : Option Ended) (held held_after : Option (List ℕ)) : Type 0 where

@@ -1,15 +1,13 @@
 -- The run of a program.
-use Rattle.std.specs.Prelude.{◌≡◌, ℕ, suc, ◌<◌, ◌⊎◌, true, List, [], ◌∷◌, length, map, Option, Some, slice_get, All}
+use Rattle.std.specs.Prelude.{◌≡◌, ℕ, suc, ◌⊎◌, true, List, [], ◌∷◌, length, map, Some, All}
 use Rattle.ac_base.specs.Log.{Log}
 use Rattle.ac_base.specs.declared.ends.EndWord.{EndWord}
 use Rattle.ac_base.specs.declared.ends.EndWord.TheVariants.{Finished, Trapped, OutOfSteps, Stalled}
 use Rattle.ac_base.specs.declared.ends.MachineEnd.{MachineEnd}
-use Rattle.ac_base.specs.declared.entry.Entry.{Entry}
 use Rattle.ac_tree.specs.declared.item.Program.{Program}
 use Rattle.ac_types.specs.Resolved.{Resolved}
 use Rattle.ac_types.specs.Resolution.{resolved}
 use Rattle.ac_semantics.specs.Replay.{Replays}
-use Rattle.stack_code.specs.Parts.{Parts}
 use Rattle.stack_code.specs.Machine.{Runs}
 use Rattle.ac_compile.specs.Translation.{code_of}
 use Rattle.ac_program.specs.declared.running.Ended.{Ended}

@@ -2,15 +2,19 @@
 
 ghost use Rattle.std.specs.Prelude.{◌≡◌, ◌≢◌, ◌≤◌, [], length, None, Some};
 ghost use Rattle.ac_outside.specs.Causes.{Rose};
-ghost use Rattle.ac_outside.specs.Told.{GrewBy};
+ghost use Rattle.ac_outside.specs.Told.{CountsOne, GrewBy};
 ghost use Rattle.ac_program.specs.Writing.{TookFront};
-ghost use Rattle.ac_program.specs.Outcome.{IsDueOf, TookWhole, TookPart};
+ghost use Rattle.ac_program.specs.Lines.{rule_line};
+ghost use Rattle.ac_program.specs.Outcome.{IsDueOf, IsDueOfFile, TookWhole, TookPart};
 
-use crate::execute::{Done, execute};
+use crate::execute::{Done, Executed, execute};
+use crate::lines::line_of;
 use crate::outcome::Outcome;
+use crate::reading::{ReadFault, read_text};
 use crate::writing::answer;
 use ac_base::Status;
-use ac_outside::Sink;
+use ac_outside::{Library, Sink};
+use ac_types::Rule;
 use std::alloc::Global;
 
 /// The line of words that call for nothing.
@@ -27,6 +31,20 @@ pub fn no_memory() -> Outcome
     }
 }
 
+// Writes the text of a refusal.
+fn refuse_with<K: Sink>(sink: &mut K, number: u8, text: &[u8]) -> Outcome
+    requires { number ≢ 8 }
+    ensures run { result.run ≡ None }
+    ensures status { result.status.number ≢ 8 → result.status.number ≡ number }
+    ensures whole { result.status.number ≢ 8 → GrewBy (K.held sink.old) (K.held sink.new) text.now }
+    ensures part { result.status.number ≡ 8 → TookFront (K.held sink.old) (K.held sink.new) text.now }
+    ensures failed { result.status.number ≡ 8 → Rose (K.faults sink.old) (K.faults sink.new) }
+    ensures well { result.status.number ≢ 8 → K.faults sink.new ≡ K.faults sink.old }
+{
+    let status = answer(sink, Status { number }, text);
+    Outcome { status, run: None }
+}
+
 /// Writes a line of a refusal.
 pub fn refuse<K: Sink>(sink: &mut K, number: u8, line: &str) -> Outcome
     requires { number ≢ 8 }
@@ -37,8 +55,24 @@ pub fn refuse<K: Sink>(sink: &mut K, number: u8, line: &str) -> Outcome
     ensures failed { result.status.number ≡ 8 → Rose (K.faults sink.old) (K.faults sink.new) }
     ensures well { result.status.number ≢ 8 → K.faults sink.new ≡ K.faults sink.old }
 {
-    let status = answer(sink, Status { number }, line.as_bytes());
-    Outcome { status, run: None }
+    refuse_with(sink, number, line.as_bytes())
+}
+
+// Writes the line of a broken rule.
+fn refuse_rule<K: Sink>(alloc: Global, sink: &mut K, rule: Rule) -> Outcome
+    ensures run { result.run ≡ None }
+    ensures status { result.status.number ≢ 8 → result.status.number ≢ 11 → result.status.number ≡ 3 }
+    ensures whole { result.status.number ≢ 8 → result.status.number ≢ 11 → GrewBy (K.held sink.old) (K.held sink.new) (rule_line rule) }
+    ensures part { result.status.number ≡ 8 → TookFront (K.held sink.old) (K.held sink.new) (rule_line rule) }
+    ensures memory { result.status.number ≡ 11 → GrewBy (K.held sink.old) (K.held sink.new) [] }
+    ensures failed { result.status.number ≡ 8 → Rose (K.faults sink.old) (K.faults sink.new) }
+    ensures well { result.status.number ≢ 8 → K.faults sink.new ≡ K.faults sink.old }
+    ensures other { (result.status.number ≢ 1) × (result.status.number ≢ 7) }
+{
+    match line_of(alloc, rule) {
+        Err(_) => no_memory(),
+        Ok(line) => refuse_with(sink, 3, line.as_slice()),
+    }
 }
 
 fn give<K: Sink>(sink: &mut K, done: Done) -> Outcome
@@ -62,7 +96,8 @@ fn give<K: Sink>(sink: &mut K, done: Done) -> Outcome
     }
 }
 
-/// Runs the program of a source and writes its report, or that it is not built.
+/// Runs the program of a source and writes its report, or the rule that it breaks, or that it is
+/// not built.
 pub fn run_source<K: Sink>(alloc: Global, source: &[u8], steps: u64, sink: &mut K) -> Outcome
     requires { length source.now ≤ 1048576 }
     ensures whole { result.status.number ≢ 8 → result.status.number ≢ 11 → TookWhole (IsDueOf source.now steps) result.status.number result.run (K.held sink.old) (K.held sink.new) }
@@ -75,7 +110,41 @@ pub fn run_source<K: Sink>(alloc: Global, source: &[u8], steps: u64, sink: &mut 
 {
     match execute(alloc, source, steps) {
         Err(_) => no_memory(),
-        Ok(None) => refuse(sink, 15, "not built\n"),
-        Ok(Some(done)) => give(sink, done),
+        Ok(Executed::NotSpelled) => refuse(sink, 15, "not built\n"),
+        Ok(Executed::Broken(rule)) => refuse_rule(alloc, sink, rule),
+        Ok(Executed::Done(done)) => give(sink, done),
+    }
+}
+
+/// Reads the text of a name, runs its program and writes the report, or what refuses it.
+pub fn run_file<L: Library, K: Sink>(
+    alloc: Global,
+    file: &str,
+    steps: u64,
+    library: &mut L,
+    sink: &mut K,
+) -> Outcome
+    ensures whole { result.status.number ≢ 8 → result.status.number ≢ 11 →
+        TookWhole (IsDueOfFile file.now steps
+        (record { text_at = L.text_at library.old; left_after = L.left library.new; opens = L.opens library.old; opens_after = L.opens library.new; faults = L.faults library.old; faults_after = L.faults library.new }))
+        result.status.number result.run (K.held sink.old) (K.held sink.new) }
+    ensures part { result.status.number ≡ 8 →
+        TookPart (IsDueOfFile file.now steps
+        (record { text_at = L.text_at library.old; left_after = L.left library.new; opens = L.opens library.old; opens_after = L.opens library.new; faults = L.faults library.old; faults_after = L.faults library.new }))
+        result.run (K.held sink.old) (K.held sink.new) }
+    ensures opened { CountsOne (L.opens library.old) (L.opens library.new) }
+    ensures memory { result.status.number ≡ 11 → GrewBy (K.held sink.old) (K.held sink.new) [] }
+    ensures no_run { result.status.number ≡ 11 → result.run ≡ None }
+    ensures library_failed { result.status.number ≡ 7 → Rose (L.faults library.old) (L.faults library.new) }
+    ensures library_well { result.status.number ≢ 7 → result.status.number ≢ 8 → L.faults library.new ≡ L.faults library.old }
+    ensures sink_failed { result.status.number ≡ 8 → Rose (K.faults sink.old) (K.faults sink.new) }
+    ensures sink_well { result.status.number ≢ 8 → K.faults sink.new ≡ K.faults sink.old }
+    ensures other { result.status.number ≢ 1 }
+{
+    match read_text(alloc, library, file) {
+        Err(ReadFault::NoMemory) => no_memory(),
+        Err(ReadFault::Failed) => refuse(sink, 7, "library fault\n"),
+        Err(ReadFault::TooLong) => refuse(sink, 10, "limit: source\n"),
+        Ok(source) => run_source(alloc, source.as_slice(), steps, sink),
     }
 }

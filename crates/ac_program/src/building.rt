@@ -1,28 +1,37 @@
 //! From a source text to the code of its program.
 
-ghost use Rattle.std.specs.Prelude.{◌≤◌, length, IfOk, IfSome, IfNone};
-ghost use Rattle.ac_program.specs.Source.{IsBuilt, IsNotBuilt};
+ghost use Rattle.std.specs.Prelude.{◌≤◌, length, IfOk};
+ghost use Rattle.ac_program.specs.Source.{ComesTo};
 
 use ac_base::NoMemory;
 use ac_compile::compile_first;
 use ac_parser::parse_first;
-use ac_types::is_accepted;
+use ac_types::{Rule, check_first};
 use stack_code::Code;
 use std::alloc::Global;
 
-/// The code of the program that a source of at most 1,048,576 bytes spells, or None where it
-/// spells none that is accepted.
-pub fn build(alloc: Global, source: &[u8]) -> Result<Option<Code>, NoMemory>
+/// What a source comes to.
+#[derive(Drop)]
+pub enum Built {
+    /// It spells a program that breaks no rule, whose code this is.
+    Code(Code),
+    /// It spells a program that breaks rules, of which this is the least.
+    Broken(Rule),
+    /// It spells no program.
+    NotSpelled,
+}
+
+/// What a source of at most 1,048,576 bytes comes to.
+pub fn build(alloc: Global, source: &[u8]) -> Result<Built, NoMemory>
     requires { length source.now ≤ 1048576 }
-    ensures built { IfOk result (λ found. IfSome found (IsBuilt source.now)) }
-    ensures none { IfOk result (λ found. IfNone found (IsNotBuilt source.now)) }
+    ensures { IfOk result (ComesTo source.now) }
 {
     let Some(program) = parse_first(alloc, source)? else {
-        return Ok(None);
+        return Ok(Built::NotSpelled);
     };
-    if !is_accepted(&program) {
-        return Ok(None);
+    if let Some(rule) = check_first(alloc, &program)? {
+        return Ok(Built::Broken(rule));
     }
     let code = compile_first(alloc, &program)?;
-    Ok(Some(code))
+    Ok(Built::Code(code))
 }

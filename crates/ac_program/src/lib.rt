@@ -1,17 +1,22 @@
 //! The top call: from the words of a command line to a status and a report.
 #![tactic(auto)]
 
-ghost use Rattle.std.specs.Prelude.{◌≡◌, ◌≢◌, ◌≤◌, ℕ, ◌⊎◌, List, [], map, length, string_bytes, None};
+ghost use Rattle.std.specs.Prelude.{◌≡◌, ◌≢◌, ◌≤◌, ◌<◌, ◌↔◌, ℕ, ◌⊎◌, List, [], map, length, string_bytes, None, Some};
+ghost use Rattle.ac_tree.specs.declared.item.Program.{Program};
+ghost use Rattle.ac_types.specs.declared.rule.Rule.{Rule};
 ghost use Rattle.ac_outside.specs.Causes.{Rose};
 ghost use Rattle.ac_outside.specs.Told.{CountsOne, GrewBy};
 ghost use Rattle.ac_program.specs.Words.{IsRun};
+ghost use Rattle.ac_program.specs.Source.{IsAccepted, IsBroken, IsNotSpelled};
 ghost use Rattle.ac_program.specs.Outcome.{IsDue, TookWhole, TookPart};
+ghost use Rattle.ac_program.specs.Causes.{IsCall, IsTooLong, IsUnbuilt, IsRefused, IsReported, IsOfCores, IsUndisturbed};
 
 mod answering;
 #[cfg(test)]
 mod base_tests;
 mod building;
 mod execute;
+mod lines;
 mod outcome;
 mod reading;
 mod running;
@@ -21,21 +26,23 @@ mod words;
 mod writing;
 
 use ac_outside::{Library, Sink};
-use answering::{USAGE, no_memory, refuse, run_source};
+use answering::{USAGE, refuse, run_file};
 pub use outcome::Outcome;
-use reading::{ReadFault, read_text};
 pub use running::Ended;
 use std::alloc::Global;
 use words::read_words;
 
 /// Does what the words of a command line ask for: reads the text that they name from the library,
-/// runs its program, and writes the report to the sink.
+/// runs its program with the bound on steps that they give, and writes the report to the sink.
 ///
-/// The statuses are 0 and the other statuses of ended cores with the report; 1 with the usage line
-/// where the words are not `run FILE`; 7 with `library fault` where a call of the library failed;
-/// 8 where the sink failed, which has then taken a front of the text; 11 where memory was refused,
-/// and nothing is written; 15 with `not built` where the text is longer than 1,048,576 bytes or
-/// spells no program that is accepted.
+/// The statuses are 0 with the report where every core finished; 6 with the report where a core was
+/// out of steps, and 4 and 5 where one trapped or stalled; 1 with the usage line where the words are
+/// not `run`, one FILE and at most one bound from 1 to 2,000,000; 7 with `library fault` where a
+/// call of the library failed; 8 where the sink failed, which has then taken a front of the text; 10
+/// with `limit: source` where the text is longer than 1,048,576 bytes; 11 where memory was refused,
+/// and nothing is written; 15 with `not built` where the text is no longer than that and spells no
+/// program; 3 with `rule Cn at B` where it spells one of whose broken rules, by node and then by
+/// number, n is the first, at the node that begins at byte B.
 pub fn ac_main<L: Library, K: Sink>(
     alloc: Global,
     words: &[String],
@@ -54,26 +61,46 @@ pub fn ac_main<L: Library, K: Sink>(
         (record { text_at = L.text_at library.old; left_after = L.left library.new; opens = L.opens library.old; opens_after = L.opens library.new; faults = L.faults library.old; faults_after = L.faults library.new }))
         result.run (K.held sink.old) (K.held sink.new) }
 
-    // Memory was refused: the text was opened, nothing is written, and no run is kept.
+    // Memory was refused: the words call for a run, the text was opened, nothing is written, and no
+    // run is kept.
+    ensures called { result.status.number ≡ 11 → IsCall (map string_bytes words.now) }
     ensures opened { result.status.number ≡ 11 → CountsOne (L.opens library.old) (L.opens library.new) }
     ensures memory { result.status.number ≡ 11 → GrewBy (K.held sink.old) (K.held sink.new) [] }
     ensures no_run { result.status.number ≡ 11 → result.run ≡ None }
 
     // The causes.
-    ensures usage { result.status.number ≡ 1 → (file : List ℕ) → IsRun (map string_bytes words.now) file → ⊥ }
-    ensures only_usage { ((file : List ℕ) → IsRun (map string_bytes words.now) file → ⊥) → (result.status.number ≡ 1) ⊎ (result.status.number ≡ 8) }
+    ensures usage { result.status.number ≡ 1 → (file : List ℕ) (steps : ℕ) → IsRun (map string_bytes words.now) file steps → ⊥ }
+    ensures only_usage { ((file : List ℕ) (steps : ℕ) → IsRun (map string_bytes words.now) file steps → ⊥) → (result.status.number ≡ 1) ⊎ (result.status.number ≡ 8) }
     ensures library_failed { result.status.number ≡ 7 → Rose (L.faults library.old) (L.faults library.new) }
     ensures library_well { result.status.number ≢ 7 → result.status.number ≢ 8 → L.faults library.new ≡ L.faults library.old }
     ensures sink_failed { result.status.number ≡ 8 → Rose (K.faults sink.old) (K.faults sink.new) }
     ensures sink_well { result.status.number ≢ 8 → K.faults sink.new ≡ K.faults sink.old }
+    ensures too_long { result.status.number ≡ 10 →
+        IsTooLong (map string_bytes words.now)
+        (record { text_at = L.text_at library.old; left_after = L.left library.new; opens = L.opens library.old; opens_after = L.opens library.new; faults = L.faults library.old; faults_after = L.faults library.new }) }
+    ensures not_built { result.status.number ≡ 15 →
+        IsUnbuilt (map string_bytes words.now)
+        (record { text_at = L.text_at library.old; left_after = L.left library.new; opens = L.opens library.old; opens_after = L.opens library.new; faults = L.faults library.old; faults_after = L.faults library.new }) }
+    ensures broken { result.status.number ≡ 3 →
+        IsRefused (map string_bytes words.now)
+        (record { text_at = L.text_at library.old; left_after = L.left library.new; opens = L.opens library.old; opens_after = L.opens library.new; faults = L.faults library.old; faults_after = L.faults library.new }) }
+    ensures reported { IsOfCores result.status.number →
+        IsReported (map string_bytes words.now)
+        (record { text_at = L.text_at library.old; left_after = L.left library.new; opens = L.opens library.old; opens_after = L.opens library.new; faults = L.faults library.old; faults_after = L.faults library.new })
+        result.status.number result.run }
+
+    // What the text decides, where the library tells it.
+    ensures only_too_long { (file text : List ℕ) (steps : ℕ) → IsRun (map string_bytes words.now) file steps → L.text_at library.old file ≡ Some text →
+        IsUndisturbed result.status.number → (result.status.number ≡ 10) ↔ (1048576 < length text) }
+    ensures only_not_built { (file text : List ℕ) (steps : ℕ) → IsRun (map string_bytes words.now) file steps → L.text_at library.old file ≡ Some text →
+        IsUndisturbed result.status.number → (result.status.number ≡ 15) ↔ ((length text ≤ 1048576) × IsNotSpelled text) }
+    ensures only_broken { (file text : List ℕ) (steps : ℕ) → IsRun (map string_bytes words.now) file steps → L.text_at library.old file ≡ Some text →
+        IsUndisturbed result.status.number → (result.status.number ≡ 3) ↔ ((length text ≤ 1048576) × ((rule : Rule) × IsBroken text rule)) }
+    ensures only_reported { (file text : List ℕ) (steps : ℕ) → IsRun (map string_bytes words.now) file steps → L.text_at library.old file ≡ Some text →
+        IsUndisturbed result.status.number → IsOfCores result.status.number ↔ ((length text ≤ 1048576) × ((program : Program) × IsAccepted text program)) }
 {
     let Some(call) = read_words(words) else {
         return refuse(sink, 1, USAGE);
     };
-    match read_text(alloc, library, call.file) {
-        Err(ReadFault::NoMemory) => no_memory(),
-        Err(ReadFault::Failed) => refuse(sink, 7, "library fault\n"),
-        Err(ReadFault::TooLong) => refuse(sink, 15, "not built\n"),
-        Ok(source) => run_source(alloc, source.as_slice(), u64::from(call.steps), sink),
-    }
+    run_file(alloc, call.file, u64::from(call.steps), library, sink)
 }

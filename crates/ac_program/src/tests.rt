@@ -1,9 +1,9 @@
 ghost use Rattle.std.specs.Prelude.{None, is_some};
 
 use crate::ac_main;
-use crate::execute::execute;
+use crate::execute::{Executed, execute};
 use crate::reading::{LIMIT, ReadFault, read_text};
-use crate::words::{USUAL_STEPS, read_words};
+use crate::words::{Call, read_words};
 use crate::writing::answer;
 use ac_base::{List, NoMemory, Status};
 use ac_outside::{
@@ -12,38 +12,101 @@ use ac_outside::{
 use std::alloc::{AllocError, Global};
 use std::test::Fail;
 
-#[test]
-fn words(rt: HostRuntime) -> Result<(), Fail> {
-    let alloc = rt.alloc();
-    for (line, file) in [
-        ("run x.ac", Some("x.ac")),
-        ("run x-", Some("x-")),
-        ("run run", Some("run")),
-        ("run ", Some("")),
-        ("run", None),
-        ("", None),
-        ("run -", None),
-        ("run --", None),
-        ("run -x", None),
-        ("run x.ac y.ac", None),
-        ("run x.ac ", None),
-        ("run x.ac --steps=5", None),
-        ("Run x.ac", None),
-        ("check x.ac", None),
-    ] {
-        let mut words = Vec::new(alloc);
-        for word in line.split(' ') {
-            words.push(String::from_str(alloc, word)?)?;
-        }
-        let call = read_words(words.as_slice());
-        assert_eq!(rt; call.map(|call| call.file), file, "of {line}");
-        assert_eq!(rt;
-            call.map_or(USUAL_STEPS, |call| call.steps),
-            100_000,
-            "of {line}"
-        );
+// The words of a command line.
+fn words_of(alloc: Global, words: &[&str]) -> Result<Vec<String>, AllocError> {
+    let mut owned = Vec::new(alloc);
+    for word in words {
+        owned.push(String::from_str(alloc, word)?)?;
     }
-    assert!(rt; read_words(&[]).is_none());
+    Ok(owned)
+}
+
+#[test]
+fn calls(rt: HostRuntime) -> Result<(), Fail> {
+    let alloc = rt.alloc();
+    let rows: [(&[&str], &str, u32); 19] = [
+        (&["run", "x.ac"], "x.ac", 100_000),
+        (&["run", "x-"], "x-", 100_000),
+        (&["run", "run"], "run", 100_000),
+        (&["run", "two words.ac"], "two words.ac", 100_000),
+        (&["run", ""], "", 100_000),
+        (&["run", "--steps=7", ""], "", 7),
+        (&["run", "x.ac", "--steps", "1"], "x.ac", 1),
+        (&["run", "--steps", "7", "x.ac"], "x.ac", 7),
+        (&["run", "--steps=7", "x.ac"], "x.ac", 7),
+        (&["run", "x.ac", "--steps=7"], "x.ac", 7),
+        (&["run", "x.ac", "--steps=1000000"], "x.ac", 1_000_000),
+        (&["run", "x.ac", "--steps", "2000000"], "x.ac", 2_000_000),
+        (&["run", "--", "-x.ac"], "-x.ac", 100_000),
+        (&["run", "--", "--"], "--", 100_000),
+        (&["run", "--", ""], "", 100_000),
+        (&["run", "--", "--steps=5"], "--steps=5", 100_000),
+        (&["run", "x.ac", "--"], "x.ac", 100_000),
+        (&["run", "--steps", "5", "--", "x.ac"], "x.ac", 5),
+        (&["run", "x.ac", "--steps=5", "--"], "x.ac", 5),
+    ];
+    for (words, file, steps) in rows {
+        let owned = words_of(alloc, words)?;
+        let call = read_words(owned.as_slice());
+        assert_eq!(rt; call, Some(Call { file, steps }), "of {words:?}");
+    }
+    Ok(())
+}
+
+#[test]
+fn no_calls(rt: HostRuntime) -> Result<(), Fail> {
+    let alloc = rt.alloc();
+    let rows: [&[&str]; 45] = [
+        &[],
+        &[""],
+        &["run"],
+        &["Run", "x.ac"],
+        &["check", "x.ac"],
+        &["trace", "x.ac"],
+        &["x.ac"],
+        &["run x.ac"],
+        &["--steps", "5", "run", "x.ac"],
+        &["--", "run", "x.ac"],
+        &["run", "-"],
+        &["run", "--", "-"],
+        &["run", "-x"],
+        &["run", "--help", "x.ac"],
+        &["run", "--step", "5", "x.ac"],
+        &["run", "--stepsx=5", "x.ac"],
+        &["run", "--"],
+        &["run", "x.ac", "y.ac"],
+        &["run", "x.ac", ""],
+        &["run", "x.ac", "--", "y.ac"],
+        &["run", "--", "x.ac", "y.ac"],
+        &["run", "--", "x.ac", "--steps", "5"],
+        &["run", "x.ac", "-"],
+        &["run", "x.ac", "--", "-"],
+        &["run", "x.ac", "--steps", "0"],
+        &["run", "x.ac", "--steps", "2000001"],
+        &["run", "x.ac", "--steps", "10000000"],
+        &["run", "x.ac", "--steps", "0000001"],
+        &["run", "x.ac", "--steps=07"],
+        &["run", "x.ac", "--steps"],
+        &["run", "--steps", "x.ac"],
+        &["run", "x.ac", "--steps="],
+        &["run", "x.ac", "--steps", ""],
+        &["run", "x.ac", "--steps", "--"],
+        &["run", "--steps", "--", "x.ac"],
+        &["run", "x.ac", "--steps=5x"],
+        &["run", "x.ac", "--steps", "+5"],
+        &["run", "x.ac", "--steps=-5"],
+        &["run", "x.ac", "--steps", " 5"],
+        &["run", "x.ac", "--steps=0x5"],
+        &["run", "x.ac", "--steps 5"],
+        &["run", "x.ac", "--steps", "5", "--steps", "5"],
+        &["run", "x.ac", "--steps=5", "--steps=5"],
+        &["run", "--steps=5", "x.ac", "--steps", "5"],
+        &["run", "--steps", "5", "--steps=6", "x.ac"],
+    ];
+    for words in rows {
+        let owned = words_of(alloc, words)?;
+        assert_eq!(rt; read_words(owned.as_slice()), None, "of {words:?}");
+    }
     Ok(())
 }
 
@@ -158,6 +221,22 @@ impl Sink for Sips {
     }
 }
 
+// Sources, and what is written.
+const USAGE: &str =
+    "usage: ac run|trace FILE [--steps N], ac code|check FILE, ac audit FILE TRACE, ac load N [--steps N]\n";
+
+const SEVEN: &str = "core a(f); async void f() { printf(\"%d\\n\", 1+2*3); }";
+
+const REPORT: &str = "a: finished after 1 steps, 9 instructions\n7\n";
+
+const NONE: &str = "core a(f); async void f() { }";
+
+const TWO: &str = "core a(f); async void f() { printf(\"%d\\n\", 1); printf(\"%d\\n\", 2); }";
+
+const ONE_STEP: &str = "a: out-of-steps after 1 steps, 3 instructions\n1\n";
+
+const TWO_STEPS: &str = "a: finished after 2 steps, 8 instructions\n1\n2\n";
+
 // A library of the one text `x.ac`, in which no call fails.
 fn one_text(alloc: Global, text: &[u8]) -> Result<MemoryLibrary, NoMemory> {
     let mut texts = Vec::new(alloc);
@@ -171,37 +250,65 @@ fn one_text(alloc: Global, text: &[u8]) -> Result<MemoryLibrary, NoMemory> {
 #[test]
 fn runs(rt: HostRuntime) -> Result<(), Fail> {
     let alloc = rt.alloc();
-    let usage =
-        "usage: ac run|trace FILE [--steps N], ac code|check FILE, ac audit FILE TRACE, ac load N [--steps N]\n";
-    let seven = "core a(f); async void f() { printf(\"%d\\n\", 1+2*3); }";
-    let report = "a: finished after 1 steps, 9 instructions\n7\n";
-    let none = "core a(f); async void f() { }";
-    for (line, source, room, status, taken, ran) in [
-        ("run x.ac", seven, 999, 0, report, true),
-        ("run x.ac", seven, 44, 0, report, true),
+    let rows: [(
+        &'static [&'static str],
+        &'static str,
+        u64,
+        u8,
+        &'static str,
+        bool,
+    ); 20] = [
+        (&["run", "x.ac"], SEVEN, 999, 0, REPORT, true),
+        (&["run", "x.ac"], SEVEN, 44, 0, REPORT, true),
         (
-            "run x.ac",
-            seven,
+            &["run", "x.ac"],
+            SEVEN,
             43,
             8,
             "a: finished after 1 steps, 9 instructions\n7",
             true,
         ),
-        ("run x.ac", seven, 10, 8, "a: finishe", true),
+        (&["run", "x.ac"], SEVEN, 10, 8, "a: finishe", true),
         (
-            "run x.ac",
-            none,
+            &["run", "x.ac"],
+            NONE,
             999,
             0,
             "a: finished after 0 steps, 2 instructions\n",
             true,
         ),
-        ("run y.ac", seven, 999, 7, "library fault\n", false),
-        ("run x.ac y.ac", seven, 999, 1, usage, false),
-        ("", seven, 999, 1, usage, false),
-        ("", seven, 10, 8, "usage: ac ", false),
         (
-            "run x.ac",
+            &["run", "x.ac", "--steps", "1"],
+            TWO,
+            999,
+            6,
+            ONE_STEP,
+            true,
+        ),
+        (
+            &["run", "--steps=2", "--", "x.ac"],
+            TWO,
+            999,
+            0,
+            TWO_STEPS,
+            true,
+        ),
+        (&["run", "x.ac"], TWO, 999, 0, TWO_STEPS, true),
+        (&["run", "x.ac", "--steps=1"], TWO, 4, 8, "a: o", true),
+        (&["run", "y.ac"], SEVEN, 999, 7, "library fault\n", false),
+        (&["run", "x.ac", "y.ac"], SEVEN, 999, 1, USAGE, false),
+        (
+            &["run", "x.ac", "--steps", "0"],
+            SEVEN,
+            999,
+            1,
+            USAGE,
+            false,
+        ),
+        (&[], SEVEN, 999, 1, USAGE, false),
+        (&[], SEVEN, 10, 8, "usage: ac ", false),
+        (
+            &["run", "x.ac"],
             "core a(f); async void f() { yield; }",
             999,
             15,
@@ -209,61 +316,83 @@ fn runs(rt: HostRuntime) -> Result<(), Fail> {
             false,
         ),
         (
-            "run x.ac",
+            &["run", "x.ac"],
             "core a(g); async void f() { }",
             999,
-            15,
-            "not built\n",
+            3,
+            "rule C2 at 0\n",
             false,
         ),
         (
-            "run x.ac",
-            "core f(f); async void f() { }",
+            &["run", "x.ac"],
+            "core a(f); async void f() { x = 1; }",
             999,
-            15,
-            "not built\n",
+            3,
+            "rule C2 at 28\n",
             false,
         ),
         (
-            "run x.ac",
+            &["run", "x.ac"],
+            "core a(f); async void f() { x = 1; }",
+            8,
+            8,
+            "rule C2 ",
+            false,
+        ),
+        (
+            &["run", "x.ac"],
             "core a(f); async void f() { } async void g() { }",
             999,
             15,
             "not built\n",
             false,
         ),
-        ("run x.ac", "", 999, 15, "not built\n", false),
-    ] {
-        let mut words = Vec::new(alloc);
-        for word in line.split(' ') {
-            words.push(String::from_str(alloc, word)?)?;
-        }
+        (&["run", "x.ac"], "", 999, 15, "not built\n", false),
+    ];
+    for (words, source, room, status, taken, ran) in rows {
+        let owned = words_of(alloc, words)?;
         let mut library = one_text(alloc, source.as_bytes())?;
         let mut sink = MemorySink::new(alloc, room)?;
-        let outcome = ac_main(alloc, words.as_slice(), &mut library, &mut sink);
-        assert_eq!(rt; outcome.status.number, status, "of {line} at room {room}");
-        assert_eq!(rt; sink.taken(), taken.as_bytes(), "of {line} at room {room}");
-        assert_eq!(rt; outcome.run.is_some(), ran, "of {line} at room {room}");
+        let outcome = ac_main(alloc, owned.as_slice(), &mut library, &mut sink);
+        assert_eq!(rt;
+            outcome.status.number,
+            status,
+            "of {words:?} at room {room}"
+        );
+        assert_eq!(rt;
+            sink.taken(),
+            taken.as_bytes(),
+            "of {words:?} at room {room}"
+        );
+        assert_eq!(rt; outcome.run.is_some(), ran, "of {words:?} at room {room}");
     }
     Ok(())
 }
 
-// Blanks to the greatest size of a source, and one more.
+// A source and blanks up to a size: the greatest that a source may have, and one more.
 #[test]
 fn sizes(rt: HostRuntime) -> Result<(), Fail> {
     let alloc = rt.alloc();
-    let source = b"core a(f); async void f() { }";
-    for (size, status) in [(LIMIT, 0), (LIMIT + 1, 15)] {
+    for (source, size, status, line) in [
+        (
+            NONE,
+            1_048_576,
+            0,
+            "a: finished after 0 steps, 2 instructions\n",
+        ),
+        (NONE, 1_048_577, 10, "limit: source\n"),
+        ("", 1_048_576, 15, "not built\n"),
+        ("", 1_048_577, 10, "limit: source\n"),
+    ] {
         let blanks = vec![in alloc; b' '; size - source.len()]?;
-        let mut text = Vec::from_slice(alloc, source)?;
+        let mut text = Vec::from_slice(alloc, source.as_bytes())?;
         text.extend_from_slice(blanks.as_slice())?;
-        let mut words = Vec::new(alloc);
-        words.push(String::from_str(alloc, "run")?)?;
-        words.push(String::from_str(alloc, "x.ac")?)?;
+        let words = words_of(alloc, &["run", "x.ac"])?;
         let mut library = one_text(alloc, text.as_slice())?;
         let mut sink = SafeSink::new(alloc)?;
         let outcome = ac_main(alloc, words.as_slice(), &mut library, &mut sink);
         assert_eq!(rt; outcome.status.number, status, "of {size} bytes");
+        assert_eq!(rt; sink.taken(), line.as_bytes(), "of {size} bytes");
     }
     Ok(())
 }
@@ -272,24 +401,23 @@ fn sizes(rt: HostRuntime) -> Result<(), Fail> {
 #[test]
 fn bounds(rt: HostRuntime) -> Result<(), Fail> {
     let alloc = rt.alloc();
-    let two = "core a(f); async void f() { printf(\"%d\\n\", 1); printf(\"%d\\n\", 2); }";
     for (source, steps, status, report) in [
         (
-            two,
+            TWO,
             1,
             6,
             "a: out-of-steps after 1 steps, 3 instructions\n1\n",
         ),
-        (two, 0, 6, "a: out-of-steps after 0 steps, 0 instructions\n"),
+        (TWO, 0, 6, "a: out-of-steps after 0 steps, 0 instructions\n"),
         (
-            two,
+            TWO,
             2,
             0,
             "a: finished after 2 steps, 8 instructions\n1\n2\n",
         ),
     ] {
-        let Some(done) = execute(alloc, source.as_bytes(), steps)? else {
-            assert!(rt; false, "{source} is built");
+        let Executed::Done(done) = execute(alloc, source.as_bytes(), steps)? else {
+            assert!(rt; false, "{source} is run");
             continue;
         };
         assert_eq!(rt;
@@ -317,8 +445,8 @@ fn sums(rt: HostRuntime) -> Result<(), Fail> {
         let source = format!(in alloc;
             "core a(f); async void f() {{ printf(\"%d\\n\", {sum}); }}"
         )?;
-        let Some(done) = execute(alloc, source.as_bytes(), 9)? else {
-            assert!(rt; false, "{sum} is built");
+        let Executed::Done(done) = execute(alloc, source.as_bytes(), 9)? else {
+            assert!(rt; false, "{sum} is run");
             continue;
         };
         let Some(end) = done.ended.cores.as_slice().first() else {
@@ -326,6 +454,94 @@ fn sums(rt: HostRuntime) -> Result<(), Fail> {
         };
         let line = format!(in alloc; "{value}\n")?;
         assert_eq!(rt; end.core.output.as_slice(), line.as_bytes(), "of {sum}");
+    }
+    Ok(())
+}
+
+// Bodies with variables, and the whole report of each.
+#[test]
+fn variables(rt: HostRuntime) -> Result<(), Fail> {
+    let alloc = rt.alloc();
+    let four = "int x = 5; int y; y = x - 2; printf(\"%d\\n\", y - x);";
+    let six =
+        "int x = 1; int y = 2; x = x*10 + y; y = x - y; printf(\"%d\\n\", x); printf(\"%d\\n\", y);";
+    for (body, steps, report) in [
+        (four, 9, "a: finished after 4 steps, 18 instructions\n-2\n"),
+        (four, 4, "a: finished after 4 steps, 18 instructions\n-2\n"),
+        (four, 3, "a: out-of-steps after 3 steps, 11 instructions\n"),
+        (four, 1, "a: out-of-steps after 1 steps, 3 instructions\n"),
+        (
+            six,
+            6,
+            "a: finished after 6 steps, 26 instructions\n12\n10\n",
+        ),
+        (
+            "int x = 1; x = 2; int y; printf(\"%d\\n\", y);",
+            9,
+            "a: finished after 4 steps, 14 instructions\n0\n",
+        ),
+        (
+            "int a = 3; int f = a*a; printf(\"%d\\n\", f);",
+            9,
+            "a: finished after 3 steps, 13 instructions\n9\n",
+        ),
+    ] {
+        let source = format!(in alloc; "core a(f); async void f() {{ {body} }}")?;
+        let Executed::Done(done) = execute(alloc, source.as_bytes(), steps)? else {
+            assert!(rt; false, "{source} is run");
+            continue;
+        };
+        assert_eq!(rt;
+            done.report.as_slice(),
+            report.as_bytes(),
+            "of {body} with {steps} steps"
+        );
+    }
+    Ok(())
+}
+
+// The least broken rule of a program, and the first byte of its node.
+#[test]
+fn rules(rt: HostRuntime) -> Result<(), Fail> {
+    let alloc = rt.alloc();
+    for (source, line) in [
+        ("core a(g); async void f() { }", "rule C2 at 0\n"),
+        ("core f(f); async void f() { }", "rule C4 at 0\n"),
+        ("core a(a); async void f() { }", "rule C4 at 0\n"),
+        (" core a(f); async void a() { }", "rule C2 at 1\n"),
+        ("core a(f); async void f() { x = 1; }", "rule C2 at 28\n"),
+        (
+            "core a(f); async void f() { int x; int x; }",
+            "rule C1 at 35\n",
+        ),
+        (
+            "core a(f); async void f() { int x; int x = y; }",
+            "rule C1 at 35\n",
+        ),
+        (
+            "core a(f); async void f() { int x = x; }",
+            "rule C2 at 36\n",
+        ),
+        (
+            "core a(f); async void f() { x = 1; int x; int x; }",
+            "rule C2 at 28\n",
+        ),
+        (
+            "core a(f); async void f() { printf(\"%d\\n\", a); }",
+            "rule C4 at 43\n",
+        ),
+        ("core a(f); async void f() { f = 1; }", "rule C4 at 28\n"),
+        (
+            "core a(f); async void f() { int x; x = 1 + x*a; }",
+            "rule C4 at 45\n",
+        ),
+    ] {
+        let owned = words_of(alloc, &["run", "x.ac"])?;
+        let mut library = one_text(alloc, source.as_bytes())?;
+        let mut sink = MemorySink::new(alloc, 999)?;
+        let outcome = ac_main(alloc, owned.as_slice(), &mut library, &mut sink);
+        assert_eq!(rt; outcome.status.number, 3, "of {source}");
+        assert_eq!(rt; sink.taken(), line.as_bytes(), "of {source}");
     }
     Ok(())
 }

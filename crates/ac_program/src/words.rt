@@ -1,7 +1,12 @@
 //! The words of a command line.
 
-ghost use Rattle.std.specs.Prelude.{◌≡◌, ℕ, List, map, string_bytes, IsTrue, IsNone, IfSome, ◌↔◌};
-ghost use Rattle.ac_program.specs.Words.{IsPlain, IsRun};
+ghost use Rattle.std.specs.Prelude.{◌≡◌, ℕ, List, map, string_bytes, IsNone, IfSome};
+ghost use Rattle.ac_program.specs.Words.{IsRun};
+
+mod bound;
+mod scan;
+
+use scan::read_arguments;
 
 /// The number of steps that each core may use where the words give none.
 pub const USUAL_STEPS: u32 = 100_000;
@@ -13,28 +18,17 @@ pub struct Call<'a> {
     pub steps: u32,
 }
 
-/// Reads the words after the program's name: `run FILE`, where FILE does not start with `-`. It
-/// gives none exactly where they are not of this form.
+/// Reads the words after the program's name, which are `run`, one operand FILE and at most one
+/// bound on steps, as `--steps N` or `--steps=N`. It gives none exactly where they are not of this
+/// form, and else the only call that they form.
 pub fn read_words(words: &[String]) -> Option<Call<'_>>
-    ensures usage { IsNone result → (file : List ℕ) → IsRun (map string_bytes words.now) file → ⊥ }
-    ensures call { IfSome result (λ call. IsRun (map string_bytes words.now) call.file.now) }
-    ensures steps { IfSome result (λ call. call.steps ≡ USUAL_STEPS) }
+    ensures usage { IsNone result → (file : List ℕ) (steps : ℕ) → IsRun (map string_bytes words.now) file steps → ⊥ }
+    ensures call { IfSome result (λ call. IsRun (map string_bytes words.now) call.file.now call.steps) }
+    ensures only { IfSome result (λ call. (file : List ℕ) (steps : ℕ) → IsRun (map string_bytes words.now) file steps → (file ≡ call.file.now) × (steps ≡ call.steps)) }
 {
-    let [command, file] = words else {
-        return None;
-    };
-    let file = file.as_str();
-    if command.as_str() != "run" || !is_plain(file) {
+    let (command, others) = words.split_first()?;
+    if command.as_str() != "run" {
         return None;
     }
-    Some(Call {
-        file,
-        steps: USUAL_STEPS,
-    })
-}
-
-fn is_plain(word: &str) -> bool
-    ensures { IsTrue result ↔ IsPlain word.now }
-{
-    word.as_bytes().first() != Some(&b'-')
+    read_arguments(others)
 }

@@ -1,43 +1,68 @@
-use Rattle.std.proofs.Common.{◌≡◌, ◌≢◌, ◌≤◌, ℕ, List, map, string_bytes, length, Err, None, Some, Option, refl, sym, ap, ◌∙◌, subst, arith}
-use Rattle.ac_program.specs.declared.running.Ended.{Ended}
-use Rattle.ac_program.specs.Lines.{usage_line, library_line, not_built_line}
-use Rattle.ac_program.specs.Outcome.{Seen, IsWell, IsDue, IsDueOf}
-use Rattle.ac_program.specs.Outcome.IsDue.{usage, library_fault, too_long, source}
-use Rattle.ac_program.proofs.Endings.{other_of, whole_of, part_of, whole_as, part_as}
+use Rattle.std.proofs.Common.{None, refl}
+use Rattle.ac_program.specs.Lines.{usage_line}
+use Rattle.ac_program.specs.Outcome.{IsDue, IsDueOfFile}
+use Rattle.ac_program.specs.Outcome.IsDue.{usage, runs}
+use Rattle.ac_program.proofs.Endings.{whole_of, part_of, whole_as, part_as}
+use Rattle.ac_program.proofs.Reasons.{due_at, is_too_long, is_unbuilt, is_refused, is_reported, over_limit, unbuilt, broken_rule, reported}
 use Rattle.ac_program.proofs.ac_main.Goals as goal
+
+pub returns-in_default-clause-whole : goal.returns-in_default-clause-whole
+returns-in_default-clause-whole g c = λ well _. whole_of (IsDue _ _) 1 c.refuse.result.status.number usage_line None c.refuse.result.run _ _ (usage refl refl refl (c.in_default.ensures.usage refl) refl refl) c.refuse.ensures.run c.refuse.ensures.status c.refuse.ensures.whole well
 
 pub returns-in_default-clause-part : goal.returns-in_default-clause-part
 returns-in_default-clause-part g c = part_of (IsDue _ _) 1 c.refuse.result.status.number usage_line None c.refuse.result.run _ _ (usage refl refl refl (c.in_default.ensures.usage refl) refl refl) c.refuse.ensures.run c.refuse.ensures.part
 
-pub returns-in-Err-Failed-clause-whole : goal.returns-in-Err-Failed-clause-whole
-returns-in-Err-Failed-clause-whole g c = let a = c.refuse-in-Err-Failed in let r = c.in-Err-Failed in
-    λ well _. whole_of (IsDue _ _) 7 a.result.status.number library_line None a.result.run _ _ (library_fault c.in-Some.call.file.now refl refl refl c.in-Some.ensures.call r.ensures.count (r.ensures.failed (ap Err r.field-0-is))) a.ensures.run a.ensures.status a.ensures.whole well
+pub returns-in_default-clause-usage : goal.returns-in_default-clause-usage
+returns-in_default-clause-usage g c = λ _. c.in_default.ensures.usage refl
 
-pub returns-in-Err-Failed-clause-part : goal.returns-in-Err-Failed-clause-part
-returns-in-Err-Failed-clause-part g c = let a = c.refuse-in-Err-Failed in let r = c.in-Err-Failed in
-    part_of (IsDue _ _) 7 a.result.status.number library_line None a.result.run _ _ (library_fault c.in-Some.call.file.now refl refl refl c.in-Some.ensures.call r.ensures.count (r.ensures.failed (ap Err r.field-0-is))) a.ensures.run a.ensures.part
+pub returns-in_default-clause-only_too_long : goal.returns-in_default-clause-only_too_long
+returns-in_default-clause-only_too_long g c = λ file text steps is_run told undisturbed. absurd (c.in_default.ensures.usage refl file steps is_run)
 
-pub returns-in-Err-TooLong-clause-whole : goal.returns-in-Err-TooLong-clause-whole
-returns-in-Err-TooLong-clause-whole g c = let a = c.refuse-in-Err-TooLong in let r = c.in-Err-TooLong in
-    λ well _. whole_of (IsDue _ _) 15 a.result.status.number not_built_line None a.result.run _ _ (too_long c.in-Some.call.file.now refl refl refl c.in-Some.ensures.call (record { once = r.ensures.count; faults = r.ensures.well (λ e. cc (e, r.field-0-is)) }) (r.ensures.long (ap Err r.field-0-is))) a.ensures.run a.ensures.status a.ensures.whole well
+pub returns-in_default-clause-only_not_built : goal.returns-in_default-clause-only_not_built
+returns-in_default-clause-only_not_built g c = λ file text steps is_run told undisturbed. absurd (c.in_default.ensures.usage refl file steps is_run)
 
-pub returns-in-Err-TooLong-clause-part : goal.returns-in-Err-TooLong-clause-part
-returns-in-Err-TooLong-clause-part g c = let a = c.refuse-in-Err-TooLong in let r = c.in-Err-TooLong in
-    part_of (IsDue _ _) 15 a.result.status.number not_built_line None a.result.run _ _ (too_long c.in-Some.call.file.now refl refl refl c.in-Some.ensures.call (record { once = r.ensures.count; faults = r.ensures.well (λ e. cc (e, r.field-0-is)) }) (r.ensures.long (ap Err r.field-0-is))) a.ensures.run a.ensures.part
+pub returns-in_default-clause-only_reported : goal.returns-in_default-clause-only_reported
+returns-in_default-clause-only_reported g c = λ file text steps is_run told undisturbed. absurd (c.in_default.ensures.usage refl file steps is_run)
 
-pub returns-in-Ok-clause-whole : goal.returns-in-Ok-clause-whole
-returns-in-Ok-clause-whole g c = let r = c.in-Ok in
-    λ well kept. whole_as (IsDueOf c.as_slice.result.now c.from.result) (IsDue _ _)
-    (λ n t run due. source c.in-Some.call.file.now r.source c.in-Some.ensures.call (record { once = r.ensures.count; faults = r.ensures.well (λ e. cc (e)) }) r.ensures.whole r.ensures.short
-    (subst (λ bytes. IsDueOf bytes 100000 n t run) c.as_slice.ensures (subst (λ bound. IsDueOf c.as_slice.result.now bound n t run) (c.from.ensures ∙ c.in-Some.ensures.steps) due)))
-    c.run_source.result.run _ _ c.run_source.result.status.number (c.run_source.ensures.whole well kept)
+pub returns-clause-whole : goal.returns-clause-whole
+returns-clause-whole g c =
+    λ well kept. whole_as (IsDueOfFile c.in-Some.call.file.now c.from.result _) (IsDue _ _)
+    (λ n t run due. runs c.in-Some.call.file.now c.in-Some.call.steps c.in-Some.ensures.call (due_at c.in-Some.call.file.now c.from.result c.in-Some.call.steps _ n run c.from.ensures t due))
+    c.run_file.result.run _ _ c.run_file.result.status.number (c.run_file.ensures.whole well kept)
 
-pub returns-in-Ok-clause-part : goal.returns-in-Ok-clause-part
-returns-in-Ok-clause-part g c = let r = c.in-Ok in
-    λ failed. part_as (IsDueOf c.as_slice.result.now c.from.result) (IsDue _ _)
-    (λ n t run due. source c.in-Some.call.file.now r.source c.in-Some.ensures.call (record { once = r.ensures.count; faults = r.ensures.well (λ e. cc (e)) }) r.ensures.whole r.ensures.short
-    (subst (λ bytes. IsDueOf bytes 100000 n t run) c.as_slice.ensures (subst (λ bound. IsDueOf c.as_slice.result.now bound n t run) (c.from.ensures ∙ c.in-Some.ensures.steps) due)))
-    c.run_source.result.run _ _ (c.run_source.ensures.part failed)
+pub returns-clause-part : goal.returns-clause-part
+returns-clause-part g c =
+    λ failed. part_as (IsDueOfFile c.in-Some.call.file.now c.from.result _) (IsDue _ _)
+    (λ n t run due. runs c.in-Some.call.file.now c.in-Some.call.steps c.in-Some.ensures.call (due_at c.in-Some.call.file.now c.from.result c.in-Some.call.steps _ n run c.from.ensures t due))
+    c.run_file.result.run _ _ (c.run_file.ensures.part failed)
 
-pub returns-in_default-clause-opened : goal.returns-in_default-clause-opened
-returns-in_default-clause-opened g c = λ is. absurd (other_of 1 11 c.refuse.result.status.number (λ e. cc (e)) (λ e. cc (e)) c.refuse.ensures.status is)
+pub returns-clause-too_long : goal.returns-clause-too_long
+returns-clause-too_long g c = is_too_long _ c.in-Some.call.file.now c.from.result c.in-Some.call.steps _ c.run_file.result.status.number c.run_file.result.run _ _ c.in-Some.ensures.call c.from.ensures c.run_file.ensures.whole
+
+pub returns-clause-not_built : goal.returns-clause-not_built
+returns-clause-not_built g c = is_unbuilt _ c.in-Some.call.file.now c.from.result c.in-Some.call.steps _ c.run_file.result.status.number c.run_file.result.run _ _ c.in-Some.ensures.call c.from.ensures c.run_file.ensures.whole
+
+pub returns-in_default-clause-only_broken : goal.returns-in_default-clause-only_broken
+returns-in_default-clause-only_broken g c = λ file text steps is_run told undisturbed. absurd (c.in_default.ensures.usage refl file steps is_run)
+
+pub returns-clause-broken : goal.returns-clause-broken
+returns-clause-broken g c = is_refused _ c.in-Some.call.file.now c.from.result c.in-Some.call.steps _ c.run_file.result.status.number c.run_file.result.run _ _ c.in-Some.ensures.call c.from.ensures c.run_file.ensures.whole
+
+pub returns-clause-only_broken : goal.returns-clause-only_broken
+returns-clause-only_broken g c = λ file text steps is_run told.
+    broken_rule c.in-Some.call.file.now file c.from.result _ c.run_file.result.status.number c.run_file.result.run _ _ c.run_file.ensures.whole text (c.in-Some.ensures.only file steps is_run).0 told
+
+pub returns-clause-reported : goal.returns-clause-reported
+returns-clause-reported g c = is_reported _ c.in-Some.call.file.now c.from.result c.in-Some.call.steps _ c.run_file.result.status.number c.run_file.result.run _ _ c.in-Some.ensures.call c.from.ensures c.run_file.ensures.whole
+
+pub returns-clause-only_too_long : goal.returns-clause-only_too_long
+returns-clause-only_too_long g c = λ file text steps is_run told.
+    over_limit c.in-Some.call.file.now file c.from.result _ c.run_file.result.status.number c.run_file.result.run _ _ c.run_file.ensures.whole text (c.in-Some.ensures.only file steps is_run).0 told
+
+pub returns-clause-only_not_built : goal.returns-clause-only_not_built
+returns-clause-only_not_built g c = λ file text steps is_run told.
+    unbuilt c.in-Some.call.file.now file c.from.result _ c.run_file.result.status.number c.run_file.result.run _ _ c.run_file.ensures.whole text (c.in-Some.ensures.only file steps is_run).0 told
+
+pub returns-clause-only_reported : goal.returns-clause-only_reported
+returns-clause-only_reported g c = λ file text steps is_run told.
+    reported c.in-Some.call.file.now file c.from.result _ c.run_file.result.status.number c.run_file.result.run _ _ c.run_file.ensures.whole text (c.in-Some.ensures.only file steps is_run).0 told
