@@ -1,6 +1,6 @@
 -- What the loops of the compiler keep.
 use Rattle.std.proofs.Common.{◌≡◌, ℕ, suc, ◌+◌, ◌<◌, ◌≤◌, List, [], ◌∷◌, ◌++◌, length, drop, get_or, Option, Some, None, refl, sym, ap, ◌∙◌, subst, arith, append_assoc, append-nil, length-append, drop-cons, add-one}
-use Rattle.std.specs.Prelude.{map}
+use Rattle.std.specs.Prelude.{map, All}
 use Rattle.std.specs.Option.{option_map}
 use Rattle.std.proofs.Math.ListN.{drop_of_length-le}
 use Rattle.ac_types.specs.Resolved.{Operation, Expression, Combine, Command, Print}
@@ -8,6 +8,9 @@ use Rattle.ac_tree.specs.declared.expr.Link.{Link}
 use Rattle.ac_tree.specs.declared.expr.Expr.{Expr}
 use Rattle.ac_tree.specs.declared.expr.Expr.TheVariants as e
 use Rattle.ac_types.proofs.Folds.{chain_is, link_is}
+use Rattle.ac_types.proofs.Parted.{int_slots, assign_slots, print_slots}
+use Rattle.ac_compile.specs.Unbuilt.{stmt_at, IsBuilt}
+use Rattle.ac_compile.proofs.Meant.{no_node}
 use Rattle.ac_tree.specs.declared.stmt.Stmt.{Stmt}
 use Rattle.ac_tree.specs.declared.stmt.Stmt.TheVariants as st
 use Rattle.stack_code.specs.declared.instr.Instr.TheVariants as i
@@ -187,10 +190,15 @@ body_done start stmts scopes slot rest instrs texts r k = whole_body (resolved_f
 pub slots_done : (start : List (List Declaration)) (stmts : List Stmt) (scopes : List (List Declaration)) (slot : ℕ) (rest : List Stmt) (instrs : List Instr) (texts : List (List ℕ)) → rest ≡ [] → KeepsBody start stmts scopes slot rest instrs texts → slot ≡ body_slots stmts
 slots_done start stmts scopes slot rest instrs texts r k = let same = k.slots in let none : body_slots rest ≡ 0 = ap body_slots r in omega (arith, same, none)
 
--- a statement takes one slot at most
-pub slots_few : (x : Stmt) → slots_of x ≤ 1
-slots_few (st.Int at name value) = omega arith
-slots_few _ = omega arith
+-- a statement that is built takes one slot at most
+pub slots_few : (x : Stmt) → IsBuilt x → slots_of x ≤ 1
+slots_few (st.Int at name value) u = let one = int_slots at name value in omega (arith, one)
+slots_few (st.Assign at place value) u = let none = assign_slots at place value in omega (arith, none)
+slots_few (st.Print at format args) u = let none = print_slots at format args in omega (arith, none)
+slots_few x u = absurd (no_node (stmt_at x) [] u)
+
+pub built_at : (stmts : List Stmt) (i : ℕ) (x : Stmt) → All IsBuilt stmts → i < length stmts → x ≡ get_or stmts i x → IsBuilt x
+built_at stmts i x h lt is = subst IsBuilt (sym is) (h i x lt)
 
 pub stmts_from : (stmts : List Stmt) (i : ℕ) (x : Stmt) → i < length stmts → x ≡ get_or stmts i x → drop i stmts ≡ x ∷ drop (i + 1) stmts
 stmts_from stmts i x lt is = drop-cons stmts i x lt ∙ ap (λ y. y ∷ drop (suc i) stmts) (sym is) ∙ rw add-one

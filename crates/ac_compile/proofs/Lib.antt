@@ -1,3 +1,7 @@
+pub mod Founds
+pub mod Meant
+pub mod Forms
+pub mod Smalls
 pub mod Placed
 pub mod Agrees
 pub mod Fitting

@@ -1,5 +1,5 @@
 -- The code of a program has the same runs as its source, and is valid.
-use Rattle.std.proofs.Common.{◌≡◌, ℕ, zero, suc, ◌+◌, ◌<◌, ◌⊎◌, inl, inr, List, [], ◌∷◌, ◌++◌, length, Option, Some, None, refl, sym, ap, ◌∙◌, subst, arith, append-nil, append_assoc, length-append, ◌↔◌}
+use Rattle.std.proofs.Common.{◌≡◌, ℕ, zero, suc, ◌+◌, ◌<◌, List, [], ◌∷◌, ◌++◌, length, Option, Some, None, refl, sym, ap, ◌∙◌, subst, arith, append-nil, append_assoc, length-append, ◌↔◌}
 use Rattle.std.specs.Prelude.{slice_get, slice_index_or, IsSome}
 use Rattle.std.proofs.Math.Seq.{get_or-append_seam}
 use Rattle.ac_base.specs.declared.ends.CoreEnd.{CoreEnd}
@@ -9,11 +9,16 @@ use Rattle.core_state.specs.Moves.{EndsAs}
 use Rattle.ac_types.specs.Resolved.{Command, Set, Print, Function, Core, Resolved}
 use Rattle.ac_types.specs.declared.meaning.Meaning.{Meaning}
 use Rattle.ac_types.specs.declared.meaning.Meaning.TheVariants as m
-use Rattle.ac_types.specs.Scopes.{in_scope, added, or_else, visible, top_scope}
-use Rattle.ac_types.proofs.Within.{IsBodyWithin, body_within, in_added}
+use Rattle.ac_types.specs.Scopes.{Declaration, in_scope, added, or_else, visible}
+use Rattle.ac_types.specs.Items.{outermost}
+use Rattle.ac_types.specs.Reached.{function_number}
+use Rattle.ac_types.proofs.Within.{AllMean, IsBodyWithin, body_within}
+use Rattle.ac_tree.specs.declared.stmt.Stmt.{Stmt}
 use Rattle.ac_tree.specs.declared.item.Item.{Item}
 use Rattle.ac_tree.specs.declared.item.Item.TheVariants as it
-use Rattle.ac_types.specs.Resolution.{body_slots, function_of, one_core, resolved_in, resolved}
+use Rattle.ac_tree.specs.declared.item.Function.{Function as Function_}
+use Rattle.ac_tree.specs.declared.item.Param.{Param}
+use Rattle.ac_types.specs.Resolution.{resolved_from, without, resolved_body, body_slots, entering, resolved_in, resolved}
 use Rattle.ac_semantics.specs.Source.{step, first_state}
 use Rattle.ac_semantics.specs.Replay.{Enters, Replays}
 use Rattle.stack_code.specs.declared.instr.Instr.{Instr}
@@ -28,6 +33,7 @@ use Rattle.ac_compile.proofs.Placed.{HasAt, has_all}
 use Rattle.stack_code.specs.Valid.{IsValid}
 use Rattle.ac_compile.proofs.Agrees.{TextAt, TextsAt, same_body}
 use Rattle.ac_compile.proofs.Fitting.{Finds, body_finds, all_fit}
+use Rattle.ac_compile.proofs.Forms.{IsFirst, core_is_first, function_is_first, two_mean}
 
 -- ---- the texts of a body, after others
 
@@ -144,12 +150,28 @@ abbrev pub entered_at : List ℕ → ℕ → Entered
 entered_at name slots = record { name = name; at = 0; slots = slots }
 
 -- the parts that the compiler has made
-pub made : (name function : List ℕ) (slots : ℕ) (o : Option (List Command)) (instrs : List Instr) (functions : List Entered) (texts : List (List ℕ)) (entries : List ℕ) (names : List (List ℕ)) →
+made : (name function : List ℕ) (slots : ℕ) (o : Option (List Command)) (instrs : List Instr) (functions : List Entered) (texts : List (List ℕ)) (entries : List ℕ) (names : List (List ℕ)) →
     IsFunction o instrs texts → functions ≡ entered_at function slots ∷ [] → entries ≡ 0 ∷ [] → names ≡ name ∷ [] →
     IsCore name function slots o (record { instrs = instrs; functions = functions; texts = texts; entries = entries; names = names })
 made name function slots None instrs functions texts entries names c f e n = tt
 made name function slots (Some body) instrs functions texts entries names c f e n =
     rw (c.0 ∙ sym (append-nil (body_code 0 body ++ last_code)), c.1 ∙ sym (append-nil (body_texts body)), f, e, n) refl
+
+-- a function with parameters has no meaning
+function_is : (f : Function_) (scopes : List (List Declaration)) (instrs : List Instr) (texts : List (List ℕ)) → IsFunction (resolved_from ([] ∷ scopes) 0 f.body) instrs texts → IsFunction (resolved_body scopes f) instrs texts
+function_is f scopes instrs texts h = by f.params where
+  by : (ps : List Param) → IsFunction (without ps (resolved_from ([] ∷ scopes) 0 f.body)) instrs texts
+  by [] = h
+  by (x ∷ xs) = tt
+
+-- the parts from what their makers say
+pub core_made : (name : List ℕ) (f : Function_) (top scopes : List (List Declaration)) (b : List Stmt) (instrs : List Instr) (functions : List Entered) (texts : List (List ℕ)) (entries : List ℕ) (names : List (List ℕ)) (function core : List ℕ) (slots : ℕ) →
+    scopes ≡ top → b ≡ f.body → IsFunction (resolved_from ([] ∷ scopes) 0 b) instrs texts → slots ≡ body_slots b → functions ≡ entered_at function slots ∷ [] → function ≡ f.name → entries ≡ 0 ∷ [] → names ≡ core ∷ [] → core ≡ name →
+    IsCore name f.name (body_slots f.body) (resolved_body top f) (record { instrs = instrs; functions = functions; texts = texts; entries = entries; names = names })
+core_made name f top scopes b instrs functions texts entries names function core slots s e h z fs g es ns k =
+    let whole = subst (λ x. IsFunction (resolved_from ([] ∷ top) 0 x) instrs texts) e (subst (λ x. IsFunction (resolved_from ([] ∷ x) 0 b) instrs texts) s h) in
+    let entered = fs ∙ ap (λ x. entered_at x slots ∷ []) g ∙ ap (λ n. entered_at f.name n ∷ []) (z ∙ ap body_slots e) in
+    made name f.name (body_slots f.body) (resolved_body top f) instrs functions texts entries names (function_is f top instrs texts whole) entered es (ns ∙ ap (λ x. x ∷ []) k)
 
 pub made_valid : (name function : List ℕ) (slots : ℕ) (o : Option (List Command)) (code : Parts) → IsSome o → ((body : List Command) → o ≡ Some body → IsBodyWithin slots body) → IsCore name function slots o code → IsValid code
 made_valid name function slots None parts s w c = absurd (cc (s))
@@ -167,24 +189,15 @@ record IsOne (meaning : Resolved) : Type 0 where
   is : meaning ≡ alone name function slots body
 
 -- the number of the only function
-only_number_is : (name called entry : List ℕ) (number : ℕ) → function_of (visible entry (added called (m.Function 0) (added name (m.Core 0) []) ∷ [])) ≡ Some number → number ≡ 0
-only_number_is name called entry number e = meant (in_scope entry (added called (m.Function 0) (added name (m.Core 0) []))) (in_added entry called (m.Function 0) (added name (m.Core 0) [])) (in_added entry name (m.Core 0) []) e where
-  zero_is : (o : Option Meaning) → o ≡ Some (m.Function 0) → function_of (or_else o None) ≡ Some number → number ≡ 0
-  zero_is o h q = let both : Some 0 ≡ Some number = sym (ap (λ x. function_of (or_else x None)) h) ∙ q in cc
-
-  core_is : (o : Option Meaning) → o ≡ Some (m.Core 0) → function_of (or_else o None) ≡ Some number → number ≡ 0
-  core_is o h q = let no_function : None ≡ Some number = sym (ap (λ x. function_of (or_else x None)) h) ∙ q in cc
-
-  none_is : (o : Option Meaning) → o ≡ None → function_of (or_else o None) ≡ Some number → number ≡ 0
-  none_is o h q = let no_function : None ≡ Some number = sym (ap (λ x. function_of (or_else x None)) h) ∙ q in cc
-
-  meant : (o : Option Meaning) → (o ≡ in_scope entry (added name (m.Core 0) [])) ⊎ (o ≡ Some (m.Function 0)) → (in_scope entry (added name (m.Core 0) []) ≡ None) ⊎ (in_scope entry (added name (m.Core 0) []) ≡ Some (m.Core 0)) → function_of (or_else o None) ≡ Some number → number ≡ 0
-  meant o (inr h) k q = zero_is o h q
-  meant o (inl h) (inl k) q = none_is o (h ∙ k) q
-  meant o (inl h) (inr k) q = core_is o (h ∙ k) q
+only_number_is : (names : List Declaration) → AllMean IsFirst names → (entry : List ℕ) (number : ℕ) → function_number (visible entry (names ∷ [])) ≡ Some number → number ≡ 0
+only_number_is names h entry number e = h entry (m.Function number) (meant (in_scope entry names) e) number refl where
+  meant : (o : Option Meaning) → function_number (or_else o None) ≡ Some number → o ≡ Some (m.Function number)
+  meant (Some (m.Function n)) q = let same : n ≡ number = cc in ap (λ k. Some (m.Function k)) same
+  meant (Some other) q = cc
+  meant None q = cc
 
 one_meaning : (name function : List ℕ) (slots : ℕ) (entry : Option ℕ) (o : Option (List Command)) (meaning : Resolved) → ((number : ℕ) → entry ≡ Some number → number ≡ 0) → ((body : List Command) → o ≡ Some body → IsBodyWithin slots body) →
-    one_core name function slots entry o ≡ Some meaning → IsOne meaning
+    entering name function slots entry o ≡ Some meaning → IsOne meaning
 one_meaning name function slots (Some number) (Some body) meaning n w e = record {
   name = name;
   function = function;
@@ -198,9 +211,13 @@ one_meaning name function slots (Some number) (Some body) meaning n w e = record
 one_meaning name function slots (Some number) None meaning n w e = cc
 one_meaning name function slots None o meaning n w e = cc
 
-one_items : (items : List Item) (meaning : Resolved) → resolved_in (top_scope items) items ≡ Some meaning → IsOne meaning
+one_items : (items : List Item) (meaning : Resolved) → resolved_in (outermost items) items ≡ Some meaning → IsOne meaning
 one_items (it.Core at name entry ∷ it.Function f ∷ []) meaning e =
-    one_meaning name f.name (body_slots f.body) _ _ meaning (only_number_is name f.name entry) (body_within (it.Core at name entry ∷ it.Function f ∷ []) f.body) e
+    one_meaning name f.name (body_slots f.body) _ _ meaning (only_number_is (added f.name (m.Function 0) (added name (m.Core 0) [])) (two_mean IsFirst name f.name (m.Core 0) (m.Function 0) (core_is_first 0) function_is_first) entry)
+    (body_within (it.Core at name entry ∷ it.Function f ∷ []) f) e
+one_items (it.Function f ∷ it.Core at name entry ∷ []) meaning e =
+    one_meaning name f.name (body_slots f.body) _ _ meaning (only_number_is (added name (m.Core 0) (added f.name (m.Function 0) [])) (two_mean IsFirst f.name name (m.Function 0) (m.Core 0) function_is_first (core_is_first 0)) entry)
+    (body_within (it.Function f ∷ it.Core at name entry ∷ []) f) e
 one_items _ meaning e = cc
 
 same_one : (program : Program) (code : Parts) (meaning : Resolved) → IsOne meaning → resolved program ≡ Some meaning → code ≡ code_of meaning → IsSame code program

@@ -1,5 +1,8 @@
 -- What the compiler writes for a part of the tree, where that part has a meaning.
 use Rattle.std.specs.Prelude.{◌≡◌, ℕ, List, [], ◌∷◌, ◌++◌, length, Option, None, Some}
+use Rattle.ac_tree.specs.declared.item.Item.{Item}
+use Rattle.ac_tree.specs.declared.item.Item.TheVariants as i
+use Rattle.ac_tree.specs.declared.item.Function.{Function}
 use Rattle.ac_types.specs.Resolved.{Operation, Expression, Command, Resolved}
 use Rattle.ac_types.specs.Resolution.{chained}
 use Rattle.stack_code.specs.Parts.{Parts}
@@ -36,6 +39,11 @@ IsBody (Some cs) instrs texts = (instrs ≡ body_code 0 cs) × (texts ≡ body_t
 abbrev pub IsFunction : Option (List Command) → List Instr → List (List ℕ) → Type 0
 IsFunction None instrs texts = Unit {0}
 IsFunction (Some cs) instrs texts = (instrs ≡ body_code 0 cs ++ last_code) × (texts ≡ body_texts cs)
+
+abbrev pub first_function : List Item → Option Function
+first_function [] = None
+first_function (i.Function f ∷ items) = Some f
+first_function (_ ∷ items) = first_function items
 
 -- one core, which enters the only function
 abbrev pub alone : List ℕ → List ℕ → ℕ → List Command → Resolved

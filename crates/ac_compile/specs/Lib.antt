@@ -1,3 +1,6 @@
+pub mod Unbuilt
+pub mod Found
+pub mod Short
 pub mod Translation
 pub mod Same
 pub mod Emitted

@@ -5,7 +5,8 @@ ghost use Rattle.std.specs.Option.{option_map};
 ghost use Rattle.ac_types.specs.Resolved.{Variable, Print};
 ghost use Rattle.ac_types.specs.Scopes.{visible, declared};
 ghost use Rattle.ac_types.specs.Resolution.{operation_of, slot_of, resolved_expr, resolved_link, resolved_args, name_of, place_of, initial, set_of, resolved_stmt, slots_of, scopes_after, resolved_from, body_slots};
-ghost use Rattle.ac_types.specs.Short.{IsShortStmt, IsShortBody};
+ghost use Rattle.ac_compile.specs.Short.{IsShortStmt, IsShortBody};
+ghost use Rattle.ac_compile.specs.Unbuilt.{IsBuilt};
 ghost use Rattle.ac_compile.specs.Translation.{instr_of};
 ghost use Rattle.ac_compile.specs.Emitted.{AddsExpr, AddsOperation, AddsLinks, AddsArgs, AddsCommand, IsBody};
 
@@ -58,7 +59,7 @@ fn slot_named(scopes: &Scopes, name: &Name) -> Option<u32>
     ensures { result ≡ slot_of (visible name.now scopes.now) }
 {
     match scopes.find(name) {
-        Some(Meaning::Variable(slot)) => Some(slot),
+        Some(Meaning::Local { depth: 0, slot }) => Some(slot),
         _ => None,
     }
 }
@@ -135,7 +136,7 @@ fn emit_int(
 ) -> Result<(), NoMemory>
     requires numbered { code.old.slots + 1 < 2 ^ 32 }
     ensures adds { OnOk result (AddsCommand (set_of (Some code.old.slots) (initial value.now scopes.old)) code.old.instrs.items code.old.texts.items code.new.instrs.items code.new.texts.items) }
-    ensures after { OnOk result (scopes.new ≡ declared name.now (Meaning.Variable code.old.slots) scopes.old) }
+    ensures after { OnOk result (scopes.new ≡ declared name.now (Meaning.Local 0 code.old.slots) scopes.old) }
     ensures slots { OnOk result (code.new.slots ≡ code.old.slots + 1) }
     ensures texts { code.new.texts ≡ code.old.texts }
 {
@@ -143,7 +144,7 @@ fn emit_int(
     put(&mut code.instrs, Instr::Step)?;
     emit_initial(&mut code.instrs, scopes, value)?;
     put(&mut code.instrs, Instr::Store(slot))?;
-    let _ = scopes.declare(name, Meaning::Variable(slot))?;
+    let _ = scopes.declare(name, Meaning::Local { depth: 0, slot })?;
     code.slots = slot + 1;
     Ok(())
 }
@@ -204,6 +205,7 @@ fn emit_stmt(
 ) -> Result<(), NoMemory>
     requires numbered { vec_len code.old.texts < 2 ^ 32 }
     requires slots { code.old.slots + 1 < 2 ^ 32 }
+    requires built { IsBuilt stmt.now }
     requires short { IsShortStmt stmt.now }
     ensures adds { OnOk result (AddsCommand (resolved_stmt scopes.old code.old.slots stmt.now) code.old.instrs.items code.old.texts.items code.new.instrs.items code.new.texts.items) }
     ensures after { OnOk result (scopes.new ≡ scopes_after scopes.old code.old.slots stmt.now) }
@@ -222,13 +224,14 @@ fn emit_stmt(
             format,
             args,
         } => emit_print(alloc, code, scopes, format, args),
-        _ => Ok(()),
+        _ => unreachable!(),
     }
 }
 
 /// The code of a body, whose declarations have a scope of their own within those given.
 pub fn emit_body(alloc: Global, mut scopes: Scopes, body: &[Stmt]) -> Result<BodyCode, NoMemory>
-    requires { IsShortBody body.now }
+    requires built { All IsBuilt body.now }
+    requires short { IsShortBody body.now }
     ensures code { IfOk result (λ code. IsBody (resolved_from ([] ∷ scopes) 0 body.now) code.instrs.items code.texts.items) }
     ensures slots { IfOk result (λ code. code.slots ≡ body_slots body.now) }
 {

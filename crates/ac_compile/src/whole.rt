@@ -1,15 +1,17 @@
 //! The code of a whole program.
 
-ghost use Rattle.std.specs.Prelude.{◌≡◌, ◌<◌, ◌^◌, [], ◌∷◌, length, IfOk, IsSome};
-ghost use Rattle.ac_types.specs.Scopes.{top_scope};
+ghost use Rattle.std.specs.Prelude.{◌≡◌, [], ◌∷◌, All, IfOk, IsSome};
+ghost use Rattle.std.specs.Option.{option_map};
+ghost use Rattle.ac_types.specs.Items.{outermost};
 ghost use Rattle.ac_types.specs.Resolution.{resolved_from, resolved_body, body_slots};
-ghost use Rattle.ac_types.specs.Short.{IsShortBody};
-ghost use Rattle.ac_compile.specs.Emitted.{IsFunction, IsCore};
+ghost use Rattle.ac_compile.specs.Short.{IsShortBody};
+ghost use Rattle.ac_compile.specs.Unbuilt.{IsBuilt};
+ghost use Rattle.ac_compile.specs.Emitted.{IsFunction, first_function, IsCore};
 
 use crate::emit::emit_body;
 use ac_base::{Bytes, List, Name, NoMemory};
 use ac_tree::{Function, Item, Stmt};
-use ac_types::{Scopes, top_level};
+use ac_types::{Checked, Scopes};
 use stack_code::{Code, Entered, Instr};
 use std::alloc::Global;
 
@@ -32,7 +34,8 @@ struct FunctionCode {
 
 // The code of a function, which gives 0 at its end.
 fn function_code(alloc: Global, scopes: Scopes, body: &[Stmt]) -> Result<FunctionCode, NoMemory>
-    requires { IsShortBody body.now }
+    requires built { All IsBuilt body.now }
+    requires short { IsShortBody body.now }
     ensures code { IfOk result (λ code. IsFunction (resolved_from ([] ∷ scopes) 0 body.now) code.instrs code.texts) }
     ensures slots { IfOk result (λ code. code.slots ≡ body_slots body.now) }
 {
@@ -46,20 +49,31 @@ fn function_code(alloc: Global, scopes: Scopes, body: &[Stmt]) -> Result<Functio
     })
 }
 
-/// The code of a core of that name that enters the only function. The items are those of the
-/// program, whose names are visible in the function.
+/// The first function.
+pub fn first_function(items: &[Item]) -> Option<&Function>
+    ensures { option_map (λ f. f.now) result ≡ first_function items.now }
+{
+    for item in items {
+        if let Item::Function(function) = item {
+            return Some(function);
+        }
+    }
+    None
+}
+
+/// The code of a core of that name that enters the only function of a program.
 pub fn core_code(
     alloc: Global,
-    items: &[Item],
+    checked: &Checked,
     name: &Name,
     function: &Function,
 ) -> Result<Code, NoMemory>
-    requires items { length items.now < 2 ^ 32 }
-    requires built { IsSome (resolved_body (top_scope items.now) function.now.body) }
+    requires meant { IsSome (resolved_body (outermost checked.now.items) function.now) }
+    requires built { All IsBuilt function.now.body }
     requires short { IsShortBody function.now.body }
-    ensures { IfOk result (λ code. IsCore name.now function.now.name (body_slots function.now.body) (resolved_body (top_scope items.now) function.now.body) code) }
+    ensures { IfOk result (λ code. IsCore name.now function.now.name (body_slots function.now.body) (resolved_body (outermost checked.now.items) function.now) code) }
 {
-    let scopes = top_level(alloc, items)?;
+    let scopes = checked.top_level(alloc)?;
     let code = function_code(alloc, scopes, function.body.as_slice())?;
     let entered = Entered {
         name: function.name.copy(alloc)?,

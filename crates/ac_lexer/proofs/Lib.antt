@@ -2,8 +2,6 @@ pub mod Values
 pub mod Runs
 pub mod Vocabulary
 pub mod Signs
-pub mod FirstPieces
-pub mod FirstWhole
 pub mod Quotes
 pub mod Comments
 pub mod Numbers

@@ -1,4 +1,3 @@
 pub mod Spelling
-pub mod First
 pub mod Tokens
 pub mod Reading

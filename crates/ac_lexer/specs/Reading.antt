@@ -13,7 +13,6 @@ use Rattle.ac_lexer.specs.Spelling.{is_blank, is_letter, is_name, is_digit, is_z
 use Rattle.ac_lexer.specs.declared.fault.LexFault.{LexFault}
 use Rattle.ac_lexer.specs.declared.fault.LexFault.TheVariants as l
 use Rattle.ac_lexer.specs.Tokens.{is_plain, escape_of, not_feed}
-use Rattle.ac_lexer.specs.First.{is_first, format_spelled, format_value}
 
 -- what a function returned is what reading gives, unless memory ran out
 abbrev pub Gives : Result Piece LexFault → Result Piece LexFault → Type 0
@@ -104,25 +103,6 @@ double_marks = m.OrOr ∷ m.AndAnd ∷ m.Shl ∷ m.Shr ∷ []
 -- the mark that is these two bytes
 unfoldable pub mark_of_two : ℕ → ℕ → Option Mark
 mark_of_two b c = if c == 61 then mark_among equal_marks b else (if c == b then mark_among double_marks b else None)
-
--- ---- the first language
-
-abbrev pub first_mark : Option Mark → Option Piece
-first_mark (Some m) = if is_first m then Some (token_piece (k.Mark m) 1) else None
-first_mark None = None
-
-unfoldable pub first_number : List ℕ → Option Piece
-first_number text = if nat_lt (value_of 0 text) (2 ^ 63) then (if starts is_zero text && nat_lt 1 (run is_digit text) then None
-    else (if starts is_letter (drop (run is_digit text) text) then None else Some (token_piece (k.Number (pos (value_of 0 text))) (run is_digit text)))) else None
-
-unfoldable pub first_format : List ℕ → Option Piece
-first_format text = if bytes_eq (take 6 text) format_spelled then Some (token_piece (k.Text format_value) 6) else None
-
--- what stands at the front, if anything does
-unfoldable pub first_piece : List ℕ → Option Piece
-first_piece [] = None
-first_piece (b ∷ bs) = if is_blank b then Some (gap_piece 1) else (if is_letter b then Some (name_at (b ∷ bs)) else (if is_digit b then first_number (b ∷ bs)
-    else (if b == 34 then first_format (b ∷ bs) else first_mark (mark_of_one b))))
 
 -- the tokens with one more, if one was found
 abbrev pub with_piece : List Token → ℕ → Piece → List Token

@@ -3,7 +3,6 @@
 
 mod bytes;
 mod fault;
-mod first;
 mod lexer;
 mod marks;
 mod piece;
@@ -12,7 +11,6 @@ mod token;
 mod words;
 
 pub use fault::LexFault;
-pub use first::lex_first;
 pub use lexer::lex;
 pub use token::{Kind, Mark, Token, Word};
 

@@ -1,3 +1,8 @@
-pub mod Grammar
-pub mod Reading
-pub mod Text
+pub mod Spelling
+pub mod SpellingOfStatements
+pub mod SpellingOfItems
+pub mod Reads
+pub mod ReadsExpressions
+pub mod ReadsStatements
+pub mod ReadsItems
+pub mod Places

@@ -1,13 +1,16 @@
-//! From the text of a program to its tree.
+//! From the tokens of a program to its tree.
 #![tactic(auto)]
 
-mod expression;
-mod parse;
-mod program;
-mod reader;
-mod statement;
+mod cursor;
+mod expressions;
+mod faults;
+mod forms;
+mod items;
+mod parser;
+mod statements;
 
-pub use parse::parse_first;
+pub use faults::SyntaxFault;
+pub use parser::parse;
 
 #[cfg(test)]
 mod tests;

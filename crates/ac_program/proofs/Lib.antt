@@ -1,8 +1,9 @@
+pub mod Answered
 pub mod Digits
 pub mod Endings
 pub mod Ends
-pub mod Lengths
 pub mod Names
 pub mod Reasons
+pub mod Refusals
 pub mod Scans
 pub mod Streams

@@ -3,11 +3,12 @@ use Rattle.std.specs.Prelude.{◌≡◌, ◌≢◌, ℕ, ◌+◌, ◌≤◌, ◌
 use Rattle.std.specs.declared.option.Option.{Option}
 use Rattle.ac_base.specs.Report.{status_of}
 use Rattle.ac_tree.specs.declared.item.Program.{Program}
-use Rattle.ac_types.specs.declared.rule.Rule.{Rule}
+use Rattle.ac_program.specs.declared.refusal.Refusal.{Refusal}
 use Rattle.ac_program.specs.declared.running.Ended.{Ended}
 use Rattle.ac_program.specs.Words.{IsRun}
 use Rattle.ac_program.specs.Reading.{Gave, TookBytes}
-use Rattle.ac_program.specs.Source.{IsAccepted, IsBroken, IsNotSpelled}
+use Rattle.ac_program.specs.Source.{IsRunnable, Refuses}
+use Rattle.ac_program.specs.Lines.{refusal_status}
 use Rattle.ac_program.specs.Run.{IsRunOf}
 use Rattle.ac_program.specs.Outcome.{Seen, IsWell}
 
@@ -33,28 +34,26 @@ pub record HasRead (words : List (List ℕ)) (seen : Seen) (steps : ℕ) (source
   pub gave : Gave (seen.text_at file) source
   pub within : length source ≤ 1048576
 
--- the source is not that of a program
-pub record IsUnbuilt (words : List (List ℕ)) (seen : Seen) : Type 0 where
+-- something refuses the source with that status
+pub record IsRefusedAs (status : ℕ) (source : List ℕ) (bound : ℕ) : Type 0 where
+  pub refusal : Refusal
+  pub status_is : refusal_status refusal ≡ status
+  pub refuses : Refuses source bound refusal
+
+-- the words call for a run of a source that is refused with that status
+pub record IsRefused (status : ℕ) (words : List (List ℕ)) (seen : Seen) : Type 0 where
   pub steps : ℕ
   pub source : List ℕ
   pub read : HasRead words seen steps source
-  pub not_spelled : IsNotSpelled source
+  pub is_refused : IsRefusedAs status source steps
 
--- the source is that of a program which breaks rules, of which this is the least
-pub record IsRefused (words : List (List ℕ)) (seen : Seen) : Type 0 where
-  pub steps : ℕ
-  pub source : List ℕ
-  pub read : HasRead words seen steps source
-  pub rule : Rule
-  pub broken : IsBroken source rule
-
--- the source is that of a program that breaks no rule, and this is a run of it with the bound that the words give, whose cores have this status
+-- nothing refuses the source, and this is a run of its program with the bound that the words give, whose cores have this status
 pub record IsReported (words : List (List ℕ)) (seen : Seen) (status : ℕ) (run : Option Ended) : Type 0 where
   pub steps : ℕ
   pub source : List ℕ
   pub read : HasRead words seen steps source
   pub program : Program
-  pub is_accepted : IsAccepted source program
+  pub is_runnable : IsRunnable source steps program
   pub ended : Ended
   pub kept : run ≡ Some ended
   pub is_run : IsRunOf program steps [] ended

@@ -2,6 +2,8 @@
 use Rattle.std.specs.Prelude.{ℕ, pos, List, [], ◌∷◌, ◌++◌, codes}
 use Rattle.std.specs.Fmt.{signed_decimal}
 use Rattle.ac_types.specs.declared.rule.Rule.{Rule}
+use Rattle.ac_program.specs.declared.refusal.Refusal.{Refusal}
+use Rattle.ac_program.specs.declared.refusal.Refusal.TheVariants as r
 
 abbrev pub usage_line : List ℕ
 usage_line = codes "usage: ac run|trace FILE [--steps N], ac code|check FILE, ac audit FILE TRACE, ac load N [--steps N]" ++ 10 ∷ []
@@ -12,8 +14,33 @@ library_line = codes "library fault" ++ 10 ∷ []
 abbrev pub limit_source_line : List ℕ
 limit_source_line = codes "limit: source" ++ 10 ∷ []
 
-abbrev pub rule_line : Rule → List ℕ
-rule_line r = codes "rule C" ++ (signed_decimal (pos r.rule) ++ (codes " at " ++ (signed_decimal (pos r.at) ++ 10 ∷ [])))
+-- words and a place
+abbrev pub place_line : List ℕ → ℕ → List ℕ
+place_line words at = words ++ (signed_decimal (pos at) ++ 10 ∷ [])
 
-abbrev pub not_built_line : List ℕ
-not_built_line = codes "not built" ++ 10 ∷ []
+abbrev pub rule_line : Rule → List ℕ
+rule_line rule = codes "rule C" ++ (signed_decimal (pos rule.rule) ++ (codes " at " ++ (signed_decimal (pos rule.at) ++ 10 ∷ [])))
+
+-- the line of each refusal of a source
+abbrev pub refusal_line : Refusal → List ℕ
+refusal_line (r.BadByte at) = place_line (codes "bad byte at ") at
+refusal_line (r.NumberTooLarge at) = place_line (codes "number too large at ") at
+refusal_line (r.OpenComment at) = place_line (codes "open comment at ") at
+refusal_line (r.OpenText at) = place_line (codes "open text at ") at
+refusal_line (r.Unexpected at) = place_line (codes "unexpected token at ") at
+refusal_line (r.TooDeep at) = place_line (codes "limit: nesting at ") at
+refusal_line (r.Broken rule) = rule_line rule
+refusal_line r.TooManySteps = codes "limit: steps" ++ 10 ∷ []
+refusal_line (r.NotBuilt at) = place_line (codes "not built at ") at
+
+-- and its status
+abbrev pub refusal_status : Refusal → ℕ
+refusal_status (r.BadByte at) = 2
+refusal_status (r.NumberTooLarge at) = 2
+refusal_status (r.OpenComment at) = 2
+refusal_status (r.OpenText at) = 2
+refusal_status (r.Unexpected at) = 2
+refusal_status (r.TooDeep at) = 10
+refusal_status (r.Broken rule) = 3
+refusal_status r.TooManySteps = 10
+refusal_status (r.NotBuilt at) = 15

@@ -1,40 +1,37 @@
 -- What the program owes its caller.
-use Rattle.std.specs.Prelude.{◌≡◌, ℕ, ◌+◌, ◌≤◌, List, [], length, None, Some}
+use Rattle.std.specs.Prelude.{◌≡◌, ℕ, ◌+◌, ◌≤◌, List, [], length, None, Some, Result, Ok, Err}
 use Rattle.std.specs.declared.option.Option.{Option}
 use Rattle.ac_base.specs.Report.{report_of, status_of}
 use Rattle.ac_tree.specs.declared.item.Program.{Program}
 use Rattle.ac_outside.specs.Causes.{Rose}
 use Rattle.ac_outside.specs.Told.{CountsOne, GrewBy}
 use Rattle.ac_program.specs.declared.running.Ended.{Ended}
-use Rattle.ac_types.specs.declared.rule.Rule.{Rule}
 use Rattle.ac_program.specs.declared.execute.Done.{Done}
-use Rattle.ac_program.specs.declared.execute.Executed.{Executed}
-use Rattle.ac_program.specs.declared.execute.Executed.TheVariants as executed
+use Rattle.ac_program.specs.declared.refusal.Refusal.{Refusal}
+use Rattle.ac_program.specs.declared.refusal.Stop.{Stop}
 use Rattle.ac_program.specs.Words.{IsRun}
 use Rattle.ac_program.specs.Reading.{Gave, TookBytes}
 use Rattle.ac_program.specs.Writing.{TookFront}
-use Rattle.ac_program.specs.Source.{IsAccepted, IsBroken, IsNotSpelled, names_of}
+use Rattle.ac_program.specs.Source.{IsRunnable, Refuses, Stops, names_of}
 use Rattle.ac_program.specs.Run.{IsRunOf}
-use Rattle.ac_program.specs.Lines.{usage_line, library_line, limit_source_line, rule_line, not_built_line}
+use Rattle.ac_program.specs.Lines.{usage_line, library_line, limit_source_line, refusal_line, refusal_status}
 
--- what is made of a source that is accepted: the run of its program with this bound on steps, and the report and the status of that very run
+-- what is made of a source that nothing refuses: the run of its program with this bound on steps, and the report and the status of that very run
 pub record IsDone (source : List ℕ) (bound : ℕ) (done : Done) : Type 0 where
   pub program : Program
-  pub is_accepted : IsAccepted source program
+  pub is_runnable : IsRunnable source bound program
   pub is_run : IsRunOf program bound [] done.ended
   pub report : done.report ≡ report_of (names_of program) done.ended.cores
   pub status : done.status.number ≡ status_of done.ended.cores
 
 -- what is made of a source
-abbrev pub IsExecuted : List ℕ → ℕ → Executed → Type 0
-IsExecuted source bound (executed.Done done) = IsDone source bound done
-IsExecuted source bound (executed.Broken rule) = IsBroken source rule
-IsExecuted source bound executed.NotSpelled = IsNotSpelled source
+abbrev pub GivesDone : List ℕ → ℕ → Result Done Stop → Type 0
+GivesDone source bound (Ok done) = IsDone source bound done
+GivesDone source bound (Err stop) = Stops source bound stop
 
 -- The status, the text to be written and the run that a source of at most 1,048,576 bytes calls for.
 pub data IsDueOf (source : List ℕ) (bound status : ℕ) (text : List ℕ) (run : Option Ended) : Type 0 where
-  not_built : status ≡ 15 → text ≡ not_built_line → run ≡ None → IsNotSpelled source → IsDueOf source bound status text run
-  broken : (rule : Rule) → status ≡ 3 → text ≡ rule_line rule → run ≡ None → IsBroken source rule → IsDueOf source bound status text run
+  refused : (refusal : Refusal) → status ≡ refusal_status refusal → text ≡ refusal_line refusal → run ≡ None → Refuses source bound refusal → IsDueOf source bound status text run
   ran : (done : Done) → status ≡ done.status.number → text ≡ done.report → run ≡ Some done.ended → IsDone source bound done → IsDueOf source bound status text run
 
 -- what the library is seen to do in a call

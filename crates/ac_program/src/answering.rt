@@ -4,17 +4,16 @@ ghost use Rattle.std.specs.Prelude.{◌≡◌, ◌≢◌, ◌≤◌, [], length,
 ghost use Rattle.ac_outside.specs.Causes.{Rose};
 ghost use Rattle.ac_outside.specs.Told.{CountsOne, GrewBy};
 ghost use Rattle.ac_program.specs.Writing.{TookFront};
-ghost use Rattle.ac_program.specs.Lines.{rule_line};
+ghost use Rattle.ac_program.specs.Lines.{refusal_line, refusal_status};
 ghost use Rattle.ac_program.specs.Outcome.{IsDueOf, IsDueOfFile, TookWhole, TookPart};
 
-use crate::execute::{Done, Executed, execute};
-use crate::lines::line_of;
+use crate::execute::{Done, execute};
 use crate::outcome::Outcome;
 use crate::reading::{ReadFault, read_text};
+use crate::refusal::{Refusal, Stop};
 use crate::writing::answer;
 use ac_base::Status;
 use ac_outside::{Library, Sink};
-use ac_types::Rule;
 use std::alloc::Global;
 
 /// The line of words that call for nothing.
@@ -58,20 +57,20 @@ pub fn refuse<K: Sink>(sink: &mut K, number: u8, line: &str) -> Outcome
     refuse_with(sink, number, line.as_bytes())
 }
 
-// Writes the line of a broken rule.
-fn refuse_rule<K: Sink>(alloc: Global, sink: &mut K, rule: Rule) -> Outcome
+// Writes the line of what refuses a source.
+fn refuse_source<K: Sink>(alloc: Global, sink: &mut K, refusal: Refusal) -> Outcome
     ensures run { result.run ≡ None }
-    ensures status { result.status.number ≢ 8 → result.status.number ≢ 11 → result.status.number ≡ 3 }
-    ensures whole { result.status.number ≢ 8 → result.status.number ≢ 11 → GrewBy (K.held sink.old) (K.held sink.new) (rule_line rule) }
-    ensures part { result.status.number ≡ 8 → TookFront (K.held sink.old) (K.held sink.new) (rule_line rule) }
+    ensures status { result.status.number ≢ 8 → result.status.number ≢ 11 → result.status.number ≡ refusal_status refusal }
+    ensures whole { result.status.number ≢ 8 → result.status.number ≢ 11 → GrewBy (K.held sink.old) (K.held sink.new) (refusal_line refusal) }
+    ensures part { result.status.number ≡ 8 → TookFront (K.held sink.old) (K.held sink.new) (refusal_line refusal) }
     ensures memory { result.status.number ≡ 11 → GrewBy (K.held sink.old) (K.held sink.new) [] }
     ensures failed { result.status.number ≡ 8 → Rose (K.faults sink.old) (K.faults sink.new) }
     ensures well { result.status.number ≢ 8 → K.faults sink.new ≡ K.faults sink.old }
     ensures other { (result.status.number ≢ 1) × (result.status.number ≢ 7) }
 {
-    match line_of(alloc, rule) {
+    match refusal.line(alloc) {
         Err(_) => no_memory(),
-        Ok(line) => refuse_with(sink, 3, line.as_slice()),
+        Ok(line) => refuse_with(sink, refusal.status(), line.as_slice()),
     }
 }
 
@@ -96,9 +95,8 @@ fn give<K: Sink>(sink: &mut K, done: Done) -> Outcome
     }
 }
 
-/// Runs the program of a source and writes its report, or the rule that it breaks, or that it is
-/// not built.
-pub fn run_source<K: Sink>(alloc: Global, source: &[u8], steps: u64, sink: &mut K) -> Outcome
+/// Runs the program of a source and writes its report, or what refuses it.
+pub fn run_source<K: Sink>(alloc: Global, source: &[u8], steps: u32, sink: &mut K) -> Outcome
     requires { length source.now ≤ 1048576 }
     ensures whole { result.status.number ≢ 8 → result.status.number ≢ 11 → TookWhole (IsDueOf source.now steps) result.status.number result.run (K.held sink.old) (K.held sink.new) }
     ensures part { result.status.number ≡ 8 → TookPart (IsDueOf source.now steps) result.run (K.held sink.old) (K.held sink.new) }
@@ -109,10 +107,9 @@ pub fn run_source<K: Sink>(alloc: Global, source: &[u8], steps: u64, sink: &mut 
     ensures other { (result.status.number ≢ 1) × (result.status.number ≢ 7) }
 {
     match execute(alloc, source, steps) {
-        Err(_) => no_memory(),
-        Ok(Executed::NotSpelled) => refuse(sink, 15, "not built\n"),
-        Ok(Executed::Broken(rule)) => refuse_rule(alloc, sink, rule),
-        Ok(Executed::Done(done)) => give(sink, done),
+        Err(Stop::NoMemory) => no_memory(),
+        Err(Stop::Refused(refusal)) => refuse_source(alloc, sink, refusal),
+        Ok(done) => give(sink, done),
     }
 }
 
@@ -120,7 +117,7 @@ pub fn run_source<K: Sink>(alloc: Global, source: &[u8], steps: u64, sink: &mut 
 pub fn run_file<L: Library, K: Sink>(
     alloc: Global,
     file: &str,
-    steps: u64,
+    steps: u32,
     library: &mut L,
     sink: &mut K,
 ) -> Outcome

@@ -1,37 +1,28 @@
 //! From a source text to the code of its program.
 
-ghost use Rattle.std.specs.Prelude.{◌≤◌, length, IfOk};
-ghost use Rattle.ac_program.specs.Source.{ComesTo};
+ghost use Rattle.std.specs.Prelude.{◌≤◌, length};
+ghost use Rattle.ac_program.specs.Source.{GivesCode};
 
-use ac_base::NoMemory;
-use ac_compile::compile_first;
-use ac_parser::parse_first;
-use ac_types::{Rule, check_first};
+use crate::front::accept;
+use crate::refusal::{Refusal, Stop};
+use ac_compile::{compile, unbuilt};
 use stack_code::Code;
 use std::alloc::Global;
 
-/// What a source comes to.
-#[derive(Drop)]
-pub enum Built {
-    /// It spells a program that breaks no rule, whose code this is.
-    Code(Code),
-    /// It spells a program that breaks rules, of which this is the least.
-    Broken(Rule),
-    /// It spells no program.
-    NotSpelled,
-}
+// How many steps all cores together may go.
+const MOST_STEPS: u64 = 4_000_000;
 
-/// What a source of at most 1,048,576 bytes comes to.
-pub fn build(alloc: Global, source: &[u8]) -> Result<Built, NoMemory>
+/// The code of a source of at most 1,048,576 bytes, with a bound on the steps of each core.
+pub fn build(alloc: Global, source: &[u8], steps: u32) -> Result<Code, Stop>
     requires { length source.now ≤ 1048576 }
-    ensures { IfOk result (ComesTo source.now) }
+    ensures { GivesCode source.now steps result }
 {
-    let Some(program) = parse_first(alloc, source)? else {
-        return Ok(Built::NotSpelled);
-    };
-    if let Some(rule) = check_first(alloc, &program)? {
-        return Ok(Built::Broken(rule));
+    let checked = accept(alloc, source)?;
+    if u64::from(checked.cores()) * u64::from(steps) > MOST_STEPS {
+        return Err(Stop::Refused(Refusal::TooManySteps));
     }
-    let code = compile_first(alloc, &program)?;
-    Ok(Built::Code(code))
+    if let Some(at) = unbuilt(&checked) {
+        return Err(Stop::Refused(Refusal::NotBuilt { at }));
+    }
+    Ok(compile(alloc, &checked)?)
 }

@@ -2,12 +2,12 @@
 
 ghost use Rattle.std.specs.Prelude.{◌≤◌, length, IfOk};
 ghost use Rattle.ac_program.specs.Source.{IsBuilt};
-ghost use Rattle.ac_program.specs.Outcome.{IsDone, IsExecuted};
+ghost use Rattle.ac_program.specs.Outcome.{IsDone, GivesDone};
 
-use crate::building::{Built, build};
+use crate::building::build;
+use crate::refusal::Stop;
 use crate::running::{Ended, run};
 use ac_base::{Bytes, NoMemory, Status, report, status};
-use ac_types::Rule;
 use stack_code::Code;
 use std::alloc::Global;
 
@@ -19,23 +19,12 @@ pub struct Done {
     pub status: Status,
 }
 
-/// What is made of a source.
-#[derive(Drop)]
-pub enum Executed {
-    /// It spells a program that breaks no rule, and this is a run of it.
-    Done(Done),
-    /// It spells a program that breaks rules, of which this is the least.
-    Broken(Rule),
-    /// It spells no program.
-    NotSpelled,
-}
-
 // The run of the program of a source, by its code.
-fn done_by(alloc: Global, source: &[u8], code: &Code, steps: u64) -> Result<Done, NoMemory>
-    requires { IsBuilt source.now code.now }
+fn done_by(alloc: Global, source: &[u8], code: &Code, steps: u32) -> Result<Done, NoMemory>
+    requires { IsBuilt source.now steps code.now }
     ensures { IfOk result (IsDone source.now steps) }
 {
-    let ended = run(alloc, code, steps)?;
+    let ended = run(alloc, code, u64::from(steps))?;
     let report = report(alloc, code.names(), &ended.cores)?;
     let status = status(&ended.cores);
     Ok(Done {
@@ -46,13 +35,11 @@ fn done_by(alloc: Global, source: &[u8], code: &Code, steps: u64) -> Result<Done
 }
 
 /// What is made of a source of at most 1,048,576 bytes, with a bound on the steps of each core.
-pub fn execute(alloc: Global, source: &[u8], steps: u64) -> Result<Executed, NoMemory>
+pub fn execute(alloc: Global, source: &[u8], steps: u32) -> Result<Done, Stop>
     requires { length source.now ≤ 1048576 }
-    ensures { IfOk result (IsExecuted source.now steps) }
+    ensures { GivesDone source.now steps result }
 {
-    match build(alloc, source)? {
-        Built::NotSpelled => Ok(Executed::NotSpelled),
-        Built::Broken(rule) => Ok(Executed::Broken(rule)),
-        Built::Code(code) => Ok(Executed::Done(done_by(alloc, source, &code, steps)?)),
-    }
+    let code = build(alloc, source, steps)?;
+    let done = done_by(alloc, source, &code, steps)?;
+    Ok(done)
 }

@@ -3,22 +3,22 @@
 
 ghost use Rattle.std.specs.Prelude.{◌≡◌, ◌≢◌, ◌≤◌, ◌<◌, ◌↔◌, ℕ, ◌⊎◌, List, [], map, length, string_bytes, None, Some};
 ghost use Rattle.ac_tree.specs.declared.item.Program.{Program};
-ghost use Rattle.ac_types.specs.declared.rule.Rule.{Rule};
 ghost use Rattle.ac_outside.specs.Causes.{Rose};
 ghost use Rattle.ac_outside.specs.Told.{CountsOne, GrewBy};
 ghost use Rattle.ac_program.specs.Words.{IsRun};
-ghost use Rattle.ac_program.specs.Source.{IsAccepted, IsBroken, IsNotSpelled};
+ghost use Rattle.ac_program.specs.Source.{IsRunnable};
 ghost use Rattle.ac_program.specs.Outcome.{IsDue, TookWhole, TookPart};
-ghost use Rattle.ac_program.specs.Causes.{IsCall, IsTooLong, IsUnbuilt, IsRefused, IsReported, IsOfCores, IsUndisturbed};
+ghost use Rattle.ac_program.specs.Causes.{IsCall, IsTooLong, IsRefused, IsRefusedAs, IsReported, IsOfCores, IsUndisturbed};
 
 mod answering;
 #[cfg(test)]
 mod base_tests;
 mod building;
 mod execute;
-mod lines;
+mod front;
 mod outcome;
 mod reading;
+mod refusal;
 mod running;
 #[cfg(test)]
 mod tests;
@@ -36,13 +36,18 @@ use words::read_words;
 /// runs its program with the bound on steps that they give, and writes the report to the sink.
 ///
 /// The statuses are 0 with the report where every core finished; 6 with the report where a core was
-/// out of steps, and 4 and 5 where one trapped or stalled; 1 with the usage line where the words are
-/// not `run`, one FILE and at most one bound from 1 to 2,000,000; 7 with `library fault` where a
-/// call of the library failed; 8 where the sink failed, which has then taken a front of the text; 10
-/// with `limit: source` where the text is longer than 1,048,576 bytes; 11 where memory was refused,
-/// and nothing is written; 15 with `not built` where the text is no longer than that and spells no
-/// program; 3 with `rule Cn at B` where it spells one of whose broken rules, by node and then by
-/// number, n is the first, at the node that begins at byte B.
+/// out of steps, and 4 and 5 where one trapped or stalled. The others come with a line, by the
+/// first refusal in this order: 1 with the usage line where the words are not `run`, one FILE and
+/// at most one bound from 1 to 2,000,000; 7 with `library fault` where a call of the library
+/// failed; 10 with `limit: source` where the text is longer than 1,048,576 bytes; 2 with `bad byte
+/// at B`, `number too large at B`, `open comment at B` or `open text at B` for the first lexical
+/// fault, and with `unexpected token at B` for the first token with which no program goes on; 10
+/// with `limit: nesting at B` for the first token that is more than 256 deep; 3 with `rule Cn at B`
+/// for the least broken rule, by node and then by number; 10 with `limit: steps` where the cores
+/// together may go more than 4,000,000 steps; 15 with `not built at B` for the first node, in
+/// preorder, of a form that is not built. B is a place in bytes from 0. The status is 8 where the
+/// sink failed, which has then taken a front of the text, and 11 where memory was refused, and
+/// nothing is written.
 pub fn ac_main<L: Library, K: Sink>(
     alloc: Global,
     words: &[String],
@@ -75,14 +80,19 @@ pub fn ac_main<L: Library, K: Sink>(
     ensures library_well { result.status.number ≢ 7 → result.status.number ≢ 8 → L.faults library.new ≡ L.faults library.old }
     ensures sink_failed { result.status.number ≡ 8 → Rose (K.faults sink.old) (K.faults sink.new) }
     ensures sink_well { result.status.number ≢ 8 → K.faults sink.new ≡ K.faults sink.old }
-    ensures too_long { result.status.number ≡ 10 →
-        IsTooLong (map string_bytes words.now)
-        (record { text_at = L.text_at library.old; left_after = L.left library.new; opens = L.opens library.old; opens_after = L.opens library.new; faults = L.faults library.old; faults_after = L.faults library.new }) }
-    ensures not_built { result.status.number ≡ 15 →
-        IsUnbuilt (map string_bytes words.now)
+    ensures misspelled { result.status.number ≡ 2 →
+        IsRefused 2 (map string_bytes words.now)
         (record { text_at = L.text_at library.old; left_after = L.left library.new; opens = L.opens library.old; opens_after = L.opens library.new; faults = L.faults library.old; faults_after = L.faults library.new }) }
     ensures broken { result.status.number ≡ 3 →
-        IsRefused (map string_bytes words.now)
+        IsRefused 3 (map string_bytes words.now)
+        (record { text_at = L.text_at library.old; left_after = L.left library.new; opens = L.opens library.old; opens_after = L.opens library.new; faults = L.faults library.old; faults_after = L.faults library.new }) }
+    ensures over { result.status.number ≡ 10 →
+        IsTooLong (map string_bytes words.now)
+        (record { text_at = L.text_at library.old; left_after = L.left library.new; opens = L.opens library.old; opens_after = L.opens library.new; faults = L.faults library.old; faults_after = L.faults library.new })
+        ⊎ IsRefused 10 (map string_bytes words.now)
+        (record { text_at = L.text_at library.old; left_after = L.left library.new; opens = L.opens library.old; opens_after = L.opens library.new; faults = L.faults library.old; faults_after = L.faults library.new }) }
+    ensures not_built { result.status.number ≡ 15 →
+        IsRefused 15 (map string_bytes words.now)
         (record { text_at = L.text_at library.old; left_after = L.left library.new; opens = L.opens library.old; opens_after = L.opens library.new; faults = L.faults library.old; faults_after = L.faults library.new }) }
     ensures reported { IsOfCores result.status.number →
         IsReported (map string_bytes words.now)
@@ -90,17 +100,19 @@ pub fn ac_main<L: Library, K: Sink>(
         result.status.number result.run }
 
     // What the text decides, where the library tells it.
-    ensures only_too_long { (file text : List ℕ) (steps : ℕ) → IsRun (map string_bytes words.now) file steps → L.text_at library.old file ≡ Some text →
-        IsUndisturbed result.status.number → (result.status.number ≡ 10) ↔ (1048576 < length text) }
-    ensures only_not_built { (file text : List ℕ) (steps : ℕ) → IsRun (map string_bytes words.now) file steps → L.text_at library.old file ≡ Some text →
-        IsUndisturbed result.status.number → (result.status.number ≡ 15) ↔ ((length text ≤ 1048576) × IsNotSpelled text) }
+    ensures only_misspelled { (file text : List ℕ) (steps : ℕ) → IsRun (map string_bytes words.now) file steps → L.text_at library.old file ≡ Some text →
+        IsUndisturbed result.status.number → (result.status.number ≡ 2) ↔ ((length text ≤ 1048576) × IsRefusedAs 2 text steps) }
     ensures only_broken { (file text : List ℕ) (steps : ℕ) → IsRun (map string_bytes words.now) file steps → L.text_at library.old file ≡ Some text →
-        IsUndisturbed result.status.number → (result.status.number ≡ 3) ↔ ((length text ≤ 1048576) × ((rule : Rule) × IsBroken text rule)) }
+        IsUndisturbed result.status.number → (result.status.number ≡ 3) ↔ ((length text ≤ 1048576) × IsRefusedAs 3 text steps) }
+    ensures only_over { (file text : List ℕ) (steps : ℕ) → IsRun (map string_bytes words.now) file steps → L.text_at library.old file ≡ Some text →
+        IsUndisturbed result.status.number → (result.status.number ≡ 10) ↔ ((1048576 < length text) ⊎ ((length text ≤ 1048576) × IsRefusedAs 10 text steps)) }
+    ensures only_not_built { (file text : List ℕ) (steps : ℕ) → IsRun (map string_bytes words.now) file steps → L.text_at library.old file ≡ Some text →
+        IsUndisturbed result.status.number → (result.status.number ≡ 15) ↔ ((length text ≤ 1048576) × IsRefusedAs 15 text steps) }
     ensures only_reported { (file text : List ℕ) (steps : ℕ) → IsRun (map string_bytes words.now) file steps → L.text_at library.old file ≡ Some text →
-        IsUndisturbed result.status.number → IsOfCores result.status.number ↔ ((length text ≤ 1048576) × ((program : Program) × IsAccepted text program)) }
+        IsUndisturbed result.status.number → IsOfCores result.status.number ↔ ((length text ≤ 1048576) × ((program : Program) × IsRunnable text steps program)) }
 {
     let Some(call) = read_words(words) else {
         return refuse(sink, 1, USAGE);
     };
-    run_file(alloc, call.file, u64::from(call.steps), library, sink)
+    run_file(alloc, call.file, call.steps, library, sink)
 }

@@ -1,7 +1,7 @@
 ghost use Rattle.std.specs.Prelude.{None, is_some};
 
 use crate::ac_main;
-use crate::execute::{Executed, execute};
+use crate::execute::execute;
 use crate::reading::{LIMIT, ReadFault, read_text};
 use crate::words::{Call, read_words};
 use crate::writing::answer;
@@ -312,7 +312,7 @@ fn runs(rt: HostRuntime) -> Result<(), Fail> {
             "core a(f); async void f() { yield; }",
             999,
             15,
-            "not built\n",
+            "not built at 28\n",
             false,
         ),
         (
@@ -344,10 +344,10 @@ fn runs(rt: HostRuntime) -> Result<(), Fail> {
             "core a(f); async void f() { } async void g() { }",
             999,
             15,
-            "not built\n",
+            "not built at 30\n",
             false,
         ),
-        (&["run", "x.ac"], "", 999, 15, "not built\n", false),
+        (&["run", "x.ac"], "", 999, 3, "rule C15 at 0\n", false),
     ];
     for (words, source, room, status, taken, ran) in rows {
         let owned = words_of(alloc, words)?;
@@ -381,7 +381,7 @@ fn sizes(rt: HostRuntime) -> Result<(), Fail> {
             "a: finished after 0 steps, 2 instructions\n",
         ),
         (NONE, 1_048_577, 10, "limit: source\n"),
-        ("", 1_048_576, 15, "not built\n"),
+        ("", 1_048_576, 3, "rule C15 at 0\n"),
         ("", 1_048_577, 10, "limit: source\n"),
     ] {
         let blanks = vec![in alloc; b' '; size - source.len()]?;
@@ -416,7 +416,7 @@ fn bounds(rt: HostRuntime) -> Result<(), Fail> {
             "a: finished after 2 steps, 8 instructions\n1\n2\n",
         ),
     ] {
-        let Executed::Done(done) = execute(alloc, source.as_bytes(), steps)? else {
+        let Ok(done) = execute(alloc, source.as_bytes(), steps) else {
             assert!(rt; false, "{source} is run");
             continue;
         };
@@ -445,7 +445,7 @@ fn sums(rt: HostRuntime) -> Result<(), Fail> {
         let source = format!(in alloc;
             "core a(f); async void f() {{ printf(\"%d\\n\", {sum}); }}"
         )?;
-        let Executed::Done(done) = execute(alloc, source.as_bytes(), 9)? else {
+        let Ok(done) = execute(alloc, source.as_bytes(), 9) else {
             assert!(rt; false, "{sum} is run");
             continue;
         };
@@ -487,7 +487,7 @@ fn variables(rt: HostRuntime) -> Result<(), Fail> {
         ),
     ] {
         let source = format!(in alloc; "core a(f); async void f() {{ {body} }}")?;
-        let Executed::Done(done) = execute(alloc, source.as_bytes(), steps)? else {
+        let Ok(done) = execute(alloc, source.as_bytes(), steps) else {
             assert!(rt; false, "{source} is run");
             continue;
         };
@@ -500,11 +500,214 @@ fn variables(rt: HostRuntime) -> Result<(), Fail> {
     Ok(())
 }
 
+// A source and what is written of it with some words before it, where nothing fails.
+fn told(alloc: Global, words: &[&str], source: &str) -> Result<(u8, Vec<u8>), Fail> {
+    let owned = words_of(alloc, words)?;
+    let mut library = one_text(alloc, source.as_bytes())?;
+    let mut sink = MemorySink::new(alloc, 999)?;
+    let outcome = ac_main(alloc, owned.as_slice(), &mut library, &mut sink);
+    Ok((outcome.status.number, Vec::from_slice(alloc, sink.taken())?))
+}
+
+// The first lexical fault, and the first token that is unexpected.
+#[test]
+fn faults(rt: HostRuntime) -> Result<(), Fail> {
+    let alloc = rt.alloc();
+    for (source, line) in [
+        ("core a(f); @", "bad byte at 11\n"),
+        ("core a(f) @", "bad byte at 10\n"),
+        ("core a(f); int x = 01;", "bad byte at 20\n"),
+        (
+            "core a(f); int x = 9223372036854775808;",
+            "number too large at 19\n",
+        ),
+        ("core a(f); /* ", "open comment at 11\n"),
+        ("core a(f); \"abc\n\"", "open text at 11\n"),
+        ("core a(f)", "unexpected token at 9\n"),
+        ("core a(f)  ", "unexpected token at 11\n"),
+        ("core a f", "unexpected token at 7\n"),
+        (
+            "core a(f); async void f() { x = ; }",
+            "unexpected token at 32\n",
+        ),
+        (
+            "core a(f); async void f() { int x; int x = ; }",
+            "unexpected token at 43\n",
+        ),
+    ] {
+        let (status, taken) = told(alloc, &["run", "x.ac"], source)?;
+        assert_eq!(rt; status, 2, "of {source}");
+        assert_eq!(rt; taken.as_slice(), line.as_bytes(), "of {source}");
+    }
+    Ok(())
+}
+
+// A function whose body is so many blocks, each in the one before.
+fn blocks(alloc: Global, count: usize) -> Result<String, AllocError> {
+    let mut source = String::from_str(alloc, "core a(f); async void f()")?;
+    for _ in 0..count {
+        source.push('{')?;
+    }
+    for _ in 0..count {
+        source.push('}')?;
+    }
+    Ok(source)
+}
+
+#[test]
+fn nesting(rt: HostRuntime) -> Result<(), Fail> {
+    let alloc = rt.alloc();
+    for (count, status, line) in [
+        (1, 0, "a: finished after 0 steps, 2 instructions\n"),
+        (256, 15, "not built at 26\n"),
+        (257, 10, "limit: nesting at 281\n"),
+    ] {
+        let source = blocks(alloc, count)?;
+        let seen = told(alloc, &["run", "x.ac"], &source)?;
+        assert_eq!(rt; seen.0, status, "of {count} blocks");
+        assert_eq!(rt; seen.1.as_slice(), line.as_bytes(), "of {count} blocks");
+    }
+    Ok(())
+}
+
+// So many cores that enter a function with an empty body.
+fn cores(alloc: Global, count: usize) -> Result<String, AllocError> {
+    let mut source = String::new(alloc);
+    for name in "abcdeghijklmnopqr".chars().take(count) {
+        source.push_str("core ")?;
+        source.push(name)?;
+        source.push_str("(f);")?;
+    }
+    source.push_str("async void f() {}")?;
+    Ok(source)
+}
+
+// Cores times steps.
+#[test]
+fn steps_of_all(rt: HostRuntime) -> Result<(), Fail> {
+    let alloc = rt.alloc();
+    for (count, steps, status, line) in [
+        (
+            1,
+            "2000000",
+            0,
+            "a: finished after 0 steps, 2 instructions\n",
+        ),
+        (2, "2000000", 15, "not built at 10\n"),
+        (3, "1333333", 15, "not built at 10\n"),
+        (3, "1333334", 10, "limit: steps\n"),
+        (16, "250000", 15, "not built at 10\n"),
+        (16, "250001", 10, "limit: steps\n"),
+        (17, "2000000", 3, "rule C15 at 0\n"),
+    ] {
+        let source = cores(alloc, count)?;
+        let seen = told(alloc, &["run", "--steps", steps, "x.ac"], &source)?;
+        assert_eq!(rt; seen.0, status, "of {count} cores with {steps} steps");
+        assert_eq!(rt;
+            seen.1.as_slice(),
+            line.as_bytes(),
+            "of {count} cores with {steps} steps"
+        );
+    }
+    Ok(())
+}
+
+// The first node that is not built.
+#[test]
+fn forms_not_built(rt: HostRuntime) -> Result<(), Fail> {
+    let alloc = rt.alloc();
+    for (source, line) in [
+        (
+            "core a(f); core b(f); async void f() {}",
+            "not built at 11\n",
+        ),
+        (
+            "core a(f); void g() {} async void f() {}",
+            "not built at 11\n",
+        ),
+        (
+            "async void f() { yield; } core a(f); int x;",
+            "not built at 17\n",
+        ),
+        (
+            "int x; core a(f); async void f() { x = 1; }",
+            "not built at 0\n",
+        ),
+        (
+            "core a(f); async void f() { x = 1; } int x;",
+            "not built at 37\n",
+        ),
+        (
+            "core a(f); int x[4096]; async void f() {}",
+            "not built at 11\n",
+        ),
+        (
+            "core a(f); file d(\"p\"); async void f() {}",
+            "not built at 11\n",
+        ),
+    ] {
+        let (status, taken) = told(alloc, &["run", "x.ac"], source)?;
+        assert_eq!(rt; status, 15, "of {source}");
+        assert_eq!(rt; taken.as_slice(), line.as_bytes(), "of {source}");
+    }
+    Ok(())
+}
+
+// Statements of a body, which begins at byte 28, and where the first node that is not built stands.
+#[test]
+fn statements_not_built(rt: HostRuntime) -> Result<(), Fail> {
+    let alloc = rt.alloc();
+    for (body, at) in [
+        ("{ int x; }", 28),
+        (";", 28),
+        ("int a[1];", 28),
+        ("if (1) ;", 28),
+        ("while (0) ;", 28),
+        ("for (;;) ;", 28),
+        ("return;", 28),
+        ("do {} finish;", 28),
+        ("printf(\"%c\", 65);", 28),
+        ("printf(\"%d\", 65);", 28),
+        ("printf(\"\");", 28),
+        ("int x = -1;", 36),
+        ("int x = (1);", 36),
+        ("int x = OK;", 36),
+        ("int x = 1 / 2;", 36),
+        ("int x = 1 + 2 * 3 % 4;", 40),
+        ("int x = 1 + 2 - 3 * -4;", 48),
+        ("int x = 1; x = x == 1;", 43),
+        ("printf(\"%d\\n\", 1 << 2);", 43),
+        ("int x; int y = x; x = y; ;", 53),
+    ] {
+        let source = format!(in alloc; "core a(f); async void f() {{ {body} }}")?;
+        let line = format!(in alloc; "not built at {at}\n")?;
+        let (status, taken) = told(alloc, &["run", "x.ac"], &source)?;
+        assert_eq!(rt; status, 15, "of {body}");
+        assert_eq!(rt; taken.as_slice(), line.as_bytes(), "of {body}");
+    }
+    Ok(())
+}
+
 // The least broken rule of a program, and the first byte of its node.
 #[test]
 fn rules(rt: HostRuntime) -> Result<(), Fail> {
     let alloc = rt.alloc();
     for (source, line) in [
+        ("", "rule C15 at 0\n"),
+        ("// no core\n", "rule C15 at 0\n"),
+        (
+            "core a(f); async void f() {} void g() { f(); async ; }",
+            "rule C5 at 40\n",
+        ),
+        ("core a(f); async void f() { async ; }", "rule C7 at 28\n"),
+        (
+            "core a(f); int x[4097]; async void f() {}",
+            "rule C13 at 11\n",
+        ),
+        (
+            "core a(f); core b(f); channel c(a, b, 65); async void f() {}",
+            "rule C14 at 22\n",
+        ),
         ("core a(g); async void f() { }", "rule C2 at 0\n"),
         ("core f(f); async void f() { }", "rule C4 at 0\n"),
         ("core a(a); async void f() { }", "rule C4 at 0\n"),
@@ -536,12 +739,9 @@ fn rules(rt: HostRuntime) -> Result<(), Fail> {
             "rule C4 at 45\n",
         ),
     ] {
-        let owned = words_of(alloc, &["run", "x.ac"])?;
-        let mut library = one_text(alloc, source.as_bytes())?;
-        let mut sink = MemorySink::new(alloc, 999)?;
-        let outcome = ac_main(alloc, owned.as_slice(), &mut library, &mut sink);
-        assert_eq!(rt; outcome.status.number, 3, "of {source}");
-        assert_eq!(rt; sink.taken(), line.as_bytes(), "of {source}");
+        let (status, taken) = told(alloc, &["run", "x.ac"], source)?;
+        assert_eq!(rt; status, 3, "of {source}");
+        assert_eq!(rt; taken.as_slice(), line.as_bytes(), "of {source}");
     }
     Ok(())
 }

@@ -1,1 +1,1 @@
-pub mod Shape
+pub mod Weight

@@ -1,5 +1,5 @@
 -- Every slot that a resolved program names is in the frame of its function.
-use Rattle.std.proofs.Common.{◌≡◌, ℕ, ◌+◌, ◌<◌, ◌≤◌, ◌⊎◌, inl, inr, List, [], ◌∷◌, Option, None, Some, Bool, true, false, refl, sym, ap, ◌∙◌, subst, arith}
+use Rattle.std.proofs.Common.{◌≡◌, ℕ, zero, ◌+◌, ◌<◌, ◌≤◌, ◌⊎◌, inl, inr, List, [], ◌∷◌, Option, None, Some, Bool, true, false, refl, sym, ap, ◌∙◌, subst, arith}
 use Rattle.std.specs.Prelude.{ℤ, pos, map, is_some, ◌++◌, if◌then◌else◌}
 use Rattle.std.specs.Str.{bytes_eq}
 use Rattle.std.specs.Option.{option_map}
@@ -10,11 +10,17 @@ use Rattle.ac_tree.specs.declared.stmt.Stmt.{Stmt}
 use Rattle.ac_tree.specs.declared.stmt.Stmt.TheVariants as s
 use Rattle.ac_tree.specs.declared.item.Item.{Item}
 use Rattle.ac_tree.specs.declared.item.Item.TheVariants as i
+use Rattle.ac_tree.specs.declared.item.Function.{Function}
+use Rattle.ac_tree.specs.declared.item.Param.{Param}
 use Rattle.ac_types.specs.declared.meaning.Meaning.{Meaning}
 use Rattle.ac_types.specs.declared.meaning.Meaning.TheVariants as m
 use Rattle.ac_types.specs.Resolved.{Operation, Expression, Number, Variable, Combine, Command, Set, Print}
-use Rattle.ac_types.specs.Scopes.{Declaration, in_scope, added, or_else, visible, declared, top_from, top_scope}
-use Rattle.ac_types.specs.Resolution.{InScopes, joined, chained, slot_of, expr_step, link_step, resolved_expr, resolved_link, all_of, initial, place_of, name_of, set_of, resolved_args, resolved_stmt, slots_of, scopes_after, then_all, resolved_from, body_slots, resolved_body}
+use Rattle.ac_types.specs.declared.past.Past.{Past}
+use Rattle.ac_types.specs.declared.past.Counts.{Counts}
+use Rattle.ac_types.specs.Scopes.{Declaration, in_scope, added, or_else, visible, declared}
+use Rattle.ac_types.specs.Items.{item_name, item_meaning, global_at, past_after, past_all, no_past, whole, outermost}
+use Rattle.ac_types.specs.Resolution.{InScopes, joined, chained, slot_of, expr_step, link_step, resolved_expr, resolved_link, all_of, initial, place_of, name_of, set_of, resolved_args, resolved_stmt, slots_of, scopes_after, then_all, resolved_from, without, body_slots, resolved_body}
+use Rattle.ac_types.proofs.Parted.{int_slots, int_after, assign_slots, assign_after, print_slots, print_after}
 
 -- the slots of an expression are below a number
 abbrev pub IsWithin : ℕ → Expression → Type 0
@@ -36,14 +42,13 @@ IsBodyWithin slots (c ∷ cs) = IsCommandWithin slots c × IsBodyWithin slots cs
 
 -- the variables that are visible have slots below a number
 abbrev pub IsBelow : ℕ → List (List Declaration) → Type 0
-IsBelow slots scopes = (name : List ℕ) (slot : ℕ) → visible name scopes ≡ Some (m.Variable slot) → slot < slots
+IsBelow slots scopes = (name : List ℕ) (slot : ℕ) → visible name scopes ≡ Some (m.Local 0 slot) → slot < slots
 
 -- ---- expressions
 
-variable_within : (slots : ℕ) (o : Option Meaning) (e : Expression) → ((slot : ℕ) → o ≡ Some (m.Variable slot) → slot < slots) → option_map Variable (slot_of o) ≡ Some e → IsWithin slots e
-variable_within slots (Some (m.Variable slot)) e h q = let same : Variable slot ≡ e = cc in subst (IsWithin slots) same (h slot refl)
-variable_within slots (Some (m.Core n)) e h q = cc
-variable_within slots (Some (m.Function n)) e h q = cc
+variable_within : (slots : ℕ) (o : Option Meaning) (e : Expression) → ((slot : ℕ) → o ≡ Some (m.Local 0 slot) → slot < slots) → option_map Variable (slot_of o) ≡ Some e → IsWithin slots e
+variable_within slots (Some (m.Local zero slot)) e h q = let same : Variable slot ≡ e = cc in subst (IsWithin slots) same (h slot refl)
+variable_within slots (Some other) e h q = cc
 variable_within slots None e h q = cc
 
 number_within : (slots : ℕ) (v : ℤ) (e : Expression) → Some (Number v) ≡ Some e → IsWithin slots e
@@ -130,7 +135,7 @@ same_meaning : (a b : Meaning) → Some a ≡ Some b → a ≡ b
 same_meaning a b e = cc
 
 -- a name that is visible after a declaration was so before, or is the one that is declared
-visible_after : (name new : List ℕ) (meaning what : Meaning) (scopes : List (List Declaration)) → visible name (declared new meaning scopes) ≡ Some what → (visible name scopes ≡ Some what) ⊎ (meaning ≡ what)
+pub visible_after : (name new : List ℕ) (meaning what : Meaning) (scopes : List (List Declaration)) → visible name (declared new meaning scopes) ≡ Some what → (visible name scopes ≡ Some what) ⊎ (meaning ≡ what)
 visible_after name new meaning what [] e = inl e
 visible_after name new meaning what (scope ∷ scopes) e = here (in_added name new meaning scope) where
   here : (in_scope name (added new meaning scope) ≡ in_scope name scope) ⊎ (in_scope name (added new meaning scope) ≡ Some meaning) → (visible name (scope ∷ scopes) ≡ Some what) ⊎ (meaning ≡ what)
@@ -138,47 +143,55 @@ visible_after name new meaning what (scope ∷ scopes) e = here (in_added name n
   here (inr h) = inr (same_meaning meaning what (ap (λ o. or_else o (visible name scopes)) (sym h) ∙ e))
 
 -- the slots of visible variables are below the next slot
-below_declared : (slot : ℕ) (new : List ℕ) (scopes : List (List Declaration)) → IsBelow slot scopes → IsBelow (slot + 1) (declared new (m.Variable slot) scopes)
-below_declared slot new scopes b name n e = here (visible_after name new (m.Variable slot) (m.Variable n) scopes e) where
-  here : (visible name scopes ≡ Some (m.Variable n)) ⊎ (m.Variable slot ≡ m.Variable n) → n < slot + 1
+below_declared : (slot : ℕ) (new : List ℕ) (scopes : List (List Declaration)) → IsBelow slot scopes → IsBelow (slot + 1) (declared new (m.Local 0 slot) scopes)
+below_declared slot new scopes b name n e = here (visible_after name new (m.Local 0 slot) (m.Local 0 n) scopes e) where
+  here : (visible name scopes ≡ Some (m.Local 0 n)) ⊎ (m.Local 0 slot ≡ m.Local 0 n) → n < slot + 1
   here (inl h) = omega (arith, b name n h)
   here (inr h) = let same : slot ≡ n = cc in omega (arith, same)
 
 below_more : (a b : ℕ) (scopes : List (List Declaration)) → a ≤ b → IsBelow a scopes → IsBelow b scopes
 below_more a b scopes le h name n e = omega (arith, le, h name n e)
 
--- no name of the top level means a variable
-abbrev HasNoVariables : List Declaration → Type 0
-HasNoVariables scope = (name : List ℕ) (slot : ℕ) → in_scope name scope ≡ Some (m.Variable slot) → ⊥
+-- what all names of a scope mean
+abbrev pub AllMean : (Meaning → Type 0) → List Declaration → Type 0
+AllMean P scope = (name : List ℕ) (what : Meaning) → in_scope name scope ≡ Some what → P what
 
-none_added : (new : List ℕ) (meaning : Meaning) (scope : List Declaration) → ((slot : ℕ) → meaning ≡ m.Variable slot → ⊥) → HasNoVariables scope → HasNoVariables (added new meaning scope)
-none_added new meaning scope other h name slot e = here (in_added name new meaning scope) where
-  here : (in_scope name (added new meaning scope) ≡ in_scope name scope) ⊎ (in_scope name (added new meaning scope) ≡ Some meaning) → ⊥
-  here (inl q) = h name slot (sym q ∙ e)
-  here (inr q) = other slot (same_meaning meaning (m.Variable slot) (sym q ∙ e))
+pub none_mean : (P : Meaning → Type 0) → AllMean P []
+none_mean P name what e = cc
 
-core_is_none : (n slot : ℕ) → m.Core n ≡ m.Variable slot → ⊥
-core_is_none n slot e = cc
+pub added_mean : (P : Meaning → Type 0) (new : List ℕ) (meaning : Meaning) (scope : List Declaration) → P meaning → AllMean P scope → AllMean P (added new meaning scope)
+added_mean P new meaning scope p h name what e = here (in_added name new meaning scope) where
+  here : (in_scope name (added new meaning scope) ≡ in_scope name scope) ⊎ (in_scope name (added new meaning scope) ≡ Some meaning) → P what
+  here (inl q) = h name what (sym q ∙ e)
+  here (inr q) = subst P (same_meaning meaning what (sym q ∙ e)) p
 
-function_is_none : (n slot : ℕ) → m.Function n ≡ m.Variable slot → ⊥
-function_is_none n slot e = cc
+-- what is visible in one scope
+pub outer : (o : Option Meaning) (what : Meaning) → or_else o None ≡ Some what → o ≡ Some what
+outer None what q = cc
+outer (Some x) what q = q
 
-none_from : (cores functions : ℕ) (scope : List Declaration) (items : List Item) → HasNoVariables scope → HasNoVariables (top_from cores functions scope items)
-none_from cores functions scope [] h = h
-none_from cores functions scope (i.Core at name entry ∷ items) h = none_from (cores + 1) functions (added name (m.Core cores) scope) items (none_added name (m.Core cores) scope (core_is_none cores) h)
-none_from cores functions scope (i.Function f ∷ items) h = none_from cores (functions + 1) (added f.name (m.Function functions) scope) items (none_added f.name (m.Function functions) scope (function_is_none functions) h)
-none_from cores functions scope (i.Global at name size value ∷ items) h = none_from cores functions scope items h
-none_from cores functions scope (i.Channel at name from to cap ∷ items) h = none_from cores functions scope items h
-none_from cores functions scope (i.File at name path ∷ items) h = none_from cores functions scope items h
+-- no name of the top level means a variable of a function
+abbrev IsOuter : Meaning → Type 0
+IsOuter what = (slot : ℕ) → what ≡ m.Local 0 slot → ⊥
 
-none_in_top : (items : List Item) → HasNoVariables (top_scope items)
-none_in_top items = none_from 0 0 [] items (λ name slot e. cc)
+global_outer : (size : Option ℤ) (first : ℕ) → IsOuter (global_at size first)
+global_outer None first slot e = cc
+global_outer (Some size) first slot e = cc
 
-below_top : (items : List Item) → IsBelow 0 ([] ∷ top_scope items ∷ [])
-below_top items name slot e = absurd (none_in_top items name slot (outer (in_scope name (top_scope items)) e)) where
-  outer : (o : Option Meaning) → or_else o None ≡ Some (m.Variable slot) → o ≡ Some (m.Variable slot)
-  outer None q = cc
-  outer (Some x) q = q
+item_outer : (c : Counts) (x : Item) → IsOuter (item_meaning c x)
+item_outer c (i.Global at name size value) = global_outer size c.slots
+item_outer c (i.Function f) = λ slot e. cc
+item_outer c (i.Channel at name from to cap) = λ slot e. cc
+item_outer c (i.File at name path) = λ slot e. cc
+item_outer c (i.Core at name entry) = λ slot e. cc
+
+past_outer : (q : Past) (items : List Item) → AllMean IsOuter q.names → AllMean IsOuter (past_all q items).names
+past_outer q [] h = h
+past_outer q (x ∷ xs) h = past_outer (past_after q x) xs (added_mean IsOuter (item_name x) (item_meaning q.counts x) q.names (item_outer q.counts x) h)
+
+below_top : (items : List Item) → IsBelow 0 ([] ∷ outermost items)
+below_top items name slot e =
+    absurd (past_outer no_past items (none_mean IsOuter) name (m.Local 0 slot) (outer (in_scope name (whole items).names) (m.Local 0 slot) e) slot refl)
 
 -- ---- statements
 
@@ -206,10 +219,9 @@ initial_within slots scopes b (Some value) e q = expr_within slots scopes b valu
 place_within : (slots : ℕ) (scopes : List (List Declaration)) → IsBelow slots scopes → (name : Option (List ℕ)) (slot : ℕ) → place_of name scopes ≡ Some slot → slot < slots
 place_within slots scopes b None slot q = cc
 place_within slots scopes b (Some name) slot q = b name slot (meant (visible name scopes) q) where
-  meant : (o : Option Meaning) → slot_of o ≡ Some slot → o ≡ Some (m.Variable slot)
-  meant (Some (m.Variable n)) h = let same : n ≡ slot = cc in ap (λ k. Some (m.Variable k)) same
-  meant (Some (m.Core n)) h = cc
-  meant (Some (m.Function n)) h = cc
+  meant : (o : Option Meaning) → slot_of o ≡ Some slot → o ≡ Some (m.Local 0 slot)
+  meant (Some (m.Local zero n)) h = let same : n ≡ slot = cc in ap (λ k. Some (m.Local 0 k)) same
+  meant (Some other) h = cc
   meant None h = cc
 
 set_within : (slots : ℕ) (place : Option ℕ) (value : Option Expression) (c : Command) → ((slot : ℕ) → place ≡ Some slot → slot < slots) → ((e : Expression) → value ≡ Some e → IsWithin slots e) → set_of place value ≡ Some c → IsCommandWithin slots c
@@ -225,26 +237,35 @@ new_slot : (slot : ℕ) (slots : ℕ) → slot < slots → (n : ℕ) → Some sl
 new_slot slot slots lt n e = let same : slot ≡ n = cc in subst (λ k. k < slots) same lt
 
 stmt_within : (slots : ℕ) (scopes : List (List Declaration)) → IsBelow slots scopes → (slot : ℕ) (x : Stmt) (c : Command) → slot + slots_of x ≤ slots → resolved_stmt scopes slot x ≡ Some c → IsCommandWithin slots c
-stmt_within slots scopes b slot (s.Int at name value) c le q = set_within slots (Some slot) (initial value scopes) c (new_slot slot slots (omega (arith, le))) (initial_within slots scopes b value) q
+stmt_within slots scopes b slot (s.Int at name value) c le q = set_within slots (Some slot) (initial value scopes) c (new_slot slot slots (let one = int_slots at name value in omega (arith, le, one))) (initial_within slots scopes b value) q
 stmt_within slots scopes b slot (s.Assign at place value) c le q = set_within slots (place_of (name_of place) scopes) (resolved_expr value scopes) c (place_within slots scopes b (name_of place)) (expr_within slots scopes b value) q
 stmt_within slots scopes b slot (s.Print at format args) c le q = print_within slots format (resolved_args args scopes) c (args_within slots scopes b args) q
 stmt_within slots scopes b slot _ c le q = cc
 
-below_after : (slot : ℕ) (x : Stmt) (scopes : List (List Declaration)) → IsBelow slot scopes → IsBelow (slot + slots_of x) (scopes_after scopes slot x)
-below_after slot (s.Int at name value) scopes b = below_declared slot name scopes b
-below_after slot _ scopes b = below_more slot (slot + 0) scopes (omega arith) b
+below_same : (a b : ℕ) (scopes scopes' : List (List Declaration)) → b ≡ a → scopes' ≡ scopes → IsBelow a scopes → IsBelow b scopes'
+below_same a b scopes scopes' e f h = subst (IsBelow b) (sym f) (subst (λ n. IsBelow n scopes) (sym e) h)
+
+-- a statement that has a meaning declares an int or nothing
+below_after : (slot : ℕ) (x : Stmt) (scopes : List (List Declaration)) (c : Command) → resolved_stmt scopes slot x ≡ Some c → IsBelow slot scopes → IsBelow (slot + slots_of x) (scopes_after scopes slot x)
+below_after slot (s.Int at name value) scopes c q b = below_same (slot + 1) (slot + slots_of (s.Int at name value)) (declared name (m.Local 0 slot) scopes) _ (ap (λ n. slot + n) (int_slots at name value)) (int_after at name value scopes slot) (below_declared slot name scopes b)
+below_after slot (s.Assign at place value) scopes c q b = below_same slot (slot + slots_of (s.Assign at place value)) scopes _ (let none = assign_slots at place value in omega (arith, none)) (assign_after at place value scopes slot) b
+below_after slot (s.Print at format args) scopes c q b = below_same slot (slot + slots_of (s.Print at format args)) scopes _ (let none = print_slots at format args in omega (arith, none)) (print_after at format args scopes slot) b
+below_after slot _ scopes c q b = cc
 
 from_within : (slots : ℕ) (scopes : List (List Declaration)) (slot : ℕ) (xs : List Stmt) (cs : List Command) → IsBelow slot scopes → slot + body_slots xs ≤ slots → resolved_from scopes slot xs ≡ Some cs → IsBodyWithin slots cs
 from_within slots scopes slot [] cs b le q = let same : [] ≡ cs = cc in subst (IsBodyWithin slots) same tt
 from_within slots scopes slot (x ∷ xs) cs b le q =
     one (resolved_stmt scopes slot x) (resolved_from (scopes_after scopes slot x) (slot + slots_of x) xs)
     (λ c e. stmt_within slots scopes (below_more slot slots scopes (omega (arith, le)) b) slot x c (omega (arith, le)) e)
-    (λ ds e. from_within slots (scopes_after scopes slot x) (slot + slots_of x) xs ds (below_after slot x scopes b) (omega (arith, le)) e) q where
-      one : (o : Option Command) (os : Option (List Command)) → ((c : Command) → o ≡ Some c → IsCommandWithin slots c) → ((ds : List Command) → os ≡ Some ds → IsBodyWithin slots ds) → then_all o os ≡ Some cs → IsBodyWithin slots cs
-      one (Some c) (Some ds) h k e = let same : c ∷ ds ≡ cs = cc in subst (IsBodyWithin slots) same (h c refl, k ds refl)
+    (λ c e ds f. from_within slots (scopes_after scopes slot x) (slot + slots_of x) xs ds (below_after slot x scopes c e b) (omega (arith, le)) f) q where
+      one : (o : Option Command) (os : Option (List Command)) → ((c : Command) → o ≡ Some c → IsCommandWithin slots c) → ((c : Command) → o ≡ Some c → (ds : List Command) → os ≡ Some ds → IsBodyWithin slots ds) → then_all o os ≡ Some cs → IsBodyWithin slots cs
+      one (Some c) (Some ds) h k e = let same : c ∷ ds ≡ cs = cc in subst (IsBodyWithin slots) same (h c refl, k c refl ds refl)
       one (Some c) None h k e = cc
       one None os h k e = cc
 
 -- the slots that a body names are those of its declarations
-pub body_within : (items : List Item) (body : List Stmt) (cs : List Command) → resolved_body (top_scope items) body ≡ Some cs → IsBodyWithin (body_slots body) cs
-body_within items body cs e = from_within (body_slots body) ([] ∷ top_scope items ∷ []) 0 body cs (below_top items) (omega arith) e
+pub body_within : (items : List Item) (f : Function) (cs : List Command) → resolved_body (outermost items) f ≡ Some cs → IsBodyWithin (body_slots f.body) cs
+body_within items f cs e = from_within (body_slots f.body) ([] ∷ outermost items) 0 f.body cs (below_top items) (omega arith) (built f.params (resolved_from ([] ∷ outermost items) 0 f.body) e) where
+  built : (params : List Param) (o : Option (List Command)) → without params o ≡ Some cs → o ≡ Some cs
+  built [] o q = q
+  built (x ∷ xs) o q = cc

@@ -1,5 +1,5 @@
 -- The resolved program of a tree, or none where a name is not what its place needs or a form is not built.
-use Rattle.std.specs.Prelude.{ℕ, pos, ◌+◌, List, [], ◌∷◌, map, Option, Some, None}
+use Rattle.std.specs.Prelude.{ℕ, zero, pos, ◌+◌, List, [], ◌∷◌, map, Option, Some, None}
 use Rattle.std.specs.Option.{option_map}
 use Rattle.ac_tree.specs.declared.expr.BinaryOp.{BinaryOp}
 use Rattle.ac_tree.specs.declared.expr.BinaryOp.TheVariants as b
@@ -10,11 +10,16 @@ use Rattle.ac_tree.specs.declared.stmt.Stmt.{Stmt}
 use Rattle.ac_tree.specs.declared.stmt.Stmt.TheVariants as s
 use Rattle.ac_tree.specs.declared.item.Item.{Item}
 use Rattle.ac_tree.specs.declared.item.Item.TheVariants as i
+use Rattle.ac_tree.specs.declared.item.Function.{Function}
+use Rattle.ac_tree.specs.declared.item.Param.{Param}
 use Rattle.ac_tree.specs.declared.item.Program.{Program}
 use Rattle.ac_types.specs.declared.meaning.Meaning.{Meaning}
 use Rattle.ac_types.specs.declared.meaning.Meaning.TheVariants as m
 use Rattle.ac_types.specs.Resolved.{Operation, Plus, Minus, Times, Expression, Number, Variable, Combine, Command, Set, Print, Resolved}
-use Rattle.ac_types.specs.Scopes.{Declaration, visible, declared, top_scope}
+use Rattle.ac_types.specs.Scopes.{Declaration, visible}
+use Rattle.ac_types.specs.Statements.{part_names, part_words, declared_at, stmt_nodes}
+use Rattle.ac_types.specs.Items.{outermost}
+use Rattle.ac_types.specs.Reached.{function_number}
 
 -- the values, where each is there
 abbrev pub all_of : {A : Type 0} → List (Option A) → Option (List A)
@@ -41,9 +46,9 @@ chained None links = None
 chained (Some left) [] = Some left
 chained (Some left) (l ∷ links) = chained (joined left l.0 l.1) links
 
--- the slot of a variable
+-- the slot of a variable in the frame of its function
 abbrev pub slot_of : Option Meaning → Option ℕ
-slot_of (Some (m.Variable slot)) = Some slot
+slot_of (Some (m.Local zero slot)) = Some slot
 slot_of _ = None
 
 abbrev pub InScopes : Type 0 → Type 0
@@ -102,13 +107,11 @@ resolved_stmt scopes slot _ = None
 
 -- the slots that a statement takes
 abbrev pub slots_of : Stmt → ℕ
-slots_of (s.Int at name value) = 1
-slots_of _ = 0
+slots_of x = part_words (stmt_nodes x)
 
 -- a name is visible from the end of its declaration
 abbrev pub scopes_after : InScopes (ℕ → Stmt → List (List Declaration))
-scopes_after scopes slot (s.Int at name value) = declared name (m.Variable slot) scopes
-scopes_after scopes slot _ = scopes
+scopes_after scopes slot x = declared_at (part_names (stmt_nodes x)) 0 slot scopes
 
 abbrev pub then_all : Option Command → Option (List Command) → Option (List Command)
 then_all (Some c) (Some cs) = Some (c ∷ cs)
@@ -122,26 +125,31 @@ abbrev pub body_slots : List Stmt → ℕ
 body_slots [] = 0
 body_slots (x ∷ xs) = slots_of x + body_slots xs
 
+-- where there are no parameters
+abbrev pub without : List Param → Option (List Command) → Option (List Command)
+without [] body = body
+without (x ∷ xs) body = None
+
 -- the body of a function: its declarations have a scope of their own within the top level
-abbrev pub resolved_body : List Declaration → List Stmt → Option (List Command)
-resolved_body top body = resolved_from ([] ∷ top ∷ []) 0 body
+abbrev pub resolved_body : InScopes (Function → Option (List Command))
+resolved_body scopes f = without f.params (resolved_from ([] ∷ scopes) 0 f.body)
 
 -- ---- programs
 
--- the number of a function
-abbrev pub function_of : Option Meaning → Option ℕ
-function_of (Some (m.Function number)) = Some number
-function_of _ = None
-
-abbrev pub one_core : List ℕ → List ℕ → ℕ → Option ℕ → Option (List Command) → Option Resolved
-one_core name function slots (Some entry) (Some body) =
+abbrev pub entering : List ℕ → List ℕ → ℕ → Option ℕ → Option (List Command) → Option Resolved
+entering name function slots (Some entry) (Some body) =
     Some (record { cores = record { name = name; entry = entry } ∷ []; functions = record { name = function; slots = slots; body = body } ∷ [] })
-one_core name function slots _ _ = None
+entering name function slots _ _ = None
 
--- one core and one function are built
-abbrev pub resolved_in : List Declaration → List Item → Option Resolved
-resolved_in top (i.Core at name entry ∷ i.Function f ∷ []) = one_core name f.name (body_slots f.body) (function_of (visible entry (top ∷ []))) (resolved_body top f.body)
-resolved_in top _ = None
+-- a core of that name and entry, and the only function
+abbrev pub one_core : InScopes (List ℕ → List ℕ → Function → Option Resolved)
+one_core scopes name entry f = entering name f.name (body_slots f.body) (function_number (visible entry scopes)) (resolved_body scopes f)
+
+-- one core and one function are built, in either order
+abbrev pub resolved_in : InScopes (List Item → Option Resolved)
+resolved_in scopes (i.Core at name entry ∷ i.Function f ∷ []) = one_core scopes name entry f
+resolved_in scopes (i.Function f ∷ i.Core at name entry ∷ []) = one_core scopes name entry f
+resolved_in scopes _ = None
 
 abbrev pub resolved : Program → Option Resolved
-resolved p = resolved_in (top_scope p.items) p.items
+resolved p = resolved_in (outermost p.items) p.items

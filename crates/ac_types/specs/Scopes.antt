@@ -1,10 +1,7 @@
 -- Names, the scopes in which they are declared, and what they mean.
-use Rattle.std.specs.Prelude.{ℕ, ◌+◌, List, [], ◌∷◌, ◌++◌, Option, None, Some, is_some, if◌then◌else◌}
+use Rattle.std.specs.Prelude.{ℕ, List, [], ◌∷◌, ◌++◌, Option, None, Some, is_some, if◌then◌else◌}
 use Rattle.std.specs.Str.{bytes_eq}
 use Rattle.ac_types.specs.declared.meaning.Meaning.{Meaning}
-use Rattle.ac_types.specs.declared.meaning.Meaning.TheVariants as m
-use Rattle.ac_tree.specs.declared.item.Item.{Item}
-use Rattle.ac_tree.specs.declared.item.Item.TheVariants as i
 
 pub record Declaration : Type 0 where
   pub name : List ℕ
@@ -36,14 +33,3 @@ declared name meaning (scope ∷ scopes) = added name meaning scope ∷ scopes
 abbrev pub closed : List (List Declaration) → List (List Declaration)
 closed [] = []
 closed (scope ∷ scopes) = scopes
-
--- ---- the top level, whose names are visible in the whole text; cores and functions are numbered from 0 in the order of the text
-
-abbrev pub top_from : ℕ → ℕ → List Declaration → List Item → List Declaration
-top_from cores functions scope [] = scope
-top_from cores functions scope (i.Core at name entry ∷ items) = top_from (cores + 1) functions (added name (m.Core cores) scope) items
-top_from cores functions scope (i.Function f ∷ items) = top_from cores (functions + 1) (added f.name (m.Function functions) scope) items
-top_from cores functions scope (_ ∷ items) = top_from cores functions scope items
-
-abbrev pub top_scope : List Item → List Declaration
-top_scope items = top_from 0 0 [] items

@@ -1,20 +1,40 @@
-//! What the names of a tree mean: the rules on names, and the resolved program, on which meanings and code are defined.
+//! What the names of a tree mean: the rules of the language, and the resolved program, on which meanings and code are defined.
 #![tactic(auto)]
 
-mod check;
-mod exprs;
+mod accepted;
+mod around;
+mod counted;
+mod expressions;
+mod fault;
+mod gathered;
+mod items;
+mod judged;
+mod kind;
 mod meaning;
+mod numbered;
+mod past;
+mod reach;
 mod rule;
 mod scopes;
-mod stmts;
+mod seen;
+mod statements;
 mod table;
-mod top;
+mod verdict;
+mod walk;
 
-pub use check::check_first;
+pub use accepted::{Checked, check};
+pub use fault::CheckFault;
 pub use meaning::Meaning;
 pub use rule::Rule;
 pub use scopes::Scopes;
-pub use top::top_level;
 
 #[cfg(test)]
+mod cases;
+#[cfg(test)]
+mod many;
+#[cfg(test)]
 mod tests;
+#[cfg(test)]
+mod trees;
+#[cfg(test)]
+mod weighing;

@@ -2,7 +2,7 @@
 
 ghost use Rattle.std.specs.Prelude.{◌≡◌, [], ◌∷◌, ◌<◌, ◌^◌, length, OnOk, OnErr, IfOk, is_some, not};
 ghost use Rattle.ac_types.specs.Inner.{in_inner};
-ghost use Rattle.ac_types.specs.Scopes.{visible, declared, closed, top_scope};
+ghost use Rattle.ac_types.specs.Scopes.{visible, declared, closed};
 
 use crate::meaning::Meaning;
 use crate::table::Table;
@@ -76,6 +76,16 @@ impl Scopes {
             return Ok(true);
         }
         self.tables[len - 1].declare(name, meaning)
+    }
+
+    /// What a name means in the innermost scope.
+    pub fn find_inner(&self, name: &Name) -> Option<Meaning>
+        ensures { result ≡ in_inner name.now self.now }
+    {
+        match self.tables.last() {
+            None => None,
+            Some(table) => table.find(name),
+        }
     }
 
     /// What a name means: by the innermost scope that has it. None where no scope has it.

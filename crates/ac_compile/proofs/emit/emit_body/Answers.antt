@@ -1,6 +1,6 @@
 use Rattle.std.proofs.Common.{[], ◌∷◌, drop, ◌+◌, subst, sym, arith}
 use Rattle.std.proofs.Math.ListN.{drop_of_length-le}
-use Rattle.ac_compile.proofs.Emitting.{KeepsBody, body_begun, body_more, body_done, slots_done, stmts_from, slots_few}
+use Rattle.ac_compile.proofs.Emitting.{KeepsBody, body_begun, body_more, body_done, slots_done, stmts_from, slots_few, built_at}
 use Rattle.ac_compile.proofs.emit.emit_body.Goals as goal
 
 pub loop-stmt-init : goal.loop-stmt-init
@@ -18,7 +18,7 @@ loop-stmt-preserved c = record {
       (subst (λ r. KeepsBody ([] ∷ c.args.scopes) c.args.body.now c.loop-stmt.scopes c.loop-stmt.code.slots r c.loop-stmt.code.instrs.items c.loop-stmt.code.texts.items) (stmts_from c.args.body.now c.loop-stmt.stmt-index c.stmt-item.result c.loop-stmt-test.true c.stmt-item.is) c.loop-stmt.invariant.whole)
       c.in_ok-emit_stmt.ensures.adds c.in_ok-emit_stmt.ensures.after c.in_ok-emit_stmt.ensures.slots;
   count = omega (arith, c.in_ok-emit_stmt.ensures.count, c.loop-stmt.invariant.count);
-  slots = omega (arith, c.in_ok-emit_stmt.ensures.slots, c.loop-stmt.invariant.slots, slots_few c.stmt-item.result);
+  slots = omega (arith, c.in_ok-emit_stmt.ensures.slots, c.loop-stmt.invariant.slots, slots_few c.stmt-item.result (built_at c.args.body.now c.loop-stmt.stmt-index c.stmt-item.result c.requires.built c.loop-stmt-test.true c.stmt-item.is));
 }
 
 pub returns-clause-code : goal.returns-clause-code

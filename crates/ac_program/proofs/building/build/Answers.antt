@@ -1,30 +1,36 @@
-use Rattle.std.proofs.Common.{◌<◌, ◌^◌, Option, subst, arith, length}
-use Rattle.std.specs.Prelude.{IfSome, IfNone}
-use Rattle.ac_tree.specs.declared.item.Program.{Program}
-use Rattle.ac_tree.specs.Shape.{IsFirstProgram}
-use Rattle.ac_parser.specs.Text.{SpellsText}
-use Rattle.ac_types.specs.declared.rule.Rule.{Rule}
-use Rattle.ac_types.specs.Rules.{IsClean}
-use Rattle.ac_types.proofs.Meanings.{meaning_there, short_there, counted_there}
-use Rattle.ac_program.proofs.Lengths.{source_few}
+use Rattle.std.proofs.Common.{◌≡◌, ◌*◌, refl, sym, arith}
+use Rattle.std.proofs.lemmas.Result.{err_from_is_err_and}
+use Rattle.ac_program.specs.Source.{all_steps}
 use Rattle.ac_program.proofs.building.build.Goals as goal
 
-pub check_first-requires : goal.check_first-requires
-check_first-requires c =
-    let shape = subst (λ (o : Option Program). IfSome o IsFirstProgram) c.in-Some.is c.in_ok-program.ensures.shape in
-    let spelled = subst (λ (o : Option Program). IfSome o (λ p. SpellsText c.args.source.now p)) c.in-Some.is c.in_ok-program.ensures.some in
-    let few : length shape.body < 2 ^ 32 = omega (arith, c.requires, source_few c.args.source.now c.in-Some.program spelled shape) in
-    counted_there c.in-Some.program shape few
+pub returns-in_err-checked : goal.returns-in_err-checked
+returns-in_err-checked c =
+    let p = err_from_is_err_and c.from_residual.result c.from_residual.ensures.1 in
+    rw (p.1, p.2) (c.in_err-checked.ensures c.args.steps)
 
-pub compile_first-requires-clause-built : goal.compile_first-requires-clause-built
-compile_first-requires-clause-built c =
-    let shape = subst (λ (o : Option Program). IfSome o IsFirstProgram) c.in-Some.is c.in_ok-program.ensures.shape in
-    let clean = subst (λ (o : Option Rule). IfNone o (IsClean c.in-Some.program)) c.in_default-2.is c.in_ok-rule.ensures.clean in
-    meaning_there c.in-Some.program shape clean
+pub returns-then-from-gt-MOST_STEPS : goal.returns-then-from-gt-MOST_STEPS
+returns-then-from-gt-MOST_STEPS c =
+    let all : all_steps c.in_ok-checked.checked c.args.steps ≡ c.from.result * c.from-2.result = rw (c.from.ensures, c.from-2.ensures, c.cores.ensures) refl in
+    record { program = c.in_ok-checked.checked; is_accepted = c.in_ok-checked.ensures c.args.steps; over = omega (arith, c.if-from-gt-MOST_STEPS.true, all) }
 
-pub compile_first-requires-clause-short : goal.compile_first-requires-clause-short
-compile_first-requires-clause-short c =
-    let shape = subst (λ (o : Option Program). IfSome o IsFirstProgram) c.in-Some.is c.in_ok-program.ensures.shape in
-    let spelled = subst (λ (o : Option Program). IfSome o (λ p. SpellsText c.args.source.now p)) c.in-Some.is c.in_ok-program.ensures.some in
-    let few : length shape.body < 2 ^ 32 = omega (arith, c.requires, source_few c.args.source.now c.in-Some.program spelled shape) in
-    short_there c.in-Some.program shape few
+pub returns-in-Some : goal.returns-in-Some
+returns-in-Some c =
+    let all : all_steps c.in_ok-checked.checked c.args.steps ≡ c.from.result * c.from-2.result = rw (c.from.ensures, c.from-2.ensures, c.cores.ensures) refl in
+    record {
+      program = c.in_ok-checked.checked;
+      is_within = record { is_accepted = c.in_ok-checked.ensures c.args.steps; within = omega (arith, c.if-from-gt-MOST_STEPS.false, all) };
+      unbuilt = sym c.in-Some.ensures.first;
+    }
+
+pub returns : goal.returns
+returns c =
+    let all : all_steps c.in_ok-checked.checked c.args.steps ≡ c.from.result * c.from-2.result = rw (c.from.ensures, c.from-2.ensures, c.cores.ensures) refl in
+    record {
+      program = c.in_ok-checked.checked;
+      is_runnable = record {
+        is_within = record { is_accepted = c.in_ok-checked.ensures c.args.steps; within = omega (arith, c.if-from-gt-MOST_STEPS.false, all) };
+        built = c.in_default.ensures.none;
+      };
+      is_code = c.in_ok-compile.ensures.code;
+      is_same = c.in_ok-compile.ensures.same;
+    }

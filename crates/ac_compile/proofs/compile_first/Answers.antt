@@ -1,5 +1,0 @@
-use Rattle.ac_compile.proofs.Placing.{code_same}
-use Rattle.ac_compile.proofs.compile_first.Goals as goal
-
-pub returns-clause-same : goal.returns-clause-same
-returns-clause-same c = code_same c.args.program.now c.in_ok-code.code c.in_ok-code.ensures

@@ -1,0 +1,7 @@
+use Rattle.std.proofs.Common.{◌≡◌, ◌-◌, length}
+use Rattle.ac_parser.specs.Reads.{has_token, many_at, with_front}
+use Rattle.ac_parser.specs.ReadsItems.{item_at}
+use Rattle.ac_parser.proofs.items.items.Given as goal
+
+abbrev pub invariant-items : goal.invariant-items
+invariant-items l = with_front l.items (many_at has_token item_at (l.most - l.counter) l.c.rest.now) ≡ many_at has_token item_at (length l.fn.c.rest.now) l.fn.c.rest.now

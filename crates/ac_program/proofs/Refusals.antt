@@ -1,0 +1,128 @@
+-- No source is refused with two statuses, and none that is refused is run.
+use Rattle.std.specs.Prelude.{slice_get}
+use Rattle.std.proofs.Common.{◌≡◌, ℕ, ◌<◌, ◌≤◌, List, [], ◌∷◌, length, Some, Ok, refl, sym, ◌∙◌, subst, arith}
+use Rattle.ac_lexer.specs.declared.token.Token.{Token}
+use Rattle.ac_lexer.specs.declared.fault.LexFault.{LexFault}
+use Rattle.ac_lexer.specs.declared.fault.LexFault.TheVariants as l
+use Rattle.ac_tree.specs.declared.item.Program.{Program}
+use Rattle.ac_parser.specs.Places.{UnexpectedAt, TooDeepAt}
+use Rattle.ac_types.specs.Reached.{BreaksNone, IsLeastBroken}
+use Rattle.ac_compile.specs.Unbuilt.{unbuilt_nodes}
+use Rattle.ac_program.specs.declared.refusal.Refusal.{Refusal}
+use Rattle.ac_program.specs.declared.refusal.Refusal.TheVariants as r
+use Rattle.ac_program.specs.Lines.{refusal_status}
+use Rattle.ac_program.specs.Source.{HasTokens, HasFault, IsUnexpected, IsTooDeep, IsSpelled, IsRunnable, Refuses, all_steps}
+use Rattle.ac_program.proofs.Answered.{not_deep, not_unexpected, not_both}
+
+-- ---- what a source is, from its tokens on
+
+-- what is known of a program that a source spells
+data Ruled (bound : ℕ) (p : Program) : ℕ → Type 0 where
+  breaks : (rule at : ℕ) → IsLeastBroken p.items rule at → Ruled bound p 3
+  many : BreaksNone p.items → 4000000 < all_steps p bound → Ruled bound p 10
+  unbuilt : (at : ℕ) → BreaksNone p.items → all_steps p bound ≤ 4000000 → slice_get (unbuilt_nodes p.items) 0 ≡ Some at → Ruled bound p 15
+  built : BreaksNone p.items → all_steps p bound ≤ 4000000 → unbuilt_nodes p.items ≡ [] → Ruled bound p 0
+
+-- what a source comes to, by its status, where 0 stands for those of cores
+data Comes (source : List ℕ) (bound : ℕ) : ℕ → Type 0 where
+  faulty : (f : LexFault) → HasFault source f → Comes source bound 2
+  stray : (at : ℕ) → IsUnexpected source at → Comes source bound 2
+  deep : (at : ℕ) → IsTooDeep source at → Comes source bound 10
+  spelled : (p : Program) (number : ℕ) → IsSpelled source p → Ruled bound p number → Comes source bound number
+
+comes_of : (source : List ℕ) (bound : ℕ) (refusal : Refusal) → Refuses source bound refusal → Comes source bound (refusal_status refusal)
+comes_of source bound (r.BadByte at) h = faulty (l.BadByte at) h
+comes_of source bound (r.NumberTooLarge at) h = faulty (l.NumberTooLarge at) h
+comes_of source bound (r.OpenComment at) h = faulty (l.OpenComment at) h
+comes_of source bound (r.OpenText at) h = faulty (l.OpenText at) h
+comes_of source bound (r.Unexpected at) h = stray at h
+comes_of source bound (r.TooDeep at) h = deep at h
+comes_of source bound (r.Broken rule) h = spelled h.program 3 h.spelled (breaks rule.rule rule.at h.least)
+comes_of source bound r.TooManySteps h = spelled h.program 10 h.is_accepted.spelled (many h.is_accepted.clean h.over)
+comes_of source bound (r.NotBuilt at) h = spelled h.program 15 h.is_within.is_accepted.spelled (unbuilt at h.is_within.is_accepted.clean h.is_within.within h.unbuilt)
+
+runs_of : (source : List ℕ) (bound : ℕ) (p : Program) → IsRunnable source bound p → Comes source bound 0
+runs_of source bound p h = spelled p 0 h.is_within.is_accepted.spelled (built h.is_within.is_accepted.clean h.is_within.within h.built)
+
+-- ---- one of each
+
+no_tokens : (source : List ℕ) (f : LexFault) (ts : List Token) → HasFault source f → HasTokens source ts → ⊥
+no_tokens source f ts h t = let e = h.only (Ok ts) t.lexed in absurd (cc (e))
+
+same_tokens : (source : List ℕ) (ts us : List Token) → HasTokens source ts → HasTokens source us → us ≡ ts
+same_tokens source ts us h t = let e = h.only (Ok us) t.lexed in cc (e)
+
+module _ (source : List ℕ) where
+  stray_spelled : (at : ℕ) (p : Program) → IsUnexpected source at → IsSpelled source p → ⊥
+  stray_spelled at p u s = not_unexpected s.tokens p (length source) at s.tree (subst (λ (ts : List Token). UnexpectedAt (length source) ts at) (same_tokens source s.tokens u.tokens s.lexed u.lexed) u.unexpected)
+
+  deep_spelled : (at : ℕ) (p : Program) → IsTooDeep source at → IsSpelled source p → ⊥
+  deep_spelled at p d s = not_deep s.tokens p at s.tree (subst (λ (ts : List Token). TooDeepAt ts at) (same_tokens source s.tokens d.tokens s.lexed d.lexed) d.deep)
+
+  stray_deep : (at place : ℕ) → IsUnexpected source at → IsTooDeep source place → ⊥
+  stray_deep at place u d = not_both u.tokens (length source) at place u.unexpected (subst (λ (ts : List Token). TooDeepAt ts place) (same_tokens source u.tokens d.tokens u.lexed d.lexed) d.deep)
+
+  same_program : (p q : Program) → IsSpelled source p → IsSpelled source q → p ≡ q
+  same_program p q s t = s.tree.only q t.tree.marks t.tree.spells (sym t.tree.split ∙ same_tokens source s.tokens t.tokens s.lexed t.lexed)
+
+none_first : (ns : List ℕ) (at : ℕ) → slice_get ns 0 ≡ Some at → ns ≡ [] → ⊥
+none_first [] at e h = absurd (cc (e))
+none_first (n ∷ ns) at e h = absurd (cc (h))
+
+one_rule : (bound : ℕ) (p : Program) (m n : ℕ) → Ruled bound p m → Ruled bound p n → m ≡ n
+one_rule bound p _ _ (breaks rule at b) (breaks rule' at' b') = refl
+one_rule bound p _ _ (breaks rule at b) (many c o) = absurd (c b.number rule b.is)
+one_rule bound p _ _ (breaks rule at b) (unbuilt at' c w u) = absurd (c b.number rule b.is)
+one_rule bound p _ _ (breaks rule at b) (built c w u) = absurd (c b.number rule b.is)
+one_rule bound p _ _ (many c o) (breaks rule at b) = absurd (c b.number rule b.is)
+one_rule bound p _ _ (many c o) (many c' o') = refl
+one_rule bound p _ _ (many c o) (unbuilt at c' w u) = absurd (omega (arith, o, w))
+one_rule bound p _ _ (many c o) (built c' w u) = absurd (omega (arith, o, w))
+one_rule bound p _ _ (unbuilt at c w u) (breaks rule at' b) = absurd (c b.number rule b.is)
+one_rule bound p _ _ (unbuilt at c w u) (many c' o) = absurd (omega (arith, o, w))
+one_rule bound p _ _ (unbuilt at c w u) (unbuilt at' c' w' u') = refl
+one_rule bound p _ _ (unbuilt at c w u) (built c' w' u') = absurd (none_first (unbuilt_nodes p.items) at u u')
+one_rule bound p _ _ (built c w u) (breaks rule at b) = absurd (c b.number rule b.is)
+one_rule bound p _ _ (built c w u) (many c' o) = absurd (omega (arith, o, w))
+one_rule bound p _ _ (built c w u) (unbuilt at c' w' u') = absurd (none_first (unbuilt_nodes p.items) at u' u)
+one_rule bound p _ _ (built c w u) (built c' w' u') = refl
+
+one_status : (source : List ℕ) (bound m n : ℕ) → Comes source bound m → Comes source bound n → m ≡ n
+one_status source bound _ _ (faulty f h) (faulty f' h') = refl
+one_status source bound _ _ (faulty f h) (stray at u) = refl
+one_status source bound _ _ (faulty f h) (deep at d) = absurd (no_tokens source f d.tokens h d.lexed)
+one_status source bound _ _ (faulty f h) (spelled p _ s k) = absurd (no_tokens source f s.tokens h s.lexed)
+one_status source bound _ _ (stray at u) (faulty f h) = refl
+one_status source bound _ _ (stray at u) (stray at' u') = refl
+one_status source bound _ _ (stray at u) (deep at' d) = absurd (stray_deep source at at' u d)
+one_status source bound _ _ (stray at u) (spelled p _ s k) = absurd (stray_spelled source at p u s)
+one_status source bound _ _ (deep at d) (faulty f h) = absurd (no_tokens source f d.tokens h d.lexed)
+one_status source bound _ _ (deep at d) (stray at' u) = absurd (stray_deep source at' at u d)
+one_status source bound _ _ (deep at d) (deep at' d') = refl
+one_status source bound _ _ (deep at d) (spelled p _ s k) = absurd (deep_spelled source at p d s)
+one_status source bound _ _ (spelled p _ s k) (faulty f h) = absurd (no_tokens source f s.tokens h s.lexed)
+one_status source bound _ _ (spelled p _ s k) (stray at u) = absurd (stray_spelled source at p u s)
+one_status source bound _ _ (spelled p _ s k) (deep at d) = absurd (deep_spelled source at p d s)
+one_status source bound m n (spelled p _ s k) (spelled q _ t j) = one_rule bound p m n k (subst (λ (x : Program). Ruled bound x n) (sym (same_program source p q s t)) j)
+
+-- ---- refusals
+
+-- what refuses a source does so with one status
+pub refused_once : (source : List ℕ) (bound : ℕ) (a b : Refusal) → Refuses source bound a → Refuses source bound b → refusal_status a ≡ refusal_status b
+refused_once source bound a b h k = one_status source bound (refusal_status a) (refusal_status b) (comes_of source bound a h) (comes_of source bound b k)
+
+some_status : (refusal : Refusal) → 2 ≤ refusal_status refusal
+some_status (r.BadByte at) = omega arith
+some_status (r.NumberTooLarge at) = omega arith
+some_status (r.OpenComment at) = omega arith
+some_status (r.OpenText at) = omega arith
+some_status (r.Unexpected at) = omega arith
+some_status (r.TooDeep at) = omega arith
+some_status (r.Broken rule) = omega arith
+some_status r.TooManySteps = omega arith
+some_status (r.NotBuilt at) = omega arith
+
+-- and it is not run
+pub refused_not : (source : List ℕ) (bound : ℕ) (refusal : Refusal) (p : Program) → Refuses source bound refusal → IsRunnable source bound p → ⊥
+refused_not source bound refusal p h k =
+    absurd (omega (arith, some_status refusal, one_status source bound (refusal_status refusal) 0 (comes_of source bound refusal h) (runs_of source bound p k)))

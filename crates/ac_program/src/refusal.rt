@@ -1,0 +1,109 @@
+//! Why a source is not run.
+
+ghost use Rattle.std.specs.Prelude.{◌≡◌, ◌≢◌, IfOk};
+ghost use Rattle.ac_program.specs.Lines.{place_line, rule_line, refusal_line, refusal_status};
+ghost use Rattle.ac_program.specs.declared.refusal.Stop.TheVariants as s;
+
+use ac_base::{Bytes, List, NoMemory, decimal};
+use ac_types::Rule;
+use std::alloc::Global;
+
+/// What refuses a source that is not too long. A place counts the bytes of the source from 0.
+#[derive(Clone, Copy, Debug, PartialEq, Eq)]
+pub enum Refusal {
+    /// A byte that may not stand there.
+    BadByte { at: u32 },
+    /// A number over 9,223,372,036,854,775,807.
+    NumberTooLarge { at: u32 },
+    /// A comment without an end.
+    OpenComment { at: u32 },
+    /// A text without a closing quote on its line.
+    OpenText { at: u32 },
+    /// A token with which no program goes on, or the end of the source where none ends.
+    Unexpected { at: u32 },
+    /// A token that is nested more than 256 deep.
+    TooDeep { at: u32 },
+    /// The least of the rules that the program breaks.
+    Broken(Rule),
+    /// All cores together may go more than 4,000,000 steps.
+    TooManySteps,
+    /// A form that is not built.
+    NotBuilt { at: u32 },
+}
+
+/// Why the work on a source stops before its report.
+#[derive(Clone, Copy, Debug, PartialEq, Eq)]
+pub enum Stop {
+    Refused(Refusal),
+    /// Memory was refused.
+    NoMemory,
+}
+
+impl From<NoMemory> for Stop {
+    ghost from_gives = { λ _ e. e ≡ s.NoMemory };
+
+    fn from(_: NoMemory) -> Stop {
+        Stop::NoMemory
+    }
+}
+
+// Words and a place.
+fn place_line(alloc: Global, words: &[u8], at: u32) -> Result<Bytes, NoMemory>
+    ensures { IfOk result (λ line. line ≡ place_line words.now at) }
+{
+    let at = decimal(alloc, i64::from(at))?;
+    let mut line = Vec::from_slice(alloc, words)?;
+    line.extend_from_slice(at.as_slice())?;
+    line.push(b'\n')?;
+    Ok(List::from_vec(line))
+}
+
+fn rule_line(alloc: Global, rule: Rule) -> Result<Bytes, NoMemory>
+    ensures { IfOk result (λ line. line ≡ rule_line rule) }
+{
+    let number = decimal(alloc, i64::from(rule.rule))?;
+    let at = decimal(alloc, i64::from(rule.at))?;
+    let mut line = Vec::from_slice(alloc, b"rule C")?;
+    line.extend_from_slice(number.as_slice())?;
+    line.extend_from_slice(b" at ")?;
+    line.extend_from_slice(at.as_slice())?;
+    line.push(b'\n')?;
+    Ok(List::from_vec(line))
+}
+
+impl Refusal {
+    /// The status of a call that ends with it.
+    pub fn status(self) -> u8
+        ensures number { result ≡ refusal_status self }
+        ensures other { (result ≢ 1) × ((result ≢ 7) × ((result ≢ 8) × (result ≢ 11))) }
+    {
+        match self {
+            Refusal::BadByte { .. } => 2,
+            Refusal::NumberTooLarge { .. } => 2,
+            Refusal::OpenComment { .. } => 2,
+            Refusal::OpenText { .. } => 2,
+            Refusal::Unexpected { .. } => 2,
+            Refusal::TooDeep { .. } => 10,
+            Refusal::Broken(_) => 3,
+            Refusal::TooManySteps => 10,
+            Refusal::NotBuilt { .. } => 15,
+        }
+    }
+
+    /// The line that tells it.
+    pub fn line(self, alloc: Global) -> Result<Bytes, NoMemory>
+        ensures { IfOk result (λ line. line ≡ refusal_line self) }
+    {
+        match self {
+            Refusal::BadByte { at } => place_line(alloc, b"bad byte at ", at),
+            Refusal::NumberTooLarge { at } => place_line(alloc, b"number too large at ", at),
+            Refusal::OpenComment { at } => place_line(alloc, b"open comment at ", at),
+            Refusal::OpenText { at } => place_line(alloc, b"open text at ", at),
+            Refusal::Unexpected { at } => place_line(alloc, b"unexpected token at ", at),
+            Refusal::TooDeep { at } => place_line(alloc, b"limit: nesting at ", at),
+            Refusal::Broken(rule) => rule_line(alloc, rule),
+            Refusal::TooManySteps => Ok(List::from_vec(Vec::from_slice(alloc, b"limit: steps\n")?)),
+            Refusal::NotBuilt { at } => place_line(alloc, b"not built at ", at),
+        }
+    }
+}

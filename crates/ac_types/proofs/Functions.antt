@@ -1,0 +1,57 @@
+-- A walk after a function.
+use Rattle.std.proofs.Common.{◌≡◌, ℕ, List, [], ◌∷◌, refl, sym, ap, ◌∙◌}
+use Rattle.ac_tree.specs.declared.stmt.Stmt.{Stmt}
+use Rattle.ac_tree.specs.declared.item.Function.{Function}
+use Rattle.ac_tree.specs.declared.item.Param.{Param}
+use Rattle.ac_types.specs.declared.around.Around.{Around}
+use Rattle.ac_types.specs.declared.meaning.Meaning.{Meaning}
+use Rattle.ac_types.specs.declared.numbered.Reached.{Reached}
+use Rattle.ac_types.specs.declared.numbered.Tables.{Tables}
+use Rattle.ac_types.specs.declared.walk.Names.{Names}
+use Rattle.ac_types.specs.declared.walk.Walk.{Walk}
+use Rattle.ac_types.specs.Scopes.{Declaration, declared, closed}
+use Rattle.ac_types.specs.Statements.{body_seen, names_after, after_body}
+use Rattle.ac_types.specs.Items.{param_at, param_named, params_named, function_names, around_of, function_seen}
+use Rattle.ac_types.specs.Seeing.{after_params, after_function}
+use Rattle.ac_types.proofs.Bodies.{names_of, walk_of, same_names, after_closed, after_labels}
+
+closed_one : (name : List ℕ) (m : Meaning) (scopes : List (List Declaration)) → closed (declared name m scopes) ≡ closed scopes
+closed_one name m [] = refl
+closed_one name m (x ∷ xs) = refl
+
+params_closed : (xs : List Param) (n : Names) → closed (params_named xs n).scopes ≡ closed n.scopes
+params_closed [] n = refl
+params_closed (x ∷ xs) n = params_closed xs (param_named x n) ∙ closed_one x.name (param_at x.is_array n.slot) n.scopes
+
+params_labels : (xs : List Param) (n : Names) → (params_named xs n).labels ≡ n.labels
+params_labels [] n = refl
+params_labels (x ∷ xs) n = params_labels xs (param_named x n)
+
+-- a function in a walk whose frame is empty
+abbrev inside : Tables → Function → Reached → Walk → Walk
+inside t f reached w = after_body t (around_of f reached) (body_seen f.body) (after_params f.params (walk_of (function_names w.names.scopes) w.seen))
+
+abbrev left_at : Walk → Walk
+left_at u = walk_of (names_of (closed u.names.scopes) u.names.labels 0) u.seen
+
+left_function : (t : Tables) (f : Function) (reached : Reached) (w : Walk) → w.names.labels ≡ [] → w.names.slot ≡ 0 → left_at (inside t f reached w) ≡ after_function t f reached w
+left_function t f reached w l n =
+    let names = params_named f.params (function_names w.names.scopes) in
+    let around = around_of f reached in
+    ap (λ k. walk_of k (function_seen f t w.names.scopes reached w.seen))
+    (same_names (closed (names_after (body_seen f.body) around names).scopes) w.names.scopes (names_after (body_seen f.body) around names).labels w.names.labels 0 w.names.slot
+    (after_closed (body_seen f.body) around names ∙ params_closed f.params (function_names w.names.scopes)) (after_labels (body_seen f.body) around names ∙ params_labels f.params (function_names w.names.scopes) ∙ sym l)
+    (sym n))
+
+pub function_after : (t : Tables) (f : Function) (reached : Reached) (w v u : Walk) (o c : List (List Declaration)) (ps : List Param) (body : List Stmt) (a : Around) →
+    w.names.labels ≡ [] → w.names.slot ≡ 0 → ps ≡ f.params → body ≡ f.body → a ≡ around_of f reached → o ≡ [] ∷ w.names.scopes →
+    v ≡ after_params ps (walk_of (names_of o w.names.labels w.names.slot) w.seen) → u ≡ after_body t a (body_seen body) v → c ≡ closed u.names.scopes →
+    walk_of (names_of c u.names.labels 0) u.seen ≡ after_function t f reached w
+function_after t f reached w v u o c ps body a l n ep eb ea eo ev eu ec =
+    ap (λ k. walk_of (names_of k u.names.labels 0) u.seen) ec
+    ∙ ap (λ (k : Walk). left_at k)
+    (eu ∙ ap (λ b. after_body t a (body_seen b) v) eb ∙ ap (λ b. after_body t b (body_seen f.body) v) ea
+    ∙ ap (after_body t (around_of f reached) (body_seen f.body))
+    (ev ∙ ap (λ b. after_params b (walk_of (names_of o w.names.labels w.names.slot) w.seen)) ep
+    ∙ ap (λ k. after_params f.params (walk_of k w.seen)) (same_names o ([] ∷ w.names.scopes) w.names.labels [] w.names.slot 0 eo l n)))
+    ∙ left_function t f reached w l n

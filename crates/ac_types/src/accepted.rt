@@ -1,0 +1,152 @@
+//! Checked programs.
+
+ghost use Rattle.std.specs.Prelude.{◌≡◌, ◌<◌, length, slice_get, pos, Some, IfOk, IfErr, true};
+ghost use Rattle.ac_tree.specs.Weight.{IsSmall};
+ghost use Rattle.ac_types.specs.Items.{outermost};
+ghost use Rattle.ac_types.specs.Reached.{BreaksNone, Reaches, all_calls};
+ghost use Rattle.ac_types.specs.Verdicts.{IsFault, core_names, capacities, file_paths};
+
+use crate::counted::{
+    capacity_size, count_channels, count_cores, count_files, count_functions, find_capacity,
+    find_core, find_path,
+};
+use crate::fault::CheckFault;
+use crate::gathered::whole;
+use crate::past::Past;
+use crate::scopes::Scopes;
+use crate::verdict::{Verdict, judge};
+use ac_base::{Bytes, List, Name, NoMemory};
+use ac_tree::Program;
+use std::alloc::Global;
+use std::marker::Model;
+
+/// A program that breaks no rule, for which numbers of 32 bits suffice.
+///
+/// Contracts see its tree.
+#[derive(Drop)]
+pub struct Checked {
+    program: Program,
+    // for each core whether it reaches each function
+    reach: List<List<bool>>,
+}
+
+impl Model for Checked {
+    ghost use Rattle.std.specs.Coded.{codes};
+    ghost use Rattle.ac_tree.specs.contracts.expr.Expr as e;
+    ghost use Rattle.ac_tree.specs.contracts.stmt.Stmt as s;
+    ghost use Rattle.ac_tree.specs.declared.item.Program.{Program};
+    ghost use Rattle.ac_tree.specs.Weight.{IsSmall};
+    ghost use Rattle.ac_types.specs.Reached.{BreaksNone, entries_of, all_calls};
+    ghost use Rattle.ac_types.specs.Search.{AreAll};
+
+    ghost Value = { Program };
+
+    ghost coded = { Prim.hlevel (codes, s.the_row.coded, e.the_row.coded) };
+
+    ghost view = { λ c. c.program };
+
+    ghost invariant = { λ c. (BreaksNone c.program.items × IsSmall c.program) × AreAll (all_calls c.program.items) (entries_of c.program.items) c.reach };
+}
+
+/// Checks the rules of a program. It is accepted exactly where it breaks none; else the fault is the least pair of a node, by
+/// its number in preorder, and a rule that it breaks, with the node's first byte. The program is small, as each is that at most
+/// 1,048,576 tokens spell.
+pub fn check(alloc: Global, program: Program) -> Result<Checked, CheckFault>
+    requires { IsSmall program }
+    ensures tree { IfOk result (λ checked. checked ≡ program) }
+    ensures clean { IfOk result (λ checked. BreaksNone program.items) }
+    ensures broken { IfErr result (λ fault. IsFault program fault) }
+{
+    match judge(alloc, program.items.as_slice())? {
+        Verdict::Broken(rule) => Err(CheckFault::Broken {
+            rule: rule.rule,
+            at: rule.at,
+        }),
+        Verdict::Clean(reach) => Ok(Checked { program, reach }),
+    }
+}
+
+impl Checked {
+    /// The tree, which breaks no rule and is small.
+    pub fn tree(&self) -> &Program
+        ensures tree { result.now ≡ self.now }
+        ensures clean { BreaksNone self.now.items }
+        ensures small { IsSmall self.now }
+    {
+        &self.program
+    }
+
+    /// The scopes round the items, which are one: the names of the top level. Of several declarations of one name the first
+    /// counts.
+    pub fn top_level(&self, alloc: Global) -> Result<Scopes, NoMemory>
+        ensures { IfOk result (λ scopes. scopes ≡ outermost self.now.items) }
+    {
+        let Past { names, .. } = whole(alloc, self.program.items.as_slice())?;
+        let mut scopes = Scopes::new(alloc);
+        scopes.enter(names)?;
+        Ok(scopes)
+    }
+
+    /// The number of cores.
+    pub fn cores(&self) -> u32
+        ensures { result ≡ length (core_names self.now.items) }
+    {
+        count_cores(self.program.items.as_slice())
+    }
+
+    /// The number of functions.
+    pub fn functions(&self) -> u32
+        ensures { result ≡ length (all_calls self.now.items) }
+    {
+        count_functions(self.program.items.as_slice())
+    }
+
+    /// The number of channels.
+    pub fn channels(&self) -> u32
+        ensures { result ≡ length (capacities self.now.items) }
+    {
+        count_channels(self.program.items.as_slice())
+    }
+
+    /// The number of files.
+    pub fn files(&self) -> u32
+        ensures { result ≡ length (file_paths self.now.items) }
+    {
+        count_files(self.program.items.as_slice())
+    }
+
+    /// The name of a core. There is one of that number.
+    pub fn core_name(&self, core: u32) -> &Name
+        requires { core < length (core_names self.now.items) }
+        ensures { slice_get (core_names self.now.items) core ≡ Some result.now }
+    {
+        find_core(self.program.items.as_slice(), core)
+    }
+
+    /// The capacity of a channel, in messages. There is one of that number.
+    pub fn capacity(&self, link: u32) -> u32
+        requires { link < length (capacities self.now.items) }
+        ensures { slice_get (capacities self.now.items) link ≡ Some (pos result) }
+    {
+        capacity_size(find_capacity(self.program.items.as_slice(), link))
+    }
+
+    /// The path of a file. There is one of that number.
+    pub fn path(&self, file: u32) -> &Bytes
+        requires { file < length (file_paths self.now.items) }
+        ensures { slice_get (file_paths self.now.items) file ≡ Some result.now }
+    {
+        find_path(self.program.items.as_slice(), file)
+    }
+
+    /// Whether a core reaches a function: it enters the function, or reaches one that calls it. There are a core and a function of
+    /// these numbers.
+    pub fn reaches(&self, core: u32, function: u32) -> bool
+        requires core { core < length (core_names self.now.items) }
+        requires function { function < length (all_calls self.now.items) }
+        ensures sound { result ≡ true → Reaches self.now.items core function }
+        ensures whole { Reaches self.now.items core function → result ≡ true }
+    {
+        *self.reach.get(u64::from(core)).get(u64::from(function))
+    }
+}

@@ -1,0 +1,208 @@
+//! The tables of a program.
+
+ghost use Rattle.std.specs.Prelude.{◌≡◌, ◌+◌, ◌≤◌, [], length, OnOk, IfOk};
+ghost use Rattle.ac_tree.specs.Weight.{body_weight, params_weight, items_weight};
+ghost use Rattle.ac_types.specs.Items.{kinds_in, no_past, past_all, signature_of, signatures, core_number, channel_ends, all_ends, function_nodes, outermost};
+ghost use Rattle.ac_types.specs.Nodes.{calls_of};
+ghost use Rattle.ac_types.specs.Reached.{function_number, entries, calls_in, entries_of};
+ghost use Rattle.ac_types.specs.Verdicts.{AreTables};
+ghost use Rattle.ac_types.specs.declared.numbered.Reached.TheVariants as r;
+
+use crate::items::see_function;
+use crate::meaning::Meaning;
+use crate::numbered::{Ends, Reached, Signature, Tables};
+use crate::past::Past;
+use crate::reach::{reach_table, rows};
+use crate::scopes::Scopes;
+use crate::seen::Seen;
+use crate::walk::Walk;
+use ac_base::{List, Name, NoMemory};
+use ac_tree::{Function, Item, Param};
+use std::alloc::Global;
+use std::mem;
+
+/// The tables of a program, and for each core whether it reaches each function.
+#[derive(Drop)]
+pub struct Gathered {
+    pub tables: Tables,
+    pub reach: List<List<bool>>,
+}
+
+/// What is known of all items.
+pub fn whole(alloc: Global, items: &[Item]) -> Result<Past, NoMemory>
+    requires { items_weight items.now ≤ 1048576 }
+    ensures { IfOk result (λ past. past ≡ past_all no_past items.now) }
+{
+    let mut past = Past::new(alloc);
+    for item in items {
+        past.pass(item)?;
+    }
+    Ok(past)
+}
+
+fn kinds_of(alloc: Global, params: &[Param]) -> Result<List<bool>, NoMemory>
+    ensures { IfOk result (λ kinds. kinds ≡ kinds_in params.now) }
+{
+    let mut kinds = List::new(alloc);
+    for param in params {
+        kinds.push(param.is_array)?;
+    }
+    Ok(kinds)
+}
+
+fn signature(alloc: Global, function: &Function) -> Result<Signature, NoMemory>
+    ensures { IfOk result (λ s. s ≡ signature_of function.now) }
+{
+    let params = kinds_of(alloc, function.params.as_slice())?;
+    Ok(Signature {
+        is_async: function.is_async,
+        gives_int: function.gives_int,
+        params,
+    })
+}
+
+/// How each function is called.
+pub fn signatures(alloc: Global, items: &[Item]) -> Result<List<Signature>, NoMemory>
+    ensures { IfOk result (λ list. list ≡ signatures items.now) }
+{
+    let mut list = List::new(alloc);
+    for item in items {
+        if let Item::Function(function) = item {
+            list.push(signature(alloc, function)?)?;
+        }
+    }
+    Ok(list)
+}
+
+fn core_number(meaning: Option<Meaning>) -> Option<u32>
+    ensures { result ≡ core_number meaning }
+{
+    match meaning {
+        Some(Meaning::Core(number)) => Some(number),
+        _ => None,
+    }
+}
+
+fn function_number(meaning: Option<Meaning>) -> Option<u32>
+    ensures { result ≡ function_number meaning }
+{
+    match meaning {
+        Some(Meaning::Function(number)) => Some(number),
+        _ => None,
+    }
+}
+
+fn channel_ends(scopes: &Scopes, from: &Name, to: &Name) -> Ends
+    ensures { result ≡ channel_ends scopes.now from.now to.now }
+{
+    Ends {
+        from: core_number(scopes.find(from)),
+        to: core_number(scopes.find(to)),
+    }
+}
+
+/// The ends of each channel.
+pub fn all_ends(alloc: Global, scopes: &Scopes, items: &[Item]) -> Result<List<Ends>, NoMemory>
+    ensures { IfOk result (λ list. list ≡ all_ends scopes.now items.now) }
+{
+    let mut list = List::new(alloc);
+    for item in items {
+        if let Item::Channel {
+            at: _,
+            name: _,
+            from,
+            to,
+            cap: _,
+        } = item
+        {
+            list.push(channel_ends(scopes, from, to))?;
+        }
+    }
+    Ok(list)
+}
+
+/// The function that each core enters, where its entry is one.
+pub fn entries(
+    alloc: Global,
+    scopes: &Scopes,
+    items: &[Item],
+) -> Result<List<Option<u32>>, NoMemory>
+    ensures { IfOk result (λ list. list ≡ entries scopes.now items.now) }
+{
+    let mut list = List::new(alloc);
+    for item in items {
+        if let Item::Core {
+            at: _,
+            name: _,
+            entry,
+        } = item
+        {
+            list.push(function_number(scopes.find(entry)))?;
+        }
+    }
+    Ok(list)
+}
+
+/// The functions that a function calls. The walk is then where it was.
+fn calls(
+    alloc: Global,
+    walk: &mut Walk,
+    tables: &Tables,
+    function: &Function,
+) -> Result<List<u32>, NoMemory>
+    requires labels { walk.old.names.labels ≡ [] }
+    requires slot { walk.old.names.slot ≡ 0 }
+    requires small { params_weight function.now.params + body_weight function.now.body ≤ 1048576 }
+    ensures calls { IfOk result (λ list. list ≡ calls_of (function_nodes function.now tables.now walk.old.names.scopes r.ByNone)) }
+    ensures names { OnOk result (walk.new.names ≡ walk.old.names) }
+{
+    walk.seen = Seen::new(alloc);
+    see_function(walk, tables, function, Reached::ByNone)?;
+    let seen = mem::replace(&mut walk.seen, Seen::new(alloc));
+    let Seen { first: _, calls } = seen;
+    Ok(calls)
+}
+
+/// The functions that each function calls. The walk is then where it was.
+pub fn all_calls(
+    alloc: Global,
+    walk: &mut Walk,
+    tables: &Tables,
+    items: &[Item],
+) -> Result<List<List<u32>>, NoMemory>
+    requires labels { walk.old.names.labels ≡ [] }
+    requires slot { walk.old.names.slot ≡ 0 }
+    requires small { items_weight items.now ≤ 1048576 }
+    ensures calls { IfOk result (λ list. list ≡ calls_in tables.now walk.old.names.scopes items.now) }
+    ensures names { OnOk result (walk.new.names ≡ walk.old.names) }
+{
+    let mut list = List::new(alloc);
+    for item in items {
+        if let Item::Function(function) = item {
+            list.push(calls(alloc, walk, tables, function)?)?;
+        }
+    }
+    Ok(list)
+}
+
+/// The tables of a program whose names a walk has at the top level. The walk is then where it was. There are at most 16 cores.
+pub fn gather(alloc: Global, walk: &mut Walk, items: &[Item]) -> Result<Gathered, NoMemory>
+    requires scopes { walk.old.names.scopes ≡ outermost items.now }
+    requires labels { walk.old.names.labels ≡ [] }
+    requires slot { walk.old.names.slot ≡ 0 }
+    requires few { length (entries_of items.now) ≤ 16 }
+    requires small { items_weight items.now ≤ 1048576 }
+    ensures tables { IfOk result (λ g. AreTables items.now g) }
+    ensures names { OnOk result (walk.new.names ≡ walk.old.names) }
+{
+    let entered = entries(alloc, &walk.names.scopes, items)?;
+    let mut tables = Tables {
+        functions: signatures(alloc, items)?,
+        channels: all_ends(alloc, &walk.names.scopes, items)?,
+        reached: List::new(alloc),
+    };
+    let calls = all_calls(alloc, walk, &tables, items)?;
+    let reach = reach_table(alloc, calls.as_slice(), entered.as_slice())?;
+    tables.reached = rows(alloc, calls.as_slice(), reach.as_slice())?;
+    Ok(Gathered { tables, reach })
+}
