@@ -1,16 +1,20 @@
 -- Code that finds its operands and its slots, instruction after instruction.
-use Rattle.std.proofs.Common.{◌≡◌, ℕ, zero, suc, ◌+◌, ◌-◌, ◌<◌, ◌≤◌, List, [], ◌∷◌, ◌++◌, length, drop, Some, true, refl, sym, ap, ◌∙◌, subst, arith, append_assoc, length-append, drop-cons, add-one}
+use Rattle.std.proofs.Common.{◌≡◌, ℕ, zero, suc, ◌+◌, ◌-◌, ◌<◌, ◌≤◌, List, [], ◌∷◌, ◌++◌, length, drop, Some, true, refl, sym, ap, ◌∙◌, subst, arith, append_assoc, drop-cons, add-one}
 use Rattle.std.specs.Prelude.{slice_get, nat_lt, nat_le, pos}
 use Rattle.std.proofs.lemmas.Bool.Decides.{nat_tests}
 use Rattle.std.proofs.lemmas.Option.{slice_get_within, get_or_from_slice_get}
-use Rattle.ac_types.specs.Resolved.{Operation, Plus, Minus, Times, Expression, Number, Variable, Combine, Command, Set, Print}
-use Rattle.ac_types.proofs.Within.{IsWithin, AreWithin, IsCommandWithin, IsBodyWithin}
+use Rattle.ac_tree.specs.declared.expr.BinaryOp.{BinaryOp}
+use Rattle.ac_resolve.specs.declared.value.Value.{Value}
+use Rattle.ac_resolve.specs.declared.value.ValueLink.{ValueLink}
+use Rattle.ac_resolve.specs.declared.command.Command.{Command}
 use Rattle.stack_code.specs.declared.code.Entered.{Entered}
 use Rattle.stack_code.specs.declared.instr.Instr.{Instr}
 use Rattle.stack_code.specs.declared.instr.Instr.TheVariants as i
 use Rattle.stack_code.specs.Parts.{Parts, Begins}
 use Rattle.stack_code.specs.Valid.{Leads, Stops, Goes, effect, Reaches, begins, goes, Fits}
-use Rattle.ac_compile.specs.Translation.{instr_of, expr_code, args_code, command_code, texts_in, body_texts, body_code, last_code}
+use Rattle.ac_compile.specs.Built.{IsOperator, add, sub, mul, IsValue, number, variable, chain, AreLinks, no_link, one_link, AreValues, IsCommand, set, print, AreCommands}
+use Rattle.ac_compile.specs.Translation.{operator_code, value_code, link_code, links_code, values_code, command_code, body_code, last_code}
+use Rattle.ac_compile.proofs.Codes.{number_code, variable_code, chain_code, one_link_code}
 
 module _ (code : Parts) (slots : ℕ) where
   -- each instruction finds its operands, of which there are so many before the first, and the last stops
@@ -25,26 +29,41 @@ module _ (code : Parts) (slots : ℕ) where
   next : (depth after : ℕ) (instr : Instr) (rest : List Instr) → effect code slots instr depth ≡ Some (Goes after) → Finds after rest → Finds depth (instr ∷ rest)
   next depth after instr rest e f = finds depth instr rest (Goes after) e (onward after rest f)
 
-  operation_finds : (op : Operation) (depth : ℕ) (rest : List Instr) → Finds (suc depth) rest → Finds (suc (suc depth)) (instr_of op ∷ rest)
-  operation_finds Plus depth rest f = next (suc (suc depth)) (suc depth) i.Add rest refl f
-  operation_finds Minus depth rest f = next (suc (suc depth)) (suc depth) i.Sub rest refl f
-  operation_finds Times depth rest f = next (suc (suc depth)) (suc depth) i.Mul rest refl f
+  operator_finds : (op : BinaryOp) → IsOperator op → (depth : ℕ) (rest : List Instr) → Finds (suc depth) rest → Finds (suc (suc depth)) (operator_code op ++ rest)
+  operator_finds _ add depth rest f = next (suc (suc depth)) (suc depth) i.Add rest refl f
+  operator_finds _ sub depth rest f = next (suc (suc depth)) (suc depth) i.Sub rest refl f
+  operator_finds _ mul depth rest f = next (suc (suc depth)) (suc depth) i.Mul rest refl f
 
   slot_there : (slot : ℕ) → slot < slots → nat_lt slot slots ≡ true
   slot_there slot lt = grind (arith, nat_tests)
 
-  expr_finds : (e : Expression) (depth : ℕ) (rest : List Instr) → IsWithin slots e → Finds (suc depth) rest → Finds depth (expr_code e ++ rest)
-  expr_finds (Number v) depth rest w f = next depth (suc depth) (i.Push v) rest refl f
-  expr_finds (Variable slot) depth rest w f = next depth (suc depth) (i.Load slot) rest (rw (slot_there slot w) refl) f
-  expr_finds (Combine op a b) depth rest w f =
-      let assoc : (expr_code a ++ (expr_code b ++ instr_of op ∷ [])) ++ rest ≡ expr_code a ++ (expr_code b ++ instr_of op ∷ rest) = simp append_assoc in
-      subst (Finds depth) (sym assoc) (expr_finds a depth _ w.0 (expr_finds b (suc depth) _ w.1 (operation_finds op depth rest f)))
+  -- the same instructions, in whatever form they stand
+  same_finds : (depth : ℕ) (code part rest : List Instr) → part ≡ code → Finds depth (code ++ rest) → Finds depth (part ++ rest)
+  same_finds depth code part rest e f = subst (λ c. Finds depth (c ++ rest)) (sym e) f
 
-  args_find : (es : List Expression) (depth : ℕ) (rest : List Instr) → AreWithin slots es → Finds (length es + depth) rest → Finds depth (args_code es ++ rest)
-  args_find [] depth rest w f = let e : 0 + depth ≡ depth = omega arith in subst (λ d. Finds d rest) e f
-  args_find (e ∷ es) depth rest w f =
-      let len : length (e ∷ es) + depth ≡ length es + suc depth = omega arith in
-      subst (Finds depth) (sym (append_assoc (expr_code e) (args_code es) rest)) (expr_finds e depth _ w.0 (args_find es (suc depth) rest w.1 (subst (λ d. Finds d rest) len f)))
+  mutual
+    value_finds : (x : Value) → IsValue slots x → (depth : ℕ) (rest : List Instr) → Finds (suc depth) rest → Finds depth (value_code x ++ rest)
+    value_finds _ (number n) depth rest f = same_finds depth (i.Push n ∷ []) _ rest (number_code n) (next depth (suc depth) (i.Push n) rest refl f)
+    value_finds _ (variable slot lt) depth rest f = same_finds depth (i.Load slot ∷ []) _ rest (variable_code slot) (next depth (suc depth) (i.Load slot) rest (rw (slot_there slot lt) refl) f)
+    value_finds _ (chain first others v w) depth rest f =
+        same_finds depth (value_code first ++ links_code others) _ rest (chain_code first others)
+        (subst (Finds depth) (sym (append_assoc (value_code first) (links_code others) rest)) (value_finds first v depth _ (links_find others w depth rest f)))
+
+    links_find : (ls : List ValueLink) → AreLinks slots ls → (depth : ℕ) (rest : List Instr) → Finds (suc depth) rest → Finds (suc depth) (links_code ls ++ rest)
+    links_find _ no_link depth rest f = f
+    links_find _ (one_link l others o v w) depth rest f =
+        let operand = value_code l.operand in
+        let operator = operator_code l.op in
+        subst (Finds (suc depth)) (sym (append_assoc (link_code l) (links_code others) rest))
+        (same_finds (suc depth) (operand ++ operator) (link_code l) (links_code others ++ rest) (one_link_code l)
+        (subst (Finds (suc depth)) (sym (append_assoc operand operator (links_code others ++ rest)))
+        (value_finds l.operand v (suc depth) _ (operator_finds l.op o depth _ (links_find others w depth rest f)))))
+
+  values_find : (xs : List Value) (depth : ℕ) (rest : List Instr) → AreValues slots xs → Finds (length xs + depth) rest → Finds depth (values_code xs ++ rest)
+  values_find [] depth rest v f = let e : 0 + depth ≡ depth = omega arith in subst (λ d. Finds d rest) e f
+  values_find (x ∷ xs) depth rest v f =
+      let len : length (x ∷ xs) + depth ≡ length xs + suc depth = omega arith in
+      subst (Finds depth) (sym (append_assoc (value_code x) (values_code xs) rest)) (value_finds x v.0 depth _ (values_find xs (suc depth) rest v.1 (subst (λ d. Finds d rest) len f)))
 
   print_finds : (text count : ℕ) (rest : List Instr) → text < length code.texts → Finds 0 rest → Finds (count + 0) (i.Print text count ∷ rest)
   print_finds text count rest lt f =
@@ -56,24 +75,21 @@ module _ (code : Parts) (slots : ℕ) where
   store_finds : (slot : ℕ) (rest : List Instr) → slot < slots → Finds 0 rest → Finds 1 (i.Store slot ∷ rest)
   store_finds slot rest lt f = next 1 0 (i.Store slot) rest (rw (slot_there slot lt) refl) f
 
-  command_finds : (c : Command) (text : ℕ) (rest : List Instr) → text + length (texts_in c) ≤ length code.texts → IsCommandWithin slots c → Finds 0 rest → Finds 0 (command_code text c ++ rest)
-  command_finds (Set slot value) text rest lt w f =
-      next 0 0 i.Step ((expr_code value ++ i.Store slot ∷ []) ++ rest) refl
-      (subst (Finds 0) (sym (append_assoc (expr_code value) (i.Store slot ∷ []) rest)) (expr_finds value 0 _ w.1 (store_finds slot rest w.0 f)))
-  command_finds (Print format args) text rest lt w f =
+  command_finds : (x : Command) → IsCommand slots (length code.texts) x → (rest : List Instr) → Finds 0 rest → Finds 0 (command_code x ++ rest)
+  command_finds _ (set slot value lt v) rest f =
+      next 0 0 i.Step ((value_code value ++ i.Store slot ∷ []) ++ rest) refl
+      (subst (Finds 0) (sym (append_assoc (value_code value) (i.Store slot ∷ []) rest)) (value_finds value v 0 _ (store_finds slot rest lt f)))
+  command_finds _ (print text args lt short v) rest f =
       let print = i.Print text (length args) in
-      next 0 0 i.Step ((args_code args ++ print ∷ []) ++ rest) refl
-      (subst (Finds 0) (sym (append_assoc (args_code args) (print ∷ []) rest)) (args_find args 0 _ w (print_finds text (length args) rest (omega (arith, lt)) f)))
+      next 0 0 i.Step ((values_code args ++ print ∷ []) ++ rest) refl
+      (subst (Finds 0) (sym (append_assoc (values_code args) (print ∷ []) rest)) (values_find args 0 _ v (print_finds text (length args) rest lt f)))
 
   last_finds : Finds 0 last_code
   last_finds = next 0 1 (i.Push (pos 0)) (i.Ret ∷ []) refl (finds 1 i.Ret [] Stops refl (stops []))
 
-  pub body_finds : (body : List Command) (text : ℕ) → text + length (body_texts body) ≤ length code.texts → IsBodyWithin slots body → Finds 0 (body_code text body ++ last_code)
-  body_finds [] text le w = last_finds
-  body_finds (c ∷ cs) text le w =
-      let after = text + length (texts_in c) in
-      let many = length-append (texts_in c) (body_texts cs) in
-      subst (Finds 0) (sym (append_assoc (command_code text c) (body_code after cs) last_code)) (command_finds c text _ (omega (arith, le, many)) w.0 (body_finds cs after (omega (arith, le, many)) w.1))
+  pub body_finds : (body : List Command) → AreCommands slots (length code.texts) body → Finds 0 (body_code body ++ last_code)
+  body_finds [] v = last_finds
+  body_finds (x ∷ xs) v = subst (Finds 0) (sym (append_assoc (command_code x) (body_code xs) last_code)) (command_finds x v.0 _ (body_finds xs v.1))
 
   -- ---- what is reached
 

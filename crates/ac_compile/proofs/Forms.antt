@@ -1,6 +1,6 @@
--- A program that breaks no rule, and is built, is one core and one function, and has a meaning.
-use Rattle.std.proofs.Common.{◌≡◌, ℕ, ◌<◌, ◌≤◌, List, [], ◌∷◌, ◌++◌, length, map, Option, Some, None, Bool, true, false, ◌⊎◌, inl, inr, refl, sym, ap, ◌∙◌, subst, arith}
-use Rattle.std.specs.Prelude.{not, nat_eq, is_some, slice_get, if◌then◌else◌, IsSome}
+-- A program that breaks no rule, and is built, is one core and one function whose commands are built.
+use Rattle.std.proofs.Common.{◌≡◌, ℕ, ◌+◌, ◌≤◌, List, [], ◌∷◌, ◌++◌, length, map, Option, Some, None, Bool, true, false, ◌⊎◌, inl, inr, refl, sym, ap, ◌∙◌, subst, arith}
+use Rattle.std.specs.Prelude.{not, nat_eq, is_some, slice_get, if◌then◌else◌}
 use Rattle.std.specs.Str.{bytes_eq}
 use Rattle.std.proofs.lemmas.Slice.Eq.{bytes_eq-Decides}
 use Rattle.std.proofs.lemmas.Bool.Decides.{nat_tests}
@@ -24,23 +24,23 @@ use Rattle.ac_types.specs.Judged.{once_tests}
 use Rattle.ac_types.specs.Expressions.{one_node, join_nodes}
 use Rattle.ac_types.specs.Statements.{body_gives, stmt_nodes}
 use Rattle.ac_types.specs.Items.{kinds_in, signature_of, tables_of, is_no_entry, core_tests, params_named, function_names, around_of, params_give, function_nodes, item_gives, items_give, program_nodes, no_past, past_after, outermost}
-use Rattle.ac_types.specs.Reached.{IsBrokenRule, BreaksNone, function_number}
-use Rattle.ac_types.specs.Resolution.{resolved_from, without, resolved_body, body_slots, entering, one_core, resolved_in}
-use Rattle.ac_types.specs.Verdicts.{core_names}
-use Rattle.ac_tree.specs.Weight.{body_weight, items_weight}
-use Rattle.ac_types.proofs.Within.{AllMean, none_mean, added_mean, in_added, outer}
+use Rattle.ac_types.specs.Reached.{IsBrokenRule, BreaksNone}
+use Rattle.ac_tree.specs.Weight.{items_weight, IsSmall}
+use Rattle.ac_types.proofs.Visible.{AllMean, none_mean, added_mean, in_added, outer}
 use Rattle.ac_types.proofs.Cleans.{AllClean, clean_sooner, clean_later, clean_program}
 use Rattle.ac_compile.specs.Unbuilt.{params_unbuilt, body_unbuilt, is_entry, first_entry, item_unbuilt, items_unbuilt, unbuilt_nodes}
-use Rattle.ac_compile.specs.Translation.{IsCodeOf}
-use Rattle.ac_compile.specs.Emitted.{alone, IsCore, first_function}
-use Rattle.ac_compile.proofs.Meant.{Has, no_node, neither, node_built, HasSlots, body_has}
-use Rattle.stack_code.specs.Parts.{Parts}
+use Rattle.ac_compile.specs.Built.{AreCommands, IsOne}
+use Rattle.ac_compile.proofs.Resolving.{no_node, neither, node_built, HasSlots, AllShort, body_built}
+use Rattle.ac_compile.proofs.Smalls.{all_short}
+use Rattle.ac_resolve.specs.Places.{function_of}
+use Rattle.ac_resolve.specs.Commands.{all_words, body_told, commands}
+use Rattle.ac_resolve.specs.Resolution.{function_in, function_texts, resolved}
 
--- the entry is the only function, which is built and has a meaning in these scopes
+-- the entry is the only function, which is built in these scopes
 pub record IsMeant (scopes : List (List Declaration)) (entry : List ℕ) (f : Function) : Type 0 where
-  pub number : function_number (visible entry scopes) ≡ Some 0
-  pub body : Has (resolved_body scopes f)
+  pub number : visible entry scopes ≡ Some (m.Function 0)
   pub built : body_unbuilt f.body ≡ []
+  pub body : AllShort f.body → AreCommands (function_in f scopes []).slots (length (function_texts f [])) (function_in f scopes []).body
 
 pub data IsPair : List Item → Type 0 where
   core_first : (at : ℕ) (name entry : List ℕ) (f : Function) → IsMeant (outermost (i.Core at name entry ∷ i.Function f ∷ [])) entry f → IsPair (i.Core at name entry ∷ i.Function f ∷ [])
@@ -110,11 +110,8 @@ core_no_function c n e = cc
 pub two_mean : (P : Meaning → Type 0) (a b : List ℕ) (x y : Meaning) → P x → P y → AllMean P (added b y (added a x []))
 two_mean P a b x y p q = added_mean P b y (added a x []) q (added_mean P a x [] p (none_mean P))
 
-function_body : (f : Function) (scopes : List (List Declaration)) → f.params ≡ [] → Has (resolved_from ([] ∷ scopes) 0 f.body) → Has (resolved_body scopes f)
-function_body f scopes e h = record { value = h.value; is = ap (λ ps. without ps (resolved_from ([] ∷ scopes) 0 f.body)) e ∙ h.is }
-
 module _ (names : List Declaration) (first : AllMean IsFirst names) (ints : AllMean IsNoInt names) (t : Tables) (f : Function) (only : t.functions ≡ signature_of f ∷ []) where
-  no_ints : HasSlots ([] ∷ names ∷ [])
+  no_ints : HasSlots 0 ([] ∷ names ∷ [])
   no_ints name what e kind = absurd (ints name what (outer (in_scope name names) what e) kind)
 
   number_is : (entry : List ℕ) (o : Option Meaning) → visible entry (names ∷ []) ≡ o → (g : IsFunction o) → o ≡ Some (m.Function 0)
@@ -130,6 +127,9 @@ module _ (names : List Declaration) (first : AllMean IsFirst names) (ints : AllM
       AllClean (params_give (List Node) one_node [] join_nodes ps (function_names (names ∷ []))
       ++ body_gives (List Node) one_node [] join_nodes (map stmt_nodes f.body) t (params_named ps (function_names (names ∷ []))) (around_of f reached))
 
+  abbrev BodyDone : List Param → Type 0
+  BodyDone ps = AreCommands (length ps + all_words (body_told f.body)) (length (function_texts f [])) (commands (body_told f.body) (params_named ps (function_names (names ∷ []))) 0 [])
+
   meant : (before : Option Meaning) (entry : List ℕ) (reached : Reached) → AreClean (core_tests before (visible entry (names ∷ [])) (callee t (visible entry (names ∷ [])))) →
       AllClean (function_nodes f t (names ∷ []) reached) → body_unbuilt f.body ≡ [] → IsMeant (names ∷ []) entry f
   meant before entry reached c nodes u =
@@ -139,9 +139,10 @@ module _ (names : List Declaration) (first : AllMean IsFirst names) (ints : AllM
       let params = no_params (not f.is_async) f.params fits in
       let body : BodyClean reached [] = subst (BodyClean reached) params nodes in
       record {
-        number = ap function_number number;
-        body = function_body f (names ∷ []) params (body_has f.body t (function_names (names ∷ [])) (around_of f reached) refl no_ints body u);
+        number = number;
         built = u;
+        body = λ short. subst BodyDone (sym params)
+            (body_built (0 + all_words (body_told f.body)) (length (function_texts f [])) f.body t (function_names (names ∷ [])) (around_of f reached) [] refl no_ints body u short (omega arith) (omega arith));
       }
 
 -- ---- a name that is declared twice
@@ -305,67 +306,33 @@ pair_of (i.Function f ∷ i.Global at2 name2 size value ∷ xs) rows c u = absur
 pair_of (i.Function f ∷ i.Channel at2 name2 from to cap ∷ xs) rows c u = absurd (no_node at2 [] (middle (item_unbuilt (first_entry xs) false (i.Function f)) (at2 ∷ []) (items_unbuilt (first_entry xs) false xs) u))
 pair_of (i.Function f ∷ i.File at2 name2 path ∷ xs) rows c u = absurd (no_node at2 [] (middle (item_unbuilt (first_entry xs) false (i.Function f)) (at2 ∷ []) (items_unbuilt (first_entry xs) false xs) u))
 
-pub pair_there : (items : List Item) → BreaksNone items → unbuilt_nodes items ≡ [] → IsPair items
-pair_there items b u = let r = clean_program items b in pair_of items r.0 r.1 u
+-- ---- its resolved program
 
--- ---- what the code of such a program stands on
-
-pub record IsPlan (items : List Item) (name : List ℕ) (f : Function) : Type 0 where
-  pub meant : Has (resolved_body (outermost items) f)
-  pub built : body_unbuilt f.body ≡ []
-  pub weight : body_weight f.body ≤ items_weight items
-  pub resolves : resolved_in (outermost items) items ≡ entering name f.name (body_slots f.body) (Some 0) (resolved_body (outermost items) f)
-
-plan_of : (items : List Item) (name entry : List ℕ) (f : Function) → IsMeant (outermost items) entry f → body_weight f.body ≤ items_weight items → resolved_in (outermost items) items ≡ one_core (outermost items) name entry f → IsPlan items name f
-plan_of items name entry f h le e = record {
-  meant = h.body;
-  built = h.built;
-  weight = le;
-  resolves = e ∙ ap (λ n. entering name f.name (body_slots f.body) n (resolved_body (outermost items) f)) h.number;
+one_items : (items : List Item) → IsPair items → items_weight items ≤ 1048576 → IsOne (resolved (record { items = items }))
+one_items _ (core_first at name entry f h) small = record {
+  core = record { name = name; entry = function_of (visible entry (outermost (i.Core at name entry ∷ i.Function f ∷ []))) };
+  function = function_in f (outermost (i.Core at name entry ∷ i.Function f ∷ [])) [];
+  cores = refl;
+  entry = ap function_of h.number;
+  functions = refl;
+  body = h.body (all_short f.body h.built (omega (arith, small)));
+}
+one_items _ (function_first at name entry f h) small = record {
+  core = record { name = name; entry = function_of (visible entry (outermost (i.Function f ∷ i.Core at name entry ∷ []))) };
+  function = function_in f (outermost (i.Function f ∷ i.Core at name entry ∷ [])) [];
+  cores = refl;
+  entry = ap function_of h.number;
+  functions = refl;
+  body = h.body (all_short f.body h.built (omega (arith, small)));
 }
 
-same_plan : (items : List Item) (a b : List ℕ) (f g : Function) → Some a ≡ Some b → Some f ≡ Some g → IsPlan items a f → IsPlan items b g
-same_plan items a b f g e h x =
-    let name : a ≡ b = cc in
-    let function : f ≡ g = cc in
-    subst (λ n. IsPlan items n g) name (subst (λ k. IsPlan items a k) function x)
+pub one_program : (p : Program) → BreaksNone p.items → unbuilt_nodes p.items ≡ [] → IsSmall p → IsOne (resolved p)
+one_program p b u small = one_items p.items (pair_of p.items (clean_program p.items b).0 (clean_program p.items b).1 u) small
 
-planned : (items : List Item) (a : List ℕ) (g : Function) → IsPair items → slice_get (core_names items) 0 ≡ Some a → first_function items ≡ Some g → IsPlan items a g
-planned _ a g (core_first at name entry f h) e k = same_plan (i.Core at name entry ∷ i.Function f ∷ []) name a f g e k (plan_of (i.Core at name entry ∷ i.Function f ∷ []) name entry f h (omega arith) refl)
-planned _ a g (function_first at name entry f h) e k = same_plan (i.Function f ∷ i.Core at name entry ∷ []) name a f g e k (plan_of (i.Function f ∷ i.Core at name entry ∷ []) name entry f h (omega arith) refl)
+one_in : (items : List Item) → IsPair items → length (resolved (record { items = items })).cores ≡ 1
+one_in _ (core_first at name entry f h) = refl
+one_in _ (function_first at name entry f h) = refl
 
-pub one_name : (items : List Item) → IsPair items → 0 < length (core_names items)
-one_name _ (core_first at name entry f h) = omega arith
-one_name _ (function_first at name entry f h) = omega arith
-
-pub some_function : (items : List Item) → IsPair items → first_function items ≡ None → ⊥
-some_function _ (core_first at name entry f h) e = cc
-some_function _ (function_first at name entry f h) e = cc
-
-pub plan : (items : List Item) (a : List ℕ) (g : Function) → BreaksNone items → unbuilt_nodes items ≡ [] → slice_get (core_names items) 0 ≡ Some a → first_function items ≡ Some g → IsPlan items a g
-plan items a g b u e k = planned items a g (pair_there items b u) e k
-
-has_some : {A : Type 0} (o : Option A) → Has o → IsSome o
-has_some o h = rw h.is refl
-
--- what is found in the items of the tree
-module _ (all items : List Item) (e : items ≡ all) (b : BreaksNone all) (u : unbuilt_nodes all ≡ []) (found : Option Function) (is : found ≡ first_function items) where
-  in_all : found ≡ first_function all
-  in_all = is ∙ ap first_function e
-
-  pub found_plan : (name : List ℕ) (f : Function) → slice_get (core_names all) 0 ≡ Some name → found ≡ Some f → IsPlan all name f
-  found_plan name f k s = plan all name f b u k (sym in_all ∙ s)
-
-  pub found_some : found ≡ None → ⊥
-  found_some n = some_function all (pair_there all b u) (sym in_all ∙ n)
-
--- the code of the core is that of the program
-pub program_code : (p : Program) (name : List ℕ) (f : Function) (code : Parts) → IsPlan p.items name f → IsCore name f.name (body_slots f.body) (resolved_body (outermost p.items) f) code → IsCodeOf p code
-program_code p name f code h c = record {
-  meaning = alone name f.name (body_slots f.body) h.meant.value;
-  resolves = h.resolves ∙ ap (entering name f.name (body_slots f.body) (Some 0)) h.meant.is;
-  code_is = subst (λ o. IsCore name f.name (body_slots f.body) o code) h.meant.is c;
-}
-
-pub meant_some : (items : List Item) (name : List ℕ) (f : Function) → IsPlan items name f → IsSome (resolved_body (outermost items) f)
-meant_some items name f h = has_some (resolved_body (outermost items) f) h.meant
+-- it has one core
+pub one_core : (p : Program) → BreaksNone p.items → unbuilt_nodes p.items ≡ [] → length (resolved p).cores ≡ 1
+one_core p b u = one_in p.items (pair_of p.items (clean_program p.items b).0 (clean_program p.items b).1 u)

@@ -12,8 +12,7 @@ use Rattle.ac_tree.specs.declared.item.Item.{Item}
 use Rattle.ac_tree.specs.declared.item.Item.TheVariants as i
 use Rattle.ac_tree.specs.declared.item.Param.{Param}
 use Rattle.ac_types.specs.Scopes.{or_else}
-use Rattle.ac_types.specs.Resolution.{name_of}
-use Rattle.ac_compile.specs.Unbuilt.{node, is_built_op, ops_built, operands, expr_step, link_step, expr_unbuilt, link_unbuilt, exprs_unbuilt, value_unbuilt, decimal_line, stmt_unbuilt, body_unbuilt, params_unbuilt, first_entry, is_entry, item_unbuilt, is_late, items_unbuilt, unbuilt_nodes}
+use Rattle.ac_compile.specs.Unbuilt.{name_of, node, is_built_op, ops_built, operands, expr_step, link_step, expr_unbuilt, link_unbuilt, exprs_unbuilt, value_unbuilt, decimal_line, stmt_unbuilt, body_unbuilt, params_unbuilt, first_entry, is_entry, item_unbuilt, is_late, items_unbuilt, unbuilt_nodes}
 use Rattle.ac_compile.specs.Found.{node_first, expr_first, links_built, links_first, exprs_first, value_first, stmt_first, body_first, params_first, item_first, items_first}
 
 abbrev head : List ℕ → Option ℕ

@@ -1,9 +1,10 @@
 pub mod Founds
-pub mod Meant
-pub mod Forms
-pub mod Smalls
+pub mod Codes
+pub mod Amounts
 pub mod Placed
 pub mod Agrees
 pub mod Fitting
 pub mod Placing
-pub mod Emitting
+pub mod Resolving
+pub mod Smalls
+pub mod Forms

@@ -1,6 +1,5 @@
--- Numbers of 32 bits suffice for the body of a small program.
-use Rattle.std.proofs.Common.{◌≡◌, ℕ, zero, suc, ◌+◌, ◌<◌, ◌≤◌, ◌^◌, List, [], ◌∷◌, length, Option, sym, ap, ◌∙◌, subst, arith}
-use Rattle.std.specs.Prelude.{All}
+-- Numbers of 32 bits suffice for the statements of a small program.
+use Rattle.std.proofs.Common.{◌≡◌, ℕ, ◌+◌, ◌<◌, ◌≤◌, ◌^◌, List, [], ◌∷◌, length, sym, ap, ◌∙◌, subst, arith}
 use Rattle.ac_tree.specs.declared.expr.Expr.{Expr, ind-Expr, fold-roll-Expr, map-Expr}
 use Rattle.ac_tree.specs.declared.expr.Expr.TheOpen.{Expr-F}
 use Rattle.ac_tree.specs.declared.expr.Link.{Link, fold-Link}
@@ -8,10 +7,9 @@ use Rattle.ac_tree.specs.declared.stmt.Stmt.{Stmt}
 use Rattle.ac_tree.specs.declared.stmt.Stmt.TheVariants as s
 use Rattle.ac_tree.specs.declared.stmt.Stmt.TheFolds.{fold-roll-Stmt}
 use Rattle.ac_tree.specs.declared.stmt.Stmt.TheOpen.{Stmt-F}
-use Rattle.ac_tree.specs.Weight.{expr_weigh, link_weigh, expr_weight, exprs_weight, value_weight, stmt_weigh, stmt_weight, body_weight}
-use Rattle.ac_compile.specs.Unbuilt.{stmt_at, stmt_unbuilt, body_unbuilt, IsBuilt}
-use Rattle.ac_compile.specs.Short.{IsShortStmt, IsShortBody}
-use Rattle.ac_compile.proofs.Meant.{no_node, neither}
+use Rattle.ac_tree.specs.Weight.{expr_weigh, link_weigh, expr_weight, exprs_weight, stmt_weigh, stmt_weight, body_weight}
+use Rattle.ac_compile.specs.Unbuilt.{stmt_at, stmt_unbuilt, body_unbuilt}
+use Rattle.ac_compile.proofs.Resolving.{no_node, neither, IsShortStmt, AllShort}
 
 -- ---- an expression weighs something
 
@@ -58,52 +56,15 @@ few_exprs (x ∷ xs) = let more = few_exprs xs in let one = one_expr x in omega 
 print_weight : (at : ℕ) (format : List ℕ) (args : List Expr) → stmt_weight (s.Print at format args) ≡ 5 + exprs_weight args
 print_weight at format args = ap stmt_weight (sym (s.rolls-Print at format args)) ∙ fold-roll-Stmt ℕ stmt_weigh (Stmt-F.Print at format args)
 
-assign_weight : (at : ℕ) (place value : Expr) → stmt_weight (s.Assign at place value) ≡ 1 + (expr_weight place + expr_weight value)
-assign_weight at place value = ap stmt_weight (sym (s.rolls-Assign at place value)) ∙ fold-roll-Stmt ℕ stmt_weigh (Stmt-F.Assign at place value)
+-- a statement that is built is short where it weighs little
+short_stmt : (x : Stmt) → stmt_unbuilt x ≡ [] → stmt_weight x < 2 ^ 32 → IsShortStmt x
+short_stmt (s.Int at name value) u lt = tt
+short_stmt (s.Assign at place value) u lt = tt
+short_stmt (s.Print at format args) u lt = let w = print_weight at format args in let few = few_exprs args in omega (arith, w, few, lt)
+short_stmt x u lt = absurd (no_node (stmt_at x) [] u)
 
-int_weight : (at : ℕ) (name : List ℕ) (value : Option Expr) → stmt_weight (s.Int at name value) ≡ 3 + value_weight value
-int_weight at name value = ap stmt_weight (sym (s.rolls-Int at name value)) ∙ fold-roll-Stmt ℕ stmt_weigh (Stmt-F.Int at name value)
-
--- a statement that is built weighs something, and is short where it weighs little
-record Weighs (x : Stmt) : Type 0 where
-  one : 1 ≤ stmt_weight x
-  short : stmt_weight x < 2 ^ 32 → IsShortStmt x
-
-weighs : (x : Stmt) → IsBuilt x → Weighs x
-weighs (s.Int at name value) u = record { one = let w = int_weight at name value in omega (arith, w); short = λ lt. tt }
-weighs (s.Assign at place value) u = record { one = let w = assign_weight at place value in omega (arith, w); short = λ lt. tt }
-weighs (s.Print at format args) u = record {
-  one = let w = print_weight at format args in omega (arith, w);
-  short = λ lt. let w = print_weight at format args in let few = few_exprs args in omega (arith, w, few, lt);
-}
-weighs x u = absurd (no_node (stmt_at x) [] u)
-
-all_more : {A : Type 0} (P : A → Type 0) (x : A) (xs : List A) → P x → All P xs → All P (x ∷ xs)
-all_more P x xs h hs zero d lt = h
-all_more P x xs h hs (suc k) d lt = hs k d (omega (arith, lt))
-
-no_more : {A : Type 0} (P : A → Type 0) → All P []
-no_more P k d lt = absurd (omega (arith, lt))
-
-pub all_built : (xs : List Stmt) → body_unbuilt xs ≡ [] → All IsBuilt xs
-all_built [] u = no_more IsBuilt
-all_built (x ∷ xs) u = let parts = neither (stmt_unbuilt x) (body_unbuilt xs) u in all_more IsBuilt x xs parts.left (all_built xs parts.right)
-
-few_stmts : (xs : List Stmt) → body_unbuilt xs ≡ [] → length xs ≤ body_weight xs
-few_stmts [] u = omega arith
-few_stmts (x ∷ xs) u =
-    let parts = neither (stmt_unbuilt x) (body_unbuilt xs) u in
-    let more = few_stmts xs parts.right in
-    let one = (weighs x parts.left).one in
-    omega (arith, more, one)
-
-all_short : (xs : List Stmt) → body_unbuilt xs ≡ [] → body_weight xs < 2 ^ 32 → All IsShortStmt xs
-all_short [] u lt = no_more IsShortStmt
+pub all_short : (xs : List Stmt) → body_unbuilt xs ≡ [] → body_weight xs < 2 ^ 32 → AllShort xs
+all_short [] u lt = tt
 all_short (x ∷ xs) u lt =
     let parts = neither (stmt_unbuilt x) (body_unbuilt xs) u in
-    all_more IsShortStmt x xs ((weighs x parts.left).short (omega (arith, lt))) (all_short xs parts.right (omega (arith, lt)))
-
-pub short_body : (xs : List Stmt) → body_unbuilt xs ≡ [] → body_weight xs ≤ 1048576 → IsShortBody xs
-short_body xs u le =
-    let few = few_stmts xs u in
-    (omega (arith, le, few), all_short xs u (omega (arith, le)))
+    (short_stmt x parts.left (omega (arith, lt)), all_short xs parts.right (omega (arith, lt)))

@@ -9,8 +9,7 @@ use Rattle.ac_tree.specs.declared.item.Item.{Item}
 use Rattle.ac_tree.specs.declared.item.Item.TheVariants as i
 use Rattle.ac_tree.specs.declared.item.Param.{Param}
 use Rattle.ac_types.specs.Scopes.{or_else}
-use Rattle.ac_types.specs.Resolution.{name_of}
-use Rattle.ac_compile.specs.Unbuilt.{is_built_op, expr_unbuilt, decimal_line, stmt_at, is_entry, is_late}
+use Rattle.ac_compile.specs.Unbuilt.{name_of, is_built_op, expr_unbuilt, decimal_line, stmt_at, is_entry, is_late}
 
 abbrev pub node_first : Bool → ℕ → Option ℕ → Option ℕ
 node_first true at first = first

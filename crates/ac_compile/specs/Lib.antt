@@ -1,6 +1,5 @@
 pub mod Unbuilt
 pub mod Found
-pub mod Short
+pub mod Built
 pub mod Translation
 pub mod Same
-pub mod Emitted

@@ -13,7 +13,6 @@ use Rattle.ac_tree.specs.declared.stmt.Stmt.TheOpen.{Stmt-F}
 use Rattle.ac_tree.specs.declared.item.Item.{Item}
 use Rattle.ac_tree.specs.declared.item.Item.TheVariants as i
 use Rattle.ac_tree.specs.declared.item.Param.{Param}
-use Rattle.ac_types.specs.Resolution.{name_of}
 
 -- a node, by whether it is built, before its parts
 abbrev pub node : Bool → ℕ → List ℕ → List ℕ
@@ -73,6 +72,17 @@ value_unbuilt None = []
 value_unbuilt (Some x) = expr_unbuilt x
 
 -- ---- statements. What stands within one that is not built is not listed, since only the first node is asked for
+
+-- the name that an expression is, where it is one
+abbrev pub name_step : Expr-F (Option (List ℕ)) (Unit {0}) → Option (List ℕ)
+name_step (Expr-F.Name at name) = Some name
+name_step _ = None
+
+abbrev pub no_step : Link-F (Option (List ℕ)) (Unit {0}) → Unit {0}
+no_step link = tt
+
+abbrev pub name_of : Expr → Option (List ℕ)
+name_of = fold-Expr (Option (List ℕ)) (Unit {0}) name_step no_step
 
 -- the format of one number and a line feed
 abbrev pub decimal_line : List ℕ

@@ -3,8 +3,7 @@
 ghost use Rattle.std.specs.Prelude.{◌≡◌, [], None, false, slice_get, is_some, IfNone};
 ghost use Rattle.std.specs.Option.{option_map};
 ghost use Rattle.ac_tree.specs.declared.item.Item.TheVariants as i;
-ghost use Rattle.ac_types.specs.Resolution.{name_of};
-ghost use Rattle.ac_compile.specs.Unbuilt.{is_built_op, stmt_at, first_entry, is_entry, is_late, unbuilt_nodes};
+ghost use Rattle.ac_compile.specs.Unbuilt.{name_of, is_built_op, stmt_at, first_entry, is_entry, is_late, unbuilt_nodes};
 ghost use Rattle.ac_compile.specs.Found.{expr_first, links_built, links_first, exprs_first, value_first, stmt_first, body_first, params_first, item_first, items_first};
 
 use ac_base::Name;

@@ -10,22 +10,13 @@ mod built;
 mod emit;
 mod whole;
 
+use crate::whole::program_code;
 use ac_base::NoMemory;
+use ac_resolve::resolve;
 use ac_types::Checked;
 pub use built::unbuilt;
 use stack_code::Code;
 use std::alloc::Global;
-
-fn translated(alloc: Global, checked: &Checked) -> Result<Code, NoMemory>
-    requires { unbuilt_nodes checked.now.items ≡ [] }
-    ensures { IfOk result (λ code. IsCodeOf checked.now code) }
-{
-    let items = checked.tree().items.as_slice();
-    match whole::first_function(items) {
-        Some(function) => whole::core_code(alloc, checked, checked.core_name(0), function),
-        None => unreachable!(),
-    }
-}
 
 /// The code of a program whose nodes are all built: that of its tree, whose cores come to just the ends to which they come in
 /// the source.
@@ -34,8 +25,10 @@ pub fn compile(alloc: Global, checked: &Checked) -> Result<Code, NoMemory>
     ensures code { IfOk result (λ code. IsCodeOf checked.now code) }
     ensures same { IfOk result (λ code. IsSame code checked.now) }
 {
-    let code = translated(alloc, checked)?;
-    Ok(code)
+    // The tree breaks no rule and is small.
+    let _ = checked.tree();
+    let program = resolve(alloc, checked)?;
+    program_code(alloc, &program)
 }
 
 #[cfg(test)]

@@ -7,7 +7,8 @@ use Rattle.ac_base.specs.declared.ends.CoreEnd.{CoreEnd}
 use Rattle.ac_base.specs.declared.ends.MachineEnd.{MachineEnd}
 use Rattle.ac_base.specs.declared.entry.Entry.{Entry}
 use Rattle.ac_tree.specs.declared.item.Program.{Program}
-use Rattle.ac_types.specs.Resolved.{Core}
+use Rattle.ac_resolve.specs.declared.program.Core.{Core}
+use Rattle.ac_resolve.specs.Resolution.{resolved}
 use Rattle.core_state.specs.Moves.{Move, On, Over, EndsAs}
 use Rattle.stack_code.specs.Parts.{Parts}
 use Rattle.stack_code.specs.Machine.{Flat, FlatEnd, exec, first_flat, Runs}
@@ -69,21 +70,19 @@ module _ (program : Program) (code : Parts) (is_code : IsCodeOf program code) (i
   runs : Runs code 0 steps core_log.entries (flat_end (Some end.core) end.instructions)
   runs = runs_as m.code code m.core 0 m.bound steps m.journal core_log.entries (flat_end (Some end.core) end.instructions) code_is core_is bound_is (sym logged) over.runs
 
-  core_run : IsCoreRun program is_code.meaning 0 steps core_log end
+  core_run : IsCoreRun program 0 steps core_log end
   core_run = record {
-    code = subst (λ c. Runs c 0 steps core_log.entries (flat_end (Some end.core) end.instructions)) is_code.code_is runs;
+    code = subst (λ c. Runs c 0 steps core_log.entries (flat_end (Some end.core) end.instructions)) is_code runs;
     source = (is_same 0 steps core_log.entries (Some end.core)).1 (end.instructions, runs);
   }
 
-  one_core : 1 ≡ length is_code.meaning.cores
-  one_core = sym only ∙ ap (λ (c : Parts). length c.entries) is_code.code_is ∙ length-map is_code.meaning.cores (λ (core : Core). core.entry)
+  one_core : 1 ≡ length (resolved program).cores
+  one_core = sym only ∙ ap (λ (c : Parts). length c.entries) is_code ∙ length-map (resolved program).cores (λ (core : Core). core.entry)
 
   pub only_run : (ended : Ended) → ended.steps ≡ steps → ended.start ≡ [] → ended.journals ≡ core_log ∷ worker_log ∷ [] → ended.cores ≡ end ∷ [] → IsRunOf program steps [] ended
   only_run ended n f j c = record {
     steps = n;
     files = f;
-    meaning = is_code.meaning;
-    resolves = is_code.resolves;
     every_core = ap length c ∙ one_core;
     cores = rw (j, c) (core_run, refl);
     legal = rw (j, logged ∙ none, worker) tt;

@@ -1,21 +1,26 @@
 -- The names of the cores, by the program and by its code.
-use Rattle.std.proofs.Common.{◌≡◌, ℕ, List, [], length, Some, sym, ap, ◌∙◌}
+use Rattle.std.proofs.Common.{◌≡◌, ℕ, List, [], length, sym, ap, ◌∙◌}
 use Rattle.std.proofs.lemmas.List.{length-map}
 use Rattle.ac_tree.specs.declared.item.Program.{Program}
-use Rattle.ac_types.specs.Resolved.{Resolved, Core}
+use Rattle.ac_resolve.specs.declared.program.Core.{Core}
+use Rattle.ac_resolve.specs.Resolution.{resolved}
 use Rattle.stack_code.specs.Parts.{Parts}
+use Rattle.ac_types.specs.Reached.{BreaksNone}
+use Rattle.ac_compile.specs.Unbuilt.{unbuilt_nodes}
 use Rattle.ac_compile.specs.Translation.{IsCodeOf}
+use Rattle.ac_compile.proofs.Forms.{one_core}
 use Rattle.ac_program.specs.declared.running.Ended.{Ended}
 use Rattle.ac_program.specs.Run.{IsRunOf}
-use Rattle.ac_program.specs.Source.{names_in, names_of}
+use Rattle.ac_program.specs.Source.{names_of}
 
 abbrev name_in : Core → List ℕ
 name_in core = core.name
 
 pub names_are : (program : Program) (code : Parts) → IsCodeOf program code → code.names ≡ names_of program
-names_are program code h = ap (λ (c : Parts). c.names) h.code_is ∙ ap names_in (sym h.resolves)
+names_are program code h = ap (λ (c : Parts). c.names) h
 
 pub as_many : (program : Program) (code : Parts) (bound : ℕ) (ended : Ended) → IsCodeOf program code → IsRunOf program bound [] ended → length code.names ≡ length ended.cores
-as_many program code bound ended h r =
-    let same : r.meaning ≡ h.meaning = let both : Some r.meaning ≡ Some h.meaning = sym r.resolves ∙ h.resolves in cc in
-    ap (λ (c : Parts). length c.names) h.code_is ∙ length-map h.meaning.cores name_in ∙ ap (λ (m : Resolved). length m.cores) (sym same) ∙ sym r.every_core
+as_many program code bound ended h r = ap (λ (c : Parts). length c.names) h ∙ length-map (resolved program).cores name_in ∙ sym r.every_core
+
+pub one_entry : (program : Program) (code : Parts) → IsCodeOf program code → BreaksNone program.items → unbuilt_nodes program.items ≡ [] → length code.entries ≡ 1
+one_entry program code h b u = ap (λ (c : Parts). length c.entries) h ∙ length-map (resolved program).cores (λ (core : Core). core.entry) ∙ one_core program b u

@@ -5,8 +5,7 @@ use Rattle.ac_base.specs.declared.ends.EndWord.{EndWord}
 use Rattle.ac_base.specs.declared.ends.EndWord.TheVariants.{Finished, Trapped, OutOfSteps, Stalled}
 use Rattle.ac_base.specs.declared.ends.MachineEnd.{MachineEnd}
 use Rattle.ac_tree.specs.declared.item.Program.{Program}
-use Rattle.ac_types.specs.Resolved.{Resolved}
-use Rattle.ac_types.specs.Resolution.{resolved}
+use Rattle.ac_resolve.specs.Resolution.{resolved}
 use Rattle.ac_semantics.specs.Replay.{Replays}
 use Rattle.stack_code.specs.Machine.{Runs}
 use Rattle.ac_compile.specs.Translation.{code_of}
@@ -14,15 +13,15 @@ use Rattle.ac_program.specs.declared.running.Ended.{Ended}
 use Rattle.ac_program.specs.History.{Stamped, merged, IsLegal}
 
 -- what the source and the code of the program say of a core under its journal: just this end
-pub record IsCoreRun (program : Program) (meaning : Resolved) (core bound : ℕ) (journal : Log) (end : MachineEnd) : Type 0 where
-  pub code : Runs (code_of meaning) core bound journal.entries (record { core = Some end.core; count = end.instructions })
+pub record IsCoreRun (program : Program) (core bound : ℕ) (journal : Log) (end : MachineEnd) : Type 0 where
+  pub code : Runs (code_of (resolved program)) core bound journal.entries (record { core = Some end.core; count = end.instructions })
   pub source : Replays program core bound journal.entries (Some end.core)
 
 -- each core, from this one on, has come to its end under its journal; the last journal is that of the worker
-abbrev pub AreCoreRuns : Program → Resolved → ℕ → ℕ → List Log → List MachineEnd → Type 0
-AreCoreRuns program meaning bound core journals [] = length journals ≡ 1
-AreCoreRuns program meaning bound core [] (end ∷ ends) = ⊥
-AreCoreRuns program meaning bound core (journal ∷ journals) (end ∷ ends) = IsCoreRun program meaning core bound journal end × AreCoreRuns program meaning bound (suc core) journals ends
+abbrev pub AreCoreRuns : Program → ℕ → ℕ → List Log → List MachineEnd → Type 0
+AreCoreRuns program bound core journals [] = length journals ≡ 1
+AreCoreRuns program bound core [] (end ∷ ends) = ⊥
+AreCoreRuns program bound core (journal ∷ journals) (end ∷ ends) = IsCoreRun program core bound journal end × AreCoreRuns program bound (suc core) journals ends
 
 abbrev pub HasEnded : EndWord → Type 0
 HasEnded Finished = Unit {0}
@@ -38,13 +37,7 @@ pub record IsQuiet (ends : List MachineEnd) (history : List Stamped) : Type 0 wh
 pub record IsRunOf (program : Program) (bound : ℕ) (start : List (List ℕ)) (ended : Ended) : Type 0 where
   pub steps : ended.steps ≡ bound
   pub files : ended.start ≡ start
-  pub meaning : Resolved
-  pub resolves : resolved program ≡ Some meaning
-  pub every_core : length ended.cores ≡ length meaning.cores
-  pub cores : AreCoreRuns program meaning bound 0 ended.journals ended.cores
+  pub every_core : length ended.cores ≡ length (resolved program).cores
+  pub cores : AreCoreRuns program bound 0 ended.journals ended.cores
   pub legal : IsLegal (merged ended.journals)
   pub quiet : IsQuiet ended.cores (merged ended.journals)
-
--- the names of the cores, in the order of the source
-abbrev pub core_names : Resolved → List (List ℕ)
-core_names meaning = map (λ core. core.name) meaning.cores

@@ -10,8 +10,7 @@ use Rattle.ac_parser.specs.Places.{IsTree, UnexpectedAt, TooDeepAt}
 use Rattle.ac_types.specs.declared.rule.Rule.{Rule}
 use Rattle.ac_types.specs.Reached.{BreaksNone, IsLeastBroken}
 use Rattle.ac_types.specs.Verdicts.{core_names}
-use Rattle.ac_types.specs.Resolved.{Resolved}
-use Rattle.ac_types.specs.Resolution.{resolved}
+use Rattle.ac_resolve.specs.Resolution.{resolved}
 use Rattle.ac_compile.specs.Translation.{IsCodeOf}
 use Rattle.ac_compile.specs.Same.{IsSame}
 use Rattle.ac_compile.specs.Unbuilt.{unbuilt_nodes}
@@ -144,10 +143,6 @@ abbrev pub GivesCode : List ℕ → ℕ → Result Parts Stop → Type 0
 GivesCode source bound (Ok code) = IsBuilt source bound code
 GivesCode source bound (Err stop) = Stops source bound stop
 
-abbrev pub names_in : Option Resolved → List (List ℕ)
-names_in None = []
-names_in (Some meaning) = map (λ core. core.name) meaning.cores
-
 -- the names of the cores of a program
 abbrev pub names_of : Program → List (List ℕ)
-names_of program = names_in (resolved program)
+names_of program = map (λ core. core.name) (resolved program).cores

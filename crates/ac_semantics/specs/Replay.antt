@@ -4,8 +4,10 @@ use Rattle.ac_base.specs.declared.ends.CoreEnd.{CoreEnd}
 use Rattle.ac_base.specs.declared.entry.Entry.{Entry}
 use Rattle.ac_tree.specs.declared.item.Program.{Program}
 use Rattle.core_state.specs.Moves.{EndsAs}
-use Rattle.ac_types.specs.Resolved.{Function, Core, Resolved}
-use Rattle.ac_types.specs.Resolution.{resolved}
+use Rattle.ac_resolve.specs.declared.program.Function.{Function}
+use Rattle.ac_resolve.specs.declared.program.Core.{Core}
+use Rattle.ac_resolve.specs.declared.program.Resolved.{Resolved}
+use Rattle.ac_resolve.specs.Resolution.{resolved}
 use Rattle.ac_semantics.specs.Source.{step, first_state}
 
 -- the core enters this function
@@ -16,8 +18,6 @@ pub record Enters (program : Resolved) (core : ℕ) (function : Function) : Type
 
 -- the core, with at most so many steps, comes to this end under this journal; none where the journal does not fit
 pub record Replays (program : Program) (core bound : ℕ) (journal : List Entry) (end : Option CoreEnd) : Type 0 where
-  pub meaning : Resolved
   pub function : Function
-  pub resolves : resolved program ≡ Some meaning
-  pub enters : Enters meaning core function
-  pub ends : EndsAs (step bound) (first_state function journal) end
+  pub enters : Enters (resolved program) core function
+  pub ends : EndsAs (step (resolved program) bound) (first_state function journal) end

@@ -1,30 +1,97 @@
--- What a core does, statement by statement (Harris, Abadi, Isaacs, McIlroy, OOPSLA 2011, for what a thread is).
-use Rattle.std.specs.Prelude.{ℕ, ℤ, List, [], ◌∷◌, map, Option}
+-- What a core does, command by command (Harris, Abadi, Isaacs, McIlroy, OOPSLA 2011, for what a thread is).
+use Rattle.std.specs.Prelude.{ℕ, zero, ℤ, List, [], ◌∷◌, Option, None, Some, slice_index_or}
 use Rattle.std.specs.Int.{w64, int_wrapping_add, int_wrapping_sub, int_wrapping_mul}
 use Rattle.ac_base.specs.declared.ends.EndWord.TheVariants.{Finished}
 use Rattle.ac_base.specs.declared.ends.CoreEnd.{CoreEnd}
 use Rattle.ac_base.specs.declared.entry.Entry.{Entry}
+use Rattle.ac_tree.specs.declared.expr.BinaryOp.{BinaryOp}
+use Rattle.ac_tree.specs.declared.expr.BinaryOp.TheVariants as b
 use Rattle.core_state.specs.Moves.{Move, On, Over}
 use Rattle.core_state.specs.Shared.{Shared, first_shared, slot_value, with_slot, with_step, with_output, formatted, seen, if_step}
-use Rattle.ac_types.specs.Resolved.{Operation, Plus, Minus, Times, Expression, Number, Variable, Combine, Command, Set, Print, Function}
+use Rattle.ac_resolve.specs.declared.value.Place.{Place}
+use Rattle.ac_resolve.specs.declared.value.Place.TheVariants as p
+use Rattle.ac_resolve.specs.declared.value.Value.{Value, fold-Value}
+use Rattle.ac_resolve.specs.declared.value.ValueLink.{ValueLink, fold-ValueLink}
+use Rattle.ac_resolve.specs.declared.value.Value.TheOpen.{Value-F, ValueLink-F}
+use Rattle.ac_resolve.specs.declared.effect.Target.{Target}
+use Rattle.ac_resolve.specs.declared.effect.Target.TheVariants as t
+use Rattle.ac_resolve.specs.declared.effect.Effect.{Effect}
+use Rattle.ac_resolve.specs.declared.effect.Effect.TheVariants as f
+use Rattle.ac_resolve.specs.declared.command.Command.{Command}
+use Rattle.ac_resolve.specs.declared.command.Command.TheVariants as c
+use Rattle.ac_resolve.specs.declared.program.Function.{Function}
+use Rattle.ac_resolve.specs.declared.program.Resolved.{Resolved}
 
--- ---- evaluation
+-- Each form that has a meaning has a case; what has none gives no value and does nothing.
+
+-- ---- evaluation, where the slots of the frame hold these values
 
 -- numbers have 64 bits and wrap
-abbrev pub operate : Operation → ℤ → ℤ → ℤ
-operate Plus x y = int_wrapping_add w64 x y
-operate Minus x y = int_wrapping_sub w64 x y
-operate Times x y = int_wrapping_mul w64 x y
+abbrev pub operate : BinaryOp → ℤ → ℤ → Option ℤ
+operate b.Add x y = Some (int_wrapping_add w64 x y)
+operate b.Sub x y = Some (int_wrapping_sub w64 x y)
+operate b.Mul x y = Some (int_wrapping_mul w64 x y)
+operate _ x y = None
 
--- where the slots of the frame hold these values
-abbrev pub value_of : List ℤ → Expression → ℤ
-value_of slots (Number v) = v
-value_of slots (Variable slot) = slot_value slots slot
-value_of slots (Combine op left right) = operate op (value_of slots left) (value_of slots right)
+abbrev pub place_value : List ℤ → Place → Option ℤ
+place_value slots (p.Local zero slot) = Some (slot_value slots slot)
+place_value slots _ = None
 
-abbrev pub values_of : List ℤ → List Expression → List ℤ
-values_of slots [] = []
-values_of slots (e ∷ es) = value_of slots e ∷ values_of slots es
+-- one operand more on the right
+abbrev pub joined : Option ℤ → BinaryOp → Option ℤ → Option ℤ
+joined (Some x) op (Some y) = operate op x y
+joined _ op _ = None
+
+-- a chain groups to the left
+abbrev pub chained : Option ℤ → List (BinaryOp × Option ℤ) → Option ℤ
+chained left [] = left
+chained left (l ∷ links) = chained (joined left l.0 l.1) links
+
+abbrev pub value_step : List ℤ → Value-F (Option ℤ) (BinaryOp × Option ℤ) → Option ℤ
+value_step slots (Value-F.Number value) = Some value
+value_step slots (Value-F.Variable place) = place_value slots place
+value_step slots (Value-F.Chain first rest) = chained first rest
+value_step slots _ = None
+
+abbrev pub link_step : ValueLink-F (Option ℤ) (BinaryOp × Option ℤ) → BinaryOp × Option ℤ
+link_step link = (link.op, link.operand)
+
+abbrev pub value_of : List ℤ → Value → Option ℤ
+value_of slots = fold-Value (Option ℤ) (BinaryOp × Option ℤ) (value_step slots) link_step
+
+abbrev pub link_of : List ℤ → ValueLink → BinaryOp × Option ℤ
+link_of slots = fold-ValueLink (Option ℤ) (BinaryOp × Option ℤ) (value_step slots) link_step
+
+-- one value more in front of others, where all are there
+abbrev pub with_first : Option ℤ → Option (List ℤ) → Option (List ℤ)
+with_first (Some v) (Some vs) = Some (v ∷ vs)
+with_first _ _ = None
+
+abbrev pub values_of : List ℤ → List Value → Option (List ℤ)
+values_of slots [] = Some []
+values_of slots (x ∷ xs) = with_first (value_of slots x) (values_of slots xs)
+
+abbrev pub effect_value : List ℤ → Effect → Option ℤ
+effect_value slots (f.Value value) = value_of slots value
+effect_value slots _ = None
+
+-- ---- commands
+
+-- what is shared after an int is put into a target
+abbrev pub put_in : Target → Option ℤ → Shared → Option Shared
+put_in (t.Variable (p.Local zero slot)) (Some value) s = Some (with_slot s slot value)
+put_in _ _ s = None
+
+-- after a text is printed with its arguments
+abbrev pub printed : List ℕ → Option (List ℤ) → Shared → Option Shared
+printed text (Some values) s = Some (with_output s (formatted text values))
+printed text None s = None
+
+-- after a command, in a program with these texts
+abbrev pub after : List (List ℕ) → Command → Shared → Option Shared
+after texts (c.Set target effect) s = put_in target (effect_value s.slots effect) s
+after texts (c.Print text args) s = printed (slice_index_or texts text []) (values_of s.slots args) s
+after texts _ s = None
 
 -- ---- the state of a core
 
@@ -42,18 +109,19 @@ pub record CoreState : Type 0 where
 
 -- ---- a step
 
--- a command whose step is used
-abbrev pub done : Command → List Work → Shared → CoreState
-done (Set slot value) rest s = record { shared = with_slot s slot (value_of s.slots value); work = rest }
-done (Print text args) rest s = record { shared = with_output s (formatted text (values_of s.slots args)); work = rest }
+-- A command whose step is used goes on to the others. Before one that has no meaning the core stays where it is, and comes to no end.
+abbrev pub goes_on : CoreState → List Work → Option Shared → Move CoreState (Option CoreEnd)
+goes_on here rest (Some s) = On (record { shared = s; work = rest })
+goes_on here rest None = On here
 
 -- the next step of the running thread; its end costs none
-abbrev pub next_of : ℕ → Shared → List Work → Move CoreState (Option CoreEnd)
-next_of bound s [] = Over (seen Finished s)
-next_of bound s (Do command ∷ rest) = if_step bound s (On (done command rest (with_step s)))
+abbrev pub next_of : Resolved → ℕ → Shared → List Work → Move CoreState (Option CoreEnd)
+next_of program bound s [] = Over (seen Finished s)
+next_of program bound s (Do command ∷ rest) =
+    if_step bound s (goes_on (record { shared = s; work = Do command ∷ rest }) rest (after program.texts command (with_step s)))
 
-abbrev pub step : ℕ → CoreState → Move CoreState (Option CoreEnd)
-step bound c = next_of bound c.shared c.work
+abbrev pub step : Resolved → ℕ → CoreState → Move CoreState (Option CoreEnd)
+step program bound c = next_of program bound c.shared c.work
 
 -- a core that is about to begin a function
 abbrev pub first_state : Function → List Entry → CoreState

@@ -1,6 +1,5 @@
-pub mod Folds
 pub mod Parted
-pub mod Within
+pub mod Visible
 pub mod Inners
 pub mod Tables
 pub mod Bodies

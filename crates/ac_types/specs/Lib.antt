@@ -1,7 +1,6 @@
 pub mod Scopes
 pub mod Inner
 pub mod Table
-pub mod Resolved
 pub mod Rules
 pub mod First
 pub mod Kinds
@@ -13,7 +12,6 @@ pub mod Expressions
 pub mod Statements
 pub mod Items
 pub mod Reached
-pub mod Resolution
 pub mod Seeing
 pub mod Search
 pub mod Verdicts

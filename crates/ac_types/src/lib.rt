@@ -23,10 +23,14 @@ mod verdict;
 mod walk;
 
 pub use accepted::{Checked, check};
+pub use counted::capacity_size;
 pub use fault::CheckFault;
 pub use meaning::Meaning;
+pub use past::Counts;
 pub use rule::Rule;
 pub use scopes::Scopes;
+pub use statements::array_len;
+pub use walk::Names;
 
 #[cfg(test)]
 mod cases;

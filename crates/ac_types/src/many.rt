@@ -3,7 +3,7 @@
 ghost use Rattle.std.specs.Prelude.{◌<◌, ◌≤◌, IfOk};
 ghost use Rattle.ac_tree.specs.Weight.{IsSmall};
 
-use crate::accepted::check;
+use crate::accepted::{Checked, check};
 use crate::fault::CheckFault;
 use crate::meaning::Meaning;
 use crate::rule::Rule;
@@ -176,30 +176,53 @@ fn two_cores(alloc: Global) -> Result<Program, Fail>
     Ok(Program { items })
 }
 
+fn accepted(alloc: Global) -> Result<Checked, Fail> {
+    match check(alloc, two_cores(alloc)?) {
+        Ok(checked) => Ok(checked),
+        Err(_) => Err(Fail::from("the program is refused")),
+    }
+}
+
 #[test]
-fn what_stands_in_a_checked_tree(rt: HostRuntime) -> Result<(), Fail> {
-    let alloc = rt.alloc();
-    let Ok(checked) = check(alloc, two_cores(alloc)?) else {
-        return Err(Fail::from("the program is refused"));
-    };
+fn counts_of_a_checked_tree(rt: HostRuntime) -> Result<(), Fail> {
+    let checked = accepted(rt.alloc())?;
     assert_eq!(rt; checked.tree().items.len(), 6);
     assert_eq!(rt; checked.cores(), 2);
     assert_eq!(rt; checked.functions(), 2);
     assert_eq!(rt; checked.channels(), 1);
     assert_eq!(rt; checked.files(), 1);
-    let scopes = checked.top_level(alloc)?;
-    assert_eq!(rt; scopes.find(&name(alloc, b'b')?), Some(Meaning::Core(1)));
-    assert_eq!(rt; scopes.find(&name(alloc, b'c')?), Some(Meaning::Channel(0)));
-    assert_eq!(rt;
-        scopes.find(&name(alloc, b'f')?),
-        Some(Meaning::Function(0))
-    );
-    assert_eq!(rt; scopes.find(&name(alloc, b'g')?), None);
+    Ok(())
+}
+
+#[test]
+fn names_of_the_top_level(rt: HostRuntime) -> Result<(), Fail> {
+    let alloc = rt.alloc();
+    let scopes = accepted(alloc)?.top_level(alloc)?;
+    for (letter, meaning) in [
+        (b'b', Some(Meaning::Core(1))),
+        (b'c', Some(Meaning::Channel(0))),
+        (b'f', Some(Meaning::Function(0))),
+        (b'g', None),
+    ] {
+        assert_eq!(rt; scopes.find(&name(alloc, letter)?), meaning);
+    }
+    Ok(())
+}
+
+#[test]
+fn parts_of_a_checked_tree(rt: HostRuntime) -> Result<(), Fail> {
+    let checked = accepted(rt.alloc())?;
     if checked.cores() > 1 && checked.channels() > 0 && checked.files() > 0 {
         assert!(rt; checked.core_name(1).as_slice() == b"b".as_slice());
         assert_eq!(rt; checked.capacity(0), 5);
         assert!(rt; checked.path(0).as_slice() == b"x".as_slice());
     }
+    Ok(())
+}
+
+#[test]
+fn functions_that_cores_reach(rt: HostRuntime) -> Result<(), Fail> {
+    let checked = accepted(rt.alloc())?;
     if checked.cores() > 1 && checked.functions() > 1 {
         assert!(rt; checked.reaches(0, 0));
         assert!(rt; checked.reaches(1, 0));

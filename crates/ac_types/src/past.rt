@@ -100,7 +100,8 @@ impl Counts {
         }
     }
 
-    fn counted(self, item: &Item) -> Counts
+    /// The numbers after an item.
+    pub fn counted(self, item: &Item) -> Counts
         requires { HasCounts self (item_weight item.now) }
         ensures { result ≡ counted self item.now }
     {

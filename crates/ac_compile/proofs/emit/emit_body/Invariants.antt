@@ -1,10 +1,10 @@
-use Rattle.std.proofs.Common.{[], ◌∷◌, drop, vec_len, ◌≤◌}
-use Rattle.ac_compile.proofs.Emitting.{KeepsBody}
+use Rattle.std.proofs.Common.{◌≡◌, ◌++◌, drop}
+use Rattle.ac_compile.specs.Built.{AreShort}
+use Rattle.ac_compile.specs.Translation.{body_code}
 use Rattle.ac_compile.proofs.emit.emit_body.Given as goal
 
-abbrev pub invariant-loop-stmt : goal.invariant-loop-stmt
-invariant-loop-stmt l = record {
-  whole : KeepsBody ([] ∷ l.fn.scopes) l.body l.scopes l.code.slots (drop l.stmt-index l.body) l.code.instrs.items l.code.texts.items;
-  count : vec_len l.code.texts ≤ l.stmt-index;
-  slots : l.code.slots ≤ l.stmt-index;
+abbrev pub invariant-loop-command : goal.invariant-loop-command
+invariant-loop-command l = record {
+  code : l.instrs.items ++ body_code (drop l.command-index l.body) ≡ body_code l.body;
+  short : AreShort (drop l.command-index l.body);
 }

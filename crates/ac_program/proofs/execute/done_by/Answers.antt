@@ -1,8 +1,11 @@
 use Rattle.std.proofs.Common.{ℕ, [], ap, ◌∙◌, length, subst}
 use Rattle.ac_base.specs.Report.{report_of}
 use Rattle.ac_program.specs.Run.{IsRunOf}
-use Rattle.ac_program.proofs.Names.{names_are, as_many}
+use Rattle.ac_program.proofs.Names.{names_are, as_many, one_entry}
 use Rattle.ac_program.proofs.execute.done_by.Goals as goal
+
+pub run-requires : goal.run-requires
+run-requires c = let built = c.requires in one_entry built.program c.args.code.now built.is_code built.is_runnable.is_within.is_accepted.clean built.is_runnable.built
 
 pub report-requires : goal.report-requires
 report-requires c =

@@ -1,0 +1,123 @@
+-- Expressions without their names, by the scopes round them and the number of async bodies round them.
+use Rattle.std.specs.Prelude.{ℕ, pos, List, [], ◌∷◌, map, Option, None, Some}
+use Rattle.ac_tree.specs.declared.expr.Expr.{Expr, fold-Expr}
+use Rattle.ac_tree.specs.declared.expr.Link.{Link, fold-Link}
+use Rattle.ac_tree.specs.declared.expr.Expr.TheOpen.{Expr-F, Link-F}
+use Rattle.ac_types.specs.Scopes.{Declaration, visible}
+use Rattle.ac_resolve.specs.declared.value.Value.{Value}
+use Rattle.ac_resolve.specs.declared.value.Value.TheVariants as v
+use Rattle.ac_resolve.specs.declared.value.ValueLink.{ValueLink}
+use Rattle.ac_resolve.specs.declared.value.Place.TheVariants as p
+use Rattle.ac_resolve.specs.declared.effect.Argument.{Argument}
+use Rattle.ac_resolve.specs.declared.effect.Argument.TheVariants as g
+use Rattle.ac_resolve.specs.declared.effect.Target.{Target}
+use Rattle.ac_resolve.specs.declared.effect.Target.TheVariants as t
+use Rattle.ac_resolve.specs.declared.effect.Effect.{Effect}
+use Rattle.ac_resolve.specs.declared.effect.Effect.TheVariants as f
+use Rattle.ac_resolve.specs.Places.{constant_value, place_of, array_of, name_argument, function_of, channel_of, file_of}
+
+abbrev pub InScopes : Type 0 → Type 0
+InScopes A = List (List Declaration) → ℕ → A
+
+-- What an expression is by the place where it stands: where its value is used, as an argument of a call, as what an int is put into, and
+-- where it stands whole.
+pub record Reading : Type 0 where
+  pub value : InScopes Value
+  pub argument : InScopes Argument
+  pub target : InScopes Target
+  pub effect : InScopes Effect
+
+-- ---- values
+
+abbrev pub links_step : List (InScopes ValueLink) → InScopes (List ValueLink)
+links_step [] scopes depth = []
+links_step (l ∷ ls) scopes depth = l scopes depth ∷ links_step ls scopes depth
+
+-- a call or an operation gives no value here: no rule lets one stand in an expression
+abbrev pub value_step : Expr-F Reading (InScopes ValueLink) → InScopes Value
+value_step (Expr-F.Number at value) scopes depth = v.Number value
+value_step (Expr-F.Const at which) scopes depth = v.Number (constant_value which)
+value_step (Expr-F.Name at name) scopes depth = v.Variable (place_of (visible name scopes) depth)
+value_step (Expr-F.Index at name index) scopes depth = v.Element (array_of (visible name scopes) depth) (index.value scopes depth)
+value_step (Expr-F.Group at inner) scopes depth = inner.value scopes depth
+value_step (Expr-F.Unary at op inner) scopes depth = v.Unary op (inner.value scopes depth)
+value_step (Expr-F.Chain at level first rest) scopes depth = v.Chain (first.value scopes depth) (links_step rest scopes depth)
+value_step _ scopes depth = v.Number (pos 0)
+
+-- ---- what a call and an operation take
+
+abbrev pub argument_step : Expr-F Reading (InScopes ValueLink) → InScopes Argument
+argument_step (Expr-F.Name at name) scopes depth = name_argument (visible name scopes) depth
+argument_step x scopes depth = g.Value (value_step x scopes depth)
+
+abbrev pub arguments_step : List Reading → InScopes (List Argument)
+arguments_step [] scopes depth = []
+arguments_step (x ∷ xs) scopes depth = x.argument scopes depth ∷ arguments_step xs scopes depth
+
+-- no other expression is a place
+abbrev pub target_step : Expr-F Reading (InScopes ValueLink) → InScopes Target
+target_step (Expr-F.Name at name) scopes depth = t.Variable (place_of (visible name scopes) depth)
+target_step (Expr-F.Index at name index) scopes depth = t.Element (array_of (visible name scopes) depth) (index.value scopes depth)
+target_step _ scopes depth = t.Variable (p.Global 0)
+
+-- ---- what stands whole
+
+abbrev pub effect_step : Expr-F Reading (InScopes ValueLink) → InScopes Effect
+effect_step (Expr-F.Call at name args) scopes depth = f.Call (function_of (visible name scopes)) (arguments_step args scopes depth)
+effect_step (Expr-F.Send at channel value) scopes depth = f.Send (channel_of (visible channel scopes)) (value.value scopes depth)
+effect_step (Expr-F.Recv at channel place) scopes depth = f.Recv (channel_of (visible channel scopes)) (place.target scopes depth)
+effect_step (Expr-F.Read at file from len array) scopes depth =
+    f.Read (file_of (visible file scopes)) (from.value scopes depth) (len.value scopes depth) (array_of (visible array scopes) depth)
+effect_step (Expr-F.Write at file from len array) scopes depth =
+    f.Write (file_of (visible file scopes)) (from.value scopes depth) (len.value scopes depth) (array_of (visible array scopes) depth)
+effect_step x scopes depth = f.Value (value_step x scopes depth)
+
+-- ---- all of it
+
+abbrev pub read_step : Expr-F Reading (InScopes ValueLink) → Reading
+read_step x = record { value = value_step x; argument = argument_step x; target = target_step x; effect = effect_step x }
+
+abbrev pub link_step : Link-F Reading (InScopes ValueLink) → InScopes ValueLink
+link_step link scopes depth = record { op = link.op; operand = link.operand.value scopes depth }
+
+abbrev pub read : Expr → Reading
+read = fold-Expr Reading (InScopes ValueLink) read_step link_step
+
+abbrev pub value_in : Expr → InScopes Value
+value_in x scopes depth = (read x).value scopes depth
+
+abbrev pub argument_in : Expr → InScopes Argument
+argument_in x scopes depth = (read x).argument scopes depth
+
+abbrev pub target_in : Expr → InScopes Target
+target_in x scopes depth = (read x).target scopes depth
+
+abbrev pub effect_in : Expr → InScopes Effect
+effect_in x scopes depth = (read x).effect scopes depth
+
+abbrev pub link_in : Link → InScopes ValueLink
+link_in = fold-Link Reading (InScopes ValueLink) read_step link_step
+
+abbrev pub links_in : List Link → InScopes (List ValueLink)
+links_in links = links_step (map link_in links)
+
+abbrev pub arguments_in : List Expr → InScopes (List Argument)
+arguments_in args = arguments_step (map read args)
+
+abbrev pub values_in : List Expr → InScopes (List Value)
+values_in [] scopes depth = []
+values_in (x ∷ xs) scopes depth = value_in x scopes depth ∷ values_in xs scopes depth
+
+-- the test of a `for`, where there is one
+abbrev pub test_in : Option Expr → InScopes (Option Value)
+test_in None scopes depth = None
+test_in (Some x) scopes depth = Some (value_in x scopes depth)
+
+-- a declaration without a value starts its variable with 0
+abbrev pub initial_in : Option Expr → InScopes Effect
+initial_in None scopes depth = f.Value (v.Number (pos 0))
+initial_in (Some x) scopes depth = effect_in x scopes depth
+
+abbrev pub operand_in : Option Expr → InScopes (Option Effect)
+operand_in None scopes depth = None
+operand_in (Some x) scopes depth = Some (effect_in x scopes depth)

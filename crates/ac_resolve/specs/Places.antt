@@ -1,0 +1,63 @@
+-- What a name stands for, by what it means and by the number of async bodies round its use. Where a name means something else than its
+-- place needs, something is given all the same: no program that breaks no rule has such a name.
+use Rattle.std.specs.Prelude.{ℕ, ℤ, pos, negsuc, ◌-◌, Option, Some}
+use Rattle.ac_tree.specs.declared.expr.Constant.{Constant}
+use Rattle.ac_tree.specs.declared.expr.Constant.TheVariants as c
+use Rattle.ac_types.specs.declared.meaning.Meaning.{Meaning}
+use Rattle.ac_types.specs.declared.meaning.Meaning.TheVariants as m
+use Rattle.ac_resolve.specs.declared.value.Place.{Place}
+use Rattle.ac_resolve.specs.declared.value.Place.TheVariants as p
+use Rattle.ac_resolve.specs.declared.value.Array.{Array}
+use Rattle.ac_resolve.specs.declared.value.Array.TheVariants as a
+use Rattle.ac_resolve.specs.declared.value.Value.TheVariants as v
+use Rattle.ac_resolve.specs.declared.effect.Argument.{Argument}
+use Rattle.ac_resolve.specs.declared.effect.Argument.TheVariants as g
+use Rattle.ac_resolve.specs.declared.command.Command.{Command}
+use Rattle.ac_resolve.specs.declared.command.Command.TheVariants as d
+
+-- the numbers of the named results
+abbrev pub constant_value : Constant → ℤ
+constant_value c.Ok = pos 0
+constant_value c.Cancelled = negsuc 0
+constant_value c.Fault = negsuc 1
+
+-- an int variable
+abbrev pub place_of : Option Meaning → ℕ → Place
+place_of (Some (m.Global slot)) depth = p.Global slot
+place_of (Some (m.Local there slot)) depth = p.Local (depth - there) slot
+place_of _ depth = p.Global 0
+
+-- an array; a parameter is declared in no async body
+abbrev pub array_of : Option Meaning → ℕ → Array
+array_of (Some (m.GlobalArray slot len)) depth = a.Global slot len
+array_of (Some (m.LocalArray there slot len)) depth = a.Local (depth - there) slot len
+array_of (Some (m.ArrayParam slot)) depth = a.Param depth slot
+array_of _ depth = a.Global 0 0
+
+-- a name as an argument: a reference, where it is that of an array
+abbrev pub name_argument : Option Meaning → ℕ → Argument
+name_argument (Some (m.GlobalArray slot len)) depth = g.Array (a.Global slot len)
+name_argument (Some (m.LocalArray there slot len)) depth = g.Array (a.Local (depth - there) slot len)
+name_argument (Some (m.ArrayParam slot)) depth = g.Array (a.Param depth slot)
+name_argument meaning depth = g.Value (v.Variable (place_of meaning depth))
+
+-- a label
+abbrev pub cancel_of : Option Meaning → ℕ → Command
+cancel_of (Some (m.Label there slot)) depth = d.Cancel (depth - there) slot
+cancel_of _ depth = d.Cancel 0 0
+
+abbrev pub function_of : Option Meaning → ℕ
+function_of (Some (m.Function number)) = number
+function_of _ = 0
+
+abbrev pub channel_of : Option Meaning → ℕ
+channel_of (Some (m.Channel number)) = number
+channel_of _ = 0
+
+abbrev pub file_of : Option Meaning → ℕ
+file_of (Some (m.File number)) = number
+file_of _ = 0
+
+abbrev pub core_of : Option Meaning → ℕ
+core_of (Some (m.Core number)) = number
+core_of _ = 0

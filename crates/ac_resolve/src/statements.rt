@@ -1,0 +1,479 @@
+//! Statements without their names.
+
+ghost use Rattle.std.specs.Prelude.{◌≡◌, [], ◌∷◌, ◌++◌, ◌+◌, ◌<◌, OnOk, IfOk};
+ghost use Rattle.ac_tree.specs.Weight.{stmt_weight, some_weight, body_weight};
+ghost use Rattle.ac_types.specs.Room.{HasSlots, HasDepths};
+ghost use Rattle.ac_types.specs.Statements.{array_len, part_names};
+ghost use Rattle.ac_resolve.specs.Commands.{told, some_told, body_told, print_told, int_told, array_told, block_told, if_told, while_told, for_told, do_told, async_told};
+ghost use Rattle.ac_resolve.specs.Computed.{target_in, effect_in, operand_in};
+ghost use Rattle.ac_resolve.specs.declared.command.Command.TheVariants as d;
+ghost use Rattle.ac_resolve.specs.Walks.{HasTexts, after, does, after_listed, after_some, some_does, after_init, after_body, body_does, after_scope, scope_does, taken, labelled_in, declared_in};
+
+use crate::command::Command;
+use crate::effect::Target;
+use crate::expressions::{
+    effect_in, initial_in, operand_in, target_in, test_in, value_in, values_in,
+};
+use crate::names::cancel_of;
+use crate::value::Place;
+use crate::walk::Walk;
+use ac_base::{Boxed, Bytes, List, Name, NoMemory};
+use ac_tree::{Expr, Stmt};
+use ac_types::{Meaning, Scopes, array_len};
+use std::alloc::Global;
+
+impl Walk {
+    /// Gives so many slots.
+    pub fn take(&mut self, slots: u32)
+        requires { self.old.names.slot + slots < 4294967296 }
+        ensures { self.new ≡ taken slots self.old }
+    {
+        self.names.slot += slots;
+    }
+
+    /// Opens the scope of labels of a `do`.
+    fn label(&mut self, label: &Option<Name>, depth: u32) -> Result<(), NoMemory>
+        ensures { OnOk result (self.new ≡ labelled_in label.now depth self.old) }
+    {
+        let slot = self.names.slot;
+        self.names.labels.open()?;
+        match label {
+            None => Ok(()),
+            Some(name) => {
+                let _ = self
+                    .names
+                    .labels
+                    .declare(name, Meaning::Label { depth, slot })?;
+                Ok(())
+            }
+        }
+    }
+
+    /// Declares what a statement declares that took its slots from a slot on.
+    fn declare(&mut self, depth: u32, slot: u32, stmt: &Stmt) -> Result<(), NoMemory>
+        ensures { OnOk result (self.new ≡ declared_in (part_names (told stmt.now).shape) depth slot self.old) }
+    {
+        match stmt {
+            Stmt::Int {
+                at: _,
+                name,
+                value: _,
+            } => {
+                let _ = self
+                    .names
+                    .scopes
+                    .declare(name, Meaning::Local { depth, slot })?;
+                Ok(())
+            }
+            Stmt::Array { at: _, name, size } => {
+                let len = array_len(*size);
+                let _ = self
+                    .names
+                    .scopes
+                    .declare(name, Meaning::LocalArray { depth, slot, len })?;
+                Ok(())
+            }
+            Stmt::Block { .. } => Ok(()),
+            Stmt::Empty { .. } => Ok(()),
+            Stmt::Assign { .. } => Ok(()),
+            Stmt::Call { .. } => Ok(()),
+            Stmt::Print { .. } => Ok(()),
+            Stmt::If { .. } => Ok(()),
+            Stmt::While { .. } => Ok(()),
+            Stmt::For { .. } => Ok(()),
+            Stmt::Break { .. } => Ok(()),
+            Stmt::Continue { .. } => Ok(()),
+            Stmt::Return { .. } => Ok(()),
+            Stmt::Do { .. } => Ok(()),
+            Stmt::Async { .. } => Ok(()),
+            Stmt::Cancel { .. } => Ok(()),
+            Stmt::Yield { .. } => Ok(()),
+        }
+    }
+}
+
+fn resolve_int(
+    alloc: Global,
+    walk: &mut Walk,
+    depth: u32,
+    name: &Name,
+    value: &Option<Expr>,
+) -> Result<Command, NoMemory>
+    requires { walk.old.names.slot + 1 < 4294967296 }
+    ensures walk { OnOk result (walk.new ≡ after (int_told name.now value.now) walk.old) }
+    ensures command { IfOk result (λ c. c ≡ does (int_told name.now value.now) depth walk.old) }
+{
+    let slot = walk.names.slot;
+    walk.take(1);
+    let value = initial_in(alloc, &walk.names.scopes, depth, value)?;
+    let target = Target::Variable(Place::Local { level: 0, slot });
+    Ok(Command::Set { target, value })
+}
+
+fn resolve_array(walk: &mut Walk, depth: u32, name: &Name, size: i64) -> Command
+    requires { walk.old.names.slot + array_len size < 4294967296 }
+    ensures walk { walk.new ≡ after (array_told name.now size) walk.old }
+    ensures command { result ≡ does (array_told name.now size) depth walk.old }
+{
+    let slot = walk.names.slot;
+    let len = array_len(size);
+    walk.take(len);
+    Command::Clear { slot, len }
+}
+
+fn resolve_assign(
+    alloc: Global,
+    scopes: &Scopes,
+    depth: u32,
+    place: &Expr,
+    value: &Expr,
+) -> Result<Command, NoMemory>
+    ensures { IfOk result (λ c. c ≡ d.Set (target_in place.now scopes.now depth) (effect_in value.now scopes.now depth)) }
+{
+    let target = target_in(alloc, scopes, depth, place)?;
+    let value = effect_in(alloc, scopes, depth, value)?;
+    Ok(Command::Set { target, value })
+}
+
+fn resolve_call(
+    alloc: Global,
+    scopes: &Scopes,
+    depth: u32,
+    call: &Expr,
+) -> Result<Command, NoMemory>
+    ensures { IfOk result (λ c. c ≡ d.Run (effect_in call.now scopes.now depth)) }
+{
+    Ok(Command::Run(effect_in(alloc, scopes, depth, call)?))
+}
+
+fn resolve_return(
+    alloc: Global,
+    scopes: &Scopes,
+    depth: u32,
+    value: &Option<Expr>,
+) -> Result<Command, NoMemory>
+    ensures { IfOk result (λ c. c ≡ d.Return (operand_in value.now scopes.now depth)) }
+{
+    Ok(Command::Return(operand_in(alloc, scopes, depth, value)?))
+}
+
+fn resolve_print(
+    alloc: Global,
+    walk: &mut Walk,
+    depth: u32,
+    format: &Bytes,
+    args: &[Expr],
+) -> Result<Command, NoMemory>
+    requires { HasTexts walk.old.texts 1 }
+    ensures walk { OnOk result (walk.new ≡ after (print_told format.now args.now) walk.old) }
+    ensures command { IfOk result (λ c. c ≡ does (print_told format.now args.now) depth walk.old) }
+{
+    let text = walk.texts.len() as u32;
+    walk.texts.push(format.copy(alloc)?)?;
+    let args = values_in(alloc, &walk.names.scopes, depth, args)?;
+    Ok(Command::Print { text, args })
+}
+
+/// The command of a statement.
+#[cycle(stmt)]
+fn resolve_stmt(
+    alloc: Global,
+    walk: &mut Walk,
+    depth: u32,
+    stmt: &Stmt,
+) -> Result<Command, NoMemory>
+    requires slots { HasSlots walk.old.names.slot (stmt_weight stmt.now) }
+    requires depths { HasDepths depth (stmt_weight stmt.now) }
+    requires texts { HasTexts walk.old.texts (stmt_weight stmt.now) }
+    ensures walk { OnOk result (walk.new ≡ after (told stmt.now) walk.old) }
+    ensures command { IfOk result (λ c. c ≡ does (told stmt.now) depth walk.old) }
+{
+    match stmt {
+        Stmt::Block { at: _, body } => resolve_block(alloc, walk, depth, body.as_slice()),
+        Stmt::Empty { .. } => Ok(Command::Nothing),
+        Stmt::Int { at: _, name, value } => resolve_int(alloc, walk, depth, name, value),
+        Stmt::Array { at: _, name, size } => Ok(resolve_array(walk, depth, name, *size)),
+        Stmt::Assign {
+            at: _,
+            place,
+            value,
+        } => resolve_assign(alloc, &walk.names.scopes, depth, place, value),
+        Stmt::Call { at: _, call } => resolve_call(alloc, &walk.names.scopes, depth, call),
+        Stmt::Print {
+            at: _,
+            format,
+            args,
+        } => resolve_print(alloc, walk, depth, format, args.as_slice()),
+        Stmt::If {
+            at: _,
+            test,
+            body,
+            other,
+        } => resolve_if(alloc, walk, depth, test, body, other),
+        Stmt::While { at: _, test, body } => resolve_while(alloc, walk, depth, test, body),
+        Stmt::For {
+            at: _,
+            init,
+            test,
+            next,
+            body,
+        } => resolve_for(alloc, walk, depth, init, test, next, body),
+        Stmt::Break { .. } => Ok(Command::Break),
+        Stmt::Continue { .. } => Ok(Command::Continue),
+        Stmt::Return { at: _, value } => resolve_return(alloc, &walk.names.scopes, depth, value),
+        Stmt::Do { at: _, label, body } => resolve_do(alloc, walk, depth, label, body.as_slice()),
+        Stmt::Async { at: _, body } => resolve_async(alloc, walk, depth, body),
+        Stmt::Cancel { at: _, label } => Ok(cancel_of(walk.names.labels.find(label), depth)),
+        Stmt::Yield { .. } => Ok(Command::Yield),
+    }
+}
+
+#[cycle(stmt)]
+fn resolve_block(
+    alloc: Global,
+    walk: &mut Walk,
+    depth: u32,
+    body: &[Stmt],
+) -> Result<Command, NoMemory>
+    requires slots { HasSlots walk.old.names.slot (body_weight body.now) }
+    requires depths { HasDepths depth (body_weight body.now) }
+    requires texts { HasTexts walk.old.texts (body_weight body.now) }
+    ensures walk { OnOk result (walk.new ≡ after (block_told (body_told body.now)) walk.old) }
+    ensures command { IfOk result (λ c. c ≡ does (block_told (body_told body.now)) depth walk.old) }
+{
+    Ok(Command::Block(resolve_scope(alloc, walk, depth, body)?))
+}
+
+#[cycle(stmt)]
+fn resolve_if(
+    alloc: Global,
+    walk: &mut Walk,
+    depth: u32,
+    test: &Expr,
+    body: &Boxed<Stmt>,
+    other: &Option<Boxed<Stmt>>,
+) -> Result<Command, NoMemory>
+    requires slots { HasSlots walk.old.names.slot (stmt_weight body.now + some_weight other.now) }
+    requires depths { HasDepths depth (stmt_weight body.now + some_weight other.now) }
+    requires texts { HasTexts walk.old.texts (stmt_weight body.now + some_weight other.now) }
+    ensures walk { OnOk result (walk.new ≡ after (if_told test.now (told body.now) (some_told other.now)) walk.old) }
+    ensures command { IfOk result (λ c. c ≡ does (if_told test.now (told body.now) (some_told other.now)) depth walk.old) }
+{
+    let test = value_in(alloc, &walk.names.scopes, depth, test)?;
+    let body = resolve_boxed(alloc, walk, depth, body)?;
+    let other = resolve_some(alloc, walk, depth, other)?;
+    Ok(Command::If { test, body, other })
+}
+
+#[cycle(stmt)]
+fn resolve_while(
+    alloc: Global,
+    walk: &mut Walk,
+    depth: u32,
+    test: &Expr,
+    body: &Boxed<Stmt>,
+) -> Result<Command, NoMemory>
+    requires slots { HasSlots walk.old.names.slot (stmt_weight body.now) }
+    requires depths { HasDepths depth (stmt_weight body.now) }
+    requires texts { HasTexts walk.old.texts (stmt_weight body.now) }
+    ensures walk { OnOk result (walk.new ≡ after (while_told test.now (told body.now)) walk.old) }
+    ensures command { IfOk result (λ c. c ≡ does (while_told test.now (told body.now)) depth walk.old) }
+{
+    let test = value_in(alloc, &walk.names.scopes, depth, test)?;
+    let body = resolve_boxed(alloc, walk, depth, body)?;
+    Ok(Command::While { test, body })
+}
+
+#[cycle(stmt)]
+fn resolve_for(
+    alloc: Global,
+    walk: &mut Walk,
+    depth: u32,
+    init: &Option<Boxed<Stmt>>,
+    test: &Option<Expr>,
+    next: &Option<Boxed<Stmt>>,
+    body: &Boxed<Stmt>,
+) -> Result<Command, NoMemory>
+    requires slots { HasSlots walk.old.names.slot (some_weight init.now + (some_weight next.now + stmt_weight body.now)) }
+    requires depths { HasDepths depth (some_weight init.now + (some_weight next.now + stmt_weight body.now)) }
+    requires texts { HasTexts walk.old.texts (some_weight init.now + (some_weight next.now + stmt_weight body.now)) }
+    ensures walk { OnOk result (walk.new ≡ after (for_told (some_told init.now) test.now (some_told next.now) (told body.now)) walk.old) }
+    ensures command { IfOk result (λ c. c ≡ does (for_told (some_told init.now) test.now (some_told next.now) (told body.now)) depth walk.old) }
+{
+    walk.names.scopes.open()?;
+    let init = resolve_init(alloc, walk, depth, init)?;
+    let test = test_in(alloc, &walk.names.scopes, depth, test)?;
+    let next = resolve_some(alloc, walk, depth, next)?;
+    let body = resolve_boxed(alloc, walk, depth, body)?;
+    walk.names.scopes.close();
+    Ok(Command::For {
+        init,
+        test,
+        next,
+        body,
+    })
+}
+
+#[cycle(stmt)]
+fn resolve_do(
+    alloc: Global,
+    walk: &mut Walk,
+    depth: u32,
+    label: &Option<Name>,
+    body: &[Stmt],
+) -> Result<Command, NoMemory>
+    requires slots { HasSlots (walk.old.names.slot + 1) (body_weight body.now) }
+    requires depths { HasDepths depth (body_weight body.now) }
+    requires texts { HasTexts walk.old.texts (body_weight body.now) }
+    ensures walk { OnOk result (walk.new ≡ after (do_told label.now (body_told body.now)) walk.old) }
+    ensures command { IfOk result (λ c. c ≡ does (do_told label.now (body_told body.now)) depth walk.old) }
+{
+    let slot = walk.names.slot;
+    walk.label(label, depth)?;
+    walk.take(1);
+    let body = resolve_scope(alloc, walk, depth, body)?;
+    walk.names.labels.close();
+    Ok(Command::Do { slot, body })
+}
+
+#[cycle(stmt)]
+fn resolve_async(
+    alloc: Global,
+    walk: &mut Walk,
+    depth: u32,
+    body: &Boxed<Stmt>,
+) -> Result<Command, NoMemory>
+    requires slots { HasSlots 0 (stmt_weight body.now) }
+    requires depths { HasDepths (depth + 1) (stmt_weight body.now) }
+    requires texts { HasTexts walk.old.texts (stmt_weight body.now) }
+    ensures walk { OnOk result (walk.new ≡ after (async_told (told body.now)) walk.old) }
+    ensures command { IfOk result (λ c. c ≡ does (async_told (told body.now)) depth walk.old) }
+{
+    let slot = walk.names.slot;
+    walk.names.slot = 0;
+    let body = resolve_boxed(alloc, walk, depth + 1, body)?;
+    let slots = walk.names.slot;
+    walk.names.slot = slot;
+    Ok(Command::Async { slots, body })
+}
+
+#[cycle(stmt)]
+fn resolve_boxed(
+    alloc: Global,
+    walk: &mut Walk,
+    depth: u32,
+    stmt: &Boxed<Stmt>,
+) -> Result<Boxed<Command>, NoMemory>
+    requires slots { HasSlots walk.old.names.slot (stmt_weight stmt.now) }
+    requires depths { HasDepths depth (stmt_weight stmt.now) }
+    requires texts { HasTexts walk.old.texts (stmt_weight stmt.now) }
+    ensures walk { OnOk result (walk.new ≡ after (told stmt.now) walk.old) }
+    ensures command { IfOk result (λ c. c ≡ does (told stmt.now) depth walk.old) }
+{
+    Boxed::new(alloc, resolve_stmt(alloc, walk, depth, stmt.get())?)
+}
+
+#[cycle(stmt)]
+fn resolve_some(
+    alloc: Global,
+    walk: &mut Walk,
+    depth: u32,
+    stmt: &Option<Boxed<Stmt>>,
+) -> Result<Option<Boxed<Command>>, NoMemory>
+    requires slots { HasSlots walk.old.names.slot (some_weight stmt.now) }
+    requires depths { HasDepths depth (some_weight stmt.now) }
+    requires texts { HasTexts walk.old.texts (some_weight stmt.now) }
+    ensures walk { OnOk result (walk.new ≡ after_some (some_told stmt.now) walk.old) }
+    ensures command { IfOk result (λ c. c ≡ some_does (some_told stmt.now) depth walk.old) }
+{
+    match stmt {
+        None => Ok(None),
+        Some(stmt) => Ok(Some(resolve_boxed(alloc, walk, depth, stmt)?)),
+    }
+}
+
+/// The first part of a `for`, which may declare.
+#[cycle(stmt)]
+fn resolve_init(
+    alloc: Global,
+    walk: &mut Walk,
+    depth: u32,
+    stmt: &Option<Boxed<Stmt>>,
+) -> Result<Option<Boxed<Command>>, NoMemory>
+    requires slots { HasSlots walk.old.names.slot (some_weight stmt.now) }
+    requires depths { HasDepths depth (some_weight stmt.now) }
+    requires texts { HasTexts walk.old.texts (some_weight stmt.now) }
+    ensures walk { OnOk result (walk.new ≡ after_init (some_told stmt.now) depth walk.old) }
+    ensures command { IfOk result (λ c. c ≡ some_does (some_told stmt.now) depth walk.old) }
+{
+    match stmt {
+        None => Ok(None),
+        Some(stmt) => {
+            let slot = walk.names.slot;
+            let command = resolve_boxed(alloc, walk, depth, stmt)?;
+            walk.declare(depth, slot, stmt.get())?;
+            Ok(Some(command))
+        }
+    }
+}
+
+/// Appends the command of a statement, and declares what it declares.
+#[cycle(stmt)]
+fn resolve_listed(
+    alloc: Global,
+    walk: &mut Walk,
+    depth: u32,
+    list: &mut List<Command>,
+    stmt: &Stmt,
+) -> Result<(), NoMemory>
+    requires slots { HasSlots walk.old.names.slot (stmt_weight stmt.now) }
+    requires depths { HasDepths depth (stmt_weight stmt.now) }
+    requires texts { HasTexts walk.old.texts (stmt_weight stmt.now) }
+    ensures walk { OnOk result (walk.new ≡ after_listed (told stmt.now) depth walk.old) }
+    ensures list { OnOk result (list.new ≡ list.old ++ does (told stmt.now) depth walk.old ∷ []) }
+{
+    let slot = walk.names.slot;
+    list.push(resolve_stmt(alloc, walk, depth, stmt)?)?;
+    walk.declare(depth, slot, stmt)
+}
+
+/// The commands of statements whose declarations have a scope of their own.
+#[cycle(stmt)]
+fn resolve_scope(
+    alloc: Global,
+    walk: &mut Walk,
+    depth: u32,
+    body: &[Stmt],
+) -> Result<List<Command>, NoMemory>
+    requires slots { HasSlots walk.old.names.slot (body_weight body.now) }
+    requires depths { HasDepths depth (body_weight body.now) }
+    requires texts { HasTexts walk.old.texts (body_weight body.now) }
+    ensures walk { OnOk result (walk.new ≡ after_scope (body_told body.now) walk.old) }
+    ensures commands { IfOk result (λ list. list ≡ scope_does (body_told body.now) depth walk.old) }
+{
+    walk.names.scopes.open()?;
+    let list = resolve_body(alloc, walk, depth, body)?;
+    walk.names.scopes.close();
+    Ok(list)
+}
+
+/// The commands of statements one after the other.
+#[cycle(stmt)]
+pub fn resolve_body(
+    alloc: Global,
+    walk: &mut Walk,
+    depth: u32,
+    body: &[Stmt],
+) -> Result<List<Command>, NoMemory>
+    requires slots { HasSlots walk.old.names.slot (body_weight body.now) }
+    requires depths { HasDepths depth (body_weight body.now) }
+    requires texts { HasTexts walk.old.texts (body_weight body.now) }
+    ensures walk { OnOk result (walk.new ≡ after_body (body_told body.now) depth walk.old) }
+    ensures commands { IfOk result (λ list. list ≡ body_does (body_told body.now) depth walk.old) }
+{
+    let mut list = List::new(alloc);
+    for stmt in body {
+        resolve_listed(alloc, walk, depth, &mut list, stmt)?;
+    }
+    Ok(list)
+}
