@@ -1,5 +1,5 @@
 -- The law of statements.
-use Rattle.std.proofs.Common.{◌≡◌, ℕ, suc, List, [], ◌∷◌, ◌++◌, Option, Some, None, Result, Ok, Err, refl, sym, ap, ◌∙◌, subst}
+use Rattle.std.proofs.Common.{◌≡◌, ℕ, suc, List, [], ◌∷◌, ◌++◌, Option, Some, None, Ok, Err, refl, sym, ap, ◌∙◌, subst}
 use Rattle.std.specs.Prelude.{if◌then◌else◌}
 use Rattle.std.proofs.lemmas.List.{append-nil}
 use Rattle.ac_tree.specs.declared.expr.Expr.{Expr}
@@ -13,9 +13,10 @@ use Rattle.ac_parser.specs.declared.forms.Opening.{Opening}
 use Rattle.ac_parser.specs.declared.forms.Opening.TheVariants as f
 use Rattle.ac_parser.specs.Spelling.{Marked, mark, IsMark, IsName, CallSpells}
 use Rattle.ac_parser.specs.SpellingOfStatements.{StmtSpells, block, empty, assign, call_stmt, print, if_alone, if_else, while, for, break, continue, return, do_plain, do_labelled, async, cancel, yield}
-use Rattle.ac_parser.specs.Reads.{Reads, Fault, halt, unexpected, ◌>>=◌, sign, starts_with, word_at, mark_at}
+use Rattle.ac_parser.specs.Reads.{Reads, halt, unexpected, ◌>>=◌, sign, starts_with, word_at, mark_at}
 use Rattle.ac_parser.specs.ReadsExpressions.{place_of, expr_at}
 use Rattle.ac_parser.specs.ReadsStatements.{opening_of, is_opening, other_at, if_at, stmt_by, stmt_at}
+use Rattle.ac_parser.proofs.Halts.{bind_ext}
 use Rattle.ac_parser.proofs.Parts.{Part, ret, seq, made, Either_of, first, second, chosen, bind, made_of, either, select}
 use Rattle.ac_parser.proofs.Letters.{signed, sign_part, named, name_part}
 use Rattle.ac_parser.proofs.ExpressionHeads.{call_head, call_place}
@@ -54,10 +55,6 @@ opening_part depth room f.Other = empty_part depth
 
 abbrev pub stmt_part : ℕ → ℕ → Part Stmt
 stmt_part depth room = select opening_of is_opening (opening_part depth room) f.Empty refl
-
-bind_ext : {A B : Type 0} (r : Result A Fault) (f g : A → Result B Fault) → ((x : A) → f x ≡ g x) → (r >>= f) ≡ (r >>= g)
-bind_ext (Ok x) f g h = h x
-bind_ext (Err e) f g h = refl
 
 abbrev with_branches : ℕ → Expr → Reads (Stmt × Option Stmt) → Reads Stmt
 with_branches at x r = r >>= λ p. Ok (s.If at x p.0.0 p.0.1, p.1)

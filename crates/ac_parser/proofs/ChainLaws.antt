@@ -12,7 +12,7 @@ use Rattle.ac_parser.specs.Spelling.{Marked, mark, tokens, link, ExprSpells, num
 use Rattle.ac_parser.specs.Reads.{◌>>=◌, operator_at, has_operator}
 use Rattle.ac_parser.specs.ReadsExpressions.{begins_expr, place_of, made, links_at, chain_at, unary_at, expr_at}
 use Rattle.ac_parser.proofs.Halts.{bind_ok}
-use Rattle.ac_parser.proofs.Parts.{Filled, Part, Law, Any, Seq, seq, Made, law_same, law_before, law_bind, law_then, law_made, bind, made_of, look_never}
+use Rattle.ac_parser.proofs.Parts.{Filled, Part, Law, seq, law_same, law_before, law_bind, law_then, law_made, bind, made_of, look_never}
 use Rattle.ac_parser.proofs.Parts as parts
 use Rattle.ac_parser.proofs.Rows.{Many, none, some, many, law_many}
 use Rattle.ac_parser.proofs.Letters.{filler, OperatorSpells, operating, operator_kind_of, fill_operator, law_operator, operator_by}

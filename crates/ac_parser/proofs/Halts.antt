@@ -36,3 +36,8 @@ not_both X y c h = cc
 pub bind_err : {A B : Type 0} (r : Result A Fault) (f : A → Result B Fault) (c : Fault) → (r >>= f) ≡ Err c → (r ≡ Err c) ⊎ ((x : A) × (r ≡ Ok x) × (f x ≡ Err c))
 bind_err (Ok x) f c h = inr (x, refl, h)
 bind_err {A} {B} (Err d) f c h = inl (ap (λ (c : Fault). Err c) (same_fault B d c h))
+
+-- what comes after is the same, if it is the same after each value
+pub bind_ext : {A B : Type 0} (r : Result A Fault) (f g : A → Result B Fault) → ((x : A) → f x ≡ g x) → (r >>= f) ≡ (r >>= g)
+bind_ext (Ok x) f g h = h x
+bind_ext (Err e) f g h = refl

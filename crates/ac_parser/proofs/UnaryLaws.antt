@@ -16,6 +16,7 @@ use Rattle.ac_parser.specs.Spelling.{Marked, mark, tokens, ExprSpells, number, c
 use Rattle.ac_parser.specs.Reads.{Reads, Fault, halt, unexpected, ◌>>=◌, sign, look, word_at, mark_at, name_at}
 use Rattle.ac_parser.specs.ReadsExpressions.{primary_of, is_primary, begins_expr, operation_kind, operation_of, deep_name_at, range_at, transfer_of, transfer_at, read_at, write_at, operation_by, operation_at, primary_by, unary_at, expr_at}
 use Rattle.ac_parser.proofs.Heads.{ByHead, by_head}
+use Rattle.ac_parser.proofs.Halts.{bind_ext}
 use Rattle.ac_parser.proofs.Parts.{Part, Law, Any, seq, made, Either_of, first, second, chosen, law_same, law_before, law_then, law_made, law_select, law_look, bind, made_of, either, ret, select}
 use Rattle.ac_parser.proofs.Letters.{signed, sign_part, law_sign, named, name_part, numbered, number_part, law_number, constantly, constant_part, law_constant, unary_sign, unary_part, law_unary_sign}
 use Rattle.ac_parser.proofs.ExpressionHeads.{Ends, constant_form, unary_form, begins_by, primary_by_head, at_most}
@@ -40,10 +41,6 @@ operation_part depth room = select operation_of always (form_part depth room) o.
 
 operation_by_head : ByHead operation_of
 operation_by_head = by_head operation_of o.Write (λ t. operation_kind t.kind) refl (λ t ts. refl)
-
-bind_ext : {A B : Type 0} (r : Result A Fault) (f g : A → Result B Fault) → ((x : A) → f x ≡ g x) → (r >>= f) ≡ (r >>= g)
-bind_ext (Ok x) f g h = h x
-bind_ext (Err e) f g h = refl
 
 -- what comes after a reading goes into it
 bind_in : {A B C : Type 0} (r : Result A Fault) (f : A → Result B Fault) (g : B → Result C Fault) (h : A → Result C Fault) → ((x : A) → (f x >>= g) ≡ h x) → ((r >>= f) >>= g) ≡ (r >>= h)

@@ -11,10 +11,9 @@ use Rattle.ac_types.specs.declared.numbered.Callee.{Callee}
 use Rattle.ac_types.specs.declared.numbered.Tables.{Tables}
 use Rattle.ac_types.specs.declared.seen.Seen.{Seen}
 use Rattle.ac_types.specs.Scopes.{Declaration, or_else, visible}
-use Rattle.ac_types.specs.First.{at_node}
 use Rattle.ac_types.specs.Around.{position_of}
 use Rattle.ac_types.specs.Tables.{callee, takes_array}
-use Rattle.ac_types.specs.Nodes.{Node, noted, seen_all, least_broken, called, first_of, calls_of}
+use Rattle.ac_types.specs.Nodes.{Node, noted, seen_all, least_broken, called, first_of, calls_of, at_node}
 use Rattle.ac_types.specs.Judged.{value_tests, file_tests}
 use Rattle.ac_types.specs.Expressions.{plain, call_node, expr_step, link_step, link_all, links_step, args_step, values_all, value_all, one_node, join_nodes, unseen, join_seen, expr_nodes, expr_seen, values_seen, value_seen}
 

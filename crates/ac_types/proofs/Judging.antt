@@ -4,8 +4,7 @@ use Rattle.ac_tree.specs.declared.item.Item.{Item}
 use Rattle.ac_types.specs.declared.rule.Rule.{Rule}
 use Rattle.ac_types.specs.declared.numbered.Reached.{Reached}
 use Rattle.ac_types.specs.Scopes.{or_else}
-use Rattle.ac_types.specs.First.{at_node}
-use Rattle.ac_types.specs.Nodes.{least_broken, first_of}
+use Rattle.ac_types.specs.Nodes.{least_broken, first_of, at_node}
 use Rattle.ac_types.specs.Items.{whole, program_tests, program_nodes, items_nodes}
 use Rattle.ac_types.specs.Reached.{AreReached, BreaksIn, Breaks, IsLeastBroken, BreaksNone}
 use Rattle.ac_types.proofs.Lowest.{Tells, first_tells}

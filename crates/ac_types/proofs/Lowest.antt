@@ -4,8 +4,7 @@ use Rattle.std.specs.Prelude.{min, nat_lt}
 use Rattle.std.proofs.lemmas.Bool.Decides.{nat_tests}
 use Rattle.ac_types.specs.declared.rule.Rule.{Rule}
 use Rattle.ac_types.specs.Scopes.{or_else}
-use Rattle.ac_types.specs.First.{at_node}
-use Rattle.ac_types.specs.Nodes.{Node, least_with, least_broken, first_of}
+use Rattle.ac_types.specs.Nodes.{Node, least_with, least_broken, first_of, at_node}
 use Rattle.ac_types.specs.Rules.{IsUpTo}
 use Rattle.ac_types.specs.Reached.{IsBrokenRule, BreaksIn}
 

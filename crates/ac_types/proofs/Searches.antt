@@ -1,7 +1,6 @@
 -- A search finds what is reached, and all of it.
 use Rattle.std.proofs.Common.{◌≡◌, ℕ, zero, suc, ◌+◌, ◌<◌, ◌≤◌, ◌⊎◌, inl, inr, Bool, true, false, List, [], ◌∷◌, ◌++◌, length, slice_get, slice_set, Option, None, Some, refl, sym, ap, ◌∙◌, subst, arith, length-append}
-use Rattle.ac_types.specs.Rules.{IsAmong, here_is, later_is}
-use Rattle.ac_types.specs.Reached.{IsCalled, ReachedFrom, is_entry, is_called}
+use Rattle.ac_types.specs.Reached.{IsCalled, ReachedFrom, is_entry, is_called, IsAmong, here_is, later_is}
 use Rattle.ac_types.specs.Search.{Finding, no_flags, nothing_found, found_by, with_found, with_all, with_entry, row_of, with_calls, AreFlags}
 
 -- ---- lists

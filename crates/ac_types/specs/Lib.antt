@@ -2,7 +2,6 @@ pub mod Scopes
 pub mod Inner
 pub mod Table
 pub mod Rules
-pub mod First
 pub mod Kinds
 pub mod Tables
 pub mod Nodes

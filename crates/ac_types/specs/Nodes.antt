@@ -1,9 +1,8 @@
 -- Nodes with the rules that each is judged by, and what a walk over nodes has seen.
-use Rattle.std.specs.Prelude.{ℕ, List, [], ◌∷◌, ◌++◌, Option, None, Some, Bool, true, false}
+use Rattle.std.specs.Prelude.{ℕ, List, [], ◌∷◌, ◌++◌, Option, None, Some, Bool, true, false, min}
 use Rattle.ac_types.specs.declared.rule.Rule.{Rule}
 use Rattle.ac_types.specs.declared.seen.Seen.{Seen}
 use Rattle.ac_types.specs.Scopes.{or_else}
-use Rattle.ac_types.specs.First.{lesser, at_node}
 
 -- a node of the tree: its first byte, the rules that it is judged by, which rise, with whether it breaks each, and the
 -- number of the function that it calls, where it calls one
@@ -11,6 +10,10 @@ pub record Node : Type 0 where
   pub at : ℕ
   pub tests : List (ℕ × Bool)
   pub calls : Option ℕ
+
+abbrev pub lesser : ℕ → Option ℕ → ℕ
+lesser r None = r
+lesser r (Some q) = min r q
 
 abbrev pub least_with : ℕ → Bool → Option ℕ → Option ℕ
 least_with rule true rest = Some (lesser rule rest)
@@ -20,6 +23,10 @@ least_with rule false rest = rest
 abbrev pub least_broken : List (ℕ × Bool) → Option ℕ
 least_broken [] = None
 least_broken (t ∷ ts) = least_with t.0 t.1 (least_broken ts)
+
+abbrev pub at_node : ℕ → Option ℕ → Option Rule
+at_node at None = None
+at_node at (Some rule) = Some (record { rule = rule; at = at })
 
 abbrev pub called : Option ℕ → List ℕ → List ℕ
 called None calls = calls

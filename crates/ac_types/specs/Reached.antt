@@ -9,7 +9,7 @@ use Rattle.ac_types.specs.declared.numbered.Reached.TheVariants as r
 use Rattle.ac_types.specs.declared.numbered.Tables.{Tables}
 use Rattle.ac_types.specs.Scopes.{Declaration, visible}
 use Rattle.ac_types.specs.Nodes.{Node, calls_of}
-use Rattle.ac_types.specs.Rules.{IsAmong, IsUpTo}
+use Rattle.ac_types.specs.Rules.{IsUpTo}
 use Rattle.ac_types.specs.Items.{outermost, tables_of, function_nodes, program_nodes}
 
 abbrev pub function_number : Option Meaning → Option ℕ
@@ -33,6 +33,11 @@ entries_of items = entries (outermost items) items
 
 abbrev pub all_calls : List Item → List (List ℕ)
 all_calls items = calls_in (tables_of items []) (outermost items) items
+
+-- a function is in a list
+pub data IsAmong (function : ℕ) : List ℕ → Type 0 where
+  here_is : (others : List ℕ) → IsAmong function (function ∷ others)
+  later_is : (other : ℕ) (others : List ℕ) → IsAmong function others → IsAmong function (other ∷ others)
 
 -- one function calls another
 pub record IsCalled (calls : List (List ℕ)) (caller function : ℕ) : Type 0 where

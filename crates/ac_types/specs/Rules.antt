@@ -1,9 +1,5 @@
 -- The order of the pairs of a node and a rule.
-use Rattle.std.specs.Prelude.{◌≡◌, ℕ, ◌<◌, ◌≤◌, ◌⊎◌, List, ◌∷◌}
-
-pub data IsAmong (r : ℕ) : List ℕ → Type 0 where
-  here_is : (rs : List ℕ) → IsAmong r (r ∷ rs)
-  later_is : (q : ℕ) (rs : List ℕ) → IsAmong r rs → IsAmong r (q ∷ rs)
+use Rattle.std.specs.Prelude.{◌≡◌, ℕ, ◌<◌, ◌≤◌, ◌⊎◌}
 
 -- a pair of a node's number and a rule is another, or comes before it
 abbrev pub IsUpTo : ℕ → ℕ → ℕ → ℕ → Type 0

@@ -1,4 +1,4 @@
-//! What the names of a tree mean: the rules of the language, and the resolved program, on which meanings and code are defined.
+//! What the names of a tree mean: scopes, and the rules of the language.
 #![tactic(auto)]
 
 mod accepted;

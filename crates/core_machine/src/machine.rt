@@ -35,7 +35,7 @@ impl<'a> CoreMachine<'a> {
     ghost use Rattle.core_machine.specs.Machine.{IsFirst, IsRun, IsSameCore, IsSeen, IsPaused};
 
     /// A core of the code before its first instruction, with a bound on its steps.
-    /// It answers no memory where its frame has no place.
+    /// It takes the memory of its first frame and answers `NoMemory` where there is none.
     pub fn new(
         alloc: Global,
         code: &'a Code,

@@ -1,8 +1,7 @@
 -- Where the cores of valid code begin.
-use Rattle.std.proofs.Common.{◌≡◌, ℕ, ◌<◌, List, length, Some, refl, sym, ap, ◌∙◌, subst}
+use Rattle.std.proofs.Common.{◌≡◌, ℕ, ◌<◌, length, Some, sym, ◌∙◌, subst}
 use Rattle.std.specs.Prelude.{slice_get}
 use Rattle.std.proofs.lemmas.Option.{slice_get_within}
-use Rattle.stack_code.specs.declared.code.Entered.{Entered}
 use Rattle.stack_code.specs.Parts.{Parts}
 use Rattle.stack_code.specs.Valid.{IsValid}
 

@@ -1,5 +1,5 @@
 -- What the flat machine does, instruction by instruction.
-use Rattle.std.specs.Prelude.{◌≡◌, ℕ, ◌+◌, ◌-◌, ◌^◌, min, ℤ, List, [], ◌∷◌, length, take, drop, reverse, Option, Some, None, nat_le, nat_lt, slice_get, slice_index_or, if◌then◌else◌}
+use Rattle.std.specs.Prelude.{ℕ, ◌+◌, ◌-◌, ◌^◌, min, ℤ, List, [], ◌∷◌, length, take, drop, reverse, Option, Some, None, nat_le, nat_lt, slice_get, slice_index_or, if◌then◌else◌}
 use Rattle.std.specs.Int.{w64, int_wrapping_add, int_wrapping_sub, int_wrapping_mul}
 use Rattle.ac_base.specs.declared.ends.EndWord.TheVariants.{Finished, OutOfSteps}
 use Rattle.ac_base.specs.declared.ends.CoreEnd.{CoreEnd}

@@ -1,5 +1,5 @@
 -- Valid code: whatever way leads to an address, an instruction stands there and finds its operands and its slots.
-use Rattle.std.specs.Prelude.{◌≡◌, ℕ, zero, suc, ◌+◌, ◌-◌, ◌<◌, List, length, Option, Some, None, nat_le, nat_lt, ◌&&◌, slice_get, if◌then◌else◌}
+use Rattle.std.specs.Prelude.{◌≡◌, ℕ, zero, suc, ◌+◌, ◌-◌, ◌<◌, length, Option, Some, None, nat_le, nat_lt, ◌&&◌, slice_get, if◌then◌else◌}
 use Rattle.stack_code.specs.declared.instr.Instr.{Instr}
 use Rattle.stack_code.specs.declared.instr.Instr.TheVariants.{Step, Push, Load, Store, Add, Sub, Mul, Print, Ret}
 use Rattle.stack_code.specs.declared.code.Entered.{Entered}

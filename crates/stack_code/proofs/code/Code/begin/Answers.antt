@@ -1,4 +1,4 @@
-use Rattle.std.proofs.Common.{subst, length, ◌<◌, ap, sym, ◌≡◌, Some}
+use Rattle.std.proofs.Common.{subst, length, ◌<◌, sym, ◌≡◌, Some}
 use Rattle.std.specs.Prelude.{slice_get}
 use Rattle.stack_code.specs.Parts.{Parts, Begins}
 use Rattle.stack_code.proofs.Entries.{entry_within}
