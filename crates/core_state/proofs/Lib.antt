@@ -1,2 +1,4 @@
 pub mod Simulation
 pub mod Runs
+pub mod Beginnings
+pub mod Examples

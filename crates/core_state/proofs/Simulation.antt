@@ -90,3 +90,13 @@ module _ {S E C F : Type 0} (f : S → Move S E) (g : C → Move C F) (R : S →
 pub follows_later : {S E C F : Type 0} (g : C → Move C F) (R : S → C → Type 0) (seen : F → E) (c d : C) (m : Move S E) → Leads g c d → Follows g R seen d m → Follows g R seen c m
 follows_later g R seen c d m l (follows_on x m' r) = follows_on x (then_on g c d x l m') r
 follows_later g R seen c d m l (follows_over x h e) = follows_over x (over_later g c d x l h) e
+
+-- the same where the first may have come to its next state already
+pub data Reaches {S E C F : Type 0} (g : C → Move C F) (R : S → C → Type 0) (seen : F → E) (c : C) : Move S E → Type 0 where
+  arrived : {s : S} → R s c → Reaches g R seen c (On s)
+  follows : {m : Move S E} → Follows g R seen c m → Reaches g R seen c m
+
+-- one move or more before that
+pub reaches_later : {S E C F : Type 0} (g : C → Move C F) (R : S → C → Type 0) (seen : F → E) (c d : C) (m : Move S E) → Leads g c d → Reaches g R seen d m → Follows g R seen c m
+reaches_later g R seen c d m l (arrived r) = follows_on d l r
+reaches_later g R seen c d m l (follows f) = follows_later g R seen c d m l f

@@ -1,2 +1,4 @@
 pub mod Moves
+pub mod Arithmetic
+pub mod Frames
 pub mod Shared

@@ -1,57 +1,84 @@
--- What the source and the code of a core both have, and what is seen of it at an end.
-use Rattle.std.specs.Prelude.{ℕ, ℤ, pos, ◌+◌, Bool, true, false, List, [], ◌∷◌, ◌++◌, replicate, slice_index_or, slice_set, ◌==◌, nat_lt, Option, Some, None, if◌then◌else◌}
+-- What the source and the code of a core share, which is what is seen of it but for its globals, and what is seen of it at an end. Globals,
+-- frames, threads and blocks are each meaning's own.
+use Rattle.std.specs.Prelude.{ℕ, ◌+◌, ◌-◌, ◌^◌, ℤ, Bool, true, false, List, [], ◌∷◌, ◌++◌, length, replicate, ◌==◌, nat_le, nat_lt, Option, Some, None, Result, Ok, Err, if◌then◌else◌}
 use Rattle.std.specs.Fmt.{signed_decimal}
+use Rattle.ac_base.specs.declared.ends.Trap.{Trap}
+use Rattle.ac_base.specs.declared.ends.Trap.TheVariants.{OutputFull}
 use Rattle.ac_base.specs.declared.ends.EndWord.{EndWord}
-use Rattle.ac_base.specs.declared.ends.EndWord.TheVariants.{OutOfSteps}
+use Rattle.ac_base.specs.declared.ends.EndWord.TheVariants as word
 use Rattle.ac_base.specs.declared.ends.CoreEnd.{CoreEnd}
 use Rattle.ac_base.specs.declared.entry.Entry.{Entry}
+use Rattle.work_item.specs.Store.{Store, no_int}
 use Rattle.core_state.specs.Moves.{Move, Over}
+use Rattle.core_state.specs.Arithmetic.{low_byte}
+use Rattle.core_state.specs.Frames.{begun, first_store}
 
--- the steps used, the bytes printed, the slots of the function's frame, and the entries of the journal that have not come in yet
+-- the steps used, the turn, the bytes printed, and the entries of the journal that have not come in yet
 pub record Shared : Type 0 where
   pub steps : ℕ
+  pub turn : ℕ
   pub output : List ℕ
-  pub slots : List ℤ
   pub journal : List Entry
-
--- at the beginning, so many slots, each of them 0
-abbrev pub first_shared : ℕ → List Entry → Shared
-first_shared slots journal = record { steps = 0; output = []; slots = replicate slots (pos 0); journal = journal }
-
-abbrev pub slot_value : List ℤ → ℕ → ℤ
-slot_value slots slot = slice_index_or slots slot (pos 0)
-
-abbrev pub with_slot : Shared → ℕ → ℤ → Shared
-with_slot s slot value = record s { slots = slice_set s.slots slot value }
 
 abbrev pub with_step : Shared → Shared
 with_step s = record s { steps = s.steps + 1 }
 
-abbrev pub with_output : Shared → List ℕ → Shared
-with_output s bytes = record s { output = s.output ++ bytes }
+abbrev pub with_turn : Shared → Shared
+with_turn s = record s { turn = s.turn + 1 }
 
--- a text of `printf` with values, read from a place before or directly after a `%`; the directive `%d` gives the decimal text of the next value
+abbrev pub first_shared : List Entry → Shared
+first_shared journal = record { steps = 0; turn = 0; output = []; journal = journal }
+
+-- ---- output
+
+abbrev pub output_limit : ℕ
+output_limit = 4194304
+
+-- A text of `printf` with values, read from a place before or directly after a `%`: `%d` gives the decimal text of the next value, `%c` its
+-- low 8 bits as a byte, and `%%` a `%`, which takes no value. So `x=%d, y=%d.` with 7 and -2 is `x=7, y=-2.`; `100%%` with none is `100%`;
+-- and `%c%%%d` with 321 and 5 is `A%5`, since 321 is 256 + 65. No other letter stands after a `%` in a text that is accepted.
 abbrev pub formatted_from : Bool → List ℕ → List ℤ → List ℕ
 formatted_from directive [] vs = []
 formatted_from false (b ∷ text) vs = if b == 37 then formatted_from true text vs else b ∷ formatted_from false text vs
-formatted_from true (b ∷ text) [] = formatted_from false text []
-formatted_from true (b ∷ text) (v ∷ vs) = signed_decimal v ++ formatted_from false text vs
+formatted_from true (b ∷ text) [] = if b == 37 then 37 ∷ formatted_from false text [] else formatted_from false text []
+formatted_from true (b ∷ text) (v ∷ vs) =
+    if b == 37 then 37 ∷ formatted_from false text (v ∷ vs)
+    else if b == 100 then signed_decimal v ++ formatted_from false text vs
+    else if b == 99 then low_byte v ∷ formatted_from false text vs
+    else formatted_from false text (v ∷ vs)
 
 abbrev pub formatted : List ℕ → List ℤ → List ℕ
 formatted text vs = formatted_from false text vs
 
--- what is seen of a core
-abbrev pub core_end : EndWord → Bool → Shared → CoreEnd
-core_end word idle s = record { word = word; steps = s.steps; output = s.output; globals = []; waiting = []; idle = idle }
+-- what is printed, where the output keeps within its limit
+abbrev pub printed : Shared → List ℕ → Result Shared Trap
+printed s bytes = if nat_le (length s.output + length bytes) output_limit then Ok (record s { output = s.output ++ bytes }) else Err OutputFull
+
+-- ---- ends
+
+-- what is seen of a core whose globals are these
+abbrev pub core_end : EndWord → Bool → List ℤ → Shared → CoreEnd
+core_end word idle globals s =
+    record { word = word; steps = s.steps; output = s.output; globals = globals; waiting = []; idle = idle }
 
 -- what is seen of an end: nothing where an entry of the journal is left over
-abbrev pub seen_left : EndWord → Shared → List Entry → Option CoreEnd
-seen_left word s [] = Some (core_end word false s)
-seen_left word s (_ ∷ _) = None
+abbrev pub seen_left : EndWord → Bool → List ℤ → Shared → List Entry → Option CoreEnd
+seen_left word idle globals s [] = Some (core_end word idle globals s)
+seen_left word idle globals s (_ ∷ _) = None
 
-abbrev pub seen : EndWord → Shared → Option CoreEnd
-seen word s = seen_left word s s.journal
+abbrev pub seen : EndWord → Bool → List ℤ → Shared → Option CoreEnd
+seen word idle globals s = seen_left word idle globals s s.journal
 
--- with a step if there is one left, and else out of steps
-abbrev pub if_step : {S : Type 0} → ℕ → Shared → Move S (Option CoreEnd) → Move S (Option CoreEnd)
-if_step bound s next = if nat_lt s.steps bound then next else Over (seen OutOfSteps s)
+-- ---- moves that end a core; each meaning tells an end in its own way
+
+-- with a turn if there is one left, and else out of steps
+abbrev pub if_turn : {S E : Type 0} → (Option CoreEnd → E) → List ℤ → Shared → Move S E → Move S E
+if_turn tell globals s next = if nat_lt s.turn (2 ^ 64 - 1) then next else Over (tell (seen word.OutOfSteps false globals s))
+
+abbrev pub begins_with : {S E : Type 0} → (Option CoreEnd → E) → List ℤ → Shared → Result Store Trap → (Store → Move S E) → Move S E
+begins_with tell globals s (Ok store) go = go store
+begins_with tell globals s (Err trap) go = Over (tell (seen (word.Trapped trap) false globals s))
+
+-- a core begins with these globals in a frame of so many slots, where there is room for it
+abbrev pub begins : {S E : Type 0} → (Option CoreEnd → E) → List ℤ → Shared → ℕ → (Store → Move S E) → Move S E
+begins tell globals s slots go = begins_with tell globals s (begun (first_store globals) None (replicate slots no_int)) go

@@ -1,0 +1,201 @@
+//! The blocks of a core, by numbers that are given once.
+
+ghost use Rattle.std.specs.Prelude.{◌≡◌, ◌≤◌, ◌<◌, [], ◌↔◌, IsTrue, IfSome, OnOk, OnErr, Some};
+ghost use Rattle.finish_block.specs.Table.{block_at, next_block, parent_at, entered, begun, woken, ended, arrival, arrived, marked};
+ghost use Rattle.finish_block.specs.Conditions.{Lives, ParentLives, CanCountMore, HasThread, ChildlessAtEnd, ChildlessAtFinish, IsRooted};
+ghost use Rattle.finish_block.specs.Ancestors.{AncestorsLive, IsCancelled};
+
+use crate::block::Block;
+use ac_base::NoMemory;
+use std::alloc::Global;
+use std::marker::Model;
+use work_item::{BlockId, Item};
+
+/// What an owner does at the `finish` of its block.
+#[derive(Clone, Copy, Debug, PartialEq, Eq)]
+pub enum Arrival {
+    /// It goes on after the `finish`.
+    Passes,
+    /// It stays there until the last thread of the block has ended.
+    Waits,
+}
+
+/// The blocks of a core. They keep the allocator with which they are made.
+///
+/// Contracts see the blocks at their numbers, in which one that was given back is none, and the
+/// spare: the number of further blocks for which there is room. Only `reserve` takes memory.
+#[derive(Drop)]
+pub struct Blocks {
+    blocks: Vec<Option<Block>>,
+}
+
+impl Model for Blocks {
+    ghost use Rattle.std.specs.Prelude.{◌-◌, vec_len, vec_capacity};
+    ghost use Rattle.finish_block.specs.Table.{Table};
+    ghost use Rattle.finish_block.specs.Conditions.{IsRooted};
+
+    ghost Value = { Table };
+
+    ghost view = { λ s. record { blocks = s.blocks.items; spare = vec_capacity s.blocks - vec_len s.blocks } };
+
+    ghost invariant = { λ s. IsRooted s.blocks.items };
+}
+
+impl Blocks {
+    /// No blocks.
+    pub fn new(alloc: Global) -> Blocks
+        ensures { result.blocks ≡ [] }
+    {
+        Blocks {
+            blocks: Vec::new(alloc),
+        }
+    }
+
+    /// Makes the spare at least n, so that n calls of `enter` have room. After want of memory all is
+    /// as before.
+    pub fn reserve(&mut self, n: u32) -> Result<(), NoMemory>
+        ensures blocks { self.new.blocks ≡ self.old.blocks }
+        ensures ok { OnOk result (n ≤ self.new.spare) }
+        ensures spare { self.old.spare ≤ self.new.spare }
+        ensures err { OnErr result (self.new ≡ self.old) }
+    {
+        self.blocks.reserve(n as usize)?;
+        Ok(())
+    }
+
+    /// Makes a block that no thread was started in, and gives its number, which is the next one. It
+    /// takes one from the spare and no memory, so it always succeeds.
+    ///
+    /// Condition: the spare is positive, and the parent lives, where one is given.
+    pub fn enter(&mut self, parent: Option<BlockId>, owner: Item) -> BlockId
+        requires spare { 0 < self.old.spare }
+        requires parent { ParentLives self.old.blocks parent }
+        ensures number { result ≡ next_block self.old.blocks }
+        ensures made { self.new ≡ entered self.old parent owner }
+    {
+        let number = self.blocks.len() as u64;
+        self.blocks.push_reserved(Some(Block {
+            parent,
+            owner,
+            count: 0,
+            waits: false,
+            cancelled: false,
+        }));
+        BlockId { number }
+    }
+
+    /// Counts a thread in that is started directly in the block.
+    ///
+    /// Condition: the block lives, and its count is below the greatest `u32`.
+    pub fn begin(&mut self, block: BlockId)
+        requires { CanCountMore self.old.blocks block }
+        ensures { self.new ≡ begun self.old block }
+    {
+        let was = self.kept(block);
+        self.blocks[block.number as usize] = Some(Block {
+            count: was.count + 1,
+            ..was
+        });
+    }
+
+    /// Counts a thread out that has ended. It gives the owner exactly where the count is now 0 and
+    /// the owner waits, and then gives the block back.
+    ///
+    /// Condition: the block lives, its count is positive, and where it is given back no live block
+    /// has it as its parent.
+    pub fn end(&mut self, block: BlockId) -> Option<Item>
+        requires thread { HasThread self.old.blocks block }
+        requires childless { ChildlessAtEnd self.old.blocks block }
+        ensures owner { result ≡ woken self.old.blocks block }
+        ensures state { self.new ≡ ended self.old block }
+    {
+        let was = self.kept(block);
+        if was.count == 1 && was.waits {
+            self.blocks[block.number as usize] = None;
+            return Some(was.owner);
+        }
+        self.blocks[block.number as usize] = Some(Block {
+            count: was.count - 1,
+            ..was
+        });
+        None
+    }
+
+    /// The owner arrives at the `finish`. It passes exactly where the count is 0, and the block is
+    /// then given back; else it waits from now on.
+    ///
+    /// Condition: the block lives, and where it is given back no live block has it as its parent.
+    pub fn at_finish(&mut self, block: BlockId) -> Arrival
+        requires lives { Lives self.old.blocks block }
+        requires childless { ChildlessAtFinish self.old.blocks block }
+        ensures arrival { result ≡ arrival self.old.blocks block }
+        ensures state { self.new ≡ arrived self.old block }
+    {
+        let was = self.kept(block);
+        if was.count == 0 {
+            self.blocks[block.number as usize] = None;
+            return Arrival::Passes;
+        }
+        self.blocks[block.number as usize] = Some(Block { waits: true, ..was });
+        Arrival::Waits
+    }
+
+    /// Marks the block as cancelled, for good.
+    ///
+    /// Condition: the block lives.
+    pub fn mark_cancelled(&mut self, block: BlockId)
+        requires { Lives self.old.blocks block }
+        ensures { self.new ≡ marked self.old block }
+    {
+        let was = self.kept(block);
+        self.blocks[block.number as usize] = Some(Block {
+            cancelled: true,
+            ..was
+        });
+    }
+
+    /// Whether the block or one of those round it is marked. It looks at each of them once at most.
+    ///
+    /// Condition: the block lives.
+    pub fn is_cancelled(&self, block: BlockId) -> bool
+        requires { Lives self.now.blocks block }
+        ensures { IsTrue result ↔ IsCancelled self.now.blocks block }
+    {
+        let mut current = block;
+        'up: loop {
+            let here = self.kept(current);
+            if here.cancelled {
+                return true;
+            }
+            match here.parent {
+                None => return false,
+                Some(parent) => current = parent,
+            }
+        }
+    }
+
+    /// The block in which this one lies. All those round it live, and each is older than the one
+    /// that lies in it.
+    ///
+    /// Condition: the block lives.
+    pub fn parent(&self, block: BlockId) -> Option<BlockId>
+        requires { Lives self.now.blocks block }
+        ensures value { result ≡ parent_at (block_at self.now.blocks block) }
+        ensures rooted { IsRooted self.now.blocks }
+        ensures round { AncestorsLive self.now.blocks block }
+    {
+        self.kept(block).parent
+    }
+
+    // What is kept of a block that lives.
+    fn kept(&self, block: BlockId) -> Block
+        requires { Lives self.now.blocks block }
+        ensures block { block_at self.now.blocks block ≡ Some result }
+        ensures rooted { IsRooted self.now.blocks }
+    {
+        match self.blocks[block.number as usize] {
+            Some(live) => live,
+            None => unreachable!(),
+        }
+    }
+}

@@ -1,0 +1,40 @@
+-- What the calls on frames ask for.
+use Rattle.std.specs.Prelude.{◌≡◌, ℕ, zero, suc, ◌+◌, ◌<◌, ◌≤◌, length, Option, Some, None, IsSome, IsSomeAnd, false}
+use Rattle.work_item.specs.declared.ids.FrameId.{FrameId}
+use Rattle.work_item.specs.declared.cell.Place.{Place}
+use Rattle.work_item.specs.Store.{Store, frame_at, cells_of, parent_or}
+
+abbrev pub Lives : Store → FrameId → Type 0
+Lives s f = IsSome (frame_at s f)
+
+-- the parent lives, where one is given
+abbrev pub ParentLives : Store → Option FrameId → Type 0
+ParentLives s None = Unit {0}
+ParentLives s (Some f) = Lives s f
+
+abbrev pub HasParent : Store → FrameId → Type 0
+HasParent s f = IsSomeAnd (frame_at s f) (λ x. IsSome x.parent)
+
+-- the frame lives, and so do the frames round it, that many levels up
+abbrev pub HasLevel : Store → FrameId → ℕ → Type 0
+HasLevel s f zero = Lives s f
+HasLevel s f (suc level) = HasParent s f × HasLevel s (parent_or f (frame_at s f)) level
+
+-- the frame lives and has this slot
+abbrev pub HasSlot : Store → FrameId → ℕ → Type 0
+HasSlot s f slot = slot < length (cells_of s f)
+
+abbrev pub HasGlobal : Store → ℕ → Type 0
+HasGlobal s slot = slot < length s.globals
+
+abbrev pub slots_of : Store → Option FrameId → ℕ
+slots_of s None = length s.globals
+slots_of s (Some f) = length (cells_of s f)
+
+-- the array lies in its frame, which lives, or in the globals
+abbrev pub LiesIn : Store → Place → Type 0
+LiesIn s p = p.start + p.len ≤ slots_of s p.home
+
+-- the frame lives, and its activation or body has not ended
+abbrev pub IsGoing : Store → FrameId → Type 0
+IsGoing s f = IsSomeAnd (frame_at s f) (λ x. x.over ≡ false)

@@ -1,0 +1,227 @@
+//! The globals of a core and its frames.
+
+ghost use Rattle.std.specs.Prelude.{◌≡◌, ◌+◌, ◌^◌, ◌<◌, ◌≤◌, length, replicate, IfOk, OnOk, OnErr};
+ghost use Rattle.work_item.specs.Store.{above, cell_at, with_cell_at, with_cleared, cells_of, int_at, with_int_at, global_at, with_global, no_int, no_frames, next_frame, made, released, live_words, int_in};
+ghost use Rattle.work_item.specs.Conditions.{Lives, ParentLives, HasLevel, HasSlot, HasGlobal, LiesIn, IsGoing};
+
+use crate::cell::{Cell, Place};
+use crate::ids::FrameId;
+use crate::table::Table;
+use ac_base::NoMemory;
+use std::alloc::Global;
+use std::marker::Model;
+
+/// The globals of a core and its frames. They keep the allocator with which they are made.
+///
+/// Contracts see what they hold. Only `new`, `make` and `make_of` take memory.
+#[derive(Drop)]
+pub struct Frames {
+    alloc: Global,
+    globals: Vec<i64>,
+    table: Table,
+}
+
+impl Model for Frames {
+    ghost use Rattle.work_item.specs.Store.{Store};
+
+    ghost Value = { Store };
+
+    ghost use Rattle.work_item.specs.Table.{IsWhole};
+
+    ghost view = { λ s. record { globals = s.globals.items; frames = s.table } };
+
+    ghost invariant = { λ s. IsWhole s.globals.items s.table };
+}
+
+// The int that a cell holds, and 0 where it holds none.
+fn int_of(cell: Cell) -> i64
+    ensures { result ≡ int_in cell }
+{
+    match cell {
+        Cell::Int(value) => value,
+        _ => 0,
+    }
+}
+
+impl Frames {
+    /// So many globals, each of them 0, and no frame, or want of memory.
+    pub fn new(alloc: Global, globals: u32) -> Result<Frames, NoMemory>
+        ensures { IfOk result (λ it. it ≡ no_frames globals) }
+    {
+        let globals = vec![in alloc; 0i64; globals as usize]?;
+        Ok(Frames {
+            alloc,
+            globals,
+            table: Table::new(alloc),
+        })
+    }
+
+    /// Makes a frame of so many zeros, and gives its number, which is the next one. After want of
+    /// memory all is as before.
+    ///
+    /// Condition: the parent lives, where one is given, and the live words with those of the new
+    /// frame, `words` and 4, are below 2^64.
+    pub fn make(&mut self, parent: Option<FrameId>, words: u32) -> Result<FrameId, NoMemory>
+        requires parent { ParentLives self.old parent }
+        requires words { live_words self.old + (words + 4) < 2 ^ 64 }
+        ensures number { IfOk result (λ f. f ≡ next_frame self.old) }
+        ensures ok { OnOk result (self.new ≡ made self.old parent (replicate words no_int)) }
+        ensures err { OnErr result (self.new ≡ self.old) }
+    {
+        let cells = vec![in self.alloc; Cell::Int(0); words as usize]?;
+        self.make_of(parent, cells)
+    }
+
+    /// Makes a frame that holds these cells, and gives its number, which is the next one. After want
+    /// of memory all is as before, and the cells are dropped.
+    ///
+    /// Condition: the parent lives, where one is given, and the live words with those of the new
+    /// frame, one for each cell and 4, are below 2^64.
+    pub fn make_of(
+        &mut self,
+        parent: Option<FrameId>,
+        cells: Vec<Cell>,
+    ) -> Result<FrameId, NoMemory>
+        requires parent { ParentLives self.old parent }
+        requires words { live_words self.old + (length cells.items + 4) < 2 ^ 64 }
+        ensures number { IfOk result (λ f. f ≡ next_frame self.old) }
+        ensures ok { OnOk result (self.new ≡ made self.old parent cells.items) }
+        ensures err { OnErr result (self.new ≡ self.old) }
+    {
+        self.table.push(parent, cells)
+    }
+
+    /// The number of the frame so many levels up, at level 0 of the frame itself. It takes one look
+    /// for each level.
+    ///
+    /// Condition: the frame lives, and so many frames lie round it.
+    pub fn above(&self, frame: FrameId, level: u32) -> FrameId
+        requires { HasLevel self.now frame level }
+        ensures { result ≡ above self.now frame level }
+    {
+        let mut current = frame;
+        for _ in 0..level {
+            current = self.table.parent_or_self(current);
+        }
+        current
+    }
+
+    /// What a slot of the frame so many levels up holds.
+    ///
+    /// Condition: the frame lives, so many frames lie round it, and the slot is below the number
+    /// of the cells there.
+    pub fn read(&self, frame: FrameId, level: u32, slot: u32) -> Cell
+        requires level { HasLevel self.now frame level }
+        requires slot { HasSlot self.now (above self.now frame level) slot }
+        ensures { result ≡ cell_at self.now frame level slot }
+    {
+        let home = self.above(frame, level);
+        self.table.cell(home, slot as usize)
+    }
+
+    /// Sets a slot of the frame so many levels up.
+    ///
+    /// Condition: as that of `read`.
+    pub fn write(&mut self, frame: FrameId, level: u32, slot: u32, cell: Cell)
+        requires level { HasLevel self.old frame level }
+        requires slot { HasSlot self.old (above self.old frame level) slot }
+        ensures { self.new ≡ with_cell_at self.old frame level slot cell }
+    {
+        let home = self.above(frame, level);
+        self.table.set_cell(home, slot as usize, cell);
+    }
+
+    /// Sets so many slots of a frame, from that one on, to 0.
+    ///
+    /// Condition: the frame lives, and has all those slots.
+    pub fn clear(&mut self, frame: FrameId, slot: u32, len: u32)
+        requires frame { Lives self.old frame }
+        requires slots { slot + len ≤ length (cells_of self.old frame) }
+        ensures { self.new ≡ with_cleared self.old frame slot len }
+    {
+        self.table.clear(frame, slot, len);
+    }
+
+    /// An element of an array. One that holds no int reads as 0.
+    ///
+    /// Condition: the array lies in its frame or in the globals, and the index is below its length.
+    pub fn read_at(&self, place: Place, index: u32) -> i64
+        requires place { LiesIn self.now place }
+        requires index { index < place.len }
+        ensures { result ≡ int_at self.now place index }
+    {
+        let slot = place.start as usize + index as usize;
+        match place.home {
+            None => self.globals[slot],
+            Some(frame) => int_of(self.table.cell(frame, slot)),
+        }
+    }
+
+    /// Sets an element of an array.
+    ///
+    /// Condition: as that of `read_at`.
+    pub fn write_at(&mut self, place: Place, index: u32, value: i64)
+        requires place { LiesIn self.old place }
+        requires index { index < place.len }
+        ensures { self.new ≡ with_int_at self.old place index value }
+    {
+        let slot = place.start as usize + index as usize;
+        match place.home {
+            None => self.globals[slot] = value,
+            Some(frame) => self.table.set_cell(frame, slot, Cell::Int(value)),
+        }
+    }
+
+    /// A global.
+    ///
+    /// Condition: there is a global of this number.
+    pub fn read_global(&self, slot: u32) -> i64
+        requires { HasGlobal self.now slot }
+        ensures { result ≡ global_at self.now slot }
+    {
+        self.globals[slot as usize]
+    }
+
+    /// Sets a global.
+    ///
+    /// Condition: as that of `read_global`.
+    pub fn write_global(&mut self, slot: u32, value: i64)
+        requires { HasGlobal self.old slot }
+        ensures { self.new ≡ with_global self.old slot value }
+    {
+        self.globals[slot as usize] = value;
+    }
+
+    /// Notes that the activation or body of a frame has ended. A frame is taken away once that was
+    /// noted and no frame that lives lies in it, and then its parent likewise. It looks at no other
+    /// frames than those.
+    ///
+    /// Condition: the frame lives, and this was not yet said of it.
+    pub fn give_back(&mut self, frame: FrameId)
+        requires { IsGoing self.old frame }
+        ensures { self.new ≡ released self.old frame }
+    {
+        self.table.end(frame);
+        let mut current = frame;
+        while self.table.is_done(current) {
+            match self.table.take_away(current) {
+                Some(parent) => current = parent,
+                None => return,
+            }
+        }
+    }
+
+    /// The globals, in the order of their slots.
+    pub fn globals(&self) -> &[i64]
+        ensures { result.now ≡ self.now.globals }
+    {
+        self.globals.as_slice()
+    }
+
+    /// The words of the globals and of the frames that live, 4 for a frame beside its cells.
+    pub fn live_words(&self) -> u64
+        ensures { result ≡ live_words self.now }
+    {
+        self.globals.len() as u64 + self.table.words()
+    }
+}
