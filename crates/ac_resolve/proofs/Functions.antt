@@ -1,5 +1,5 @@
 -- A walk after a function, and a whole program.
-use Rattle.std.proofs.Common.{◌≡◌, ℕ, ◌+◌, ◌<◌, ◌≤◌, Bool, true, false, List, [], ◌∷◌, length, refl, sym, ap, ◌∙◌, arith}
+use Rattle.std.proofs.Common.{◌≡◌, ℕ, ◌+◌, ◌<◌, ◌≤◌, Bool, true, false, List, [], ◌∷◌, ◌++◌, length, refl, sym, ap, ◌∙◌, arith}
 use Rattle.ac_tree.specs.declared.stmt.Stmt.{Stmt}
 use Rattle.ac_tree.specs.declared.item.Function as tree
 use Rattle.ac_tree.specs.declared.item.Item.{Item}
@@ -14,12 +14,12 @@ use Rattle.ac_types.specs.Items.{param_at, param_named, params_named, kinds_in, 
 use Rattle.ac_types.specs.Room.{HasSlots}
 use Rattle.ac_types.specs.Scopes.{Declaration, declared, closed}
 use Rattle.ac_types.specs.Verdicts.{file_paths}
-use Rattle.ac_resolve.specs.declared.command.Command.{Command}
-use Rattle.ac_resolve.specs.declared.program.Channel.{Channel}
-use Rattle.ac_resolve.specs.declared.program.Core.{Core}
-use Rattle.ac_resolve.specs.declared.program.Function.{Function}
-use Rattle.ac_resolve.specs.declared.program.Resolved.{Resolved}
-use Rattle.ac_resolve.specs.declared.program.Start.{Start}
+use Rattle.ac_commands.specs.declared.command.Command.{Command}
+use Rattle.ac_commands.specs.declared.program.Channel.{Channel}
+use Rattle.ac_commands.specs.declared.program.Core.{Core}
+use Rattle.ac_commands.specs.declared.program.Function.{Function}
+use Rattle.ac_commands.specs.declared.program.Resolved.{Resolved}
+use Rattle.ac_commands.specs.declared.program.Start.{Start}
 use Rattle.ac_resolve.specs.declared.walk.Walk.{Walk}
 use Rattle.ac_resolve.specs.Commands.{Texts, all_words, body_told}
 use Rattle.ac_resolve.specs.Walks.{after_body, body_does, after_params, after_function, after_functions, counts_after}
@@ -90,11 +90,11 @@ module _ (f : tree.Function) (w v : Walk) (o : List (List Declaration)) (ps : Li
         (passed_labels (body_told f.body) 0 (body_names f w.names.scopes) ∙ params_labels f.params (function_names w.names.scopes) ∙ sym l)
         (sym n))
 
-    pub function_is : (name : List ℕ) (first : List Param) (params : List Bool) (list : List Command) → name ≡ f.name → first ≡ f.params → params ≡ kinds_in first → list ≡ body_does (body_told body) 0 v →
+    pub function_is : (name : List ℕ) (first : List Param) (params : List Bool) (empty list : List Command) → name ≡ f.name → first ≡ f.params → params ≡ kinds_in first → empty ≡ [] → list ≡ empty ++ body_does (body_told body) 0 v →
         made f name params u.names.slot list ≡ function_in f w.names.scopes w.texts
-    function_is name first params list en ef ek el =
+    function_is name first params empty list en ef ek ee el =
         let kinds : params ≡ kinds_in f.params = ek ∙ ap kinds_in ef in
-        let body_is : list ≡ body_does (body_told f.body) 0 inside = el ∙ ap (λ b. body_does (body_told b) 0 v) eb ∙ ap (λ k. body_does (body_told f.body) 0 k) inside_is in
+        let body_is : list ≡ body_does (body_told f.body) 0 inside = el ∙ ap (λ k. k ++ body_does (body_told body) 0 v) ee ∙ ap (λ b. body_does (body_told b) 0 v) eb ∙ ap (λ k. body_does (body_told f.body) 0 k) inside_is in
         let a : u.names.slot ≡ (body_names f w.names.scopes).slot + all_words (body_told f.body) = ap (λ (k : Walk). k.names.slot) left_is ∙ passed_slot (body_told f.body) 0 (body_names f w.names.scopes) in
         let b : (body_names f w.names.scopes).slot ≡ 0 + length f.params = params_slot f.params (function_names w.names.scopes) in
         let slots : u.names.slot ≡ length f.params + all_words (body_told f.body) = omega (arith, a, b) in

@@ -1,3 +1,4 @@
 pub mod Rooms
 pub mod Scoped
 pub mod Functions
+pub mod Examples

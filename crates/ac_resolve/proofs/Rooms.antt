@@ -8,7 +8,7 @@ use Rattle.ac_types.specs.Scopes.{Declaration}
 use Rattle.ac_types.specs.Room.{HasSlots, HasDepths}
 use Rattle.ac_types.specs.Statements.{part_words}
 use Rattle.ac_types.proofs.Slots.{few_elements}
-use Rattle.ac_resolve.specs.declared.command.Command.{Command}
+use Rattle.ac_commands.specs.declared.command.Command.{Command}
 use Rattle.ac_resolve.specs.declared.walk.Walk.{Walk}
 use Rattle.ac_resolve.specs.Commands.{Texts, Told, all_words, all_texts, some_words, some_texts, told_step, told, some_told, body_told}
 use Rattle.ac_resolve.specs.Walks.{HasTexts, after, does, after_listed, after_some, after_init, after_body, body_does}
@@ -163,12 +163,12 @@ module _ (xs ys : List Stmt) (x : Stmt) (depth : ℕ) (w v : Walk) (is : ys ≡ 
   pub rest_walk : (whole : Walk) → after_body (body_told ys) depth w ≡ whole → after_body (body_told xs) depth v ≡ whole
   rest_walk whole h = ap (λ k. after_body (body_told xs) depth k) e ∙ sym (ap (λ k. after_body (body_told k) depth w) is) ∙ h
 
-  pub rest_list : (list more : List Command) (whole : List Command) → more ≡ list ++ does (told x) depth w ∷ [] → list ++ body_does (body_told ys) depth w ≡ whole → more ++ body_does (body_told xs) depth v ≡ whole
-  rest_list list more whole f h =
+  pub rest_list : (out more whole : List Command) → more ≡ out ++ does (told x) depth w → out ++ body_does (body_told ys) depth w ≡ whole → more ++ body_does (body_told xs) depth v ≡ whole
+  rest_list out more whole f h =
       ap (λ k. k ++ body_does (body_told xs) depth v) f
-      ∙ ap (λ k. (list ++ does (told x) depth w ∷ []) ++ body_does (body_told xs) depth k) e
-      ∙ append_assoc list (does (told x) depth w ∷ []) (body_does (body_told xs) depth (after_listed (told x) depth w))
-      ∙ sym (ap (λ k. list ++ body_does (body_told k) depth w) is)
+      ∙ ap (λ k. (out ++ does (told x) depth w) ++ body_does (body_told xs) depth k) e
+      ∙ append_assoc out (does (told x) depth w) (body_does (body_told xs) depth (after_listed (told x) depth w))
+      ∙ sym (ap (λ k. out ++ body_does (body_told k) depth w) is)
       ∙ h
 
   pub rest_room : HasSlots w.names.slot (body_weight ys) → HasDepths depth (body_weight ys) → HasTexts w.texts (body_weight ys) →

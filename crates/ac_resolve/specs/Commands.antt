@@ -8,10 +8,10 @@ use Rattle.ac_types.specs.declared.walk.Names.{Names}
 use Rattle.ac_types.specs.Scopes.{visible}
 use Rattle.ac_types.specs.Nodes.{Node}
 use Rattle.ac_types.specs.Statements.{Part, part_names, part_words, stmt_step, array_len, declared_at, opened, moved, in_do, in_async, sum_words}
-use Rattle.ac_resolve.specs.declared.value.Place.TheVariants as p
-use Rattle.ac_resolve.specs.declared.effect.Target.TheVariants as t
-use Rattle.ac_resolve.specs.declared.command.Command.{Command}
-use Rattle.ac_resolve.specs.declared.command.Command.TheVariants as c
+use Rattle.ac_commands.specs.declared.value.Place.TheVariants as p
+use Rattle.ac_commands.specs.declared.effect.Target.TheVariants as t
+use Rattle.ac_commands.specs.declared.command.Command.{Command}
+use Rattle.ac_commands.specs.declared.command.Command.TheVariants as c
 use Rattle.ac_resolve.specs.Places.{cancel_of}
 use Rattle.ac_resolve.specs.Computed.{value_in, values_in, test_in, target_in, effect_in, initial_in, operand_in}
 
@@ -31,12 +31,13 @@ shape_step = stmt_step (Unit {0}) no_node tt no_join
 abbrev pub Texts : Type 0
 Texts = List (List ℕ)
 
--- A statement: its shape, the texts after it by those before it, and what it does by the names round it, the number of async bodies
--- round it, and the texts before it.
+-- A statement: its shape, the texts after it by those before it, and its commands by the names round it, the number of async bodies
+-- round it, and the texts before it. A block gives the commands of the statements in it, one after the other. A `for` gives those of
+-- its first part, and then the loop. Any other statement gives one command.
 pub record Told : Type 0 where
   pub shape : Shape
   pub texts : Texts → Texts
-  pub command : Names → ℕ → Texts → Command
+  pub commands : Names → ℕ → Texts → List Command
 
 abbrev pub shape_of : Told → Shape
 shape_of q = q.shape
@@ -58,7 +59,7 @@ all_texts (q ∷ qs) texts = all_texts qs (q.texts texts)
 
 abbrev pub commands : List Told → Names → ℕ → Texts → List Command
 commands [] n depth texts = []
-commands (q ∷ qs) n depth texts = q.command n depth texts ∷ commands qs (passed q depth n) depth (q.texts texts)
+commands (q ∷ qs) n depth texts = q.commands n depth texts ++ commands qs (passed q depth n) depth (q.texts texts)
 
 -- a part that may be left out
 abbrev pub some_words : Option Told → ℕ
@@ -73,9 +74,14 @@ abbrev pub some_texts : Option Told → Texts → Texts
 some_texts None texts = texts
 some_texts (Some q) texts = q.texts texts
 
-abbrev pub some_command : Option Told → Names → ℕ → Texts → Option Command
-some_command None n depth texts = None
-some_command (Some q) n depth texts = Some (q.command n depth texts)
+abbrev pub some_commands : Option Told → Names → ℕ → Texts → List Command
+some_commands None n depth texts = []
+some_commands (Some q) n depth texts = q.commands n depth texts
+
+-- an `else` without commands is still one
+abbrev pub other_commands : Option Told → Names → ℕ → Texts → Option (List Command)
+other_commands None n depth texts = None
+other_commands (Some q) n depth texts = Some (q.commands n depth texts)
 
 -- the texts of a whole statement are numbered in the order of the text
 abbrev pub texts_step : Stmt-F Told → Texts → Texts
@@ -92,32 +98,33 @@ texts_step _ texts = texts
 abbrev pub for_names : Option Told → ℕ → Names → Names
 for_names init depth n = some_passed init depth (opened n)
 
-abbrev pub command_step : Stmt-F Told → Names → ℕ → Texts → Command
-command_step (Stmt-F.Block at body) n depth texts = c.Block (commands body (opened n) depth texts)
-command_step (Stmt-F.Empty at) n depth texts = c.Nothing
-command_step (Stmt-F.Int at name value) n depth texts = c.Set (t.Variable (p.Local 0 n.slot)) (initial_in value n.scopes depth)
-command_step (Stmt-F.Array at name size) n depth texts = c.Clear n.slot (array_len size)
-command_step (Stmt-F.Assign at place value) n depth texts = c.Set (target_in place n.scopes depth) (effect_in value n.scopes depth)
-command_step (Stmt-F.Call at call) n depth texts = c.Run (effect_in call n.scopes depth)
-command_step (Stmt-F.Print at format args) n depth texts = c.Print (length texts) (values_in args n.scopes depth)
-command_step (Stmt-F.If at test body other) n depth texts =
-    c.If (value_in test n.scopes depth) (body.command n depth texts) (some_command other (moved n (part_words body.shape)) depth (body.texts texts))
-command_step (Stmt-F.While at test body) n depth texts = c.While (value_in test n.scopes depth) (body.command n depth texts)
-command_step (Stmt-F.For at init test next body) n depth texts =
-    c.For (some_command init (opened n) depth texts)
-    (test_in test (for_names init depth n).scopes depth)
-    (some_command next (for_names init depth n) depth (some_texts init texts))
-    (body.command (moved (for_names init depth n) (some_words next)) depth (some_texts next (some_texts init texts)))
-command_step (Stmt-F.Break at) n depth texts = c.Break
-command_step (Stmt-F.Continue at) n depth texts = c.Continue
-command_step (Stmt-F.Return at value) n depth texts = c.Return (operand_in value n.scopes depth)
-command_step (Stmt-F.Do at label body) n depth texts = c.Do n.slot (commands body (opened (in_do label depth n)) depth texts)
-command_step (Stmt-F.Async at body) n depth texts = c.Async (part_words body.shape) (body.command (in_async n) (depth + 1) texts)
-command_step (Stmt-F.Cancel at label) n depth texts = cancel_of (visible label n.labels) depth
-command_step (Stmt-F.Yield at) n depth texts = c.Yield
+abbrev pub commands_step : Stmt-F Told → Names → ℕ → Texts → List Command
+commands_step (Stmt-F.Block at body) n depth texts = commands body (opened n) depth texts
+commands_step (Stmt-F.Empty at) n depth texts = c.Nothing ∷ []
+commands_step (Stmt-F.Int at name value) n depth texts = c.Set (t.Variable (p.Local 0 n.slot)) (initial_in value n.scopes depth) ∷ []
+commands_step (Stmt-F.Array at name size) n depth texts = c.Clear n.slot (array_len size) ∷ []
+commands_step (Stmt-F.Assign at place value) n depth texts = c.Set (target_in place n.scopes depth) (effect_in value n.scopes depth) ∷ []
+commands_step (Stmt-F.Call at call) n depth texts = c.Run (effect_in call n.scopes depth) ∷ []
+commands_step (Stmt-F.Print at format args) n depth texts = c.Print (length texts) (values_in args n.scopes depth) ∷ []
+commands_step (Stmt-F.If at test body other) n depth texts =
+    c.If (value_in test n.scopes depth) (body.commands n depth texts) (other_commands other (moved n (part_words body.shape)) depth (body.texts texts)) ∷ []
+commands_step (Stmt-F.While at test body) n depth texts = c.While (value_in test n.scopes depth) (body.commands n depth texts) ∷ []
+commands_step (Stmt-F.For at init test next body) n depth texts =
+    some_commands init (opened n) depth texts
+    ++ c.For (test_in test (for_names init depth n).scopes depth)
+    (some_commands next (for_names init depth n) depth (some_texts init texts))
+    (body.commands (moved (for_names init depth n) (some_words next)) depth (some_texts next (some_texts init texts)))
+    ∷ []
+commands_step (Stmt-F.Break at) n depth texts = c.Break ∷ []
+commands_step (Stmt-F.Continue at) n depth texts = c.Continue ∷ []
+commands_step (Stmt-F.Return at value) n depth texts = c.Return (operand_in value n.scopes depth) ∷ []
+commands_step (Stmt-F.Do at label body) n depth texts = c.Do n.slot (commands body (opened (in_do label depth n)) depth texts) ∷ []
+commands_step (Stmt-F.Async at body) n depth texts = c.Async (part_words body.shape) (body.commands (in_async n) (depth + 1) texts) ∷ []
+commands_step (Stmt-F.Cancel at label) n depth texts = cancel_of (visible label n.labels) depth ∷ []
+commands_step (Stmt-F.Yield at) n depth texts = c.Yield ∷ []
 
 abbrev pub told_step : Stmt-F Told → Told
-told_step x = record { shape = shape_step (map-Stmt Told Shape shape_of x); texts = texts_step x; command = command_step x }
+told_step x = record { shape = shape_step (map-Stmt Told Shape shape_of x); texts = texts_step x; commands = commands_step x }
 
 abbrev pub told : Stmt → Told
 told = fold-Stmt Told told_step
@@ -139,9 +146,6 @@ int_told name value = told_step (Stmt-F.Int 0 name value)
 
 abbrev pub array_told : List ℕ → ℤ → Told
 array_told name size = told_step (Stmt-F.Array 0 name size)
-
-abbrev pub block_told : List Told → Told
-block_told body = told_step (Stmt-F.Block 0 body)
 
 abbrev pub if_told : Expr → Told → Option Told → Told
 if_told test body other = told_step (Stmt-F.If 0 test body other)

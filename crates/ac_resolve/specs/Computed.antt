@@ -4,16 +4,16 @@ use Rattle.ac_tree.specs.declared.expr.Expr.{Expr, fold-Expr}
 use Rattle.ac_tree.specs.declared.expr.Link.{Link, fold-Link}
 use Rattle.ac_tree.specs.declared.expr.Expr.TheOpen.{Expr-F, Link-F}
 use Rattle.ac_types.specs.Scopes.{Declaration, visible}
-use Rattle.ac_resolve.specs.declared.value.Value.{Value}
-use Rattle.ac_resolve.specs.declared.value.Value.TheVariants as v
-use Rattle.ac_resolve.specs.declared.value.ValueLink.{ValueLink}
-use Rattle.ac_resolve.specs.declared.value.Place.TheVariants as p
-use Rattle.ac_resolve.specs.declared.effect.Argument.{Argument}
-use Rattle.ac_resolve.specs.declared.effect.Argument.TheVariants as g
-use Rattle.ac_resolve.specs.declared.effect.Target.{Target}
-use Rattle.ac_resolve.specs.declared.effect.Target.TheVariants as t
-use Rattle.ac_resolve.specs.declared.effect.Effect.{Effect}
-use Rattle.ac_resolve.specs.declared.effect.Effect.TheVariants as f
+use Rattle.ac_commands.specs.declared.value.Value.{Value}
+use Rattle.ac_commands.specs.declared.value.Value.TheVariants as v
+use Rattle.ac_commands.specs.declared.value.ValueLink.{ValueLink}
+use Rattle.ac_commands.specs.declared.value.Place.TheVariants as p
+use Rattle.ac_commands.specs.declared.effect.Argument.{Argument}
+use Rattle.ac_commands.specs.declared.effect.Argument.TheVariants as g
+use Rattle.ac_commands.specs.declared.effect.Target.{Target}
+use Rattle.ac_commands.specs.declared.effect.Target.TheVariants as t
+use Rattle.ac_commands.specs.declared.effect.Effect.{Effect}
+use Rattle.ac_commands.specs.declared.effect.Effect.TheVariants as f
 use Rattle.ac_resolve.specs.Places.{constant_value, place_of, array_of, name_argument, function_of, channel_of, file_of}
 
 abbrev pub InScopes : Type 0 → Type 0

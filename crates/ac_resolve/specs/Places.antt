@@ -5,15 +5,15 @@ use Rattle.ac_tree.specs.declared.expr.Constant.{Constant}
 use Rattle.ac_tree.specs.declared.expr.Constant.TheVariants as c
 use Rattle.ac_types.specs.declared.meaning.Meaning.{Meaning}
 use Rattle.ac_types.specs.declared.meaning.Meaning.TheVariants as m
-use Rattle.ac_resolve.specs.declared.value.Place.{Place}
-use Rattle.ac_resolve.specs.declared.value.Place.TheVariants as p
-use Rattle.ac_resolve.specs.declared.value.Array.{Array}
-use Rattle.ac_resolve.specs.declared.value.Array.TheVariants as a
-use Rattle.ac_resolve.specs.declared.value.Value.TheVariants as v
-use Rattle.ac_resolve.specs.declared.effect.Argument.{Argument}
-use Rattle.ac_resolve.specs.declared.effect.Argument.TheVariants as g
-use Rattle.ac_resolve.specs.declared.command.Command.{Command}
-use Rattle.ac_resolve.specs.declared.command.Command.TheVariants as d
+use Rattle.ac_commands.specs.declared.value.Place.{Place}
+use Rattle.ac_commands.specs.declared.value.Place.TheVariants as p
+use Rattle.ac_commands.specs.declared.value.Array.{Array}
+use Rattle.ac_commands.specs.declared.value.Array.TheVariants as a
+use Rattle.ac_commands.specs.declared.value.Value.TheVariants as v
+use Rattle.ac_commands.specs.declared.effect.Argument.{Argument}
+use Rattle.ac_commands.specs.declared.effect.Argument.TheVariants as g
+use Rattle.ac_commands.specs.declared.command.Command.{Command}
+use Rattle.ac_commands.specs.declared.command.Command.TheVariants as d
 
 -- the numbers of the named results
 abbrev pub constant_value : Constant → ℤ

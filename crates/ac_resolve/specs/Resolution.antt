@@ -9,11 +9,11 @@ use Rattle.ac_types.specs.declared.walk.Names.{Names}
 use Rattle.ac_types.specs.Scopes.{Declaration, visible}
 use Rattle.ac_types.specs.Items.{outermost, whole, no_past, counted, kinds_in, function_names, params_named}
 use Rattle.ac_types.specs.Verdicts.{capacity_size, file_paths}
-use Rattle.ac_resolve.specs.declared.program.Function.{Function}
-use Rattle.ac_resolve.specs.declared.program.Channel.{Channel}
-use Rattle.ac_resolve.specs.declared.program.Core.{Core}
-use Rattle.ac_resolve.specs.declared.program.Start.{Start}
-use Rattle.ac_resolve.specs.declared.program.Resolved.{Resolved}
+use Rattle.ac_commands.specs.declared.program.Function.{Function}
+use Rattle.ac_commands.specs.declared.program.Channel.{Channel}
+use Rattle.ac_commands.specs.declared.program.Core.{Core}
+use Rattle.ac_commands.specs.declared.program.Start.{Start}
+use Rattle.ac_commands.specs.declared.program.Resolved.{Resolved}
 use Rattle.ac_resolve.specs.Places.{function_of, core_of}
 use Rattle.ac_resolve.specs.Commands.{Texts, all_words, all_texts, commands, body_told}
 

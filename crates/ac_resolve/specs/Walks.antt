@@ -6,10 +6,10 @@ use Rattle.ac_tree.specs.declared.item.Param.{Param}
 use Rattle.ac_types.specs.declared.past.Counts.{Counts}
 use Rattle.ac_types.specs.Statements.{Named, part_words, opened, moved, labelled, declared_at}
 use Rattle.ac_types.specs.Items.{counted, param_named, params_named}
+use Rattle.ac_commands.specs.declared.command.Command.{Command}
 use Rattle.ac_resolve.specs.declared.items.Globals.{Globals}
 use Rattle.ac_resolve.specs.declared.walk.Walk.{Walk}
-use Rattle.ac_resolve.specs.declared.command.Command.{Command}
-use Rattle.ac_resolve.specs.Commands.{Told, Texts, passed, all_passed, all_texts, all_words, commands, some_words, some_passed, some_texts, some_command}
+use Rattle.ac_resolve.specs.Commands.{Told, Texts, passed, all_passed, all_texts, all_words, commands, some_words, some_passed, some_texts, some_commands, other_commands}
 use Rattle.ac_resolve.specs.Resolution.{function_texts, items_texts, item_starts}
 
 -- each text weighs at least 5
@@ -20,8 +20,8 @@ HasTexts texts weight = length texts + weight < 4294967296
 abbrev pub after : Told → Walk → Walk
 after q w = record { names = moved w.names (part_words q.shape); texts = q.texts w.texts }
 
-abbrev pub does : Told → ℕ → Walk → Command
-does q depth w = q.command w.names depth w.texts
+abbrev pub does : Told → ℕ → Walk → List Command
+does q depth w = q.commands w.names depth w.texts
 
 -- after a statement of a list
 abbrev pub after_listed : Told → ℕ → Walk → Walk
@@ -30,8 +30,11 @@ after_listed q depth w = record { names = passed q depth w.names; texts = q.text
 abbrev pub after_some : Option Told → Walk → Walk
 after_some q w = record { names = moved w.names (some_words q); texts = some_texts q w.texts }
 
-abbrev pub some_does : Option Told → ℕ → Walk → Option Command
-some_does q depth w = some_command q w.names depth w.texts
+abbrev pub some_does : Option Told → ℕ → Walk → List Command
+some_does q depth w = some_commands q w.names depth w.texts
+
+abbrev pub other_does : Option Told → ℕ → Walk → Option (List Command)
+other_does q depth w = other_commands q w.names depth w.texts
 
 abbrev pub after_init : Option Told → ℕ → Walk → Walk
 after_init q depth w = record { names = some_passed q depth w.names; texts = some_texts q w.texts }

@@ -9,10 +9,10 @@ ghost use Rattle.ac_resolve.specs.Resolution.{function_in, functions_in, cores_i
 ghost use Rattle.ac_resolve.specs.Walks.{HasTexts, after_param, after_params, after_function, after_functions, after_global, counts_after};
 
 use crate::names::{core_of, function_of};
-use crate::program::{Channel, Core, Function, Resolved, Start};
 use crate::statements::resolve_body;
 use crate::walk::Walk;
 use ac_base::{Bytes, List, NoMemory};
+use ac_commands::{Channel, Core, Function, Resolved, Start};
 use ac_tree::{Function as Declared, Item, Param};
 use ac_types::{Checked, Counts, Meaning, Names, Scopes, capacity_size};
 use std::alloc::Global;
@@ -73,7 +73,8 @@ fn function_in(alloc: Global, walk: &mut Walk, function: &Declared) -> Result<Fu
     let params = kinds_in(alloc, function.params.as_slice())?;
     walk.names.scopes.open()?;
     declare_params(walk, function.params.as_slice())?;
-    let body = resolve_body(alloc, walk, 0, function.body.as_slice())?;
+    let mut body = List::new(alloc);
+    resolve_body(alloc, walk, 0, &mut body, function.body.as_slice())?;
     let slots = walk.names.slot;
     walk.names.scopes.close();
     walk.names.slot = 0;

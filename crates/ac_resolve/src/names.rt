@@ -3,9 +3,7 @@
 ghost use Rattle.std.specs.Prelude.{◌≡◌, ◌-◌};
 ghost use Rattle.ac_resolve.specs.Places.{constant_value, place_of, array_of, name_argument, cancel_of, function_of, channel_of, file_of, core_of};
 
-use crate::command::Command;
-use crate::effect::Argument;
-use crate::value::{Array, Place, Value};
+use ac_commands::{Argument, Array, Command, Place, Value};
 use ac_tree::Constant;
 use ac_types::Meaning;
 

@@ -1,9 +1,9 @@
 //! Resolved programs as texts, for tests.
 
-use crate::{
+use ac_base::List;
+use ac_commands::{
     Argument, Array, Command, Effect, Function, Place, Resolved, Target, Value, ValueLink,
 };
-use ac_base::{Boxed, List};
 use ac_tree::{BinaryOp, UnaryOp};
 use std::alloc::Global;
 use std::test::Fail;
@@ -250,7 +250,7 @@ impl Shown {
         }
         self.add(") ")?;
         self.number(function.slots)?;
-        show_body(self, " {", &function.body)?;
+        show_body(self, &function.body)?;
         self.add("; ")
     }
 
@@ -343,7 +343,6 @@ fn show_links(shown: &mut Shown, links: &[ValueLink]) -> Result<(), Fail> {
 #[cycle(command)]
 fn show_command(shown: &mut Shown, command: &Command) -> Result<(), Fail> {
     match command {
-        Command::Block(body) => show_body(shown, "{", body),
         Command::Nothing => shown.add(";"),
         Command::Set { target, value } => shown.set(target, value),
         Command::Clear { slot, len } => {
@@ -361,28 +360,24 @@ fn show_command(shown: &mut Shown, command: &Command) -> Result<(), Fail> {
         Command::If { test, body, other } => {
             shown.add("(if ")?;
             show_value(shown, test)?;
-            show_part(shown, body)?;
-            show_some(shown, other)?;
+            show_body(shown, body)?;
+            match other {
+                None => shown.add(" _")?,
+                Some(body) => show_body(shown, body)?,
+            }
             shown.add(")")
         }
         Command::While { test, body } => {
             shown.add("(while ")?;
             show_value(shown, test)?;
-            show_part(shown, body)?;
+            show_body(shown, body)?;
             shown.add(")")
         }
-        Command::For {
-            init,
-            test,
-            next,
-            body,
-        } => {
-            shown.add("(for")?;
-            show_some(shown, init)?;
-            shown.add(" ")?;
+        Command::For { test, next, body } => {
+            shown.add("(for ")?;
             shown.test(test)?;
-            show_some(shown, next)?;
-            show_part(shown, body)?;
+            show_body(shown, next)?;
+            show_body(shown, body)?;
             shown.add(")")
         }
         Command::Break => shown.add("break"),
@@ -391,13 +386,13 @@ fn show_command(shown: &mut Shown, command: &Command) -> Result<(), Fail> {
         Command::Do { slot, body } => {
             shown.add("(do ")?;
             shown.number(*slot)?;
-            show_body(shown, " {", body)?;
+            show_body(shown, body)?;
             shown.add(")")
         }
         Command::Async { slots, body } => {
             shown.add("(async ")?;
             shown.number(*slots)?;
-            show_part(shown, body)?;
+            show_body(shown, body)?;
             shown.add(")")
         }
         Command::Cancel { level, slot } => {
@@ -410,28 +405,11 @@ fn show_command(shown: &mut Shown, command: &Command) -> Result<(), Fail> {
 }
 
 #[cycle(command)]
-fn show_body(shown: &mut Shown, open: &str, body: &List<Command>) -> Result<(), Fail> {
-    shown.add(open)?;
+fn show_body(shown: &mut Shown, body: &List<Command>) -> Result<(), Fail> {
+    shown.add(" {")?;
     for command in body.as_slice() {
         shown.add(" ")?;
         show_command(shown, command)?;
     }
     shown.add(" }")
-}
-
-#[cycle(command)]
-fn show_part(shown: &mut Shown, part: &Boxed<Command>) -> Result<(), Fail> {
-    shown.add(" ")?;
-    show_command(shown, part.get())
-}
-
-#[cycle(command)]
-fn show_some(shown: &mut Shown, part: &Option<Boxed<Command>>) -> Result<(), Fail> {
-    match part {
-        None => shown.add(" _"),
-        Some(part) => {
-            shown.add(" ")?;
-            show_command(shown, part.get())
-        }
-    }
 }

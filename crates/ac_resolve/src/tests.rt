@@ -50,7 +50,7 @@ fn shown(alloc: Global, source: &str, is_rest: bool) -> Result<String, Fail> {
 #[test]
 fn statements(rt: HostRuntime) -> Result<(), Fail> {
     let alloc = rt.alloc();
-    let rows: [(&str, &str); 24] = [
+    let rows: [(&str, &str); 25] = [
         (
             "int x; int y = 5; y = x;",
             "2 { (set l0.0 0) (set l0.1 5) (set l0.1 l0.0) }",
@@ -61,23 +61,24 @@ fn statements(rt: HostRuntime) -> Result<(), Fail> {
         ),
         (
             "int x = 1; { int x = x; x = 2; } x = 3;",
-            "2 { (set l0.0 1) { (set l0.1 l0.0) (set l0.1 2) } (set l0.0 3) }",
+            "2 { (set l0.0 1) (set l0.1 l0.0) (set l0.1 2) (set l0.0 3) }",
         ),
-        (
-            "{ int x; } { int y; }",
-            "2 { { (set l0.0 0) } { (set l0.1 0) } }",
-        ),
+        ("{ int x; } { int y; }", "2 { (set l0.0 0) (set l0.1 0) }"),
         (
             "int x; if (x) { int y; y = x; } else { int z; z = x; } int w; w = 1;",
             "4 { (set l0.0 0) (if l0.0 { (set l0.1 0) (set l0.1 l0.0) } { (set l0.2 0) (set l0.2 l0.0) }) (set l0.3 0) (set l0.3 1) }",
         ),
         (
             "int i = 7; for (int i = i; i < 3; i = i + 1) { int j; j = i; } i = 9;",
-            "3 { (set l0.0 7) (for (set l0.1 l0.0) (l0.1 < 3) (set l0.1 (l0.1 + 1)) { (set l0.2 0) (set l0.2 l0.1) }) (set l0.0 9) }",
+            "3 { (set l0.0 7) (set l0.1 l0.0) (for (l0.1 < 3) { (set l0.1 (l0.1 + 1)) } { (set l0.2 0) (set l0.2 l0.1) }) (set l0.0 9) }",
         ),
         (
             "int i; for (i = 0; ; ) break; for (;;) continue;",
-            "1 { (set l0.0 0) (for (set l0.0 0) _ _ break) (for _ _ _ continue) }",
+            "1 { (set l0.0 0) (set l0.0 0) (for _ { } { break }) (for _ { } { continue }) }",
+        ),
+        (
+            "if (1) { } else { } if (2) ; { { } ; } for (;;) for (int j = 1; j; ) ;",
+            "1 { (if 1 { } { }) (if 2 { ; } _) ; (for _ { } { (set l0.0 1) (for l0.0 { } { ; }) }) }",
         ),
         (
             "int x; while (!x) { int y; break; } ;",
@@ -89,7 +90,7 @@ fn statements(rt: HostRuntime) -> Result<(), Fail> {
         ),
         (
             "int x; do { async x = 1; } finish; x = 2;",
-            "2 { (set l0.0 0) (do 1 { (async 0 (set l1.0 1)) }) (set l0.0 2) }",
+            "2 { (set l0.0 0) (do 1 { (async 0 { (set l1.0 1) }) }) (set l0.0 2) }",
         ),
         (
             "int x; do { async { int y; int a[4]; y = x; a[y] = x; } int z; z = x; } finish;",
@@ -101,7 +102,7 @@ fn statements(rt: HostRuntime) -> Result<(), Fail> {
         ),
         (
             "t: do { cancel t; async { cancel t; do { async cancel t; } finish; } yield; } finish;",
-            "1 { (do 0 { (cancel 0.0) (async 1 { (cancel 1.0) (do 0 { (async 0 (cancel 2.0)) }) }) yield }) }",
+            "1 { (do 0 { (cancel 0.0) (async 1 { (cancel 1.0) (do 0 { (async 0 { (cancel 2.0) }) }) }) yield }) }",
         ),
         (
             "t: do { t: do { cancel t; } finish; cancel t; } finish;",
@@ -125,7 +126,7 @@ fn statements(rt: HostRuntime) -> Result<(), Fail> {
         ),
         (
             "printf(\"a\"); if (1) printf(\"%d\", 1); else { printf(\"%c\", 2); } printf(\"%d%d\", 3, 4);",
-            "0 { (print 0) (if 1 (print 1 1) { (print 2 2) }) (print 3 3 4) }",
+            "0 { (print 0) (if 1 { (print 1 1) } { (print 2 2) }) (print 3 3 4) }",
         ),
         ("return;", "0 { return }"),
         (
@@ -138,7 +139,7 @@ fn statements(rt: HostRuntime) -> Result<(), Fail> {
         ),
         (
             "int u; u = 1; { int v[7]; v[0] = u; }",
-            "8 { (set l0.0 0) (set l0.0 1) { (clear 1+7) (set (at L0.1+7 0) l0.0) } }",
+            "8 { (set l0.0 0) (set l0.0 1) (clear 1+7) (set (at L0.1+7 0) l0.0) }",
         ),
         (
             "int x = h(1, w); int b[1]; x = Read(e, x, 1, b); Write(d, 0, x, v);",
@@ -165,7 +166,7 @@ fn programs(rt: HostRuntime) -> Result<(), Fail> {
     let rows: [(&str, &str, &str); 6] = [
         (
             "core a(f); async void f() { printf(\"x\"); } void g() { { printf(\"y\"); } printf(\"z\"); }",
-            "f async void () 0 { (print 0) }; g void () 0 { { (print 1) } (print 2) }; ",
+            "f async void () 0 { (print 0) }; g void () 0 { (print 1) (print 2) }; ",
             "core a 0; slots 0; text x; text y; text z; ",
         ),
         (
@@ -185,12 +186,12 @@ fn programs(rt: HostRuntime) -> Result<(), Fail> {
         ),
         (
             "core k(f); async int g(int v[], int n, int w[]) { do { async { int w = n; async v[w] = n; g(v, n, v); } } finish; return g(w, 1, v); } async void f() { }",
-            "g async int (aia) 4 { (do 3 { (async 1 { (set l0.0 l1.1) (async 0 (set (at P2.0 l1.0) l2.1)) (run (call 0 P1.0 l1.1 P1.0)) }) }) (return (call 0 P0.2 1 P0.0)) }; f async void () 0 { }; ",
+            "g async int (aia) 4 { (do 3 { (async 1 { (set l0.0 l1.1) (async 0 { (set (at P2.0 l1.0) l2.1) }) (run (call 0 P1.0 l1.1 P1.0)) }) }) (return (call 0 P0.2 1 P0.0)) }; f async void () 0 { }; ",
             "core k 1; slots 0; ",
         ),
         (
             "core k(f); async void f() { int f = 1; { int g; g = f; } g(); } void g() { int k; k = 3; return; }",
-            "f async void () 2 { (set l0.0 1) { (set l0.1 0) (set l0.1 l0.0) } (run (call 1)) }; g void () 1 { (set l0.0 0) (set l0.0 3) return }; ",
+            "f async void () 2 { (set l0.0 1) (set l0.1 0) (set l0.1 l0.0) (run (call 1)) }; g void () 1 { (set l0.0 0) (set l0.0 3) return }; ",
             "core k 0; slots 0; ",
         ),
     ];

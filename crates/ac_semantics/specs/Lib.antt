@@ -1,2 +1,6 @@
-pub mod Source
+pub mod Evaluation
+pub mod Work
+pub mod Held
+pub mod Statements
+pub mod Threads
 pub mod Replay

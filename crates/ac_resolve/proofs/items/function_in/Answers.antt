@@ -12,10 +12,10 @@ resolve_body-requires-clause-slots c =
 pub returns-clause-walk : goal.returns-clause-walk
 returns-clause-walk c =
     function_after c.args.function.now c.args.walk.now c.declare_params.new.walk c.open.new.self c.as_slice-2.result.now c.requires.labels c.requires.slot c.as_slice-2.ensures c.in_ok-open.ensures.ok c.in_ok-declare_params.ensures
-    c.resolve_body.new.walk c.as_slice-3.result.now c.as_slice-3.ensures c.in_ok-body.ensures.walk c.close.new.self c.close.ensures
+    c.resolve_body.new.walk c.as_slice-3.result.now c.as_slice-3.ensures c.in_ok-resolve_body.ensures.walk c.close.new.self c.close.ensures
 
 pub returns-clause-function : goal.returns-clause-function
 returns-clause-function c =
     function_is c.args.function.now c.args.walk.now c.declare_params.new.walk c.open.new.self c.as_slice-2.result.now c.requires.labels c.requires.slot c.as_slice-2.ensures c.in_ok-open.ensures.ok c.in_ok-declare_params.ensures
-    c.resolve_body.new.walk c.as_slice-3.result.now c.as_slice-3.ensures c.in_ok-body.ensures.walk c.in_ok-name.name c.as_slice.result.now c.in_ok-params.params c.in_ok-body.body
-    c.in_ok-name.ensures c.as_slice.ensures c.in_ok-params.ensures c.in_ok-body.ensures.commands
+    c.resolve_body.new.walk c.as_slice-3.result.now c.as_slice-3.ensures c.in_ok-resolve_body.ensures.walk c.in_ok-name.name c.as_slice.result.now c.in_ok-params.params c.new-body.result c.resolve_body.new.out
+    c.in_ok-name.ensures c.as_slice.ensures c.in_ok-params.ensures c.new-body.ensures c.in_ok-resolve_body.ensures.commands

@@ -8,14 +8,17 @@ use Rattle.ac_resolve.proofs.statements.+stmt.Given as goal
 abbrev pub decreases-resolve_stmt : goal.decreases-resolve_stmt
 decreases-resolve_stmt l = 8 * stmt_weight l.stmt.now
 
-abbrev pub decreases-resolve_boxed : goal.decreases-resolve_boxed
-decreases-resolve_boxed l = 8 * stmt_weight l.stmt.now + 1
+abbrev pub decreases-resolve_part : goal.decreases-resolve_part
+decreases-resolve_part l = 8 * stmt_weight l.stmt.now + 1
 
 abbrev pub decreases-resolve_listed : goal.decreases-resolve_listed
 decreases-resolve_listed l = 8 * stmt_weight l.stmt.now + 1
 
 abbrev pub decreases-resolve_some : goal.decreases-resolve_some
 decreases-resolve_some l = 8 * some_weight l.stmt.now + 2
+
+abbrev pub decreases-resolve_other : goal.decreases-resolve_other
+decreases-resolve_other l = 8 * some_weight l.stmt.now + 2
 
 abbrev pub decreases-resolve_init : goal.decreases-resolve_init
 decreases-resolve_init l = 8 * some_weight l.stmt.now + 2
@@ -38,16 +41,13 @@ decreases-resolve_body l = 8 * body_weight l.body.now + 2
 abbrev pub decreases-resolve_scope : goal.decreases-resolve_scope
 decreases-resolve_scope l = 8 * body_weight l.body.now + 3
 
-abbrev pub decreases-resolve_block : goal.decreases-resolve_block
-decreases-resolve_block l = 8 * body_weight l.body.now + 4
-
 abbrev pub decreases-resolve_do : goal.decreases-resolve_do
 decreases-resolve_do l = 8 * body_weight l.body.now + 4
 
 abbrev pub invariant-resolve_body-loop-stmt : goal.invariant-resolve_body-loop-stmt
 invariant-resolve_body-loop-stmt l =
     (after_body (body_told (drop l.stmt-index l.body)) l.depth l.walk ≡ after_body (body_told l.body) l.depth l.fn.walk)
-    × (l.list ++ body_does (body_told (drop l.stmt-index l.body)) l.depth l.walk ≡ body_does (body_told l.body) l.depth l.fn.walk)
+    × (l.out ++ body_does (body_told (drop l.stmt-index l.body)) l.depth l.walk ≡ l.fn.out ++ body_does (body_told l.body) l.depth l.fn.walk)
     × (HasSlots l.walk.names.slot (body_weight (drop l.stmt-index l.body))
     × HasDepths l.depth (body_weight (drop l.stmt-index l.body))
     × HasTexts l.walk.texts (body_weight (drop l.stmt-index l.body)))

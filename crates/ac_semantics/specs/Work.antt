@@ -1,0 +1,64 @@
+-- What a thread has still to do.
+use Rattle.std.specs.Prelude.{ℤ, List, [], ◌∷◌}
+use Rattle.work_item.specs.declared.ids.FrameId.{FrameId}
+use Rattle.work_item.specs.declared.ids.BlockId.{BlockId}
+use Rattle.ac_commands.specs.declared.effect.Target.{Target}
+use Rattle.ac_commands.specs.declared.command.Command.{Command, out-Command}
+use Rattle.ac_commands.specs.declared.command.Command.TheOpen.{Command-F}
+
+-- what is done with the value of a call
+pub data After : Type 0 where
+  Puts : Target → After
+  Drops : After
+  Gives : After
+
+-- statements, each with the frame in which it runs, and what is left of loops, calls and blocks
+pub data Work : Type 0 where
+  Do : FrameId → Command → Work
+  -- the end of a loop's body
+  Turn : FrameId → Command → Work
+  -- the finish of a block that was entered
+  Close : BlockId → Work
+  -- the end of a called function that runs in the first frame; the second is its caller's
+  Back : FrameId → FrameId → After → Work
+  -- a call has given this value
+  Given : ℤ → FrameId → After → Work
+  -- the end of the core's entry
+  Leave : Work
+  -- the end of an async body that runs in this frame
+  End : FrameId → Work
+
+-- statements in front of other work
+abbrev pub before : FrameId → List Command → List Work → List Work
+before frame [] ws = ws
+before frame (x ∷ xs) ws = Do frame x ∷ before frame xs ws
+
+-- what a loop does between its body and its test
+abbrev pub next_in : Command-F Command → List Command
+next_in (Command-F.For test next body) = next
+next_in _ = []
+
+abbrev pub next_part : Command → List Command
+next_part loop = next_in (out-Command loop)
+
+-- the work from its next step on: after its body a loop goes on with its next part and its test
+abbrev pub ahead : List Work → List Work
+ahead (Turn frame loop ∷ ws) = before frame (next_part loop) (Do frame loop ∷ ws)
+ahead ws = ws
+
+-- what is left when the innermost loop is left, and at the end of its body
+abbrev pub past_loop : List Work → List Work
+past_loop [] = []
+past_loop (Turn frame loop ∷ ws) = ws
+past_loop (_ ∷ ws) = past_loop ws
+
+abbrev pub at_turn : List Work → List Work
+at_turn [] = []
+at_turn (Turn frame loop ∷ ws) = Turn frame loop ∷ ws
+at_turn (_ ∷ ws) = at_turn ws
+
+-- the blocks that a thread with this work has entered and not left, the innermost first
+abbrev pub closes : List Work → List BlockId
+closes [] = []
+closes (Close block ∷ ws) = block ∷ closes ws
+closes (_ ∷ ws) = closes ws
