@@ -1,3 +1,11 @@
 pub mod Parts
 pub mod Machine
+pub mod Shapes
 pub mod Valid
+pub mod Kept
+pub mod Work
+pub mod Bodies
+pub mod Sequential
+pub mod Reserve
+pub mod Quiet
+pub mod Rises

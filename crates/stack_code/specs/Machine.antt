@@ -1,21 +1,60 @@
 -- What the flat machine does, instruction by instruction.
-use Rattle.std.specs.Prelude.{ℕ, ◌+◌, ◌-◌, ◌^◌, min, ℤ, List, [], ◌∷◌, length, take, drop, reverse, Option, Some, None, nat_le, nat_lt, slice_get, slice_index_or, if◌then◌else◌}
-use Rattle.std.specs.Int.{w64, int_wrapping_add, int_wrapping_sub, int_wrapping_mul}
-use Rattle.ac_base.specs.declared.ends.EndWord.TheVariants.{Finished, OutOfSteps}
+use Rattle.std.specs.Prelude.{ℕ, ◌+◌, ◌-◌, ◌^◌, min, ℤ, pos, List, [], ◌∷◌, ◌++◌, length, map, take, drop, replicate, reverse, Option, Some, None, Bool, true, false, nat_eq, nat_le, nat_lt, ◌&&◌, slice_get, slice_index_or, slice_set, Result, Ok, Err, if◌then◌else◌}
+use Rattle.ac_base.specs.declared.ends.Trap.{Trap}
+use Rattle.ac_base.specs.declared.ends.EndWord.{EndWord}
+use Rattle.ac_base.specs.declared.ends.EndWord.TheVariants as word
 use Rattle.ac_base.specs.declared.ends.CoreEnd.{CoreEnd}
 use Rattle.ac_base.specs.declared.entry.Entry.{Entry}
-use Rattle.core_state.specs.Moves.{Move, On, Over, EndsAs}
-use Rattle.core_state.specs.Shared.{Shared, first_shared, slot_value, with_slot, with_step, with_output, formatted, seen}
+use Rattle.work_item.specs.declared.ids.FrameId.{FrameId}
+use Rattle.work_item.specs.declared.ids.Item.{Item}
+use Rattle.work_item.specs.declared.ids.BlockId.{BlockId}
+use Rattle.work_item.specs.declared.cell.Place as cells
+use Rattle.work_item.specs.declared.cell.Cell.{Cell}
+use Rattle.work_item.specs.declared.cell.Cell.TheVariants as cell
+use Rattle.work_item.specs.Store.{Store, above, cell_at, global_at, no_int, int_in, place_in, next_frame, with_cell_at, with_cleared, with_global, released}
+use Rattle.core_state.specs.Moves.{Move, On, Over, ComesTo}
+use Rattle.core_state.specs.Arithmetic.{Computed, at_zero, truth, negated, not_true, flipped, sum_of, difference_of, product_of, quotient, remainder, shifted_left, shifted_right, is_equal, is_not_equal, is_less, is_at_most, both_bits, either_bits, differing_bits}
+use Rattle.core_state.specs.Frames.{within, element, set_element, begun, first_frame, with_entered}
+use Rattle.core_state.specs.Shared.{Shared, with_step, with_turn, first_shared, printed, formatted, seen, if_turn, begins}
 use Rattle.stack_code.specs.declared.instr.Instr.{Instr}
-use Rattle.stack_code.specs.declared.instr.Instr.TheVariants.{Step, Push, Load, Store, Add, Sub, Mul, Print, Ret}
-use Rattle.stack_code.specs.declared.code.Entered.{Entered}
+use Rattle.stack_code.specs.declared.instr.Instr.TheVariants as i
+use Rattle.stack_code.specs.declared.parts.Entered.{Entered}
+use Rattle.stack_code.specs.declared.parts.Start.{Start}
 use Rattle.stack_code.specs.Parts.{Parts, Begins}
 
--- a core in the machine: the operands of its thread stand with the topmost first, and the count is that of the instructions begun
+-- ---- the state
+
+-- an activation that waits for what it has called: where it goes on, in which frame, and with which operands below the value
+pub record Caller : Type 0 where
+  pub place : ℕ
+  pub frame : FrameId
+  pub operands : List Cell
+
+-- a thread; the topmost operand is the first, and so is the innermost caller
+pub record Thread : Type 0 where
+  pub place : ℕ
+  pub frame : FrameId
+  pub operands : List Cell
+  pub callers : List Caller
+  pub block : Option BlockId
+
+-- a block, the thread that entered it, how many threads that were started directly in it live, and whether the owner waits at its finish
+pub record Block : Type 0 where
+  pub parent : Option BlockId
+  pub owner : Item
+  pub count : ℕ
+  pub waits : Bool
+
+-- a core in the machine: what it shares with its source, what its globals and frames hold, and its threads and blocks at their numbers; the
+-- running thread stands beside the table of the others, and the count is that of the instructions begun
 pub record Flat : Type 0 where
   pub shared : Shared
-  pub place : ℕ
-  pub operands : List ℤ
+  pub store : Store
+  pub running : Option Item
+  pub current : Thread
+  pub ready : List Item
+  pub threads : List Thread
+  pub blocks : List (Option Block)
   pub count : ℕ
 
 -- how the machine is over: what is seen of the core, none where an entry of the journal is left over, and the count
@@ -23,55 +62,317 @@ pub record FlatEnd : Type 0 where
   pub core : Option CoreEnd
   pub count : ℕ
 
+abbrev pub nobody : Thread
+nobody = record { place = 0; frame = first_frame; operands = []; callers = []; block = None }
+
 -- one instruction more; the count stays at its last value
 abbrev pub counted : ℕ → ℕ
 counted k = min (k + 1) (2 ^ 64 - 1)
 
+-- ---- single changes
+
+abbrev pub told : ℕ → Option CoreEnd → FlatEnd
+told count core = record { core = core; count = count }
+
 abbrev pub ends : Option CoreEnd → ℕ → Move Flat FlatEnd
-ends core count = Over (record { core = core; count = count })
+ends core count = Over (told count core)
 
--- goes on at the next address
-abbrev pub goes : Flat → Shared → List ℤ → Move Flat FlatEnd
-goes m s operands = On (record { shared = s; place = m.place + 1; operands = operands; count = counted m.count })
+abbrev pub seen_of : EndWord → Bool → Flat → Option CoreEnd
+seen_of word idle m = seen word idle m.store.globals m.shared
 
--- a machine that lacks an operand or an instruction stays where it is
-abbrev pub on_top : Flat → (ℤ → List ℤ → Move Flat FlatEnd) → List ℤ → Move Flat FlatEnd
+abbrev pub with_shared : Flat → Shared → Flat
+with_shared m s = record m { shared = s }
+
+abbrev pub with_store : Flat → Store → Flat
+with_store m store = record m { store = store }
+
+abbrev pub at : Thread → ℕ → List Cell → Thread
+at t place operands = record t { place = place; operands = operands }
+
+-- the running thread goes on at that address, with these operands
+abbrev pub goes_to : ℕ → Flat → List Cell → Move Flat FlatEnd
+goes_to place m operands = On (record m { current = at m.current place operands; count = counted m.count })
+
+abbrev pub goes : Flat → List Cell → Move Flat FlatEnd
+goes m operands = goes_to (m.current.place + 1) m operands
+
+-- a trap ends the core
+abbrev pub or_trap : {A : Type 0} → Flat → Result A Trap → (A → Move Flat FlatEnd) → Move Flat FlatEnd
+or_trap m (Ok x) go = go x
+or_trap m (Err trap) go = ends (seen_of (word.Trapped trap) false m) (counted m.count)
+
+-- ---- operands; a machine that lacks one, or an instruction, stays where it is
+
+abbrev pub on_top : Flat → (Cell → List Cell → Move Flat FlatEnd) → List Cell → Move Flat FlatEnd
 on_top m go [] = On m
-on_top m go (v ∷ below) = go v below
+on_top m go (x ∷ below) = go x below
 
-abbrev pub on_two : Flat → (ℤ → ℤ → List ℤ → Move Flat FlatEnd) → List ℤ → Move Flat FlatEnd
-on_two m go [] = On m
-on_two m go (y ∷ []) = On m
+-- the one below the topmost is the first
+abbrev pub on_two : Flat → (Cell → Cell → List Cell → Move Flat FlatEnd) → List Cell → Move Flat FlatEnd
 on_two m go (y ∷ x ∷ below) = go x y below
+on_two m go _ = On m
 
--- the arguments, of which the last stands on top
-abbrev pub on_many : Flat → ℕ → (List ℤ → List ℤ → Move Flat FlatEnd) → List ℤ → Move Flat FlatEnd
+abbrev pub on_three : Flat → (Cell → Cell → Cell → List Cell → Move Flat FlatEnd) → List Cell → Move Flat FlatEnd
+on_three m go (z ∷ y ∷ x ∷ below) = go x y z below
+on_three m go _ = On m
+
+-- so many, of which the last stands on top
+abbrev pub on_many : Flat → ℕ → (List Cell → List Cell → Move Flat FlatEnd) → List Cell → Move Flat FlatEnd
 on_many m count go operands = if nat_le count (length operands) then go (reverse (take count operands)) (drop count operands) else On m
+
+-- ---- operators
+
+abbrev pub one_operand : Flat → (ℤ → ℤ) → Move Flat FlatEnd
+one_operand m f = on_top m (λ x below. goes m (cell.Int (f (int_in x)) ∷ below)) m.current.operands
+
+abbrev pub two_operands : Flat → (ℤ → ℤ → Computed) → Move Flat FlatEnd
+two_operands m f = on_two m (λ x y below. or_trap m (f (int_in x) (int_in y)) (λ v. goes m (cell.Int v ∷ below))) m.current.operands
+
+abbrev pub always : (ℤ → ℤ → ℤ) → ℤ → ℤ → Computed
+always f x y = Ok (f x y)
+
+-- ---- threads and blocks
+
+abbrev pub thread_at : List Thread → Item → Thread
+thread_at threads t = slice_index_or threads t.number nobody
+
+abbrev pub block_at : List (Option Block) → BlockId → Option Block
+block_at blocks b = slice_index_or blocks b.number None
+
+abbrev pub with_block : List (Option Block) → BlockId → Option Block → List (Option Block)
+with_block blocks b x = slice_set blocks b.number x
+
+-- the running thread stops and is kept so
+abbrev pub stops : Flat → Item → Thread → List Item → List (Option Block) → Flat
+stops m t kept ready blocks =
+    record m { running = None; current = nobody; ready = ready; threads = slice_set m.threads t.number kept; blocks = blocks; count = counted m.count }
+
+abbrev pub one_more : Option Block → Option Block
+one_more None = None
+one_more (Some x) = Some (record x { count = x.count + 1 })
+
+abbrev pub counted_in : List (Option Block) → Option BlockId → List (Option Block)
+counted_in blocks None = blocks
+counted_in blocks (Some b) = with_block blocks b (one_more (block_at blocks b))
+
+-- a thread is started and runs, with the next number of the table, which only grows; its creator goes to the front and on at the address
+abbrev pub starts : Flat → Item → ℕ → Store → Flat
+starts m t to store =
+    record {
+      shared = m.shared;
+      store = store;
+      running = Some (record { number = length m.threads });
+      current = record { place = m.current.place + 1; frame = next_frame m.store; operands = []; callers = []; block = m.current.block };
+      ready = t ∷ m.ready;
+      threads = slice_set m.threads t.number (record m.current { place = to }) ++ nobody ∷ [];
+      blocks = counted_in m.blocks m.current.block;
+      count = counted m.count;
+    }
+
+-- the owner arrives at the finish of its innermost block: it passes at count 0, and else waits
+abbrev pub arrives_at : Bool → Flat → Item → BlockId → Block → Move Flat FlatEnd
+arrives_at true m t b x =
+    On (record m { current = record m.current { place = m.current.place + 1; block = x.parent }; blocks = with_block m.blocks b None; count = counted m.count })
+arrives_at false m t b x =
+    On (stops m t (record m.current { place = m.current.place + 1; block = x.parent }) m.ready (with_block m.blocks b (Some (record x { waits = true }))))
+
+abbrev pub arrives_in : Flat → Item → BlockId → Option Block → Move Flat FlatEnd
+arrives_in m t b None = On m
+arrives_in m t b (Some x) = arrives_at (nat_eq x.count 0) m t b x
+
+abbrev pub arrives : Flat → Item → Option BlockId → Move Flat FlatEnd
+arrives m t None = On m
+arrives m t (Some b) = arrives_in m t b (block_at m.blocks b)
+
+-- a thread of a block has ended: at count 0 an owner that waits goes to the front, and the block is gone
+abbrev pub counted_out : Bool → Flat → Item → BlockId → Block → Flat
+counted_out true m t b x = stops m t nobody (x.owner ∷ m.ready) (with_block m.blocks b None)
+counted_out false m t b x = stops m t nobody m.ready (with_block m.blocks b (Some (record x { count = x.count - 1 })))
+
+abbrev pub dies_in : Flat → Item → BlockId → Option Block → Flat
+dies_in m t b None = m
+dies_in m t b (Some x) = counted_out (nat_eq x.count 1 && x.waits) m t b x
+
+abbrev pub dies : Flat → Item → Option BlockId → Flat
+dies m t None = m
+dies m t (Some b) = dies_in m t b (block_at m.blocks b)
+
+-- ---- calls
+
+-- what the slot of a parameter holds of an operand: a reference where the parameter is an array, and else an int
+abbrev pub argument : Bool → Cell → Cell
+argument true x = cell.Array (place_in x)
+argument false x = cell.Int (int_in x)
+
+-- each operand in the slot of its parameter
+abbrev pub arguments : List Bool → List Cell → List Cell
+arguments [] args = []
+arguments (array ∷ params) [] = []
+arguments (array ∷ params) (x ∷ args) = argument array x ∷ arguments params args
+
+abbrev pub first_cells : List Cell → ℕ → List Cell
+first_cells args slots = args ++ replicate (slots - length args) no_int
+
+abbrev pub calls : Flat → Option Entered → List Cell → List Cell → Move Flat FlatEnd
+calls m None args below = On m
+calls m (Some f) args below =
+    or_trap m (begun m.store None (first_cells (arguments f.params args) f.words)) (λ store. On (record m {
+      store = store;
+      current = record {
+        place = f.at;
+        frame = next_frame m.store;
+        operands = [];
+        callers = record { place = m.current.place + 1; frame = m.current.frame; operands = below } ∷ m.current.callers;
+        block = m.current.block;
+      };
+      count = counted m.count;
+    }))
+
+-- the value of an activation, for its caller; without one the core has finished
+abbrev pub returns : Flat → Cell → List Caller → Move Flat FlatEnd
+returns m value [] = ends (seen_of word.Finished false m) (counted m.count)
+returns m value (caller ∷ callers) =
+    On (record m {
+      store = released m.store m.current.frame;
+      current = record m.current { place = caller.place; frame = caller.frame; operands = value ∷ caller.operands; callers = callers };
+      count = counted m.count;
+    })
+
+-- ---- instructions
 
 abbrev pub text_at : Parts → ℕ → List ℕ
 text_at code text = slice_index_or code.texts text []
 
-abbrev pub begin : Parts → ℕ → Flat → Option Instr → Move Flat FlatEnd
-begin code bound m None = On m
-begin code bound m (Some Step) = if nat_lt m.shared.steps bound then goes m (with_step m.shared) m.operands else ends (seen OutOfSteps m.shared) m.count
-begin code bound m (Some (Push v)) = goes m m.shared (v ∷ m.operands)
-begin code bound m (Some (Load slot)) = goes m m.shared (slot_value m.shared.slots slot ∷ m.operands)
-begin code bound m (Some (Store slot)) = on_top m (λ v below. goes m (with_slot m.shared slot v) below) m.operands
-begin code bound m (Some Add) = on_two m (λ x y below. goes m m.shared (int_wrapping_add w64 x y ∷ below)) m.operands
-begin code bound m (Some Sub) = on_two m (λ x y below. goes m m.shared (int_wrapping_sub w64 x y ∷ below)) m.operands
-begin code bound m (Some Mul) = on_two m (λ x y below. goes m m.shared (int_wrapping_mul w64 x y ∷ below)) m.operands
-begin code bound m (Some (Print text count)) = on_many m count (λ args below. goes m (with_output m.shared (formatted (text_at code text) args)) below) m.operands
-begin code bound m (Some Ret) = on_top m (λ v below. ends (seen Finished m.shared) (counted m.count)) m.operands
+abbrev pub one_place : cells.Place → ℕ → cells.Place
+one_place p index = record { home = p.home; start = p.start + index; len = 1 }
 
--- one instruction
+abbrev pub begin : Parts → ℕ → Flat → Item → Option Instr → Move Flat FlatEnd
+begin code bound m t None = On m
+begin code bound m t (Some i.Step) =
+    if nat_lt m.shared.steps bound
+    then goes (with_shared m (with_step m.shared)) m.current.operands
+    else ends (seen_of word.OutOfSteps false m) m.count
+begin code bound m t (Some (i.Push v)) = goes m (cell.Int v ∷ m.current.operands)
+begin code bound m t (Some (i.Load level slot)) = goes m (cell_at m.store m.current.frame level slot ∷ m.current.operands)
+begin code bound m t (Some (i.LoadG slot)) = goes m (cell.Int (global_at m.store slot) ∷ m.current.operands)
+begin code bound m t (Some (i.Store level slot)) =
+    on_top m (λ x below.
+    goes (with_store m (with_cell_at m.store m.current.frame level slot (cell.Int (int_in x)))) below) m.current.operands
+begin code bound m t (Some (i.StoreG slot)) =
+    on_top m (λ x below. goes (with_store m (with_global m.store slot (int_in x))) below) m.current.operands
+begin code bound m t (Some (i.Arr level slot len)) =
+    goes m (cell.Array (record { home = Some (above m.store m.current.frame level); start = slot; len = len }) ∷ m.current.operands)
+begin code bound m t (Some (i.ArrG slot len)) = goes m (cell.Array (record { home = None; start = slot; len = len }) ∷ m.current.operands)
+begin code bound m t (Some i.Elem) =
+    on_two m (λ x y below. or_trap m (element m.store (place_in x) (int_in y)) (λ v. goes m (cell.Int v ∷ below))) m.current.operands
+begin code bound m t (Some i.SetElem) =
+    on_three m (λ x y z below.
+    or_trap m (set_element m.store (place_in y) (int_in z) (int_in x)) (λ store. goes (with_store m store) below)) m.current.operands
+begin code bound m t (Some i.Place) =
+    on_two m (λ x y below.
+    or_trap m (within (place_in x) (int_in y)) (λ index.
+    goes m (cell.Array (one_place (place_in x) index) ∷ below))) m.current.operands
+begin code bound m t (Some (i.Clear slot len)) = goes (with_store m (with_cleared m.store m.current.frame slot len)) m.current.operands
+begin code bound m t (Some i.Neg) = one_operand m negated
+begin code bound m t (Some i.Not) = one_operand m not_true
+begin code bound m t (Some i.Flip) = one_operand m flipped
+begin code bound m t (Some i.Bool) = one_operand m truth
+begin code bound m t (Some i.BitOr) = two_operands m (always either_bits)
+begin code bound m t (Some i.BitXor) = two_operands m (always differing_bits)
+begin code bound m t (Some i.BitAnd) = two_operands m (always both_bits)
+begin code bound m t (Some i.Eq) = two_operands m (always is_equal)
+begin code bound m t (Some i.Ne) = two_operands m (always is_not_equal)
+begin code bound m t (Some i.Less) = two_operands m (always is_less)
+begin code bound m t (Some i.LessEq) = two_operands m (always is_at_most)
+begin code bound m t (Some i.More) = two_operands m (always (λ x y. is_less y x))
+begin code bound m t (Some i.MoreEq) = two_operands m (always (λ x y. is_at_most y x))
+begin code bound m t (Some i.Shl) = two_operands m (always shifted_left)
+begin code bound m t (Some i.Shr) = two_operands m (always shifted_right)
+begin code bound m t (Some i.Add) = two_operands m (always sum_of)
+begin code bound m t (Some i.Sub) = two_operands m (always difference_of)
+begin code bound m t (Some i.Mul) = two_operands m (always product_of)
+begin code bound m t (Some i.Div) = two_operands m quotient
+begin code bound m t (Some i.Rem) = two_operands m remainder
+begin code bound m t (Some i.Drop) = on_top m (λ x below. goes m below) m.current.operands
+begin code bound m t (Some (i.Jump to)) = goes_to to m m.current.operands
+begin code bound m t (Some (i.Jz to)) =
+    on_top m (λ x below. goes_to (at_zero (int_in x) to (m.current.place + 1)) m below) m.current.operands
+begin code bound m t (Some (i.Jnz to)) =
+    on_top m (λ x below. goes_to (at_zero (int_in x) (m.current.place + 1) to) m below) m.current.operands
+begin code bound m t (Some (i.Print text count)) =
+    on_many m count (λ args below.
+    or_trap m (printed m.shared (formatted (text_at code text) (map int_in args))) (λ s. goes (with_shared m s) below)) m.current.operands
+begin code bound m t (Some (i.Call function count)) =
+    on_many m count (λ args below. calls m (slice_get code.functions function) args below) m.current.operands
+begin code bound m t (Some i.Ret) = on_top m (λ x below. returns m (cell.Int (int_in x)) m.current.callers) m.current.operands
+-- a new block has the next number of the table, which only grows
+begin code bound m t (Some (i.Enter slot)) =
+    On (record m {
+      store = with_entered m.store m.current.frame slot (length m.blocks);
+      current = record m.current { place = m.current.place + 1; block = Some (record { number = length m.blocks }) };
+      blocks = m.blocks ++ Some (record { parent = m.current.block; owner = t; count = 0; waits = false }) ∷ [];
+      count = counted m.count;
+    })
+begin code bound m t (Some (i.Finish slot)) = arrives m t m.current.block
+begin code bound m t (Some (i.Async slots to)) =
+    or_trap m (begun m.store (Some m.current.frame) (replicate slots no_int)) (λ store. On (starts m t to store))
+begin code bound m t (Some i.End) = On (dies (with_store m (released m.store m.current.frame)) t m.current.block)
+begin code bound m t (Some (i.Cancel level slot)) = On m
+begin code bound m t (Some i.Yield) = On (stops m t (record m.current { place = m.current.place + 1 }) (m.ready ++ t ∷ []) m.blocks)
+begin code bound m t (Some (i.Send channel)) = On m
+begin code bound m t (Some (i.Recv channel)) = On m
+begin code bound m t (Some (i.Read file)) = On m
+begin code bound m t (Some (i.Write file)) = On m
+
+-- no thread runs: the front of the ready list does, which is no instruction, or the core waits
+abbrev pub dispatched : Flat → List Item → Move Flat FlatEnd
+dispatched m [] = ends (seen_of word.Stalled true m) m.count
+dispatched m (t ∷ ready) =
+    if_turn (told m.count) m.store.globals m.shared
+    (On (record m { shared = with_turn m.shared; running = Some t; current = thread_at m.threads t; ready = ready }))
+
+-- one instruction of the running thread, or a dispatch
+abbrev pub exec_of : Parts → ℕ → Flat → Option Item → Move Flat FlatEnd
+exec_of code bound m None = dispatched m m.ready
+exec_of code bound m (Some t) = begin code bound m t (slice_get code.instrs m.current.place)
+
 abbrev pub exec : Parts → ℕ → Flat → Move Flat FlatEnd
-exec code bound m = begin code bound m (slice_get code.instrs m.place)
+exec code bound m = exec_of code bound m m.running
 
-abbrev pub first_flat : Entered → List Entry → Flat
-first_flat function journal = record { shared = first_shared function.slots journal; place = function.at; operands = []; count = 0 }
+-- ---- the beginning
+
+abbrev pub with_starts : List Start → List ℤ → List ℤ
+with_starts [] globals = globals
+with_starts (x ∷ starts) globals = with_starts starts (slice_set globals x.slot x.value)
+
+abbrev pub first_globals : Parts → List ℤ
+first_globals code = with_starts code.starts (replicate code.globals (pos 0))
+
+abbrev pub first_item : Item
+first_item = record { number = 0 }
+
+-- a core whose one thread is about to enter a function, in the frame that is made for it
+abbrev pub first_core : Entered → Shared → Store → Flat
+first_core function s store =
+    record {
+      shared = s;
+      store = store;
+      running = None;
+      current = nobody;
+      ready = first_item ∷ [];
+      threads = record nobody { place = function.at } ∷ [];
+      blocks = [];
+      count = 0;
+    }
+
+-- where its words are over their limit, the core has ended before its first step
+abbrev pub first_flat : Parts → Entered → List Entry → Move Flat FlatEnd
+first_flat code function journal =
+    begins (told 0) (first_globals code) (first_shared journal) function.words (λ store.
+    On (first_core function (first_shared journal) store))
 
 -- the code of the core, with at most so many steps, comes to this end under this journal
 pub record Runs (code : Parts) (core bound : ℕ) (journal : List Entry) (end : FlatEnd) : Type 0 where
   pub function : Entered
   pub begins : Begins code core function
-  pub ends : EndsAs (exec code bound) (first_flat function journal) end
+  pub comes : ComesTo (exec code bound) (first_flat code function journal) end

@@ -1,67 +1,97 @@
 //! A whole code.
 
-ghost use Rattle.std.specs.Prelude.{◌≡◌, ◌<◌, length, slice_get, Some};
+ghost use Rattle.std.specs.Prelude.{◌≡◌, ◌<◌, length, slice_get, IfOk, IfSome, IfNone, Some};
 ghost use Rattle.stack_code.specs.Parts.{Begins};
 ghost use Rattle.stack_code.specs.Valid.{IsValid};
+ghost use Rattle.stack_code.specs.Kept.{IsTable, IsRanked};
 
 use crate::instr::Instr;
-use ac_base::{Bytes, List, Name};
+use crate::lists::has_lists;
+use crate::parts::{ChannelEnds, Entered, Start};
+use crate::shape::Shape;
+use crate::sketch::Sketch;
+use crate::uses::has_one_use;
+use crate::ways::quiet_ranks;
+use crate::work::shapes;
+use ac_base::{Bytes, List, Name, NoMemory};
+use std::alloc::Global;
 use std::marker::Model;
 
-/// A function of the code: its name, the address of its first instruction, and how many slots its
-/// frame has.
-#[derive(Debug, Drop)]
-pub struct Entered {
-    pub name: Name,
-    pub at: u32,
-    pub slots: u32,
-}
-
-/// A code that is valid: a machine that runs it never leaves it, and never lacks an operand or a
-/// slot.
+/// A code that is valid: a machine that runs it never leaves it, never lacks an operand or a slot,
+/// and takes a step from time to time.
 ///
 /// Contracts see its parts.
 #[derive(Debug, Drop)]
 pub struct Code {
-    instrs: List<Instr>,
-    functions: List<Entered>,
-    texts: List<Bytes>,
-    entries: List<u32>,
-    names: List<Name>,
+    sketch: Sketch,
+    table: Vec<Option<Shape>>,
+    ranks: List<u64>,
 }
 
 impl Model for Code {
     ghost use Rattle.stack_code.specs.Parts.{Parts};
+    ghost use Rattle.stack_code.specs.Kept.{IsKept};
 
     ghost Value = { Parts };
 
-    ghost use Rattle.stack_code.specs.Valid.{IsValid};
+    ghost view = { λ c. c.sketch };
 
-    ghost view = { λ c. record { instrs = c.instrs; functions = c.functions; texts = c.texts; entries = c.entries; names = c.names } };
+    ghost invariant = { λ c. IsKept c.sketch c.table.items c.ranks };
+}
 
-    ghost invariant = { λ c. IsValid (record { instrs = c.instrs; functions = c.functions; texts = c.texts; entries = c.entries; names = c.names }) };
+fn code_of(alloc: Global, sketch: Sketch) -> Result<Option<Code>, NoMemory>
+    ensures same { IfOk result (λ made. IfSome made (λ code. code ≡ sketch)) }
+    ensures valid { IfOk result (λ made. IfSome made (λ code. IsValid sketch)) }
+    ensures none { IfOk result (λ made. IfNone made (IsValid sketch → ⊥)) }
+{
+    if !has_lists(&sketch) {
+        return Ok(None);
+    }
+    let Some(table) = shapes(alloc, &sketch)? else {
+        return Ok(None);
+    };
+    if !has_one_use(alloc, &sketch, table.as_slice())? {
+        return Ok(None);
+    }
+    let Some(ranks) = quiet_ranks(alloc, &sketch, table.as_slice())? else {
+        return Ok(None);
+    };
+    Ok(Some(Code {
+        sketch,
+        table,
+        ranks,
+    }))
 }
 
 impl Code {
-    /// The code of these parts: its instructions, its functions, the texts of its `Print`
-    /// instructions, the function that each core enters, and the names of the cores.
-    pub fn new(
+    /// The code of these parts: its instructions; its functions; the texts of its `Print`
+    /// instructions; the function that each core enters, and the names of the cores; how many slots
+    /// the globals have; the capacity of each link, first those of the channels and then one for each
+    /// core; the two cores of each channel; and the globals that start with something else than 0.
+    /// None exactly where these are not valid.
+    ///
+    /// It takes time in proportion to the instructions and to the sizes of the shapes at them; only
+    /// the slots that hold no int are sorted.
+    pub fn make(
+        alloc: Global,
         instrs: List<Instr>,
         functions: List<Entered>,
         texts: List<Bytes>,
         entries: List<u32>,
         names: List<Name>,
-    ) -> Code
-        requires { IsValid (record { instrs = instrs; functions = functions; texts = texts; entries = entries; names = names }) }
-        ensures { result ≡ record { instrs = instrs; functions = functions; texts = texts; entries = entries; names = names } }
+        globals: u32,
+        capacities: List<u32>,
+        ends: List<ChannelEnds>,
+        starts: List<Start>,
+    ) -> Result<Option<Code>, NoMemory>
+        ensures same { IfOk result (λ made. IfSome made (λ code. code ≡ record { instrs = instrs; functions = functions; texts = texts; entries = entries; names = names; globals = globals; capacities = capacities; ends = ends; starts = starts })) }
+        ensures valid { IfOk result (λ made. IfSome made (λ code. IsValid (record { instrs = instrs; functions = functions; texts = texts; entries = entries; names = names; globals = globals; capacities = capacities; ends = ends; starts = starts }))) }
+        ensures none { IfOk result (λ made. IfNone made (IsValid (record { instrs = instrs; functions = functions; texts = texts; entries = entries; names = names; globals = globals; capacities = capacities; ends = ends; starts = starts }) → ⊥)) }
     {
-        Code {
-            instrs,
-            functions,
-            texts,
-            entries,
-            names,
-        }
+        let sketch = Sketch::new(
+            alloc, instrs, functions, texts, entries, names, globals, capacities, ends, starts,
+        )?;
+        code_of(alloc, sketch)
     }
 
     /// The instructions by address.
@@ -69,21 +99,28 @@ impl Code {
         ensures same { result.now ≡ self.now.instrs }
         ensures valid { IsValid self.now }
     {
-        self.instrs.as_slice()
+        self.sketch.instrs()
+    }
+
+    /// The functions by number.
+    pub fn functions(&self) -> &[Entered]
+        ensures { result.now ≡ self.now.functions }
+    {
+        self.sketch.functions()
     }
 
     /// The texts by number.
     pub fn texts(&self) -> &[Bytes]
         ensures { result.now ≡ self.now.texts }
     {
-        self.texts.as_slice()
+        self.sketch.texts()
     }
 
     /// The names of the cores.
     pub fn names(&self) -> &List<Name>
         ensures { result.now ≡ self.now.names }
     {
-        &self.names
+        self.sketch.names()
     }
 
     /// The function with which a core begins.
@@ -91,8 +128,37 @@ impl Code {
         requires { core < length self.now.entries }
         ensures { Begins self.now core result.now }
     {
-        let entry = entry_of(self.entries.as_slice(), core);
-        function_of(self.functions.as_slice(), entry)
+        let entry = entry_of(self.sketch.entries(), core);
+        function_of(self.sketch.functions(), entry)
+    }
+
+    /// How many slots the globals have.
+    pub fn globals(&self) -> u32
+        ensures { result ≡ self.now.globals }
+    {
+        self.sketch.globals()
+    }
+
+    /// The globals that start with something else than 0, from the lowest slot upwards.
+    pub fn starts(&self) -> &[Start]
+        ensures same { result.now ≡ self.now.starts }
+        ensures valid { IsValid self.now }
+    {
+        self.sketch.starts()
+    }
+
+    /// By address, its shape where it is reached.
+    pub fn shapes(&self) -> &[Option<Shape>]
+        ensures { IsTable self.now result.now }
+    {
+        self.table.as_slice()
+    }
+
+    /// By address, a rank: it falls wherever the code goes on without a `Step`.
+    pub fn ranks(&self) -> &[u64]
+        ensures { IsRanked self.now result.now }
+    {
+        self.ranks.as_slice()
     }
 }
 

@@ -1,0 +1,170 @@
+-- A core and the machine that follows it, from their beginning on.
+use Rattle.std.proofs.Common.{◌≡◌, ◌≢◌, ℕ, zero, suc, ◌-◌, ◌^◌, List, [], ◌∷◌, set, Option, Some, None, Bool, true, false, refl, sym, ap, ◌∙◌, subst, arith}
+use Rattle.std.specs.Prelude.{ℤ, nat_lt, Result, Ok, Err, if◌then◌else◌}
+use Rattle.std.specs.List.{sum_by}
+use Rattle.std.proofs.lemmas.List.{set-get_or}
+use Rattle.ac_base.specs.declared.ends.Trap.{Trap}
+use Rattle.ac_base.specs.declared.ends.CoreEnd.{CoreEnd}
+use Rattle.ac_base.specs.declared.ends.EndWord.TheVariants.{OutOfSteps, Stalled}
+use Rattle.work_item.specs.declared.ids.Item.{Item}
+use Rattle.work_item.specs.declared.ids.BlockId.{BlockId}
+use Rattle.work_item.specs.Store.{Store}
+use Rattle.core_state.specs.Moves.{Move, On, Over}
+use Rattle.core_state.specs.Frames.{first_frame}
+use Rattle.core_state.specs.Shared.{Shared, begins_with}
+use Rattle.core_state.proofs.Simulation.{one as one_move, over_at, Follows, follows_on, follows_over}
+use Rattle.core_state.proofs.Beginnings.{BothBegin, begin_on, begin_over}
+use Rattle.ac_commands.specs.declared.program.Function.{Function}
+use Rattle.ac_commands.specs.declared.program.Resolved.{Resolved}
+use Rattle.ac_semantics.specs.Held.{Held, turned, seen_of}
+use Rattle.ac_semantics.specs.Work.{Work, Leave, before, closes}
+use Rattle.ac_semantics.specs.Threads.{Phase, Active, AtFinish, Ended, Thread, nobody, CoreState, thread_at, dispatched, step, first_item, first_core}
+use Rattle.stack_code.specs.declared.parts.Entered.{Entered}
+use Rattle.stack_code.specs.Parts.{Parts}
+use Rattle.stack_code.specs.Machine.{Block, Flat, FlatEnd, Thread as Stack, nobody as no_stack, thread_at as stack_of, told, exec, first_core as first_machine}
+use Rattle.ac_translation.specs.WellFormed.{IsWellFormed}
+use Rattle.ac_translation.proofs.Functions.{IsCodeOf}
+use Rattle.ac_translation.proofs.Tables.{total_one, one_same, one_other}
+use Rattle.ac_translation.proofs.Blocks.{among, Lives, held, at, OwnerOf, Waits, held_at}
+use Rattle.ac_translation.proofs.Tracks.{Tracks}
+use Rattle.ac_translation.proofs.Wakes.{is_active, Listed}
+use Rattle.ac_translation.proofs.Keeps.{Activation}
+use Rattle.ac_translation.proofs.Works.{Works, works_closes}
+use Rattle.ac_translation.proofs.Turns.{Turns}
+use Rattle.ac_translation.proofs.Steps.{next_follows}
+use Rattle.ac_translation.proofs.Standing.{running, around_of, resting, halted, seated, Others, Together, Stands, rests, runs, Seat, seat_of, stands_on}
+use Rattle.ac_translation.proofs.Starting.{enters_follow, starts_follow, yields_follow}
+use Rattle.ac_translation.proofs.Finishing.{arrives_follow}
+use Rattle.ac_translation.proofs.Ending.{dies_follow}
+
+module _ (code : Parts) (program : Resolved) (same : IsCodeOf code program) (fine : IsWellFormed program) (bound : ℕ) where
+  abbrev R : CoreState → Flat → Type 0
+  R = Stands code.instrs program.functions
+
+  abbrev FollowsTo : Flat → Move CoreState (Option CoreEnd) → Type 0
+  FollowsTo m next = Follows (exec code bound) R (λ x. x.core) m next
+
+  -- ---- a thread runs
+
+  turns : (s : Held) (t : Item) (ws : List Work) (ready : List Item) (ts : List Thread) (activation : Activation) (stacks : List Stack) (bs : List (Option Block)) → Seat ts t ws activation →
+      Together code.instrs program.functions (seated ts t ws) s.blocks ready (Some t) stacks bs →
+      Turns code program.functions bound R (around_of t activation ready stacks bs) (running s t ws ready ts)
+  turns s t ws ready ts activation stacks bs x h = record {
+    enters = enters_follow code program.functions bound s t ws ready ts activation stacks bs x h;
+    arrives = arrives_follow code program.functions bound s t ws ready ts activation stacks bs x h;
+    starts = starts_follow code program.functions bound s t ws ready ts activation stacks bs x h;
+    yields = yields_follow code program.functions bound s t ws ready ts activation stacks bs x h;
+    dies = dies_follow code program.functions bound s t ws ready ts activation stacks bs x h;
+  }
+
+  -- ---- none runs
+
+  -- the front of the ready list is dispatched
+  dispatched_stands : (s : Held) (t : Item) (ready : List Item) (ts : List Thread) (stacks : List Stack) (bs : List (Option Block)) (count : ℕ) →
+      Together code.instrs program.functions ts s.blocks (t ∷ ready) None stacks bs →
+      R (running (turned s) t (thread_at ts t).work ready ts) (record (halted (turned s) ready stacks bs count) { running = Some t; current = stack_of stacks t })
+  dispatched_stands s t ready ts stacks bs count h =
+      let active : (thread_at ts t).phase ≡ Active = is_active (thread_at ts t).phase (let k = h.listed t.number in let o = one_same t.number in omega (arith, k, o)) in
+      let p = h.others t.number tt (subst Lives (sym active) tt) in
+      let is : seated ts t (thread_at ts t).work ≡ ts = ap (λ (z : Phase). set ts t.number (record (thread_at ts t) { phase = z })) (sym active) ∙ set-get_or ts t.number _ in
+      let together : Together code.instrs program.functions ts s.blocks ready (Some t) stacks bs = record {
+        stacks_are = h.stacks_are;
+        blocks_are = h.blocks_are;
+        good = h.good;
+        waits = h.waits;
+        listed = λ u. let k = h.listed u in omega (arith, k);
+        tracks = h.tracks;
+        others = λ u ne l. h.others u tt l;
+      } in
+      subst (λ y. R (running (turned s) t (thread_at ts t).work ready ts) (record (halted (turned s) ready stacks bs count) { running = Some t; current = y })) (sym p.is)
+      (runs (turned s) t (thread_at ts t).work ready ts p.activation p.place p.operands stacks bs count active p.around
+      (subst (λ z. Together code.instrs program.functions z s.blocks ready (Some t) stacks bs) (sym is) together) p.works)
+
+  dispatch_follows : (s : Held) (ready : List Item) (ts : List Thread) (stacks : List Stack) (bs : List (Option Block)) (count : ℕ) →
+      Together code.instrs program.functions ts s.blocks ready None stacks bs → FollowsTo (halted s ready stacks bs count) (dispatched (resting s ready ts) ready)
+  dispatch_follows s [] ts stacks bs count h = follows_over (told count (seen_of Stalled true s)) (over_at (exec code bound) _ _ refl) refl
+  dispatch_follows s (t ∷ ready) ts stacks bs count h = turn (nat_lt s.shared.turn (2 ^ 64 - 1)) refl
+    where
+      turn : (b : Bool) → nat_lt s.shared.turn (2 ^ 64 - 1) ≡ b → FollowsTo (halted s (t ∷ ready) stacks bs count) (dispatched (resting s (t ∷ ready) ts) (t ∷ ready))
+      turn true e =
+          let d = running (turned s) t (thread_at ts t).work ready ts in
+          let m = record (halted (turned s) ready stacks bs count) { running = Some t; current = stack_of stacks t } in
+          subst (λ (b : Bool). FollowsTo (halted s (t ∷ ready) stacks bs count) (if b then On d else Over (seen_of OutOfSteps false s))) (sym e)
+          (follows_on m (one_move (exec code bound) (halted s (t ∷ ready) stacks bs count) m (rw e refl)) (dispatched_stands s t ready ts stacks bs count h))
+      turn false e =
+          let d = running (turned s) t (thread_at ts t).work ready ts in
+          let end = told count (seen_of OutOfSteps false s) in
+          subst (λ (b : Bool). FollowsTo (halted s (t ∷ ready) stacks bs count) (if b then On d else Over (seen_of OutOfSteps false s))) (sym e)
+          (follows_over end (over_at (exec code bound) (halted s (t ∷ ready) stacks bs count) end (rw e refl)) refl)
+
+  pub core_follows : (c : CoreState) (m : Flat) → R c m → FollowsTo m (step program bound c)
+  core_follows _ _ (rests s ready ts stacks bs count h) = dispatch_follows s ready ts stacks bs count h
+  core_follows _ _ (runs s t ws ready ts activation place operands stacks bs count active round h w) =
+      let x = seat_of ts t ws activation active round (works_closes code.instrs program.functions activation place operands ws w) in
+      let stands = stands_on code.instrs program.functions s t ws ready ts activation place operands stacks bs active round h w in
+      (next_follows code program same fine bound R (around_of t activation ready stacks bs) (running s t ws ready ts) stands
+      (turns s t ws ready ts activation stacks bs x h) ws place operands s refl w).by count
+
+-- ---- the beginning
+
+-- the only thread, which has entered nothing
+module _ (work : List Work) (none : closes work ≡ []) where
+  abbrev only : List Thread
+  only = record { around = []; phase = Active; work = work } ∷ []
+
+  held_none : (b : BlockId) → sum_by (held b) only ≡ 0
+  held_none b = let z : among b (closes work) ≡ 0 = ap (among b) none in omega (arith, z)
+
+  nested : (u : ℕ) (c : BlockId) (rest : List BlockId) → Lives (at only u).phase → (at only u).around ≡ c ∷ rest → OwnerOf only c rest
+  nested zero c rest l e = absurd (let no : [] ≡ c ∷ rest = e in cc)
+  nested (suc u) c rest l e = absurd l
+
+  waits : Waits only
+  waits zero b e = absurd (let no : Active ≡ AtFinish b = e in cc)
+  waits (suc u) b e = absurd (let no : Ended ≡ AtFinish b = e in cc)
+
+  listed : Listed only (first_item ∷ []) None
+  listed zero = let h = one_same 0 in omega (arith, h)
+  listed (suc u) = let ne : suc u ≢ 0 = (λ e. omega (arith, e)) in let h = one_other (suc u) 0 ne in omega (arith, h)
+
+  tracks : Tracks only []
+  tracks zero b inside outside l e =
+      absurd (
+      let h = held_at only 0 b inside outside l e in
+      let z = held_none b in
+      let k = total_one nobody (held b) refl only 0 in
+      omega (arith, h, z, k))
+  tracks (suc u) b inside outside l e = absurd l
+
+-- the activation of a core's entry
+abbrev pub first_activation : Activation
+first_activation = record { frame = first_frame; callers = []; entered = []; around = [] }
+
+module _ (code : Parts) (functions : List Function) where
+  -- the core of a function, where the code does what the function is to do
+  pub first_stands : (f : Function) (e : Entered) (s : Shared) (store : Store) → Works code.instrs functions first_activation e.at [] (before first_frame f.body (Leave ∷ [])) →
+      Stands code.instrs functions (first_core f s store) (first_machine e s store)
+  first_stands f e s store w =
+      let work = before first_frame f.body (Leave ∷ []) in
+      let none = works_closes code.instrs functions first_activation e.at [] work w in
+      rests (record { shared = s; store = store; blocks = 0 }) (first_item ∷ []) (only work none) (record no_stack { place = e.at } ∷ []) [] 0 (record {
+        stacks_are = refl;
+        blocks_are = refl;
+        good = record { nested = nested work none; once = λ b. (let h = held_none work none b in omega (arith, h)); fresh = λ b le. held_none work none b };
+        waits = waits work none;
+        listed = listed work none;
+        tracks = tracks work none;
+        others = first_others work none w;
+      })
+    where
+      first_others : (work : List Work) (none : closes work ≡ []) → Works code.instrs functions first_activation e.at [] work → Others code.instrs functions (only work none) None (record no_stack { place = e.at } ∷ [])
+      first_others work none w zero ne l = record { activation = first_activation; place = e.at; operands = []; is = refl; around = refl; works = w }
+      first_others work none w (suc u) ne l = absurd l
+
+  -- both begin, or there is no room for the frame
+  pub cores_begin : (globals : List ℤ) (s : Shared) (r : Result Store Trap) (f : Function) (e : Entered) →
+      ((store : Store) → Stands code.instrs functions (first_core f s store) (first_machine e s store)) →
+      BothBegin (Stands code.instrs functions) (λ (x : FlatEnd). x.core) (begins_with (λ o. o) globals s r (λ store. On (first_core f s store)))
+      (begins_with (told 0) globals s r (λ store. On (first_machine e s store)))
+  cores_begin globals s (Ok store) f e h = begin_on (h store)
+  cores_begin globals s (Err trap) f e h = begin_over refl

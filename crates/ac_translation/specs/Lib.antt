@@ -1,0 +1,4 @@
+pub mod Pieces
+pub mod Translation
+pub mod WellFormed
+pub mod Same
