@@ -1,134 +1,163 @@
--- Code that finds its operands and its slots, instruction after instruction.
-use Rattle.std.proofs.Common.{◌≡◌, ℕ, zero, suc, ◌+◌, ◌-◌, ◌<◌, ◌≤◌, List, [], ◌∷◌, ◌++◌, length, drop, Some, true, refl, sym, ap, ◌∙◌, subst, arith, append_assoc, drop-cons, add-one}
-use Rattle.std.specs.Prelude.{slice_get, nat_lt, nat_le, pos}
-use Rattle.std.proofs.lemmas.Bool.Decides.{nat_tests}
-use Rattle.std.proofs.lemmas.Option.{slice_get_within, get_or_from_slice_get}
-use Rattle.ac_tree.specs.declared.expr.BinaryOp.{BinaryOp}
-use Rattle.ac_resolve.specs.declared.value.Value.{Value}
-use Rattle.ac_resolve.specs.declared.value.ValueLink.{ValueLink}
-use Rattle.ac_resolve.specs.declared.command.Command.{Command}
-use Rattle.stack_code.specs.declared.code.Entered.{Entered}
-use Rattle.stack_code.specs.declared.instr.Instr.{Instr}
+-- The code of a statement begins and ends without operands, and each of its addresses is fine.
+use Rattle.std.proofs.Common.{◌≡◌, ℕ, ◌+◌, ◌<◌, List, [], ◌∷◌, length, map, Bool, true, false, Option, Some, None, refl, sym, subst, arith}
+use Rattle.std.specs.Prelude.{slice_get, pos}
+use Rattle.ac_commands.specs.declared.value.Value.{Value}
+use Rattle.ac_commands.specs.declared.effect.Effect.{Effect}
+use Rattle.ac_commands.specs.declared.command.Command.{Command}
 use Rattle.stack_code.specs.declared.instr.Instr.TheVariants as i
-use Rattle.stack_code.specs.Parts.{Parts, Begins}
-use Rattle.stack_code.specs.Valid.{Leads, Stops, Goes, effect, Reaches, begins, goes, Fits}
-use Rattle.ac_compile.specs.Built.{IsOperator, add, sub, mul, IsValue, number, variable, chain, AreLinks, no_link, one_link, AreValues, IsCommand, set, print, AreCommands}
-use Rattle.ac_compile.specs.Translation.{operator_code, value_code, link_code, links_code, values_code, command_code, body_code, last_code}
-use Rattle.ac_compile.proofs.Codes.{number_code, variable_code, chain_code, one_link_code}
+use Rattle.stack_code.specs.declared.shape.Kind.{Kind}
+use Rattle.stack_code.specs.declared.shape.Kind.TheVariants as kind
+use Rattle.stack_code.specs.declared.shape.Home.TheVariants as home
+use Rattle.stack_code.specs.Parts.{Parts}
+use Rattle.stack_code.specs.Shapes.{params_of}
+use Rattle.ac_compile.specs.Built.{Round, IsTest, no_test, some_test, IsOperand, no_operand, some_operand, IsCommand, nothing, set, clear, print, if_alone, if_else, while_loop, for_loop, leave, go_on, give, AreCommands, no_command, one_command}
+use Rattle.ac_translation.specs.Pieces.{Exits, Piece, no_code, one, ◌⨾◌, all, over, out_past, out_turn}
+use Rattle.ac_translation.specs.Translation.{value_code, values_code, effect_code, target_code, if_code, test_code, at_loop, at_next, operand_code, command_code, body_code}
+use Rattle.ac_translation.proofs.Sized.{IsSized, one_sized, over_sized, both_sized, after_one}
+use Rattle.ac_translation.proofs.Placed.{Placed, first_part, other_part}
+use Rattle.ac_compile.proofs.Forms.{nothing_form, set_form, clear_form, print_form, if_alone_form, if_else_form, while_form, for_form, break_form, continue_form, return_form}
+use Rattle.ac_compile.proofs.Fine.{shape, table, Does, jz_branches, branch_behind, branch_fine, Range, one_range, both_ranges, IsExit, exit_led, IsFit, no_fit, one_fit, both_fit, ret_fit, past_fit, turn_fit}
+use Rattle.ac_compile.proofs.Joined.{skip_fit, either, either_fit, IsHead, loop_turn, next_turn, loop_fit}
+use Rattle.ac_compile.proofs.Valued.{ints, round, first_fit, value_fit, values_fit, effect_fit, target_fit, print_does, clear_does}
 
-module _ (code : Parts) (slots : ℕ) where
-  -- each instruction finds its operands, of which there are so many before the first, and the last stops
+module _ (code : Parts) (slots : ℕ) (no_params : params_of code (home.Function 0) ≡ []) where
+  abbrev around : Round
+  around = round code slots
+
+  abbrev Fit : Bool → List Kind → List Kind → Piece → Type 0
+  Fit inside before after piece = IsFit code slots inside before after piece
+
+  -- a statement, and what stands for one
+  abbrev Runs : Bool → Piece → Type 0
+  Runs inside piece = Fit inside [] [] piece
+
+  abbrev int_alone : List Kind
+  int_alone = kind.Int ∷ []
+
+  step_does : Does code slots i.Step [] []
+  step_does = record { finds = λ at. refl; falls = refl; plain = refl }
+
+  -- a `Step`, and then a piece
+  after_step : (inside : Bool) (after : List Kind) (b : Piece) → Fit inside [] after b → Fit inside [] after (one i.Step ⨾ b)
+  after_step inside after b f = first_fit code slots no_params inside [] [] after i.Step b step_does f
+
+  same_piece : (inside : Bool) (p q : Piece) → p ≡ q → Runs inside q → Runs inside p
+  same_piece inside p q e f = subst (Runs inside) (sym e) f
+
+  -- ---- loops
+
+  no_test_head : (count : ℕ) → IsHead code slots (one i.Step) count
+  no_test_head count =
+      let f = one_fit code slots false i.Step [] [] step_does in
+      record {
+        sized = f.sized;
+        steps = λ exits place to h. h.has.0;
+        passes = f.passes;
+        fine = λ exits place to h e lt x. f.fine exits place to h e lt tt;
+      }
+
+  -- the parts of a test
+  record Tests (test : Piece) (count : ℕ) (exits : Exits) (place to : ℕ) : Type 0 where
+    step : Placed code.instrs (one i.Step) exits place (place + 1)
+    value : Placed code.instrs test exits (place + 1) (place + 1 + test.size)
+    branch : slice_get code.instrs (place + 1 + test.size) ≡ Some (i.Jz (to + count))
+    ends : place + 1 + test.size + 1 ≡ to
+
+  tests : (test : Piece) (count : ℕ) (exits : Exits) (place to : ℕ) → IsSized test → Placed code.instrs (one i.Step ⨾ test ⨾ over i.Jz count) exits place to → Tests test count exits place to
+  tests test count exits place to z h =
+      let last = over i.Jz count in
+      let inner = other_part code.instrs (one i.Step) (test ⨾ last) (one_sized i.Step) h in
+      let end = other_part code.instrs test last z inner in
+      record {
+        step = first_part code.instrs (one i.Step) (test ⨾ last) h;
+        value = first_part code.instrs test last inner;
+        branch = subst (λ n. slice_get code.instrs (place + 1 + test.size) ≡ Some (i.Jz (n + count))) end.ends end.has.0;
+        ends = end.ends;
+      }
+
+  module _ (test : Piece) (count : ℕ) (f : Fit false [] int_alone test) where
+    abbrev Is : ℕ → List Kind → Type 0
+    Is at kinds = table code slots at ≡ shape code slots kinds
+
+    before_test : (exits : Exits) (place to : ℕ) → Tests test count exits place to → Is place [] → Is (place + 1) []
+    before_test exits place to k e = (one_fit code slots false i.Step [] [] step_does).passes exits place (place + 1) k.step e
+
+    before_branch : (exits : Exits) (place to : ℕ) → Tests test count exits place to → Is place [] → Is (place + 1 + test.size) int_alone
+    before_branch exits place to k e = f.passes exits (place + 1) (place + 1 + test.size) k.value (before_test exits place to k e)
+
+    test_fine : (exits : Exits) (place to : ℕ) → Tests test count exits place to → Is place [] → to < length code.instrs → IsExit code slots to (to + count) → Range code slots place to
+    test_fine exits place to k e lt x =
+        let ends = k.ends in
+        let middle = place + 1 + test.size in
+        both_ranges code slots place (place + 1) to
+        ((one_fit code slots false i.Step [] [] step_does).fine exits place (place + 1) k.step e (omega arith) tt)
+        (both_ranges code slots (place + 1) middle to
+        (f.fine exits (place + 1) middle k.value (before_test exits place to k e) (omega arith) tt)
+        (one_range code slots middle to ends
+        (branch_fine code slots i.Jz middle (to + count) [] (jz_branches code slots) k.branch (before_branch exits place to k e) (omega arith) (exit_led code slots middle to (to + count) (omega arith) x))))
+
+    some_test_head : IsHead code slots (one i.Step ⨾ test ⨾ over i.Jz count) count
+    some_test_head = record {
+      sized = after_one i.Step _ (both_sized test (over i.Jz count) f.sized (over_sized i.Jz count));
+      steps = λ exits place to h. (tests test count exits place to f.sized h).step.has.0;
+      passes = λ exits place to h e.
+          let k = tests test count exits place to f.sized h in
+          subst (λ n. Is n []) k.ends (branch_behind code slots i.Jz (place + 1 + test.size) (to + count) [] (jz_branches code slots) k.branch (before_branch exits place to k e));
+      fine = λ exits place to h e lt x. test_fine exits place to (tests test count exits place to f.sized h) e lt x;
+    }
+
+  head_is : (test : Option Value) → IsTest around test → (count : ℕ) → IsHead code slots (test_code test count) count
+  head_is _ no_test count = no_test_head count
+  head_is _ (some_test test x) count = some_test_head (value_code test) count (value_fit code slots no_params false test x [])
+
+  -- ---- statements
+
+  -- operands are pushed, and then used
+  use_fit : (inside : Bool) (kinds : List Kind) (a b : Piece) → Fit inside [] kinds a → Fit inside kinds [] b → Runs inside (one i.Step ⨾ a ⨾ b)
+  use_fit inside kinds a b f g = after_step inside [] (a ⨾ b) (both_fit code slots inside [] kinds [] a b f g)
+
+  if_alone_fit : (inside : Bool) (test body : Piece) → Fit inside [] int_alone test → Runs inside body → Runs inside (if_code test body None)
+  if_alone_fit inside test body f g =
+      after_step inside [] (test ⨾ over i.Jz body.size ⨾ body) (both_fit code slots inside [] int_alone [] test (over i.Jz body.size ⨾ body) f (skip_fit code slots inside i.Jz [] body (jz_branches code slots) g))
+
+  if_else_fit : (inside : Bool) (test body : Piece) (other : List Piece) → Fit inside [] int_alone test → Runs inside body → Runs inside (all other) → Runs inside (if_code test body (Some other))
+  if_else_fit inside test body other f g h =
+      let parts = either i.Jz body (all other) in
+      after_step inside [] (test ⨾ parts) (both_fit code slots inside [] int_alone [] test parts f (either_fit code slots inside i.Jz [] [] body (all other) refl (jz_branches code slots) g h))
+
+  operand_fit : (inside : Bool) (x : Option Effect) → IsOperand around x → Fit inside [] int_alone (operand_code x)
+  operand_fit inside _ no_operand = one_fit code slots inside (i.Push (pos 0)) [] int_alone (record { finds = λ at. refl; falls = refl; plain = refl })
+  operand_fit inside _ (some_operand effect x) = effect_fit code slots no_params inside effect x []
+
   mutual
-    pub data Finds : ℕ → List Instr → Type 0 where
-      finds : (depth : ℕ) (instr : Instr) (rest : List Instr) (leads : Leads) → effect code slots instr depth ≡ Some leads → Leaves leads rest → Finds depth (instr ∷ rest)
+    pub command_fit : (inside : Bool) (x : Command) → IsCommand around inside x → Runs inside (command_code x)
+    command_fit _ _ (nothing inside) = same_piece inside _ _ nothing_form (one_fit code slots inside i.Step [] [] step_does)
+    command_fit _ _ (set inside target value x y) =
+        same_piece inside _ _ (set_form target value) (use_fit inside int_alone (effect_code value) (target_code target) (effect_fit code slots no_params inside value y []) (target_fit code slots no_params inside target x))
+    command_fit _ _ (clear inside slot len le) =
+        same_piece inside _ _ (clear_form slot len) (after_step inside [] (one (i.Clear slot len)) (one_fit code slots inside (i.Clear slot len) [] [] (clear_does code slots no_params slot len le)))
+    command_fit _ _ (print inside text args bytes e n short x) =
+        same_piece inside _ _ (print_form text args)
+        (use_fit inside (ints (length args) []) (values_code args) (one (i.Print text (length args))) (values_fit code slots no_params inside args x [])
+        (one_fit code slots inside (i.Print text (length args)) (ints (length args) []) [] (print_does code slots no_params text (length args) bytes e n)))
+    command_fit _ _ (if_alone inside test body x y) =
+        same_piece inside _ _ (if_alone_form test body) (if_alone_fit inside (value_code test) (body_code body) (value_fit code slots no_params inside test x []) (commands_fit inside body y))
+    command_fit _ _ (if_else inside test body other x y z) =
+        same_piece inside _ _ (if_else_form test body other)
+        (if_else_fit inside (value_code test) (body_code body) (map command_code other) (value_fit code slots no_params inside test x []) (commands_fit inside body y) (commands_fit inside other z))
+    command_fit _ _ (while_loop inside test body x y) =
+        same_piece inside _ _ (while_form test body)
+        (loop_fit code slots inside at_loop (test_code (Some test) ((body_code body).size + 1)) (body_code body) no_code (loop_turn code slots) (head_is (Some test) (some_test test x) ((body_code body).size + 1))
+        (commands_fit true body y) (no_fit code slots inside []))
+    command_fit _ _ (for_loop inside test next body x y z) =
+        let count = (body_code body).size + ((body_code next).size + 1) in
+        same_piece inside _ _ (for_form test next body)
+        (loop_fit code slots inside at_next (test_code test count) (body_code body) (body_code next) (next_turn code slots) (head_is test x count) (commands_fit true body z) (commands_fit inside next y))
+    command_fit _ _ leave = same_piece true _ _ break_form (after_step true [] out_past (past_fit code slots))
+    command_fit _ _ go_on = same_piece true _ _ continue_form (after_step true [] out_turn (turn_fit code slots))
+    command_fit _ _ (give inside effect x) =
+        same_piece inside _ _ (return_form effect) (use_fit inside int_alone (operand_code effect) (one i.Ret) (operand_fit inside effect x) (ret_fit code slots inside))
 
-    pub data Leaves : Leads → List Instr → Type 0 where
-      stops : (rest : List Instr) → Leaves Stops rest
-      onward : (depth : ℕ) (rest : List Instr) → Finds depth rest → Leaves (Goes depth) rest
-
-  next : (depth after : ℕ) (instr : Instr) (rest : List Instr) → effect code slots instr depth ≡ Some (Goes after) → Finds after rest → Finds depth (instr ∷ rest)
-  next depth after instr rest e f = finds depth instr rest (Goes after) e (onward after rest f)
-
-  operator_finds : (op : BinaryOp) → IsOperator op → (depth : ℕ) (rest : List Instr) → Finds (suc depth) rest → Finds (suc (suc depth)) (operator_code op ++ rest)
-  operator_finds _ add depth rest f = next (suc (suc depth)) (suc depth) i.Add rest refl f
-  operator_finds _ sub depth rest f = next (suc (suc depth)) (suc depth) i.Sub rest refl f
-  operator_finds _ mul depth rest f = next (suc (suc depth)) (suc depth) i.Mul rest refl f
-
-  slot_there : (slot : ℕ) → slot < slots → nat_lt slot slots ≡ true
-  slot_there slot lt = grind (arith, nat_tests)
-
-  -- the same instructions, in whatever form they stand
-  same_finds : (depth : ℕ) (code part rest : List Instr) → part ≡ code → Finds depth (code ++ rest) → Finds depth (part ++ rest)
-  same_finds depth code part rest e f = subst (λ c. Finds depth (c ++ rest)) (sym e) f
-
-  mutual
-    value_finds : (x : Value) → IsValue slots x → (depth : ℕ) (rest : List Instr) → Finds (suc depth) rest → Finds depth (value_code x ++ rest)
-    value_finds _ (number n) depth rest f = same_finds depth (i.Push n ∷ []) _ rest (number_code n) (next depth (suc depth) (i.Push n) rest refl f)
-    value_finds _ (variable slot lt) depth rest f = same_finds depth (i.Load slot ∷ []) _ rest (variable_code slot) (next depth (suc depth) (i.Load slot) rest (rw (slot_there slot lt) refl) f)
-    value_finds _ (chain first others v w) depth rest f =
-        same_finds depth (value_code first ++ links_code others) _ rest (chain_code first others)
-        (subst (Finds depth) (sym (append_assoc (value_code first) (links_code others) rest)) (value_finds first v depth _ (links_find others w depth rest f)))
-
-    links_find : (ls : List ValueLink) → AreLinks slots ls → (depth : ℕ) (rest : List Instr) → Finds (suc depth) rest → Finds (suc depth) (links_code ls ++ rest)
-    links_find _ no_link depth rest f = f
-    links_find _ (one_link l others o v w) depth rest f =
-        let operand = value_code l.operand in
-        let operator = operator_code l.op in
-        subst (Finds (suc depth)) (sym (append_assoc (link_code l) (links_code others) rest))
-        (same_finds (suc depth) (operand ++ operator) (link_code l) (links_code others ++ rest) (one_link_code l)
-        (subst (Finds (suc depth)) (sym (append_assoc operand operator (links_code others ++ rest)))
-        (value_finds l.operand v (suc depth) _ (operator_finds l.op o depth _ (links_find others w depth rest f)))))
-
-  values_find : (xs : List Value) (depth : ℕ) (rest : List Instr) → AreValues slots xs → Finds (length xs + depth) rest → Finds depth (values_code xs ++ rest)
-  values_find [] depth rest v f = let e : 0 + depth ≡ depth = omega arith in subst (λ d. Finds d rest) e f
-  values_find (x ∷ xs) depth rest v f =
-      let len : length (x ∷ xs) + depth ≡ length xs + suc depth = omega arith in
-      subst (Finds depth) (sym (append_assoc (value_code x) (values_code xs) rest)) (value_finds x v.0 depth _ (values_find xs (suc depth) rest v.1 (subst (λ d. Finds d rest) len f)))
-
-  print_finds : (text count : ℕ) (rest : List Instr) → text < length code.texts → Finds 0 rest → Finds (count + 0) (i.Print text count ∷ rest)
-  print_finds text count rest lt f =
-      let here : nat_lt text (length code.texts) ≡ true = grind (arith, nat_tests) in
-      let enough : nat_le count (count + 0) ≡ true = let le : count ≤ count + 0 = omega arith in grind (arith, nat_tests) in
-      let left : count + 0 - count ≡ 0 = omega arith in
-      next (count + 0) 0 (i.Print text count) rest (rw (here, enough, left) refl) f
-
-  store_finds : (slot : ℕ) (rest : List Instr) → slot < slots → Finds 0 rest → Finds 1 (i.Store slot ∷ rest)
-  store_finds slot rest lt f = next 1 0 (i.Store slot) rest (rw (slot_there slot lt) refl) f
-
-  command_finds : (x : Command) → IsCommand slots (length code.texts) x → (rest : List Instr) → Finds 0 rest → Finds 0 (command_code x ++ rest)
-  command_finds _ (set slot value lt v) rest f =
-      next 0 0 i.Step ((value_code value ++ i.Store slot ∷ []) ++ rest) refl
-      (subst (Finds 0) (sym (append_assoc (value_code value) (i.Store slot ∷ []) rest)) (value_finds value v 0 _ (store_finds slot rest lt f)))
-  command_finds _ (print text args lt short v) rest f =
-      let print = i.Print text (length args) in
-      next 0 0 i.Step ((values_code args ++ print ∷ []) ++ rest) refl
-      (subst (Finds 0) (sym (append_assoc (values_code args) (print ∷ []) rest)) (values_find args 0 _ v (print_finds text (length args) rest lt f)))
-
-  last_finds : Finds 0 last_code
-  last_finds = next 0 1 (i.Push (pos 0)) (i.Ret ∷ []) refl (finds 1 i.Ret [] Stops refl (stops []))
-
-  pub body_finds : (body : List Command) → AreCommands slots (length code.texts) body → Finds 0 (body_code body ++ last_code)
-  body_finds [] v = last_finds
-  body_finds (x ∷ xs) v = subst (Finds 0) (sym (append_assoc (command_code x) (body_code xs) last_code)) (command_finds x v.0 _ (body_finds xs v.1))
-
-  -- ---- what is reached
-
-  one_leads : (a b : Leads) → Some a ≡ Some b → a ≡ b
-  one_leads a b e = cc
-
-  leaves_finds : (leads : Leads) (depth : ℕ) (rest : List Instr) → leads ≡ Goes depth → Leaves leads rest → Finds depth rest
-  leaves_finds _ depth _ e (stops rest) = let no : Stops ≡ Goes depth = e in cc
-  leaves_finds _ depth _ e (onward d rest f) = let same : d ≡ depth = cc in subst (λ x. Finds x rest) same f
-
-  finds_next : (depth after : ℕ) (is : List Instr) (instr : Instr) (rest : List Instr) → is ≡ instr ∷ rest → effect code slots instr depth ≡ Some (Goes after) → Finds depth is → Finds after rest
-  finds_next _ after _ instr rest e h (finds depth j js leads f l) =
-      let head : j ≡ instr = cc in
-      let tail : js ≡ rest = cc in
-      let to : leads ≡ Goes after = one_leads leads (Goes after) (sym f ∙ ap (λ x. effect code slots x depth) head ∙ h) in
-      leaves_finds leads after rest to (subst (Leaves leads) tail l)
-
-  drop_here : (is : List Instr) (at : ℕ) (instr : Instr) → slice_get is at ≡ Some instr → drop at is ≡ instr ∷ drop (at + 1) is
-  drop_here is at instr e =
-      drop-cons is at instr (slice_get_within is at instr e) ∙ ap (λ x. x ∷ drop (suc at) is) (get_or_from_slice_get is at instr instr e) ∙ rw add-one
-
-  get_drop : (is : List Instr) (at : ℕ) (instr : Instr) (rest : List Instr) → drop at is ≡ instr ∷ rest → slice_get is at ≡ Some instr
-  get_drop [] zero instr rest e = cc
-  get_drop [] (suc at) instr rest e = cc
-  get_drop (j ∷ is) zero instr rest e = let same : j ≡ instr = cc in ap Some same
-  get_drop (j ∷ is) (suc at) instr rest e = get_drop is at instr rest e
-
-  fits_here : (at depth : ℕ) (is : List Instr) → drop at code.instrs ≡ is → Finds depth is → Fits code slots at depth
-  fits_here at _ _ e (finds depth instr rest leads f l) = record { instr = instr; leads = leads; here = get_drop code.instrs at instr rest e; finds = f }
-
-  -- all cores begin at the front, in a frame of so many slots
-  module _ (start : (core : ℕ) (function : Entered) → Begins code core function → (function.at ≡ 0) × (function.slots ≡ slots)) (whole : Finds 0 code.instrs) where
-    reached : (n at depth : ℕ) → Reaches code n at depth → (n ≡ slots) × Finds depth (drop at code.instrs)
-    reached _ _ _ (begins core function b) = ((start core function b).1, rw ((start core function b).0) whole)
-    reached _ _ _ (goes n at depth after instr r here e) =
-        let before = reached n at depth r in
-        (before.0, finds_next depth after (drop at code.instrs) instr (drop (at + 1) code.instrs) (drop_here code.instrs at instr here) (ap (λ k. effect code k instr depth) (sym before.0) ∙ e) before.1)
-
-    pub all_fit : (n at depth : ℕ) → Reaches code n at depth → Fits code n at depth
-    all_fit n at depth r =
-        let here = reached n at depth r in
-        subst (λ k. Fits code k at depth) (sym here.0) (fits_here at depth (drop at code.instrs) refl here.1)
+    pub commands_fit : (inside : Bool) (xs : List Command) → AreCommands around inside xs → Runs inside (body_code xs)
+    commands_fit _ _ (no_command inside) = no_fit code slots inside []
+    commands_fit _ _ (one_command inside x xs h hs) = both_fit code slots inside [] [] [] (command_code x) (body_code xs) (command_fit inside x h) (commands_fit inside xs hs)

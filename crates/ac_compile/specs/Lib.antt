@@ -1,5 +1,6 @@
-pub mod Unbuilt
-pub mod Found
 pub mod Built
-pub mod Translation
-pub mod Same
+pub mod Unbuilt
+pub mod Emission
+pub mod Compiled
+pub mod Made
+pub mod OneEnd

@@ -1,134 +1,123 @@
--- The nodes of a program that are not built, by their first bytes in preorder.
-use Rattle.std.specs.Prelude.{◌≡◌, ℕ, List, [], ◌∷◌, ◌++◌, Option, Some, None, is_some, Bool, true, false, not, ◌&&◌}
+-- The nodes of a program that are not built, by their first bytes in preorder; and the first of them. Both are one definition, by what is
+-- made of a node, of none, and of two parts one after the other.
+use Rattle.std.specs.Prelude.{ℕ, List, [], ◌∷◌, ◌++◌, map, Option, Some, None, Bool, true, false, not}
 use Rattle.std.specs.Str.{bytes_eq}
-use Rattle.ac_tree.specs.declared.expr.BinaryOp.{BinaryOp}
-use Rattle.ac_tree.specs.declared.expr.BinaryOp.TheVariants as b
 use Rattle.ac_tree.specs.declared.expr.Expr.{Expr, fold-Expr}
 use Rattle.ac_tree.specs.declared.expr.Link.{Link, fold-Link}
 use Rattle.ac_tree.specs.declared.expr.Expr.TheOpen.{Expr-F, Link-F}
 use Rattle.ac_tree.specs.declared.stmt.Stmt.{Stmt}
-use Rattle.ac_tree.specs.declared.stmt.Stmt.TheVariants as s
 use Rattle.ac_tree.specs.declared.stmt.Stmt.TheFolds.{fold-Stmt}
 use Rattle.ac_tree.specs.declared.stmt.Stmt.TheOpen.{Stmt-F}
 use Rattle.ac_tree.specs.declared.item.Item.{Item}
 use Rattle.ac_tree.specs.declared.item.Item.TheVariants as i
 use Rattle.ac_tree.specs.declared.item.Param.{Param}
+use Rattle.ac_types.specs.Scopes.{or_else}
 
--- a node, by whether it is built, before its parts
-abbrev pub node : Bool → ℕ → List ℕ → List ℕ
-node true at parts = parts
-node false at parts = at ∷ parts
+-- what is made of nodes
+pub record Gathers (A : Type 0) : Type 0 where
+  pub none : A
+  pub node : ℕ → A
+  pub both : A → A → A
 
--- ---- expressions
+abbrev pub as_list : Gathers (List ℕ)
+as_list = record { none = []; node = λ at. at ∷ []; both = λ xs ys. xs ++ ys }
 
-abbrev pub is_built_op : BinaryOp → Bool
-is_built_op b.Add = true
-is_built_op b.Sub = true
-is_built_op b.Mul = true
-is_built_op _ = false
+abbrev pub as_first : Gathers (Option ℕ)
+as_first = record { none = None; node = λ at. Some at; both = or_else }
 
-abbrev pub all_nodes : List (List ℕ) → List ℕ
-all_nodes [] = []
-all_nodes (ns ∷ parts) = ns ++ all_nodes parts
+-- a node, by whether it is built
+abbrev pub node_by : {A : Type 0} → Gathers A → Bool → ℕ → A → A
+node_by g true at parts = parts
+node_by g false at parts = g.both (g.node at) parts
 
--- a link is no node: it is whether its operator is built, and the nodes of its operand
-abbrev pub ops_built : List (Bool × List ℕ) → Bool
-ops_built [] = true
-ops_built (l ∷ ls) = l.0 && ops_built ls
+abbrev pub all_of : {A : Type 0} → Gathers A → List A → A
+all_of g [] = g.none
+all_of g (x ∷ xs) = g.both x (all_of g xs)
 
-abbrev pub operands : List (Bool × List ℕ) → List ℕ
-operands [] = []
-operands (l ∷ ls) = l.1 ++ operands ls
+abbrev pub some_of : {A : Type 0} → Gathers A → Option A → A
+some_of g None = g.none
+some_of g (Some x) = x
 
-abbrev pub expr_step : Expr-F (List ℕ) (Bool × List ℕ) → List ℕ
-expr_step (Expr-F.Number at value) = []
-expr_step (Expr-F.Const at which) = at ∷ []
-expr_step (Expr-F.Name at name) = []
-expr_step (Expr-F.Index at name index) = at ∷ index
-expr_step (Expr-F.Group at inner) = at ∷ inner
-expr_step (Expr-F.Unary at op inner) = at ∷ inner
-expr_step (Expr-F.Chain at level first rest) = node (ops_built rest) at (first ++ operands rest)
-expr_step (Expr-F.Call at name args) = at ∷ all_nodes args
-expr_step (Expr-F.Send at channel value) = at ∷ value
-expr_step (Expr-F.Recv at channel place) = at ∷ place
-expr_step (Expr-F.Read at file from len array) = at ∷ (from ++ len)
-expr_step (Expr-F.Write at file from len array) = at ∷ (from ++ len)
+-- ---- expressions: a call and an operation are not built
 
-abbrev pub link_step : Link-F (List ℕ) (Bool × List ℕ) → Bool × List ℕ
-link_step link = (is_built_op link.op, link.operand)
+abbrev pub expr_step : {A : Type 0} → Gathers A → Expr-F A A → A
+expr_step g (Expr-F.Number at value) = g.none
+expr_step g (Expr-F.Const at which) = g.none
+expr_step g (Expr-F.Name at name) = g.none
+expr_step g (Expr-F.Index at name index) = index
+expr_step g (Expr-F.Group at inner) = inner
+expr_step g (Expr-F.Unary at op inner) = inner
+expr_step g (Expr-F.Chain at level first rest) = g.both first (all_of g rest)
+expr_step g (Expr-F.Call at name args) = node_by g false at (all_of g args)
+expr_step g (Expr-F.Send at channel value) = node_by g false at value
+expr_step g (Expr-F.Recv at channel place) = node_by g false at place
+expr_step g (Expr-F.Read at file from len array) = node_by g false at (g.both from len)
+expr_step g (Expr-F.Write at file from len array) = node_by g false at (g.both from len)
 
-abbrev pub expr_unbuilt : Expr → List ℕ
-expr_unbuilt = fold-Expr (List ℕ) (Bool × List ℕ) expr_step link_step
+abbrev pub link_step : {A : Type 0} → Gathers A → Link-F A A → A
+link_step g link = link.operand
 
-abbrev pub link_unbuilt : Link → Bool × List ℕ
-link_unbuilt = fold-Link (List ℕ) (Bool × List ℕ) expr_step link_step
+abbrev pub expr_nodes : {A : Type 0} → Gathers A → Expr → A
+expr_nodes {A} g = fold-Expr A A (expr_step g) (link_step g)
 
-abbrev pub exprs_unbuilt : List Expr → List ℕ
-exprs_unbuilt [] = []
-exprs_unbuilt (x ∷ xs) = expr_unbuilt x ++ exprs_unbuilt xs
+abbrev pub link_nodes : {A : Type 0} → Gathers A → Link → A
+link_nodes {A} g = fold-Link A A (expr_step g) (link_step g)
 
-abbrev pub value_unbuilt : Option Expr → List ℕ
-value_unbuilt None = []
-value_unbuilt (Some x) = expr_unbuilt x
+abbrev pub exprs_nodes : {A : Type 0} → Gathers A → List Expr → A
+exprs_nodes g xs = all_of g (map (expr_nodes g) xs)
 
--- ---- statements. What stands within one that is not built is not listed, since only the first node is asked for
+abbrev pub some_expr : {A : Type 0} → Gathers A → Option Expr → A
+some_expr g None = g.none
+some_expr g (Some x) = expr_nodes g x
 
--- the name that an expression is, where it is one
-abbrev pub name_step : Expr-F (Option (List ℕ)) (Unit {0}) → Option (List ℕ)
-name_step (Expr-F.Name at name) = Some name
-name_step _ = None
+-- whether an int can be put into it: no other expression is a place
+abbrev pub place_step : Expr-F Bool (Unit {0}) → Bool
+place_step (Expr-F.Name at name) = true
+place_step (Expr-F.Index at name index) = true
+place_step _ = false
 
-abbrev pub no_step : Link-F (Option (List ℕ)) (Unit {0}) → Unit {0}
+abbrev pub no_step : Link-F Bool (Unit {0}) → Unit {0}
 no_step link = tt
 
-abbrev pub name_of : Expr → Option (List ℕ)
-name_of = fold-Expr (Option (List ℕ)) (Unit {0}) name_step no_step
+abbrev pub is_place : Expr → Bool
+is_place = fold-Expr Bool (Unit {0}) place_step no_step
 
--- the format of one number and a line feed
-abbrev pub decimal_line : List ℕ
-decimal_line = 37 ∷ 100 ∷ 10 ∷ []
+-- ---- statements: threads and blocks are not built
 
--- the first byte of a statement
-abbrev pub at_step : Stmt-F ℕ → ℕ
-at_step (Stmt-F.Block at body) = at
-at_step (Stmt-F.Empty at) = at
-at_step (Stmt-F.Int at name value) = at
-at_step (Stmt-F.Array at name size) = at
-at_step (Stmt-F.Assign at place value) = at
-at_step (Stmt-F.Call at call) = at
-at_step (Stmt-F.Print at format args) = at
-at_step (Stmt-F.If at test body other) = at
-at_step (Stmt-F.While at test body) = at
-at_step (Stmt-F.For at init test next body) = at
-at_step (Stmt-F.Break at) = at
-at_step (Stmt-F.Continue at) = at
-at_step (Stmt-F.Return at value) = at
-at_step (Stmt-F.Do at label body) = at
-at_step (Stmt-F.Async at body) = at
-at_step (Stmt-F.Cancel at label) = at
-at_step (Stmt-F.Yield at) = at
+abbrev pub stmt_step : {A : Type 0} → Gathers A → Stmt-F A → A
+stmt_step g (Stmt-F.Block at body) = all_of g body
+stmt_step g (Stmt-F.Empty at) = g.none
+stmt_step g (Stmt-F.Int at name value) = some_expr g value
+stmt_step g (Stmt-F.Array at name size) = g.none
+stmt_step g (Stmt-F.Assign at place value) = node_by g (is_place place) at (g.both (expr_nodes g place) (expr_nodes g value))
+stmt_step g (Stmt-F.Call at call) = node_by g false at (expr_nodes g call)
+stmt_step g (Stmt-F.Print at format args) = exprs_nodes g args
+stmt_step g (Stmt-F.If at test body other) = g.both (expr_nodes g test) (g.both body (some_of g other))
+stmt_step g (Stmt-F.While at test body) = g.both (expr_nodes g test) body
+stmt_step g (Stmt-F.For at init test next body) = g.both (some_of g init) (g.both (some_expr g test) (g.both (some_of g next) body))
+stmt_step g (Stmt-F.Break at) = g.none
+stmt_step g (Stmt-F.Continue at) = g.none
+stmt_step g (Stmt-F.Return at value) = some_expr g value
+stmt_step g (Stmt-F.Do at label body) = node_by g false at (all_of g body)
+stmt_step g (Stmt-F.Async at body) = node_by g false at body
+stmt_step g (Stmt-F.Cancel at label) = node_by g false at g.none
+stmt_step g (Stmt-F.Yield at) = node_by g false at g.none
 
-abbrev pub stmt_at : Stmt → ℕ
-stmt_at = fold-Stmt ℕ at_step
+abbrev pub stmt_nodes : {A : Type 0} → Gathers A → Stmt → A
+stmt_nodes {A} g = fold-Stmt A (stmt_step g)
 
-abbrev pub stmt_unbuilt : Stmt → List ℕ
-stmt_unbuilt (s.Int at name value) = value_unbuilt value
-stmt_unbuilt (s.Assign at place value) = node (is_some (name_of place)) at (expr_unbuilt place ++ expr_unbuilt value)
-stmt_unbuilt (s.Print at format args) = node (bytes_eq format decimal_line) at (exprs_unbuilt args)
-stmt_unbuilt x = stmt_at x ∷ []
+abbrev pub body_nodes : {A : Type 0} → Gathers A → List Stmt → A
+body_nodes g xs = all_of g (map (stmt_nodes g) xs)
 
-abbrev pub body_unbuilt : List Stmt → List ℕ
-body_unbuilt [] = []
-body_unbuilt (x ∷ xs) = stmt_unbuilt x ++ body_unbuilt xs
-
-abbrev pub IsBuilt : Stmt → Type 0
-IsBuilt x = stmt_unbuilt x ≡ []
+abbrev pub some_stmt : {A : Type 0} → Gathers A → Option Stmt → A
+some_stmt g None = g.none
+some_stmt g (Some x) = stmt_nodes g x
 
 -- ---- items: the first core and the function that it enters are built
 
-abbrev pub params_unbuilt : List Param → List ℕ
-params_unbuilt [] = []
-params_unbuilt (x ∷ xs) = x.at ∷ params_unbuilt xs
+abbrev pub params_nodes : {A : Type 0} → Gathers A → List Param → A
+params_nodes g [] = g.none
+params_nodes g (x ∷ xs) = node_by g false x.at (params_nodes g xs)
 
 -- the entry of the first core
 abbrev pub first_entry : List Item → Option (List ℕ)
@@ -141,21 +130,24 @@ is_entry None name = false
 is_entry (Some entry) name = bytes_eq name entry
 
 -- an item, by whether a core stands before it
-abbrev pub item_unbuilt : Option (List ℕ) → Bool → Item → List ℕ
-item_unbuilt entry late (i.Core at name own) = node (not late) at []
-item_unbuilt entry late (i.Function f) = node (is_entry entry f.name) f.at (params_unbuilt f.params ++ body_unbuilt f.body)
-item_unbuilt entry late (i.Global at name size value) = at ∷ []
-item_unbuilt entry late (i.Channel at name from to cap) = at ∷ []
-item_unbuilt entry late (i.File at name path) = at ∷ []
+abbrev pub item_nodes : {A : Type 0} → Gathers A → Option (List ℕ) → Bool → Item → A
+item_nodes g entry late (i.Core at name own) = node_by g (not late) at g.none
+item_nodes g entry late (i.Function f) = node_by g (is_entry entry f.name) f.at (g.both (params_nodes g f.params) (body_nodes g f.body))
+item_nodes g entry late (i.Global at name size value) = g.none
+item_nodes g entry late (i.Channel at name from to cap) = node_by g false at g.none
+item_nodes g entry late (i.File at name path) = node_by g false at g.none
 
 abbrev pub is_late : Bool → Item → Bool
 is_late late (i.Core at name entry) = true
 is_late late _ = late
 
-abbrev pub items_unbuilt : Option (List ℕ) → Bool → List Item → List ℕ
-items_unbuilt entry late [] = []
-items_unbuilt entry late (x ∷ xs) = item_unbuilt entry late x ++ items_unbuilt entry (is_late late x) xs
+abbrev pub items_nodes : {A : Type 0} → Gathers A → Option (List ℕ) → Bool → List Item → A
+items_nodes g entry late [] = g.none
+items_nodes g entry late (x ∷ xs) = g.both (item_nodes g entry late x) (items_nodes g entry (is_late late x) xs)
 
 -- the program's own node is built
 abbrev pub unbuilt_nodes : List Item → List ℕ
-unbuilt_nodes items = items_unbuilt (first_entry items) false items
+unbuilt_nodes items = items_nodes as_list (first_entry items) false items
+
+abbrev pub first_unbuilt : List Item → Option ℕ
+first_unbuilt items = items_nodes as_first (first_entry items) false items

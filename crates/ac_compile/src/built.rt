@@ -1,64 +1,42 @@
 //! What is built.
 
-ghost use Rattle.std.specs.Prelude.{◌≡◌, [], None, false, slice_get, is_some, IfNone};
+ghost use Rattle.std.specs.Prelude.{◌≡◌, [], None, false, slice_get, IfNone};
 ghost use Rattle.std.specs.Option.{option_map};
 ghost use Rattle.ac_tree.specs.declared.item.Item.TheVariants as i;
-ghost use Rattle.ac_compile.specs.Unbuilt.{name_of, is_built_op, stmt_at, first_entry, is_entry, is_late, unbuilt_nodes};
-ghost use Rattle.ac_compile.specs.Found.{expr_first, links_built, links_first, exprs_first, value_first, stmt_first, body_first, params_first, item_first, items_first};
+ghost use Rattle.ac_compile.specs.Unbuilt.{as_first, node_by, is_place, expr_nodes, exprs_nodes, some_expr, link_nodes, all_of, stmt_nodes, body_nodes, some_stmt, params_nodes, first_entry, is_entry, item_nodes, is_late, items_nodes, unbuilt_nodes};
+ghost use Rattle.std.specs.Prelude.{map};
 
-use ac_base::Name;
-use ac_tree::{BinaryOp, Expr, Function, Item, Link, Param, Stmt};
+use ac_base::{Boxed, Name};
+use ac_tree::{Expr, Function, Item, Link, Param, Stmt};
 use ac_types::Checked;
-
-fn is_built(op: BinaryOp) -> bool
-    ensures { result ≡ is_built_op op }
-{
-    match op {
-        BinaryOp::Add => true,
-        BinaryOp::Sub => true,
-        BinaryOp::Mul => true,
-        _ => false,
-    }
-}
-
-// Whether the operators of links are built.
-fn are_built(links: &[Link]) -> bool
-    ensures { result ≡ links_built links.now }
-{
-    for link in links {
-        if !is_built(link.op) {
-            return false;
-        }
-    }
-    true
-}
 
 // The first node of an expression that is not built.
 #[cycle(expr)]
 fn in_expr(expr: &Expr) -> Option<u32>
-    ensures { result ≡ expr_first expr.now }
+    ensures { result ≡ expr_nodes as_first expr.now }
 {
     match expr {
-        Expr::Number { .. } => None,
-        Expr::Name { .. } => None,
+        Expr::Number { .. } | Expr::Const { .. } | Expr::Name { .. } => None,
+        Expr::Index {
+            at: _,
+            name: _,
+            index,
+        } => in_expr(index.get()),
+        Expr::Group { at: _, inner } => in_expr(inner.get()),
+        Expr::Unary {
+            at: _,
+            op: _,
+            inner,
+        } => in_expr(inner.get()),
         Expr::Chain {
-            at,
+            at: _,
             level: _,
             first,
             rest,
-        } => {
-            if !are_built(rest.as_slice()) {
-                return Some(*at);
-            }
-            match in_expr(first.get()) {
-                Some(at) => Some(at),
-                None => in_links(rest.as_slice()),
-            }
-        }
-        Expr::Const { at, .. } => Some(*at),
-        Expr::Index { at, .. } => Some(*at),
-        Expr::Group { at, .. } => Some(*at),
-        Expr::Unary { at, .. } => Some(*at),
+        } => match in_expr(first.get()) {
+            Some(at) => Some(at),
+            None => in_links(rest.as_slice()),
+        },
         Expr::Call { at, .. } => Some(*at),
         Expr::Send { at, .. } => Some(*at),
         Expr::Recv { at, .. } => Some(*at),
@@ -69,7 +47,7 @@ fn in_expr(expr: &Expr) -> Option<u32>
 
 #[cycle(expr)]
 fn in_links(links: &[Link]) -> Option<u32>
-    ensures { result ≡ links_first links.now }
+    ensures { result ≡ all_of as_first (map (link_nodes as_first) links.now) }
 {
     for link in links {
         if let Some(at) = in_expr(&link.operand) {
@@ -80,7 +58,7 @@ fn in_links(links: &[Link]) -> Option<u32>
 }
 
 fn in_exprs(exprs: &[Expr]) -> Option<u32>
-    ensures { result ≡ exprs_first exprs.now }
+    ensures { result ≡ exprs_nodes as_first exprs.now }
 {
     for expr in exprs {
         if let Some(at) = in_expr(expr) {
@@ -90,8 +68,8 @@ fn in_exprs(exprs: &[Expr]) -> Option<u32>
     None
 }
 
-fn in_value(value: &Option<Expr>) -> Option<u32>
-    ensures { result ≡ value_first value.now }
+fn in_some_expr(value: &Option<Expr>) -> Option<u32>
+    ensures { result ≡ some_expr as_first value.now }
 {
     match value {
         None => None,
@@ -99,71 +77,106 @@ fn in_value(value: &Option<Expr>) -> Option<u32>
     }
 }
 
-fn is_name(expr: &Expr) -> bool
-    ensures { result ≡ is_some (name_of expr.now) }
+fn is_place(expr: &Expr) -> bool
+    ensures { result ≡ is_place expr.now }
 {
     match expr {
-        Expr::Name { .. } => true,
+        Expr::Name { .. } | Expr::Index { .. } => true,
         _ => false,
     }
 }
 
-fn first_byte(stmt: &Stmt) -> u32
-    ensures { result ≡ stmt_at stmt.now }
+// An assignment from that byte on.
+fn in_assign(at: u32, place: &Expr, value: &Expr) -> Option<u32>
+    ensures { result ≡ node_by as_first (is_place place.now) at (as_first.both (expr_nodes as_first place.now) (expr_nodes as_first value.now)) }
 {
-    match stmt {
-        Stmt::Block { at, .. } => *at,
-        Stmt::Empty { at } => *at,
-        Stmt::Int { at, .. } => *at,
-        Stmt::Array { at, .. } => *at,
-        Stmt::Assign { at, .. } => *at,
-        Stmt::Call { at, .. } => *at,
-        Stmt::Print { at, .. } => *at,
-        Stmt::If { at, .. } => *at,
-        Stmt::While { at, .. } => *at,
-        Stmt::For { at, .. } => *at,
-        Stmt::Break { at } => *at,
-        Stmt::Continue { at } => *at,
-        Stmt::Return { at, .. } => *at,
-        Stmt::Do { at, .. } => *at,
-        Stmt::Async { at, .. } => *at,
-        Stmt::Cancel { at, .. } => *at,
-        Stmt::Yield { at } => *at,
+    if !is_place(place) {
+        return Some(at);
+    }
+    match in_expr(place) {
+        Some(at) => Some(at),
+        None => in_expr(value),
     }
 }
 
 // The first node of a statement that is not built.
+#[cycle(stmt)]
 fn in_stmt(stmt: &Stmt) -> Option<u32>
-    ensures { result ≡ stmt_first stmt.now }
+    ensures { result ≡ stmt_nodes as_first stmt.now }
 {
     match stmt {
+        Stmt::Block { at: _, body } => in_body(body.as_slice()),
+        Stmt::Empty { .. } | Stmt::Array { .. } => None,
+        Stmt::Break { .. } | Stmt::Continue { .. } => None,
         Stmt::Int {
             at: _,
             name: _,
             value,
-        } => in_value(value),
-        Stmt::Assign { at, place, value } => {
-            if !is_name(place) {
-                return Some(*at);
+        } => in_some_expr(value),
+        Stmt::Assign { at, place, value } => in_assign(*at, place, value),
+        Stmt::Print {
+            at: _,
+            format: _,
+            args,
+        } => in_exprs(args.as_slice()),
+        Stmt::If {
+            at: _,
+            test,
+            body,
+            other,
+        } => {
+            if let Some(at) = in_expr(test) {
+                return Some(at);
             }
-            match in_expr(place) {
+            match in_stmt(body.get()) {
                 Some(at) => Some(at),
-                None => in_expr(value),
+                None => in_some_stmt(other),
             }
         }
-        Stmt::Print { at, format, args } => {
-            if format.as_slice() == b"%d\n".as_slice() {
-                in_exprs(args.as_slice())
-            } else {
-                Some(*at)
+        Stmt::While { at: _, test, body } => match in_expr(test) {
+            Some(at) => Some(at),
+            None => in_stmt(body.get()),
+        },
+        Stmt::For {
+            at: _,
+            init,
+            test,
+            next,
+            body,
+        } => {
+            if let Some(at) = in_some_stmt(init) {
+                return Some(at);
+            }
+            if let Some(at) = in_some_expr(test) {
+                return Some(at);
+            }
+            match in_some_stmt(next) {
+                Some(at) => Some(at),
+                None => in_stmt(body.get()),
             }
         }
-        _ => Some(first_byte(stmt)),
+        Stmt::Return { at: _, value } => in_some_expr(value),
+        Stmt::Call { at, .. } => Some(*at),
+        Stmt::Do { at, .. } => Some(*at),
+        Stmt::Async { at, .. } => Some(*at),
+        Stmt::Cancel { at, .. } => Some(*at),
+        Stmt::Yield { at } => Some(*at),
     }
 }
 
+#[cycle(stmt)]
+fn in_some_stmt(stmt: &Option<Boxed<Stmt>>) -> Option<u32>
+    ensures { result ≡ some_stmt as_first stmt.now }
+{
+    match stmt {
+        None => None,
+        Some(stmt) => in_stmt(stmt.get()),
+    }
+}
+
+#[cycle(stmt)]
 fn in_body(body: &[Stmt]) -> Option<u32>
-    ensures { result ≡ body_first body.now }
+    ensures { result ≡ body_nodes as_first body.now }
 {
     for stmt in body {
         if let Some(at) = in_stmt(stmt) {
@@ -174,7 +187,7 @@ fn in_body(body: &[Stmt]) -> Option<u32>
 }
 
 fn in_params(params: &[Param]) -> Option<u32>
-    ensures { result ≡ params_first params.now }
+    ensures { result ≡ params_nodes as_first params.now }
 {
     match params {
         [] => None,
@@ -192,7 +205,7 @@ fn is_entry(wanted: Option<&Name>, name: &Name) -> bool
 }
 
 fn in_function(wanted: Option<&Name>, function: &Function) -> Option<u32>
-    ensures { result ≡ item_first (option_map (λ w. w.now) wanted.entry) false (i.Function function.now) }
+    ensures { result ≡ item_nodes as_first (option_map (λ w. w.now) wanted.entry) false (i.Function function.now) }
 {
     if !is_entry(wanted, &function.name) {
         return Some(function.at);
@@ -205,12 +218,12 @@ fn in_function(wanted: Option<&Name>, function: &Function) -> Option<u32>
 
 // The first node of an item that is not built, by the entry of the first core and by whether a core stands before the item.
 fn in_item(wanted: Option<&Name>, late: bool, item: &Item) -> Option<u32>
-    ensures { result ≡ item_first (option_map (λ w. w.now) wanted.entry) late item.now }
+    ensures { result ≡ item_nodes as_first (option_map (λ w. w.now) wanted.entry) late item.now }
 {
     match item {
         Item::Core { at, .. } => { if late { Some(*at) } else { None } }
         Item::Function(function) => in_function(wanted, function),
-        Item::Global { at, .. } => Some(*at),
+        Item::Global { .. } => None,
         Item::Channel { at, .. } => Some(*at),
         Item::File { at, .. } => Some(*at),
     }
@@ -226,7 +239,7 @@ fn is_late(late: bool, item: &Item) -> bool
 }
 
 fn in_items(wanted: Option<&Name>, items: &[Item]) -> Option<u32>
-    ensures { result ≡ items_first (option_map (λ w. w.now) wanted.entry) false items.now }
+    ensures { result ≡ items_nodes as_first (option_map (λ w. w.now) wanted.entry) false items.now }
 {
     let mut late = false;
     for item in items {

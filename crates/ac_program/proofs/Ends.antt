@@ -7,20 +7,20 @@ use Rattle.ac_base.specs.declared.ends.CoreEnd.{CoreEnd}
 use Rattle.ac_base.specs.declared.ends.MachineEnd.{MachineEnd}
 use Rattle.ac_base.specs.declared.entry.Entry.{Entry}
 use Rattle.ac_tree.specs.declared.item.Program.{Program}
-use Rattle.ac_resolve.specs.declared.program.Core.{Core}
+use Rattle.ac_commands.specs.declared.program.Core.{Core}
 use Rattle.ac_resolve.specs.Resolution.{resolved}
-use Rattle.core_state.specs.Moves.{Move, On, Over, EndsAs}
+use Rattle.core_state.specs.Moves.{Move, On, Over, ComesTo}
 use Rattle.stack_code.specs.Parts.{Parts}
 use Rattle.stack_code.specs.Machine.{Flat, FlatEnd, exec, first_flat, Runs}
 use Rattle.core_machine.specs.declared.pause.Pause.{Pause}
 use Rattle.core_machine.specs.declared.pause.Pause.TheVariants as pause
 use Rattle.core_machine.specs.Words.{word_of}
 use Rattle.core_machine.specs.Machine.{Machine, IsRun, IsSeen, IsPaused}
-use Rattle.ac_compile.specs.Translation.{IsCodeOf}
-use Rattle.ac_compile.specs.Same.{IsSame}
+use Rattle.ac_compile.specs.Compiled.{IsCodeOf}
+use Rattle.ac_translation.specs.Same.{IsSame}
 use Rattle.std.proofs.lemmas.List.{length-map}
 use Rattle.ac_program.specs.declared.running.Ended.{Ended}
-use Rattle.ac_program.specs.Run.{HasEnded, IsCoreRun, IsRunOf}
+use Rattle.ac_program.specs.Run.{HasEnded, HaveEnded, IsCoreRun, IsRunOf}
 
 abbrev flat_end : Option CoreEnd → ℕ → FlatEnd
 flat_end core count = record { core = core; count = count }
@@ -32,6 +32,7 @@ record Ends (m : Machine) (end : MachineEnd) : Type 0 where
 
 has_ended : (p : Pause) (word : EndWord) → word ≡ word_of p → HasEnded word
 has_ended pause.Finished word e = rw e tt
+has_ended (pause.Trapped trap) word e = rw e tt
 has_ended pause.OutOfSteps word e = rw e tt
 
 word_seen : (p : Pause) (o : Option CoreEnd) (end : CoreEnd) → o ≡ Some end → IfSome o (λ e. e.word ≡ word_of p) → HasEnded end.word
@@ -42,7 +43,7 @@ ends_at m end p (On f) e r q s = absurd q
 ends_at m end p (Over x) e r q s =
     let same : x ≡ flat_end (Some end.core) end.instructions = ap (λ (c : Option CoreEnd). flat_end c x.count) s.0 ∙ ap (flat_end (Some end.core)) s.1 in
     record {
-      runs = record { function = r.function; begins = r.begins; ends = subst (EndsAs (exec m.code m.bound) (first_flat r.function m.journal)) same (r.goes.0, sym r.goes.1 ∙ e) };
+      runs = record { function = r.function; begins = r.begins; comes = subst (ComesTo (exec m.code m.bound) (first_flat m.code r.function m.journal)) same (r.goes.0, sym e ∙ r.goes.1) };
       ended = word_seen p x.core end.core s.0 q;
     }
 
@@ -55,13 +56,17 @@ all_one : {A : Type 0} (P : A → Type 0) (x : A) → P x → All P (x ∷ [])
 all_one P x p zero d lt = p
 all_one P x p (suc k) d lt = absurd (omega arith)
 
+-- and it has ended
+pub only_ended : (m : Machine) (end : MachineEnd) (p : Pause) → IsRun m → IsPaused m.state p → IsSeen m.state end → (cores : List MachineEnd) → cores ≡ end ∷ [] → HaveEnded cores
+only_ended m end p r q s cores c = rw c (all_one (λ e. HasEnded e.core.word) end (ends m end p r q s).ended)
+
 abbrev entries_of : Log → List Entry
 entries_of j = j.entries
 
 runs_as : (code code' : Parts) (core core' bound bound' : ℕ) (journal journal' : List Entry) (x : FlatEnd) → code ≡ code' → core ≡ core' → bound ≡ bound' → journal ≡ journal' → Runs code core bound journal x → Runs code' core' bound' journal' x
 runs_as code code' core core' bound bound' journal journal' x c k b j r = rw (← c, ← k, ← b, ← j) r
 
-module _ (program : Program) (code : Parts) (is_code : IsCodeOf program code) (is_same : IsSame code program) (only : length code.entries ≡ 1) (steps : ℕ) (m : Machine) (end : MachineEnd) (p : Pause) (core_log worker_log : Log)
+module _ (program : Program) (code : Parts) (is_code : IsCodeOf program code) (is_same : IsSame code (resolved program)) (only : length code.entries ≡ 1) (steps : ℕ) (m : Machine) (end : MachineEnd) (p : Pause) (core_log worker_log : Log)
     (code_is : m.code ≡ code) (core_is : m.core ≡ 0) (bound_is : m.bound ≡ steps) (run : IsRun m) (paused : IsPaused m.state p) (seen : IsSeen m.state end)
     (logged : core_log.entries ≡ m.journal) (none : m.journal ≡ []) (worker : worker_log.entries ≡ []) where
   over : Ends m end

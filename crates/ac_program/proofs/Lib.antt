@@ -7,3 +7,4 @@ pub mod Reasons
 pub mod Refusals
 pub mod Scans
 pub mod Streams
+pub mod Examples

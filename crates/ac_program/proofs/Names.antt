@@ -2,13 +2,10 @@
 use Rattle.std.proofs.Common.{◌≡◌, ℕ, List, [], length, sym, ap, ◌∙◌}
 use Rattle.std.proofs.lemmas.List.{length-map}
 use Rattle.ac_tree.specs.declared.item.Program.{Program}
-use Rattle.ac_resolve.specs.declared.program.Core.{Core}
+use Rattle.ac_commands.specs.declared.program.Core.{Core}
 use Rattle.ac_resolve.specs.Resolution.{resolved}
 use Rattle.stack_code.specs.Parts.{Parts}
-use Rattle.ac_types.specs.Reached.{BreaksNone}
-use Rattle.ac_compile.specs.Unbuilt.{unbuilt_nodes}
-use Rattle.ac_compile.specs.Translation.{IsCodeOf}
-use Rattle.ac_compile.proofs.Forms.{one_core}
+use Rattle.ac_compile.specs.Compiled.{IsCodeOf}
 use Rattle.ac_program.specs.declared.running.Ended.{Ended}
 use Rattle.ac_program.specs.Run.{IsRunOf}
 use Rattle.ac_program.specs.Source.{names_of}
@@ -21,6 +18,3 @@ names_are program code h = ap (λ (c : Parts). c.names) h
 
 pub as_many : (program : Program) (code : Parts) (bound : ℕ) (ended : Ended) → IsCodeOf program code → IsRunOf program bound [] ended → length code.names ≡ length ended.cores
 as_many program code bound ended h r = ap (λ (c : Parts). length c.names) h ∙ length-map (resolved program).cores name_in ∙ sym r.every_core
-
-pub one_entry : (program : Program) (code : Parts) → IsCodeOf program code → BreaksNone program.items → unbuilt_nodes program.items ≡ [] → length code.entries ≡ 1
-one_entry program code h b u = ap (λ (c : Parts). length c.entries) h ∙ length-map (resolved program).cores (λ (core : Core). core.entry) ∙ one_core program b u

@@ -1,6 +1,10 @@
 -- From what is due to why it is.
-use Rattle.std.proofs.Common.{◌≢◌, ◌≡◌, ℕ, ◌+◌, ◌<◌, ◌≤◌, ◌↔◌, ◌⊎◌, inl, inr, Bool, true, false, List, length, Option, None, Some, refl, sym, ap, ◌∙◌, subst, arith, length-append, if◌then◌else◌}
+use Rattle.std.proofs.Common.{◌≢◌, ◌≡◌, ℕ, suc, ◌+◌, ◌<◌, ◌≤◌, ◌↔◌, ◌⊎◌, inl, inr, Bool, true, false, List, [], ◌∷◌, length}
+use Rattle.std.proofs.Common.{Option, None, Some, refl, sym, ap, ◌∙◌, subst, arith, length-append, if◌then◌else◌}
 use Rattle.ac_base.specs.Report.{any_ends, is_trapped, is_out_of_steps, is_stalled}
+use Rattle.ac_base.specs.declared.ends.EndWord.{EndWord}
+use Rattle.ac_base.specs.declared.ends.EndWord.TheVariants.{Finished, Trapped, OutOfSteps, Stalled}
+use Rattle.ac_base.specs.declared.ends.MachineEnd.{MachineEnd}
 use Rattle.ac_tree.specs.declared.item.Program.{Program}
 use Rattle.ac_program.specs.declared.refusal.Refusal.{Refusal}
 use Rattle.ac_program.specs.declared.refusal.Refusal.TheVariants as r
@@ -8,6 +12,7 @@ use Rattle.ac_program.specs.Lines.{refusal_status}
 use Rattle.ac_program.specs.declared.running.Ended.{Ended}
 use Rattle.ac_program.specs.declared.execute.Done.{Done}
 use Rattle.ac_program.specs.Words.{IsRun}
+use Rattle.ac_program.specs.Run.{HasEnded, HaveEnded}
 use Rattle.ac_program.specs.Reading.{Gave, TookBytes}
 use Rattle.ac_program.specs.Source.{IsRunnable, Refuses}
 use Rattle.ac_program.proofs.Refusals.{refused_once, refused_not}
@@ -26,6 +31,28 @@ chosen false false false = inl refl
 
 done_status : (bytes : List ℕ) (bound status : ℕ) (done : Done) → status ≡ done.status.number → IsDone bytes bound done → IsOfCores status
 done_status bytes bound status done e d = subst IsOfCores (sym (e ∙ d.status)) (chosen (any_ends is_trapped done.ended.cores) (any_ends is_out_of_steps done.ended.cores) (any_ends is_stalled done.ended.cores))
+
+-- no core waits for ever
+not_stalled : (word : EndWord) → HasEnded word → is_stalled word ≡ false
+not_stalled Finished h = refl
+not_stalled (Trapped trap) h = refl
+not_stalled OutOfSteps h = refl
+not_stalled Stalled h = absurd h
+
+none_stalled : (ends : List MachineEnd) → HaveEnded ends → any_ends is_stalled ends ≡ false
+none_stalled [] h = refl
+none_stalled (x ∷ xs) h = rw (not_stalled x.core.word (h 0 x (omega arith)), none_stalled xs (λ k d lt. h (suc k) d (omega (arith, lt))))
+
+five : (status : ℕ) (trapped out stalled : Bool) → stalled ≡ false → status ≡ (if trapped then 4 else (if out then 6 else (if stalled then 5 else 0))) → status ≢ 5
+five status true out stalled e h is = omega (arith, h, is)
+five status false true stalled e h is = omega (arith, h, is)
+five status false false true e h is = cc
+five status false false false e h is = omega (arith, h, is)
+
+done_not_stalled : (bytes : List ℕ) (bound status : ℕ) (done : Done) → status ≡ done.status.number → IsDone bytes bound done → status ≢ 5
+done_not_stalled bytes bound status done e d =
+    let ends = done.ended.cores in
+    five status (any_ends is_trapped ends) (any_ends is_out_of_steps ends) (any_ends is_stalled ends) (none_stalled ends d.ends) (e ∙ d.status)
 
 small : (status : ℕ) → IsOfCores status → status ≤ 6
 small status (inl e) = omega (arith, e)
@@ -126,6 +153,12 @@ module _ (words : List (List ℕ)) (file : List ℕ) (bound : ℕ) (seen : Seen)
   reported_as (source bytes w g l (refused x n t r k)) h = absurd (apart (refusal_status x) (of_refusal x) (subst IsOfCores n h))
   reported_as (source bytes w g l (ran done n t r d)) h = record { steps = bound; source = bytes; read = has_read bytes w g l; program = d.program; is_runnable = d.is_runnable; ended = done.ended; kept = r; is_run = d.is_run; status_is = n ∙ d.status }
 
+  stalled_never : IsDueOfFile file bound seen status text run → status ≢ 5
+  stalled_never (library_fault n t r o f) e = omega (arith, n, e)
+  stalled_never (too_long n t r w took) e = omega (arith, n, e)
+  stalled_never (source bytes w g l (refused x n t r k)) e = apart (refusal_status x) (of_refusal x) (inr (inr (inl (sym n ∙ e))))
+  stalled_never (source bytes w g l (ran done n t r d)) e = done_not_stalled bytes bound status done n d e
+
 module _ (words : List (List ℕ)) (file : List ℕ) (bound : ℕ) (seen : Seen) (status : ℕ) (run : Option Ended) (held held_after : Option (List ℕ)) (is_run : IsRun words file bound)
     (whole : status ≢ 8 → status ≢ 11 → TookWhole (IsDueOfFile file bound seen) status run held held_after) where
   pub is_refused : (number : ℕ) → IsOfRefusal number → number ≢ 10 → status ≡ number → IsRefused number words seen
@@ -138,6 +171,9 @@ module _ (words : List (List ℕ)) (file : List ℕ) (bound : ℕ) (seen : Seen)
 
   pub is_reported : IsOfCores status → IsReported words seen status run
   is_reported is = let w = whole (λ e. not_above status 8 is e (omega arith)) (λ e. not_above status 11 is e (omega arith)) in reported_as words file bound seen status w.text run is_run w.due is
+
+  pub never_stalled : status ≢ 5
+  never_stalled is = let w = whole (λ e. omega (arith, e, is)) (λ e. omega (arith, e, is)) in stalled_never words file bound seen status w.text run is_run w.due is
 
 -- ---- what the text decides, where it is told
 

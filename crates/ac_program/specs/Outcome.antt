@@ -13,7 +13,7 @@ use Rattle.ac_program.specs.Words.{IsRun}
 use Rattle.ac_program.specs.Reading.{Gave, TookBytes}
 use Rattle.ac_program.specs.Writing.{TookFront}
 use Rattle.ac_program.specs.Source.{IsRunnable, Refuses, Stops, names_of}
-use Rattle.ac_program.specs.Run.{IsRunOf}
+use Rattle.ac_program.specs.Run.{HaveEnded, IsRunOf}
 use Rattle.ac_program.specs.Lines.{usage_line, library_line, limit_source_line, refusal_line, refusal_status}
 
 -- what is made of a source that nothing refuses: the run of its program with this bound on steps, and the report and the status of that very run
@@ -21,6 +21,8 @@ pub record IsDone (source : List ℕ) (bound : ℕ) (done : Done) : Type 0 where
   pub program : Program
   pub is_runnable : IsRunnable source bound program
   pub is_run : IsRunOf program bound [] done.ended
+  -- a program that is run today has no operation, on which a core could wait
+  pub ends : HaveEnded done.ended.cores
   pub report : done.report ≡ report_of (names_of program) done.ended.cores
   pub status : done.status.number ≡ status_of done.ended.cores
 

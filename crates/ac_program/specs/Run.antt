@@ -8,14 +8,14 @@ use Rattle.ac_tree.specs.declared.item.Program.{Program}
 use Rattle.ac_resolve.specs.Resolution.{resolved}
 use Rattle.ac_semantics.specs.Replay.{Replays}
 use Rattle.stack_code.specs.Machine.{Runs}
-use Rattle.ac_compile.specs.Translation.{code_of}
+use Rattle.ac_translation.specs.Translation.{code_of}
 use Rattle.ac_program.specs.declared.running.Ended.{Ended}
 use Rattle.ac_program.specs.History.{Stamped, merged, IsLegal}
 
 -- what the source and the code of the program say of a core under its journal: just this end
 pub record IsCoreRun (program : Program) (core bound : ℕ) (journal : Log) (end : MachineEnd) : Type 0 where
   pub code : Runs (code_of (resolved program)) core bound journal.entries (record { core = Some end.core; count = end.instructions })
-  pub source : Replays program core bound journal.entries (Some end.core)
+  pub source : Replays (resolved program) core bound journal.entries (Some end.core)
 
 -- each core, from this one on, has come to its end under its journal; the last journal is that of the worker
 abbrev pub AreCoreRuns : Program → ℕ → ℕ → List Log → List MachineEnd → Type 0
@@ -28,6 +28,10 @@ HasEnded Finished = Unit {0}
 HasEnded (Trapped trap) = Unit {0}
 HasEnded OutOfSteps = Unit {0}
 HasEnded Stalled = ⊥
+
+-- each core has ended, and none waits for ever
+abbrev pub HaveEnded : List MachineEnd → Type 0
+HaveEnded ends = All (λ end. HasEnded end.core.word) ends
 
 -- Every core has ended or is idle, and nothing can arrive. No program of this language has a link on which something could.
 pub record IsQuiet (ends : List MachineEnd) (history : List Stamped) : Type 0 where

@@ -11,14 +11,15 @@ use Rattle.ac_types.specs.declared.rule.Rule.{Rule}
 use Rattle.ac_types.specs.Reached.{BreaksNone, IsLeastBroken}
 use Rattle.ac_types.specs.Verdicts.{core_names}
 use Rattle.ac_resolve.specs.Resolution.{resolved}
-use Rattle.ac_compile.specs.Translation.{IsCodeOf}
-use Rattle.ac_compile.specs.Same.{IsSame}
+use Rattle.ac_compile.specs.Compiled.{IsCodeOf}
+use Rattle.ac_translation.specs.Same.{IsSame}
 use Rattle.ac_compile.specs.Unbuilt.{unbuilt_nodes}
 use Rattle.ac_program.specs.declared.refusal.Refusal.{Refusal}
 use Rattle.ac_program.specs.declared.refusal.Refusal.TheVariants as r
 use Rattle.ac_program.specs.declared.refusal.Stop.{Stop}
 use Rattle.ac_program.specs.declared.refusal.Stop.TheVariants as s
 use Rattle.stack_code.specs.Parts.{Parts}
+use Rattle.stack_code.specs.Sequential.{IsSequential}
 
 -- ---- tokens
 
@@ -137,7 +138,9 @@ pub record IsBuilt (source : List ℕ) (bound : ℕ) (code : Parts) : Type 0 whe
   pub program : Program
   pub is_runnable : IsRunnable source bound program
   pub is_code : IsCodeOf program code
-  pub is_same : IsSame code program
+  pub is_same : IsSame code (resolved program)
+  pub one_core : length code.entries ≡ 1
+  pub sequential : IsSequential code
 
 abbrev pub GivesCode : List ℕ → ℕ → Result Parts Stop → Type 0
 GivesCode source bound (Ok code) = IsBuilt source bound code

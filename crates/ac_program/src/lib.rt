@@ -36,18 +36,19 @@ use words::read_words;
 /// runs its program with the bound on steps that they give, and writes the report to the sink.
 ///
 /// The statuses are 0 with the report where every core finished; 6 with the report where a core was
-/// out of steps, and 4 and 5 where one trapped or stalled. The others come with a line, by the
-/// first refusal in this order: 1 with the usage line where the words are not `run`, one FILE and
-/// at most one bound from 1 to 2,000,000; 7 with `library fault` where a call of the library
-/// failed; 10 with `limit: source` where the text is longer than 1,048,576 bytes; 2 with `bad byte
-/// at B`, `number too large at B`, `open comment at B` or `open text at B` for the first lexical
-/// fault, and with `unexpected token at B` for the first token with which no program goes on; 10
-/// with `limit: nesting at B` for the first token that is more than 256 deep; 3 with `rule Cn at B`
-/// for the least broken rule, by node and then by number; 10 with `limit: steps` where the cores
-/// together may go more than 4,000,000 steps; 15 with `not built at B` for the first node, in
-/// preorder, of a form that is not built. B is a place in bytes from 0. The status is 8 where the
-/// sink failed, which has then taken a front of the text, and 11 where memory was refused, and
-/// nothing is written.
+/// out of steps, and 4 where one trapped. Status 5 stands for a core that waits for ever, which
+/// comes only with channels and files, and no program that runs today has them. The others come
+/// with a line, by the first refusal in this order: 1 with the usage line where the words are not
+/// `run`, one FILE and at most one bound from 1 to 2,000,000; 7 with `library fault` where a call
+/// of the library failed; 10 with `limit: source` where the text is longer than 1,048,576 bytes; 2
+/// with `bad byte at B`, `number too large at B`, `open comment at B` or `open text at B` for the
+/// first lexical fault, and with `unexpected token at B` for the first token with which no program
+/// goes on; 10 with `limit: nesting at B` for the first token that is more than 256 deep; 3 with
+/// `rule Cn at B` for the least broken rule, by node and then by number; 10 with `limit: steps`
+/// where the cores together may go more than 4,000,000 steps; 15 with `not built at B` for the
+/// first node, in preorder, of a form that is not built. B is a place in bytes from 0. The status
+/// is 8 where the sink failed, which has then taken a front of the text, and 11 where memory was
+/// refused, and nothing is written.
 pub fn ac_main<L: Library, K: Sink>(
     alloc: Global,
     words: &[String],
@@ -98,6 +99,10 @@ pub fn ac_main<L: Library, K: Sink>(
         IsReported (map string_bytes words.now)
         (record { text_at = L.text_at library.old; left_after = L.left library.new; opens = L.opens library.old; opens_after = L.opens library.new; faults = L.faults library.old; faults_after = L.faults library.new })
         result.status.number result.run }
+
+    // No core of a program that runs today can wait for ever: only a channel or a file makes a core
+    // wait, and neither is built. So no core is stalled, for which status 5 stands.
+    ensures no_stall { result.status.number ≢ 5 }
 
     // What the text decides, where the library tells it.
     ensures only_misspelled { (file text : List ℕ) (steps : ℕ) → IsRun (map string_bytes words.now) file steps → L.text_at library.old file ≡ Some text →

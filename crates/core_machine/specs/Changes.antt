@@ -1,7 +1,7 @@
 -- What an instruction changes of a running core.
 use Rattle.std.specs.Prelude.{◌≡◌, Some}
 use Rattle.stack_code.specs.declared.instr.Instr.{Instr}
-use Rattle.stack_code.specs.Machine.{begin}
+use Rattle.stack_code.specs.Machine.{begin, first_item}
 use Rattle.core_machine.specs.declared.running.Running.{Running}
 use Rattle.core_machine.specs.State.{flat_of, state_of}
 
@@ -14,11 +14,9 @@ pub record Keeps (before after : Running) : Type 0 where
 
 -- the core has done this instruction
 abbrev pub Does : Running → Instr → Running → Type 0
-Does before instr after = state_of after ≡ begin before.code.now before.bound (flat_of before) (Some instr)
+Does before instr after = state_of after ≡ begin before.code.now before.bound (flat_of before) first_item (Some instr)
 
 -- nothing has changed that the code's meaning sees
 pub record Stays (before after : Running) : Type 0 where
   pub flat : flat_of after ≡ flat_of before
-  pub depth : after.operands.items ≡ before.operands.items
-  pub slots : after.slots.items ≡ before.slots.items
   pub ended : after.ended ≡ before.ended

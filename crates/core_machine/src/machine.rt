@@ -1,11 +1,14 @@
 //! The machine that callers see.
 
+use crate::beginning::{make_first, set_starts};
+use crate::operands::Operands;
 use crate::pause::{Pause, end_word};
 use crate::running::Running;
 use ac_base::{CoreEnd, EndWord, Journal, List, MachineEnd, NoMemory};
 use stack_code::Code;
 use std::alloc::Global;
 use std::marker::Model;
+use work_item::{FrameId, Frames};
 
 /// A core that runs a code.
 ///
@@ -32,17 +35,24 @@ impl<'a> CoreMachine<'a> {
     ghost use Rattle.std.specs.Prelude.{◌≡◌, ◌<◌, [], length, IfOk};
     ghost use Rattle.core_state.specs.Moves.{On, GoesOn};
     ghost use Rattle.stack_code.specs.Machine.{exec};
+    ghost use Rattle.stack_code.specs.Sequential.{IsSequential};
     ghost use Rattle.core_machine.specs.Machine.{IsFirst, IsRun, IsSameCore, IsSeen, IsPaused};
 
-    /// A core of the code before its first instruction, with a bound on its steps.
-    /// It takes the memory of its first frame and answers `NoMemory` where there is none.
+    /// A core of the code before its first instruction, with a bound on its steps. Where there is
+    /// no room for its frame it has ended.
+    ///
+    /// It takes the memory of its globals and its frame, and answers `NoMemory` where there is none.
+    ///
+    /// Conditions: the code has so many cores, and it has one function, one thread and no
+    /// operations.
     pub fn new(
         alloc: Global,
         code: &'a Code,
         core: u32,
         steps: u64,
     ) -> Result<CoreMachine<'a>, NoMemory>
-        requires { core < length code.now.entries }
+        requires core { core < length code.now.entries }
+        requires sequential { IsSequential code.now }
         ensures code { IfOk result (λ m. m.code ≡ code.now) }
         ensures core { IfOk result (λ m. m.core ≡ core) }
         ensures bound { IfOk result (λ m. m.bound ≡ steps) }
@@ -51,20 +61,23 @@ impl<'a> CoreMachine<'a> {
         ensures run { IfOk result IsRun }
     {
         let entered = code.begin(core);
-        let slots = vec![in alloc; 0; entered.slots as usize]?;
+        let mut frames = Frames::new(alloc, code.globals())?;
+        set_starts(&mut frames, code.starts());
+        let ended = make_first(&mut frames, entered.words)?;
         Ok(CoreMachine {
             running: Running {
                 code,
                 core,
                 bound: steps,
                 journal: Journal::new(alloc),
+                frames,
+                frame: FrameId { number: 0 },
                 place: entered.at as usize,
-                slots,
-                operands: Vec::new(alloc),
+                operands: Operands::new(alloc),
                 steps: 0,
                 output: Vec::new(alloc),
                 count: 0,
-                ended: None,
+                ended,
                 alloc,
             },
         })
@@ -106,12 +119,13 @@ impl<'a> CoreMachine<'a> {
             None => EndWord::Stalled,
         };
         let output = Vec::from_slice(alloc, running.output.as_slice())?;
+        let globals = Vec::from_slice(alloc, running.frames.globals())?;
         Ok(MachineEnd {
             core: CoreEnd {
                 word,
                 steps: running.steps,
                 output: List::from_vec(output),
-                globals: List::new(alloc),
+                globals: List::from_vec(globals),
                 waiting: List::new(alloc),
                 idle: false,
             },

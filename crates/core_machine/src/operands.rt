@@ -1,45 +1,130 @@
-//! The operands of a thread, the last one on top.
+//! The operands of a thread.
 
-ghost use Rattle.std.specs.Prelude.{◌≡◌, ◌+◌, ◌-◌, ◌<◌, ◌≤◌, [], ◌∷◌, ◌++◌, OnOk, OnErr, reverse, length, take, drop, vec_len, vec_capacity};
+ghost use Rattle.std.specs.Prelude.{◌≡◌, ◌≤◌, true, [], ◌∷◌, OnOk, OnErr, length, reverse, take, drop};
+ghost use Rattle.work_item.specs.declared.cell.Cell.{Cell};
+ghost use Rattle.core_machine.specs.Kinds.{is_int, is_reference, on_top};
 
 use ac_base::NoMemory;
+use std::alloc::Global;
+use std::marker::Model;
+use work_item::{Cell, Place};
 
-/// Puts a value on top. After want of memory the operands are as before.
-pub fn push(operands: &mut Vec<i64>, value: i64) -> Result<(), NoMemory>
-    ensures ok { OnOk result (reverse operands.new.items ≡ value ∷ reverse operands.old.items) }
-    ensures err { OnErr result (operands.new.items ≡ operands.old.items) }
-{
-    operands.push(value)?;
-    Ok(())
+/// The operands of a thread.
+///
+/// Contracts see them from the topmost one downwards.
+#[derive(Drop)]
+pub struct Operands {
+    cells: Vec<Cell>,
 }
 
-/// Takes the topmost.
-pub fn pop(operands: &mut Vec<i64>) -> i64
-    requires { 1 ≤ vec_len operands.old }
-    ensures { reverse operands.old.items ≡ result ∷ reverse operands.new.items }
-{
-    let Some(value) = operands.pop() else {
-        unreachable!()
-    };
-    value
+impl Model for Operands {
+    ghost use Rattle.std.specs.Prelude.{List, reverse};
+    ghost use Rattle.work_item.specs.declared.cell.Cell.{Cell};
+
+    ghost Value = { List Cell };
+
+    ghost view = { λ it. reverse it.cells.items };
 }
 
-/// Takes the two topmost, left and right, and puts a value in their place.
-pub fn pop_two(operands: &mut Vec<i64>) -> (i64, i64)
-    requires { 2 ≤ vec_len operands.old }
-    ensures two { reverse operands.old.items ≡ result.1 ∷ result.0 ∷ reverse operands.new.items }
-    ensures room { vec_len operands.new < vec_capacity operands.new }
-{
-    let (Some(right), Some(left)) = (operands.pop(), operands.pop()) else {
-        unreachable!()
-    };
-    (left, right)
-}
+impl Operands {
+    /// No operands.
+    pub fn new(alloc: Global) -> Operands
+        ensures { result ≡ [] }
+    {
+        Operands {
+            cells: Vec::new(alloc),
+        }
+    }
 
-/// Puts a value on top where there is room for it.
-pub fn push_in_room(operands: &mut Vec<i64>, value: i64)
-    requires { vec_len operands.old < vec_capacity operands.old }
-    ensures { reverse operands.new.items ≡ value ∷ reverse operands.old.items }
-{
-    operands.push_reserved(value);
+    /// Puts one on top. After want of memory they are as before.
+    pub fn push(&mut self, cell: Cell) -> Result<(), NoMemory>
+        ensures ok { OnOk result (self.new ≡ cell ∷ self.old) }
+        ensures err { OnErr result (self.new ≡ self.old) }
+    {
+        self.cells.push(cell)?;
+        Ok(())
+    }
+
+    /// Takes the topmost.
+    pub fn pop(&mut self) -> Cell
+        requires { 1 ≤ length self.old }
+        ensures { self.old ≡ result ∷ self.new }
+    {
+        match self.cells.pop() {
+            Some(cell) => cell,
+            None => unreachable!(),
+        }
+    }
+
+    /// Takes the topmost, which is an int.
+    pub fn pop_int(&mut self) -> i64
+        requires { on_top is_int self.old ≡ true }
+        ensures items { self.old ≡ Cell.Int result ∷ self.new }
+        ensures rest { self.new ≡ drop 1 self.old }
+    {
+        match self.pop() {
+            Cell::Int(value) => value,
+            _ => unreachable!(),
+        }
+    }
+
+    /// Takes the topmost, which is a reference.
+    pub fn pop_place(&mut self) -> Place
+        requires { on_top is_reference self.old ≡ true }
+        ensures items { self.old ≡ Cell.Array result ∷ self.new }
+        ensures rest { self.new ≡ drop 1 self.old }
+    {
+        match self.pop() {
+            Cell::Array(place) => place,
+            _ => unreachable!(),
+        }
+    }
+
+    /// The topmost, which is an int.
+    pub fn top_int(&self) -> i64
+        requires { on_top is_int self.now ≡ true }
+        ensures { self.now ≡ Cell.Int result ∷ drop 1 self.now }
+    {
+        match self.cells[self.cells.len() - 1] {
+            Cell::Int(value) => value,
+            _ => unreachable!(),
+        }
+    }
+
+    /// The topmost, which is a reference.
+    pub fn top_place(&self) -> Place
+        requires { on_top is_reference self.now ≡ true }
+        ensures { self.now ≡ Cell.Array result ∷ drop 1 self.now }
+    {
+        match self.cells[self.cells.len() - 1] {
+            Cell::Array(place) => place,
+            _ => unreachable!(),
+        }
+    }
+
+    /// Puts another in the place of the topmost. It takes no memory.
+    pub fn replace(&mut self, cell: Cell)
+        requires { 1 ≤ length self.old }
+        ensures { self.new ≡ cell ∷ drop 1 self.old }
+    {
+        let _ = self.cells.pop();
+        self.cells.push_reserved(cell);
+    }
+
+    /// So many from the top, the topmost last.
+    pub fn top(&self, count: u32) -> &[Cell]
+        requires { count ≤ length self.now }
+        ensures { result.now ≡ reverse (take count self.now) }
+    {
+        &self.cells[self.cells.len() - count as usize..]
+    }
+
+    /// Takes so many away.
+    pub fn discard(&mut self, count: u32)
+        requires { count ≤ length self.old }
+        ensures { self.new ≡ drop count self.old }
+    {
+        let below = self.cells.len() - count as usize;
+        self.cells.truncate(below);
+    }
 }

@@ -1,26 +1,27 @@
 //! A core that runs, instruction after instruction.
 
-ghost use Rattle.std.specs.Prelude.{◌≡◌, ◌<◌, length, slice_set};
-ghost use Rattle.core_state.specs.Shared.{slot_value};
+ghost use Rattle.std.specs.Prelude.{◌≡◌};
 
-use crate::format::add_formatted;
-use crate::operands;
+use crate::operands::Operands;
 use crate::pause::Pause;
-use ac_base::{Journal, NoMemory};
-use stack_code::{Code, Instr};
+use ac_base::{Journal, NoMemory, Trap};
+use stack_code::Code;
 use std::alloc::Global;
+use work_item::{FrameId, Frames};
 
-/// The fields of a core that runs: where it stands, the slots of its frame, its operands, the steps
-/// that it has used, the bytes that it has printed, the instructions begun, and how it has ended.
+/// The fields of a core that runs: its globals and frames, the frame, the address and the operands
+/// of its thread, the steps that it has used, the bytes that it has printed, the instructions
+/// begun, and how it has ended.
 #[derive(Drop)]
 pub struct Running<'a> {
     pub code: &'a Code,
     pub core: u32,
     pub bound: u64,
     pub journal: Journal,
+    pub frames: Frames,
+    pub frame: FrameId,
     pub place: usize,
-    pub slots: Vec<i64>,
-    pub operands: Vec<i64>,
+    pub operands: Operands,
     pub steps: u64,
     pub output: Vec<u8>,
     pub count: u64,
@@ -28,40 +29,41 @@ pub struct Running<'a> {
     pub alloc: Global,
 }
 
-fn value_in(slots: &[i64], slot: u32) -> i64
-    requires { slot < length slots.now }
-    ensures { result ≡ slot_value slots.now slot }
-{
-    slots[slot as usize]
-}
-
-fn set_value(slots: &mut Vec<i64>, slot: u32, value: i64)
-    requires { slot < length slots.old.items }
-    ensures { slots.new.items ≡ slice_set slots.old.items slot value }
-{
-    slots[slot as usize] = value;
-}
-
 impl Running<'_> {
-    ghost use Rattle.std.specs.Prelude.{◌≡◌, None, Some, ◌+◌, ◌-◌, ◌≤◌, ◌<◌, ◌^◌, min, length, vec_len, OnOk, OnErr, IfOk, IsSome, slice_get};
-    ghost use Rattle.stack_code.specs.Machine.{begin, exec};
-    ghost use Rattle.stack_code.specs.Valid.{effect, IsValid};
-    ghost use Rattle.core_state.specs.Moves.{GoesOn};
-    ghost use Rattle.core_machine.specs.State.{flat_of, state_of, left_of, IsSound};
-    ghost use Rattle.core_machine.specs.Changes.{Keeps, Does, Stays};
+    ghost use Rattle.std.specs.Prelude.{◌≡◌, true, None, Some, ◌+◌, ◌-◌, ◌≤◌, ◌<◌, ◌^◌, min, length};
+    ghost use Rattle.stack_code.specs.declared.instr.Instr.{Instr};
+    ghost use Rattle.core_machine.specs.declared.pause.Pause.{Pause};
+    ghost use Rattle.core_machine.specs.Kinds.{is_int, on_top};
+    ghost use Rattle.core_machine.specs.Changes.{Keeps, Does};
 
-    // One instruction more, and on to the next address.
-    fn go_on(&mut self)
-        requires { self.old.place < 2 ^ 63 }
-        ensures { self.new ≡ record self.old { place = self.old.place + 1; count = min (self.old.count + 1) (2 ^ 64 - 1) } }
+    /// One instruction more, and on to that address.
+    pub fn go_to(&mut self, place: usize)
+        ensures { self.new ≡ record self.old { place = place; count = min (self.old.count + 1) (2 ^ 64 - 1) } }
     {
-        self.place += 1;
+        self.place = place;
         self.count = self.count.saturating_add(1);
     }
 
-    fn step(&mut self)
+    /// One instruction more, and on to the next address.
+    pub fn go_on(&mut self)
+        requires { self.old.place < 2 ^ 32 }
+        ensures { self.new ≡ record self.old { place = self.old.place + 1; count = min (self.old.count + 1) (2 ^ 64 - 1) } }
+    {
+        self.go_to(self.place + 1);
+    }
+
+    /// One instruction more, by which the core has ended.
+    pub fn end(&mut self, pause: Pause)
+        ensures { self.new ≡ record self.old { count = min (self.old.count + 1) (2 ^ 64 - 1); ended = Some pause } }
+    {
+        self.count = self.count.saturating_add(1);
+        self.ended = Some(pause);
+    }
+
+    /// Uses a step.
+    pub fn step(&mut self)
         requires running { self.old.ended ≡ None }
-        requires inside { self.old.place < 2 ^ 63 }
+        requires inside { self.old.place < 2 ^ 32 }
         ensures does { Does self.old Instr.Step self.new }
         ensures keeps { Keeps self.old self.new }
     {
@@ -73,171 +75,65 @@ impl Running<'_> {
         self.go_on();
     }
 
-    fn push(&mut self, value: i64) -> Result<(), NoMemory>
+    /// Drops an operand.
+    pub fn drop_one(&mut self)
         requires running { self.old.ended ≡ None }
-        requires inside { self.old.place < 2 ^ 63 }
-        ensures ok { OnOk result (Does self.old (Instr.Push value) self.new) }
-        ensures err { OnErr result (Stays self.old self.new) }
+        requires inside { self.old.place < 2 ^ 32 }
+        requires one { 1 ≤ length self.old.operands }
+        ensures does { Does self.old Instr.Drop self.new }
         ensures keeps { Keeps self.old self.new }
     {
-        operands::push(&mut self.operands, value)?;
-        self.go_on();
-        Ok(())
-    }
-
-    fn load(&mut self, slot: u32) -> Result<(), NoMemory>
-        requires running { self.old.ended ≡ None }
-        requires inside { self.old.place < 2 ^ 63 }
-        requires slot { slot < length self.old.slots.items }
-        ensures ok { OnOk result (Does self.old (Instr.Load slot) self.new) }
-        ensures err { OnErr result (Stays self.old self.new) }
-        ensures keeps { Keeps self.old self.new }
-    {
-        let value = value_in(self.slots.as_slice(), slot);
-        operands::push(&mut self.operands, value)?;
-        self.go_on();
-        Ok(())
-    }
-
-    fn store(&mut self, slot: u32)
-        requires running { self.old.ended ≡ None }
-        requires inside { self.old.place < 2 ^ 63 }
-        requires slot { slot < length self.old.slots.items }
-        requires one { 1 ≤ vec_len self.old.operands }
-        ensures does { Does self.old (Instr.Store slot) self.new }
-        ensures keeps { Keeps self.old self.new }
-    {
-        let value = operands::pop(&mut self.operands);
-        set_value(&mut self.slots, slot, value);
+        let _ = self.operands.pop();
         self.go_on();
     }
 
-    fn add(&mut self)
+    /// Goes to an address.
+    pub fn jump(&mut self, to: u32)
         requires running { self.old.ended ≡ None }
-        requires inside { self.old.place < 2 ^ 63 }
-        requires two { 2 ≤ vec_len self.old.operands }
-        ensures does { Does self.old Instr.Add self.new }
+        ensures does { Does self.old (Instr.Jump to) self.new }
         ensures keeps { Keeps self.old self.new }
     {
-        let (left, right) = operands::pop_two(&mut self.operands);
-        operands::push_in_room(&mut self.operands, left.wrapping_add(right));
-        self.go_on();
+        self.go_to(to as usize);
     }
 
-    fn sub(&mut self)
+    /// Goes to an address where an int is 0.
+    pub fn jump_if_zero(&mut self, to: u32)
         requires running { self.old.ended ≡ None }
-        requires inside { self.old.place < 2 ^ 63 }
-        requires two { 2 ≤ vec_len self.old.operands }
-        ensures does { Does self.old Instr.Sub self.new }
+        requires inside { self.old.place < 2 ^ 32 }
+        requires int { on_top is_int self.old.operands ≡ true }
+        ensures does { Does self.old (Instr.Jz to) self.new }
         ensures keeps { Keeps self.old self.new }
     {
-        let (left, right) = operands::pop_two(&mut self.operands);
-        operands::push_in_room(&mut self.operands, left.wrapping_sub(right));
-        self.go_on();
+        if self.operands.pop_int() == 0 {
+            self.go_to(to as usize);
+        } else {
+            self.go_on();
+        }
     }
 
-    fn mul(&mut self)
+    /// Goes to an address where an int is not 0.
+    pub fn jump_if_not_zero(&mut self, to: u32)
         requires running { self.old.ended ≡ None }
-        requires inside { self.old.place < 2 ^ 63 }
-        requires two { 2 ≤ vec_len self.old.operands }
-        ensures does { Does self.old Instr.Mul self.new }
+        requires inside { self.old.place < 2 ^ 32 }
+        requires int { on_top is_int self.old.operands ≡ true }
+        ensures does { Does self.old (Instr.Jnz to) self.new }
         ensures keeps { Keeps self.old self.new }
     {
-        let (left, right) = operands::pop_two(&mut self.operands);
-        operands::push_in_room(&mut self.operands, left.wrapping_mul(right));
-        self.go_on();
+        if self.operands.pop_int() != 0 {
+            self.go_to(to as usize);
+        } else {
+            self.go_on();
+        }
     }
 
-    fn print(&mut self, text: u32, count: u32) -> Result<(), NoMemory>
+    /// Ends the thread, and with it the core, since no caller waits for its value.
+    pub fn ret(&mut self)
         requires running { self.old.ended ≡ None }
-        requires inside { self.old.place < 2 ^ 63 }
-        requires text { text < length self.old.code.now.texts }
-        requires many { count ≤ vec_len self.old.operands }
-        ensures ok { OnOk result (Does self.old (Instr.Print text count) self.new) }
-        ensures err { OnErr result (Stays self.old self.new) }
-        ensures keeps { Keeps self.old self.new }
-    {
-        let text = self.code.texts()[text as usize].as_slice();
-        let below = self.operands.len() - count as usize;
-        add_formatted(self.alloc, &mut self.output, text, &self.operands[below..])?;
-        self.operands.truncate(below);
-        self.go_on();
-        Ok(())
-    }
-
-    fn ret(&mut self)
-        requires running { self.old.ended ≡ None }
-        requires one { 1 ≤ vec_len self.old.operands }
+        requires one { 1 ≤ length self.old.operands }
         ensures does { Does self.old Instr.Ret self.new }
         ensures keeps { Keeps self.old self.new }
     {
         let _ = self.operands.pop();
-        self.count = self.count.saturating_add(1);
-        self.ended = Some(Pause::Finished);
-    }
-
-    // One instruction, whose operands and slots are there.
-    fn execute(&mut self, instr: Instr) -> Result<(), NoMemory>
-        requires running { self.old.ended ≡ None }
-        requires inside { self.old.place < 2 ^ 63 }
-        requires finds { IsSome (effect self.old.code.now (length self.old.slots.items) instr (length self.old.operands.items)) }
-        ensures ok { OnOk result (Does self.old instr self.new) }
-        ensures err { OnErr result (Stays self.old self.new) }
-        ensures keeps { Keeps self.old self.new }
-    {
-        match instr {
-            Instr::Step => self.step(),
-            Instr::Push(value) => return self.push(value),
-            Instr::Load(slot) => return self.load(slot),
-            Instr::Store(slot) => self.store(slot),
-            Instr::Add => self.add(),
-            Instr::Sub => self.sub(),
-            Instr::Mul => self.mul(),
-            Instr::Print { text, count } => return self.print(text, count),
-            Instr::Ret => self.ret(),
-        }
-        Ok(())
-    }
-
-    fn next_instr(&self) -> Instr
-        requires running { self.now.ended ≡ None }
-        requires sound { IsSound self.now }
-        ensures here { slice_get self.now.code.now.instrs self.now.place ≡ Some result }
-        ensures valid { IsValid self.now.code.now }
-        ensures inside { self.now.place < 2 ^ 63 }
-    {
-        self.code.instrs()[self.place]
-    }
-
-    // The next instruction of a core that has not ended.
-    fn turn(&mut self) -> Result<(), NoMemory>
-        requires running { self.old.ended ≡ None }
-        requires sound { IsSound self.old }
-        ensures ok { OnOk result (state_of self.new ≡ exec self.old.code.now self.old.bound (flat_of self.old)) }
-        ensures err { OnErr result (state_of self.new ≡ state_of self.old) }
-        ensures keeps { Keeps self.old self.new }
-        ensures sound { IsSound self.new }
-        ensures less { OnOk result (left_of self.new < left_of self.old) }
-    {
-        let instr = self.next_instr();
-        self.execute(instr)?;
-        Ok(())
-    }
-
-    /// Runs the core until it has ended.
-    pub fn run(&mut self) -> Result<Pause, NoMemory>
-        requires { IsSound self.old }
-        ensures goes { GoesOn (exec self.old.code.now self.old.bound) (state_of self.old) (state_of self.new) }
-        ensures over { IfOk result (λ pause. self.new.ended ≡ Some pause) }
-        ensures keeps { Keeps self.old self.new }
-        ensures sound { IsSound self.new }
-    {
-        while self.ended.is_none() {
-            self.turn()?;
-        }
-        match self.ended {
-            Some(pause) => Ok(pause),
-            None => unreachable!(),
-        }
+        self.end(Pause::Finished);
     }
 }

@@ -3,7 +3,7 @@ use Rattle.ac_program.specs.Lines.{usage_line}
 use Rattle.ac_program.specs.Outcome.{IsDue, IsDueOfFile}
 use Rattle.ac_program.specs.Outcome.IsDue.{usage, runs}
 use Rattle.ac_program.proofs.Endings.{whole_of, part_of, whole_as, part_as}
-use Rattle.ac_program.proofs.Reasons.{is_refused, is_over, is_reported, only_refused, only_over, only_reported}
+use Rattle.ac_program.proofs.Reasons.{is_refused, is_over, is_reported, never_stalled, only_refused, only_over, only_reported}
 use Rattle.ac_program.proofs.ac_main.Goals as goal
 
 pub returns-in_default-clause-whole : goal.returns-in_default-clause-whole
@@ -56,6 +56,9 @@ returns-clause-over g c = is_over _ c.in-Some.call.file.now c.in-Some.call.steps
 
 pub returns-clause-reported : goal.returns-clause-reported
 returns-clause-reported g c = is_reported _ c.in-Some.call.file.now c.in-Some.call.steps _ c.run_file.result.status.number c.run_file.result.run _ _ c.in-Some.ensures.call c.run_file.ensures.whole
+
+pub returns-clause-no_stall : goal.returns-clause-no_stall
+returns-clause-no_stall g c = never_stalled _ c.in-Some.call.file.now c.in-Some.call.steps _ c.run_file.result.status.number c.run_file.result.run _ _ c.in-Some.ensures.call c.run_file.ensures.whole
 
 pub returns-clause-only_misspelled : goal.returns-clause-only_misspelled
 returns-clause-only_misspelled g c = λ file text steps is_run told undisturbed.

@@ -1,6 +1,6 @@
-use Rattle.std.proofs.Common.{◌≡◌, drop}
-use Rattle.ac_compile.specs.Found.{links_first}
+use Rattle.std.proofs.Common.{◌≡◌, drop, map}
+use Rattle.ac_compile.specs.Unbuilt.{as_first, all_of, link_nodes}
 use Rattle.ac_compile.proofs.built.+expr.Given as goal
 
 abbrev pub invariant-in_links-loop-link : goal.invariant-in_links-loop-link
-invariant-in_links-loop-link l = links_first (drop l.link-index l.links) ≡ links_first l.links
+invariant-in_links-loop-link l = all_of as_first (map (link_nodes as_first) (drop l.link-index l.links)) ≡ all_of as_first (map (link_nodes as_first) l.links)

@@ -1,7 +1,7 @@
 use Rattle.std.proofs.Common.{ap, ◌∙◌}
 use Rattle.std.specs.Option.{option_map}
 use Rattle.ac_tree.specs.declared.item.Program.{Program}
-use Rattle.ac_compile.proofs.Founds.{first_is, none_told}
+use Rattle.ac_compile.proofs.Firsts.{first_is, none_told}
 use Rattle.ac_compile.proofs.built.unbuilt.Goals as goal
 
 pub returns-clause-first : goal.returns-clause-first

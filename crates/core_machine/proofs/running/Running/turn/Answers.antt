@@ -1,4 +1,4 @@
-use Rattle.core_machine.proofs.Turns.{still_sound, less}
+use Rattle.core_machine.proofs.Sound.{still_sound, less}
 use Rattle.core_machine.proofs.running.Running.turn.Goals as goal
 
 pub returns-clause-sound : goal.returns-clause-sound

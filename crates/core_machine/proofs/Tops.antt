@@ -1,0 +1,26 @@
+-- The last elements of a list, which are the first ones of the list turned round.
+use Rattle.std.proofs.Common.{◌≡◌, ℕ, ◌-◌, ◌≤◌, List, ◌++◌, length, take, drop, sym, ap, ◌∙◌, arith}
+use Rattle.std.specs.Prelude.{reverse}
+use Rattle.std.proofs.lemmas.List.{reverse-append, reverse-reverse, length-reverse, take-append-drop, length-drop}
+use Rattle.std.proofs.Math.Seq.{take-append_seam, drop-append_seam}
+
+module _ {A : Type 0} (items now : List A) (below count : ℕ) (turned : reverse items ≡ now) (here : count ≤ length now) (lies : below ≡ length items - count) where
+  split_top : now ≡ reverse (drop below items) ++ reverse (take below items)
+  split_top = sym turned ∙ ap reverse (sym (take-append-drop below items)) ∙ reverse-append (take below items) (drop below items)
+
+  many : count ≡ length (reverse (drop below items))
+  many =
+      let same : length now ≡ length items = ap length (sym turned) ∙ length-reverse items in
+      omega (arith, length-reverse (drop below items), length-drop below items)
+
+  pub taken : drop below items ≡ reverse (take count now)
+  taken =
+      sym
+      (ap (λ l. reverse (take count l)) split_top ∙ ap (λ k. reverse (take k (reverse (drop below items) ++ reverse (take below items)))) many
+      ∙ ap reverse (take-append_seam (reverse (drop below items)) (reverse (take below items))) ∙ reverse-reverse (drop below items))
+
+  pub left : reverse (take below items) ≡ drop count now
+  left =
+      sym
+      (ap (λ l. drop count l) split_top ∙ ap (λ k. drop k (reverse (drop below items) ++ reverse (take below items))) many
+      ∙ drop-append_seam (reverse (drop below items)) (reverse (take below items)))

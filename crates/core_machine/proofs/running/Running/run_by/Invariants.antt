@@ -1,0 +1,15 @@
+use Rattle.core_state.specs.Moves.{GoesOn}
+use Rattle.stack_code.specs.Machine.{exec}
+use Rattle.core_machine.specs.State.{state_of, left_of, IsSound}
+use Rattle.core_machine.specs.Changes.{Keeps}
+use Rattle.core_machine.proofs.running.Running.run_by.Given as goal
+
+abbrev pub invariant-turns : goal.invariant-turns
+invariant-turns l = record {
+  goes : GoesOn (exec l.fn.self.code.now l.fn.self.bound) (state_of l.fn.self) (state_of l.self);
+  keeps : Keeps l.fn.self l.self;
+  sound : IsSound l.self;
+}
+
+abbrev pub decreases-turns : goal.decreases-turns
+decreases-turns l = left_of l.fn._ranks l.self

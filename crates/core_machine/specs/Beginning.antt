@@ -1,0 +1,12 @@
+-- The frame with which a core begins.
+use Rattle.std.specs.Prelude.{◌≡◌, ℕ, Option, Some, None, true, false, replicate}
+use Rattle.ac_base.specs.declared.ends.Trap.TheVariants.{StackFull}
+use Rattle.work_item.specs.Store.{Store, made, no_int}
+use Rattle.core_state.specs.Frames.{has_words}
+use Rattle.core_machine.specs.declared.pause.Pause.{Pause}
+use Rattle.core_machine.specs.declared.pause.Pause.TheVariants.{Trapped}
+
+-- it is made where there is room for it; where there is none, nothing has changed
+abbrev pub HasBegun : Store → Store → ℕ → Option Pause → Type 0
+HasBegun before after words None = (has_words before words ≡ true) × (after ≡ made before None (replicate words no_int))
+HasBegun before after words (Some pause) = (has_words before words ≡ false) × (after ≡ before) × (pause ≡ Trapped StackFull)
