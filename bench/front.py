@@ -77,9 +77,9 @@ def timed(folder, name, text, line):
 
 def main():
     with tempfile.TemporaryDirectory() as folder:
-        global_at = HEAD.index("int g")
+        function_at = len(HEAD)
         half, whole = (
-            timed(folder, size, filled(HEAD, FUNCTION, TAIL, size), f"not built at {global_at}\n")
+            timed(folder, size, filled(HEAD, FUNCTION, TAIL, size), f"not built at {function_at}\n")
             for size in (GREATEST // 2, GREATEST)
         )
         second = len("core a(f);")

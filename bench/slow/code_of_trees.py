@@ -1,0 +1,428 @@
+"""The translation of trees to instructions, and a machine that runs and counts them."""
+from collections import deque
+
+LIMIT = 4_194_304
+MIN, SPAN = -(1 << 63), 1 << 64
+
+
+class Compiled:
+    def __init__(self, names, program):
+        self.c = []
+        self.loops = []
+        self.calls = []
+        self.texts = names.texts
+        self.starts = {}
+        for i in program.items:
+            if i.kind == "Global" and i.size is None and i.value:
+                self.starts[i.slot] = i.value
+        self.at = {}
+        for f in names.funcs:
+            self.at[f] = len(self.c)
+            for s in f.body:
+                self.stmt(s)
+            self.put("Push", 0)
+            self.put("Ret")
+        for k, f in self.calls:
+            self.c[k] = ("Call", self.at[f], len(f.params), f.slots)
+
+    def put(self, *instr):
+        self.c.append(instr)
+        return len(self.c) - 1
+
+    def patch(self, k):
+        self.c[k] = (self.c[k][0], len(self.c)) if self.c[k][0] != "Async" else ("Async", self.c[k][1], len(self.c))
+
+    def array(self, e):
+        d = e.decl
+        if d.kind == "Param":
+            self.put("Load", e.level, d.slot)
+        elif d.owner is None:
+            self.put("ArrG", d.slot, d.size)
+        else:
+            self.put("Arr", e.level, d.slot, d.size)
+
+    def expr(self, e):
+        k = e.kind
+        if k == "Number":
+            self.put("Push", e.value)
+        elif k == "Name":
+            if e.decl.kind in ("Array",) or getattr(e.decl, "is_array", False) or getattr(e.decl, "size", None) is not None:
+                self.array(e)
+            elif e.decl.owner is None:
+                self.put("LoadG", e.decl.slot)
+            else:
+                self.put("Load", e.level, e.decl.slot)
+        elif k == "Index":
+            self.array(e)
+            self.expr(e.index)
+            self.put("Elem")
+        elif k == "Group":
+            self.expr(e.inner)
+        elif k == "Unary":
+            self.expr(e.inner)
+            self.put({"-": "Neg", "!": "Not", "~": "Flip"}[e.op])
+        elif k == "Call":
+            for a in e.args:
+                self.expr(a)
+            self.calls.append((self.put("Call"), e.func))
+        else:
+            self.expr(e.first)
+            for op, right in e.rest:
+                if op in ("And", "Or"):
+                    j = self.put("Jz" if op == "And" else "Jnz", None)
+                    self.expr(right)
+                    self.put("Bool")
+                    over = self.put("Jump", None)
+                    self.patch(j)
+                    self.put("Push", 0 if op == "And" else 1)
+                    self.patch(over)
+                else:
+                    self.expr(right)
+                    self.put(op)
+
+    def stmt(self, s):
+        k = s.kind
+        if k == "Block":
+            for x in s.body:
+                self.stmt(x)
+            return
+        if k == "For" and s.init:
+            self.stmt(s.init)
+        if k in ("While", "For"):
+            top = self.put("Step")
+            out = None
+            if s.test is not None:
+                self.expr(s.test)
+                out = self.put("Jz", None)
+            self.loops.append(([], []))
+            self.stmt(s.body)
+            breaks, conts = self.loops.pop()
+            for j in conts:
+                if k == "While":
+                    self.c[j] = ("Jump", top)
+                else:
+                    self.patch(j)
+            if k == "For" and s.next:
+                self.stmt(s.next)
+            self.put("Jump", top)
+            for j in breaks + ([] if out is None else [out]):
+                self.patch(j)
+            return
+        self.put("Step")
+        if k == "Int":
+            if s.value is None:
+                self.put("Push", 0)
+            else:
+                self.expr(s.value)
+            self.put("Store", 0, s.slot)
+        elif k == "Array":
+            self.put("Clear", s.slot, s.size)
+        elif k == "Assign":
+            self.expr(s.value)
+            p = s.place
+            if p.kind == "Index":
+                self.array(p)
+                self.expr(p.index)
+                self.put("SetElem")
+            elif p.decl.owner is None:
+                self.put("StoreG", p.decl.slot)
+            else:
+                self.put("Store", p.level, p.decl.slot)
+        elif k == "CallStmt":
+            self.expr(s.call)
+            self.put("Drop")
+        elif k == "Print":
+            for a in s.args:
+                self.expr(a)
+            self.put("Print", s.text, len(s.args))
+        elif k == "If":
+            self.expr(s.test)
+            j = self.put("Jz", None)
+            self.stmt(s.body)
+            if s.other:
+                over = self.put("Jump", None)
+                self.patch(j)
+                self.stmt(s.other)
+                self.patch(over)
+            else:
+                self.patch(j)
+        elif k == "Break":
+            self.loops[-1][0].append(self.put("Jump", None))
+        elif k == "Continue":
+            self.loops[-1][1].append(self.put("Jump", None))
+        elif k == "Return":
+            if s.value is None:
+                self.put("Push", 0)
+            else:
+                self.expr(s.value)
+            self.put("Ret")
+        elif k == "Do":
+            self.put("Enter", s.slot)
+            for x in s.body:
+                self.stmt(x)
+            self.put("Step")
+            self.put("Finish", s.slot)
+        elif k == "Async":
+            j = self.put("Async", s.slots, None)
+            self.stmt(s.body)
+            self.put("End")
+            self.patch(j)
+        elif k == "Yield":
+            self.put("Yield")
+        elif k != "Empty":
+            raise NotImplementedError(k)
+
+
+class F:
+    __slots__ = ("slots", "up", "n", "kids", "over")
+
+    def __init__(self, n, up):
+        self.slots, self.up, self.n, self.kids, self.over = [0] * n, up, n, 0, False
+        if up:
+            up.kids += 1
+
+
+class T:
+    __slots__ = ("pc", "frame", "stack", "callers", "block", "home")
+
+
+class B:
+    __slots__ = ("parent", "count", "owner")
+
+
+class CodeCore:
+    def __init__(self, compiled, names, core, limit):
+        self.word, self.steps, self.instructions, self.out = None, 0, 0, bytearray()
+        self.limit = limit
+        self.g = [0] * names.slots
+        for s, v in compiled.starts.items():
+            self.g[s] = v
+        self.live = names.slots
+        self.code, self.texts = compiled.c, compiled.texts
+        w = core.func.slots
+        if self.live + w + 4 > LIMIT:
+            self.word = "stack-full"
+            return
+        self.live += w + 4
+        t = T()
+        t.pc, t.frame, t.stack, t.callers, t.block, t.home = compiled.at[core.func], F(w, None), [], [], None, None
+        self.first = t
+        self.ready = deque([t])
+        self.run()
+
+    def give_back(self, f):
+        f.over = True
+        while f is not None and f.over and f.kids == 0:
+            self.live -= f.n + 4
+            f = f.up
+            if f is not None:
+                f.kids -= 1
+
+    def ended(self, t):
+        """Counts a thread out of its block; an emptied block whose owner waits lets it on."""
+        b = t.home
+        if b is None:
+            return
+        b.count -= 1
+        if b.count == 0 and b.owner is not None:
+            self.ready.appendleft(b.owner)
+
+    def run(self):
+        while self.word is None:
+            if not self.ready:
+                self.word = "stalled"
+                return
+            self.thread(self.ready.popleft())
+
+    def thread(self, t):
+        code, st, fr = self.code, t.stack, t.frame
+        pc = t.pc
+        while True:
+            ins = code[pc]
+            op = ins[0]
+            if op == "Step":
+                if self.steps == self.limit:
+                    self.word = "out-of-steps"
+                    return
+                self.steps += 1
+                self.instructions += 1
+                pc += 1
+                continue
+            self.instructions += 1
+            pc += 1
+            if op == "Push":
+                st.append(ins[1])
+            elif op == "Load":
+                f = fr
+                for _ in range(ins[1]):
+                    f = f.up
+                st.append(f.slots[ins[2]])
+            elif op == "LoadG":
+                st.append(self.g[ins[1]])
+            elif op == "Store":
+                f = fr
+                for _ in range(ins[1]):
+                    f = f.up
+                f.slots[ins[2]] = st.pop()
+            elif op == "StoreG":
+                self.g[ins[1]] = st.pop()
+            elif op == "Arr":
+                f = fr
+                for _ in range(ins[1]):
+                    f = f.up
+                st.append((f.slots, ins[2], ins[3]))
+            elif op == "ArrG":
+                st.append((self.g, ins[1], ins[2]))
+            elif op == "Elem":
+                i = st.pop()
+                home, s, n = st.pop()
+                if i < 0 or i >= n:
+                    self.word = "index"
+                    return
+                st.append(home[s + i])
+            elif op == "SetElem":
+                i = st.pop()
+                home, s, n = st.pop()
+                v = st.pop()
+                if i < 0 or i >= n:
+                    self.word = "index"
+                    return
+                home[s + i] = v
+            elif op == "Clear":
+                for k in range(ins[1], ins[1] + ins[2]):
+                    fr.slots[k] = 0
+            elif op == "Jump":
+                pc = ins[1]
+            elif op == "Jz":
+                if st.pop() == 0:
+                    pc = ins[1]
+            elif op == "Jnz":
+                if st.pop() != 0:
+                    pc = ins[1]
+            elif op == "Neg":
+                v = -st.pop()
+                st.append(MIN if v == -MIN else v)
+            elif op == "Not":
+                st.append(1 if st.pop() == 0 else 0)
+            elif op == "Flip":
+                st.append(-1 - st.pop())
+            elif op == "Bool":
+                st.append(0 if st.pop() == 0 else 1)
+            elif op == "Drop":
+                st.pop()
+            elif op == "Print":
+                k = ins[2]
+                args = st[len(st) - k:]
+                del st[len(st) - k:]
+                it = iter(args)
+                parts = self.texts[ins[1]].split(b"%%")
+                done = []
+                for p in parts:
+                    pieces = p.split(b"%")
+                    s = pieces[0]
+                    for q in pieces[1:]:
+                        v = next(it)
+                        s += (b"%d" % v if q[:1] == b"d" else bytes([v & 255])) + q[1:]
+                    done.append(s)
+                text = b"%".join(done)
+                if len(self.out) + len(text) > LIMIT:
+                    self.word = "output-full"
+                    return
+                self.out += text
+            elif op == "Call":
+                _, a, k, w = ins
+                if self.live + w + 4 > LIMIT:
+                    self.word = "stack-full"
+                    return
+                self.live += w + 4
+                f = F(w, None)
+                if k:
+                    f.slots[:k] = st[len(st) - k:]
+                    del st[len(st) - k:]
+                t.callers.append((pc, fr))
+                fr, pc = f, a
+            elif op == "Ret":
+                v = st.pop()
+                self.give_back(fr)
+                if not t.callers:
+                    # the core's entry; a body ends by End
+                    self.word = "finished"
+                    return
+                pc, fr = t.callers.pop()
+                st.append(v)
+            elif op == "Enter":
+                b = B()
+                b.parent, b.count, b.owner = t.block, 0, None
+                fr.slots[ins[1]] = b
+                t.block = b
+            elif op == "Finish":
+                b = fr.slots[ins[1]]
+                t.block = b.parent
+                if b.count:
+                    b.owner = t
+                    t.pc, t.frame = pc, fr
+                    return
+            elif op == "Async":
+                w = ins[1]
+                if self.live + w + 4 > LIMIT:
+                    self.word = "stack-full"
+                    return
+                self.live += w + 4
+                t.pc, t.frame = ins[2], fr
+                self.ready.appendleft(t)
+                n = T()
+                n.pc, n.frame, n.stack, n.callers, n.block, n.home = pc, F(w, fr), [], [], t.block, t.block
+                t.block.count += 1
+                t = n
+                st, fr = t.stack, t.frame
+            elif op == "End":
+                self.give_back(fr)
+                self.ended(t)
+                return
+            elif op == "Yield":
+                t.pc, t.frame = pc, fr
+                self.ready.append(t)
+                return
+            else:
+                b = st.pop()
+                a = st.pop()
+                if op == "Add":
+                    v = a + b
+                elif op == "Sub":
+                    v = a - b
+                elif op == "Mul":
+                    v = a * b
+                elif op in ("Div", "Rem"):
+                    if b == 0:
+                        self.word = "zero-divisor"
+                        return
+                    r = abs(a) % abs(b)
+                    if a < 0:
+                        r = -r
+                    v = (a - r) // b if op == "Div" else r
+                elif op == "Shl":
+                    v = a * (1 << (b & 63))
+                elif op == "Shr":
+                    v = a // (1 << (b & 63))
+                elif op == "BitOr":
+                    v = a | b
+                elif op == "BitXor":
+                    v = a ^ b
+                elif op == "BitAnd":
+                    v = a & b
+                elif op == "Eq":
+                    v = 1 if a == b else 0
+                elif op == "Ne":
+                    v = 0 if a == b else 1
+                elif op == "Less":
+                    v = 1 if a < b else 0
+                elif op == "LessEq":
+                    v = 0 if a > b else 1
+                elif op == "More":
+                    v = 1 if a > b else 0
+                elif op == "MoreEq":
+                    v = 0 if a < b else 1
+                else:
+                    raise NotImplementedError(op)
+                v %= SPAN
+                st.append(v - SPAN if v >= -MIN else v)

@@ -1,0 +1,329 @@
+"""The meaning of trees: what each statement does, step by step. Threads are Python generators."""
+from collections import deque
+
+LIMIT = 4_194_304
+
+
+class Trap(Exception):
+    pass
+
+
+class Out(Exception):
+    """out of steps"""
+
+
+class Ret(Exception):
+    def __init__(self, value):
+        self.value = value
+
+
+class Brk(Exception):
+    pass
+
+
+class Cont(Exception):
+    pass
+
+
+def wrap(x):
+    return ((x + (1 << 63)) % (1 << 64)) - (1 << 63)
+
+
+def binary(op, a, b):
+    if op == "Add":
+        return wrap(a + b)
+    if op == "Sub":
+        return wrap(a - b)
+    if op == "Mul":
+        return wrap(a * b)
+    if op in ("Div", "Rem"):
+        if b == 0:
+            raise Trap("zero-divisor")
+        q = abs(a) // abs(b)
+        if (a < 0) != (b < 0):
+            q = -q
+        return wrap(q) if op == "Div" else wrap(a - q * b)
+    if op == "Shl":
+        return wrap(a << (b % 64))
+    if op == "Shr":
+        return a >> (b % 64)
+    if op == "BitOr":
+        return a | b
+    if op == "BitXor":
+        return a ^ b
+    if op == "BitAnd":
+        return a & b
+    return int({"Eq": a == b, "Ne": a != b, "Less": a < b, "LessEq": a <= b, "More": a > b, "MoreEq": a >= b}[op])
+
+
+def printed(fmt, values):
+    out, i, k = bytearray(), 0, 0
+    while i < len(fmt):
+        if fmt[i] == 37:
+            d = fmt[i + 1:i + 2]
+            if d == b"d":
+                out += str(values[k]).encode()
+                k += 1
+            elif d == b"c":
+                out.append(values[k] % 256)
+                k += 1
+            else:
+                out += b"%"
+            i += 2
+        else:
+            out.append(fmt[i])
+            i += 1
+    return bytes(out)
+
+
+class Frame:
+    def __init__(self, core, owner, parent):
+        words = owner.words + 4
+        if core.live + words > LIMIT:
+            raise Trap("stack-full")
+        core.live += words
+        self.core, self.owner, self.parent, self.words = core, owner, parent, words
+        self.cells, self.children, self.over = {}, 0, False
+        if parent:
+            parent.children += 1
+
+    def release(self):
+        self.over = True
+        f = self
+        while f and f.over and f.children == 0:
+            self.core.live -= f.words
+            f = f.parent
+            if f:
+                f.children -= 1
+
+
+class Block:
+    def __init__(self, parent):
+        self.parent, self.waiter = parent, None
+
+
+class Thread:
+    def __init__(self, block):
+        self.started_in = block
+        self.block = block
+        self.gen = None
+
+
+class TreeCore:
+    def __init__(self, names, core, limit):
+        self.names, self.limit = names, limit
+        self.steps, self.out, self.live = 0, bytearray(), names.slots
+        self.globals = {}
+        for item in names.top.values():
+            if item.kind == "Global":
+                self.globals[item] = [item.value] if item.size is None else [0] * item.size
+        self.word = None
+        self.ready, self.threads = deque(), set()
+        try:
+            frame = Frame(self, core.func, None)
+            t = Thread(None)
+            t.gen = self.entry(core.func, frame, t)
+            self.threads.add(t)
+            self.ready.append(t)
+            self.loop()
+        except Trap as e:
+            self.word = str(e)
+        except Out:
+            self.word = "out-of-steps"
+
+    def loop(self):
+        running = None
+        first = next(iter(self.threads))
+        while True:
+            if running is None:
+                if not self.ready:
+                    self.word = "stalled"
+                    return
+                running = self.ready.popleft()
+            try:
+                ask = next(running.gen)
+            except StopIteration:
+                self.threads.discard(running)
+                if running is first:
+                    self.word = "finished"
+                    return
+                b = running.started_in
+                # who waits at a block within which nobody lives any more goes to the front
+                while b is not None:
+                    if b.waiter and not self.lives_within(b):
+                        self.ready.appendleft(b.waiter)
+                        b.waiter = None
+                    b = b.parent
+                running = None
+                continue
+            if ask[0] == "async":
+                self.ready.appendleft(running)
+                running = ask[1]
+                self.threads.add(running)
+            elif ask[0] == "yield":
+                self.ready.append(running)
+                running = None
+            elif ask[0] == "finish":
+                if self.lives_within(ask[1]):
+                    ask[1].waiter = running
+                    running = None
+
+    def lives_within(self, block):
+        for t in self.threads:
+            b = t.started_in
+            while b is not None:
+                if b is block:
+                    return True
+                b = b.parent
+        return False
+
+    def entry(self, func, frame, t):
+        yield from self.activation(func, frame, t)
+
+    def activation(self, func, frame, t):
+        value = 0
+        try:
+            yield from self.body(func.body, frame, t)
+        except Ret as r:
+            value = r.value
+        frame.release()
+        return value
+
+    def step(self):
+        if self.steps >= self.limit:
+            raise Out()
+        self.steps += 1
+
+    def cells(self, frame, decl):
+        if decl.owner is None:
+            return self.globals[decl]
+        while frame.owner is not decl.owner:
+            frame = frame.parent
+        if decl not in frame.cells:
+            frame.cells[decl] = [0] * (decl.size if decl.kind == "Array" else 1)
+        return frame.cells[decl]
+
+    def set(self, frame, place, value):
+        cells = self.cells(frame, place.decl)
+        if place.kind == "Name":
+            cells[0] = value
+            return
+        i = self.value(place.index, frame)
+        if not 0 <= i < len(cells):
+            raise Trap("index")
+        cells[i] = value
+
+    def value(self, e, frame):
+        k = e.kind
+        if k == "Number":
+            return e.value
+        if k == "Name":
+            return self.cells(frame, e.decl)[0]
+        if k == "Index":
+            cells = self.cells(frame, e.decl)
+            i = self.value(e.index, frame)
+            if not 0 <= i < len(cells):
+                raise Trap("index")
+            return cells[i]
+        if k == "Group":
+            return self.value(e.inner, frame)
+        if k == "Unary":
+            v = self.value(e.inner, frame)
+            return wrap(-v) if e.op == "-" else int(v == 0) if e.op == "!" else ~v
+        v = self.value(e.first, frame)
+        for op, right in e.rest:
+            if op == "And":
+                v = int(self.value(right, frame) != 0) if v != 0 else 0
+            elif op == "Or":
+                v = 1 if v != 0 else int(self.value(right, frame) != 0)
+            else:
+                v = binary(op, v, self.value(right, frame))
+        return v
+
+    def call(self, c, frame, t):
+        args = []
+        for p, a in zip(c.func.params, c.args):
+            args.append(self.cells(frame, a.decl) if p.is_array else self.value(a, frame))
+        inner = Frame(self, c.func, None)
+        for p, a in zip(c.func.params, args):
+            inner.cells[p] = a if p.is_array else [a]
+        return (yield from self.activation(c.func, inner, t))
+
+    def result(self, e, frame, t):
+        if e.kind == "Call":
+            return (yield from self.call(e, frame, t))
+        return self.value(e, frame)
+
+    def body(self, stmts, frame, t):
+        for s in stmts:
+            yield from self.stmt(s, frame, t)
+
+    def stmt(self, s, frame, t):
+        k = s.kind
+        if k == "Block":
+            yield from self.body(s.body, frame, t)
+            return
+        if k == "For":
+            if s.init:
+                yield from self.stmt(s.init, frame, t)
+        if k in ("While", "For"):
+            while True:
+                self.step()
+                if s.test is not None and self.value(s.test, frame) == 0:
+                    return
+                try:
+                    yield from self.stmt(s.body, frame, t)
+                except Brk:
+                    return
+                except Cont:
+                    pass
+                if k == "For" and s.next:
+                    yield from self.stmt(s.next, frame, t)
+        self.step()
+        if k == "Empty":
+            return
+        if k == "Int":
+            v = 0 if s.value is None else (yield from self.result(s.value, frame, t))
+            self.cells(frame, s)[0] = v
+        elif k == "Array":
+            self.cells(frame, s)[:] = [0] * s.size
+        elif k == "Assign":
+            self.set(frame, s.place, (yield from self.result(s.value, frame, t)))
+        elif k == "CallStmt":
+            yield from self.call(s.call, frame, t)
+        elif k == "Print":
+            text = printed(s.format, [self.value(a, frame) for a in s.args])
+            if len(self.out) + len(text) > LIMIT:
+                raise Trap("output-full")
+            self.out += text
+        elif k == "If":
+            if self.value(s.test, frame) != 0:
+                yield from self.stmt(s.body, frame, t)
+            elif s.other:
+                yield from self.stmt(s.other, frame, t)
+        elif k == "Break":
+            raise Brk()
+        elif k == "Continue":
+            raise Cont()
+        elif k == "Return":
+            raise Ret(0 if s.value is None else (yield from self.result(s.value, frame, t)))
+        elif k == "Do":
+            b = Block(t.block)
+            t.block = b
+            yield from self.body(s.body, frame, t)
+            self.step()
+            yield ("finish", b)
+            t.block = b.parent
+        elif k == "Async":
+            inner = Frame(self, s, frame)
+            new = Thread(t.block)
+            new.gen = self.thread(s, inner, new)
+            yield ("async", new)
+        elif k == "Yield":
+            yield ("yield",)
+        else:
+            raise NotImplementedError(k)
+
+    def thread(self, s, frame, t):
+        yield from self.stmt(s.body, frame, t)
+        frame.release()

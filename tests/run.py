@@ -1,0 +1,134 @@
+#!/usr/bin/env python3
+"""Runs the tests of this folder, and the examples of docs/LANGUAGE.md, with a built `ac`.
+
+    python3 tests/run.py crates/ac/out/ac [WORD ..]
+
+Words pick the tests whose path has one of them in it. README.md says what a test looks like.
+"""
+import pathlib
+import re
+import shlex
+import subprocess
+import sys
+import tempfile
+
+HERE = pathlib.Path(__file__).resolve().parent
+PAGE = HERE.parent / "docs" / "LANGUAGE.md"
+PIECE = re.compile(r'(?:(\d+) \* )?"((?:[^"\\]|\\.)*)"')
+ESCAPE = re.compile(r"\\(x[0-9a-f]{2}|.)")
+PLAIN = {"n": "\n", "t": "\t", "r": "\r", "\\": "\\", '"': '"'}
+SECONDS = 120
+
+
+def unescaped(text, number):
+    def one(found):
+        name = found.group(1)
+        if name == "#":
+            return str(number)
+        if name[0] == "x" and len(name) == 3:
+            return chr(int(name[1:], 16))
+        return PLAIN[name]
+
+    return ESCAPE.sub(one, text).encode("latin-1")
+
+
+def piece(line):
+    """The bytes of one piece."""
+    if line == "|" or line.startswith("| "):
+        return line[2:].encode() + b"\n"
+    found = PIECE.fullmatch(line)
+    if not found:
+        raise ValueError(f"no piece: {line}")
+    times = int(found.group(1) or 1)
+    if "\\#" not in found.group(2):
+        return unescaped(found.group(2), 0) * times
+    return b"".join(unescaped(found.group(2), number) for number in range(times))
+
+
+def read(path):
+    """The test of a file: its words, file name, source, status and output."""
+    test = {"words": "run x.ac", "name": "x.ac", "source": None, "status": None, "output": None}
+    part = None
+    for line in path.read_text().splitlines():
+        key, _, rest = line.partition(" ")
+        if line.startswith("#") or not line:
+            continue
+        if key in ("words", "name", "status"):
+            test[key], part = rest, None
+        elif line in ("source", "output"):
+            test[line], part = b"", line
+        elif part:
+            test[part] += piece(line)
+        else:
+            raise ValueError(f"{path.name}: {line}")
+    if test["status"] is None or test["output"] is None:
+        raise ValueError(f"{path.name} has no status or no output")
+    return shlex.split(test["words"]), test["name"], test["source"], int(test["status"]), test["output"]
+
+
+def status_of(answer):
+    """The status that goes with an answer of the page."""
+    if answer.startswith(b"rule "):
+        return 3
+    ends = re.findall(rb"^\w+: ([a-z-]+) after \d+ steps, \d+ instructions$", answer, re.M)
+    kinds = {6: b"out-of-steps", 5: b"stalled", 0: b"finished"}
+    if any(end not in kinds.values() for end in ends):
+        return 4
+    return next(status for status, word in kinds.items() if word in ends)
+
+
+def examples():
+    """Each program of the page with the answer that stands after it: in the next block, or in its row."""
+    text = PAGE.read_text()
+    blocks = re.findall(r"^```\n(.*?)^```$", text, re.M | re.S)
+    pairs = [
+        (source, answer)
+        for source, answer in zip(blocks, blocks[1:])
+        if source.startswith("core ") and re.match(r"\w+: [a-z-]+ after ", answer)
+    ]
+    rows = re.findall(r"^\| `(core [^`]*)` \| `(rule C\d+ at \d+)`", text, re.M)
+    pairs += [(source, answer + "\n") for source, answer in rows]
+    for number, (source, answer) in enumerate(pairs, 1):
+        answer = answer.encode()
+        yield f"docs/LANGUAGE.md, example {number}", (["run", "x.ac"], "x.ac", source.encode(), status_of(answer), answer)
+
+
+def shown(output):
+    return repr(output) if len(output) <= 600 else f"{output[:300]!r} .. {output[-200:]!r} ({len(output)} bytes)"
+
+
+def failure(program, test):
+    """What differs, or nothing."""
+    words, name, source, status, output = test
+    with tempfile.TemporaryDirectory() as folder:
+        if source is not None:
+            (pathlib.Path(folder) / name).write_bytes(source)
+        try:
+            done = subprocess.run([program, *words], cwd=folder, stdout=subprocess.PIPE, timeout=SECONDS)
+        except subprocess.TimeoutExpired:
+            return f"  not done after {SECONDS} seconds"
+    if (done.returncode, done.stdout) == (status, output):
+        return None
+    return f"  wanted {status}, {shown(output)}\n  came   {done.returncode}, {shown(done.stdout)}"
+
+
+def main():
+    if len(sys.argv) < 2:
+        sys.exit(__doc__)
+    program = str(pathlib.Path(sys.argv[1]).resolve())
+    files = sorted(HERE.glob("**/*.txt"))
+    tests = [(str(path.relative_to(HERE)), read(path)) for path in files]
+    tests += examples()
+    picks = sys.argv[2:]
+    tests = [test for test in tests if not picks or any(pick in test[0] for pick in picks)]
+    failed = 0
+    for name, test in tests:
+        wrong = failure(program, test)
+        if wrong:
+            failed += 1
+            print(f"{name}\n{wrong}")
+    print(f"{len(tests) - failed} passed, {failed} failed")
+    sys.exit(1 if failed or not files or not tests else 0)
+
+
+main()
