@@ -1,9 +1,11 @@
 #!/usr/bin/env python3
-"""Runs the tests of this folder, and the examples of docs/LANGUAGE.md, with a built `ac`.
+"""Runs the tests of this folder, and the examples and forms of docs/LANGUAGE.md, with a built `ac`.
 
     python3 tests/run.py crates/ac/out/ac [WORD ..]
+    python3 tests/run.py --cases FOLDER [WORD ..]
 
-Words pick the tests whose path has one of them in it. README.md says what a test looks like.
+Words pick the tests whose path has one of them in it. README.md says what a test looks like. The second form runs nothing: it
+writes the tests into a new folder, as `rt try --cases` takes them.
 """
 import pathlib
 import re
@@ -93,6 +95,32 @@ def examples():
         yield f"docs/LANGUAGE.md, example {number}", (["run", "x.ac"], "x.ac", source.encode(), status_of(answer), answer)
 
 
+# What the forms of the page stand in: a function that no core reaches, so that it may use both ends of a channel.
+FRAME = """core k(e); core l(e); async void e() { } channel c(k, l, 4); file log("log.dat");
+void f() { } void g(int x, int y, int z) { } void show(int row[], int n) { } int twice(int x) { return x; }
+int sum(int row[], int n) { return n; } async %s h() { int x; int y; int i; int a[8]; int b[8]; while (1) { %s } }
+"""
+
+
+def forms():
+    """Each form of the page's tables, in a program that has it. The program breaks no rule, and has a second core."""
+    text = PAGE.read_text()
+    tables = re.findall(r"^\| Form \| Example \|.*?\n\|[-|]+\n((?:\|.*\n)+)", text, re.M)
+    items, statements, values = [
+        [form for row in table.splitlines() for form in re.findall(r"`([^`]+)`", row.split(" | ")[1])] for table in tables
+    ]
+    yield "docs/LANGUAGE.md, the top level", "core k(f); core b(f); " + " ".join(items)
+    for form in statements:
+        yield f"docs/LANGUAGE.md, {form}", FRAME % ("int" if form.startswith("return ") else "void", form)
+    for form in values:
+        yield f"docs/LANGUAGE.md, {form}", FRAME % ("void", f"x = {form};")
+
+
+def form_tests():
+    for name, source in forms():
+        yield name, (["run", "x.ac"], "x.ac", source.encode(), 15, b"not built at 11\n")
+
+
 def shown(output):
     return repr(output) if len(output) <= 600 else f"{output[:300]!r} .. {output[-200:]!r} ({len(output)} bytes)"
 
@@ -112,15 +140,33 @@ def failure(program, test):
     return f"  wanted {status}, {shown(output)}\n  came   {done.returncode}, {shown(done.stdout)}"
 
 
+def write_cases(folder, tests):
+    """The tests as files of a new folder: of each its source, its words and its output. The status is not among them.
+
+    A source of another name than `x.ac` is left out, since `rt try` names the copies of sources itself."""
+    folder.mkdir(parents=True)
+    tests = [test for test in tests if test[1][1] == "x.ac"]
+    for number, (name, (words, file, source, _, output)) in enumerate(tests):
+        case = re.sub(r"\W+", "_", f"{number:04} {name.removesuffix('.txt')}")
+        (folder / case).write_bytes(source or b"")
+        given = ["{}" if word == file and source is not None else word for word in words]
+        (folder / (case + ".args")).write_text("".join(word + "\n" for word in given))
+        (folder / (case + ".stdout")).write_bytes(output)
+    print(f"{len(tests)} cases")
+
+
 def main():
-    if len(sys.argv) < 2:
+    if len(sys.argv) < 2 or (sys.argv[1] == "--cases" and len(sys.argv) < 3):
         sys.exit(__doc__)
-    program = str(pathlib.Path(sys.argv[1]).resolve())
+    picks = sys.argv[3:] if sys.argv[1] == "--cases" else sys.argv[2:]
     files = sorted(HERE.glob("**/*.txt"))
     tests = [(str(path.relative_to(HERE)), read(path)) for path in files]
-    tests += examples()
-    picks = sys.argv[2:]
+    tests += [*examples(), *form_tests()]
     tests = [test for test in tests if not picks or any(pick in test[0] for pick in picks)]
+    if sys.argv[1] == "--cases":
+        write_cases(pathlib.Path(sys.argv[2]), tests)
+        return
+    program = str(pathlib.Path(sys.argv[1]).resolve())
     failed = 0
     for name, test in tests:
         wrong = failure(program, test)

@@ -21,7 +21,7 @@ pub struct FileLibrary<'a, R: Files> {
 
 impl<'a, R: Files> Model for FileLibrary<'a, R> {
     ghost use Rattle.std.specs.Prelude.{is_some, option_and_then};
-    ghost use Rattle.ac_adapters.specs.Reading.{Reading};
+    ghost use Rattle.ac_adapters.specs.inner.Reading.{Reading};
 
     ghost Value = { Reading };
 
@@ -49,15 +49,8 @@ impl<'a, R: Files> FileLibrary<'a, R> {
 }
 
 impl<R: Files> Library for FileLibrary<'_, R> {
-    ghost text_at = { λ _ _. None };
-
-    ghost left = { λ s. s.left };
-
-    ghost opens = { λ _. None };
-
-    ghost faults = { λ s. s.faults };
-
-    ghost is_open = { λ s. s.is_open };
+    ghost told = { λ s.
+        record { text_at = λ _. None; is_open = s.is_open; left = s.left; opens = None; names = None; faults = s.faults } };
 
     ghost tells_opens = { λ _ _ told. told };
 

@@ -37,9 +37,7 @@ impl<'a, R: Print> StandardSink<'a, R> {
 }
 
 impl<R: Print> Sink for StandardSink<'_, R> {
-    ghost held = { λ _. None };
-
-    ghost faults = { λ s. s };
+    ghost told = { λ s. record { held = None; faults = s } };
 
     fn write(&mut self, piece: &[u8]) -> Result<usize, Failed> {
         match self.to.write_some(piece) {

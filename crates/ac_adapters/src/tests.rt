@@ -10,8 +10,8 @@ use std::{fs, io};
 
 // Reads two bytes, and notes them in parentheses, or `!` for a fault.
 fn read_two<L: Library>(library: &mut L, log: &mut String) -> Result<(), AllocError>
-    requires { IsTrue (L.is_open library.old) }
-    ensures { IsTrue (L.is_open library.new) }
+    requires { IsTrue (L.told library.old).is_open }
+    ensures { IsTrue (L.told library.new).is_open }
 {
     let mut into = [0u8; 2];
     match library.read(&mut into) {
@@ -27,7 +27,7 @@ fn read_two<L: Library>(library: &mut L, log: &mut String) -> Result<(), AllocEr
 }
 
 #[test]
-fn file_library(rt: HostRuntime) -> Result<(), Fail> {
+fn files_are_read_by_their_names(rt: HostRuntime) -> Result<(), Fail> {
     fs::write(&rt, "x.ac", "hello")?;
     fs::create_dir(&rt, "folder")?;
     let mut library = FileLibrary::new(&rt);
@@ -88,7 +88,7 @@ impl Print for Script {
 }
 
 #[test]
-fn standard_sink(rt: HostRuntime) -> Result<(), Fail> {
+fn standard_output_takes_what_it_can(rt: HostRuntime) -> Result<(), Fail> {
     let mut sink = StandardSink::new(&rt);
     assert_eq!(rt; sink.write(b""), Ok(0));
     assert_eq!(rt; sink.write(b"\n"), Ok(1));

@@ -1,5 +1,6 @@
 -- The report of a run and the status of its cores.
-use Rattle.std.specs.Prelude.{ℕ, ◌-◌, Bool, true, false, not, List, [], ◌∷◌, ◌++◌, length, slice_get, codes, Option, None, Some, ◌==◌, if◌then◌else◌}
+use Rattle.std.specs.Prelude.{ℕ, ◌-◌, Bool, true, false, not, List, [], ◌∷◌, ◌++◌, length}
+use Rattle.std.specs.Prelude.{slice_get, codes, Option, None, Some, ◌==◌, if◌then◌else◌}
 use Rattle.std.specs.List.{list_any}
 use Rattle.std.specs.Fmt.{decimal}
 use Rattle.ac_base.specs.declared.ends.Trap.{Trap}
@@ -24,7 +25,8 @@ word_text Stalled = codes "stalled"
 -- how the core ended, its steps and its instructions
 abbrev pub ending_of : MachineEnd → List ℕ
 ending_of end =
-    codes ": " ++ word_text end.core.word ++ codes " after " ++ decimal end.core.steps ++ codes " steps, " ++ decimal end.instructions ++ codes " instructions" ++ 10 ∷ []
+    codes ": " ++ word_text end.core.word ++ codes " after " ++ decimal end.core.steps ++ codes " steps, " ++ decimal end.instructions
+    ++ codes " instructions" ++ 10 ∷ []
 
 -- a core's line
 abbrev pub line_of : List ℕ → MachineEnd → List ℕ
@@ -62,4 +64,5 @@ any_ends p ends = list_any (λ end. p end.core.word) ends
 
 -- 4 where a core trapped, else 6 where one is out of steps, else 5 where one is stalled, else 0
 abbrev pub status_of : List MachineEnd → ℕ
-status_of ends = if any_ends is_trapped ends then 4 else (if any_ends is_out_of_steps ends then 6 else (if any_ends is_stalled ends then 5 else 0))
+status_of ends = if any_ends is_trapped ends then 4
+    else (if any_ends is_out_of_steps ends then 6 else (if any_ends is_stalled ends then 5 else 0))

@@ -2,7 +2,8 @@
 
 ghost use Rattle.std.specs.Prelude.{◌≡◌, ◌++◌, length, string_bytes, IfOk, OnOk};
 ghost use Rattle.std.specs.Fmt.{signed_decimal};
-ghost use Rattle.ac_base.specs.Report.{word_text, trap_text, ending_of, line_of, closed, report_of, any_ends, is_trapped, is_out_of_steps, is_stalled, status_of};
+ghost use Rattle.ac_base.specs.Report.{word_text, trap_text, ending_of, line_of, closed, report_of};
+ghost use Rattle.ac_base.specs.Report.{any_ends, is_trapped, is_out_of_steps, is_stalled, status_of};
 
 use crate::ends::{EndWord, MachineEnd, Status, Trap};
 use crate::list::{Bytes, List, Name};

@@ -8,7 +8,7 @@ use Rattle.ac_commands.specs.declared.command.Command.TheOpen.{Command-F}
 use Rattle.stack_code.specs.declared.instr.Instr.TheVariants as i
 use Rattle.ac_translation.specs.Pieces.{Piece, no_code, one, ◌⨾◌, over, loop}
 use Rattle.ac_translation.specs.Translation.{value_code, test_code, if_code, at_loop, at_next, command_step, command_code, body_code}
-use Rattle.ac_compile.specs.Emission.{Emitted, HasRoom}
+use Rattle.ac_compile.specs.inner.Emission.{Emitted, HasRoom}
 
 -- what stands after an `else`
 abbrev pub other_code : Option (List Command) → Piece
@@ -50,13 +50,10 @@ if_size : (test : Value) (body : List Command) (other : Option (List Command)) �
 if_size test body None = omega arith
 if_size test body (Some other) = omega arith
 
-for_size : (test : Option Value) (next body : List Command) → 2 + ((body_code next).size + (body_code body).size) ≤ (for_piece test next body).size
-for_size None next body = omega arith
-for_size (Some test) next body = omega arith
-
 -- what a statement gives its parts: a smaller measure, and room
 module _ (x : Command) (e : Emitted) (n : ℕ) (d : 2 * (command_code x).size ≡ n) (room : HasRoom (command_code x) e) where
-  pub if_fits : (test : Value) (body ys : List Command) (other : Option (List Command)) → x ≡ c.If test body other → ys ≡ body → (2 * ((body_code ys).size + (other_code other).size) + 3 < n) × HasRoom (if_piece test ys other) e
+  pub if_fits : (test : Value) (body ys : List Command) (other : Option (List Command)) → x ≡ c.If test body other → ys ≡ body
+      → (2 * ((body_code ys).size + (other_code other).size) + 3 < n) × HasRoom (if_piece test ys other) e
   if_fits test body ys other is same =
       let m = ap (λ z. (command_code z).size) is ∙ ap (λ (p : Piece). p.size) (if_is test body other) ∙ ap (λ zs. (if_piece test zs other).size) (sym same) in
       let k = if_size test ys other in
@@ -65,20 +62,4 @@ module _ (x : Command) (e : Emitted) (n : ℕ) (d : 2 * (command_code x).size �
   pub while_fits : (test : Value) (body ys : List Command) → x ≡ c.While test body → ys ≡ body → (2 * (body_code ys).size + 3 < n) × HasRoom (while_piece test ys) e
   while_fits test body ys is same =
       let m = ap (λ z. (command_code z).size) is ∙ ap (λ (p : Piece). p.size) (while_is test body) ∙ ap (λ zs. (while_piece test zs).size) (sym same) in
-      (omega (arith, d, m), omega (arith, m, room))
-
-  pub for_fits : (test : Option Value) (next zs body ys : List Command) → x ≡ c.For test next body → zs ≡ next → ys ≡ body → (2 * ((body_code zs).size + (body_code ys).size) + 3 < n) × HasRoom (for_piece test zs ys) e
-  for_fits test next zs body ys is this same =
-      let m = ap (λ z. (command_code z).size) is ∙ ap (λ (p : Piece). p.size) (for_is test next body) ∙ ap (λ ws. (for_piece test ws body).size) (sym this) ∙ ap (λ ws. (for_piece test zs ws).size) (sym same) in
-      let k = for_size test zs ys in
-      (omega (arith, d, m, k), omega (arith, m, room))
-
-  pub do_fits : (slot : ℕ) (body ys : List Command) → x ≡ c.Do slot body → ys ≡ body → (2 * (body_code ys).size + 2 < n) × HasRoom (do_piece slot ys) e
-  do_fits slot body ys is same =
-      let m = ap (λ z. (command_code z).size) is ∙ ap (λ (p : Piece). p.size) (do_is slot body) ∙ ap (λ zs. (do_piece slot zs).size) (sym same) in
-      (omega (arith, d, m), omega (arith, m, room))
-
-  pub async_fits : (slots : ℕ) (body ys : List Command) → x ≡ c.Async slots body → ys ≡ body → (2 * (body_code ys).size + 2 < n) × HasRoom (async_piece slots ys) e
-  async_fits slots body ys is same =
-      let m = ap (λ z. (command_code z).size) is ∙ ap (λ (p : Piece). p.size) (async_is slots body) ∙ ap (λ zs. (async_piece slots zs).size) (sym same) in
       (omega (arith, d, m), omega (arith, m, room))

@@ -12,7 +12,7 @@ use Rattle.stack_code.specs.Sequential.{IsSequential}
 use Rattle.ac_translation.specs.Translation.{functions_code, code_of}
 use Rattle.ac_translation.specs.Same.{IsSame}
 use Rattle.ac_translation.proofs.Agrees.{code_same}
-use Rattle.ac_compile.specs.Built.{IsOne}
+use Rattle.ac_compile.specs.inner.Built.{IsOne}
 use Rattle.ac_compile.specs.Unbuilt.{unbuilt_nodes}
 use Rattle.ac_compile.specs.Compiled.{IsCodeOf}
 use Rattle.ac_compile.specs.OneEnd.{HasOneEnd}

@@ -8,27 +8,28 @@ use Rattle.ac_tree.specs.declared.item.Item.TheVariants as i
 use Rattle.ac_tree.specs.declared.item.Function.{Function}
 use Rattle.ac_tree.specs.declared.item.Param.{Param}
 use Rattle.ac_tree.specs.Weight.{body_weight, items_weight}
-use Rattle.ac_types.specs.declared.meaning.Meaning.{Meaning}
-use Rattle.ac_types.specs.declared.meaning.Meaning.TheVariants as m
-use Rattle.ac_types.specs.declared.numbered.Reached.{Reached}
+use Rattle.ac_names.specs.declared.meaning.Meaning.{Meaning}
+use Rattle.ac_names.specs.declared.meaning.Meaning.TheVariants as m
+use Rattle.ac_reach.specs.declared.reached.Reached.{Reached}
 use Rattle.ac_types.specs.declared.numbered.Tables.{Tables}
-use Rattle.ac_types.specs.declared.past.Counts.{Counts}
-use Rattle.ac_types.specs.declared.past.Past.{Past}
-use Rattle.ac_types.specs.Kinds.{is_declared}
-use Rattle.ac_types.specs.Scopes.{Declaration, in_scope, added, visible}
+use Rattle.ac_names.specs.declared.past.Counts.{Counts}
+use Rattle.ac_names.specs.declared.past.Past.{Past}
+use Rattle.ac_names.specs.Kinds.{is_declared}
+use Rattle.ac_names.specs.Scopes.{Declaration, in_scope, added, visible}
 use Rattle.ac_types.specs.Tables.{callee}
 use Rattle.ac_types.specs.Nodes.{Node}
 use Rattle.ac_types.specs.Judged.{once_tests}
 use Rattle.ac_types.specs.Expressions.{one_node, join_nodes}
-use Rattle.ac_types.specs.Statements.{array_len}
-use Rattle.ac_types.specs.Items.{item_name, item_meaning, global_at, counted, past_after, past_all, core_tests, reached_in, function_nodes, item_gives, items_give}
-use Rattle.ac_types.proofs.Visible.{AllMean, added_mean, in_added}
+use Rattle.ac_names.specs.Statements.{array_len}
+use Rattle.ac_names.specs.Items.{item_name, item_meaning, global_at, counted, past_after, past_all}
+use Rattle.ac_types.specs.Items.{core_tests, reached_in, function_nodes, item_gives, items_give}
+use Rattle.ac_names.proofs.Visible.{AllMean, added_mean, in_added}
 use Rattle.ac_types.proofs.Cleans.{AllClean, clean_sooner, clean_later}
 use Rattle.ac_commands.specs.declared.program.Start.{Start}
 use Rattle.ac_resolve.specs.Places.{function_of}
 use Rattle.ac_resolve.specs.Commands.{Texts}
 use Rattle.ac_resolve.specs.Resolution.{cores_in, functions_in, function_in, function_texts, items_texts, channels_in, start_at, starts_in}
-use Rattle.ac_compile.specs.Built.{AreStarts}
+use Rattle.ac_compile.specs.inner.Built.{AreStarts}
 use Rattle.ac_compile.specs.Unbuilt.{as_list, params_nodes, body_nodes, first_entry, is_entry, item_nodes, is_late, items_nodes}
 use Rattle.ac_compile.proofs.Within.{IsWithin}
 use Rattle.ac_compile.proofs.Readings.{AreClean, no_node, neither, node_built}
@@ -198,18 +199,21 @@ module _ (t : Tables) (s : List (List Declaration)) where
     one_there : (name entry : List ℕ) (before : Option Meaning) → first_entry xs ≡ Some entry → cores_in xs s ≡ record { name = name; entry = function_of (visible entry s) } ∷ [] →
         AreClean (core_tests before (visible entry s) (callee t (visible entry s))) → HasCore cores xs after
 
-  core_further : (cores : ℕ) (x : Item) (xs : List Item) (after : Past) → first_entry (x ∷ xs) ≡ first_entry xs → cores_in (x ∷ xs) s ≡ cores_in xs s → HasCore cores xs after → HasCore cores (x ∷ xs) after
+  core_further : (cores : ℕ) (x : Item) (xs : List Item) (after : Past) → first_entry (x ∷ xs) ≡ first_entry xs → cores_in (x ∷ xs) s ≡ cores_in xs s → HasCore cores xs after
+      → HasCore cores (x ∷ xs) after
   core_further cores x xs after e f (none_there n) = none_there n
   core_further cores x xs after e f (one_there name entry before g k c) = one_there name entry before (e ∙ g) (f ∙ k) c
 
   pub core_of_all : (entry : Option (List ℕ)) (q : Past) (xs : List Item) → AreFine entry false q xs → HasCore q.counts.cores xs (past_all q xs)
   core_of_all entry q [] h = none_there refl
   core_of_all entry q (i.Channel at name from to cap ∷ xs) h = absurd (no_node at _ h.built)
-  core_of_all entry q (i.Global at name size value ∷ xs) h = core_further q.counts.cores _ xs _ refl refl (core_of_all entry (past_after q (i.Global at name size value)) xs (fine_rest entry false q (i.Global at name size value) xs h))
+  core_of_all entry q (i.Global at name size value ∷ xs) h = core_further q.counts.cores _ xs _ refl refl
+      (core_of_all entry (past_after q (i.Global at name size value)) xs (fine_rest entry false q (i.Global at name size value) xs h))
   core_of_all entry q (i.Function f ∷ xs) h = core_further q.counts.cores _ xs _ refl refl (core_of_all entry (past_after q (i.Function f)) xs (fine_rest entry false q (i.Function f) xs h))
   core_of_all entry q (i.File at name path ∷ xs) h = absurd (no_node at _ h.built)
   core_of_all entry q (i.Core at name own ∷ xs) h =
-      one_there name own (in_scope name q.names) refl (ap (λ cs. record { name = name; entry = function_of (visible own s) } ∷ cs) (no_cores entry (past_after q (i.Core at name own)) xs (fine_rest entry false q (i.Core at name own) xs h))) h.clean.0
+      one_there name own (in_scope name q.names) refl (ap (λ cs. record { name = name; entry = function_of (visible own s) } ∷ cs)
+      (no_cores entry (past_after q (i.Core at name own)) xs (fine_rest entry false q (i.Core at name own) xs h))) h.clean.0
 
   -- ---- functions
 
@@ -219,7 +223,8 @@ module _ (t : Tables) (s : List (List Declaration)) where
     texts : (ts : Texts) → items_texts xs ts ≡ ts
     means : (c : Counts) → EachMeans IsNoFunction c xs
 
-  none_further : (x : Item) (xs : List Item) → ((ts : Texts) → functions_in (x ∷ xs) s ts ≡ functions_in xs s ts) → ((ts : Texts) → items_texts (x ∷ xs) ts ≡ items_texts xs ts) → ((c : Counts) → IsNoFunction (item_meaning c x)) →
+  none_further : (x : Item) (xs : List Item) → ((ts : Texts) → functions_in (x ∷ xs) s ts ≡ functions_in xs s ts) → ((ts : Texts) → items_texts (x ∷ xs) ts ≡ items_texts xs ts)
+      → ((c : Counts) → IsNoFunction (item_meaning c x)) →
       HasNone xs → HasNone (x ∷ xs)
   none_further x xs e f g h = record { functions = λ ts. e ts ∙ h.functions ts; texts = λ ts. f ts ∙ h.texts ts; means = λ c. (g c, h.means (counted c x)) }
 
@@ -228,7 +233,8 @@ module _ (t : Tables) (s : List (List Declaration)) where
   no_functions entry late q [] e h = record { functions = λ ts. refl; texts = λ ts. refl; means = λ c. tt }
   no_functions entry late q (i.Global at name size value ∷ xs) e h =
       none_further (i.Global at name size value) xs (λ ts. refl) (λ ts. refl) (λ c n k. no_global size c.slots n k)
-      (no_functions entry late (past_after q (i.Global at name size value)) xs (declared_more entry name (global_at size q.counts.slots) q.names e) (fine_rest (Some entry) late q (i.Global at name size value) xs h))
+      (no_functions entry late (past_after q (i.Global at name size value)) xs (declared_more entry name (global_at size q.counts.slots) q.names e)
+      (fine_rest (Some entry) late q (i.Global at name size value) xs h))
   no_functions entry late q (i.Function f ∷ xs) e h =
       let here = fine_first (Some entry) late q (i.Function f) xs h in
       let only = function_built entry late f here.built in
@@ -242,7 +248,8 @@ module _ (t : Tables) (s : List (List Declaration)) where
   pub data HasFunction (entry : List ℕ) (xs : List Item) : Type 0 where
     no_function_there : ((c : Counts) → EachMeans IsNoFunction c xs) → HasFunction entry xs
     function_there : (f : Function) (reached : Reached) → f.params ≡ [] → body_nodes as_list f.body ≡ [] → body_weight f.body ≤ items_weight xs → AllClean (function_nodes f t s reached) →
-        ((ts : Texts) → functions_in xs s ts ≡ function_in f s ts ∷ []) → ((ts : Texts) → items_texts xs ts ≡ function_texts f ts) → ((c : Counts) → c.functions ≡ 0 → EachMeans IsFirst c xs) → HasFunction entry xs
+        ((ts : Texts) → functions_in xs s ts ≡ function_in f s ts ∷ []) → ((ts : Texts) → items_texts xs ts ≡ function_texts f ts) → ((c : Counts) → c.functions ≡ 0 → EachMeans IsFirst c xs)
+        → HasFunction entry xs
 
   function_further : (entry : List ℕ) (x : Item) (xs : List Item) → ((ts : Texts) → functions_in (x ∷ xs) s ts ≡ functions_in xs s ts) → ((ts : Texts) → items_texts (x ∷ xs) ts ≡ items_texts xs ts) →
       ((c : Counts) → IsNoFunction (item_meaning c x)) → ((c : Counts) → (counted c x).functions ≡ c.functions) → HasFunction entry xs → HasFunction entry (x ∷ xs)

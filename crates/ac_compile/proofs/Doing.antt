@@ -7,21 +7,23 @@ use Rattle.ac_tree.specs.declared.stmt.Stmt.TheOpen.{Stmt-F}
 use Rattle.ac_tree.specs.Weight.{total, expr_weight, value_weight, stmt_weigh, stmt_weight, body_weight}
 use Rattle.ac_types.specs.declared.around.Around.{Around}
 use Rattle.ac_types.specs.declared.around.Position.TheVariants as p
-use Rattle.ac_types.specs.declared.meaning.Meaning.TheVariants as m
+use Rattle.ac_names.specs.declared.meaning.Meaning.TheVariants as m
 use Rattle.ac_types.specs.declared.numbered.Tables.{Tables}
-use Rattle.ac_types.specs.declared.walk.Names.{Names}
+use Rattle.ac_names.specs.declared.names.Names.{Names}
 use Rattle.ac_types.specs.Around.{inside_loop}
-use Rattle.ac_types.specs.Scopes.{Declaration}
+use Rattle.ac_names.specs.Scopes.{Declaration}
 use Rattle.ac_types.specs.Nodes.{Node}
 use Rattle.ac_types.specs.Expressions.{one_node, join_nodes, expr_nodes, value_all}
-use Rattle.ac_types.specs.Statements.{Named, part_names, part_words, part_gives, stmt_step, stmt_nodes, body_gives, some_gives, listed, some_listed, opened, moved, declared_at, array_len}
+use Rattle.ac_names.specs.Statements.{Named, part_names, part_words, part_gives, listed, sum_words, some_words, some_listed, opened, moved, declared_at, array_len}
+use Rattle.ac_types.specs.Statements.{StmtPart, stmt_step, stmt_nodes, body_gives, some_gives}
 use Rattle.ac_types.proofs.Cleans.{AllClean, clean_sooner, clean_later, not_false}
 use Rattle.ac_commands.specs.declared.command.Command.{Command}
 use Rattle.ac_commands.specs.declared.command.Command.TheVariants as cm
-use Rattle.ac_resolve.specs.Commands.{Texts, Told, told_step, told, passed, all_words, all_texts, commands, some_words, some_passed, some_texts, some_commands, for_names}
+use Rattle.ac_resolve.specs.Commands.{Texts, Told, told_step, told, shapes, some_shape, all_texts, commands, some_texts, some_commands, for_names}
 use Rattle.ac_resolve.specs.Computed.{value_in, values_in, test_in, target_in, effect_in, initial_in, operand_in}
-use Rattle.ac_resolve.proofs.Scoped.{some_slot}
-use Rattle.ac_compile.specs.Built.{Round, own, to_variable, IsCommand, nothing, set, clear, print, if_alone, if_else, while_loop, for_loop, leave, go_on, give, AreCommands, no_command, one_command}
+use Rattle.ac_names.proofs.Statements.{listed_slot}
+use Rattle.ac_compile.specs.inner.Built.{Round, own, to_variable, IsCommand, nothing, set, clear, print, if_alone, if_else}
+use Rattle.ac_compile.specs.inner.Built.{while_loop, for_loop, leave, go_on, give, AreCommands, no_command, one_command}
 use Rattle.ac_compile.specs.Unbuilt.{as_list, all_of, is_place, some_expr, expr_nodes as unbuilt_in, stmt_step as built_step, stmt_nodes as unbuilt_of, body_nodes as body_unbuilt}
 use Rattle.ac_compile.proofs.Directives.{directives_are}
 use Rattle.ac_compile.proofs.Within.{within_declared}
@@ -43,13 +45,14 @@ both_done r inside _ ys (one_command b x xs g gs) h = one_command b x (xs ++ ys)
 abbrev names_at : List (List Declaration) → List (List Declaration) → ℕ → Names
 names_at scopes labels slot = record { scopes = scopes; labels = labels; slot = slot }
 
-listed_same : (q : Told) (k : NodesPart) (n : Names) (a : Around) → IsTold q k → a.depth ≡ 0 → passed q 0 n ≡ listed k a n
+listed_same : (q : Told) (k : NodesPart) (n : Names) (a : Around) → IsTold q k → a.depth ≡ 0 → listed q.shape 0 n ≡ listed k a.depth n
 listed_same q k n a h d =
     ap (λ o. names_at (declared_at o 0 n.slot n.scopes) n.labels (n.slot + part_words q.shape)) h.names
     ∙ ap (λ w. names_at (declared_at (part_names k) 0 n.slot n.scopes) n.labels (n.slot + w)) h.words
     ∙ ap (λ e. names_at (declared_at (part_names k) e n.slot n.scopes) n.labels (n.slot + part_words k)) (sym d)
 
-declared_in : (r : Round) (named : Option Named) (words slot : ℕ) (scopes : List (List Declaration)) → Takes named words → slot + words ≤ r.slots → AllIn r scopes → AllIn r (declared_at named 0 slot scopes)
+declared_in : (r : Round) (named : Option Named) (words slot : ℕ) (scopes : List (List Declaration)) → Takes named words → slot + words ≤ r.slots → AllIn r scopes
+    → AllIn r (declared_at named 0 slot scopes)
 declared_in r None words slot scopes l le h = h
 declared_in r (Some n) words slot scopes l le h = by n.len l where
   by : (len : Option ℕ) → Takes (Some (record { name = n.name; len = len })) words → AllIn r (declared_at (Some (record { name = n.name; len = len })) 0 slot scopes)
@@ -77,7 +80,8 @@ bodies_nodes = body_gives (List Node) one_node [] join_nodes
 module _ (r : Round) where
   -- what is claimed of a statement by what it does, its nodes, what it weighs, and its nodes that are not built
   abbrev Does : Told → NodesPart → ℕ → List ℕ → Type 0
-  Does q k weight unbuilt = (t : Tables) (n : Names) (a : Around) (texts : Texts) → IsRound r n a (part_words q.shape) (q.texts texts) → weight < 2 ^ 32 → AllClean (part_gives k t n a) → unbuilt ≡ [] →
+  Does q k weight unbuilt = (t : Tables) (n : Names) (a : Around) (texts : Texts) → IsRound r n a (part_words q.shape) (q.texts texts) → weight < 2 ^ 32 → AllClean (part_gives k t n a) → unbuilt ≡ []
+      →
       AreCommands r a.in_loop (q.commands n 0 texts)
 
   abbrev Claim : Stmt → Type 0
@@ -89,22 +93,25 @@ module _ (r : Round) where
   abbrev stmts_of : List Stmt_ → List Stmt
   stmts_of xs = map (λ x. x.0) xs
 
-  stmts_done : (xs : List Stmt_) (t : Tables) (n : Names) (a : Around) (texts : Texts) → IsRound r n a (all_words (map told (stmts_of xs))) (all_texts (map told (stmts_of xs)) texts) → total (map stmt_weight (stmts_of xs)) < 2 ^ 32 →
-      AllClean (bodies_nodes (map stmt_nodes (stmts_of xs)) t n a) → all_of as_list (map (unbuilt_of as_list) (stmts_of xs)) ≡ [] → AreCommands r a.in_loop (commands (map told (stmts_of xs)) n 0 texts)
+  stmts_done : (xs : List Stmt_) (t : Tables) (n : Names) (a : Around) (texts : Texts) → IsRound r n a (sum_words (shapes (map told (stmts_of xs)))) (all_texts (map told (stmts_of xs)) texts)
+      → total (map stmt_weight (stmts_of xs)) < 2 ^ 32 →
+      AllClean (bodies_nodes (map stmt_nodes (stmts_of xs)) t n a) → all_of as_list (map (unbuilt_of as_list) (stmts_of xs)) ≡ []
+      → AreCommands r a.in_loop (commands (map told (stmts_of xs)) n 0 texts)
   stmts_done [] t n a texts w small c u = no_command a.in_loop
   stmts_done (x ∷ xs) t n a texts w small c u =
       let q = told x.0 in
       let is = is_told x.0 in
-      let next = passed q 0 n in
+      let next = listed q.shape 0 n in
       let after = q.texts texts in
       let here = part_gives (stmt_nodes x.0) t n a in
-      let rest = bodies_nodes (map stmt_nodes (stmts_of xs)) t (listed (stmt_nodes x.0) a n) a in
+      let rest = bodies_nodes (map stmt_nodes (stmts_of xs)) t (listed (stmt_nodes x.0) a.depth n) a in
       let parts = neither (unbuilt_of as_list x.0) (all_of as_list (map (unbuilt_of as_list) (stmts_of xs))) u in
       let slots = w.slots in
       let le : n.slot + part_words q.shape ≤ r.slots = omega (arith, slots) in
       let clean = subst (λ k. AllClean (bodies_nodes (map stmt_nodes (stmts_of xs)) t k a)) (sym (listed_same q (stmt_nodes x.0) n a is w.depth)) (clean_later here rest c) in
       both_done r a.in_loop (q.commands n 0 texts) (commands (map told (stmts_of xs)) next 0 after)
-      (x.1 t n a texts (record { depth = w.depth; names = w.names; slots = le; kept = kept_further after _ r.texts (body_kept (stmts_of xs) after) w.kept }) (omega (arith, small)) (clean_sooner here rest c) parts.left)
+      (x.1 t n a texts (record { depth = w.depth; names = w.names; slots = le; kept = kept_further after _ r.texts (body_kept (stmts_of xs) after) w.kept }) (omega (arith, small))
+      (clean_sooner here rest c) parts.left)
       (stmts_done xs t next a after
       (record { depth = w.depth; names = declared_in r (part_names q.shape) (part_words q.shape) n.slot n.scopes is.room le w.names; slots = omega (arith, slots); kept = w.kept })
       (omega (arith, small)) clean parts.right)
@@ -131,7 +138,8 @@ module _ (r : Round) where
   node_words None = 0
   node_words (Some x) = part_words (stmt_nodes x.0)
 
-  some_done : (x : Option Stmt_) (t : Tables) (n : Names) (a : Around) (texts : Texts) → IsRound r n a (some_words (told_of x)) (some_texts (told_of x) texts) → weight_of x < 2 ^ 32 → AllClean (some_nodes (nodes_of x) t n a) → unbuilt_some x ≡ [] →
+  some_done : (x : Option Stmt_) (t : Tables) (n : Names) (a : Around) (texts : Texts) → IsRound r n a (some_words (some_shape (told_of x))) (some_texts (told_of x) texts) → weight_of x < 2 ^ 32
+      → AllClean (some_nodes (nodes_of x) t n a) → unbuilt_some x ≡ [] →
       AreCommands r a.in_loop (some_commands (told_of x) n 0 texts)
   some_done None t n a texts w small c u = no_command a.in_loop
   some_done (Some x) t n a texts w small c u = x.1 t n a texts w small c u
@@ -140,31 +148,35 @@ module _ (r : Round) where
   some_kept None ts = kept_same ts
   some_kept (Some x) ts = (is_told x.0).texts ts
 
-  some_same : (x : Option Stmt_) (n : Names) (a : Around) → a.depth ≡ 0 → some_passed (told_of x) 0 n ≡ some_listed (nodes_of x) a n
+  some_same : (x : Option Stmt_) (n : Names) (a : Around) → a.depth ≡ 0 → some_listed (some_shape (told_of x)) 0 n ≡ some_listed (nodes_of x) a.depth n
   some_same None n a d = refl
   some_same (Some x) n a d = listed_same (told x.0) (stmt_nodes x.0) n a (is_told x.0) d
 
-  some_alike : (x : Option Stmt_) → some_words (told_of x) ≡ node_words x
+  some_alike : (x : Option Stmt_) → some_words (some_shape (told_of x)) ≡ node_words x
   some_alike None = refl
   some_alike (Some x) = (is_told x.0).words
 
-  some_declared : (x : Option Stmt_) (n : Names) → n.slot + some_words (told_of x) ≤ r.slots → AllIn r n.scopes → AllIn r (some_passed (told_of x) 0 n).scopes
+  some_declared : (x : Option Stmt_) (n : Names) → n.slot + some_words (some_shape (told_of x)) ≤ r.slots → AllIn r n.scopes → AllIn r (some_listed (some_shape (told_of x)) 0 n).scopes
   some_declared None n le h = h
   some_declared (Some x) n le h = declared_in r (part_names (told x.0).shape) (part_words (told x.0).shape) n.slot n.scopes (is_told x.0).room le h
 
   -- ---- `if`
 
-  if_done : (test : Expr) (body : Stmt_) (t : Tables) (n : Names) (a : Around) (texts : Texts) → IsRound r n a (part_words (told body.0).shape) ((told body.0).texts texts) → 3 + (expr_weight test + stmt_weight body.0) < 2 ^ 32 →
+  if_done : (test : Expr) (body : Stmt_) (t : Tables) (n : Names) (a : Around) (texts : Texts) → IsRound r n a (part_words (told body.0).shape) ((told body.0).texts texts)
+      → 3 + (expr_weight test + stmt_weight body.0) < 2 ^ 32 →
       AllClean (expr_nodes test t n.scopes a p.Value) → AllClean (part_gives (stmt_nodes body.0) t n a) → unbuilt_in as_list test ≡ [] → unbuilt_of as_list body.0 ≡ [] →
       AreCommands r a.in_loop (cm.If (value_in test n.scopes 0) ((told body.0).commands n 0 texts) None ∷ [])
   if_done test body t n a texts w small c d u v =
-      single r a.in_loop _ (if_alone a.in_loop (value_in test n.scopes 0) ((told body.0).commands n 0 texts) (value_read r t n.scopes a w.names test c u) (body.1 t n a texts w (omega (arith, small)) d v))
+      single r a.in_loop _ (if_alone a.in_loop (value_in test n.scopes 0) ((told body.0).commands n 0 texts) (value_read r t n.scopes a w.names test c u)
+      (body.1 t n a texts w (omega (arith, small)) d v))
 
   else_done : (test : Expr) (body other : Stmt_) (t : Tables) (n : Names) (a : Around) (texts : Texts) →
-      IsRound r n a (part_words (told body.0).shape + part_words (told other.0).shape) ((told other.0).texts ((told body.0).texts texts)) → 3 + (expr_weight test + (stmt_weight body.0 + stmt_weight other.0)) < 2 ^ 32 →
+      IsRound r n a (part_words (told body.0).shape + part_words (told other.0).shape) ((told other.0).texts ((told body.0).texts texts))
+      → 3 + (expr_weight test + (stmt_weight body.0 + stmt_weight other.0)) < 2 ^ 32 →
       AllClean (expr_nodes test t n.scopes a p.Value) → AllClean (part_gives (stmt_nodes body.0) t n a) → AllClean (part_gives (stmt_nodes other.0) t (moved n (part_words (stmt_nodes body.0))) a) →
       unbuilt_in as_list test ≡ [] → unbuilt_of as_list body.0 ≡ [] → unbuilt_of as_list other.0 ≡ [] →
-      AreCommands r a.in_loop (cm.If (value_in test n.scopes 0) ((told body.0).commands n 0 texts) (Some ((told other.0).commands (moved n (part_words (told body.0).shape)) 0 ((told body.0).texts texts))) ∷ [])
+      AreCommands r a.in_loop (cm.If (value_in test n.scopes 0) ((told body.0).commands n 0 texts)
+      (Some ((told other.0).commands (moved n (part_words (told body.0).shape)) 0 ((told body.0).texts texts))) ∷ [])
   else_done test body other t n a texts w small c d e u v z =
       let after = (told body.0).texts texts in
       let words = part_words (told body.0).shape in
@@ -172,7 +184,8 @@ module _ (r : Round) where
       let clean = subst (λ k. AllClean (part_gives (stmt_nodes other.0) t (moved n k) a)) (sym (is_told body.0).words) e in
       single r a.in_loop _
       (if_else a.in_loop (value_in test n.scopes 0) ((told body.0).commands n 0 texts) ((told other.0).commands (moved n words) 0 after) (value_read r t n.scopes a w.names test c u)
-      (body.1 t n a texts (record { depth = w.depth; names = w.names; slots = omega (arith, slots); kept = kept_further after _ r.texts ((is_told other.0).texts after) w.kept }) (omega (arith, small)) d v)
+      (body.1 t n a texts (record { depth = w.depth; names = w.names; slots = omega (arith, slots); kept = kept_further after _ r.texts ((is_told other.0).texts after) w.kept })
+      (omega (arith, small)) d v)
       (other.1 t (moved n words) a after (record { depth = w.depth; names = w.names; slots = omega (arith, slots); kept = w.kept }) (omega (arith, small)) clean z))
 
   -- ---- `for`
@@ -185,14 +198,15 @@ module _ (r : Round) where
   rest_nodes test next body t n a = valued_nodes test t n a ++ (some_nodes (nodes_of next) t n a ++ part_gives (stmt_nodes body.0) t (moved n (node_words next)) (inside_loop a))
 
   for_done : (init : Option Stmt_) (test : Option Expr) (next : Option Stmt_) (body : Stmt_) (t : Tables) (n : Names) (a : Around) (texts : Texts) →
-      IsRound r n a ((some_words (told_of init) + some_words (told_of next)) + part_words (told body.0).shape) ((told body.0).texts (some_texts (told_of next) (some_texts (told_of init) texts))) →
+      IsRound r n a ((some_words (some_shape (told_of init)) + some_words (some_shape (told_of next))) + part_words (told body.0).shape)
+      ((told body.0).texts (some_texts (told_of next) (some_texts (told_of init) texts))) →
       5 + (weight_of init + (value_weight test + (weight_of next + stmt_weight body.0))) < 2 ^ 32 →
-      AllClean (some_nodes (nodes_of init) t (opened n) a ++ rest_nodes test next body t (some_listed (nodes_of init) a (opened n)) a) →
+      AllClean (some_nodes (nodes_of init) t (opened n) a ++ rest_nodes test next body t (some_listed (nodes_of init) a.depth (opened n)) a) →
       unbuilt_some init ++ (some_expr as_list test ++ (unbuilt_some next ++ unbuilt_of as_list body.0)) ≡ [] →
       AreCommands r a.in_loop (some_commands (told_of init) (opened n) 0 texts
       ++ cm.For (test_in test (for_names (told_of init) 0 n).scopes 0)
       (some_commands (told_of next) (for_names (told_of init) 0 n) 0 (some_texts (told_of init) texts))
-      ((told body.0).commands (moved (for_names (told_of init) 0 n) (some_words (told_of next))) 0 (some_texts (told_of next) (some_texts (told_of init) texts)))
+      ((told body.0).commands (moved (for_names (told_of init) 0 n) (some_words (some_shape (told_of next)))) 0 (some_texts (told_of next) (some_texts (told_of init) texts)))
       ∷ [])
   for_done init test next body t n a texts w small c u =
       let qi = told_of init in
@@ -200,9 +214,9 @@ module _ (r : Round) where
       let after = some_texts qi texts in
       let later = some_texts qn after in
       let m = for_names qi 0 n in
-      let k = some_listed (nodes_of init) a (opened n) in
+      let k = some_listed (nodes_of init) a.depth (opened n) in
       let slots = w.slots in
-      let there : m.slot ≡ n.slot + some_words qi = some_slot qi 0 (opened n) in
+      let there : m.slot ≡ n.slot + some_words (some_shape qi) = listed_slot (some_shape qi) 0 (opened n) in
       let inner = some_declared init (opened n) (omega (arith, slots)) w.names in
       let kept_later = kept_further later _ r.texts ((is_told body.0).texts later) w.kept in
       let kept_after = kept_further after later r.texts (some_kept next after) kept_later in
@@ -217,17 +231,20 @@ module _ (r : Round) where
       let ends = clean_later tested (nexts ++ bodies) rest in
       let clean = subst (λ x. AllClean (part_gives (stmt_nodes body.0) t (moved m x) (inside_loop a))) (sym (some_alike next)) (clean_later nexts bodies ends) in
       both_done r a.in_loop _ _
-      (some_done init t (opened n) a texts (record { depth = w.depth; names = w.names; slots = omega (arith, slots); kept = kept_after }) (omega (arith, small)) (clean_sooner head (rest_nodes test next body t k a) c) parts.left)
+      (some_done init t (opened n) a texts (record { depth = w.depth; names = w.names; slots = omega (arith, slots); kept = kept_after }) (omega (arith, small))
+      (clean_sooner head (rest_nodes test next body t k a) c) parts.left)
       (single r a.in_loop _
-      (for_loop a.in_loop (test_in test m.scopes 0) (some_commands qn m 0 after) ((told body.0).commands (moved m (some_words qn)) 0 later)
+      (for_loop a.in_loop (test_in test m.scopes 0) (some_commands qn m 0 after) ((told body.0).commands (moved m (some_words (some_shape qn))) 0 later)
       (test_read r t m.scopes a inner test (clean_sooner tested (nexts ++ bodies) rest) inside.left)
       (some_done next t m a after (record { depth = w.depth; names = inner; slots = omega (arith, slots, there); kept = kept_later }) (omega (arith, small)) (clean_sooner nexts bodies ends) last.left)
-      (body.1 t (moved m (some_words qn)) (inside_loop a) later (record { depth = w.depth; names = inner; slots = omega (arith, slots, there); kept = w.kept }) (omega (arith, small)) clean last.right)))
+      (body.1 t (moved m (some_words (some_shape qn))) (inside_loop a) later (record { depth = w.depth; names = inner; slots = omega (arith, slots, there); kept = w.kept })
+      (omega (arith, small)) clean last.right)))
 
   -- ---- all forms
 
   abbrev LayerClaim : Stmt-F Stmt → Type 0
-  LayerClaim z = Does (told_step (map-Stmt Stmt Told told z)) (node_step (map-Stmt Stmt NodesPart stmt_nodes z)) (stmt_weigh (map-Stmt Stmt ℕ stmt_weight z)) (built_step as_list (map-Stmt Stmt (List ℕ) (unbuilt_of as_list) z))
+  LayerClaim z = Does (told_step (map-Stmt Stmt Told told z)) (node_step (map-Stmt Stmt NodesPart stmt_nodes z)) (stmt_weigh (map-Stmt Stmt ℕ stmt_weight z))
+      (built_step as_list (map-Stmt Stmt (List ℕ) (unbuilt_of as_list) z))
 
   layer : (y : Stmt-F Stmt_) → LayerClaim (map-Stmt Stmt_ Stmt (λ x. x.0) y)
   layer (Stmt-F.Block at body) t n a texts w small c u = stmts_done body t (opened n) a texts (record { depth = w.depth; names = w.names; slots = w.slots; kept = w.kept }) (omega (arith, small)) c.1 u
@@ -250,13 +267,15 @@ module _ (r : Round) where
       let few = few_exprs args in
       let right = directives_are format (length args) c.0 in
       single r a.in_loop _
-      (print a.in_loop (length texts) (values_in args n.scopes 0) format (w.kept (length texts) format (last_there texts format)) (many ∙ right) (omega (arith, many, few, small)) (values_read r t n.scopes a w.names args c.1 u))
+      (print a.in_loop (length texts) (values_in args n.scopes 0) format (w.kept (length texts) format (last_there texts format)) (many ∙ right) (omega (arith, many, few, small))
+      (values_read r t n.scopes a w.names args c.1 u))
   layer (Stmt-F.If at test body None) t n a texts w small c u =
       let slots = w.slots in
       let parts = neither (unbuilt_in as_list test) (unbuilt_of as_list body.0 ++ []) u in
       let left = expr_nodes test t n.scopes a p.Value in
       let right = part_gives (stmt_nodes body.0) t n a in
-      if_done test body t n a texts (record { depth = w.depth; names = w.names; slots = omega (arith, slots); kept = w.kept }) (omega (arith, small)) (clean_sooner left (right ++ []) c.1) (clean_sooner right [] (clean_later left (right ++ []) c.1))
+      if_done test body t n a texts (record { depth = w.depth; names = w.names; slots = omega (arith, slots); kept = w.kept }) (omega (arith, small)) (clean_sooner left (right ++ []) c.1)
+      (clean_sooner right [] (clean_later left (right ++ []) c.1))
       parts.left (neither (unbuilt_of as_list body.0) [] parts.right).left
   layer (Stmt-F.If at test body (Some other)) t n a texts w small c u =
       let parts = neither (unbuilt_in as_list test) (unbuilt_of as_list body.0 ++ unbuilt_of as_list other.0) u in
@@ -292,7 +311,8 @@ module _ (r : Round) where
   stmt_done : (x : Stmt) → Claim x
   stmt_done = ind-Stmt Claim
       (λ x y is.
-      same_does _ (told_step (map-Stmt Stmt Told told x)) _ (node_step (map-Stmt Stmt NodesPart stmt_nodes x)) _ (stmt_weigh (map-Stmt Stmt ℕ stmt_weight x)) _ (built_step as_list (map-Stmt Stmt (List ℕ) (unbuilt_of as_list) x))
+      same_does _ (told_step (map-Stmt Stmt Told told x)) _ (node_step (map-Stmt Stmt NodesPart stmt_nodes x)) _ (stmt_weigh (map-Stmt Stmt ℕ stmt_weight x)) _
+      (built_step as_list (map-Stmt Stmt (List ℕ) (unbuilt_of as_list) x))
       (fold-roll-Stmt Told told_step x) (fold-roll-Stmt NodesPart node_step x) (fold-roll-Stmt ℕ stmt_weigh x) (fold-roll-Stmt (List ℕ) (built_step as_list) x)
       (subst LayerClaim is (layer y)))
 
@@ -306,7 +326,8 @@ module _ (r : Round) where
 
   -- the body of a function
   abbrev BodyClaim : List Stmt → Type 0
-  BodyClaim xs = (t : Tables) (n : Names) (a : Around) (texts : Texts) → IsRound r n a (all_words (map told xs)) (all_texts (map told xs) texts) → body_weight xs < 2 ^ 32 → AllClean (bodies_nodes (map stmt_nodes xs) t n a) →
+  BodyClaim xs = (t : Tables) (n : Names) (a : Around) (texts : Texts) → IsRound r n a (sum_words (shapes (map told xs))) (all_texts (map told xs) texts) → body_weight xs < 2 ^ 32
+      → AllClean (bodies_nodes (map stmt_nodes xs) t n a) →
       body_unbuilt as_list xs ≡ [] → AreCommands r a.in_loop (commands (map told xs) n 0 texts)
 
   pub body_done : (xs : List Stmt) → BodyClaim xs

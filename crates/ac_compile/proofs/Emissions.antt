@@ -7,7 +7,7 @@ use Rattle.stack_code.specs.declared.instr.Instr.{Instr}
 use Rattle.stack_code.specs.declared.instr.Instr.TheVariants as i
 use Rattle.ac_translation.specs.Pieces.{Piece, no_code, one, ◌⨾◌, over, out_past, out_turn}
 use Rattle.ac_translation.specs.Translation.{no_exits}
-use Rattle.ac_compile.specs.Emission.{Emitted, with_code, with_instr, with_outs, with_jumps, jumps_set, HasRoom}
+use Rattle.ac_compile.specs.inner.Emission.{Emitted, with_code, with_instr, with_outs, with_jumps, jumps_set, HasRoom}
 use Rattle.ac_translation.proofs.Sized.{IsSized, one_sized}
 
 abbrev pub emitted : List Instr → List ℕ → List ℕ → Emitted
@@ -22,12 +22,14 @@ pub is_put : (instr : Instr) (xs ys : List Instr) (ps ts : List ℕ) (e : Emitte
 unfolding with_code
 is_put instr xs ys ps ts e v h = same ys _ ps _ ts _ h (sym (append-nil ps)) (sym (append-nil ts)) ∙ ap (with_code (one instr)) v
 
-pub is_past : (xs ys : List Instr) (ps qs ts : List ℕ) (at : ℕ) (e : Emitted) → emitted xs ps ts ≡ e → at ≡ length e.instrs → qs ≡ ps ++ at ∷ [] → ys ≡ xs ++ i.Jump 0 ∷ [] → emitted ys qs ts ≡ with_code out_past e
+pub is_past : (xs ys : List Instr) (ps qs ts : List ℕ) (at : ℕ) (e : Emitted) → emitted xs ps ts ≡ e → at ≡ length e.instrs → qs ≡ ps ++ at ∷ [] → ys ≡ xs ++ i.Jump 0 ∷ []
+    → emitted ys qs ts ≡ with_code out_past e
 unfolding with_code
 is_past xs ys ps qs ts at e v n h k =
     same ys _ qs _ ts _ k (h ∙ ap (λ m. ps ++ m ∷ []) (n ∙ ap (λ (d : Emitted). length d.instrs) (sym v))) (sym (append-nil ts)) ∙ ap (with_code out_past) v
 
-pub is_turn : (xs ys : List Instr) (ps ts us : List ℕ) (at : ℕ) (e : Emitted) → emitted xs ps ts ≡ e → at ≡ length e.instrs → us ≡ ts ++ at ∷ [] → ys ≡ xs ++ i.Jump 0 ∷ [] → emitted ys ps us ≡ with_code out_turn e
+pub is_turn : (xs ys : List Instr) (ps ts us : List ℕ) (at : ℕ) (e : Emitted) → emitted xs ps ts ≡ e → at ≡ length e.instrs → us ≡ ts ++ at ∷ [] → ys ≡ xs ++ i.Jump 0 ∷ []
+    → emitted ys ps us ≡ with_code out_turn e
 unfolding with_code
 is_turn xs ys ps ts us at e v n h k =
     same ys _ ps _ us _ k (sym (append-nil ps)) (h ∙ ap (λ m. ts ++ m ∷ []) (n ∙ ap (λ (d : Emitted). length d.instrs) (sym v))) ∙ ap (with_code out_turn) v
@@ -41,7 +43,8 @@ unfolding with_outs
 is_exchanged xs ps ts qs us e v = ap (with_outs qs us) v
 
 -- at the end of the loop over the addresses
-pub is_filled : (to n : ℕ) (at : List ℕ) (xs ys : List Instr) (ps qs ts us : List ℕ) (e : Emitted) → emitted xs ps ts ≡ e → length at ≤ n → jumps_set to (drop n at) ys ≡ jumps_set to at xs → qs ≡ ps → us ≡ ts →
+pub is_filled : (to n : ℕ) (at : List ℕ) (xs ys : List Instr) (ps qs ts us : List ℕ) (e : Emitted) → emitted xs ps ts ≡ e → length at ≤ n → jumps_set to (drop n at) ys ≡ jumps_set to at xs → qs ≡ ps
+    → us ≡ ts →
     emitted ys qs us ≡ with_jumps to at e
 unfolding with_jumps
 is_filled to n at xs ys ps qs ts us e v le h f g =
@@ -96,7 +99,8 @@ over_is jump instr q e s =
     over_at jump instr q e (length (with_code q (with_code (one instr) e)).instrs) (grown q (with_code (one instr) e) s ∙ ap (λ n. n + q.size) (grown (one instr) e (one_sized instr)))
 
 -- as it stands in the emitting functions: a jump without its address, a piece, and then the address
-pub over_then : (jump : ℕ → Instr) (instr : Instr) (q : Piece) (d0 d1 d2 d3 : Emitted) (at to : ℕ) → IsSized q → d1 ≡ with_code (one instr) d0 → at ≡ length d0.instrs → d2 ≡ with_code q d1 → to ≡ length d2.instrs →
+pub over_then : (jump : ℕ → Instr) (instr : Instr) (q : Piece) (d0 d1 d2 d3 : Emitted) (at to : ℕ) → IsSized q → d1 ≡ with_code (one instr) d0 → at ≡ length d0.instrs → d2 ≡ with_code q d1
+    → to ≡ length d2.instrs →
     d3 ≡ with_instr at (jump to) d2 → d3 ≡ with_code q (with_code (over jump q.size) d0)
 over_then jump instr q d0 d1 d2 d3 at to s e f g h k =
     let code = g ∙ ap (with_code q) e in
@@ -150,7 +154,8 @@ over_as jump count to e d h k = k ∙ ap (λ n. emitted (e.instrs ++ jump n ∷ 
 
 -- ---- the pieces of the elements of a list, one after the other
 
-module _ {X : Type 0} (F : List X → Piece) (G : X → Piece) (first : (x : X) (xs : List X) → F (x ∷ xs) ≡ G x ⨾ F xs) (none : F [] ≡ no_code) (sized : (x : X) → IsSized (G x)) (xs : List X) (at : ℕ) where
+module _ {X : Type 0} (F : List X → Piece) (G : X → Piece) (first : (x : X) (xs : List X) → F (x ∷ xs) ≡ G x ⨾ F xs) (none : F [] ≡ no_code) (sized : (x : X) → IsSized (G x)) (xs : List X)
+    (at : ℕ) where
   pub done : (d whole : Emitted) → length xs ≤ at → with_code (F (drop at xs)) d ≡ whole → d ≡ whole
   done d whole le h = sym (none_is d) ∙ ap (λ p. with_code p d) (sym (at_drop_all F xs at le ∙ none)) ∙ h
 

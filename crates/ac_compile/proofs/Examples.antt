@@ -18,10 +18,11 @@ use Rattle.stack_code.specs.Parts.{Parts}
 use Rattle.stack_code.specs.Valid.{IsValid}
 use Rattle.ac_resolve.proofs.Examples.{sum, sum_value, with_value, one_core, one_core_resolved, two_ac}
 use Rattle.ac_translation.specs.Translation.{no_exits, value_code, command_code, functions_code, code_of}
-use Rattle.ac_compile.specs.Built.{IsOne, number, chain, no_link, one_link, no_command, one_command, print}
+use Rattle.ac_compile.specs.inner.Built.{IsOne, number, chain, no_link, one_link, no_command, one_command, print}
 use Rattle.ac_compile.specs.Compiled.{IsCodeOf}
 use Rattle.ac_compile.specs.Unbuilt.{as_list, stmt_step, stmt_nodes, unbuilt_nodes, first_unbuilt}
-use Rattle.ac_compile.proofs.Forms.{number_form, variable_form, chain_form, link_form, nothing_form, set_form, print_form, if_alone_form, if_else_form, while_form, for_form, break_form, continue_form, return_form}
+use Rattle.ac_compile.proofs.Forms.{number_form, variable_form, chain_form, link_form, nothing_form, set_form, print_form}
+use Rattle.ac_compile.proofs.Forms.{if_alone_form, if_else_form, while_form, for_form, break_form, continue_form, return_form}
 use Rattle.ac_compile.proofs.Validity.{code_valid}
 
 -- ---- two.ac

@@ -7,7 +7,7 @@ use Rattle.stack_code.specs.declared.instr.Instr.TheVariants as i
 use Rattle.ac_commands.specs.declared.command.Command.{Command}
 use Rattle.ac_translation.specs.Pieces.{Exits, Piece, no_code, one, ◌⨾◌, over, out_past, out_turn, loop_exits, loop}
 use Rattle.ac_translation.specs.Translation.{body_code}
-use Rattle.ac_compile.specs.Emission.{jumps_set, AreBelow}
+use Rattle.ac_compile.specs.inner.Emission.{jumps_set, AreBelow}
 use Rattle.ac_translation.proofs.Closed as closed
 use Rattle.ac_translation.proofs.Sized.{IsSized, no_sized, one_sized, over_sized, past_sized, turn_sized, both_sized, loop_sized}
 
@@ -111,8 +111,10 @@ both_filled a b x y = record {
   sized = both_sized a b x.sized y.sized;
   past = λ to turn. two to a.size _ _ (b.at (exits 0 turn)) (b.at (exits to turn)) a.pasts b.pasts (x.sized.sized (exits to turn)) (x.past to turn) (y.past to turn);
   turn = λ to past. two to a.size _ _ (b.at (exits past 0)) (b.at (exits past to)) a.turns b.turns (x.sized.sized (exits past to)) (x.turn to past) (y.turn to past);
-  pasts_below = λ place. below_both (place + a.size) (place + (a.size + b.size)) _ _ (omega arith) (x.pasts_below place) (below_more (place + a.size + b.size) _ _ (omega arith) (y.pasts_below (place + a.size)));
-  turns_below = λ place. below_both (place + a.size) (place + (a.size + b.size)) _ _ (omega arith) (x.turns_below place) (below_more (place + a.size + b.size) _ _ (omega arith) (y.turns_below (place + a.size)));
+  pasts_below = λ place. below_both (place + a.size) (place + (a.size + b.size)) _ _ (omega arith) (x.pasts_below place)
+      (below_more (place + a.size + b.size) _ _ (omega arith) (y.pasts_below (place + a.size)));
+  turns_below = λ place. below_both (place + a.size) (place + (a.size + b.size)) _ _ (omega arith) (x.turns_below place)
+      (below_more (place + a.size + b.size) _ _ (omega arith) (y.turns_below (place + a.size)));
 }
 
 module _ (turns : ℕ → ℕ → ℕ) (head body next : Piece) where
@@ -124,16 +126,19 @@ module _ (turns : ℕ → ℕ → ℕ) (head body next : Piece) where
 
   loop_below : (h n : ℕ → List ℕ) (place : ℕ) → AreBelow (place + head.size) (h place) → AreBelow (place + (head.size + body.size) + next.size) (n (place + (head.size + body.size))) →
       AreBelow (place + (head.size + (body.size + (next.size + 1)))) (h place ++ n (place + (head.size + body.size)))
-  loop_below h n place x z = below_both (place + head.size) _ (h place) (n (place + (head.size + body.size))) (omega arith) x (below_more (place + (head.size + body.size) + next.size) _ _ (omega arith) z)
+  loop_below h n place x z = below_both (place + head.size) _ (h place) (n (place + (head.size + body.size))) (omega arith) x
+      (below_more (place + (head.size + body.size) + next.size) _ _ (omega arith) z)
 
   loop_filled : IsFilled head → IsFilled body → IsFilled next → IsFilled (loop turns head body next)
   loop_filled x y z = record {
     sized = loop_sized turns head body next x.sized y.sized z.sized;
     past = λ to turn.
-        apart to head.size body.size (head.at (exits 0 turn)) (head.at (exits to turn)) (next.at (exits 0 turn)) (next.at (exits to turn)) own back head.pasts next.pasts (x.sized.sized (exits to turn))
+        apart to head.size body.size (head.at (exits 0 turn)) (head.at (exits to turn)) (next.at (exits 0 turn)) (next.at (exits to turn)) own back head.pasts next.pasts
+        (x.sized.sized (exits to turn))
         (λ place. y.sized.sized (loop_exits turns place head body next) (place + head.size)) (x.past to turn) (z.past to turn);
     turn = λ to past.
-        apart to head.size body.size (head.at (exits past 0)) (head.at (exits past to)) (next.at (exits past 0)) (next.at (exits past to)) own back head.turns next.turns (x.sized.sized (exits past to))
+        apart to head.size body.size (head.at (exits past 0)) (head.at (exits past to)) (next.at (exits past 0)) (next.at (exits past to)) own back head.turns next.turns
+        (x.sized.sized (exits past to))
         (λ place. y.sized.sized (loop_exits turns place head body next) (place + head.size)) (x.turn to past) (z.turn to past);
     pasts_below = λ place. loop_below head.pasts next.pasts place (x.pasts_below place) (z.pasts_below (place + (head.size + body.size)));
     turns_below = λ place. loop_below head.turns next.turns place (x.turns_below place) (z.turns_below (place + (head.size + body.size)));

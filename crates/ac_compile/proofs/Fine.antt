@@ -54,7 +54,8 @@ module _ (code : Parts) (slots : ℕ) where
   two_led : (at a b : ℕ) (s u : Shape) → IsLed at a s → IsLed at b u → (n : ℕ) (t : Shape) → LeadsTo (Two a s b u) n t → IsLed at n t
   two_led at a b s u x y n t = ⊎_elim (λ l. one_led at a s x n t l) (λ l. one_led at b u y n t l)
 
-  fine_as : (at : ℕ) (instr : Instr) (s : Shape) (leads : Leads) → slice_get code.instrs at ≡ Some instr → table at ≡ s → effect code at instr s ≡ Some leads → enters instr ≡ false → ((to : ℕ) (t : Shape) → LeadsTo leads to t → IsLed at to t) → IsFine at
+  fine_as : (at : ℕ) (instr : Instr) (s : Shape) (leads : Leads) → slice_get code.instrs at ≡ Some instr → table at ≡ s → effect code at instr s ≡ Some leads → enters instr ≡ false
+      → ((to : ℕ) (t : Shape) → LeadsTo leads to t → IsLed at to t) → IsFine at
   fine_as at instr s leads h e f n l = record {
     fits = record { instr = instr; leads = leads; here = h; finds = ap (effect code at instr) e ∙ f };
     leads = l;
@@ -92,10 +93,12 @@ module _ (code : Parts) (slots : ℕ) where
   pub jnz_branches : IsBranch i.Jnz
   jnz_branches = record { finds = λ at to kinds. refl; falls = λ to. refl; plain = λ to. refl }
 
-  pub branch_behind : (jump : ℕ → Instr) (at to : ℕ) (kinds : List Kind) → IsBranch jump → slice_get code.instrs at ≡ Some (jump to) → table at ≡ shape (kind.Int ∷ kinds) → table (at + 1) ≡ shape kinds
+  pub branch_behind : (jump : ℕ → Instr) (at to : ℕ) (kinds : List Kind) → IsBranch jump → slice_get code.instrs at ≡ Some (jump to) → table at ≡ shape (kind.Int ∷ kinds)
+      → table (at + 1) ≡ shape kinds
   branch_behind jump at to kinds j h e = shape_onward code (shape []) at (jump to) (shape (kind.Int ∷ kinds)) (Two (at + 1) (shape kinds) to (shape kinds)) h (j.falls to) e (j.finds at to kinds)
 
-  pub branch_fine : (jump : ℕ → Instr) (at to : ℕ) (kinds : List Kind) → IsBranch jump → slice_get code.instrs at ≡ Some (jump to) → table at ≡ shape (kind.Int ∷ kinds) → at + 1 < length code.instrs → IsLed at to (shape kinds) → IsFine at
+  pub branch_fine : (jump : ℕ → Instr) (at to : ℕ) (kinds : List Kind) → IsBranch jump → slice_get code.instrs at ≡ Some (jump to) → table at ≡ shape (kind.Int ∷ kinds) → at + 1 < length code.instrs
+      → IsLed at to (shape kinds) → IsFine at
   branch_fine jump at to kinds j h e lt x =
       fine_as at (jump to) (shape (kind.Int ∷ kinds)) (Two (at + 1) (shape kinds) to (shape kinds)) h e (j.finds at to kinds) (j.plain to)
       (two_led at (at + 1) to (shape kinds) (shape kinds) (next_led at (shape kinds) lt (branch_behind jump at to kinds j h e)) x)
@@ -184,7 +187,8 @@ module _ (code : Parts) (slots : ℕ) where
   }
 
   -- a jump to an exit
-  out_fit : (exit : Exits → ℕ) (p : Piece) → IsSized p → p.size ≡ 1 → ((exits : Exits) (place : ℕ) → p.at exits place ≡ i.Jump (exit exits) ∷ []) → ((exits : Exits) (to : ℕ) → HasExits true exits to → IsExit to (exit exits)) → IsFit true [] [] p
+  out_fit : (exit : Exits → ℕ) (p : Piece) → IsSized p → p.size ≡ 1 → ((exits : Exits) (place : ℕ) → p.at exits place ≡ i.Jump (exit exits) ∷ [])
+      → ((exits : Exits) (to : ℕ) → HasExits true exits to → IsExit to (exit exits)) → IsFit true [] [] p
   out_fit exit p z one_long jump_is which = record {
     sized = z;
     passes = λ exits place to h e. subst (λ n. table n ≡ shape []) (next place to h.ends) (jump_behind place (exit exits) [] (jump_at exits place to h) e);

@@ -10,8 +10,9 @@ use Rattle.ac_tree.specs.declared.stmt.Stmt.TheOpen.{Stmt-F}
 use Rattle.ac_tree.specs.declared.item.Item.{Item}
 use Rattle.ac_tree.specs.declared.item.Item.TheVariants as i
 use Rattle.ac_tree.specs.declared.item.Param.{Param}
-use Rattle.ac_types.specs.Scopes.{or_else}
-use Rattle.ac_compile.specs.Unbuilt.{as_list, as_first, node_by, all_of, expr_step, link_step, expr_nodes, link_nodes, exprs_nodes, some_expr, is_place, stmt_step, stmt_nodes, body_nodes, params_nodes, is_entry, item_nodes, is_late, items_nodes, first_entry, unbuilt_nodes}
+use Rattle.ac_names.specs.Scopes.{or_else}
+use Rattle.ac_compile.specs.Unbuilt.{as_list, as_first, node_by, all_of, expr_step, link_step, expr_nodes, link_nodes, exprs_nodes, some_expr, is_place}
+use Rattle.ac_compile.specs.Unbuilt.{stmt_step, stmt_nodes, body_nodes, params_nodes, is_entry, item_nodes, is_late, items_nodes, first_entry, unbuilt_nodes}
 
 abbrev pub head : List ℕ → Option ℕ
 head xs = slice_get xs 0
@@ -110,16 +111,19 @@ stmts_are (x ∷ xs) = two (stmt_nodes as_list x.0) (all_of as_list (map (stmt_n
 
 if_is : (test : Expr) (body : Stmt_) (other : Option Stmt_) → head (list_stmt (Stmt-F.If 0 test body other)) ≡ first_stmt (Stmt-F.If 0 test body other)
 if_is test body None = two (expr_nodes as_list test) (stmt_nodes as_list body.0 ++ []) _ _ (expr_is test) (two (stmt_nodes as_list body.0) [] _ _ body.1 refl)
-if_is test body (Some x) = two (expr_nodes as_list test) (stmt_nodes as_list body.0 ++ stmt_nodes as_list x.0) _ _ (expr_is test) (two (stmt_nodes as_list body.0) (stmt_nodes as_list x.0) _ _ body.1 x.1)
+if_is test body (Some x) = two (expr_nodes as_list test) (stmt_nodes as_list body.0 ++ stmt_nodes as_list x.0) _ _ (expr_is test)
+    (two (stmt_nodes as_list body.0) (stmt_nodes as_list x.0) _ _ body.1 x.1)
 
-rest_is : (test : Option Expr) (next : List ℕ) (body : Stmt_) (p : Option ℕ) → head next ≡ p → head (some_expr as_list test ++ (next ++ stmt_nodes as_list body.0)) ≡ or_else (some_expr as_first test) (or_else p (stmt_nodes as_first body.0))
+rest_is : (test : Option Expr) (next : List ℕ) (body : Stmt_) (p : Option ℕ) → head next ≡ p
+    → head (some_expr as_list test ++ (next ++ stmt_nodes as_list body.0)) ≡ or_else (some_expr as_first test) (or_else p (stmt_nodes as_first body.0))
 rest_is test next body p e = two (some_expr as_list test) (next ++ stmt_nodes as_list body.0) _ _ (some_is test) (two next (stmt_nodes as_list body.0) _ _ e body.1)
 
 for_is : (init : Option Stmt_) (test : Option Expr) (next : Option Stmt_) (body : Stmt_) → head (list_stmt (Stmt-F.For 0 init test next body)) ≡ first_stmt (Stmt-F.For 0 init test next body)
 for_is None test None body = two [] (some_expr as_list test ++ ([] ++ stmt_nodes as_list body.0)) _ _ refl (rest_is test [] body None refl)
 for_is None test (Some y) body = two [] (some_expr as_list test ++ (stmt_nodes as_list y.0 ++ stmt_nodes as_list body.0)) _ _ refl (rest_is test (stmt_nodes as_list y.0) body _ y.1)
 for_is (Some x) test None body = two (stmt_nodes as_list x.0) (some_expr as_list test ++ ([] ++ stmt_nodes as_list body.0)) _ _ x.1 (rest_is test [] body None refl)
-for_is (Some x) test (Some y) body = two (stmt_nodes as_list x.0) (some_expr as_list test ++ (stmt_nodes as_list y.0 ++ stmt_nodes as_list body.0)) _ _ x.1 (rest_is test (stmt_nodes as_list y.0) body _ y.1)
+for_is (Some x) test (Some y) body = two (stmt_nodes as_list x.0) (some_expr as_list test ++ (stmt_nodes as_list y.0 ++ stmt_nodes as_list body.0)) _ _ x.1
+    (rest_is test (stmt_nodes as_list y.0) body _ y.1)
 
 stmt_layer : (y : Stmt-F Stmt_) → head (list_stmt y) ≡ first_stmt y
 stmt_layer (Stmt-F.Block at body) = stmts_are body
@@ -163,7 +167,8 @@ params_are (x ∷ xs) = refl
 item_is : (entry : Option (List ℕ)) (late : Bool) (x : Item) → head (item_nodes as_list entry late x) ≡ item_nodes as_first entry late x
 item_is entry late (i.Core at name own) = node_is (not late) at [] None refl
 item_is entry late (i.Function f) =
-    node_is (is_entry entry f.name) f.at (params_nodes as_list f.params ++ body_nodes as_list f.body) _ (two (params_nodes as_list f.params) (body_nodes as_list f.body) _ _ (params_are f.params) (body_is f.body))
+    node_is (is_entry entry f.name) f.at (params_nodes as_list f.params ++ body_nodes as_list f.body) _
+    (two (params_nodes as_list f.params) (body_nodes as_list f.body) _ _ (params_are f.params) (body_is f.body))
 item_is entry late (i.Global at name size value) = refl
 item_is entry late (i.Channel at name from to cap) = refl
 item_is entry late (i.File at name path) = refl

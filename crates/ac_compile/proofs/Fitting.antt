@@ -10,13 +10,15 @@ use Rattle.stack_code.specs.declared.shape.Kind.TheVariants as kind
 use Rattle.stack_code.specs.declared.shape.Home.TheVariants as home
 use Rattle.stack_code.specs.Parts.{Parts}
 use Rattle.stack_code.specs.Shapes.{params_of}
-use Rattle.ac_compile.specs.Built.{Round, IsTest, no_test, some_test, IsOperand, no_operand, some_operand, IsCommand, nothing, set, clear, print, if_alone, if_else, while_loop, for_loop, leave, go_on, give, AreCommands, no_command, one_command}
+use Rattle.ac_compile.specs.inner.Built.{Round, IsTest, no_test, some_test, IsOperand, no_operand, some_operand, IsCommand, nothing, set, clear}
+use Rattle.ac_compile.specs.inner.Built.{print, if_alone, if_else, while_loop, for_loop, leave, go_on, give, AreCommands, no_command, one_command}
 use Rattle.ac_translation.specs.Pieces.{Exits, Piece, no_code, one, ◌⨾◌, all, over, out_past, out_turn}
 use Rattle.ac_translation.specs.Translation.{value_code, values_code, effect_code, target_code, if_code, test_code, at_loop, at_next, operand_code, command_code, body_code}
 use Rattle.ac_translation.proofs.Sized.{IsSized, one_sized, over_sized, both_sized, after_one}
 use Rattle.ac_translation.proofs.Placed.{Placed, first_part, other_part}
 use Rattle.ac_compile.proofs.Forms.{nothing_form, set_form, clear_form, print_form, if_alone_form, if_else_form, while_form, for_form, break_form, continue_form, return_form}
-use Rattle.ac_compile.proofs.Fine.{shape, table, Does, jz_branches, branch_behind, branch_fine, Range, one_range, both_ranges, IsExit, exit_led, IsFit, no_fit, one_fit, both_fit, ret_fit, past_fit, turn_fit}
+use Rattle.ac_compile.proofs.Fine.{shape, table, Does, jz_branches, branch_behind, branch_fine, Range, one_range}
+use Rattle.ac_compile.proofs.Fine.{both_ranges, IsExit, exit_led, IsFit, no_fit, one_fit, both_fit, ret_fit, past_fit, turn_fit}
 use Rattle.ac_compile.proofs.Joined.{skip_fit, either, either_fit, IsHead, loop_turn, next_turn, loop_fit}
 use Rattle.ac_compile.proofs.Valued.{ints, round, first_fit, value_fit, values_fit, effect_fit, target_fit, print_does, clear_does}
 
@@ -94,7 +96,8 @@ module _ (code : Parts) (slots : ℕ) (no_params : params_of code (home.Function
         (both_ranges code slots (place + 1) middle to
         (f.fine exits (place + 1) middle k.value (before_test exits place to k e) (omega arith) tt)
         (one_range code slots middle to ends
-        (branch_fine code slots i.Jz middle (to + count) [] (jz_branches code slots) k.branch (before_branch exits place to k e) (omega arith) (exit_led code slots middle to (to + count) (omega arith) x))))
+        (branch_fine code slots i.Jz middle (to + count) [] (jz_branches code slots) k.branch (before_branch exits place to k e) (omega arith)
+        (exit_led code slots middle to (to + count) (omega arith) x))))
 
     some_test_head : IsHead code slots (one i.Step ⨾ test ⨾ over i.Jz count) count
     some_test_head = record {
@@ -118,7 +121,8 @@ module _ (code : Parts) (slots : ℕ) (no_params : params_of code (home.Function
 
   if_alone_fit : (inside : Bool) (test body : Piece) → Fit inside [] int_alone test → Runs inside body → Runs inside (if_code test body None)
   if_alone_fit inside test body f g =
-      after_step inside [] (test ⨾ over i.Jz body.size ⨾ body) (both_fit code slots inside [] int_alone [] test (over i.Jz body.size ⨾ body) f (skip_fit code slots inside i.Jz [] body (jz_branches code slots) g))
+      after_step inside [] (test ⨾ over i.Jz body.size ⨾ body) (both_fit code slots inside [] int_alone [] test (over i.Jz body.size ⨾ body) f
+      (skip_fit code slots inside i.Jz [] body (jz_branches code slots) g))
 
   if_else_fit : (inside : Bool) (test body : Piece) (other : List Piece) → Fit inside [] int_alone test → Runs inside body → Runs inside (all other) → Runs inside (if_code test body (Some other))
   if_else_fit inside test body other f g h =
@@ -133,7 +137,8 @@ module _ (code : Parts) (slots : ℕ) (no_params : params_of code (home.Function
     pub command_fit : (inside : Bool) (x : Command) → IsCommand around inside x → Runs inside (command_code x)
     command_fit _ _ (nothing inside) = same_piece inside _ _ nothing_form (one_fit code slots inside i.Step [] [] step_does)
     command_fit _ _ (set inside target value x y) =
-        same_piece inside _ _ (set_form target value) (use_fit inside int_alone (effect_code value) (target_code target) (effect_fit code slots no_params inside value y []) (target_fit code slots no_params inside target x))
+        same_piece inside _ _ (set_form target value) (use_fit inside int_alone (effect_code value) (target_code target) (effect_fit code slots no_params inside value y [])
+        (target_fit code slots no_params inside target x))
     command_fit _ _ (clear inside slot len le) =
         same_piece inside _ _ (clear_form slot len) (after_step inside [] (one (i.Clear slot len)) (one_fit code slots inside (i.Clear slot len) [] [] (clear_does code slots no_params slot len le)))
     command_fit _ _ (print inside text args bytes e n short x) =
@@ -147,12 +152,14 @@ module _ (code : Parts) (slots : ℕ) (no_params : params_of code (home.Function
         (if_else_fit inside (value_code test) (body_code body) (map command_code other) (value_fit code slots no_params inside test x []) (commands_fit inside body y) (commands_fit inside other z))
     command_fit _ _ (while_loop inside test body x y) =
         same_piece inside _ _ (while_form test body)
-        (loop_fit code slots inside at_loop (test_code (Some test) ((body_code body).size + 1)) (body_code body) no_code (loop_turn code slots) (head_is (Some test) (some_test test x) ((body_code body).size + 1))
+        (loop_fit code slots inside at_loop (test_code (Some test) ((body_code body).size + 1)) (body_code body) no_code (loop_turn code slots)
+        (head_is (Some test) (some_test test x) ((body_code body).size + 1))
         (commands_fit true body y) (no_fit code slots inside []))
     command_fit _ _ (for_loop inside test next body x y z) =
         let count = (body_code body).size + ((body_code next).size + 1) in
         same_piece inside _ _ (for_form test next body)
-        (loop_fit code slots inside at_next (test_code test count) (body_code body) (body_code next) (next_turn code slots) (head_is test x count) (commands_fit true body z) (commands_fit inside next y))
+        (loop_fit code slots inside at_next (test_code test count) (body_code body) (body_code next) (next_turn code slots) (head_is test x count) (commands_fit true body z)
+        (commands_fit inside next y))
     command_fit _ _ leave = same_piece true _ _ break_form (after_step true [] out_past (past_fit code slots))
     command_fit _ _ go_on = same_piece true _ _ continue_form (after_step true [] out_turn (turn_fit code slots))
     command_fit _ _ (give inside effect x) =

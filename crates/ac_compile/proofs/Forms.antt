@@ -16,7 +16,8 @@ use Rattle.ac_commands.specs.declared.command.Command.TheVariants as c
 use Rattle.ac_commands.specs.declared.command.Command.TheOpen.{Command-F}
 use Rattle.stack_code.specs.declared.instr.Instr.TheVariants as i
 use Rattle.ac_translation.specs.Pieces.{Piece, no_code, one, ◌⨾◌, loop, out_past, out_turn}
-use Rattle.ac_translation.specs.Translation.{unary_code, chained_code, variable_code, array_code, value_step, link_step, value_code, link_code, values_code, effect_code, target_code, if_code, test_code, at_loop, at_next, operand_code, command_step, command_code, body_code}
+use Rattle.ac_translation.specs.Translation.{unary_code, chained_code, variable_code, array_code, value_step, link_step, value_code, link_code, values_code}
+use Rattle.ac_translation.specs.Translation.{effect_code, target_code, if_code, test_code, at_loop, at_next, operand_code, command_step, command_code, body_code}
 
 -- ---- values
 
@@ -61,7 +62,8 @@ if_else_form test body other = ap command_code (sym (c.rolls-If test body (Some 
 pub while_form : (test : Value) (body : List Command) → command_code (c.While test body) ≡ loop at_loop (test_code (Some test) ((body_code body).size + 1)) (body_code body) no_code
 while_form test body = ap command_code (sym (c.rolls-While test body)) ∙ fold-roll-Command Piece command_step (Command-F.While test body)
 
-pub for_form : (test : Option Value) (next body : List Command) → command_code (c.For test next body) ≡ loop at_next (test_code test ((body_code body).size + ((body_code next).size + 1))) (body_code body) (body_code next)
+pub for_form : (test : Option Value) (next body : List Command) → command_code (c.For test next body)
+    ≡ loop at_next (test_code test ((body_code body).size + ((body_code next).size + 1))) (body_code body) (body_code next)
 for_form test next body = ap command_code (sym (c.rolls-For test next body)) ∙ fold-roll-Command Piece command_step (Command-F.For test next body)
 
 pub break_form : command_code c.Break ≡ one i.Step ⨾ out_past

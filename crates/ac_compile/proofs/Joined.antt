@@ -23,7 +23,8 @@ module _ (code : Parts) (slots : ℕ) where
   Is at kinds = table code slots at ≡ shape code slots kinds
 
   -- the same instructions, put together otherwise
-  pub same_fit : (inside : Bool) (x y : List Kind) (p q : Piece) → p.size ≡ q.size → ((exits : Exits) (place : ℕ) → p.at exits place ≡ q.at exits place) → IsFit code slots inside x y p → IsFit code slots inside x y q
+  pub same_fit : (inside : Bool) (x y : List Kind) (p q : Piece) → p.size ≡ q.size → ((exits : Exits) (place : ℕ) → p.at exits place ≡ q.at exits place) → IsFit code slots inside x y p
+      → IsFit code slots inside x y q
   same_fit inside x y p q e f a = record {
     sized = record { sized = λ exits place. ap length (sym (f exits place)) ∙ a.sized.sized exits place ∙ e };
     passes = λ exits place to h. a.passes exits place to (moved exits place to h);
@@ -35,10 +36,12 @@ module _ (code : Parts) (slots : ℕ) where
   -- ---- jumps forward
 
   -- passed over where the value on top is 0, or where it is not
-  pub skip_fit : (inside : Bool) (jump : ℕ → Instr) (kinds : List Kind) (b : Piece) → IsBranch code slots jump → IsFit code slots inside kinds kinds b → IsFit code slots inside (kind.Int ∷ kinds) kinds (over jump b.size ⨾ b)
+  pub skip_fit : (inside : Bool) (jump : ℕ → Instr) (kinds : List Kind) (b : Piece) → IsBranch code slots jump → IsFit code slots inside kinds kinds b
+      → IsFit code slots inside (kind.Int ∷ kinds) kinds (over jump b.size ⨾ b)
   skip_fit inside jump kinds b j f = record {
     sized = both_sized (over jump b.size) b (over_sized jump b.size) f.sized;
-    passes = λ exits place to h e. f.passes exits (place + 1) to (other_part code.instrs (over jump b.size) b (over_sized jump b.size) h) (branch_behind code slots jump place (place + 1 + b.size) kinds j h.has.0 e);
+    passes = λ exits place to h e. f.passes exits (place + 1) to (other_part code.instrs (over jump b.size) b (over_sized jump b.size) h)
+        (branch_behind code slots jump place (place + 1 + b.size) kinds j h.has.0 e);
     fine = λ exits place to h e lt w.
         let part = other_part code.instrs (over jump b.size) b (over_sized jump b.size) h in
         let ends = part.ends in
@@ -52,8 +55,10 @@ module _ (code : Parts) (slots : ℕ) where
   }
 
   -- a test at the first address, and a jump between what follows it in the two cases
-  fork_fine : (jump : ℕ → Instr) (place middle to : ℕ) (kinds after : List Kind) → IsBranch code slots jump → slice_get code.instrs place ≡ Some (jump (middle + 1)) → slice_get code.instrs middle ≡ Some (i.Jump to) →
-      place + 1 ≤ middle → middle + 1 ≤ to → to < length code.instrs → Is place (kind.Int ∷ kinds) → Is middle after → Is (middle + 1) kinds → Is to after → Range code slots (place + 1) middle → Range code slots (middle + 1) to → Range code slots place to
+  fork_fine : (jump : ℕ → Instr) (place middle to : ℕ) (kinds after : List Kind) → IsBranch code slots jump → slice_get code.instrs place ≡ Some (jump (middle + 1))
+      → slice_get code.instrs middle ≡ Some (i.Jump to) →
+      place + 1 ≤ middle → middle + 1 ≤ to → to < length code.instrs → Is place (kind.Int ∷ kinds) → Is middle after → Is (middle + 1) kinds → Is to after → Range code slots (place + 1) middle
+      → Range code slots (middle + 1) to → Range code slots place to
   fork_fine jump place middle to kinds after j h k le le' lt at_place at_middle at_other at_to f g =
       let other : IsLed code slots place (middle + 1) (shape code slots kinds) = record { kept = record { within = omega arith; same = at_other }; ahead = inl (omega arith) } in
       let out : IsLed code slots middle to (shape code slots after) = record { kept = record { within = lt; same = at_to }; ahead = inl (omega arith) } in
@@ -83,7 +88,8 @@ module _ (code : Parts) (slots : ℕ) where
         back = end;
       }
 
-  pub either_fit : (inside : Bool) (jump : ℕ → Instr) (kinds after : List Kind) (a b : Piece) → below after ≡ kinds → IsBranch code slots jump → IsFit code slots inside kinds after a → IsFit code slots inside kinds after b →
+  pub either_fit : (inside : Bool) (jump : ℕ → Instr) (kinds after : List Kind) (a b : Piece) → below after ≡ kinds → IsBranch code slots jump → IsFit code slots inside kinds after a
+      → IsFit code slots inside kinds after b →
       IsFit code slots inside (kind.Int ∷ kinds) after (either jump a b)
   either_fit inside jump kinds after a b less j f g = record {
     sized = both_sized (over jump (a.size + 1)) _ (over_sized jump (a.size + 1)) (both_sized a _ f.sized (both_sized (over i.Jump b.size) b (over_sized i.Jump b.size) g.sized));
@@ -104,7 +110,8 @@ module _ (code : Parts) (slots : ℕ) where
         let at_front = branch_behind code slots jump place (place + 1 + a.size + 1) kinds j k.test e in
         jump_behind code slots (place + 1 + a.size) to after k.jump_out (f.passes exits (place + 1) (place + 1 + a.size) k.front at_front) ∙ ap (shape code slots) less
 
-  pub lazily_fit : (inside : Bool) (jump : ℕ → Instr) (decided : Instr) (kinds : List Kind) (right : Piece) → IsBranch code slots jump → IsFit code slots inside kinds (kind.Int ∷ kinds) (right ⨾ one i.Bool) → IsFit code slots inside kinds (kind.Int ∷ kinds) (one decided) →
+  pub lazily_fit : (inside : Bool) (jump : ℕ → Instr) (decided : Instr) (kinds : List Kind) (right : Piece) → IsBranch code slots jump
+      → IsFit code slots inside kinds (kind.Int ∷ kinds) (right ⨾ one i.Bool) → IsFit code slots inside kinds (kind.Int ∷ kinds) (one decided) →
       IsFit code slots inside (kind.Int ∷ kinds) (kind.Int ∷ kinds) (lazily jump decided right)
   lazily_fit inside jump decided kinds right j f g =
       same_fit inside (kind.Int ∷ kinds) (kind.Int ∷ kinds) (either jump (right ⨾ one i.Bool) (one decided)) (lazily jump decided right) (omega arith) same
@@ -138,7 +145,8 @@ module _ (code : Parts) (slots : ℕ) where
   pub next_turn : IsTurn at_next
   next_turn = record { turns_well = λ place next step lt lt' e e'. record { kept = record { within = lt'; same = e' }; ahead = inl (le_refl next) } }
 
-  module _ (inside : Bool) (turns : ℕ → ℕ → ℕ) (head body next : Piece) (t : IsTurn turns) (x : IsHead head (body.size + (next.size + 1))) (y : IsFit code slots true [] [] body) (z : IsFit code slots inside [] [] next) where
+  module _ (inside : Bool) (turns : ℕ → ℕ → ℕ) (head body next : Piece) (t : IsTurn turns) (x : IsHead head (body.size + (next.size + 1))) (y : IsFit code slots true [] [] body)
+      (z : IsFit code slots inside [] [] next) where
     -- what stands at the parts of the loop
     record Laps (exits : Exits) (place to : ℕ) : Type 0 where
       head_at : Placed code.instrs head exits place (place + head.size)

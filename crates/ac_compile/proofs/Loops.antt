@@ -6,7 +6,7 @@ use Rattle.stack_code.specs.declared.instr.Instr.{Instr}
 use Rattle.stack_code.specs.declared.instr.Instr.TheVariants as i
 use Rattle.ac_translation.specs.Pieces.{Piece, one, ◌⨾◌, over, loop_end, loop}
 use Rattle.ac_translation.specs.Translation.{no_exits, value_code, test_code}
-use Rattle.ac_compile.specs.Emission.{Emitted, with_code, with_jumps, jumps_set, AreBelow, enclosed, decided, open_test, test_jump, with_test}
+use Rattle.ac_compile.specs.inner.Emission.{Emitted, with_code, with_jumps, jumps_set, AreBelow, enclosed, decided, open_test, test_jump, with_test}
 use Rattle.ac_translation.proofs.Sized.{IsSized, one_sized, both_sized, value_sized, test_sized}
 use Rattle.ac_compile.proofs.Filling.{exits, IsFilled, set_in_loop, below_more}
 use Rattle.ac_compile.proofs.Emissions.{same, both_are, apart, over_then, grown_to, same_length, three_are}
@@ -49,7 +49,8 @@ with_test_length None to e d h = ap (λ (x : Emitted). length x.instrs) h
 with_test_length (Some at) to e d h = same_length at (i.Jz to) e d h
 
 -- the test once its jump is set
-closed_test : (x : Option Value) (q : Piece) (s : IsSized q) (e d1 d2 d3 : Emitted) (jump : Option ℕ) (past : ℕ) → d1 ≡ with_code (open_test x) e → jump ≡ test_jump x e → d2 ≡ with_code q d1 → past ≡ length d2.instrs → d3 ≡ with_test jump past d2 →
+closed_test : (x : Option Value) (q : Piece) (s : IsSized q) (e d1 d2 d3 : Emitted) (jump : Option ℕ) (past : ℕ) → d1 ≡ with_code (open_test x) e → jump ≡ test_jump x e → d2 ≡ with_code q d1
+    → past ≡ length d2.instrs → d3 ≡ with_test jump past d2 →
     d3 ≡ with_code q (with_code (test_code x q.size) e)
 closed_test None q s e d1 d2 d3 jump past h j g p k = k ∙ ap (λ y. with_test y past d2) j ∙ g ∙ ap (with_code q) h
 closed_test (Some test) q s e d1 d2 d3 jump past h j g p k =
@@ -57,7 +58,8 @@ closed_test (Some test) q s e d1 d2 d3 jump past h j g p k =
     let o = over i.Jz q.size in
     let first = apart (decided test) (one (i.Jz 0)) e d1 (decided_sized test) h in
     let head =
-    three_are (one i.Step) (value_code test) o (one_sized i.Step) (value_sized test) e (with_code (one i.Step) e) x (with_code o x) refl (both_are (one i.Step) (value_code test) e (one_sized i.Step)) refl in
+    three_are (one i.Step) (value_code test) o (one_sized i.Step) (value_sized test) e (with_code (one i.Step) e) x (with_code o x) refl
+    (both_are (one i.Step) (value_code test) e (one_sized i.Step)) refl in
     over_then i.Jz (i.Jz 0) q x d1 d2 d3 (length x.instrs) past s first refl g p (k ∙ ap (λ y. with_test y past d2) j) ∙ ap (with_code q) head
 
 -- ---- the whole
@@ -72,7 +74,8 @@ module _ (turns : ℕ → ℕ → ℕ) (body next : Piece) (f : IsFilled body) (
 
   -- the jumps of the body are set
   filled : (head : Piece) → IsSized head → (past turn : ℕ) → past ≡ loop_end (length e.instrs) head body next → turn ≡ turns (length e.instrs) (length e.instrs + (head.size + body.size)) →
-      with_jumps turn (body.turns (length e.instrs + head.size)) (with_jumps past (body.pasts (length e.instrs + head.size)) (with_code (behind (length e.instrs)) (with_code head e))) ≡ with_code (loop turns head body next) e
+      with_jumps turn (body.turns (length e.instrs + head.size)) (with_jumps past (body.pasts (length e.instrs + head.size)) (with_code (behind (length e.instrs)) (with_code head e)))
+      ≡ with_code (loop turns head body next) e
   unfolding with_code with_jumps
   filled head s past turn p t =
       let n = length e.instrs in
@@ -98,8 +101,10 @@ module _ (turns : ℕ → ℕ → ℕ) (body next : Piece) (f : IsFilled body) (
         outs : (xs ys : List ℕ) (zs : ℕ → List ℕ) (k l : ℕ) → k ≡ l → (xs ++ ys) ++ (zs k ++ []) ≡ xs ++ (ys ++ zs l)
         outs xs ys zs k l h = ap (λ w. (xs ++ ys) ++ w) (append-nil (zs k) ∙ ap zs h) ∙ append_assoc xs ys (zs l)
 
-  pub loop_emitted : (x : Option Value) (d1 d2 d3 d4 d5 d6 : Emitted) (jump : Option ℕ) (place past turn : ℕ) (ps ts : List ℕ) → d1 ≡ with_code (open_test x) e → jump ≡ test_jump x e → d2 ≡ with_code (enclosed body) d1 →
-      ps ≡ body.pasts (length d1.instrs) → ts ≡ body.turns (length d1.instrs) → d3 ≡ with_code next d2 → d4 ≡ with_code (one (i.Jump place)) d3 → place ≡ length e.instrs → past ≡ length d4.instrs → d5 ≡ with_test jump past d4 →
+  pub loop_emitted : (x : Option Value) (d1 d2 d3 d4 d5 d6 : Emitted) (jump : Option ℕ) (place past turn : ℕ) (ps ts : List ℕ) → d1 ≡ with_code (open_test x) e → jump ≡ test_jump x e
+      → d2 ≡ with_code (enclosed body) d1 →
+      ps ≡ body.pasts (length d1.instrs) → ts ≡ body.turns (length d1.instrs) → d3 ≡ with_code next d2 → d4 ≡ with_code (one (i.Jump place)) d3 → place ≡ length e.instrs → past ≡ length d4.instrs
+      → d5 ≡ with_test jump past d4 →
       turn ≡ turns place (length d2.instrs) → d6 ≡ with_jumps turn ts (with_jumps past ps d5) → d6 ≡ with_code (loop turns (test_code x (body.size + (next.size + 1))) body next) e
   loop_emitted x d1 d2 d3 d4 d5 d6 jump place past turn ps ts h1 j h2 p t h3 h4 l q h5 u h6 =
       let n = length e.instrs in

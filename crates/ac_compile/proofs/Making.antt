@@ -9,13 +9,14 @@ use Rattle.stack_code.specs.declared.parts.Start.{Start}
 use Rattle.stack_code.specs.declared.parts.ChannelEnds.{ChannelEnds}
 use Rattle.stack_code.specs.Parts.{Parts}
 use Rattle.ac_translation.specs.Translation.{no_exits, function_code, functions_code, functions_from, code_of}
-use Rattle.ac_compile.specs.Emission.{Emitted, nothing_yet, with_code}
+use Rattle.ac_compile.specs.inner.Emission.{Emitted, nothing_yet, with_code}
 
 abbrev entry_at : ℕ → Function → Entered
 entry_at at f = record { name = f.name; at = at; params = f.params; words = f.slots }
 
 -- one function more in the list of functions
-pub one_more : (fs : List Function) (i : ℕ) (f : Function) (list new : List Entered) (x : Entered) (k at next : ℕ) (whole : List Entered) → i < length fs → f ≡ get_or fs i f → x ≡ entry_at k f → k ≡ at → new ≡ list ++ x ∷ [] →
+pub one_more : (fs : List Function) (i : ℕ) (f : Function) (list new : List Entered) (x : Entered) (k at next : ℕ) (whole : List Entered) → i < length fs → f ≡ get_or fs i f → x ≡ entry_at k f
+    → k ≡ at → new ≡ list ++ x ∷ [] →
     next ≡ at + (function_code f).size → list ++ functions_from at (drop i fs) ≡ whole → new ++ functions_from next (drop (i + 1) fs) ≡ whole
 one_more fs i f list new x k at next whole lt is e m g n h =
     ap (λ l. l ++ functions_from next (drop (i + 1) fs)) g
@@ -27,7 +28,8 @@ one_more fs i f list new x k at next whole lt is e m g n h =
     ∙ h
 
 -- the instructions of the functions, where nothing stands before them
-pub all_instrs : (xs ys : List Function) (e d : Emitted) (instrs : List Instr) → xs ≡ ys → e ≡ nothing_yet → d ≡ with_code (functions_code xs) e → instrs ≡ d.instrs → instrs ≡ (functions_code ys).at no_exits 0
+pub all_instrs : (xs ys : List Function) (e d : Emitted) (instrs : List Instr) → xs ≡ ys → e ≡ nothing_yet → d ≡ with_code (functions_code xs) e → instrs ≡ d.instrs
+    → instrs ≡ (functions_code ys).at no_exits 0
 unfolding with_code
 all_instrs xs ys e d instrs same none h is = is ∙ ap (λ (k : Emitted). k.instrs) (h ∙ ap (with_code (functions_code xs)) none ∙ ap (λ l. with_code (functions_code l) nothing_yet) same)
 
@@ -35,8 +37,10 @@ abbrev parts : List Instr → List Entered → List (List ℕ) → List ℕ → 
 parts instrs functions texts entries names globals capacities ends starts =
     record { instrs = instrs; functions = functions; texts = texts; entries = entries; names = names; globals = globals; capacities = capacities; ends = ends; starts = starts }
 
-pub made : (program : Resolved) (instrs : List Instr) (functions : List Entered) (texts : List (List ℕ)) (entries : List ℕ) (names : List (List ℕ)) (capacities : List ℕ) (ends : List ChannelEnds) (starts : List Start) →
-    instrs ≡ (code_of program).instrs → functions ≡ (code_of program).functions → texts ≡ program.texts → entries ≡ (code_of program).entries → names ≡ (code_of program).names → capacities ≡ (code_of program).capacities →
+pub made : (program : Resolved) (instrs : List Instr) (functions : List Entered) (texts : List (List ℕ)) (entries : List ℕ) (names : List (List ℕ)) (capacities : List ℕ) (ends : List ChannelEnds)
+    (starts : List Start) →
+    instrs ≡ (code_of program).instrs → functions ≡ (code_of program).functions → texts ≡ program.texts → entries ≡ (code_of program).entries → names ≡ (code_of program).names
+    → capacities ≡ (code_of program).capacities →
     ends ≡ (code_of program).ends → starts ≡ (code_of program).starts → parts instrs functions texts entries names program.slots capacities ends starts ≡ code_of program
 made program instrs functions texts entries names capacities ends starts a b c d e f g h =
     let code = code_of program in

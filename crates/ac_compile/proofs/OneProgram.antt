@@ -7,32 +7,35 @@ use Rattle.ac_tree.specs.declared.item.Function as tree
 use Rattle.ac_tree.specs.declared.item.Param.{Param}
 use Rattle.ac_tree.specs.declared.item.Program.{Program}
 use Rattle.ac_tree.specs.Weight.{body_weight, items_weight, IsSmall}
-use Rattle.ac_types.specs.declared.meaning.Meaning.{Meaning}
-use Rattle.ac_types.specs.declared.meaning.Meaning.TheVariants as m
+use Rattle.ac_names.specs.declared.meaning.Meaning.{Meaning}
+use Rattle.ac_names.specs.declared.meaning.Meaning.TheVariants as m
 use Rattle.ac_types.specs.declared.numbered.Callee.{Callee}
-use Rattle.ac_types.specs.declared.numbered.Reached.{Reached}
+use Rattle.ac_reach.specs.declared.reached.Reached.{Reached}
 use Rattle.ac_types.specs.declared.numbered.Tables.{Tables}
-use Rattle.ac_types.specs.Kinds.{either}
-use Rattle.ac_types.specs.Scopes.{Declaration, in_scope, visible}
+use Rattle.ac_names.specs.Kinds.{either}
+use Rattle.ac_names.specs.Scopes.{Declaration, in_scope, visible}
 use Rattle.ac_types.specs.Tables.{callee}
 use Rattle.ac_types.specs.Statements.{stmt_nodes}
-use Rattle.ac_types.specs.Items.{kinds_in, tables_of, core_tests, program_tests, params_named, function_names, around_of, params_give, function_nodes, program_nodes, no_past, whole, outermost}
+use Rattle.ac_names.specs.Items.{kinds_in, params_named, function_names, no_past, whole, outermost}
+use Rattle.ac_types.specs.Items.{tables_of, core_tests, program_tests, around_of, params_give, function_nodes, program_nodes}
 use Rattle.ac_types.specs.Expressions.{one_node, join_nodes}
 use Rattle.ac_types.specs.Nodes.{Node}
 use Rattle.ac_types.specs.Reached.{BreaksNone}
-use Rattle.ac_types.proofs.Visible.{AllMean, none_mean, outer}
+use Rattle.ac_names.proofs.Visible.{AllMean, none_mean, outer}
 use Rattle.ac_types.proofs.Cleans.{AllClean, clean_program}
 use Rattle.ac_commands.specs.declared.program.Resolved.{Resolved}
 use Rattle.ac_resolve.specs.Places.{function_of}
-use Rattle.ac_resolve.specs.Commands.{Texts, all_words, body_told, commands}
+use Rattle.ac_resolve.specs.Commands.{Texts, shapes, body_told, commands}
+use Rattle.ac_names.specs.Statements.{sum_words}
 use Rattle.ac_resolve.specs.Resolution.{cores_in, function_in, function_texts, items_texts, resolved}
-use Rattle.ac_compile.specs.Built.{Round, AreCommands, IsOne}
+use Rattle.ac_compile.specs.inner.Built.{Round, AreCommands, IsOne}
 use Rattle.ac_compile.specs.Unbuilt.{as_list, body_nodes, first_entry, unbuilt_nodes}
 use Rattle.ac_compile.proofs.Within.{IsWithin}
 use Rattle.ac_compile.proofs.Readings.{AreClean}
 use Rattle.ac_compile.proofs.Tellings.{Kept}
 use Rattle.ac_compile.proofs.Doing.{bodies_nodes, body_done}
-use Rattle.ac_compile.proofs.Counting.{EachMeans, names_mean, globals_within, starts_are, AreFine, no_channels, HasCore, none_there, one_there, core_of_all, IsNoFunction, IsFirst, HasFunction, no_function_there, function_there, function_of_all}
+use Rattle.ac_compile.proofs.Counting.{EachMeans, names_mean, globals_within, starts_are, AreFine, no_channels, HasCore, none_there, one_there}
+use Rattle.ac_compile.proofs.Counting.{core_of_all, IsNoFunction, IsFirst, HasFunction, no_function_there, function_there, function_of_all}
 
 -- ---- the entry of a core
 
@@ -65,16 +68,18 @@ module _ (f : tree.Function) (names : List Declaration) (globals : ℕ) (texts :
   -- by its parameters
   abbrev Body : List Param → Type 0
   Body ps =
-      AreCommands (record { slots = length ps + all_words (body_told f.body); globals = globals; texts = texts }) false
+      AreCommands (record { slots = length ps + sum_words (shapes (body_told f.body)); globals = globals; texts = texts }) false
       (commands (body_told f.body) (params_named ps (function_names (names ∷ []))) 0 [])
 
   abbrev Nodes : Tables → Reached → List Param → List Node
-  Nodes t reached ps = params_give (List Node) one_node [] join_nodes ps (function_names (names ∷ [])) ++ bodies_nodes (map stmt_nodes f.body) t (params_named ps (function_names (names ∷ []))) (around_of f reached)
+  Nodes t reached ps = params_give (List Node) one_node [] join_nodes ps (function_names (names ∷ []))
+      ++ bodies_nodes (map stmt_nodes f.body) t (params_named ps (function_names (names ∷ []))) (around_of f reached)
 
-  body_is_done : (t : Tables) (reached : Reached) → f.params ≡ [] → ((slots : ℕ) → AllMean (IsWithin slots globals) names) → texts ≡ function_texts f [] → body_weight f.body < 2 ^ 32 → AllClean (function_nodes f t (names ∷ []) reached) →
+  body_is_done : (t : Tables) (reached : Reached) → f.params ≡ [] → ((slots : ℕ) → AllMean (IsWithin slots globals) names) → texts ≡ function_texts f [] → body_weight f.body < 2 ^ 32
+      → AllClean (function_nodes f t (names ∷ []) reached) →
       body_nodes as_list f.body ≡ [] → Body f.params
   body_is_done t reached none within same small clean built =
-      let r : Round = record { slots = 0 + all_words (body_told f.body); globals = globals; texts = texts } in
+      let r : Round = record { slots = 0 + sum_words (shapes (body_told f.body)); globals = globals; texts = texts } in
       subst Body (sym none)
       (body_done r f.body t (function_names (names ∷ [])) (around_of f reached) []
       (record { depth = refl; names = all_outer (IsWithin r.slots globals) names (within r.slots); slots = omega arith; kept = kept_equal (function_texts f []) texts (sym same) })
@@ -107,7 +112,8 @@ module _ (items : List Item) (rows : List Reached) (c : AllClean (program_nodes 
   all_within : (slots : ℕ) → AllMean (IsWithin slots all_slots) names
   all_within slots = mean_all (IsWithin slots all_slots) (globals_within slots all_slots no_past items (omega arith))
 
-  with_function : (name entry : List ℕ) → cores_in items scopes ≡ record { name = name; entry = function_of (visible entry scopes) } ∷ [] → IsFunction (visible entry scopes) → HasFunction t scopes entry items → IsOne program
+  with_function : (name entry : List ℕ) → cores_in items scopes ≡ record { name = name; entry = function_of (visible entry scopes) } ∷ [] → IsFunction (visible entry scopes)
+      → HasFunction t scopes entry items → IsOne program
   with_function name entry cores g (no_function_there h) = absurd (all_outer IsNoFunction names (mean_all IsNoFunction (h no_past.counts)) entry (m.Function g.number) g.is g.number refl)
   with_function name entry cores g (function_there f reached params body weight clean functions texts means) =
       let zero_is = all_outer IsFirst names (mean_all IsFirst (means no_past.counts refl)) entry (m.Function g.number) g.is g.number refl in

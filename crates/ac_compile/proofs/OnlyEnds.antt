@@ -12,7 +12,7 @@ use Rattle.stack_code.specs.declared.parts.Entered.{Entered}
 use Rattle.stack_code.specs.Parts.{Parts, Begins}
 use Rattle.stack_code.specs.Machine.{FlatEnd, exec, first_flat, Runs}
 use Rattle.ac_translation.specs.Same.{IsSame}
-use Rattle.ac_compile.specs.Built.{IsOne}
+use Rattle.ac_compile.specs.inner.Built.{IsOne}
 use Rattle.ac_compile.specs.OneEnd.{HasOneEnd}
 use Rattle.ac_compile.proofs.Nearer.{only_end}
 use Rattle.ac_compile.proofs.SourceEnds.{source_ends}
@@ -38,7 +38,7 @@ begins_one code core f g h k =
 
 -- ---- and comes to one end
 
-source_only : (program : Resolved) (core bound : ℕ) (journal : List Entry) (d e : Option CoreEnd) → Replays program core bound journal d → Replays program core bound journal e → d ≡ e
+pub source_only : (program : Resolved) (core bound : ℕ) (journal : List Entry) (d e : Option CoreEnd) → Replays program core bound journal d → Replays program core bound journal e → d ≡ e
 source_only program core bound journal d e h k =
     let is = enters_one program core h.function k.function h.enters k.enters in
     let ends = subst (λ (f : Function). ComesTo (step program bound) (first_state program f journal) d) is h.ends in

@@ -18,7 +18,7 @@ use Rattle.ac_semantics.specs.Evaluation.{values_of}
 use Rattle.ac_semantics.specs.Held.{Held, with_shared, with_store, stepped as with_step}
 use Rattle.ac_semantics.specs.Work.{After, Puts, Gives, Work, Do, Turn, Leave, before, next_part, past_loop, at_turn}
 use Rattle.ac_semantics.specs.Statements.{Next, Goes, Ends, or_trap, returns, finish, performs, some_body, loops, does_form, if_step, next_at, next_of}
-use Rattle.ac_compile.specs.Built.{Round, IsEffect, only_value, IsCommand, AreCommands, no_command, one_command}
+use Rattle.ac_compile.specs.inner.Built.{Round, IsEffect, only_value, IsCommand, AreCommands, no_command, one_command}
 use Rattle.ac_compile.proofs.StepsKept.{steps_in, printed_steps}
 use Rattle.ac_compile.proofs.WorkLeft.{IsForm, form_of, next_is_built, IsLeft, IsSomeLeft, before_left, zero_left, past_left, turn_left, returns_over}
 
@@ -52,7 +52,8 @@ module _ (program : Resolved) (r : Round) (bound steps : ℕ) (lt : steps < boun
 
     print_onward : (text : ℕ) (args : List Value) →
         Onward (or_trap s (values_of s.store frame args) (λ vs. or_trap s (printed s.shared (formatted (slice_index_or program.texts text []) vs)) (λ shared. Goes (with_shared s shared) ws)))
-    print_onward text args = or_trap_onward s _ _ (λ vs is. or_trap_onward s _ _ (λ shared e. goes_with (with_shared s shared) (printed_steps s.shared (formatted (slice_index_or program.texts text []) vs) shared e)))
+    print_onward text args = or_trap_onward s _ _ (λ vs is. or_trap_onward s _ _
+        (λ shared e. goes_with (with_shared s shared) (printed_steps s.shared (formatted (slice_index_or program.texts text []) vs) shared e)))
 
     choice_onward : (test : Computed) (xs ys : List Work) → IsSomeLeft r xs → IsSomeLeft r ys → Onward (or_trap s test (λ v. Goes s (at_zero v xs ys)))
     choice_onward test xs ys a b = or_trap_onward s test (λ v. Goes s (at_zero v xs ys)) (λ v e. onward s (at_zero v xs ys) lt same (zero_left r v xs ys a b))

@@ -17,10 +17,14 @@ use Rattle.ac_commands.specs.declared.program.Resolved.{Resolved}
 use Rattle.stack_code.specs.declared.instr.Instr.{Instr}
 use Rattle.stack_code.specs.declared.instr.Instr.TheVariants as i
 use Rattle.stack_code.specs.Sequential.{is_sequential, IsSequential}
-use Rattle.ac_compile.specs.Built.{Round, IsPlace, global, own, IsArray, globals, owns, IsValue, number, variable, element, unary, chain, AreLinks, no_link, one_link, AreValues, IsTarget, to_variable, to_element, IsEffect, only_value, IsTest, no_test, some_test, IsOperand, no_operand, some_operand, IsCommand, nothing, set, clear, print, if_alone, if_else, while_loop, for_loop, leave, go_on, give, AreCommands, no_command, one_command, round_of, IsOne}
+use Rattle.ac_compile.specs.inner.Built.{Round, IsPlace, global, own, IsArray, globals, owns, IsValue, number, variable, element, unary, chain, AreLinks, no_link, one_link, AreValues}
+use Rattle.ac_compile.specs.inner.Built.{IsTarget, to_variable, to_element, IsEffect, only_value, IsTest, no_test, some_test, IsOperand, no_operand, some_operand, IsCommand, nothing}
+use Rattle.ac_compile.specs.inner.Built.{set, clear, print, if_alone, if_else, while_loop, for_loop, leave, go_on, give, AreCommands, no_command, one_command, round_of, IsOne}
 use Rattle.ac_translation.specs.Pieces.{Exits, Piece, no_code, one, ◌⨾◌, all, over, out_past, out_turn, loop_exits, loop}
-use Rattle.ac_translation.specs.Translation.{unary_code, operator_code, joined_code, lazily, chained_code, variable_code, array_code, value_code, link_code, values_code, effect_code, target_code, if_code, test_code, at_loop, at_next, operand_code, command_code, body_code, last_code, function_code, functions_code, no_exits, code_of}
-use Rattle.ac_compile.proofs.Forms.{number_form, variable_form, element_form, unary_form, chain_form, link_form, nothing_form, set_form, clear_form, print_form, if_alone_form, if_else_form, while_form, for_form, break_form, continue_form, return_form}
+use Rattle.ac_translation.specs.Translation.{unary_code, operator_code, joined_code, lazily, chained_code, variable_code, array_code, value_code, link_code, values_code, effect_code}
+use Rattle.ac_translation.specs.Translation.{target_code, if_code, test_code, at_loop, at_next, operand_code, command_code, body_code, last_code, function_code, functions_code, no_exits, code_of}
+use Rattle.ac_compile.proofs.Forms.{number_form, variable_form, element_form, unary_form, chain_form, link_form, nothing_form, set_form}
+use Rattle.ac_compile.proofs.Forms.{clear_form, print_form, if_alone_form, if_else_form, while_form, for_form, break_form, continue_form, return_form}
 
 abbrev Plain : List Instr → Type 0
 Plain [] = Unit {0}
@@ -176,10 +180,12 @@ module _ (r : Round) where
         (else_plain (value_code test) (body_code body) (map command_code other) (value_plain test x) (commands_plain inside body xs) (commands_plain inside other ys))
     command_plain inside _ (while_loop _ test body x xs) =
         same_plain _ _ (while_form test body)
-        (loop_plain at_loop (test_code (Some test) ((body_code body).size + 1)) (body_code body) no_code (test_plain (Some test) ((body_code body).size + 1) (some_test test x)) (commands_plain true body xs) none_plain)
+        (loop_plain at_loop (test_code (Some test) ((body_code body).size + 1)) (body_code body) no_code (test_plain (Some test) ((body_code body).size + 1) (some_test test x))
+        (commands_plain true body xs) none_plain)
     command_plain inside _ (for_loop _ test next body x xs ys) =
         same_plain _ _ (for_form test next body)
-        (loop_plain at_next (test_code test ((body_code body).size + ((body_code next).size + 1))) (body_code body) (body_code next) (test_plain test _ x) (commands_plain true body ys) (commands_plain inside next xs))
+        (loop_plain at_next (test_code test ((body_code body).size + ((body_code next).size + 1))) (body_code body) (body_code next) (test_plain test _ x) (commands_plain true body ys)
+        (commands_plain inside next xs))
     command_plain inside _ leave = same_plain _ _ break_form (after_one i.Step _ refl past_plain)
     command_plain inside _ go_on = same_plain _ _ continue_form (after_one i.Step _ refl turn_plain)
     command_plain inside _ (give _ effect x) = same_plain _ _ (return_form effect) (after_one i.Step _ refl (then_one (operand_code effect) i.Ret (operand_plain effect x) refl))

@@ -7,15 +7,15 @@ use Rattle.ac_tree.specs.declared.expr.Link.{Link, fold-Link, fold-roll-Link}
 use Rattle.ac_types.specs.declared.around.Around.{Around}
 use Rattle.ac_types.specs.declared.around.Position.{Position}
 use Rattle.ac_types.specs.declared.around.Position.TheVariants as p
-use Rattle.ac_types.specs.declared.kind.Kind.TheVariants as k
-use Rattle.ac_types.specs.declared.meaning.Meaning.{Meaning}
-use Rattle.ac_types.specs.declared.meaning.Meaning.TheVariants as m
+use Rattle.ac_names.specs.declared.kind.Kind.TheVariants as k
+use Rattle.ac_names.specs.declared.meaning.Meaning.{Meaning}
+use Rattle.ac_names.specs.declared.meaning.Meaning.TheVariants as m
 use Rattle.ac_types.specs.declared.numbered.Tables.{Tables}
 use Rattle.ac_types.specs.Around.{is_array_position}
-use Rattle.ac_types.specs.Kinds.{is_other}
-use Rattle.ac_types.specs.Scopes.{Declaration, visible}
+use Rattle.ac_names.specs.Kinds.{is_other}
+use Rattle.ac_names.specs.Scopes.{Declaration, visible}
 use Rattle.ac_types.specs.Nodes.{Node}
-use Rattle.ac_types.specs.Judged.{is_misplaced, name_tests, index_tests}
+use Rattle.ac_types.specs.Judged.{Tests, is_misplaced, name_tests, index_tests}
 use Rattle.ac_types.specs.Reached.{IsBrokenRule}
 use Rattle.ac_types.specs.Expressions.{expr_step, link_step, link_all, links_step, values_all, value_all, one_node, join_nodes, expr_nodes}
 use Rattle.ac_types.proofs.Cleans.{AllClean, clean_sooner, clean_later}
@@ -27,7 +27,8 @@ use Rattle.ac_commands.specs.declared.effect.Effect.TheVariants as f
 use Rattle.ac_resolve.specs.Places.{constant_value, place_of, array_of}
 use Rattle.ac_resolve.specs.Computed.{InScopes, Reading, read_step, read, link_in, value_in, values_in, test_in, target_in, effect_in, initial_in, operand_in}
 use Rattle.ac_resolve.specs.Computed.{link_step as reading_link, links_step as reading_links}
-use Rattle.ac_compile.specs.Built.{Round, IsPlace, global, own, IsArray, globals, owns, IsValue, number, variable, element, unary, chain, AreLinks, no_link, one_link, AreValues, IsTarget, to_variable, to_element, IsEffect, only_value, IsTest, no_test, some_test, IsOperand, no_operand, some_operand}
+use Rattle.ac_compile.specs.inner.Built.{Round, IsPlace, global, own, IsArray, globals, owns, IsValue, number, variable, element, unary, chain, AreLinks, no_link, one_link}
+use Rattle.ac_compile.specs.inner.Built.{AreValues, IsTarget, to_variable, to_element, IsEffect, only_value, IsTest, no_test, some_test, IsOperand, no_operand, some_operand}
 use Rattle.ac_compile.specs.Unbuilt.{as_list, node_by, all_of, is_place, place_step, no_step, exprs_nodes, some_expr}
 use Rattle.ac_compile.specs.Unbuilt.{expr_step as built_step, link_step as built_link, expr_nodes as unbuilt_in, link_nodes as link_unbuilt}
 use Rattle.ac_compile.proofs.Within.{IsWithin, AllWithin}
@@ -52,7 +53,7 @@ node_built false at parts e = absurd (no_node at parts e)
 
 -- ---- names
 
-abbrev pub AreClean : List (ℕ × Bool) → Type 0
+abbrev pub AreClean : Tests → Type 0
 AreClean tests = (q : ℕ) → IsBrokenRule q tests → ⊥
 
 -- no argument for an array parameter
@@ -115,10 +116,12 @@ module _ (r : Round) where
   AllIn scopes = AllWithin r.slots r.globals scopes
 
   abbrev pub Claim : Expr → Type 0
-  Claim x = (t : Tables) (scopes : List (List Declaration)) (a : Around) (w : Position) → IsPlain w → AllIn scopes → AllClean (expr_nodes x t scopes a w) → unbuilt_in as_list x ≡ [] → IsRead r (read x) (is_place x) scopes
+  Claim x = (t : Tables) (scopes : List (List Declaration)) (a : Around) (w : Position) → IsPlain w → AllIn scopes → AllClean (expr_nodes x t scopes a w) → unbuilt_in as_list x ≡ []
+      → IsRead r (read x) (is_place x) scopes
 
   abbrev LinkClaim : Link → Type 0
-  LinkClaim l = (t : Tables) (scopes : List (List Declaration)) (a : Around) → AllIn scopes → AllClean (link_nodes l t scopes a p.Value) → link_unbuilt as_list l ≡ [] → IsValue r (link_in l scopes 0).operand
+  LinkClaim l = (t : Tables) (scopes : List (List Declaration)) (a : Around) → AllIn scopes → AllClean (link_nodes l t scopes a p.Value) → link_unbuilt as_list l ≡ []
+      → IsValue r (link_in l scopes 0).operand
 
   abbrev Expr_ : Type 0
   Expr_ = (x : Expr) × Claim x
@@ -129,14 +132,16 @@ module _ (r : Round) where
   abbrev links_of : List Link_ → List Link
   links_of ls = map (λ l. l.0) ls
 
-  links_read : (ls : List Link_) (t : Tables) (scopes : List (List Declaration)) (a : Around) → AllIn scopes → AllClean (links_nodes (links_of ls) t scopes a) → all_of as_list (map (link_unbuilt as_list) (links_of ls)) ≡ [] →
+  links_read : (ls : List Link_) (t : Tables) (scopes : List (List Declaration)) (a : Around) → AllIn scopes → AllClean (links_nodes (links_of ls) t scopes a)
+      → all_of as_list (map (link_unbuilt as_list) (links_of ls)) ≡ [] →
       AreLinks r (reading_links (map link_in (links_of ls)) scopes 0)
   links_read [] t scopes a h c u = no_link
   links_read (l ∷ ls) t scopes a h c u =
       let here = link_nodes l.0 t scopes a p.Value in
       let rest = links_nodes (links_of ls) t scopes a in
       let parts = neither (link_unbuilt as_list l.0) (all_of as_list (map (link_unbuilt as_list) (links_of ls))) u in
-      one_link (link_in l.0 scopes 0) (reading_links (map link_in (links_of ls)) scopes 0) (l.1 t scopes a h (clean_sooner here rest c) parts.left) (links_read ls t scopes a h (clean_later here rest c) parts.right)
+      one_link (link_in l.0 scopes 0) (reading_links (map link_in (links_of ls)) scopes 0) (l.1 t scopes a h (clean_sooner here rest c) parts.left)
+      (links_read ls t scopes a h (clean_later here rest c) parts.right)
 
   -- the claim of a layer
   abbrev LayerClaim : Expr-F Expr Link → Type 0
@@ -180,7 +185,8 @@ module _ (r : Round) where
 
   -- the claim of a link's layer
   abbrev LinkLayerClaim : Link-F Expr Link → Type 0
-  LinkLayerClaim x = (t : Tables) (scopes : List (List Declaration)) (a : Around) → AllIn scopes → AllClean (expr_nodes x.operand t scopes a p.Value) → unbuilt_in as_list x.operand ≡ [] → IsValue r ((read x.operand).value scopes 0)
+  LinkLayerClaim x = (t : Tables) (scopes : List (List Declaration)) (a : Around) → AllIn scopes → AllClean (expr_nodes x.operand t scopes a p.Value) → unbuilt_in as_list x.operand ≡ []
+      → IsValue r ((read x.operand).value scopes 0)
 
   link_layer : (y : Link-F Expr_ Link_) → LinkLayerClaim (record { op = y.op; operand = y.operand.0 })
   link_layer y t scopes a h c u = (y.operand.1 t scopes a p.Value refl h c u).value

@@ -18,7 +18,7 @@ use Rattle.ac_semantics.specs.Work.{Leave}
 use Rattle.ac_semantics.specs.Statements.{Next, next_of}
 use Rattle.ac_semantics.specs.Threads.{CoreState, goes_on, applied, step, step_of, first_item, first_core, first_globals}
 use Rattle.ac_semantics.specs.Replay.{Enters, Replays}
-use Rattle.ac_compile.specs.Built.{Round, AreCommands, round_of, IsOne}
+use Rattle.ac_compile.specs.inner.Built.{Round, AreCommands, round_of, IsOne}
 use Rattle.ac_compile.proofs.Nearer.{Nearer, is_over, is_nearer, comes_over}
 use Rattle.ac_compile.proofs.StepsKept.{steps_in}
 use Rattle.ac_compile.proofs.WorkLeft.{IsSomeLeft, before_left}

@@ -4,7 +4,7 @@ use Rattle.ac_commands.specs.declared.value.Value.{Value}
 use Rattle.stack_code.specs.declared.instr.Instr.TheVariants as i
 use Rattle.ac_translation.specs.Pieces.{Piece, one, ◌⨾◌, over}
 use Rattle.ac_translation.specs.Translation.{value_code, if_code}
-use Rattle.ac_compile.specs.Emission.{Emitted, with_code, with_instr, with_outs, enclosed, decided, open_test}
+use Rattle.ac_compile.specs.inner.Emission.{Emitted, with_code, with_instr, with_outs, enclosed, decided, open_test}
 use Rattle.ac_translation.proofs.Sized.{IsSized, one_sized, over_sized, both_sized, value_sized}
 use Rattle.ac_compile.proofs.Emissions.{emitted, both_are, apart, over_then, grown, grown_to, two_are, three_are, four_are}
 
@@ -25,7 +25,8 @@ test_length test e d h = grown_to (one (i.Jz 0)) (with_code (decided test) e) d 
 
 -- ---- `if`
 
-module _ (test : Value) (body : Piece) (s : IsSized body) (e d1 : Emitted) (jump : ℕ) (h : d1 ≡ with_code (one (i.Jz 0)) (with_code (decided test) e)) (j : jump ≡ length (with_code (decided test) e).instrs) where
+module _ (test : Value) (body : Piece) (s : IsSized body) (e d1 : Emitted) (jump : ℕ) (h : d1 ≡ with_code (one (i.Jz 0)) (with_code (decided test) e))
+    (j : jump ≡ length (with_code (decided test) e).instrs) where
   -- what the test leaves
   at_test : Emitted
   at_test = with_code (decided test) e
@@ -37,10 +38,12 @@ module _ (test : Value) (body : Piece) (s : IsSized body) (e d1 : Emitted) (jump
   pub then_emitted : (d2 d3 : Emitted) (to : ℕ) → d2 ≡ with_code body d1 → to ≡ length d2.instrs → d3 ≡ with_instr jump (i.Jz to) d2 → d3 ≡ with_code (if_code (value_code test) body None) e
   unfolding at_test
   then_emitted d2 d3 to f t g =
-      four_are (one i.Step) (value_code test) (over i.Jz body.size) body (one_sized i.Step) (value_sized test) (over_sized i.Jz body.size) e (with_code (one i.Step) e) at_test (with_code (over i.Jz body.size) at_test) d3 refl from_value
+      four_are (one i.Step) (value_code test) (over i.Jz body.size) body (one_sized i.Step) (value_sized test) (over_sized i.Jz body.size) e (with_code (one i.Step) e) at_test
+      (with_code (over i.Jz body.size) at_test) d3 refl from_value
       refl (over_then i.Jz (i.Jz 0) body at_test d1 d2 d3 jump to s h j f t g)
 
-  pub else_emitted : (other : Piece) (r : IsSized other) (d2 d3 d4 d5 d6 : Emitted) (end to past : ℕ) → d2 ≡ with_code body d1 → end ≡ length d2.instrs → d3 ≡ with_code (one (i.Jump 0)) d2 → to ≡ length d3.instrs → d4 ≡ with_instr jump (i.Jz to) d3 →
+  pub else_emitted : (other : Piece) (r : IsSized other) (d2 d3 d4 d5 d6 : Emitted) (end to past : ℕ) → d2 ≡ with_code body d1 → end ≡ length d2.instrs → d3 ≡ with_code (one (i.Jump 0)) d2
+      → to ≡ length d3.instrs → d4 ≡ with_instr jump (i.Jz to) d3 →
       d5 ≡ with_code other d4 → past ≡ length d5.instrs → d6 ≡ with_instr end (i.Jump past) d5 →
       d6 ≡ with_code (one i.Step ⨾ value_code test ⨾ over i.Jz (body.size + 1) ⨾ body ⨾ over i.Jump other.size ⨾ other) e
   unfolding at_test
@@ -57,7 +60,8 @@ module _ (test : Value) (body : Piece) (s : IsSized body) (e d1 : Emitted) (jump
       ∙ ap (λ k. k + body.size) (grown_to (one (i.Jz 0)) at_test d1 (one_sized (i.Jz 0)) h ∙ sym (grown o at_test (over_sized i.Jz (body.size + 1))))
       ∙ sym (grown body y0 s) in
       let sixth = over_then i.Jump (i.Jump 0) other y1 d4 d5 d6 end past r fourth here l p m in
-      let behind = four_are o body (over i.Jump other.size) other (over_sized i.Jz (body.size + 1)) s (over_sized i.Jump other.size) at_test y0 y1 (with_code (over i.Jump other.size) y1) d6 refl refl refl sixth in
+      let behind = four_are o body (over i.Jump other.size) other (over_sized i.Jz (body.size + 1)) s (over_sized i.Jump other.size) at_test y0 y1
+      (with_code (over i.Jump other.size) y1) d6 refl refl refl sixth in
       three_are (one i.Step) (value_code test) (o ⨾ (body ⨾ (over i.Jump other.size ⨾ other))) (one_sized i.Step) (value_sized test) e (with_code (one i.Step) e) at_test d6 refl from_value behind
 
 -- ---- `do` and `async`
@@ -69,7 +73,8 @@ module _ (body : Piece) (s : IsSized body) where
       four_are (one i.Step) (one (i.Enter slot)) body (one i.Step ⨾ one (i.Finish slot)) (one_sized i.Step) (one_sized (i.Enter slot)) s e (with_code (one i.Step) e) d1 d2 d3 refl
       (apart (one i.Step) (one (i.Enter slot)) e d1 (one_sized i.Step) f) g h
 
-  pub async_emitted : (slots : ℕ) (e d1 d2 d3 d4 d5 : Emitted) (jump to : ℕ) → d1 ≡ with_code (one i.Step) e → jump ≡ length d1.instrs → d2 ≡ with_code (one (i.Async slots 0)) d1 → d3 ≡ with_code body d2 → d4 ≡ with_code (one i.End) d3 →
+  pub async_emitted : (slots : ℕ) (e d1 d2 d3 d4 d5 : Emitted) (jump to : ℕ) → d1 ≡ with_code (one i.Step) e → jump ≡ length d1.instrs → d2 ≡ with_code (one (i.Async slots 0)) d1
+      → d3 ≡ with_code body d2 → d4 ≡ with_code (one i.End) d3 →
       to ≡ length d4.instrs → d5 ≡ with_instr jump (i.Async slots to) d4 → d5 ≡ with_code (one i.Step ⨾ over (i.Async slots) (body.size + 1) ⨾ body ⨾ one i.End) e
   async_emitted slots e d1 d2 d3 d4 d5 jump to f j g h k t l =
       let q = body ⨾ one i.End in

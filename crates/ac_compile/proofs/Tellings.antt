@@ -6,7 +6,8 @@ use Rattle.ac_tree.specs.declared.stmt.Stmt.TheFolds.{fold-roll-Stmt, ind-Stmt, 
 use Rattle.ac_tree.specs.declared.stmt.Stmt.TheOpen.{Stmt-F}
 use Rattle.ac_types.specs.Nodes.{Node}
 use Rattle.ac_types.specs.Expressions.{one_node, join_nodes}
-use Rattle.ac_types.specs.Statements.{Named, Part, part_names, part_words, sum_words, stmt_step, stmt_nodes}
+use Rattle.ac_names.specs.Statements.{Named, part_names, part_words, sum_words}
+use Rattle.ac_types.specs.Statements.{StmtPart, stmt_step, stmt_nodes}
 use Rattle.ac_resolve.specs.Commands.{Texts, Told, shape_of, told_step, told, all_texts}
 
 -- ---- texts keep their numbers
@@ -33,7 +34,7 @@ last_there (t ∷ ts) new = last_there ts new
 -- ---- statements
 
 abbrev pub NodesPart : Type 0
-NodesPart = Part (List Node)
+NodesPart = StmtPart (List Node)
 
 -- an int takes a slot, and an array its length
 abbrev takes_len : Option ℕ → ℕ → Type 0

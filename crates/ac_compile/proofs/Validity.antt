@@ -22,7 +22,7 @@ use Rattle.stack_code.proofs.Shaped.{IsKept, IsClosed, leads_as, kept, shaped}
 use Rattle.stack_code.proofs.Ahead.{IsStep, no_quiet_circle}
 use Rattle.stack_code.proofs.Ints.{one_use}
 use Rattle.stack_code.proofs.Behind.{shape_first}
-use Rattle.ac_compile.specs.Built.{round_of, AreCommands, AreStarts, IsOne}
+use Rattle.ac_compile.specs.inner.Built.{round_of, AreCommands, AreStarts, IsOne}
 use Rattle.ac_translation.specs.Pieces.{Piece, no_code, one, ◌⨾◌}
 use Rattle.ac_translation.specs.Translation.{body_code, last_code, functions_code, no_exits, start_of, code_of}
 use Rattle.ac_translation.proofs.Sized.{body_sized, functions_sized}

@@ -12,7 +12,7 @@ use Rattle.stack_code.specs.declared.instr.Instr.{Instr}
 use Rattle.stack_code.specs.declared.instr.Instr.TheVariants as i
 use Rattle.ac_translation.specs.Pieces.{Piece, one, ◌⨾◌, over}
 use Rattle.ac_translation.specs.Translation.{unary_code, operator_code, array_code, lazily, joined_code, chained_code, value_step, link_step, value_code, link_code}
-use Rattle.ac_compile.specs.Emission.{Emitted, with_code, with_instr, HasRoom}
+use Rattle.ac_compile.specs.inner.Emission.{Emitted, with_code, with_instr, HasRoom}
 use Rattle.ac_translation.proofs.Sized.{IsSized, one_sized, over_sized, both_sized, joined_sized, value_sized}
 use Rattle.ac_compile.proofs.Emissions.{both_are, over_then, over_as, grown_to, two_are, three_are, four_are}
 
@@ -40,14 +40,16 @@ module _ (x y index : Value) (array : Array) (e : Emitted) (is : x ≡ v.Element
   pub element_room : (instr : Instr) (d : Emitted) → d ≡ with_code (one instr) e → HasRoom (value_code x) e → HasRoom (value_code y) d
   element_room instr d h room = let n = grown_to (one instr) e d (one_sized instr) h in let m = ap (λ (p : Piece). p.size) element_as in omega (arith, n, m, room)
 
-  pub element_emitted : (instr : Instr) (d1 d2 d3 : Emitted) → instr ≡ array_code array → d1 ≡ with_code (one instr) e → d2 ≡ with_code (value_code y) d1 → d3 ≡ with_code (one i.Elem) d2 → d3 ≡ with_code (value_code x) e
+  pub element_emitted : (instr : Instr) (d1 d2 d3 : Emitted) → instr ≡ array_code array → d1 ≡ with_code (one instr) e → d2 ≡ with_code (value_code y) d1 → d3 ≡ with_code (one i.Elem) d2
+      → d3 ≡ with_code (value_code x) e
   element_emitted instr d1 d2 d3 c f g h =
       three_are (one (array_code array)) (value_code y) (one i.Elem) (one_sized _) (value_sized y) e d1 d2 d3 (f ∙ ap (λ k. with_code (one k) e) c) g h
       ∙ ap (λ p. with_code p e) (sym element_as)
 
 -- ---- one operand
 
-pub unary_emitted : (x y operand : Value) (op : UnaryOp) (instr : Instr) (e d1 d2 : Emitted) → x ≡ v.Unary op operand → y ≡ operand → instr ≡ unary_code op → d1 ≡ with_code (value_code y) e → d2 ≡ with_code (one instr) d1 →
+pub unary_emitted : (x y operand : Value) (op : UnaryOp) (instr : Instr) (e d1 d2 : Emitted) → x ≡ v.Unary op operand → y ≡ operand → instr ≡ unary_code op → d1 ≡ with_code (value_code y) e
+    → d2 ≡ with_code (one instr) d1 →
     d2 ≡ with_code (value_code x) e
 unary_emitted x y operand op instr e d1 d2 is same c f g =
     two_are (value_code y) (one (unary_code op)) (value_sized y) e d1 d2 f (g ∙ ap (λ k. with_code (one k) d1) c)
@@ -90,7 +92,8 @@ plainly b.Or right n m = absurd (n refl)
 plainly b.And right n m = absurd (m refl)
 plainly op right n m = refl
 
-pub joined_emitted : (op : BinaryOp) (right : Value) (instr : Instr) (e d1 d2 : Emitted) → (op ≡ b.Or → ⊥) → (op ≡ b.And → ⊥) → instr ≡ operator_code op → d1 ≡ with_code (value_code right) e → d2 ≡ with_code (one instr) d1 →
+pub joined_emitted : (op : BinaryOp) (right : Value) (instr : Instr) (e d1 d2 : Emitted) → (op ≡ b.Or → ⊥) → (op ≡ b.And → ⊥) → instr ≡ operator_code op → d1 ≡ with_code (value_code right) e
+    → d2 ≡ with_code (one instr) d1 →
     d2 ≡ with_code (joined_code op (value_code right)) e
 joined_emitted op right instr e d1 d2 n m c f g =
     two_are (value_code right) (one (operator_code op)) (value_sized right) e d1 d2 f (g ∙ ap (λ k. with_code (one k) d1) c) ∙ ap (λ p. with_code p e) (sym (plainly op (value_code right) n m))
@@ -107,19 +110,22 @@ part_sized right s = both_sized right _ s (both_sized (one i.Bool) (over i.Jump 
 pub part_far : (right : Piece) (s : IsSized right) (e d1 d2 : Emitted) → d1 ≡ with_code right e → d2 ≡ with_code (one i.Bool) d1 → length d2.instrs ≡ length e.instrs + (right.size + 1)
 part_far right s e d1 d2 f g = let n = grown_to right e d1 s f in let m = grown_to (one i.Bool) d1 d2 (one_sized i.Bool) g in omega (arith, n, m)
 
-pub part_emitted : (right : Piece) (s : IsSized right) (e d1 d2 d3 : Emitted) (at to : ℕ) → d1 ≡ with_code right e → d2 ≡ with_code (one i.Bool) d1 → at ≡ length d2.instrs → to ≡ at + 2 → d3 ≡ with_code (one (i.Jump to)) d2 → d3 ≡ with_code (lazy_part right) e
+pub part_emitted : (right : Piece) (s : IsSized right) (e d1 d2 d3 : Emitted) (at to : ℕ) → d1 ≡ with_code right e → d2 ≡ with_code (one i.Bool) d1 → at ≡ length d2.instrs → to ≡ at + 2
+    → d3 ≡ with_code (one (i.Jump to)) d2 → d3 ≡ with_code (lazy_part right) e
 part_emitted right s e d1 d2 d3 at to f g h j k = three_are right (one i.Bool) (over i.Jump 1) s (one_sized i.Bool) e d1 d2 d3 f g (over_as i.Jump 1 to d2 d3 (omega (arith, h, j)) k)
 
 module _ (instr : Instr) (right : Piece) (s : IsSized right) (e d1 d2 : Emitted) (f : d1 ≡ with_code (one instr) e) (g : d2 ≡ with_code (lazy_part right) d1) where
   pub lazily_far : length d2.instrs ≡ length e.instrs + (right.size + 3)
   lazily_far = let n = grown_to (one instr) e d1 (one_sized instr) f in let m = grown_to (lazy_part right) d1 d2 (part_sized right s) g in omega (arith, n, m)
 
-  pub lazily_emitted : (jump : ℕ → Instr) (decided : Instr) (d3 d4 : Emitted) (at to : ℕ) → at ≡ length e.instrs → to ≡ length d2.instrs → d3 ≡ with_instr at (jump to) d2 → d4 ≡ with_code (one decided) d3 →
+  pub lazily_emitted : (jump : ℕ → Instr) (decided : Instr) (d3 d4 : Emitted) (at to : ℕ) → at ≡ length e.instrs → to ≡ length d2.instrs → d3 ≡ with_instr at (jump to) d2
+      → d4 ≡ with_code (one decided) d3 →
       d4 ≡ with_code (lazily jump decided right) e
   lazily_emitted jump decided d3 d4 at to h j k l =
       let o = over jump (right.size + 2) in
       let x0 = with_code o e in
       let x1 = with_code right x0 in
       let x2 = with_code (one i.Bool) x1 in
-      let code = over_then jump instr (lazy_part right) e d1 d2 d3 at to (part_sized right s) f h g j k ∙ both_are right (one i.Bool ⨾ over i.Jump 1) x0 s ∙ both_are (one i.Bool) (over i.Jump 1) x1 (one_sized i.Bool) in
+      let code = over_then jump instr (lazy_part right) e d1 d2 d3 at to (part_sized right s) f h g j k ∙ both_are right (one i.Bool ⨾ over i.Jump 1) x0 s
+      ∙ both_are (one i.Bool) (over i.Jump 1) x1 (one_sized i.Bool) in
       two_are o _ (over_sized jump (right.size + 2)) e x0 d4 refl (four_are right (one i.Bool) (over i.Jump 1) (one decided) s (one_sized i.Bool) (over_sized i.Jump 1) x0 x1 x2 d3 d4 refl refl code l)

@@ -21,7 +21,8 @@ use Rattle.stack_code.specs.declared.shape.Home.TheVariants as home
 use Rattle.stack_code.specs.declared.shape.Want.TheVariants as want
 use Rattle.stack_code.specs.Parts.{Parts}
 use Rattle.stack_code.specs.Shapes.{taken, params_of, directives_in}
-use Rattle.ac_compile.specs.Built.{Round, IsPlace, global, own, IsArray, globals, owns, IsValue, number, variable, element, unary, chain, AreLinks, no_link, one_link, AreValues, IsTarget, to_variable, to_element, IsEffect, only_value}
+use Rattle.ac_compile.specs.inner.Built.{Round, IsPlace, global, own, IsArray, globals, owns, IsValue, number, variable, element, unary, chain}
+use Rattle.ac_compile.specs.inner.Built.{AreLinks, no_link, one_link, AreValues, IsTarget, to_variable, to_element, IsEffect, only_value}
 use Rattle.ac_translation.specs.Pieces.{Piece, one, ◌⨾◌}
 use Rattle.ac_translation.specs.Translation.{unary_code, operator_code, joined_code, chained_code, variable_code, array_code, value_code, link_code, values_code, effect_code, target_code}
 use Rattle.ac_compile.proofs.Forms.{number_form, variable_form, element_form, unary_form, chain_form, link_form}
@@ -100,9 +101,11 @@ module _ (code : Parts) (slots : ℕ) (no_params : params_of code (home.Function
 
   joined_fit : (inside : Bool) (op : BinaryOp) (right : Piece) → Pushes inside right → (kinds : List Kind) → Fit inside (kind.Int ∷ kinds) (kind.Int ∷ kinds) (joined_code op right)
   joined_fit inside b.Or right f kinds =
-      lazily_fit code slots inside i.Jnz (i.Push (pos 1)) kinds right (jnz_branches code slots) (truth_fit inside kinds right f) (push_fit inside (i.Push (pos 1)) kinds (record { finds = λ at. refl; falls = refl; plain = refl }))
+      lazily_fit code slots inside i.Jnz (i.Push (pos 1)) kinds right (jnz_branches code slots) (truth_fit inside kinds right f)
+      (push_fit inside (i.Push (pos 1)) kinds (record { finds = λ at. refl; falls = refl; plain = refl }))
   joined_fit inside b.And right f kinds =
-      lazily_fit code slots inside i.Jz (i.Push (pos 0)) kinds right (jz_branches code slots) (truth_fit inside kinds right f) (push_fit inside (i.Push (pos 0)) kinds (record { finds = λ at. refl; falls = refl; plain = refl }))
+      lazily_fit code slots inside i.Jz (i.Push (pos 0)) kinds right (jz_branches code slots) (truth_fit inside kinds right f)
+      (push_fit inside (i.Push (pos 0)) kinds (record { finds = λ at. refl; falls = refl; plain = refl }))
   joined_fit inside op right f kinds =
       then_fit inside (kind.Int ∷ kinds) (kind.Int ∷ kind.Int ∷ kinds) (kind.Int ∷ kinds) right (operator_code op) (f (kind.Int ∷ kinds)) (record { finds = λ at. refl; falls = refl; plain = refl })
 
@@ -135,7 +138,8 @@ module _ (code : Parts) (slots : ℕ) (no_params : params_of code (home.Function
 
   pub values_fit : (inside : Bool) (xs : List Value) → AreValues around xs → (kinds : List Kind) → Fit inside kinds (ints (length xs) kinds) (values_code xs)
   values_fit inside [] h kinds = no_fit code slots inside kinds
-  values_fit inside (x ∷ xs) h kinds = both_fit code slots inside kinds (kind.Int ∷ kinds) (ints (length xs) (kind.Int ∷ kinds)) (value_code x) (values_code xs) (value_fit inside x h.0 kinds) (values_fit inside xs h.1 (kind.Int ∷ kinds))
+  values_fit inside (x ∷ xs) h kinds = both_fit code slots inside kinds (kind.Int ∷ kinds) (ints (length xs) (kind.Int ∷ kinds)) (value_code x) (values_code xs) (value_fit inside x h.0 kinds)
+      (values_fit inside xs h.1 (kind.Int ∷ kinds))
 
   -- ---- what is done with values
 

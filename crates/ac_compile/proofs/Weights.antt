@@ -14,12 +14,12 @@ use Rattle.ac_tree.specs.declared.item.Item.{Item}
 use Rattle.ac_tree.specs.declared.item.Item.TheVariants as i
 use Rattle.ac_tree.specs.declared.item.Program.{Program}
 use Rattle.ac_tree.specs.Weight.{total, expr_weigh, link_weigh, expr_weight, exprs_weight, value_weight, stmt_weigh, stmt_weight, body_weight, items_weight, IsSmall}
-use Rattle.ac_types.specs.declared.meaning.Meaning.{Meaning}
-use Rattle.ac_types.specs.declared.meaning.Meaning.TheVariants as m
-use Rattle.ac_types.specs.declared.walk.Names.{Names}
-use Rattle.ac_types.specs.Items.{outermost}
-use Rattle.ac_types.specs.Scopes.{Declaration, visible}
-use Rattle.ac_types.specs.Statements.{part_words, opened, moved, in_do, in_async, array_len}
+use Rattle.ac_names.specs.declared.meaning.Meaning.{Meaning}
+use Rattle.ac_names.specs.declared.meaning.Meaning.TheVariants as m
+use Rattle.ac_names.specs.declared.names.Names.{Names}
+use Rattle.ac_names.specs.Items.{outermost}
+use Rattle.ac_names.specs.Scopes.{Declaration, visible}
+use Rattle.ac_names.specs.Statements.{part_words, listed, some_words, opened, moved, in_do, in_async, array_len}
 use Rattle.ac_commands.specs.declared.value.Place.{Place}
 use Rattle.ac_commands.specs.declared.value.Place.TheVariants as p
 use Rattle.ac_commands.specs.declared.value.Array.{Array}
@@ -34,10 +34,11 @@ use Rattle.ac_commands.specs.declared.command.Command.TheVariants as cm
 use Rattle.ac_resolve.specs.Places.{constant_value, place_of, array_of, name_argument, cancel_of}
 use Rattle.ac_resolve.specs.Computed.{InScopes, Reading, read_step, read, link_in, arguments_step, value_in, values_in, test_in, target_in, effect_in, initial_in, operand_in}
 use Rattle.ac_resolve.specs.Computed.{link_step as reading_link, links_step as reading_links}
-use Rattle.ac_resolve.specs.Commands.{Texts, Told, told_step, told, body_told, passed, commands, some_words, some_texts, some_commands, for_names}
+use Rattle.ac_resolve.specs.Commands.{Texts, Told, told_step, told, body_told, some_shape, commands, some_texts, some_commands, for_names}
 use Rattle.ac_resolve.specs.Resolution.{body_names, function_texts, functions_in, resolved}
 use Rattle.ac_translation.specs.Pieces.{Piece, all}
-use Rattle.ac_translation.specs.Translation.{joined_code, chained_code, value_step, link_step, value_code, link_code, values_code, argument_code, place_code, effect_code, target_code, operand_code, test_code, command_step, command_code, body_code, functions_code}
+use Rattle.ac_translation.specs.Translation.{joined_code, chained_code, value_step, link_step, value_code, link_code, values_code, argument_code, place_code}
+use Rattle.ac_translation.specs.Translation.{effect_code, target_code, operand_code, test_code, command_step, command_code, body_code, functions_code}
 
 -- ---- values by their forms
 
@@ -48,13 +49,16 @@ variable_size : (place : Place) → (value_code (v.Variable place)).size ≡ 1
 variable_size place = ap (λ x. (value_code x).size) (sym (v.rolls-Variable place)) ∙ ap (λ (x : Piece). x.size) (fold-roll-Value Piece (BinaryOp × Piece) value_step link_step (Value-F.Variable place))
 
 element_size : (array : Array) (index : Value) → (value_code (v.Element array index)).size ≡ 1 + ((value_code index).size + 1)
-element_size array index = ap (λ x. (value_code x).size) (sym (v.rolls-Element array index)) ∙ ap (λ (x : Piece). x.size) (fold-roll-Value Piece (BinaryOp × Piece) value_step link_step (Value-F.Element array index))
+element_size array index = ap (λ x. (value_code x).size) (sym (v.rolls-Element array index))
+    ∙ ap (λ (x : Piece). x.size) (fold-roll-Value Piece (BinaryOp × Piece) value_step link_step (Value-F.Element array index))
 
 unary_size : (op : UnaryOp) (operand : Value) → (value_code (v.Unary op operand)).size ≡ (value_code operand).size + 1
-unary_size op operand = ap (λ x. (value_code x).size) (sym (v.rolls-Unary op operand)) ∙ ap (λ (x : Piece). x.size) (fold-roll-Value Piece (BinaryOp × Piece) value_step link_step (Value-F.Unary op operand))
+unary_size op operand = ap (λ x. (value_code x).size) (sym (v.rolls-Unary op operand))
+    ∙ ap (λ (x : Piece). x.size) (fold-roll-Value Piece (BinaryOp × Piece) value_step link_step (Value-F.Unary op operand))
 
 chain_size : (first : Value) (rest : List ValueLink) → (value_code (v.Chain first rest)).size ≡ (value_code first).size + (chained_code (map link_code rest)).size
-chain_size first rest = ap (λ x. (value_code x).size) (sym (v.rolls-Chain first rest)) ∙ ap (λ (x : Piece). x.size) (fold-roll-Value Piece (BinaryOp × Piece) value_step link_step (Value-F.Chain first rest))
+chain_size first rest = ap (λ x. (value_code x).size) (sym (v.rolls-Chain first rest))
+    ∙ ap (λ (x : Piece). x.size) (fold-roll-Value Piece (BinaryOp × Piece) value_step link_step (Value-F.Chain first rest))
 
 link_is : (op : BinaryOp) (operand : Value) → link_code (record { op = op; operand = operand }) ≡ (op, value_code operand)
 link_is op operand = fold-roll-ValueLink Piece (BinaryOp × Piece) value_step link_step (record { op = op; operand = operand })
@@ -111,11 +115,13 @@ exprs_of xs = map (λ x. x.0) xs
 abbrev links_of : List Link_ → List Link
 links_of ls = map (λ l. l.0) ls
 
-links_light : (ls : List Link_) (scopes : List (List Declaration)) (depth : ℕ) → (chained_code (map link_code (reading_links (map link_in (links_of ls)) scopes depth))).size ≤ 4 * total (map link_weight (links_of ls))
+links_light : (ls : List Link_) (scopes : List (List Declaration)) (depth : ℕ)
+    → (chained_code (map link_code (reading_links (map link_in (links_of ls)) scopes depth))).size ≤ 4 * total (map link_weight (links_of ls))
 links_light [] scopes depth = omega arith
 links_light (l ∷ ls) scopes depth = let h = l.1 scopes depth in let k = links_light ls scopes depth in omega (arith, h, k)
 
-arguments_light : (xs : List Expr_) (scopes : List (List Declaration)) (depth : ℕ) → (all (map argument_code (arguments_step (map read (exprs_of xs)) scopes depth))).size ≤ 4 * total (map expr_weight (exprs_of xs))
+arguments_light : (xs : List Expr_) (scopes : List (List Declaration)) (depth : ℕ)
+    → (all (map argument_code (arguments_step (map read (exprs_of xs)) scopes depth))).size ≤ 4 * total (map expr_weight (exprs_of xs))
 arguments_light [] scopes depth = omega arith
 arguments_light (x ∷ xs) scopes depth = let h = x.1.argument scopes depth in let k = arguments_light xs scopes depth in omega (arith, h, k)
 
@@ -144,7 +150,8 @@ layer (Expr-F.Number at n) =
     let light : (scopes : List (List Declaration)) (depth : ℕ) → (value_code (v.Number n)).size ≤ 4 * 1 = λ scopes depth. let e = number_size n in omega (arith, e) in
     only_value _ _ (omega arith) light (λ scopes depth. refl) (λ scopes depth. refl) light
 layer (Expr-F.Const at which) =
-    let light : (scopes : List (List Declaration)) (depth : ℕ) → (value_code (v.Number (constant_value which))).size ≤ 4 * 1 = λ scopes depth. let e = number_size (constant_value which) in omega (arith, e) in
+    let light : (scopes : List (List Declaration)) (depth : ℕ) → (value_code (v.Number (constant_value which))).size ≤ 4 * 1 = λ scopes depth. let e = number_size (constant_value which) in
+    omega (arith, e) in
     only_value _ _ (omega arith) light (λ scopes depth. refl) (λ scopes depth. refl) light
 layer (Expr-F.Name at name) = record {
   some = omega arith;
@@ -155,7 +162,8 @@ layer (Expr-F.Name at name) = record {
   effect = λ scopes depth. let e = variable_size (place_of (visible name scopes) depth) in omega (arith, e);
 }
 layer (Expr-F.Index at name index) =
-    let light : (scopes : List (List Declaration)) (depth : ℕ) → (value_code (v.Element (array_of (visible name scopes) depth) ((read index.0).value scopes depth))).size ≤ 4 * (3 + expr_weight index.0)
+    let light : (scopes : List (List Declaration)) (depth : ℕ) → (value_code (v.Element (array_of (visible name scopes) depth) ((read index.0).value scopes depth))).size
+    ≤ 4 * (3 + expr_weight index.0)
     = λ scopes depth. let e = element_size (array_of (visible name scopes) depth) ((read index.0).value scopes depth) in let h = index.1.value scopes depth in omega (arith, e, h) in
     record {
       some = omega arith;
@@ -166,7 +174,8 @@ layer (Expr-F.Index at name index) =
       effect = light;
     }
 layer (Expr-F.Group at inner) =
-    let light : (scopes : List (List Declaration)) (depth : ℕ) → (value_code ((read inner.0).value scopes depth)).size ≤ 4 * (2 + expr_weight inner.0) = λ scopes depth. let h = inner.1.value scopes depth in omega (arith, h) in
+    let light : (scopes : List (List Declaration)) (depth : ℕ) → (value_code ((read inner.0).value scopes depth)).size
+    ≤ 4 * (2 + expr_weight inner.0) = λ scopes depth. let h = inner.1.value scopes depth in omega (arith, h) in
     only_value _ _ (omega arith) light (λ scopes depth. refl) (λ scopes depth. refl) light
 layer (Expr-F.Unary at op inner) =
     let light : (scopes : List (List Declaration)) (depth : ℕ) → (value_code (v.Unary op ((read inner.0).value scopes depth))).size ≤ 4 * (1 + expr_weight inner.0)
@@ -183,11 +192,14 @@ layer (Expr-F.Chain at level first rest) =
     omega (arith, e, h, k) in
     only_value _ _ (omega (arith, some)) light (λ scopes depth. refl) (λ scopes depth. refl) light
 layer (Expr-F.Call at name args) =
-    only_value _ _ (omega arith) (λ scopes depth. let e = number_size (pos 0) in omega (arith, e)) (λ scopes depth. refl) (λ scopes depth. refl) (λ scopes depth. let h = arguments_light args scopes depth in omega (arith, h))
+    only_value _ _ (omega arith) (λ scopes depth. let e = number_size (pos 0) in omega (arith, e)) (λ scopes depth. refl) (λ scopes depth. refl)
+    (λ scopes depth. let h = arguments_light args scopes depth in omega (arith, h))
 layer (Expr-F.Send at channel value) =
-    only_value _ _ (omega arith) (λ scopes depth. let e = number_size (pos 0) in omega (arith, e)) (λ scopes depth. refl) (λ scopes depth. refl) (λ scopes depth. let h = value.1.value scopes depth in omega (arith, h))
+    only_value _ _ (omega arith) (λ scopes depth. let e = number_size (pos 0) in omega (arith, e)) (λ scopes depth. refl) (λ scopes depth. refl)
+    (λ scopes depth. let h = value.1.value scopes depth in omega (arith, h))
 layer (Expr-F.Recv at channel place) =
-    only_value _ _ (omega arith) (λ scopes depth. let e = number_size (pos 0) in omega (arith, e)) (λ scopes depth. refl) (λ scopes depth. refl) (λ scopes depth. let h = place.1.place scopes depth in omega (arith, h))
+    only_value _ _ (omega arith) (λ scopes depth. let e = number_size (pos 0) in omega (arith, e)) (λ scopes depth. refl) (λ scopes depth. refl)
+    (λ scopes depth. let h = place.1.place scopes depth in omega (arith, h))
 layer (Expr-F.Read at file from len array) =
     only_value _ _ (omega arith) (λ scopes depth. let e = number_size (pos 0) in omega (arith, e)) (λ scopes depth. refl) (λ scopes depth. refl)
     (λ scopes depth. let h = from.1.value scopes depth in let k = len.1.value scopes depth in omega (arith, h, k))
@@ -286,9 +298,9 @@ stmts_of xs = map (λ x. x.0) xs
 stmts_short : (xs : List Stmt_) (n : Names) (depth : ℕ) (texts : Texts) → body_size (commands (map told (stmts_of xs)) n depth texts) ≤ 4 * total (map stmt_weight (stmts_of xs))
 stmts_short [] n depth texts = omega arith
 stmts_short (x ∷ xs) n depth texts =
-    let e = append_size ((told x.0).commands n depth texts) (commands (map told (stmts_of xs)) (passed (told x.0) depth n) depth ((told x.0).texts texts)) in
+    let e = append_size ((told x.0).commands n depth texts) (commands (map told (stmts_of xs)) (listed (told x.0).shape depth n) depth ((told x.0).texts texts)) in
     let h = x.1 n depth texts in
-    let k = stmts_short xs (passed (told x.0) depth n) depth ((told x.0).texts texts) in
+    let k = stmts_short xs (listed (told x.0).shape depth n) depth ((told x.0).texts texts) in
     omega (arith, e, h, k)
 
 abbrev told_of : Option Stmt_ → Option Told
@@ -307,7 +319,7 @@ for_short : (init : Option Stmt_) (test : Option Expr) (next : Option Stmt_) (bo
     body_size (some_commands (told_of init) (opened n) depth texts
     ++ cm.For (test_in test (for_names (told_of init) depth n).scopes depth)
     (some_commands (told_of next) (for_names (told_of init) depth n) depth (some_texts (told_of init) texts))
-    ((told body.0).commands (moved (for_names (told_of init) depth n) (some_words (told_of next))) depth (some_texts (told_of next) (some_texts (told_of init) texts)))
+    ((told body.0).commands (moved (for_names (told_of init) depth n) (some_words (some_shape (told_of next)))) depth (some_texts (told_of next) (some_texts (told_of init) texts)))
     ∷ []) ≤ 4 * (5 + (weight_of init + (value_weight test + (weight_of next + stmt_weight body.0))))
 for_short init test next body n depth texts =
     let names = for_names (told_of init) depth n in
@@ -315,13 +327,13 @@ for_short init test next body n depth texts =
     let head = some_commands (told_of init) (opened n) depth texts in
     let tested = test_in test names.scopes depth in
     let nexts = some_commands (told_of next) names depth after in
-    let inside = (told body.0).commands (moved names (some_words (told_of next))) depth (some_texts (told_of next) after) in
+    let inside = (told body.0).commands (moved names (some_words (some_shape (told_of next)))) depth (some_texts (told_of next) after) in
     let e = append_size head (cm.For tested nexts inside ∷ []) in
     let f = single_size (Command-F.For tested nexts inside) _ (sym (cm.rolls-For tested nexts inside)) in
     let g = test_light test names.scopes depth (body_size inside + (body_size nexts + 1)) in
     let h = some_short init (opened n) depth texts in
     let k = some_short next names depth after in
-    let l = body.1 (moved names (some_words (told_of next))) depth (some_texts (told_of next) after) in
+    let l = body.1 (moved names (some_words (some_shape (told_of next)))) depth (some_texts (told_of next) after) in
     omega (arith, e, f, g, h, k, l)
 
 abbrev told_layer : Stmt-F Stmt_ → Told
@@ -352,7 +364,8 @@ stmt_layer (Stmt-F.Print at format args) n depth texts =
     let h = values_light args n.scopes depth in
     omega (arith, e, h)
 stmt_layer (Stmt-F.If at test body None) n depth texts =
-    let e = single_size (Command-F.If (value_in test n.scopes depth) ((told body.0).commands n depth texts) None) _ (sym (cm.rolls-If (value_in test n.scopes depth) ((told body.0).commands n depth texts) None)) in
+    let e = single_size (Command-F.If (value_in test n.scopes depth) ((told body.0).commands n depth texts) None) _
+    (sym (cm.rolls-If (value_in test n.scopes depth) ((told body.0).commands n depth texts) None)) in
     let h = (expr_light test).value n.scopes depth in
     let k = body.1 n depth texts in
     omega (arith, e, h, k)
@@ -366,7 +379,8 @@ stmt_layer (Stmt-F.If at test body (Some other)) n depth texts =
     let l = other.1 after depth ((told body.0).texts texts) in
     omega (arith, e, h, k, l)
 stmt_layer (Stmt-F.While at test body) n depth texts =
-    let e = single_size (Command-F.While (value_in test n.scopes depth) ((told body.0).commands n depth texts)) _ (sym (cm.rolls-While (value_in test n.scopes depth) ((told body.0).commands n depth texts))) in
+    let e = single_size (Command-F.While (value_in test n.scopes depth) ((told body.0).commands n depth texts)) _
+    (sym (cm.rolls-While (value_in test n.scopes depth) ((told body.0).commands n depth texts))) in
     let h = (expr_light test).value n.scopes depth in
     let k = body.1 n depth texts in
     omega (arith, e, h, k)
@@ -408,9 +422,9 @@ stmt_short = ind-Stmt StmtClaim
 body_short : (xs : List Stmt) (n : Names) (depth : ℕ) (texts : Texts) → body_size (commands (body_told xs) n depth texts) ≤ 4 * body_weight xs
 body_short [] n depth texts = omega arith
 body_short (x ∷ xs) n depth texts =
-    let e = append_size ((told x).commands n depth texts) (commands (body_told xs) (passed (told x) depth n) depth ((told x).texts texts)) in
+    let e = append_size ((told x).commands n depth texts) (commands (body_told xs) (listed (told x).shape depth n) depth ((told x).texts texts)) in
     let h = stmt_short x n depth texts in
-    let k = body_short xs (passed (told x) depth n) depth ((told x).texts texts) in
+    let k = body_short xs (listed (told x).shape depth n) depth ((told x).texts texts) in
     omega (arith, e, h, k)
 
 -- ---- programs

@@ -10,8 +10,8 @@ use Rattle.ac_commands.specs.declared.command.Command.TheOpen.{Command-F}
 use Rattle.ac_semantics.specs.Held.{Held}
 use Rattle.ac_semantics.specs.Work.{Work, Do, Turn, Leave, before, next_in, next_part, past_loop, at_turn}
 use Rattle.ac_semantics.specs.Statements.{Ends, some_body, returns}
-use Rattle.ac_compile.specs.Built.{Round, IsEffect, no_operand, some_operand, AreCommands, no_command, one_command}
-use Rattle.ac_compile.specs.Built.{IsCommand, nothing, set, clear, print, if_alone, if_else, while_loop, for_loop, leave, go_on, give}
+use Rattle.ac_compile.specs.inner.Built.{Round, IsEffect, no_operand, some_operand, AreCommands, no_command, one_command}
+use Rattle.ac_compile.specs.inner.Built.{IsCommand, nothing, set, clear, print, if_alone, if_else, while_loop, for_loop, leave, go_on, give}
 
 module _ (r : Round) where
   -- ---- a statement by its form

@@ -11,7 +11,7 @@ use Rattle.ac_tree.specs.declared.stmt.Stmt.TheOpen.{Stmt-F}
 use Rattle.ac_tree.specs.declared.item.Item.{Item}
 use Rattle.ac_tree.specs.declared.item.Item.TheVariants as i
 use Rattle.ac_tree.specs.declared.item.Param.{Param}
-use Rattle.ac_types.specs.Scopes.{or_else}
+use Rattle.ac_names.specs.Scopes.{or_else}
 
 -- what is made of nodes
 pub record Gathers (A : Type 0) : Type 0 where

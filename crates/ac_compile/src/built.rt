@@ -3,7 +3,9 @@
 ghost use Rattle.std.specs.Prelude.{◌≡◌, [], None, false, slice_get, IfNone};
 ghost use Rattle.std.specs.Option.{option_map};
 ghost use Rattle.ac_tree.specs.declared.item.Item.TheVariants as i;
-ghost use Rattle.ac_compile.specs.Unbuilt.{as_first, node_by, is_place, expr_nodes, exprs_nodes, some_expr, link_nodes, all_of, stmt_nodes, body_nodes, some_stmt, params_nodes, first_entry, is_entry, item_nodes, is_late, items_nodes, unbuilt_nodes};
+ghost use Rattle.ac_compile.specs.Unbuilt.{as_first, node_by, is_place, expr_nodes, exprs_nodes, some_expr};
+ghost use Rattle.ac_compile.specs.Unbuilt.{link_nodes, all_of, stmt_nodes, body_nodes, some_stmt, params_nodes};
+ghost use Rattle.ac_compile.specs.Unbuilt.{first_entry, is_entry, item_nodes, is_late, items_nodes, unbuilt_nodes};
 ghost use Rattle.std.specs.Prelude.{map};
 
 use ac_base::{Boxed, Name};
@@ -88,7 +90,8 @@ fn is_place(expr: &Expr) -> bool
 
 // An assignment from that byte on.
 fn in_assign(at: u32, place: &Expr, value: &Expr) -> Option<u32>
-    ensures { result ≡ node_by as_first (is_place place.now) at (as_first.both (expr_nodes as_first place.now) (expr_nodes as_first value.now)) }
+    ensures { result ≡ node_by as_first (is_place place.now) at
+        (as_first.both (expr_nodes as_first place.now) (expr_nodes as_first value.now)) }
 {
     if !is_place(place) {
         return Some(at);

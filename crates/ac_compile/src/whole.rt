@@ -1,10 +1,11 @@
 //! The code of a whole program, part by part.
 
 ghost use Rattle.std.specs.Prelude.{◌≡◌, ◌+◌, ◌<◌, ◌^◌, [], ◌++◌, length, map, replicate, OnOk, IfOk};
-ghost use Rattle.ac_translation.specs.Translation.{function_code, functions_code, functions_from, request_capacity, ends_of, start_of, code_of};
-ghost use Rattle.ac_compile.specs.Emission.{with_code, HasRoom};
-ghost use Rattle.ac_compile.specs.Made.{parts_of};
-ghost use Rattle.ac_compile.specs.Built.{IsOne};
+ghost use Rattle.ac_translation.specs.Translation.{function_code, functions_code, functions_from};
+ghost use Rattle.ac_translation.specs.Translation.{request_capacity, ends_of, start_of, code_of};
+ghost use Rattle.ac_compile.specs.inner.Emission.{with_code, HasRoom};
+ghost use Rattle.ac_compile.specs.inner.Made.{parts_of};
+ghost use Rattle.ac_compile.specs.inner.Built.{IsOne};
 
 use crate::emit::commands::emit_body;
 use crate::emit::emitter::Emitter;
@@ -48,7 +49,12 @@ fn emit_function(alloc: Global, emitter: &mut Emitter, function: &Function) -> R
 }
 
 fn entered_at(alloc: Global, function: &Function, at: u32) -> Result<Entered, NoMemory>
-    ensures { IfOk result (λ entered. entered ≡ record { name = function.now.name; at = at; params = function.now.params; words = function.now.slots }) }
+    ensures { IfOk result (λ entered. entered ≡ record {
+      name = function.now.name;
+      at = at;
+      params = function.now.params;
+      words = function.now.slots;
+    }) }
 {
     let name = function.name.copy(alloc)?;
     let params = function.params.copy(alloc)?;

@@ -9,7 +9,7 @@ use Rattle.ac_lexer.specs.declared.token.Mark.{Mark}
 use Rattle.ac_lexer.specs.declared.token.Mark.TheVariants as m
 use Rattle.ac_lexer.specs.declared.piece.Piece.{Piece}
 use Rattle.ac_lexer.specs.Spelling.{is_blank, value_of, letters, sign}
-use Rattle.ac_lexer.specs.Reading.{name_or_word, word_of, token_piece, gap_piece, block_at, block_end, mark_of_one, single_at, piece_at}
+use Rattle.ac_lexer.specs.inner.Reading.{name_or_word, word_of, token_piece, gap_piece, block_at, block_end, mark_of_one, single_at, piece_at}
 use Rattle.ac_lexer.specs.Tokens.{Spelled, name, word, nought, number, text, mark, NoEnd, Gap, blank, line, block, FaultHere, Stands}
 use Rattle.ac_lexer.proofs.Runs.{same_head, same_tail, not_eq, eq_of}
 use Rattle.ac_lexer.proofs.Vocabulary.{Named, named, word_named, word_reads, no_word_of, word_long}
@@ -65,14 +65,16 @@ shape_reads v (double b c u e h o s n) = ap (piece_at 0) e ∙ double_part 0 b c
 named_reads : (kind : Kind) (a : List ℕ) → Named a → name_or_word a (word_of a) ≡ kind → piece_at 0 a ≡ Ok (token_piece kind (length a))
 named_reads kind a n e = ap (piece_at 0) (sym (append-nil a)) ∙ named_part 0 a [] n refl ∙ ap (λ (j : Kind). got (token_piece j (length a))) e
 
-number_reads : (b : ℕ) (a : List ℕ) → piece_at 0 (b ∷ (a ++ [])) ≡ Ok (token_piece (k.Number (pos (value_of 0 (b ∷ a)))) (length (b ∷ a))) → piece_at 0 (b ∷ a) ≡ Ok (token_piece (k.Number (pos (value_of 0 (b ∷ a)))) (length (b ∷ a)))
+number_reads : (b : ℕ) (a : List ℕ) → piece_at 0 (b ∷ (a ++ [])) ≡ Ok (token_piece (k.Number (pos (value_of 0 (b ∷ a)))) (length (b ∷ a)))
+    → piece_at 0 (b ∷ a) ≡ Ok (token_piece (k.Number (pos (value_of 0 (b ∷ a)))) (length (b ∷ a)))
 number_reads b a h = ap (λ (x : List ℕ). piece_at 0 (b ∷ x)) (sym (append-nil a)) ∙ h
 
 spelled_reads : (kind : Kind) (a : List ℕ) → Spelled kind a → piece_at 0 a ≡ Ok (token_piece kind (length a))
 spelled_reads _ _ (name b bs h e n) = named_reads (k.Name (b ∷ bs)) (b ∷ bs) (named b bs h e) (ap (name_or_word (b ∷ bs)) (no_word_of (b ∷ bs) (word_of (b ∷ bs)) refl n))
 spelled_reads _ _ (word v) = named_reads (k.Word v) (letters v) (word_named v) (ap (name_or_word (letters v)) (word_reads v))
 spelled_reads _ _ nought = number_reads 48 [] (digit_part 0 48 [] refl ∙ number_good 0 48 [] [] (record { each = (refl, tt); stops = refl }) (omega arith) refl refl)
-spelled_reads _ _ (number b bs d z e lt) = number_reads b bs (digit_part 0 b (bs ++ []) d ∙ number_good 0 b bs [] (record { each = (d, e); stops = refl }) lt (ap (λ (t : Bool). t && nat_lt 1 (length (b ∷ bs))) z) refl)
+spelled_reads _ _ (number b bs d z e lt) = number_reads b bs (digit_part 0 b (bs ++ []) d
+    ∙ number_good 0 b bs [] (record { each = (d, e); stops = refl }) lt (ap (λ (t : Bool). t && nat_lt 1 (length (b ∷ bs))) z) refl)
 spelled_reads _ _ (text bs vs d) = text_part 0 bs vs [] d
 spelled_reads _ _ (mark v) = shape_reads v (shape v)
 
@@ -114,7 +116,8 @@ no_gap at kind a rest _ _ s (blank b rest' h) e = starts_blank kind a rest b res
 no_gap at kind a rest _ _ s (line x rest' g h) e = s.no_line (x ++ rest') (sym e)
 no_gap at kind a rest _ _ s (block x rest' n) e = s.no_block ((x ++ 42 ∷ 47 ∷ []) ++ rest') (sym e)
 
-tokens_same : (at : ℕ) (kind j : Kind) (a rest a' rest' : List ℕ) → Stands at kind a rest → Stands at j a' rest' → Compared a' rest' a rest → got (token_piece j (length a')) ≡ got (token_piece kind (length a))
+tokens_same : (at : ℕ) (kind j : Kind) (a rest a' rest' : List ℕ) → Stands at kind a rest → Stands at j a' rest' → Compared a' rest' a rest
+    → got (token_piece j (length a')) ≡ got (token_piece kind (length a))
 tokens_same at kind j a rest a' rest' s t (same e g) =
     let i : j ≡ kind = spelled_one j kind a (subst (Spelled j) e t.spelled) s.spelled in
     ap (λ (i : Kind). got (token_piece i (length a'))) i ∙ ap (λ (x : List ℕ). got (token_piece kind (length x))) e
@@ -139,7 +142,8 @@ with_nought : (a : List ℕ) → NoEnd (a ++ 42 ∷ []) → NoEnd ((0 ∷ a) ++ 
 with_nought a n [] y e = not_eq 0 42 refl (same_head e)
 with_nought a n (x ∷ xs) y e = n xs y (same_tail e)
 
-ends_same : (a rest a' rest' : List ℕ) (len : ℕ) → NoEnd (a ++ 42 ∷ []) → NoEnd (a' ++ 42 ∷ []) → len ≡ length a' + 1 → Compared ((0 ∷ a) ++ 42 ∷ []) (47 ∷ rest) (a' ++ 42 ∷ []) (47 ∷ rest') → Some len ≡ Some (length a + 2)
+ends_same : (a rest a' rest' : List ℕ) (len : ℕ) → NoEnd (a ++ 42 ∷ []) → NoEnd (a' ++ 42 ∷ []) → len ≡ length a' + 1 → Compared ((0 ∷ a) ++ 42 ∷ []) (47 ∷ rest) (a' ++ 42 ∷ []) (47 ∷ rest')
+    → Some len ≡ Some (length a + 2)
 ends_same a rest a' rest' len n d g (same e h) = long_block a a' len g e
 ends_same a rest a' rest' len n d g (longer c cs e h) = absurd (again (0 ∷ a) a' c cs d e (same_head h))
 ends_same a rest a' rest' len n d g (shorter c cs e h) = absurd (again a' (0 ∷ a) c cs (with_nought a n) e (same_head h))

@@ -2,7 +2,7 @@
 use Rattle.std.proofs.Common.{◌≡◌, ℕ, ◌+◌, Bool, true, false, List, [], ◌∷◌, ◌++◌, length, Option, Some, None, refl, ap, ◌∙◌, arith}
 use Rattle.std.specs.Prelude.{if◌then◌else◌, ◌==◌, ◌&&◌, option_map}
 use Rattle.std.proofs.lemmas.Bool.Decides.{nat_tests}
-use Rattle.ac_lexer.specs.Reading.{block_end}
+use Rattle.ac_lexer.specs.inner.Reading.{block_end}
 use Rattle.ac_lexer.specs.Tokens.{NoEnd}
 
 -- the answer on bs, after the byte p

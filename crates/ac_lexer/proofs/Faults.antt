@@ -9,7 +9,7 @@ use Rattle.ac_lexer.specs.declared.token.Kind.TheVariants as k
 use Rattle.ac_lexer.specs.declared.token.Mark.{Mark}
 use Rattle.ac_lexer.specs.declared.token.Mark.TheVariants as m
 use Rattle.ac_lexer.specs.Spelling.{is_blank, is_letter, is_digit, is_zero, value_of}
-use Rattle.ac_lexer.specs.Reading.{name_at, name_or_word, word_of, gap_piece, number_at, text_from, slash_at, block_at, mark_of_one, mark_of_two, single_at, double_at, mark_at, piece_at}
+use Rattle.ac_lexer.specs.inner.Reading.{name_at, name_or_word, word_of, gap_piece, number_at, text_from, slash_at, block_at, mark_of_one, mark_of_two, single_at, double_at, mark_at, piece_at}
 use Rattle.ac_lexer.specs.Tokens.{Spelled, name, word, nought, number, text, mark, body_end, FaultHere, stray, after_zero, after_number, large, open_comment, open_text, in_text}
 use Rattle.ac_lexer.proofs.Runs.{letter_no_digit, digit_no_letter, letter_no_blank, digit_no_blank, false_if, eq_of, zero_is}
 use Rattle.ac_lexer.proofs.Vocabulary.{Named, named, name_or_word_is}
@@ -80,7 +80,8 @@ stray_mark at b (c ∷ cs) h = ap (λ (o : Option Mark). double_at at o (mark_of
 
 stray_read : (at b : ℕ) (bs : List ℕ) → is_blank b ≡ false → Nothing b → piece_at at (b ∷ bs) ≡ Err (l.BadByte at)
 stray_read at b bs nb h =
-    mark_part at b bs nb (false_if (is_letter b) (stray_letter b h)) (false_if (is_digit b) (stray_digit b (is_zero b) refl h)) (stray_byte b 34 (34 ∷ []) (k.Text []) h (text [] [] body_end)) (stray_byte b 47 [] (k.Mark m.Slash) h (mark m.Slash))
+    mark_part at b bs nb (false_if (is_letter b) (stray_letter b h)) (false_if (is_digit b) (stray_digit b (is_zero b) refl h)) (stray_byte b 34 (34 ∷ []) (k.Text []) h (text [] [] body_end))
+    (stray_byte b 47 [] (k.Mark m.Slash) h (mark m.Slash))
     ∙ stray_mark at b bs h
 
 -- ---- every fault
@@ -96,4 +97,5 @@ fault_read at _ _ (open_text a rest d e) = quote_part at (a ++ rest) ∙ open_li
 fault_read at _ _ (in_text a vs u c rest p d b w) =
     let o = over_line at (0 + length a + length u) (at + 1 + (0 + length a) + p) ([] ++ vs) c (34 ∷ rest) w in
     let q : at + 1 + (0 + length a) + p ≡ at + 1 + length a + p = omega arith in
-    quote_part at (a ++ (u ++ (c ++ 34 ∷ rest))) ∙ over_body at 0 [] a vs (u ++ (c ++ 34 ∷ rest)) d ∙ bad_here at (0 + length a) p ([] ++ vs) u (c ++ 34 ∷ rest) b ∙ o.is ∙ ap (λ (p : ℕ). Err (l.BadByte p)) q
+    quote_part at (a ++ (u ++ (c ++ 34 ∷ rest))) ∙ over_body at 0 [] a vs (u ++ (c ++ 34 ∷ rest)) d ∙ bad_here at (0 + length a) p ([] ++ vs) u (c ++ 34 ∷ rest) b ∙ o.is
+    ∙ ap (λ (p : ℕ). Err (l.BadByte p)) q

@@ -9,3 +9,5 @@ pub mod Faults
 pub mod Pieces
 pub mod Agree
 pub mod WholeText
+pub mod Lexed
+pub mod Examples

@@ -8,7 +8,7 @@ use Rattle.ac_lexer.specs.declared.token.Kind.{Kind}
 use Rattle.ac_lexer.specs.declared.token.Kind.TheVariants as k
 use Rattle.ac_lexer.specs.declared.piece.Piece.{Piece}
 use Rattle.ac_lexer.specs.Spelling.{Each, starts, value_of, is_digit, is_letter, is_zero}
-use Rattle.ac_lexer.specs.Reading.{run, token_piece, number_at}
+use Rattle.ac_lexer.specs.inner.Reading.{run, token_piece, number_at}
 use Rattle.ac_lexer.proofs.Runs.{drop_front, run_of, value_of_run, differ}
 
 abbrev pub got : Piece → Result Piece LexFault
@@ -39,11 +39,13 @@ num_zero : (at v n : ℕ) (bs : List ℕ) → value_of 0 bs ≡ v → nat_lt v (
 unfolding number_at
 num_zero at v n bs e h r z = rw (e, h, r, z) refl
 
-num_letter : (at v n : ℕ) (bs : List ℕ) → value_of 0 bs ≡ v → nat_lt v (2 ^ 63) ≡ true → run is_digit bs ≡ n → (starts is_zero bs && nat_lt 1 n) ≡ false → starts is_letter (drop n bs) ≡ true → number_at at bs ≡ Err (l.BadByte (at + n))
+num_letter : (at v n : ℕ) (bs : List ℕ) → value_of 0 bs ≡ v → nat_lt v (2 ^ 63) ≡ true → run is_digit bs ≡ n → (starts is_zero bs && nat_lt 1 n) ≡ false → starts is_letter (drop n bs) ≡ true
+    → number_at at bs ≡ Err (l.BadByte (at + n))
 unfolding number_at
 num_letter at v n bs e h r z s = rw (e, h, r, z, s) refl
 
-num_good : (at v n : ℕ) (bs : List ℕ) → value_of 0 bs ≡ v → nat_lt v (2 ^ 63) ≡ true → run is_digit bs ≡ n → (starts is_zero bs && nat_lt 1 n) ≡ false → starts is_letter (drop n bs) ≡ false → number_at at bs ≡ Ok (token_piece (k.Number (pos v)) n)
+num_good : (at v n : ℕ) (bs : List ℕ) → value_of 0 bs ≡ v → nat_lt v (2 ^ 63) ≡ true → run is_digit bs ≡ n → (starts is_zero bs && nat_lt 1 n) ≡ false → starts is_letter (drop n bs) ≡ false
+    → number_at at bs ≡ Ok (token_piece (k.Number (pos v)) n)
 unfolding number_at
 num_good at v n bs e h r z s = rw (e, h, r, z, s) refl
 
@@ -62,7 +64,8 @@ not_below_is v h = grind (arith, nat_tests)
 pub number_large : (at b : ℕ) (a rest : List ℕ) → Digits b a rest → 2 ^ 63 ≤ value_of 0 (b ∷ a) → number_at at (b ∷ (a ++ rest)) ≡ Err (l.NumberTooLarge at)
 number_large at b a rest d h = num_large at (value_of 0 (b ∷ a)) (b ∷ (a ++ rest)) (value_of_run 0 (b ∷ a) rest d.each d.stops) (not_below (value_of 0 (b ∷ a)) h)
 
-pub number_zero : (at b : ℕ) (a rest : List ℕ) → Digits b a rest → value_of 0 (b ∷ a) < 2 ^ 63 → (is_zero b && nat_lt 1 (length (b ∷ a))) ≡ true → number_at at (b ∷ (a ++ rest)) ≡ Err (l.BadByte (at + 1))
+pub number_zero : (at b : ℕ) (a rest : List ℕ) → Digits b a rest → value_of 0 (b ∷ a) < 2 ^ 63 → (is_zero b && nat_lt 1 (length (b ∷ a))) ≡ true
+    → number_at at (b ∷ (a ++ rest)) ≡ Err (l.BadByte (at + 1))
 number_zero at b a rest d h z =
     num_zero at (value_of 0 (b ∷ a)) (length (b ∷ a)) (b ∷ (a ++ rest)) (value_of_run 0 (b ∷ a) rest d.each d.stops) (below (value_of 0 (b ∷ a)) h) (run_of is_digit (b ∷ a) rest d.each d.stops) z
 
@@ -79,7 +82,8 @@ number_good at b a rest d h z s =
     (ap (starts is_letter) (drop_front (b ∷ a) rest) ∙ s)
 
 -- a number that is read is as long as the run of digits
-len_case : (at : ℕ) (t u v : Bool) (n : ℕ) (kind : Kind) (p : Piece) → (if t then (if u then lost (l.BadByte (at + 1)) else (if v then lost (l.BadByte (at + n)) else got (token_piece kind n))) else lost (l.NumberTooLarge at)) ≡ Ok p → p.len ≡ n
+len_case : (at : ℕ) (t u v : Bool) (n : ℕ) (kind : Kind) (p : Piece) → (if t then (if u then lost (l.BadByte (at + 1)) else (if v then lost (l.BadByte (at + n)) else got (token_piece kind n)))
+    else lost (l.NumberTooLarge at)) ≡ Ok p → p.len ≡ n
 len_case at false u v n kind p h = absurd (not_both p (l.NumberTooLarge at) (sym h))
 len_case at true true v n kind p h = absurd (not_both p (l.BadByte (at + 1)) (sym h))
 len_case at true false true n kind p h = absurd (not_both p (l.BadByte (at + n)) (sym h))
@@ -88,7 +92,8 @@ len_case at true false false n kind p h = sym (ap (λ (p : Piece). p.len) (same_
 pub number_len : (at : ℕ) (bs : List ℕ) (p : Piece) → number_at at bs ≡ Ok p → p.len ≡ run is_digit bs
 unfolding number_at
 number_len at bs p h =
-    len_case at (nat_lt (value_of 0 bs) (2 ^ 63)) (starts is_zero bs && nat_lt 1 (run is_digit bs)) (starts is_letter (drop (run is_digit bs) bs)) (run is_digit bs) (k.Number (pos (value_of 0 bs))) p h
+    len_case at (nat_lt (value_of 0 bs) (2 ^ 63)) (starts is_zero bs && nat_lt 1 (run is_digit bs)) (starts is_letter (drop (run is_digit bs) bs)) (run is_digit bs)
+    (k.Number (pos (value_of 0 bs))) p h
 
 -- ---- numbers that begin with 0
 

@@ -1,5 +1,6 @@
 -- What is read at a place is what the definition has there.
-use Rattle.std.proofs.Common.{◌≡◌, ℕ, ◌+◌, ◌^◌, ◌<◌, ◌≤◌, Bool, true, false, List, [], ◌∷◌, ◌++◌, length, Option, Some, None, Result, Ok, Err, refl, sym, ap, ◌∙◌, subst, append_assoc, length-append, arith}
+use Rattle.std.proofs.Common.{◌≡◌, ℕ, ◌+◌, ◌^◌, ◌<◌, ◌≤◌, Bool, true, false, List, [], ◌∷◌, ◌++◌, length, Option, Some}
+use Rattle.std.proofs.Common.{None, Result, Ok, Err, refl, sym, ap, ◌∙◌, subst, append_assoc, length-append, arith}
 use Rattle.std.specs.Prelude.{if◌then◌else◌, ◌==◌, ◌&&◌, nat_lt, pos}
 use Rattle.std.proofs.lemmas.Bool.Decides.{nat_tests}
 use Rattle.ac_lexer.specs.declared.fault.LexFault.{LexFault}
@@ -10,7 +11,8 @@ use Rattle.ac_lexer.specs.declared.token.Mark.{Mark}
 use Rattle.ac_lexer.specs.declared.token.Mark.TheVariants as m
 use Rattle.ac_lexer.specs.declared.piece.Piece.{Piece}
 use Rattle.ac_lexer.specs.Spelling.{Each, is_blank, is_letter, is_name, is_digit, is_zero, starts, value_of, letters, sign}
-use Rattle.ac_lexer.specs.Reading.{run, name_at, name_or_word, word_of, token_piece, gap_piece, slash_at, block_at, block_end, mark_of_one, mark_of_two, mark_piece, single_at, double_at, mark_at, piece_at}
+use Rattle.ac_lexer.specs.inner.Reading.{run, name_at, name_or_word, word_of, token_piece, gap_piece, slash_at, block_at}
+use Rattle.ac_lexer.specs.inner.Reading.{block_end, mark_of_one, mark_of_two, mark_piece, single_at, double_at, mark_at, piece_at}
 use Rattle.ac_lexer.specs.Tokens.{
   is_plain,
   escape_of,
@@ -117,7 +119,8 @@ block_least : (at : ℕ) (o : Option ℕ) (p : Piece) → block_at at o ≡ Ok p
 block_least at (Some n) p h = let g : n + 2 ≡ p.len = len_of h in omega arith
 block_least at None p h = absurd (not_both p (l.OpenComment at) (sym h))
 
-slash_case : (at c : ℕ) (cs : List ℕ) (p : Piece) (t u : Bool) → (if t then got (gap_piece (run not_feed cs + 2)) else (if u then block_at at (block_end false cs) else mark_piece m.Slash 1)) ≡ Ok p → 1 ≤ p.len
+slash_case : (at c : ℕ) (cs : List ℕ) (p : Piece) (t u : Bool) → (if t then got (gap_piece (run not_feed cs + 2)) else (if u then block_at at (block_end false cs) else mark_piece m.Slash 1)) ≡ Ok p
+    → 1 ≤ p.len
 slash_case at c cs p true u h = let g : run not_feed cs + 2 ≡ p.len = len_of h in omega arith
 slash_case at c cs p false true h = block_least at (block_end false cs) p h
 slash_case at c cs p false false h = exact 1 p.len (len_of h)
@@ -149,7 +152,8 @@ least at _ _ d p (number b bs h z e lt) g = digits_least at b bs d p (h, e) g
 least at _ _ d p (text bs vs b) g = text_least at bs vs d p b g
 least at _ _ d p (mark v) g = shape_least at v d p (shape v) g
 
-longest : (at : ℕ) (a rest : List ℕ) (kind : Kind) → piece_at at (a ++ rest) ≡ Ok (token_piece kind (length a)) → (c : ℕ) (cs d : List ℕ) (j : Kind) → rest ≡ c ∷ (cs ++ d) → Spelled j (a ++ c ∷ cs) → ⊥
+longest : (at : ℕ) (a rest : List ℕ) (kind : Kind) → piece_at at (a ++ rest) ≡ Ok (token_piece kind (length a)) → (c : ℕ) (cs d : List ℕ) (j : Kind) → rest ≡ c ∷ (cs ++ d) → Spelled j (a ++ c ∷ cs)
+    → ⊥
 longest at a rest kind h c cs d j e s =
     let g : a ++ rest ≡ (a ++ c ∷ cs) ++ d = ap (λ (r : List ℕ). a ++ r) e ∙ sym (append_assoc a (c ∷ cs) d) in
     let i : length (a ++ c ∷ cs) ≤ length a = least at j (a ++ c ∷ cs) d (token_piece kind (length a)) s (sym (ap (piece_at at) g) ∙ h) in
@@ -169,9 +173,16 @@ NoComment bs = ((x : List ℕ) → bs ≡ 47 ∷ 47 ∷ x → ⊥) × ((x : List
 no_slash : (b : ℕ) (bs : List ℕ) → (b ≡ 47 → ⊥) → NoComment (b ∷ bs)
 no_slash b bs h = (λ x e. h (same_head e), λ x e. h (same_head e))
 
-reads_token : (at : ℕ) (kind : Kind) (a rest bs : List ℕ) → bs ≡ a ++ rest → Spelled kind a → NoComment (a ++ rest) → piece_at at (a ++ rest) ≡ Ok (token_piece kind (length a)) → Reads at bs (piece_at at bs)
+reads_token : (at : ℕ) (kind : Kind) (a rest bs : List ℕ) → bs ≡ a ++ rest → Spelled kind a → NoComment (a ++ rest) → piece_at at (a ++ rest) ≡ Ok (token_piece kind (length a))
+    → Reads at bs (piece_at at bs)
 reads_token at kind a rest bs e s n h =
-    let stands : Stands at kind a rest = record { spelled = s; longest = longest at a rest kind h; no_line = n.0; no_block = n.1; sound = λ f d. not_both (token_piece kind (length a)) f (sym h ∙ fault_read at (a ++ rest) f d) } in
+    let stands : Stands at kind a rest = record {
+      spelled = s;
+      longest = longest at a rest kind h;
+      no_line = n.0;
+      no_block = n.1;
+      sound = λ f d. not_both (token_piece kind (length a)) f (sym h ∙ fault_read at (a ++ rest) f d);
+    } in
     subst (λ (cs : List ℕ). Reads at cs (piece_at at cs)) (sym e) (subst (Reads at (a ++ rest)) (sym h) (token_read kind a rest stands))
 
 reads_fault : (at : ℕ) (bs cs : List ℕ) (f : LexFault) → bs ≡ cs → FaultHere at cs f → Reads at bs (piece_at at bs)
@@ -191,7 +202,8 @@ named_spelled _ (named b bs h e) = name_or_word_is Spelled (b ∷ bs) word (λ n
 read_name : (at b : ℕ) (bs : List ℕ) → is_letter b ≡ true → Splits is_name bs → Reads at (b ∷ bs) (piece_at at (b ∷ bs))
 read_name at b bs h s =
     let n : Named (b ∷ s.front) = named b s.front h s.each in
-    reads_token at (name_or_word (b ∷ s.front) (word_of (b ∷ s.front))) (b ∷ s.front) s.rest (b ∷ bs) (ap (λ (cs : List ℕ). b ∷ cs) s.is) (named_spelled (b ∷ s.front) n) (no_slash b (s.front ++ s.rest) (letter_47 b h))
+    reads_token at (name_or_word (b ∷ s.front) (word_of (b ∷ s.front))) (b ∷ s.front) s.rest (b ∷ bs) (ap (λ (cs : List ℕ). b ∷ cs) s.is) (named_spelled (b ∷ s.front) n)
+    (no_slash b (s.front ++ s.rest) (letter_47 b h))
     (named_part at (b ∷ s.front) s.rest n s.stops)
 
 -- ---- numbers
@@ -199,12 +211,14 @@ read_name at b bs h s =
 digit_47 : (b : ℕ) → is_digit b ≡ true → b ≡ 47 → ⊥
 digit_47 b h e = grind (arith, nat_tests)
 
-spelled_number : (b : ℕ) (a : List ℕ) (t : Bool) → is_zero b ≡ t → Each is_digit (b ∷ a) → (is_zero b && nat_lt 1 (length (b ∷ a))) ≡ false → value_of 0 (b ∷ a) < 2 ^ 63 → Spelled (k.Number (pos (value_of 0 (b ∷ a)))) (b ∷ a)
+spelled_number : (b : ℕ) (a : List ℕ) (t : Bool) → is_zero b ≡ t → Each is_digit (b ∷ a) → (is_zero b && nat_lt 1 (length (b ∷ a))) ≡ false → value_of 0 (b ∷ a) < 2 ^ 63
+    → Spelled (k.Number (pos (value_of 0 (b ∷ a)))) (b ∷ a)
 spelled_number b a false z e n lt = number b a e.0 z e.1 lt
 spelled_number b [] true z e n lt = subst (λ (c : ℕ). Spelled (k.Number (pos (value_of 0 (c ∷ [])))) (c ∷ [])) (sym (zero_is b z)) nought
 spelled_number b (c ∷ a) true z e n lt = absurd (differ (is_zero b && nat_lt 1 (length (b ∷ c ∷ a))) (zero_many b c a z) n)
 
-after_case : (at b : ℕ) (a rest : List ℕ) (t : Bool) → starts is_letter rest ≡ t → Digits b a rest → (is_zero b && nat_lt 1 (length (b ∷ a))) ≡ false → value_of 0 (b ∷ a) < 2 ^ 63 → Reads at (b ∷ (a ++ rest)) (piece_at at (b ∷ (a ++ rest)))
+after_case : (at b : ℕ) (a rest : List ℕ) (t : Bool) → starts is_letter rest ≡ t → Digits b a rest → (is_zero b && nat_lt 1 (length (b ∷ a))) ≡ false → value_of 0 (b ∷ a) < 2 ^ 63
+    → Reads at (b ∷ (a ++ rest)) (piece_at at (b ∷ (a ++ rest)))
 after_case at b a rest false h d n lt =
     reads_token at (k.Number (pos (value_of 0 (b ∷ a)))) (b ∷ a) rest (b ∷ (a ++ rest)) refl (spelled_number b a (is_zero b) refl d.each n lt) (no_slash b (a ++ rest) (digit_47 b d.each.0))
     (digit_part at b (a ++ rest) d.each.0 ∙ number_good at b a rest d lt n h)
@@ -215,7 +229,8 @@ and_true : (t u : Bool) → (t && u) ≡ true → t ≡ true
 and_true true u h = refl
 and_true false u h = h
 
-zero_case : (at b : ℕ) (a rest : List ℕ) (t : Bool) → (is_zero b && nat_lt 1 (length (b ∷ a))) ≡ t → Digits b a rest → value_of 0 (b ∷ a) < 2 ^ 63 → Reads at (b ∷ (a ++ rest)) (piece_at at (b ∷ (a ++ rest)))
+zero_case : (at b : ℕ) (a rest : List ℕ) (t : Bool) → (is_zero b && nat_lt 1 (length (b ∷ a))) ≡ t → Digits b a rest → value_of 0 (b ∷ a) < 2 ^ 63
+    → Reads at (b ∷ (a ++ rest)) (piece_at at (b ∷ (a ++ rest)))
 zero_case at b a rest false n d lt = after_case at b a rest (starts is_letter rest) refl d n lt
 zero_case at b [] rest true n d lt = absurd (differ (is_zero b && nat_lt 1 (length (b ∷ []))) n (zero_alone b [] (is_zero b) refl (λ z. refl)))
 zero_case at b (c ∷ a) rest true n d lt =
@@ -229,7 +244,8 @@ large_case at b a rest false n d = reads_fault at (b ∷ (a ++ rest)) (b ∷ (a 
 
 read_number : (at b : ℕ) (bs : List ℕ) → is_digit b ≡ true → Splits is_digit bs → Reads at (b ∷ bs) (piece_at at (b ∷ bs))
 read_number at b bs d s =
-    subst (λ (cs : List ℕ). Reads at (b ∷ cs) (piece_at at (b ∷ cs))) (sym s.is) (large_case at b s.front s.rest (nat_lt (value_of 0 (b ∷ s.front)) (2 ^ 63)) refl (record { each = (d, s.each); stops = s.stops }))
+    subst (λ (cs : List ℕ). Reads at (b ∷ cs) (piece_at at (b ∷ cs))) (sym s.is)
+    (large_case at b s.front s.rest (nat_lt (value_of 0 (b ∷ s.front)) (2 ^ 63)) refl (record { each = (d, s.each); stops = s.stops }))
 
 -- ---- texts
 
@@ -289,7 +305,8 @@ sorted _ (line_escape b bs x d) = sorted_escape b bs (escape_of b) refl x d (sor
 
 read_line : (at : ℕ) (a rest : List ℕ) → Sorted a → Reads at (34 ∷ (a ++ 34 ∷ rest)) (piece_at at (34 ∷ (a ++ 34 ∷ rest)))
 read_line at _ rest (good a vs d) =
-    reads_token at (k.Text vs) (34 ∷ (a ++ 34 ∷ [])) rest (34 ∷ (a ++ 34 ∷ rest)) (sym (text_joined a rest)) (text a vs d) (no_slash 34 ((a ++ 34 ∷ []) ++ rest) (not_eq 34 47 refl)) (ap (piece_at at) (text_joined a rest) ∙ text_part at a vs rest d)
+    reads_token at (k.Text vs) (34 ∷ (a ++ 34 ∷ [])) rest (34 ∷ (a ++ 34 ∷ rest)) (sym (text_joined a rest)) (text a vs d) (no_slash 34 ((a ++ 34 ∷ []) ++ rest) (not_eq 34 47 refl))
+    (ap (piece_at at) (text_joined a rest) ∙ text_part at a vs rest d)
 read_line at _ rest (wrong a vs u c p d g i) =
     let e : (a ++ (u ++ c)) ++ 34 ∷ rest ≡ a ++ (u ++ (c ++ 34 ∷ rest)) = append_assoc a (u ++ c) (34 ∷ rest) ∙ ap (λ (bs : List ℕ). a ++ bs) (append_assoc u c (34 ∷ rest)) in
     reads_fault at (34 ∷ ((a ++ (u ++ c)) ++ 34 ∷ rest)) (34 ∷ (a ++ (u ++ (c ++ 34 ∷ rest)))) (l.BadByte (at + 1 + length a + p)) (ap (λ (bs : List ℕ). 34 ∷ bs) e) (in_text a vs u c rest p d g i)
@@ -307,7 +324,8 @@ line_part at a rest e s =
 
 read_feed : (at : ℕ) (bs : List ℕ) → Splits not_feed bs → Reads at (47 ∷ 47 ∷ bs) (piece_at at (47 ∷ 47 ∷ bs))
 read_feed at bs s =
-    reads_gap at (47 ∷ 47 ∷ s.front) s.rest (47 ∷ 47 ∷ bs) (ap (λ (cs : List ℕ). 47 ∷ 47 ∷ cs) s.is) (line s.front s.rest s.each s.stops) (ap (λ (cs : List ℕ). piece_at at (47 ∷ 47 ∷ cs)) s.is ∙ line_part at s.front s.rest s.each s.stops)
+    reads_gap at (47 ∷ 47 ∷ s.front) s.rest (47 ∷ 47 ∷ bs) (ap (λ (cs : List ℕ). 47 ∷ 47 ∷ cs) s.is) (line s.front s.rest s.each s.stops)
+    (ap (λ (cs : List ℕ). piece_at at (47 ∷ 47 ∷ cs)) s.is ∙ line_part at s.front s.rest s.each s.stops)
 
 tail_end : (c : ℕ) (a : List ℕ) → NoEnd ((c ∷ a) ++ 42 ∷ []) → NoEnd (a ++ 42 ∷ [])
 tail_end c a n x y e = n (c ∷ x) y (ap (λ (bs : List ℕ). c ∷ bs) e)
@@ -368,10 +386,12 @@ nothing_case _ _ b cs (number c bs h z e lt) g nl nd nq nm = test_at is_digit c 
 nothing_case _ _ b cs (text bs vs d) g nl nd nq nm = no_quote b (same_head g) nq
 nothing_case _ _ b cs (mark v) g nl nd nq nm = no_shape v b cs (shape v) g nm
 
-read_mark : (at b : ℕ) (v : Mark) (a cs : List ℕ) → sign v ≡ b ∷ a → (b == 47) ≡ false → piece_at at (b ∷ (a ++ cs)) ≡ Ok (token_piece (k.Mark v) (length (b ∷ a))) → Reads at (b ∷ (a ++ cs)) (piece_at at (b ∷ (a ++ cs)))
+read_mark : (at b : ℕ) (v : Mark) (a cs : List ℕ) → sign v ≡ b ∷ a → (b == 47) ≡ false → piece_at at (b ∷ (a ++ cs)) ≡ Ok (token_piece (k.Mark v) (length (b ∷ a)))
+    → Reads at (b ∷ (a ++ cs)) (piece_at at (b ∷ (a ++ cs)))
 read_mark at b v a cs e n p = reads_token at (k.Mark v) (b ∷ a) cs (b ∷ (a ++ cs)) refl (subst (Spelled (k.Mark v)) e (mark v)) (no_slash b (a ++ cs) (not_eq b 47 n)) p
 
-read_single : (at b : ℕ) (bs : List ℕ) (o : Option Mark) → mark_of_one b ≡ o → Symbol b → (b == 47) ≡ false → piece_at at (b ∷ bs) ≡ single_at at (mark_of_one b) → Reads at (b ∷ bs) (piece_at at (b ∷ bs))
+read_single : (at b : ℕ) (bs : List ℕ) (o : Option Mark) → mark_of_one b ≡ o → Symbol b → (b == 47) ≡ false → piece_at at (b ∷ bs) ≡ single_at at (mark_of_one b)
+    → Reads at (b ∷ bs) (piece_at at (b ∷ bs))
 read_single at b bs (Some v) h s n p = read_mark at b v [] bs (mark_one_is b v h) n (p ∙ ap (single_at at) h)
 read_single at b bs None h s n p =
     reads_fault at (b ∷ bs) (b ∷ bs) (l.BadByte at) refl (stray b bs s.no_blank (λ j cs t. nothing_case j (b ∷ cs) b cs t refl s.no_letter s.no_digit s.no_quote h))

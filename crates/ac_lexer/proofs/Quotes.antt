@@ -4,8 +4,9 @@ use Rattle.std.specs.Prelude.{◌==◌, ◌&&◌, not}
 use Rattle.std.proofs.lemmas.Bool.Decides.{nat_tests}
 use Rattle.std.proofs.lemmas.List.{append-nil}
 use Rattle.ac_lexer.specs.declared.fault.LexFault.TheVariants as l
-use Rattle.ac_lexer.specs.Reading.{text_from, means, with_meaning, is_bad, first_of_two}
-use Rattle.ac_lexer.specs.Tokens.{is_plain, escape_of, Body, body_end, body_plain, body_escape, Line, line_over, line_byte, line_escape, Ends, ends_text, ends_feed, ends_text_after, ends_feed_after, Bad, bad_byte, bad_escape}
+use Rattle.ac_lexer.specs.inner.Reading.{text_from, means, with_meaning, is_bad, first_of_two}
+use Rattle.ac_lexer.specs.Tokens.{is_plain, escape_of, Body, body_end, body_plain, body_escape, Line, line_over, line_byte}
+use Rattle.ac_lexer.specs.Tokens.{line_escape, Ends, ends_text, ends_feed, ends_text_after, ends_feed_after, Bad, bad_byte, bad_escape}
 
 and_false : (t : Bool) → (t && false) ≡ false
 and_false true = refl
@@ -34,7 +35,8 @@ step : (q i : ℕ) (e e' : Bool) (bad bad' : Option ℕ) (value value' : List �
     → (b == 92 && not e) ≡ e' → first_of_two bad (is_bad e b (means e b)) (q + 1 + i) ≡ bad' → with_meaning value (means e b) ≡ value'
     → text_from q i e bad value (b ∷ bs) ≡ text_from q (i + 1) e' bad' value' bs
 step q i e e' bad bad' value value' b bs g h x y z =
-    let one : text_from q i e bad value (b ∷ bs) ≡ text_from q (i + 1) (b == 92 && not e) (first_of_two bad (is_bad e b (means e b)) (q + 1 + i)) (with_meaning value (means e b)) bs = rw (g, h) refl in
+    let one : text_from q i e bad value (b ∷ bs) ≡ text_from q (i + 1) (b == 92 && not e) (first_of_two bad (is_bad e b (means e b)) (q + 1 + i)) (with_meaning value (means e b)) bs =
+    rw (g, h) refl in
     one ∙ state q (i + 1) (b == 92 && not e) e' (first_of_two bad (is_bad e b (means e b)) (q + 1 + i)) bad' (with_meaning value (means e b)) value' bs x y z
 
 and_left : (t : Bool) → t ≡ false → (t && true) ≡ false
@@ -59,11 +61,13 @@ over_body q i value _ _ rest body_end = same_from q i (i + 0) None value (value 
 over_body q i value _ _ rest (body_plain b bs vs h d) =
     step q i false false None None value (value ++ b ∷ []) b (bs ++ rest) (plain_feed b h) (and_left (b == 34) (plain_quote b h)) (and_left (b == 92) (plain_slash b h))
     (ap (λ (o : Option ℕ). first_of_two None (is_bad false b o) (q + 1 + i)) (plain_means b h)) (ap (λ (o : Option ℕ). with_meaning value o) (plain_means b h))
-    ∙ over_body q (i + 1) (value ++ b ∷ []) bs vs rest d ∙ same_from q (i + 1 + length bs) (i + length (b ∷ bs)) None ((value ++ b ∷ []) ++ vs) (value ++ b ∷ vs) rest (omega arith) (append_assoc value (b ∷ []) vs)
+    ∙ over_body q (i + 1) (value ++ b ∷ []) bs vs rest d ∙ same_from q (i + 1 + length bs) (i + length (b ∷ bs)) None ((value ++ b ∷ []) ++ vs) (value ++ b ∷ vs) rest (omega arith)
+    (append_assoc value (b ∷ []) vs)
 over_body q i value _ _ rest (body_escape b v bs vs h d) =
     escaped q i None None value (value ++ v ∷ []) b (bs ++ rest) (escape_feed b v h)
     (ap (λ (o : Option ℕ). first_of_two None (is_bad true b o) (q + 1 + (i + 1))) h) (ap (λ (o : Option ℕ). with_meaning value o) h)
-    ∙ over_body q (i + 1 + 1) (value ++ v ∷ []) bs vs rest d ∙ same_from q (i + 1 + 1 + length bs) (i + length (92 ∷ b ∷ bs)) None ((value ++ v ∷ []) ++ vs) (value ++ v ∷ vs) rest (omega arith) (append_assoc value (v ∷ []) vs)
+    ∙ over_body q (i + 1 + 1) (value ++ v ∷ []) bs vs rest d ∙ same_from q (i + 1 + 1 + length bs) (i + length (92 ∷ b ∷ bs)) None ((value ++ v ∷ []) ++ vs) (value ++ v ∷ vs) rest (omega arith)
+    (append_assoc value (v ∷ []) vs)
 
 pub record Over (q i p : ℕ) (value a rest : List ℕ) : Type 0 where
   pub after : List ℕ
@@ -95,7 +99,8 @@ open_here q i bad value _ (ends_feed_after bs) = refl
 pub open_line : (q i : ℕ) (bad : Option ℕ) (value a rest : List ℕ) → Line a → Ends rest → text_from q i false bad value (a ++ rest) ≡ Err (l.OpenText q)
 open_line q i bad value _ rest line_over e = open_here q i bad value rest e
 open_line q i bad value _ rest (line_byte b bs g h s d) e =
-    step q i false false bad (first_of_two bad (is_bad false b (means false b)) (q + 1 + i)) value (with_meaning value (means false b)) b (bs ++ rest) g (and_left (b == 34) h) (and_left (b == 92) s) refl refl
+    step q i false false bad (first_of_two bad (is_bad false b (means false b)) (q + 1 + i)) value (with_meaning value (means false b)) b (bs ++ rest) g (and_left (b == 34) h)
+    (and_left (b == 92) s) refl refl
     ∙ open_line q (i + 1) (first_of_two bad (is_bad false b (means false b)) (q + 1 + i)) (with_meaning value (means false b)) bs rest d e
 open_line q i bad value _ rest (line_escape b bs g d) e =
     let after = first_of_two (first_of_two bad false (q + 1 + i)) (is_bad true b (escape_of b)) (q + 1 + (i + 1)) in

@@ -1,9 +1,9 @@
 -- Lists of bytes, and runs of bytes that pass a test.
 use Rattle.std.proofs.Common.{◌≡◌, ℕ, zero, suc, ◌+◌, ◌-◌, ◌*◌, ◌<◌, ◌≤◌, Bool, true, false, List, [], ◌∷◌, ◌++◌, length, take, drop, length-drop, refl, ap, arith}
-use Rattle.std.specs.Prelude.{if◌then◌else◌, ◌==◌}
+use Rattle.std.specs.Prelude.{◌==◌}
 use Rattle.std.proofs.lemmas.Bool.Decides.{nat_tests}
 use Rattle.ac_lexer.specs.Spelling.{Each, starts, value_of, is_digit, is_letter, is_name, is_blank, is_zero}
-use Rattle.ac_lexer.specs.Reading.{run}
+use Rattle.ac_lexer.specs.inner.Reading.{run}
 
 pub drop_front : (a rest : List ℕ) → drop (length a) (a ++ rest) ≡ rest
 drop_front [] rest = refl
@@ -87,30 +87,8 @@ digit_no_blank b h = grind (arith, nat_tests)
 pub letter_name : (b : ℕ) → is_letter b ≡ true → is_name b ≡ true
 letter_name b h = rw h refl
 
-pub digit_name : (b : ℕ) → is_digit b ≡ true → is_name b ≡ true
-digit_name b h = rw (digit_no_letter b h, h) refl
-
 pub zero_is : (b : ℕ) → is_zero b ≡ true → b ≡ 48
 zero_is b h = grind (arith, nat_tests)
-
--- what begins with no byte of a name begins with no digit and no letter
-pub no_name_no_digit : (rest : List ℕ) → starts is_name rest ≡ false → starts is_digit rest ≡ false
-no_name_no_digit [] h = refl
-no_name_no_digit (b ∷ bs) h = false_if (is_digit b) (λ g. differ (is_name b) (digit_name b g) h)
-
-pub no_name_no_letter : (rest : List ℕ) → starts is_name rest ≡ false → starts is_letter rest ≡ false
-no_name_no_letter [] h = refl
-no_name_no_letter (b ∷ bs) h = false_if (is_letter b) (λ g. differ (is_name b) (letter_name b g) h)
-
-either : (t u : Bool) → t ≡ false → u ≡ false → (if t then true else u) ≡ false
-either t u h g = rw (h, g) refl
-
-name_neither : (b : ℕ) → is_letter b ≡ false → is_digit b ≡ false → is_name b ≡ false
-name_neither b h g = rw (h, g) refl
-
-pub no_more_name : (rest : List ℕ) → starts is_digit rest ≡ false → starts is_letter rest ≡ false → starts is_name rest ≡ false
-no_more_name [] h g = refl
-no_more_name (b ∷ bs) h g = name_neither b g h
 
 -- ---- the rest of a text
 

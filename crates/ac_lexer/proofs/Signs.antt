@@ -4,7 +4,7 @@ use Rattle.std.specs.Prelude.{if◌then◌else◌, ◌==◌}
 use Rattle.ac_lexer.specs.declared.token.Mark.{Mark}
 use Rattle.ac_lexer.specs.declared.token.Mark.TheVariants as m
 use Rattle.ac_lexer.specs.Spelling.{starts, sign, is_blank, is_letter, is_digit}
-use Rattle.ac_lexer.specs.Reading.{mark_among, single_marks, mark_of_one, equal_marks, double_marks, mark_of_two}
+use Rattle.ac_lexer.specs.inner.Reading.{mark_among, single_marks, mark_of_one, equal_marks, double_marks, mark_of_two}
 use Rattle.ac_lexer.proofs.Runs.{eq_of}
 
 abbrev pub a_mark : Mark → Option Mark
@@ -27,7 +27,8 @@ first_of : (a : List ℕ) (b c : ℕ) → starts (λ x. b == x) a ≡ true → s
 first_of [] b c h g = cc
 first_of (x ∷ a) b c h g = eq_of c x g ∙ sym (eq_of b x h)
 
-among_case : (form : ℕ → List ℕ) (m : Mark) (ms : List Mark) (b : ℕ) (v : Mark) (t : Bool) → starts (λ c. b == c) (sign m) ≡ t → (c : ℕ) → sign m ≡ form c → starts (λ b. c == b) (sign m) ≡ true → (mark_among ms b ≡ Some v → sign v ≡ form b)
+among_case : (form : ℕ → List ℕ) (m : Mark) (ms : List Mark) (b : ℕ) (v : Mark) (t : Bool) → starts (λ c. b == c) (sign m) ≡ t → (c : ℕ) → sign m ≡ form c → starts (λ b. c == b) (sign m) ≡ true
+    → (mark_among ms b ≡ Some v → sign v ≡ form b)
     → (if t then a_mark m else mark_among ms b) ≡ Some v → sign v ≡ form b
 among_case form m ms b v true h c f s g e = ap sign (sym (same_mark e)) ∙ f ∙ ap form (first_of (sign m) b c h s)
 among_case form m ms b v false h c f s g e = g e
@@ -37,7 +38,55 @@ among_is form [] b v f h = absurd (no_mark v h)
 among_is form (m ∷ ms) b v f h = among_case form m ms b v (starts (λ c. b == c) (sign m)) refl f.0.0 f.0.1 f.0.2 (among_is form ms b v f.1) h
 
 singles : Formed (λ b. b ∷ []) single_marks
-singles = ((43, refl, refl), ((45, refl, refl), ((42, refl, refl), ((47, refl, refl), ((37, refl, refl), ((60, refl, refl), ((62, refl, refl), ((38, refl, refl), ((124, refl, refl), ((94, refl, refl), ((33, refl, refl), ((126, refl, refl), ((61, refl, refl), ((40, refl, refl), ((41, refl, refl), ((91, refl, refl), ((93, refl, refl), ((123, refl, refl), ((125, refl, refl), ((44, refl, refl), ((59, refl, refl), ((58, refl, refl), tt))))))))))))))))))))))
+singles = (
+  (43, refl, refl),
+  (
+    (45, refl, refl),
+    (
+      (42, refl, refl),
+      (
+        (47, refl, refl),
+        (
+          (37, refl, refl),
+          (
+            (60, refl, refl),
+            (
+              (62, refl, refl),
+              (
+                (38, refl, refl),
+                (
+                  (124, refl, refl),
+                  (
+                    (94, refl, refl),
+                    (
+                      (33, refl, refl),
+                      (
+                        (126, refl, refl),
+                        (
+                          (61, refl, refl),
+                          (
+                            (40, refl, refl),
+                            (
+                              (41, refl, refl),
+                              (
+                                (91, refl, refl),
+                                ((93, refl, refl), ((123, refl, refl), ((125, refl, refl), ((44, refl, refl), ((59, refl, refl), ((58, refl, refl), tt)))))),
+                              ),
+                            ),
+                          ),
+                        ),
+                      ),
+                    ),
+                  ),
+                ),
+              ),
+            ),
+          ),
+        ),
+      ),
+    ),
+  ),
+)
 
 equals : Formed (λ b. b ∷ 61 ∷ []) equal_marks
 equals = ((61, refl, refl), ((33, refl, refl), ((60, refl, refl), ((62, refl, refl), tt))))
@@ -75,7 +124,8 @@ pub data Shape (m : Mark) : Type 0 where
 is_symbol : ℕ → Bool
 is_symbol b = if is_blank b then false else (if is_letter b then false else (if is_digit b then false else (if b == 34 then false else true)))
 
-symbol_case : (b : ℕ) (t1 t2 t3 t4 : Bool) → is_blank b ≡ t1 → is_letter b ≡ t2 → is_digit b ≡ t3 → (b == 34) ≡ t4 → (if t1 then false else (if t2 then false else (if t3 then false else (if t4 then false else true)))) ≡ true → Symbol b
+symbol_case : (b : ℕ) (t1 t2 t3 t4 : Bool) → is_blank b ≡ t1 → is_letter b ≡ t2 → is_digit b ≡ t3 → (b == 34) ≡ t4
+    → (if t1 then false else (if t2 then false else (if t3 then false else (if t4 then false else true)))) ≡ true → Symbol b
 symbol_case b true t2 t3 t4 h1 h2 h3 h4 e = cc
 symbol_case b false true t3 t4 h1 h2 h3 h4 e = cc
 symbol_case b false false true t4 h1 h2 h3 h4 e = cc

@@ -8,7 +8,7 @@ use Rattle.ac_lexer.specs.declared.token.Kind.TheVariants as k
 use Rattle.ac_lexer.specs.declared.token.Word.{Word}
 use Rattle.ac_lexer.specs.declared.token.Word.TheVariants as w
 use Rattle.ac_lexer.specs.Spelling.{Each, starts, is_letter, is_name, letters}
-use Rattle.ac_lexer.specs.Reading.{run, among, words_of, word_of, name_or_word, name_at, token_piece}
+use Rattle.ac_lexer.specs.inner.Reading.{run, among, words_of, word_of, name_or_word, name_at, token_piece}
 use Rattle.ac_lexer.proofs.Runs.{run_of, run_least, take_front, letter_name}
 
 abbrev pub one : Word → Option Word
@@ -109,7 +109,8 @@ word_reads w.Ok = refl
 word_reads w.Cancelled = refl
 word_reads w.Fault = refl
 
-among_case : (u : Word) (vs : List Word) (a : List ℕ) (v : Word) (t : Bool) → bytes_eq a (letters u) ≡ t → (among vs a ≡ Some v → a ≡ letters v) → (if t then one u else among vs a) ≡ Some v → a ≡ letters v
+among_case : (u : Word) (vs : List Word) (a : List ℕ) (v : Word) (t : Bool) → bytes_eq a (letters u) ≡ t → (among vs a ≡ Some v → a ≡ letters v) → (if t then one u else among vs a) ≡ Some v
+    → a ≡ letters v
 among_case u vs a v true h g e = (bytes_eq-Decides a (letters u)).0 h ∙ ap letters (same_word e)
 among_case u vs a v false h g e = g e
 
@@ -128,7 +129,8 @@ no_word_of a None h n = h
 no_letters : (a : List ℕ) → word_of a ≡ None → (v : Word) → a ≡ letters v → ⊥
 no_letters a h v e = no_word v (sym h ∙ ap word_of e ∙ word_reads v)
 
-name_case : (P : Kind → List ℕ → Type 0) (a : List ℕ) (o : Option Word) → word_of a ≡ o → ((v : Word) → P (k.Word v) (letters v)) → (((v : Word) → a ≡ letters v → ⊥) → P (k.Name a) a) → P (name_or_word a o) a
+name_case : (P : Kind → List ℕ → Type 0) (a : List ℕ) (o : Option Word) → word_of a ≡ o → ((v : Word) → P (k.Word v) (letters v)) → (((v : Word) → a ≡ letters v → ⊥) → P (k.Name a) a)
+    → P (name_or_word a o) a
 name_case P a (Some v) h word name = subst (P (k.Word v)) (sym (word_is a v h)) (word v)
 name_case P a None h word name = name (no_letters a h)
 

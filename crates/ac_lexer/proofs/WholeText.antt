@@ -1,5 +1,6 @@
 -- From piece to piece through the whole text.
-use Rattle.std.proofs.Common.{◌≡◌, ℕ, ◌+◌, ◌<◌, ◌≤◌, List, [], ◌∷◌, ◌++◌, length, drop, Option, Some, None, Result, Ok, Err, refl, sym, ap, ◌∙◌, subst, append_assoc, length-append, length-drop, drop-drop, arith}
+use Rattle.std.proofs.Common.{◌≡◌, ℕ, ◌+◌, ◌<◌, ◌≤◌, List, [], ◌∷◌, ◌++◌, length, drop, Option, Some, None, Result, Ok}
+use Rattle.std.proofs.Common.{Err, refl, sym, ap, ◌∙◌, subst, append_assoc, length-append, length-drop, drop-drop, arith}
 use Rattle.std.specs.Prelude.{IfOk}
 use Rattle.std.proofs.lemmas.List.{append-nil}
 use Rattle.ac_lexer.specs.declared.fault.LexFault.{LexFault}
@@ -8,7 +9,7 @@ use Rattle.ac_lexer.specs.declared.token.Kind.{Kind}
 use Rattle.ac_lexer.specs.declared.token.Token.{Token}
 use Rattle.ac_lexer.specs.declared.piece.Piece.{Piece}
 use Rattle.ac_lexer.specs.Spelling.{placed}
-use Rattle.ac_lexer.specs.Reading.{Gives, token_piece, gap_piece, with_kind, piece_at}
+use Rattle.ac_lexer.specs.inner.Reading.{Gives, token_piece, gap_piece, with_kind, piece_at}
 use Rattle.ac_lexer.specs.Tokens.{FaultHere, stray, after_zero, after_number, large, open_comment, open_text, in_text, Stands, Gap, LexesFrom, end, gap, token, fault, before, Lexes, Answers}
 use Rattle.ac_lexer.proofs.Runs.{drop_front}
 use Rattle.ac_lexer.proofs.Numbers.{lost, same_piece, same_fault, not_both}
@@ -53,12 +54,12 @@ goes_token : (at : ℕ) (kind : Kind) (a rest : List ℕ) → Stands at kind a r
 goes_token at kind a rest s r d =
     subst (LexesFrom at (a ++ rest)) (sym (front_one (placed kind at (at + length a)) r)) (token at kind a rest r s (subst (λ (bs : List ℕ). LexesFrom (at + length a) bs r) (drop_front a rest) d))
 
-goes : (at : ℕ) (bs : List ℕ) (o : Result Piece LexFault) (p : Piece) → Reads at bs o → o ≡ Ok p → Goes at bs p
+pub goes : (at : ℕ) (bs : List ℕ) (o : Result Piece LexFault) (p : Piece) → Reads at bs o → o ≡ Ok p → Goes at bs p
 goes at _ _ p (gap_read a rest g) e = subst (Goes at (a ++ rest)) (same_piece e) (goes_gap at a rest g)
 goes at _ _ p (token_read kind a rest s) e = subst (Goes at (a ++ rest)) (same_piece e) (goes_token at kind a rest s)
 goes at _ _ p (fault_reads bs f d) e = absurd (not_both p f (sym e))
 
-fault_here : (at : ℕ) (bs : List ℕ) (o : Result Piece LexFault) (f : LexFault) → Reads at bs o → o ≡ Err f → LexesFrom at bs (Err f)
+pub fault_here : (at : ℕ) (bs : List ℕ) (o : Result Piece LexFault) (f : LexFault) → Reads at bs o → o ≡ Err f → LexesFrom at bs (Err f)
 fault_here at _ _ f (gap_read a rest g) e = absurd (not_both (gap_piece (length a)) f e)
 fault_here at _ _ f (token_read kind a rest s) e = absurd (not_both (token_piece kind (length a)) f e)
 fault_here at _ _ f (fault_reads bs g d) e = subst (λ (f : LexFault). LexesFrom at bs (Err f)) (same_fault e) (fault at bs g d)
@@ -81,20 +82,25 @@ pub record After (at : ℕ) (bs : List ℕ) (p : Piece) (r : Result (List Token)
 after_gap : (at : ℕ) (a rest : List ℕ) (r : Result (List Token) LexFault) → LexesFrom (at + length a) rest r → After at (a ++ rest) (gap_piece (length a)) r
 after_gap at a rest r d = record { rest = r; from = subst (λ (bs : List ℕ). LexesFrom (at + length a) bs r) (sym (drop_front a rest)) d; is = sym (front_nil r) }
 
-after_token : (at : ℕ) (kind : Kind) (a rest : List ℕ) (r : Result (List Token) LexFault) → LexesFrom (at + length a) rest r → After at (a ++ rest) (token_piece kind (length a)) (before (placed kind at (at + length a)) r)
-after_token at kind a rest r d = record { rest = r; from = subst (λ (bs : List ℕ). LexesFrom (at + length a) bs r) (sym (drop_front a rest)) d; is = sym (front_one (placed kind at (at + length a)) r) }
+after_token : (at : ℕ) (kind : Kind) (a rest : List ℕ) (r : Result (List Token) LexFault) → LexesFrom (at + length a) rest r
+    → After at (a ++ rest) (token_piece kind (length a)) (before (placed kind at (at + length a)) r)
+after_token at kind a rest r d = record {
+  rest = r;
+  from = subst (λ (bs : List ℕ). LexesFrom (at + length a) bs r) (sym (drop_front a rest)) d;
+  is = sym (front_one (placed kind at (at + length a)) r);
+}
 
 token_read_at : (at : ℕ) (kind : Kind) (a rest : List ℕ) → Stands at kind a rest → 0 < length (a ++ rest) → piece_at at (a ++ rest) ≡ Ok (token_piece kind (length a))
 token_read_at at kind a rest s lt = stands_read at kind a rest (a ++ rest) (piece_at at (a ++ rest)) s (all_read at (a ++ rest) lt) refl
 
-after : (at : ℕ) (bs : List ℕ) (r : Result (List Token) LexFault) (p : Piece) → LexesFrom at bs r → 0 < length bs → piece_at at bs ≡ Ok p → After at bs p r
+pub after : (at : ℕ) (bs : List ℕ) (r : Result (List Token) LexFault) (p : Piece) → LexesFrom at bs r → 0 < length bs → piece_at at bs ≡ Ok p → After at bs p r
 after _ _ _ p (end at) lt h = absurd (omega arith)
 after _ _ _ p (gap at a rest r g d) lt h = subst (λ (p : Piece). After at (a ++ rest) p r) (same_piece (sym (gap_reads at a rest g) ∙ h)) (after_gap at a rest r d)
 after _ _ _ p (token at kind a rest r s d) lt h =
     subst (λ (p : Piece). After at (a ++ rest) p (before (placed kind at (at + length a)) r)) (same_piece (sym (token_read_at at kind a rest s lt) ∙ h)) (after_token at kind a rest r d)
 after _ _ _ p (fault at bs f d) lt h = absurd (not_both p f (sym h ∙ fault_read at bs f d))
 
-after_fault : (at : ℕ) (bs : List ℕ) (r : Result (List Token) LexFault) (f : LexFault) → LexesFrom at bs r → 0 < length bs → piece_at at bs ≡ Err f → r ≡ Err f
+pub after_fault : (at : ℕ) (bs : List ℕ) (r : Result (List Token) LexFault) (f : LexFault) → LexesFrom at bs r → 0 < length bs → piece_at at bs ≡ Err f → r ≡ Err f
 after_fault _ _ _ f (end at) lt h = absurd (omega arith)
 after_fault _ _ _ f (gap at a rest r g d) lt h = absurd (not_both (gap_piece (length a)) f (sym (gap_reads at a rest g) ∙ h))
 after_fault _ _ _ f (token at kind a rest r s d) lt h = absurd (not_both (token_piece kind (length a)) f (sym (token_read_at at kind a rest s lt) ∙ h))
@@ -112,7 +118,7 @@ fault_long at _ _ (in_text a vs u c rest p d b h) = omega arith
 front_long : (a rest : List ℕ) → 0 < length a → a ++ rest ≡ [] → ⊥
 front_long a rest lt e = omega (arith, length-append a rest, ap (λ (x : List ℕ). length x) e)
 
-at_end : (at : ℕ) (bs : List ℕ) (r : Result (List Token) LexFault) → LexesFrom at bs r → bs ≡ [] → r ≡ Ok []
+pub at_end : (at : ℕ) (bs : List ℕ) (r : Result (List Token) LexFault) → LexesFrom at bs r → bs ≡ [] → r ≡ Ok []
 at_end _ _ _ (end at) e = refl
 at_end _ _ _ (gap at a rest r g d) e = absurd (front_long a rest (gap_long a rest g) e)
 at_end _ _ _ (token at kind a rest r s d) e = absurd (front_long a rest (spelled_long kind a s.spelled) e)
@@ -129,9 +135,6 @@ pub record So (whole : List ℕ) (ts : List Token) (at : ℕ) (bs : List ℕ) : 
   pub forwards : (r : Result (List Token) LexFault) → LexesFrom at bs r → LexesFrom 0 whole (front ts r)
   pub backwards : (r : Result (List Token) LexFault) → LexesFrom 0 whole r → Back ts at bs r
 
-pub so_start : (whole : List ℕ) → So whole [] 0 whole
-so_start whole = record { forwards = λ r d. subst (LexesFrom 0 whole) (sym (front_nil r)) d; backwards = λ r d. record { rest = r; from = d; is = sym (front_nil r) } }
-
 added : (ts : List Token) (at to : ℕ) (kind : Option Kind) → ts ++ with_kind [] at to kind ≡ with_kind ts at to kind
 added ts at to (Some kind) = refl
 added ts at to None = append-nil ts
@@ -139,14 +142,16 @@ added ts at to None = append-nil ts
 front_more : (ts : List Token) (at : ℕ) (p : Piece) (r : Result (List Token) LexFault) → front ts (front (tokens_of at p) r) ≡ front (with_kind ts at (at + p.len) p.kind) r
 front_more ts at p r = front_two ts (tokens_of at p) r ∙ ap (λ (x : List Token). front x r) (added ts at (at + p.len) p.kind)
 
-so_piece : (whole : List ℕ) (ts : List Token) (at : ℕ) (bs : List ℕ) (p : Piece) → 0 < length bs → piece_at at bs ≡ Ok p → So whole ts at bs → So whole (with_kind ts at (at + p.len) p.kind) (at + p.len) (drop p.len bs)
+so_piece : (whole : List ℕ) (ts : List Token) (at : ℕ) (bs : List ℕ) (p : Piece) → 0 < length bs → piece_at at bs ≡ Ok p → So whole ts at bs
+    → So whole (with_kind ts at (at + p.len) p.kind) (at + p.len) (drop p.len bs)
 so_piece whole ts at bs p lt h so = record {
   forwards = λ r d. subst (LexesFrom 0 whole) (front_more ts at p r) (so.forwards (front (tokens_of at p) r) (goes at bs (piece_at at bs) p (all_read at bs lt) h r d));
   backwards = λ r d. let b = so.backwards r d in let a = after at bs b.rest p b.from lt h in record { rest = a.rest; from = a.from; is = b.is ∙ ap (front ts) a.is ∙ front_more ts at p a.rest };
 }
 
 -- the piece has been read from the rest of the text, and its token is among the tokens
-pub so_more : (whole : List ℕ) (ts us : List Token) (at : ℕ) (p : Piece) → at < length whole → piece_at at (drop at whole) ≡ Ok p → us ≡ with_kind ts at (at + p.len) p.kind → So whole ts at (drop at whole)
+pub so_more : (whole : List ℕ) (ts us : List Token) (at : ℕ) (p : Piece) → at < length whole → piece_at at (drop at whole) ≡ Ok p → us ≡ with_kind ts at (at + p.len) p.kind
+    → So whole ts at (drop at whole)
     → So whole us (at + p.len) (drop (at + p.len) whole)
 so_more whole ts us at p lt h e so =
     let w : 0 < length (drop at whole) = rw (length-drop at whole) (omega arith) in
@@ -166,7 +171,8 @@ so_fault whole ts at f lt h so =
     let w : 0 < length (drop at whole) = rw (length-drop at whole) (omega arith) in
     so.forwards (Err f) (fault_here at (drop at whole) (piece_at at (drop at whole)) f (all_read at (drop at whole) w) h)
 
-pub only_fault : (whole : List ℕ) (ts : List Token) (at : ℕ) (f : LexFault) → at < length whole → piece_at at (drop at whole) ≡ Err f → So whole ts at (drop at whole) → (r : Result (List Token) LexFault) → LexesFrom 0 whole r → r ≡ Err f
+pub only_fault : (whole : List ℕ) (ts : List Token) (at : ℕ) (f : LexFault) → at < length whole → piece_at at (drop at whole) ≡ Err f → So whole ts at (drop at whole)
+    → (r : Result (List Token) LexFault) → LexesFrom 0 whole r → r ≡ Err f
 only_fault whole ts at f lt h so r d =
     let w : 0 < length (drop at whole) = rw (length-drop at whole) (omega arith) in
     let b = so.backwards r d in
@@ -185,7 +191,8 @@ err_lexes whole ts at (l.OpenText p) lt h so = so_fault whole ts at (l.OpenText 
 abbrev pub failed : LexFault → Result (List Token) LexFault
 failed f = Err f
 
-pub err_only : (whole : List ℕ) (ts : List Token) (at : ℕ) (f : LexFault) → at < length whole → Gives (lost f) (piece_at at (drop at whole)) → So whole ts at (drop at whole) → (r : Result (List Token) LexFault) → LexesFrom 0 whole r → Answers (failed f) r
+pub err_only : (whole : List ℕ) (ts : List Token) (at : ℕ) (f : LexFault) → at < length whole → Gives (lost f) (piece_at at (drop at whole)) → So whole ts at (drop at whole)
+    → (r : Result (List Token) LexFault) → LexesFrom 0 whole r → Answers (failed f) r
 err_only whole ts at l.NoMemory lt h so r d = tt
 err_only whole ts at l.TooLong lt h so r d = tt
 err_only whole ts at (l.BadByte p) lt h so r d = only_fault whole ts at (l.BadByte p) lt h so r d
@@ -217,7 +224,8 @@ not_too_long _ _ _ (gap at a rest r g d) e = not_too_long (at + length a) rest r
 not_too_long _ _ _ (token at kind a rest r s d) e = not_too_long (at + length a) rest r d (before_failed (placed kind at (at + length a)) r l.TooLong e)
 not_too_long _ _ _ (fault at bs f d) e = fault_not_long at bs f d (failed_same e)
 
-pub err_not_long : (whole : List ℕ) (ts : List Token) (at : ℕ) (f : LexFault) → at < length whole → Gives (lost f) (piece_at at (drop at whole)) → So whole ts at (drop at whole) → failed f ≡ Err l.TooLong → ⊥
+pub err_not_long : (whole : List ℕ) (ts : List Token) (at : ℕ) (f : LexFault) → at < length whole → Gives (lost f) (piece_at at (drop at whole)) → So whole ts at (drop at whole)
+    → failed f ≡ Err l.TooLong → ⊥
 err_not_long whole ts at l.NoMemory lt h so e = cc
 err_not_long whole ts at l.TooLong lt h so e = not_too_long 0 whole (Err l.TooLong) (so_fault whole ts at l.TooLong lt h so) refl
 err_not_long whole ts at (l.BadByte p) lt h so e = cc

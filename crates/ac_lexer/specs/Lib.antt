@@ -1,3 +1,3 @@
 pub mod Spelling
 pub mod Tokens
-pub mod Reading
+pub mod inner

@@ -1,5 +1,6 @@
 -- Which tokens, or which fault, a text has: the whole text cut into tokens, blanks and comments.
-use Rattle.std.specs.Prelude.{◌≡◌, ◌==◌, ◌&&◌, nat_le, not, if◌then◌else◌, ℕ, ◌+◌, ◌^◌, ◌<◌, ◌≤◌, Bool, true, false, List, [], ◌∷◌, ◌++◌, length, Option, Some, None, Result, Ok, Err, pos}
+use Rattle.std.specs.Prelude.{◌≡◌, ◌==◌, ◌&&◌, nat_le, not, if◌then◌else◌, ℕ, ◌+◌, ◌^◌, ◌<◌, ◌≤◌, Bool, true}
+use Rattle.std.specs.Prelude.{false, List, [], ◌∷◌, ◌++◌, length, Option, Some, None, Result, Ok, Err, pos}
 use Rattle.ac_lexer.specs.declared.token.Word.{Word}
 use Rattle.ac_lexer.specs.declared.token.Mark.{Mark}
 use Rattle.ac_lexer.specs.declared.token.Kind.{Kind}
@@ -17,7 +18,8 @@ is_plain b = nat_le 32 b && nat_le b 126 && not (b == 34) && not (b == 92)
 
 -- what the byte after a backslash stands for: `n`, `t`, the backslash and the quote have a meaning
 abbrev pub escape_of : ℕ → Option ℕ
-escape_of b = if b == 110 then Some 10 else (if b == 116 then Some 9 else (if b == 92 then Some 92 else (if b == 34 then Some 34 else None)))
+escape_of b = if b == 110 then Some 10 else (if b == 116 then Some 9
+    else (if b == 92 then Some 92 else (if b == 34 then Some 34 else None)))
 
 -- the bytes between the quotes of a text, and its value
 pub data Body : List ℕ → List ℕ → Type 0 where
@@ -27,10 +29,12 @@ pub data Body : List ℕ → List ℕ → Type 0 where
 
 -- the bytes of a token of that kind
 pub data Spelled : Kind → List ℕ → Type 0 where
-  name : (b : ℕ) (bs : List ℕ) → is_letter b ≡ true → Each is_name bs → ((w : Word) → b ∷ bs ≡ letters w → ⊥) → Spelled (k.Name (b ∷ bs)) (b ∷ bs)
+  name : (b : ℕ) (bs : List ℕ) → is_letter b ≡ true → Each is_name bs → ((w : Word) → b ∷ bs ≡ letters w → ⊥)
+      → Spelled (k.Name (b ∷ bs)) (b ∷ bs)
   word : (w : Word) → Spelled (k.Word w) (letters w)
   nought : Spelled (k.Number (pos 0)) (48 ∷ [])
-  number : (b : ℕ) (bs : List ℕ) → is_digit b ≡ true → is_zero b ≡ false → Each is_digit bs → value_of 0 (b ∷ bs) < 2 ^ 63 → Spelled (k.Number (pos (value_of 0 (b ∷ bs)))) (b ∷ bs)
+  number : (b : ℕ) (bs : List ℕ) → is_digit b ≡ true → is_zero b ≡ false → Each is_digit bs → value_of 0 (b ∷ bs) < 2 ^ 63
+      → Spelled (k.Number (pos (value_of 0 (b ∷ bs)))) (b ∷ bs)
   text : (bs vs : List ℕ) → Body bs vs → Spelled (k.Text vs) (34 ∷ (bs ++ 34 ∷ []))
   mark : (m : Mark) → Spelled (k.Mark m) (sign m)
 
@@ -73,14 +77,19 @@ pub data Bad : List ℕ → ℕ → Type 0 where
 
 -- the fault of the bytes that stand at a place
 pub data FaultHere (at : ℕ) : List ℕ → LexFault → Type 0 where
-  stray : (b : ℕ) (bs : List ℕ) → is_blank b ≡ false → ((j : Kind) (cs : List ℕ) → Spelled j (b ∷ cs) → ⊥) → FaultHere at (b ∷ bs) (l.BadByte at)
-  after_zero : (d : ℕ) (a rest : List ℕ) → Each is_digit (d ∷ a) → starts is_digit rest ≡ false → value_of 0 (48 ∷ d ∷ a) < 2 ^ 63 → FaultHere at (48 ∷ d ∷ (a ++ rest)) (l.BadByte (at + 1))
-  after_number : (b c : ℕ) (a rest : List ℕ) → Each is_digit (b ∷ a) → (is_zero b ≡ true → a ≡ []) → is_letter c ≡ true → value_of 0 (b ∷ a) < 2 ^ 63
+  stray : (b : ℕ) (bs : List ℕ) → is_blank b ≡ false → ((j : Kind) (cs : List ℕ) → Spelled j (b ∷ cs) → ⊥)
+      → FaultHere at (b ∷ bs) (l.BadByte at)
+  after_zero : (d : ℕ) (a rest : List ℕ) → Each is_digit (d ∷ a) → starts is_digit rest ≡ false → value_of 0 (48 ∷ d ∷ a) < 2 ^ 63
+      → FaultHere at (48 ∷ d ∷ (a ++ rest)) (l.BadByte (at + 1))
+  after_number : (b c : ℕ) (a rest : List ℕ) → Each is_digit (b ∷ a) → (is_zero b ≡ true → a ≡ []) → is_letter c ≡ true
+      → value_of 0 (b ∷ a) < 2 ^ 63
       → FaultHere at (b ∷ (a ++ c ∷ rest)) (l.BadByte (at + length (b ∷ a)))
-  large : (b : ℕ) (a rest : List ℕ) → Each is_digit (b ∷ a) → starts is_digit rest ≡ false → 2 ^ 63 ≤ value_of 0 (b ∷ a) → FaultHere at (b ∷ (a ++ rest)) (l.NumberTooLarge at)
+  large : (b : ℕ) (a rest : List ℕ) → Each is_digit (b ∷ a) → starts is_digit rest ≡ false → 2 ^ 63 ≤ value_of 0 (b ∷ a)
+      → FaultHere at (b ∷ (a ++ rest)) (l.NumberTooLarge at)
   open_comment : (bs : List ℕ) → NoEnd bs → FaultHere at (47 ∷ 42 ∷ bs) (l.OpenComment at)
   open_text : (a rest : List ℕ) → Line a → Ends rest → FaultHere at (34 ∷ (a ++ rest)) (l.OpenText at)
-  in_text : (a vs u c rest : List ℕ) (p : ℕ) → Body a vs → Bad u p → Line c → FaultHere at (34 ∷ (a ++ (u ++ (c ++ 34 ∷ rest)))) (l.BadByte (at + 1 + length a + p))
+  in_text : (a vs u c rest : List ℕ) (p : ℕ) → Body a vs → Bad u p → Line c
+      → FaultHere at (34 ∷ (a ++ (u ++ (c ++ 34 ∷ rest)))) (l.BadByte (at + 1 + length a + p))
 
 -- ---- tokens at their places
 
@@ -100,8 +109,10 @@ before t (Err f) = Err f
 -- the tokens of the bytes of a text from a place on, or its first fault there
 pub data LexesFrom : ℕ → List ℕ → Result (List Token) LexFault → Type 0 where
   end : (at : ℕ) → LexesFrom at [] (Ok [])
-  gap : (at : ℕ) (a rest : List ℕ) (r : Result (List Token) LexFault) → Gap a rest → LexesFrom (at + length a) rest r → LexesFrom at (a ++ rest) r
-  token : (at : ℕ) (kind : Kind) (a rest : List ℕ) (r : Result (List Token) LexFault) → Stands at kind a rest → LexesFrom (at + length a) rest r
+  gap : (at : ℕ) (a rest : List ℕ) (r : Result (List Token) LexFault) → Gap a rest → LexesFrom (at + length a) rest r
+      → LexesFrom at (a ++ rest) r
+  token : (at : ℕ) (kind : Kind) (a rest : List ℕ) (r : Result (List Token) LexFault) → Stands at kind a rest
+      → LexesFrom (at + length a) rest r
       → LexesFrom at (a ++ rest) (before (placed kind at (at + length a)) r)
   fault : (at : ℕ) (bs : List ℕ) (f : LexFault) → FaultHere at bs f → LexesFrom at bs (Err f)
 

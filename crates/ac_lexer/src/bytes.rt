@@ -2,7 +2,7 @@
 
 ghost use Rattle.std.specs.Prelude.{◌≡◌, ◌<◌, ◌≤◌, ◌^◌, length, IfSome, IfNone, false};
 ghost use Rattle.ac_lexer.specs.Spelling.{is_blank, is_letter, is_name, is_digit, is_zero, starts, value_of};
-ghost use Rattle.ac_lexer.specs.Reading.{run, block_end};
+ghost use Rattle.ac_lexer.specs.inner.Reading.{run, block_end};
 ghost use Rattle.ac_lexer.specs.Tokens.{not_feed};
 
 /// A space, a tab, a carriage return or a line feed.

@@ -10,7 +10,7 @@ use thiserror::Error;
 #[derive(Clone, Copy, Debug, PartialEq, Eq, Error)]
 pub enum LexFault {
     /// The text has more than 1,048,576 bytes.
-    #[error("the text is too long")]
+    #[error("limit: source")]
     TooLong,
     /// A byte that may not stand there.
     #[error("bad byte at {at}")]

@@ -1,7 +1,7 @@
 //! The tokens of a text of the whole language.
 
 ghost use Rattle.std.specs.Prelude.{◌≡◌, ◌≢◌, ◌↔◌, ◌+◌, ◌<◌, ◌≤◌, ◌^◌, length, IfSome, IfOk, List, Result};
-ghost use Rattle.ac_lexer.specs.Reading.{Gives, piece_at, number_at, slash_at, mark_at};
+ghost use Rattle.ac_lexer.specs.inner.Reading.{Gives, piece_at, number_at, slash_at, mark_at};
 ghost use Rattle.ac_lexer.specs.Tokens.{Answers, Lexes, LexesFrom, max_len};
 ghost use Rattle.ac_lexer.specs.declared.fault.LexFault.{LexFault};
 ghost use Rattle.ac_lexer.specs.declared.fault.LexFault.TheVariants as l;
@@ -20,7 +20,7 @@ use ac_base::List;
 use std::alloc::Global;
 
 // The number at the front, which begins with a digit.
-#[tactic(auto, unfolding(crate::specs::Reading::number_at))]
+#[tactic(auto, unfolding(crate::specs::inner::Reading::number_at))]
 fn number_piece(at: u32, text: &[u8]) -> Result<Piece, LexFault>
     requires { at + length text.now < 2 ^ 32 }
     ensures gives { Gives result (number_at at text.now) }
@@ -92,7 +92,7 @@ fn mark_piece(at: u32, b: u8, bytes: &[u8]) -> Result<Piece, LexFault>
 }
 
 // What stands at a place, at the front of these bytes.
-#[tactic(auto, unfolding(crate::specs::Reading::piece_at))]
+#[tactic(auto, unfolding(crate::specs::inner::Reading::piece_at))]
 fn piece_at_place(alloc: Global, at: u32, text: &[u8]) -> Result<Piece, LexFault>
     requires { at + length text.now < 2 ^ 32 }
     ensures gives { Gives result (piece_at at text.now) }

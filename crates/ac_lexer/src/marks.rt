@@ -1,12 +1,12 @@
 //! The table of marks.
 
 ghost use Rattle.std.specs.Prelude.{◌≡◌};
-ghost use Rattle.ac_lexer.specs.Reading.{mark_of_one, mark_of_two};
+ghost use Rattle.ac_lexer.specs.inner.Reading.{mark_of_one, mark_of_two};
 
 use crate::token::Mark;
 
 /// The mark that is one byte.
-#[tactic(auto, unfolding(crate::specs::Reading::mark_of_one))]
+#[tactic(auto, unfolding(crate::specs::inner::Reading::mark_of_one))]
 pub fn mark_of_byte(b: u8) -> Option<Mark>
     ensures { result ≡ mark_of_one b }
 {
@@ -38,7 +38,7 @@ pub fn mark_of_byte(b: u8) -> Option<Mark>
 }
 
 /// The mark that is two bytes.
-#[tactic(auto, unfolding(crate::specs::Reading::mark_of_two))]
+#[tactic(auto, unfolding(crate::specs::inner::Reading::mark_of_two))]
 pub fn mark_of_bytes(b: u8, next: u8) -> Option<Mark>
     ensures { result ≡ mark_of_two b next }
 {

@@ -1,7 +1,7 @@
 //! What stands at a place of a text.
 
 ghost use Rattle.std.specs.Prelude.{◌≡◌, ◌≤◌, length, IfOk, OnOk};
-ghost use Rattle.ac_lexer.specs.Reading.{name_at, with_kind};
+ghost use Rattle.ac_lexer.specs.inner.Reading.{name_at, with_kind};
 
 use crate::bytes::name_run;
 use crate::token::{Kind, Token};
@@ -18,7 +18,7 @@ pub struct Piece {
 }
 
 /// The name or word at the front.
-#[tactic(auto, unfolding(crate::specs::Reading::name_at))]
+#[tactic(auto, unfolding(crate::specs::inner::Reading::name_at))]
 pub fn name_piece(alloc: Global, text: &[u8]) -> Result<Piece, NoMemory>
     ensures piece { IfOk result (λ piece. piece ≡ name_at text.now) }
     ensures within { IfOk result (λ piece. piece.len ≤ length text.now) }

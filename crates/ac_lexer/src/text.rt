@@ -1,7 +1,7 @@
 //! Texts, and the values of their bytes.
 
 ghost use Rattle.std.specs.Prelude.{◌≡◌, ◌+◌, ◌<◌, ◌≤◌, ◌^◌, [], false, None, length, IfOk, OnOk};
-ghost use Rattle.ac_lexer.specs.Reading.{Gives, text_from, means, is_bad, with_meaning, closed, first_of_two};
+ghost use Rattle.ac_lexer.specs.inner.Reading.{Gives, text_from, means, is_bad, with_meaning, closed, first_of_two};
 
 use crate::fault::LexFault;
 use crate::piece::Piece;

@@ -1,7 +1,7 @@
 //! The table of words.
 
 ghost use Rattle.std.specs.Prelude.{◌≡◌};
-ghost use Rattle.ac_lexer.specs.Reading.{among, words_of_two, words_of_three, words_of_four, words_of_five, long_words, word_of};
+ghost use Rattle.ac_lexer.specs.inner.Reading.{among, words_of_two, words_of_three, words_of_four, words_of_five, long_words, word_of};
 
 use crate::token::Word;
 
@@ -96,7 +96,7 @@ fn long_word(letters: &[u8]) -> Option<Word>
 }
 
 /// The word with these letters.
-#[tactic(auto, unfolding(crate::specs::Reading::word_of))]
+#[tactic(auto, unfolding(crate::specs::inner::Reading::word_of))]
 pub fn word_with(letters: &[u8]) -> Option<Word>
     ensures { result ≡ word_of letters.now }
 {

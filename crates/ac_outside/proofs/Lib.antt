@@ -1,2 +1,3 @@
 mod Finding
 mod Keeping
+pub mod Examples

@@ -1,7 +1,22 @@
--- What an object tells of what it holds: `Some` of it, or `None` where it does not tell.
-use Rattle.std.specs.Prelude.{◌≡◌, ℕ, ◌+◌, ◌-◌, ◌^◌, min, List, [], ◌++◌, take, ⊤, None, Some, MatchResult}
+-- What an object outside tells at a time: `Some` of what it holds, or `None` where it does not tell.
+use Rattle.std.specs.Prelude.{◌≡◌, ℕ, Bool, ◌+◌, ◌-◌, ◌^◌, min, List, [], ◌∷◌, ◌++◌, take, ⊤, None, Some, MatchResult}
 use Rattle.std.specs.declared.result.Result.{Result}
 use Rattle.std.specs.declared.option.Option.{Option}
+
+-- ---- a library
+
+-- what a library tells
+pub record LibraryTold : Type 0 where
+  -- the text of each name
+  pub text_at : List ℕ → Option (List ℕ)
+  -- whether a text is open, and what is left of it
+  pub is_open : Bool
+  pub left : Option (List ℕ)
+  -- the number of calls of `open_text`, and the names that they were given, in order
+  pub opens : Option ℕ
+  pub names : Option (List (List ℕ))
+  -- how often a call has failed
+  pub faults : ℕ
 
 -- one more, up to the last value of a 64-bit counter
 abbrev pub one_more : ℕ → ℕ
@@ -13,6 +28,29 @@ CountsOne None None = ⊤
 CountsOne None (Some after) = ⊥
 CountsOne (Some before) None = ⊥
 CountsOne (Some before) (Some after) = after ≡ one_more before
+
+-- The names that are told after a call were told before it, and this one came last.
+abbrev pub AddsName : Option (List (List ℕ)) → Option (List (List ℕ)) → List ℕ → Type 0
+AddsName before None name = ⊤
+AddsName None (Some after) name = ⊥
+AddsName (Some before) (Some after) name = after ≡ before ++ name ∷ []
+
+-- The text of this name was opened, or failed to open, and no other was, neither before nor after it.
+pub record OpenedJust (before after : LibraryTold) (name : List ℕ) : Type 0 where
+  pub once : CountsOne before.opens after.opens
+  pub named : AddsName before.names after.names name
+
+-- no text was opened
+pub record OpenedNone (before after : LibraryTold) : Type 0 where
+  pub opens : after.opens ≡ before.opens
+  pub names : after.names ≡ before.names
+
+-- ---- a sink
+
+-- what a sink tells: the bytes that it has taken, and how often a call has failed
+pub record SinkTold : Type 0 where
+  pub held : Option (List ℕ)
+  pub faults : ℕ
 
 -- What is told after a call was told before it, and has grown by these bytes.
 abbrev pub GrewBy : Option (List ℕ) → Option (List ℕ) → List ℕ → Type 0

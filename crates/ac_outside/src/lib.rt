@@ -5,6 +5,7 @@
 mod failed;
 mod library;
 mod memory;
+mod names;
 mod safe;
 mod shelf;
 mod sink;

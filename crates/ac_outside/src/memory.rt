@@ -1,28 +1,34 @@
 //! Objects in memory that fail where they are told to.
 
-ghost use Rattle.std.specs.Prelude.{◌≡◌, ◌-◌, ◌<◌, ◌≤◌, ◌↔◌, ◌⊎◌, [], ◌++◌, length, take, min, Contains, IsTrue, IfOk, OnOk, OnErr, IfSome, Some, None, is_some, is_err, if◌then◌else◌, refl};
+ghost use Rattle.std.specs.Prelude.{◌≡◌, ◌-◌, ◌<◌, ◌≤◌, ◌↔◌, ◌⊎◌, [], ◌++◌, length, take, min, Contains, IsTrue};
+ghost use Rattle.std.specs.Prelude.{IfOk, OnOk, OnErr, IfSome, Some, None, is_some, is_err, if◌then◌else◌, refl};
 ghost use Rattle.std.specs.Io.{ReadsAtMost, WritesAtMost};
 ghost use Rattle.std.specs.Io.KnownBytes.{ReadConsumes};
-ghost use Rattle.ac_outside.specs.Told.{CountsOne, WriteTook, one_more};
+ghost use Rattle.std.specs.Option.{option_copied};
+ghost use Rattle.ac_outside.specs.Told.{OpenedJust, OpenedNone, WriteTook, one_more};
+ghost use Rattle.ac_outside.specs.Views.{told_by_failing, told_by_roomy};
 ghost use Rattle.ac_outside.specs.Causes.{HasCause};
 ghost use Rattle.ac_outside.specs.Texts.{text_of, TakesFront};
 
 use crate::failed::Failed;
 use crate::library::Library;
+use crate::names::Names;
 use crate::shelf::{NamedBytes, Shelf};
 use crate::sink::Sink;
-use ac_base::{List, NoMemory};
+use ac_base::{Bytes, List, NoMemory};
 use std::alloc::Global;
 use std::marker::Model;
 
 /// A library in memory that fails exactly in the listed calls, and in each `open_text` of a name
-/// that it does not hold. Calls are numbered from 0, opens and reads together.
+/// that it does not hold. Calls are numbered from 0, opens and reads together. It tells the names
+/// that it was asked for, unless memory to note one was refused.
 #[derive(Debug, Drop)]
 pub struct MemoryLibrary {
     shelf: Shelf,
     fails: List<u64>,
     calls: u64,
     opens: u64,
+    names: Names,
     faults: u64,
 }
 
@@ -31,22 +37,41 @@ impl Model for MemoryLibrary {
 
     ghost Value = { FailingTexts };
 
-    ghost view = { λ s. record { texts = s.shelf.texts; left = s.shelf.left; fails = s.fails; calls = s.calls; opens = s.opens; faults = s.faults } };
+    ghost view = { λ s.
+        record {
+          texts = s.shelf.texts;
+          left = s.shelf.left;
+          fails = s.fails;
+          calls = s.calls;
+          opens = s.opens;
+          names = s.names;
+          faults = s.faults;
+        } };
 }
 
 impl MemoryLibrary {
-    /// A library of these texts, none of them open, that fails in the calls of these numbers. It
-    /// takes no further memory.
+    /// A library of these texts, none of them open, that fails in the calls of these numbers.
     pub fn new(texts: List<NamedBytes>, fails: List<u64>) -> Result<MemoryLibrary, NoMemory>
-        ensures { result ≡ Ok (record { texts = texts; left = None; fails = fails; calls = 0; opens = 0; faults = 0 }) }
+        ensures { result ≡
+            Ok (record { texts = texts; left = None; fails = fails; calls = 0; opens = 0; names = Some []; faults = 0 }) }
     {
+        let texts = texts.into_vec();
+        let names = Names::new(*texts.allocator());
         Ok(MemoryLibrary {
-            shelf: Shelf::new(texts),
+            shelf: Shelf::new(List::from_vec(texts)),
             fails,
             calls: 0,
             opens: 0,
+            names,
             faults: 0,
         })
+    }
+
+    /// The names that it was asked for, in order. None once memory to note one was refused.
+    pub fn names(&self) -> Option<&[Bytes]>
+        ensures { option_copied result ≡ self.now.names }
+    {
+        self.names.noted()
     }
 
     /// The number of calls of `open_text` so far.
@@ -66,7 +91,10 @@ impl MemoryLibrary {
     // Counts a call, and a fault where it is a call that fails, and says whether it is.
     fn count_call(&mut self) -> bool
         ensures fails { IsTrue result ↔ Contains self.old.fails self.old.calls }
-        ensures after { self.new ≡ record self.old { calls = one_more self.old.calls; faults = (if result then one_more self.old.faults else self.old.faults) } }
+        ensures after { self.new ≡ record self.old {
+          calls = one_more self.old.calls;
+          faults = (if result then one_more self.old.faults else self.old.faults);
+        } }
         ensures later { self.old.faults ≤ self.new.faults }
     {
         let fails = self.fails.as_slice().contains(&self.calls);
@@ -79,15 +107,7 @@ impl MemoryLibrary {
 }
 
 impl Library for MemoryLibrary {
-    ghost text_at = { λ s name. text_of s.texts name };
-
-    ghost left = { λ s. s.left };
-
-    ghost opens = { λ s. Some s.opens };
-
-    ghost faults = { λ s. s.faults };
-
-    ghost is_open = { λ s. is_some s.left };
+    ghost told = { told_by_failing };
 
     ghost tells_opens = { λ _ _ _. refl };
 
@@ -97,15 +117,28 @@ impl Library for MemoryLibrary {
         ensures start { OnOk result (IfSome (text_of self.old.texts name.now) (λ text. self.new.left ≡ Some text)) }
         ensures still_open { OnErr result (is_some self.new.left ≡ is_some self.old.left) }
         ensures still_left { OnErr result (self.new.left ≡ self.old.left) }
-        ensures count { CountsOne (Some self.old.opens) (Some self.new.opens) }
+        ensures just { OpenedJust (told_by_failing self.old) (told_by_failing self.new) name.now }
         ensures cause { HasCause self.old.faults self.new.faults result }
 
         // It fails exactly in the listed calls and where the name is not held.
         ensures exactly { IsTrue (is_err result) ↔ (Contains self.old.fails self.old.calls ⊎ (text_of self.old.texts name.now ≡ None)) }
-        ensures ok { OnOk result (self.new ≡ record self.old { left = text_of self.old.texts name.now; calls = one_more self.old.calls; opens = one_more self.old.opens }) }
-        ensures err { OnErr result (self.new ≡ record self.old { calls = one_more self.old.calls; opens = one_more self.old.opens; faults = one_more self.old.faults }) }
+        ensures ok { OnOk result (self.new ≡
+            record self.old {
+              left = text_of self.old.texts name.now;
+              calls = one_more self.old.calls;
+              opens = one_more self.old.opens;
+              names = self.new.names;
+            }) }
+        ensures err { OnErr result (self.new ≡
+            record self.old {
+              calls = one_more self.old.calls;
+              opens = one_more self.old.opens;
+              names = self.new.names;
+              faults = one_more self.old.faults;
+            }) }
     {
         self.opens = self.opens.saturating_add(1);
+        self.names.note(name.as_bytes());
         if self.count_call() {
             return Err(Failed);
         }
@@ -120,7 +153,7 @@ impl Library for MemoryLibrary {
         requires { IsTrue (is_some self.old.left) }
         ensures same { text_of self.new.texts ≡ text_of self.old.texts }
         ensures still_open { IsTrue (is_some self.new.left) }
-        ensures count { self.new.opens ≡ self.old.opens }
+        ensures none { OpenedNone (told_by_failing self.old) (told_by_failing self.new) }
         ensures bound { ReadsAtMost result into.new }
         ensures bytes { ReadConsumes self.old.left self.new.left result into.new }
         ensures cause { HasCause self.old.faults self.new.faults result }
@@ -189,9 +222,7 @@ impl MemorySink {
 }
 
 impl Sink for MemorySink {
-    ghost held = { λ s. Some s.taken };
-
-    ghost faults = { λ s. s.faults };
+    ghost told = { told_by_roomy };
 
     fn write(&mut self, piece: &[u8]) -> Result<usize, Failed>
         ensures bound { WritesAtMost result piece.now }

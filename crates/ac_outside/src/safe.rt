@@ -1,24 +1,30 @@
 //! Objects in memory that never fail.
 
-ghost use Rattle.std.specs.Prelude.{◌≡◌, ◌+◌, ◌<◌, [], ◌++◌, length, take, IsTrue, IsOkAnd, IfOk, Ok, Some, None, is_some, ◌||◌, nat_lt, unwrap_or, if◌then◌else◌, refl, false};
+ghost use Rattle.std.specs.Prelude.{◌≡◌, ◌+◌, ◌<◌, [], ◌++◌, length, take, IsTrue, IsOkAnd, IfOk, Ok, Some};
+ghost use Rattle.std.specs.Prelude.{None, is_some, ◌||◌, nat_lt, unwrap_or, if◌then◌else◌, refl, false};
 ghost use Rattle.std.specs.Io.{WritesAtMost};
-ghost use Rattle.ac_outside.specs.Told.{WriteTook, one_more};
+ghost use Rattle.std.specs.Option.{option_copied};
+ghost use Rattle.ac_outside.specs.Told.{AddsName, WriteTook, one_more};
+ghost use Rattle.ac_outside.specs.Views.{told_by_safe, told_by_kept};
 ghost use Rattle.ac_outside.specs.Causes.{HasCause};
 ghost use Rattle.ac_outside.specs.Texts.{text_of, TakesFront};
 
 use crate::failed::Failed;
 use crate::library::Library;
+use crate::names::Names;
 use crate::shelf::{NamedBytes, Shelf};
 use crate::sink::Sink;
-use ac_base::{List, NoMemory};
+use ac_base::{Bytes, List, NoMemory};
 use std::alloc::Global;
 use std::marker::Model;
 
-/// A library in memory that never fails. A name that it does not hold opens the empty text.
+/// A library in memory that never fails. A name that it does not hold opens the empty text. It tells
+/// the names that it was asked for, unless memory to note one was refused.
 #[derive(Debug, Drop)]
 pub struct SafeLibrary {
     shelf: Shelf,
     opens: u64,
+    names: Names,
 }
 
 impl Model for SafeLibrary {
@@ -26,18 +32,28 @@ impl Model for SafeLibrary {
 
     ghost Value = { SafeTexts };
 
-    ghost view = { λ s. record { texts = s.shelf.texts; left = s.shelf.left; opens = s.opens } };
+    ghost view = { λ s. record { texts = s.shelf.texts; left = s.shelf.left; opens = s.opens; names = s.names } };
 }
 
 impl SafeLibrary {
-    /// A library of these texts, none of them open. It takes no further memory.
+    /// A library of these texts, none of them open.
     pub fn new(texts: List<NamedBytes>) -> Result<SafeLibrary, NoMemory>
-        ensures { result ≡ Ok (record { texts = texts; left = None; opens = 0 }) }
+        ensures { result ≡ Ok (record { texts = texts; left = None; opens = 0; names = Some [] }) }
     {
+        let texts = texts.into_vec();
+        let names = Names::new(*texts.allocator());
         Ok(SafeLibrary {
-            shelf: Shelf::new(texts),
+            shelf: Shelf::new(List::from_vec(texts)),
             opens: 0,
+            names,
         })
+    }
+
+    /// The names that it was asked for, in order. None once memory to note one was refused.
+    pub fn names(&self) -> Option<&[Bytes]>
+        ensures { option_copied result ≡ self.now.names }
+    {
+        self.names.noted()
     }
 
     /// The number of calls of `open_text` so far.
@@ -49,23 +65,22 @@ impl SafeLibrary {
 }
 
 impl Library for SafeLibrary {
-    ghost text_at = { λ s name. Some (unwrap_or (text_of s.texts name) []) };
-
-    ghost left = { λ s. s.left };
-
-    ghost opens = { λ s. Some s.opens };
-
-    ghost faults = { λ _. 0 };
-
-    ghost is_open = { λ s. is_some s.left };
+    ghost told = { told_by_safe };
 
     ghost tells_opens = { λ _ _ _. refl };
 
     fn open_text(&mut self, name: &str) -> Result<(), Failed>
         ensures well { result ≡ Ok tt }
-        ensures after { self.new ≡ record self.old { left = Some (unwrap_or (text_of self.old.texts name.now) []); opens = one_more self.old.opens } }
+        ensures after { self.new ≡
+            record self.old {
+              left = Some (unwrap_or (text_of self.old.texts name.now) []);
+              opens = one_more self.old.opens;
+              names = self.new.names;
+            } }
+        ensures named { AddsName self.old.names self.new.names name.now }
     {
         self.opens = self.opens.saturating_add(1);
+        self.names.note(name.as_bytes());
         if !self.shelf.open(name.as_bytes()) {
             self.shelf.open_empty();
         }
@@ -132,14 +147,13 @@ impl SafeSink {
 }
 
 impl Sink for SafeSink {
-    ghost held = { λ s. if s.is_over then None else Some s.taken };
-
-    ghost faults = { λ _. 0 };
+    ghost told = { told_by_kept };
 
     fn write(&mut self, piece: &[u8]) -> Result<usize, Failed>
         ensures bound { WritesAtMost result piece.now }
         ensures moves { IfOk result (λ n. 0 < length piece.now → 0 < n) }
-        ensures bytes { WriteTook (if self.old.is_over then None else Some self.old.taken) (if self.new.is_over then None else Some self.new.taken) result piece.now }
+        ensures bytes { WriteTook (if self.old.is_over then None else Some self.old.taken)
+            (if self.new.is_over then None else Some self.new.taken) result piece.now }
         ensures cause { HasCause 0 0 result }
 
         // It takes the whole piece, and keeps what is among the first bytes.

@@ -23,8 +23,8 @@ fn texts(alloc: Global) -> Result<List<NamedBytes>, AllocError> {
 
 // Reads two bytes, and notes them in parentheses, or `!` for a fault.
 fn read_two<L: Library>(library: &mut L, log: &mut String) -> Result<(), AllocError>
-    requires { IsTrue (L.is_open library.old) }
-    ensures { IsTrue (L.is_open library.new) }
+    requires { IsTrue (L.told library.old).is_open }
+    ensures { IsTrue (L.told library.new).is_open }
 {
     let mut into = [0u8; 2];
     match library.read(&mut into) {
@@ -59,7 +59,9 @@ fn open_and_read<L: Library>(
 }
 
 #[test]
-fn memory_libraries(rt: HostRuntime) -> Result<(), Fail> {
+fn a_library_in_memory_gives_its_texts_and_fails_when_it_is_told_to(
+    rt: HostRuntime,
+) -> Result<(), Fail> {
     let alloc = rt.alloc();
     for (name, fails, log, faults) in [
         ("a", [9, 9], "+(he)(ll)(o)()", 0),
@@ -82,7 +84,7 @@ fn memory_libraries(rt: HostRuntime) -> Result<(), Fail> {
 }
 
 #[test]
-fn safe_libraries(rt: HostRuntime) -> Result<(), Fail> {
+fn a_safe_library_gives_its_texts_and_never_fails(rt: HostRuntime) -> Result<(), Fail> {
     let alloc = rt.alloc();
     let mut library = SafeLibrary::new(texts(alloc)?)?;
     for (name, log) in [
@@ -94,6 +96,34 @@ fn safe_libraries(rt: HostRuntime) -> Result<(), Fail> {
         assert_eq!(rt; seen.as_str(), log, "of {name}");
     }
     assert_eq!(rt; library.opens(), 3);
+    Ok(())
+}
+
+// The names, each with a comma after it.
+fn listed(alloc: Global, names: &[Bytes]) -> Result<String, AllocError> {
+    let mut list = String::new(alloc);
+    for name in names {
+        for byte in name.as_slice() {
+            list.push(char::from(*byte))?;
+        }
+        list.push(',')?;
+    }
+    Ok(list)
+}
+
+// With memory enough, the names are noted, also of a text that is not there.
+#[test]
+fn libraries_note_what_they_are_asked_for(rt: HostRuntime) -> Result<(), Fail> {
+    let alloc = rt.alloc();
+    let mut safe = SafeLibrary::new(List::new(alloc))?;
+    let _ = safe.open_text("x.ac");
+    let _ = safe.open_text("");
+    let names = listed(alloc, safe.names().unwrap_or(&[]))?;
+    assert_eq!(rt; names.as_str(), "x.ac,,");
+    let mut memory = MemoryLibrary::new(List::new(alloc), List::new(alloc))?;
+    let _ = memory.open_text("y.ac");
+    let names = listed(alloc, memory.names().unwrap_or(&[]))?;
+    assert_eq!(rt; names.as_str(), "y.ac,");
     Ok(())
 }
 
@@ -110,7 +140,7 @@ fn write_pieces<K: Sink>(alloc: Global, sink: &mut K) -> Result<String, AllocErr
 }
 
 #[test]
-fn memory_sinks(rt: HostRuntime) -> Result<(), Fail> {
+fn a_sink_in_memory_takes_as_much_as_it_has_room_for(rt: HostRuntime) -> Result<(), Fail> {
     let alloc = rt.alloc();
     for (room, log, taken, faults) in [
         (0, "!0!0!", "", 3),
@@ -130,7 +160,7 @@ fn memory_sinks(rt: HostRuntime) -> Result<(), Fail> {
 }
 
 #[test]
-fn safe_sinks(rt: HostRuntime) -> Result<(), Fail> {
+fn a_safe_sink_takes_all(rt: HostRuntime) -> Result<(), Fail> {
     let alloc = rt.alloc();
     let mut sink = SafeSink::new(alloc)?;
     let seen = write_pieces(alloc, &mut sink)?;

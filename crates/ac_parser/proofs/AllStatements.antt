@@ -1,4 +1,4 @@
--- The law of statements.
+-- Statements by their first token, as one part each: what the parts read and what they spell.
 use Rattle.std.proofs.Common.{◌≡◌, ℕ, suc, List, [], ◌∷◌, ◌++◌, Option, Some, None, Ok, Err, refl, sym, ap, ◌∙◌, subst}
 use Rattle.std.specs.Prelude.{if◌then◌else◌}
 use Rattle.std.proofs.lemmas.List.{append-nil}
@@ -11,20 +11,25 @@ use Rattle.ac_lexer.specs.declared.token.Mark.TheVariants as m
 use Rattle.ac_lexer.specs.declared.token.Token.{Token}
 use Rattle.ac_parser.specs.declared.forms.Opening.{Opening}
 use Rattle.ac_parser.specs.declared.forms.Opening.TheVariants as f
-use Rattle.ac_parser.specs.Spelling.{Marked, mark, IsMark, IsName, CallSpells}
-use Rattle.ac_parser.specs.SpellingOfStatements.{StmtSpells, block, empty, assign, call_stmt, print, if_alone, if_else, while, for, break, continue, return, do_plain, do_labelled, async, cancel, yield}
-use Rattle.ac_parser.specs.Reads.{Reads, halt, unexpected, ◌>>=◌, sign, starts_with, word_at, mark_at}
-use Rattle.ac_parser.specs.ReadsExpressions.{place_of, expr_at}
-use Rattle.ac_parser.specs.ReadsStatements.{opening_of, is_opening, other_at, if_at, stmt_by, stmt_at}
-use Rattle.ac_parser.proofs.Halts.{bind_ext}
-use Rattle.ac_parser.proofs.Parts.{Part, ret, seq, made, Either_of, first, second, chosen, bind, made_of, either, select}
-use Rattle.ac_parser.proofs.Letters.{signed, sign_part, named, name_part}
-use Rattle.ac_parser.proofs.ExpressionHeads.{call_head, call_place}
-use Rattle.ac_parser.proofs.Openings.{last_is}
-use Rattle.ac_parser.proofs.UnaryLaws.{CallOf, of_function, of_operation, call_of}
+use Rattle.reading_laws.specs.Marks.{Marked, mark, IsMark, IsName}
+use Rattle.ac_expressions.specs.Spelling.{CallSpells}
+use Rattle.ac_parser.specs.SpellingOfStatements.{StmtSpells, block, empty, assign, call_stmt, print, if_alone, if_else, while, for, break, continue, return, do_plain, do_labelled, async, cancel}
+use Rattle.ac_parser.specs.SpellingOfStatements.{yield}
+use Rattle.reading_laws.specs.Readers.{Reads, halt, unexpected, ◌>>=◌}
+use Rattle.reading_laws.specs.Letters.{sign, starts_with, word_at, mark_at}
+use Rattle.ac_expressions.specs.Reads.{place_of, expr_at}
+use Rattle.ac_parser.specs.inner.ReadsStatements.{opening_of, is_opening, other_at, if_at, stmt_by, stmt_at}
+use Rattle.reading_laws.proofs.Halts.{bind_ext}
+use Rattle.reading_laws.proofs.Parts.{Part, ret, seq, made, Either_of, first, second, chosen, bind, made_of, either, select}
+use Rattle.reading_laws.proofs.Letters.{signed, sign_part, named, name_part}
+use Rattle.ac_expressions.proofs.ExpressionHeads.{call_head, call_place}
+use Rattle.reading_laws.proofs.Openings.{last_is}
+use Rattle.ac_expressions.proofs.UnaryLaws.{CallOf, of_function, of_operation, call_of}
 use Rattle.ac_parser.proofs.DeclLaws.{SimpleSplit, split_simple}
-use Rattle.ac_parser.proofs.StatementLaws.{empty_part, call_stmt_part, assign_part, operation_stmt_part, print_part, word_part, return_part, cancel_part, is_empty, is_call_stmt, is_assign, is_operation_stmt, is_print, is_break, is_continue, is_yield, is_return, is_cancel, word_is, print_is, return_is, cancel_is}
-use Rattle.ac_parser.proofs.CompoundLaws.{block_stmt_part, do_part, labelled_part, while_part, for_part, async_part, is_do, is_labelled, do_is, labelled_is, is_while, while_is, is_async, async_is, is_for, for_is}
+use Rattle.ac_parser.proofs.StatementLaws.{empty_part, call_stmt_part, assign_part, operation_stmt_part, print_part, word_part, return_part, cancel_part, is_empty, is_call_stmt, is_assign}
+use Rattle.ac_parser.proofs.StatementLaws.{is_operation_stmt, is_print, is_break, is_continue, is_yield, is_return, is_cancel, word_is, print_is, return_is, cancel_is}
+use Rattle.ac_parser.proofs.CompoundLaws.{block_stmt_part, do_part, labelled_part, while_part, for_part, async_part, is_do, is_labelled, do_is, labelled_is, is_while, while_is, is_async, async_is}
+use Rattle.ac_parser.proofs.CompoundLaws.{is_for, for_is}
 use Rattle.ac_parser.proofs.BranchLaws.{no_other, some_other, if_part, is_if, if_is}
 
 -- ---- the forms
@@ -66,13 +71,15 @@ other_assoc : (o : Reads (Option Stmt)) (y : Stmt) (at : ℕ) (x : Expr) → wit
 other_assoc (Ok z) y at x = refl
 other_assoc (Err e) y at x = refl
 
-branch_assoc : (b : Reads Stmt) (o : List Token → Reads (Option Stmt)) (at : ℕ) (x : Expr) → with_branches at x (b >>= λ y. pair_with y.0 (o y.1)) ≡ (b >>= λ y. o y.1 >>= λ z. Ok (s.If at x y.0 z.0, z.1))
+branch_assoc : (b : Reads Stmt) (o : List Token → Reads (Option Stmt)) (at : ℕ) (x : Expr)
+    → with_branches at x (b >>= λ y. pair_with y.0 (o y.1)) ≡ (b >>= λ y. o y.1 >>= λ z. Ok (s.If at x y.0 z.0, z.1))
 branch_assoc (Ok y) o at x = other_assoc (o y.1) y.0 at x
 branch_assoc (Err e) o at x = refl
 
 if_same : (depth room : ℕ) (a : List Token) → if_at (stmt_at room) room a ≡ (if_part depth room).read a
 unfolding bind made_of sign_part
-if_same depth room a = bind_ext (word_at w.If a) _ _ (λ h. bind_ext (mark_at m.OpenParen h.1) _ _ (λ l. bind_ext (expr_at room l.1) _ _ (λ x. bind_ext (mark_at m.CloseParen x.1) _ _ (λ r. branch_assoc (stmt_at room r.1) (other_at (stmt_at room)) h.0 x.0))))
+if_same depth room a = bind_ext (word_at w.If a) _ _ (λ h. bind_ext (mark_at m.OpenParen h.1) _ _
+    (λ l. bind_ext (expr_at room l.1) _ _ (λ x. bind_ext (mark_at m.CloseParen x.1) _ _ (λ r. branch_assoc (stmt_at room r.1) (other_at (stmt_at room)) h.0 x.0))))
 
 opening_reads : (depth room : ℕ) (form : Opening) (a : List Token) → stmt_by (stmt_at room) room form a ≡ (if is_opening form then (opening_part depth room form).read a else Err (halt unexpected a))
 unfolding bind made_of either ret sign_part name_part
@@ -103,11 +110,13 @@ is_named : (depth room : ℕ) (x : Stmt) (ms : List Marked) → (named_stmt_part
 unfolding bind either name_part
 is_named depth room _ _ (seq _ x _ a (named t name q) g) = named_case depth room t name q x a g
   where
-    label_case : (depth room : ℕ) (t : Token) (name : List ℕ) → IsName name t → (x : Stmt) (a : List Marked) → Either_of Stmt (labelled_part depth room t.span.at name).spells (assign_part depth room t.span.at name).spells x a → StmtSpells depth x (mark depth t ∷ a)
+    label_case : (depth room : ℕ) (t : Token) (name : List ℕ) → IsName name t → (x : Stmt) (a : List Marked)
+        → Either_of Stmt (labelled_part depth room t.span.at name).spells (assign_part depth room t.span.at name).spells x a → StmtSpells depth x (mark depth t ∷ a)
     label_case depth room t name q _ _ (first x a g) = is_labelled depth room t name q x a g
     label_case depth room t name q _ _ (second x a g) = is_assign depth room t name q x a g
 
-    named_case : (depth room : ℕ) (t : Token) (name : List ℕ) → IsName name t → (x : Stmt) (a : List Marked) → Either_of Stmt (call_stmt_part depth room t.span.at name).spells (label_or_assign depth room t.span.at name).spells x a → StmtSpells depth x (mark depth t ∷ a)
+    named_case : (depth room : ℕ) (t : Token) (name : List ℕ) → IsName name t → (x : Stmt) (a : List Marked)
+        → Either_of Stmt (call_stmt_part depth room t.span.at name).spells (label_or_assign depth room t.span.at name).spells x a → StmtSpells depth x (mark depth t ∷ a)
     named_case depth room t name q _ _ (first x a g) = is_call_stmt depth room t name q x a g
     named_case depth room t name q _ _ (second x a g) = label_case depth room t name q x a g
 
@@ -139,27 +148,33 @@ is_stmt depth room _ _ (chosen form x ms q g) = opening_is depth room form x ms 
 
 -- ---- and back
 
-by_call : (depth room : ℕ) (x : Expr) (all : List Marked) → CallOf depth room x all → (r : Token) → IsMark m.Semicolon r → (stmt_part depth room).spells (s.Call (place_of x) x) (all ++ mark depth r ∷ [])
+by_call : (depth room : ℕ) (x : Expr) (all : List Marked) → CallOf depth room x all → (r : Token) → IsMark m.Semicolon r
+    → (stmt_part depth room).spells (s.Call (place_of x) x) (all ++ mark depth r ∷ [])
 unfolding select bind either name_part
 by_call depth room _ _ (of_function t l v name xs a q g) r j =
-    subst (λ (at : ℕ). (stmt_part depth room).spells (s.Call at (e.Call t.span.at name xs)) ((mark depth t ∷ mark depth l ∷ (a ++ mark (suc depth) v ∷ [])) ++ mark depth r ∷ [])) (sym (call_place t.span.at name xs))
-    (chosen f.Name _ _ refl (seq (t.span.at, name) _ (mark depth t ∷ []) _ (named t name q) (first _ _ (seq (e.Call t.span.at name xs) _ (mark depth l ∷ (a ++ mark (suc depth) v ∷ [])) _ g (last_is depth (sign m.Semicolon) (s.Call t.span.at (e.Call t.span.at name xs)) r j)))))
+    subst (λ (at : ℕ). (stmt_part depth room).spells (s.Call at (e.Call t.span.at name xs)) ((mark depth t ∷ mark depth l ∷ (a ++ mark (suc depth) v ∷ [])) ++ mark depth r ∷ []))
+    (sym (call_place t.span.at name xs))
+    (chosen f.Name _ _ refl (seq (t.span.at, name) _ (mark depth t ∷ []) _ (named t name q)
+    (first _ _ (seq (e.Call t.span.at name xs) _ (mark depth l ∷ (a ++ mark (suc depth) v ∷ [])) _ g (last_is depth (sign m.Semicolon) (s.Call t.span.at (e.Call t.span.at name xs)) r j)))))
 by_call depth room _ _ (of_operation x ms g) r j = chosen f.Operation _ _ refl (seq x _ ms _ g (last_is depth (sign m.Semicolon) (s.Call (place_of x) x) r j))
 
 same_first : {x y : Marked} {xs ys : List Marked} → x ∷ xs ≡ y ∷ ys → x ≡ y
 same_first h = cc
 
-call_is_stmt : (depth room : ℕ) (head r : Token) (x : Expr) (ms : List Marked) → CallSpells depth x (mark depth head ∷ ms) → IsMark m.Semicolon r → (stmt_part depth room).spells (s.Call head.span.at x) (mark depth head ∷ (ms ++ mark depth r ∷ []))
+call_is_stmt : (depth room : ℕ) (head r : Token) (x : Expr) (ms : List Marked) → CallSpells depth x (mark depth head ∷ ms) → IsMark m.Semicolon r
+    → (stmt_part depth room).spells (s.Call head.span.at x) (mark depth head ∷ (ms ++ mark depth r ∷ []))
 call_is_stmt depth room head r x ms g j =
     let h = call_head depth x (mark depth head ∷ ms) g in
     let at : place_of x ≡ head.span.at = h.headed.place ∙ ap (λ (m : Marked). m.token.span.at) (sym (same_first h.headed.is)) in
-    subst (λ (at : ℕ). (stmt_part depth room).spells (s.Call at x) (mark depth head ∷ (ms ++ mark depth r ∷ []))) at (by_call depth room x (mark depth head ∷ ms) (call_of depth room x (mark depth head ∷ ms) g) r j)
+    subst (λ (at : ℕ). (stmt_part depth room).spells (s.Call at x) (mark depth head ∷ (ms ++ mark depth r ∷ []))) at
+    (by_call depth room x (mark depth head ∷ ms) (call_of depth room x (mark depth head ∷ ms) g) r j)
 
 by_simple : (depth room : ℕ) (x : Stmt) (ms : List Marked) → SimpleSplit depth room x ms → (r : Token) → IsMark m.Semicolon r → (stmt_part depth room).spells x (ms ++ mark depth r ∷ [])
 unfolding select bind either name_part
 by_simple depth room x ms z r j =
     subst (λ (ms : List Marked). (stmt_part depth room).spells x (ms ++ mark depth r ∷ [])) (sym z.is)
-    (chosen f.Name _ _ refl (seq (z.token.span.at, z.name) _ (mark depth z.token ∷ []) _ (named z.token z.name z.kind) (second _ _ (second _ _ (seq x _ z.rest _ z.spells (last_is depth (sign m.Semicolon) x r j))))))
+    (chosen f.Name _ _ refl (seq (z.token.span.at, z.name) _ (mark depth z.token ∷ []) _ (named z.token z.name z.kind)
+    (second _ _ (second _ _ (seq x _ z.rest _ z.spells (last_is depth (sign m.Semicolon) x r j))))))
 
 pub stmt_is : (depth room : ℕ) (x : Stmt) (ms : List Marked) → StmtSpells depth x ms → (stmt_part depth room).spells x ms
 unfolding select bind made_of either sign_part name_part
@@ -169,7 +184,8 @@ stmt_is depth room _ _ (assign _ x r ms g j) = by_simple depth room x ms (split_
 stmt_is depth room _ _ (call_stmt _ head r x ms g j) = call_is_stmt depth room head r x ms g j
 stmt_is depth room _ _ (print _ t l u r c format xs ms q i v g j z) = chosen f.Print _ _ refl (print_is depth room t l u r c format xs ms q i v g j z)
 stmt_is depth room _ _ (if_alone _ t l r x y ms ns q i g j h) =
-    subst (λ (c : List Marked). (stmt_part depth room).spells (s.If t.span.at x y None) (mark depth t ∷ mark depth l ∷ (ms ++ mark (suc depth) r ∷ c))) (append-nil ns) (chosen f.If _ _ refl (if_is depth room t l r x y ms ns None [] q i g j h no_other))
+    subst (λ (c : List Marked). (stmt_part depth room).spells (s.If t.span.at x y None) (mark depth t ∷ mark depth l ∷ (ms ++ mark (suc depth) r ∷ c))) (append-nil ns)
+    (chosen f.If _ _ refl (if_is depth room t l r x y ms ns None [] q i g j h no_other))
 stmt_is depth room _ _ (if_else _ t l r o x y z ms ns os q i g j h v d b) = chosen f.If _ _ refl (if_is depth room t l r x y ms ns (Some z) (mark depth o ∷ os) q i g j h (some_other o z os v d b))
 stmt_is depth room _ _ (while _ t l r x y ms ns q i g j h) = chosen f.While _ _ refl (while_is depth room t l r x y ms ns q i g j h)
 stmt_is depth room _ _ (for _ t l u v r init test next y is ms ns os q i g d z o n j b) = chosen f.For _ _ refl (for_is depth room t l u v r init test next y is ms ns os q i g d z o n j b)

@@ -4,15 +4,15 @@ use Rattle.std.proofs.lemmas.List.{append-nil, append_cancel_right}
 use Rattle.ac_tree.specs.declared.item.Item.{Item}
 use Rattle.ac_tree.specs.declared.item.Program.{Program}
 use Rattle.ac_lexer.specs.declared.token.Token.{Token}
-use Rattle.ac_parser.specs.Spelling.{Marked, tokens}
+use Rattle.reading_laws.specs.Marks.{Marked, tokens, cut}
 use Rattle.ac_parser.specs.SpellingOfItems.{ItemSpells, ItemsSpell, no_item, one_item, ProgramSpells}
-use Rattle.ac_parser.specs.Places.{cut, place_in, Stuck, UnexpectedAt, TooDeepAt, IsTree}
-use Rattle.ac_parser.specs.Reads.{Reads, Cause, halt, unexpected, too_deep, ◌>>=◌}
-use Rattle.ac_parser.specs.ReadsItems.{items_at, end_at, program_at}
-use Rattle.ac_parser.proofs.Halts.{bind_ok, result, same_result, same_stop, not_both}
-use Rattle.ac_parser.proofs.Heads.{SameHead, Local, Moves, stops_at, behind_rest, no_rest, local_bind}
-use Rattle.ac_parser.proofs.Parts.{Filled, GoodAt, Is, itself, Seq, seq, verdict, at_once, bind_good}
-use Rattle.ac_parser.proofs.Rows.{Many, none, some, many}
+use Rattle.ac_parser.specs.Places.{place_in, Stuck, UnexpectedAt, TooDeepAt, IsTree}
+use Rattle.reading_laws.specs.Readers.{Reads, Cause, halt, unexpected, too_deep, ◌>>=◌}
+use Rattle.ac_parser.specs.inner.ReadsItems.{items_at, end_at, program_at}
+use Rattle.reading_laws.proofs.Halts.{bind_ok, result, same_result, same_stop, not_both}
+use Rattle.reading_laws.proofs.Heads.{SameHead, Local, Moves, stops_at, behind_rest, no_rest, local_bind}
+use Rattle.reading_laws.proofs.Parts.{Filled, GoodAt, Is, itself, Seq, seq, verdict, at_once, bind_good}
+use Rattle.reading_laws.proofs.Rows.{Many, none, some, many}
 use Rattle.ac_parser.proofs.Programs.{items_law}
 
 abbrev program_of : List Item → Program
@@ -67,7 +67,8 @@ by_end x _ _ Q itself g = g
 is_whole : (p : Program) (ms : List Marked) → Seq (List Item) Program (Many Item ItemSpells) (λ xs. Is Program (program_of xs)) p ms → ProgramSpells p ms
 is_whole _ _ (seq xs p a c g e) = by_end (program_of xs) p c (λ p c. ProgramSpells p (a ++ c)) e (subst (λ (ms : List Marked). ItemsSpell xs ms) (sym (append-nil a)) (items_are xs a g))
 
-moved_good : (f : List Token → Reads Program) (P Q : Program → List Marked → Type 0) (a : List Token) → ((x : Program) (ms : List Marked) → P x ms → Q x ms) → GoodAt 256 Program f P a → GoodAt 256 Program f Q a
+moved_good : (f : List Token → Reads Program) (P Q : Program → List Marked → Type 0) (a : List Token) → ((x : Program) (ms : List Marked) → P x ms → Q x ms) → GoodAt 256 Program f P a
+    → GoodAt 256 Program f Q a
 moved_good f P Q a c u = record {
   ok = λ x r h. let z = u.ok x r h in record { used = z.used; split = z.split; low = z.low; spells = c x z.used z.spells };
   err = λ d r h. let z = u.err d r h in record { used = z.used; split = z.split; low = z.low; closing = z.closing; why = z.why; value = z.value; spells = c z.value (z.used ++ z.closing) z.spells };
@@ -76,7 +77,8 @@ moved_good f P Q a c u = record {
 good_program : (a : List Token) → GoodAt 256 Program program_at ProgramSpells a
 unfolding program_at many
 good_program a = moved_good program_at (Seq (List Item) Program (Many Item ItemSpells) (λ xs. Is Program (program_of xs))) ProgramSpells a is_whole
-    (bind_good 256 (List Item) Program items_at (λ xs. end_at (program_of xs)) (Many Item ItemSpells) (λ xs. Is Program (program_of xs)) a (items_law.good a) (λ xs m h. end_good (program_of xs) m) (λ xs. fill_end (program_of xs)))
+    (bind_good 256 (List Item) Program items_at (λ xs. end_at (program_of xs)) (Many Item ItemSpells) (λ xs. Is Program (program_of xs)) a (items_law.good a) (λ xs m h. end_good (program_of xs) m)
+    (λ xs. fill_end (program_of xs)))
 
 local_program : Local Program program_at
 unfolding program_at many

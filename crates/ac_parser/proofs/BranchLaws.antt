@@ -7,17 +7,20 @@ use Rattle.ac_tree.specs.declared.stmt.Stmt.TheVariants as s
 use Rattle.ac_lexer.specs.declared.token.Word.TheVariants as w
 use Rattle.ac_lexer.specs.declared.token.Mark.TheVariants as m
 use Rattle.ac_lexer.specs.declared.token.Token.{Token}
-use Rattle.ac_parser.specs.Spelling.{Marked, mark, tokens, IsWord, IsMark, ExprSpells}
+use Rattle.reading_laws.specs.Marks.{Marked, mark, tokens, IsWord, IsMark, cut}
+use Rattle.ac_expressions.specs.Spelling.{ExprSpells}
 use Rattle.ac_parser.specs.SpellingOfStatements.{ends_open, StmtSpells, if_alone, if_else}
-use Rattle.ac_parser.specs.Reads.{Reads, word, sign, starts_with}
-use Rattle.ac_parser.specs.ReadsStatements.{other_at, stmt_at}
-use Rattle.ac_parser.specs.Places.{cut}
-use Rattle.ac_parser.proofs.Heads.{Local, local_bind, local_return}
-use Rattle.ac_parser.proofs.Parts.{Part, GoodAt, Law, itself, ret, law_ret, seq, made, first, second, verdict, law_then, law_made, law_either, made_good, made_reads, bind_good, seq_reads, bind, made_of, either}
-use Rattle.ac_parser.proofs.Letters.{signed, sign_part, law_sign, starts_by}
-use Rattle.ac_parser.proofs.ChainLaws.{expr_named}
-use Rattle.ac_parser.proofs.Openings.{begins_bound, law_expr_bind}
-use Rattle.ac_parser.proofs.UnaryLaws.{whole_law}
+use Rattle.reading_laws.specs.Readers.{Reads}
+use Rattle.reading_laws.specs.Letters.{word, sign, starts_with}
+use Rattle.ac_parser.specs.inner.ReadsStatements.{other_at, stmt_at}
+use Rattle.reading_laws.proofs.Heads.{Local, local_bind, local_return}
+use Rattle.reading_laws.proofs.Parts.{Part, GoodAt, Law, itself, ret, law_ret, seq, made, first, second, verdict, law_then, law_made, law_either, made_good, made_reads, bind_good, seq_reads, bind}
+use Rattle.reading_laws.proofs.Parts.{made_of, either}
+use Rattle.reading_laws.proofs.Letters.{signed, sign_part, law_sign, starts_by}
+use Rattle.ac_expressions.proofs.ChainLaws.{expr_named}
+use Rattle.reading_laws.proofs.Openings.{begins_bound}
+use Rattle.ac_expressions.proofs.Openings.{law_expr_bind}
+use Rattle.ac_expressions.proofs.UnaryLaws.{whole_law}
 use Rattle.ac_parser.proofs.StatementHeads.{if_ends, else_ends}
 use Rattle.ac_parser.proofs.CompoundLaws.{stmt_named, NoElse}
 
@@ -47,7 +50,8 @@ unfolding either bind made_of ret sign_part
 other_is depth room y _ _ no_other = second None [] itself
 other_is depth room y _ _ (some_other t z ms e q g) = first (Some z) (mark depth t ∷ ms) (seq t.span.at (Some z) (mark depth t ∷ []) ms (signed t q) (made z ms g))
 
-is_else : (depth room : ℕ) (y : Stmt) → ends_open y ≡ false → (x : Option Stmt) (ms : List Marked) → (bind (sign_part depth (word w.Else)) (λ _. made_of (stmt_named (suc depth) room) (λ z. Some z))).spells x ms → OtherSpells depth y x ms
+is_else : (depth room : ℕ) (y : Stmt) → ends_open y ≡ false → (x : Option Stmt) (ms : List Marked)
+    → (bind (sign_part depth (word w.Else)) (λ _. made_of (stmt_named (suc depth) room) (λ z. Some z))).spells x ms → OtherSpells depth y x ms
 unfolding bind made_of sign_part
 is_else depth room y e _ _ (seq _ _ _ _ (signed t q) (made z ms g)) = some_other t z ms e q g
 
@@ -59,10 +63,19 @@ else_fails : (x : Option Stmt) (ms : List Marked) (rest : List Token) → (ret {
 unfolding ret
 else_fails _ _ rest itself h = h
 
-moved_good : (L : ℕ) (X : Type 0) (f g : List Token → Reads X) (P Q : X → List Marked → Type 0) (a : List Token) → g a ≡ f a → ((x : X) (ms : List Marked) → P x ms → Q x ms) → GoodAt L X f P a → GoodAt L X g Q a
+moved_good : (L : ℕ) (X : Type 0) (f g : List Token → Reads X) (P Q : X → List Marked → Type 0) (a : List Token) → g a ≡ f a → ((x : X) (ms : List Marked) → P x ms → Q x ms) → GoodAt L X f P a
+    → GoodAt L X g Q a
 moved_good L X f g P Q a e c u = record {
   ok = λ x r h. let z = u.ok x r (sym e ∙ h) in record { used = z.used; split = z.split; low = z.low; spells = c x z.used z.spells };
-  err = λ d r h. let z = u.err d r (sym e ∙ h) in record { used = z.used; split = z.split; low = z.low; closing = z.closing; why = z.why; value = z.value; spells = c z.value (z.used ++ z.closing) z.spells };
+  err = λ d r h. let z = u.err d r (sym e ∙ h) in record {
+    used = z.used;
+    split = z.split;
+    low = z.low;
+    closing = z.closing;
+    why = z.why;
+    value = z.value;
+    spells = c z.value (z.used ++ z.closing) z.spells;
+  };
 }
 
 module _ (L depth room : ℕ) (le : depth ≤ L) (sl : Law L Stmt (stmt_named (suc depth) room) NoElse) where
@@ -79,9 +92,11 @@ module _ (L depth room : ℕ) (le : depth ≤ L) (sl : Law L Stmt (stmt_named (s
   other_case y a true q e =
       moved_good L (Option Stmt) (bind (sign_part depth (word w.Else)) (λ _. made_of (stmt_named (suc depth) room) (λ z. Some z))).read (other_at (stmt_at room))
       (bind (sign_part depth (word w.Else)) (λ _. made_of (stmt_named (suc depth) room) (λ z. Some z))).spells (OtherSpells depth y) a (rw q refl) (is_else depth room y (e refl)) (some_law.good a)
-  other_case y a false q e = moved_good L (Option Stmt) (λ a. Ok (None, a)) (other_at (stmt_at room)) (ret {X = Option Stmt} None).spells (OtherSpells depth y) a (rw q refl) (is_none depth y) ((law_ret {L = L} None OtherEnds).good a)
+  other_case y a false q e = moved_good L (Option Stmt) (λ a. Ok (None, a)) (other_at (stmt_at room)) (ret {X = Option Stmt} None).spells (OtherSpells depth y) a (rw q refl) (is_none depth y)
+      ((law_ret {L = L} None OtherEnds).good a)
 
-  other_reads : (y : Stmt) (x : Option Stmt) (ms : List Marked) → OtherSpells depth y x ms → (rest : List Token) → OtherEnds x rest → other_at (stmt_at room) (tokens ms ++ rest) ≡ verdict x rest (cut L ms rest)
+  other_reads : (y : Stmt) (x : Option Stmt) (ms : List Marked) → OtherSpells depth y x ms → (rest : List Token) → OtherEnds x rest
+      → other_at (stmt_at room) (tokens ms ++ rest) ≡ verdict x rest (cut L ms rest)
   other_reads y x ms g rest h = other_same depth room (tokens ms ++ rest) ∙ else_law.reads x ms (other_is depth room y x ms g) rest h
 
   other_local : Local (Option Stmt) (other_at (stmt_at room))
@@ -107,7 +122,8 @@ abbrev pub whole_if : ℕ → ℕ → ℕ → Expr → Stmt → Part Stmt
 whole_if depth room at x y = made_of (other_named depth room y) (λ z. s.If at x y z)
 
 abbrev pub if_part : ℕ → ℕ → Part Stmt
-if_part depth room = bind (sign_part depth (word w.If)) (λ at. bind (sign_part depth (sign m.OpenParen)) (λ _. bind (expr_named (suc depth) room) (λ x. bind (sign_part (suc depth) (sign m.CloseParen)) (λ _. bind (stmt_named (suc depth) room) (λ y. whole_if depth room at x y)))))
+if_part depth room = bind (sign_part depth (word w.If)) (λ at. bind (sign_part depth (sign m.OpenParen))
+    (λ _. bind (expr_named (suc depth) room) (λ x. bind (sign_part (suc depth) (sign m.CloseParen)) (λ _. bind (stmt_named (suc depth) room) (λ y. whole_if depth room at x y)))))
 
 -- a statement that was read takes the `else` that comes next
 abbrev pub Greedy : Stmt → List Token → Type 0
@@ -125,13 +141,15 @@ if_follows : (depth room at : ℕ) (x : Expr) (y : Stmt) (z : Stmt) (ms : List M
 unfolding made_of
 if_follows depth room at x y _ _ rest (made z ms g) h = body_ends depth at x y z ms rest g h
 
-is_other : (depth : ℕ) (t l r : Token) (x : Expr) (y : Stmt) (a c : List Marked) → IsWord w.If t → IsMark m.OpenParen l → ExprSpells (suc depth) 1 x a → IsMark m.CloseParen r → StmtSpells (suc depth) y c → (z : Option Stmt) (ms : List Marked) → OtherSpells depth y z ms
+is_other : (depth : ℕ) (t l r : Token) (x : Expr) (y : Stmt) (a c : List Marked) → IsWord w.If t → IsMark m.OpenParen l → ExprSpells (suc depth) 1 x a → IsMark m.CloseParen r
+    → StmtSpells (suc depth) y c → (z : Option Stmt) (ms : List Marked) → OtherSpells depth y z ms
     → StmtSpells depth (s.If t.span.at x y z) (mark depth t ∷ mark depth l ∷ (a ++ mark (suc depth) r ∷ (c ++ ms)))
 is_other depth t l r x y a c q i g j h _ _ no_other =
     subst (λ (c : List Marked). StmtSpells depth (s.If t.span.at x y None) (mark depth t ∷ mark depth l ∷ (a ++ mark (suc depth) r ∷ c))) (sym (append-nil c)) (if_alone depth t l r x y a c q i g j h)
 is_other depth t l r x y a c q i g j h _ _ (some_other o z ms e v f) = if_else depth t l r o x y z a c ms q i g j h e v f
 
-if_end : (depth room : ℕ) (t l r : Token) (x : Expr) (y : Stmt) (a c : List Marked) → IsWord w.If t → IsMark m.OpenParen l → ExprSpells (suc depth) 1 x a → IsMark m.CloseParen r → StmtSpells (suc depth) y c → (z : Stmt) (ms : List Marked) → (whole_if depth room t.span.at x y).spells z ms
+if_end : (depth room : ℕ) (t l r : Token) (x : Expr) (y : Stmt) (a c : List Marked) → IsWord w.If t → IsMark m.OpenParen l → ExprSpells (suc depth) 1 x a → IsMark m.CloseParen r
+    → StmtSpells (suc depth) y c → (z : Stmt) (ms : List Marked) → (whole_if depth room t.span.at x y).spells z ms
     → StmtSpells depth z (mark depth t ∷ mark depth l ∷ (a ++ mark (suc depth) r ∷ (c ++ ms)))
 unfolding made_of
 if_end depth room t l r x y a c q i g j h _ _ (made z ms o) = is_other depth t l r x y a c q i g j h z ms o
@@ -140,16 +158,19 @@ pub is_if : (depth room : ℕ) (x : Stmt) (ms : List Marked) → (if_part depth 
 unfolding bind sign_part
 is_if depth room _ _ (seq _ _ _ _ (signed t q) (seq _ _ _ _ (signed l i) (seq x _ a _ g (seq _ _ _ _ (signed r j) (seq y z c ms h o))))) = if_end depth room t l r x y a c q i g j h z ms o
 
-pub if_is : (depth room : ℕ) (t l r : Token) (x : Expr) (y : Stmt) (a c : List Marked) (z : Option Stmt) (ms : List Marked) → IsWord w.If t → IsMark m.OpenParen l → ExprSpells (suc depth) 1 x a → IsMark m.CloseParen r → StmtSpells (suc depth) y c → OtherSpells depth y z ms
+pub if_is : (depth room : ℕ) (t l r : Token) (x : Expr) (y : Stmt) (a c : List Marked) (z : Option Stmt) (ms : List Marked) → IsWord w.If t → IsMark m.OpenParen l → ExprSpells (suc depth) 1 x a
+    → IsMark m.CloseParen r → StmtSpells (suc depth) y c → OtherSpells depth y z ms
     → (if_part depth room).spells (s.If t.span.at x y z) (mark depth t ∷ mark depth l ∷ (a ++ mark (suc depth) r ∷ (c ++ ms)))
 unfolding bind made_of sign_part
 if_is depth room t l r x y a c z ms q i g j h o = seq t.span.at _ _ _ (signed t q) (seq l.span.at _ _ _ (signed l i) (seq x _ a _ g (seq r.span.at _ _ _ (signed r j) (seq y _ c _ h (made z ms o)))))
 
-module _ (L depth room : ℕ) (now : depth + suc room ≡ suc L) (sl : Law L Stmt (stmt_named (suc depth) room) NoElse) (greedy : (a : List Token) (x : Stmt) (r : List Token) → stmt_at room a ≡ Ok (x, r) → Greedy x r) where
+module _ (L depth room : ℕ) (now : depth + suc room ≡ suc L) (sl : Law L Stmt (stmt_named (suc depth) room) NoElse)
+    (greedy : (a : List Token) (x : Stmt) (r : List Token) → stmt_at room a ≡ Ok (x, r) → Greedy x r) where
   body_law : (at : ℕ) (x : Expr) → Law L Stmt (bind (stmt_named (suc depth) room) (λ y. whole_if depth room at x y)) NoElse
   unfolding made_of
   body_law at x = law_behind (λ y. whole_if depth room at x y) sl
-      (λ y a r h. made_good L (Option Stmt) Stmt (other_at (stmt_at room)) (OtherSpells depth y) (λ z. s.If at x y z) r (other_case L depth room (omega (arith, now)) sl y r (starts_with (word w.Else) r) refl (λ q. greedy a y r h q)))
+      (λ y a r h. made_good L (Option Stmt) Stmt (other_at (stmt_at room)) (OtherSpells depth y) (λ z. s.If at x y z) r
+      (other_case L depth room (omega (arith, now)) sl y r (starts_with (word w.Else) r) refl (λ q. greedy a y r h q)))
       (λ y z ms g rest h. made_reads L (Option Stmt) Stmt (other_at (stmt_at room)) (OtherSpells depth y) (λ z. s.If at x y z) z ms g rest NoElse h
       (λ o f n. other_reads L depth room (omega (arith, now)) sl y o ms f rest (other_ends at x y o rest n)))
       (λ y. local_bind (Option Stmt) Stmt (other_at (stmt_at room)) (λ z a. Ok (s.If at x y z, a)) (other_local L depth room (omega (arith, now)) sl) (λ a z e. local_return Stmt (s.If at x y z.0)))
@@ -157,5 +178,6 @@ module _ (L depth room : ℕ) (now : depth + suc room ≡ suc L) (sl : Law L Stm
 
   pub if_law : Law L Stmt (if_part depth room) NoElse
   if_law = law_then (law_sign L depth (omega (arith, now)) (word w.If)) (λ at. law_then (law_sign L depth (omega (arith, now)) (sign m.OpenParen))
-      (λ _. law_expr_bind L (suc depth) room (omega (arith, now)) (whole_law L (suc depth) room (omega (arith, now))) (suc depth) (sign m.CloseParen) refl (λ x _. bind (stmt_named (suc depth) room) (λ y. whole_if depth room at x y))
+      (λ _. law_expr_bind L (suc depth) room (omega (arith, now)) (whole_law L (suc depth) room (omega (arith, now))) (suc depth) (sign m.CloseParen) refl
+      (λ x _. bind (stmt_named (suc depth) room) (λ y. whole_if depth room at x y))
       (λ x le. law_then (law_sign L (suc depth) le (sign m.CloseParen)) (λ _. body_law at x))))

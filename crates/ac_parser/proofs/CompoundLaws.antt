@@ -9,16 +9,20 @@ use Rattle.ac_lexer.specs.declared.token.Mark.TheVariants as m
 use Rattle.ac_lexer.specs.declared.token.Kind.TheVariants as k
 use Rattle.ac_lexer.specs.declared.token.Token.{Token}
 use Rattle.ac_parser.specs.declared.statements.ForHead.{ForHead}
-use Rattle.ac_parser.specs.Spelling.{Marked, mark, tokens, IsWord, IsMark, IsName, ExprSpells}
-use Rattle.ac_parser.specs.SpellingOfStatements.{ends_open, InitSpells, TestSpells, NextSpells, DeclSpells, StmtSpells, empty, while, for, do_plain, do_labelled, async, BlockSpells, braces, EntriesSpell, no_entry, decl_entry, stmt_entry}
-use Rattle.ac_parser.specs.Reads.{Sign, word, sign, same_mark, same_word, kind_of, is_kind, starts_with, has_other}
-use Rattle.ac_parser.specs.ReadsStatements.{opening_kind, is_opening, begins_stmt, begins_head, whole_head_at, head_of, entries_at, block_at, stmt_at}
-use Rattle.ac_parser.proofs.Parts.{Filled, Part, Law, Any, First, seq, made, first, second, law_same, law_before, law_bind, law_then, law_made, law_either, bind, made_of, either}
-use Rattle.ac_parser.proofs.Rows.{Many, none, some, many, law_many}
-use Rattle.ac_parser.proofs.Letters.{filler, signed, sign_part, law_sign, starts_by, other_by, is_kind_of}
-use Rattle.ac_parser.proofs.ChainLaws.{expr_named}
-use Rattle.ac_parser.proofs.Openings.{by_last, last_is, started, starts_not, begins_bound, begins_made, law_expr_bind, within_had}
-use Rattle.ac_parser.proofs.UnaryLaws.{whole_law}
+use Rattle.reading_laws.specs.Marks.{Marked, mark, tokens, IsWord, IsMark, IsName}
+use Rattle.ac_expressions.specs.Spelling.{ExprSpells}
+use Rattle.ac_parser.specs.SpellingOfStatements.{ends_open, InitSpells, TestSpells, NextSpells, DeclSpells, StmtSpells, empty, while, for, do_plain, do_labelled, async, BlockSpells, braces}
+use Rattle.ac_parser.specs.SpellingOfStatements.{EntriesSpell, no_entry, decl_entry, stmt_entry}
+use Rattle.reading_laws.specs.Letters.{Sign, word, sign, same_mark, same_word, is_kind, starts_with, has_other}
+use Rattle.reading_laws.specs.inner.Tokens.{kind_of}
+use Rattle.ac_parser.specs.inner.ReadsStatements.{opening_kind, is_opening, begins_stmt, begins_head, whole_head_at, head_of, entries_at, block_at, stmt_at}
+use Rattle.reading_laws.proofs.Parts.{Filled, Part, Law, Any, First, seq, made, first, second, law_same, law_before, law_bind, law_then, law_made, law_either, bind, made_of, either}
+use Rattle.reading_laws.proofs.Rows.{Many, none, some, many, law_many}
+use Rattle.reading_laws.proofs.Letters.{filler, signed, sign_part, law_sign, starts_by, other_by, is_kind_of}
+use Rattle.ac_expressions.proofs.ChainLaws.{expr_named}
+use Rattle.reading_laws.proofs.Openings.{by_last, last_is, started, starts_not, begins_bound, begins_made, within_had}
+use Rattle.ac_expressions.proofs.Openings.{law_expr_bind}
+use Rattle.ac_expressions.proofs.UnaryLaws.{whole_law}
 use Rattle.ac_parser.proofs.DeclLaws.{decl_named, decl_law, decl_first, a_semicolon}
 use Rattle.ac_parser.proofs.ForLaws.{HeadSpells, heads, head_named, head_law}
 use Rattle.ac_parser.proofs.StatementHeads.{while_ends, for_ends, async_ends, stmt_first, stmt_begins_not}
@@ -70,7 +74,8 @@ entry_one depth room _ _ (first x ms g) = some_marks depth (starts_with (word w.
 entry_one depth room _ _ (second x ms g) = some_marks depth begins_stmt ms (stmt_first depth x ms g)
 
 -- neither begins with a brace that closes, nor with `else`
-entry_not : (depth room : ℕ) (v : Sign) → is_kind v (k.Word w.Int) ≡ false → is_opening (opening_kind (kind_of v)) ≡ false → (x : Stmt) (ms : List Marked) (rest : List Token) → (entry_part depth room).spells x ms → starts_with v (tokens ms ++ rest) ≡ false
+entry_not : (depth room : ℕ) (v : Sign) → is_kind v (k.Word w.Int) ≡ false → is_opening (opening_kind (kind_of v)) ≡ false → (x : Stmt) (ms : List Marked) (rest : List Token)
+    → (entry_part depth room).spells x ms → starts_with v (tokens ms ++ rest) ≡ false
 unfolding either
 entry_not depth room v h i _ _ rest (first x ms g) = starts_not v (word w.Int) h (tokens ms ++ rest) (decl_begins depth x ms rest g)
 entry_not depth room v h i _ _ rest (second x ms g) = stmt_begins_not depth v i x ms rest g
@@ -87,7 +92,11 @@ abbrev pub block_named : ℕ → ℕ → Part (ℕ × List Stmt)
 block_named depth room = record {
   read = block_at (stmt_at room) room;
   spells = λ x ms. BlockSpells depth x.0 x.1 ms;
-  filled = record { value = (0, []); marks = mark depth (filler (k.Mark m.OpenBrace)) ∷ ([] ++ mark depth (filler (k.Mark m.CloseBrace)) ∷ []); spells = braces depth (filler (k.Mark m.OpenBrace)) (filler (k.Mark m.CloseBrace)) [] [] refl (no_entry (suc depth)) refl };
+  filled = record {
+    value = (0, []);
+    marks = mark depth (filler (k.Mark m.OpenBrace)) ∷ ([] ++ mark depth (filler (k.Mark m.CloseBrace)) ∷ []);
+    spells = braces depth (filler (k.Mark m.OpenBrace)) (filler (k.Mark m.CloseBrace)) [] [] refl (no_entry (suc depth)) refl;
+  };
 }
 
 abbrev pub braces_part : ℕ → ℕ → Part (ℕ × List Stmt)
@@ -114,7 +123,8 @@ module _ (L depth room : ℕ) (now : depth + suc room ≡ suc L) (sl : Law L Stm
 
   entries_law : Law L (List Stmt) (entries_named (suc depth) room) (λ xs rest. starts_with (sign m.CloseBrace) rest ≡ true)
   unfolding same_word same_mark many
-  entries_law = law_same (many (has_other (sign m.CloseBrace)) (entry_part (suc depth) room)) (entries_named (suc depth) room) (entries_same (suc depth) room) (entries_are (suc depth) room) (are_entries (suc depth) room)
+  entries_law = law_same (many (has_other (sign m.CloseBrace)) (entry_part (suc depth) room)) (entries_named (suc depth) room) (entries_same (suc depth) room) (entries_are (suc depth) room)
+      (are_entries (suc depth) room)
       (law_many (has_other (sign m.CloseBrace)) (λ rest. starts_with (sign m.CloseBrace) rest ≡ true) (other_by (sign m.CloseBrace)) refl entry_law (entry_one (suc depth) room)
       (λ x ms rest g. other_here ms rest (entry_one (suc depth) room x ms g) (entry_not (suc depth) room (sign m.CloseBrace) refl refl x ms rest g))
       other_when
@@ -133,7 +143,8 @@ abbrev pub block_stmt_part : ℕ → ℕ → Part Stmt
 block_stmt_part depth room = made_of (block_named depth room) (λ x. s.Block x.0 x.1)
 
 abbrev pub do_part : ℕ → ℕ → (ℕ → ℕ) → Option (List ℕ) → Part Stmt
-do_part depth room place label = bind (sign_part depth (word w.Do)) (λ at. bind (block_named depth room) (λ x. bind (sign_part depth (word w.Finish)) (λ _. made_of (sign_part depth (sign m.Semicolon)) (λ _. s.Do (place at) label x.1))))
+do_part depth room place label = bind (sign_part depth (word w.Do)) (λ at. bind (block_named depth room)
+    (λ x. bind (sign_part depth (word w.Finish)) (λ _. made_of (sign_part depth (sign m.Semicolon)) (λ _. s.Do (place at) label x.1))))
 
 abbrev pub labelled_part : ℕ → ℕ → ℕ → List ℕ → Part Stmt
 labelled_part depth room at name = bind (sign_part depth (sign m.Colon)) (λ _. do_part depth room (λ _. at) (Some name))
@@ -143,17 +154,22 @@ unfolding bind sign_part
 is_do depth room _ _ (seq _ _ _ _ (signed t q) (seq x _ a _ g (seq _ y _ c (signed f r) last))) =
     by_last (λ y c. StmtSpells depth y (mark depth t ∷ (a ++ mark depth f ∷ c))) depth (sign m.Semicolon) (s.Do t.span.at None x.1) y c last (λ u j. do_plain depth x.0 t f u x.1 a q g r j)
 
-pub is_labelled : (depth room : ℕ) (n : Token) (name : List ℕ) → IsName name n → (x : Stmt) (ms : List Marked) → (labelled_part depth room n.span.at name).spells x ms → StmtSpells depth x (mark depth n ∷ ms)
+pub is_labelled : (depth room : ℕ) (n : Token) (name : List ℕ) → IsName name n → (x : Stmt) (ms : List Marked) → (labelled_part depth room n.span.at name).spells x ms
+    → StmtSpells depth x (mark depth n ∷ ms)
 unfolding bind sign_part
 is_labelled depth room n name i _ _ (seq _ _ _ _ (signed o v) (seq _ _ _ _ (signed t q) (seq x _ a _ g (seq _ y _ c (signed f r) last)))) =
-    by_last (λ y c. StmtSpells depth y (mark depth n ∷ mark depth o ∷ mark depth t ∷ (a ++ mark depth f ∷ c))) depth (sign m.Semicolon) (s.Do n.span.at (Some name) x.1) y c last (λ u j. do_labelled depth x.0 n o t f u name x.1 a i v q g r j)
+    by_last (λ y c. StmtSpells depth y (mark depth n ∷ mark depth o ∷ mark depth t ∷ (a ++ mark depth f ∷ c))) depth (sign m.Semicolon) (s.Do n.span.at (Some name) x.1) y c last
+    (λ u j. do_labelled depth x.0 n o t f u name x.1 a i v q g r j)
 
-pub do_is : (depth room inner : ℕ) (place : ℕ → ℕ) (label : Option (List ℕ)) (t f u : Token) (xs : List Stmt) (a : List Marked) → IsWord w.Do t → BlockSpells depth inner xs a → IsWord w.Finish f → IsMark m.Semicolon u
+pub do_is : (depth room inner : ℕ) (place : ℕ → ℕ) (label : Option (List ℕ)) (t f u : Token) (xs : List Stmt) (a : List Marked) → IsWord w.Do t → BlockSpells depth inner xs a → IsWord w.Finish f
+    → IsMark m.Semicolon u
     → (do_part depth room place label).spells (s.Do (place t.span.at) label xs) (mark depth t ∷ (a ++ mark depth f ∷ mark depth u ∷ []))
 unfolding bind sign_part
-do_is depth room inner place label t f u xs a q g r j = seq t.span.at _ _ _ (signed t q) (seq (inner, xs) _ a _ g (seq f.span.at _ _ _ (signed f r) (last_is depth (sign m.Semicolon) (s.Do (place t.span.at) label xs) u j)))
+do_is depth room inner place label t f u xs a q g r j = seq t.span.at _ _ _ (signed t q)
+    (seq (inner, xs) _ a _ g (seq f.span.at _ _ _ (signed f r) (last_is depth (sign m.Semicolon) (s.Do (place t.span.at) label xs) u j)))
 
-pub labelled_is : (depth room inner : ℕ) (n o t f u : Token) (name : List ℕ) (xs : List Stmt) (a : List Marked) → IsMark m.Colon o → IsWord w.Do t → BlockSpells depth inner xs a → IsWord w.Finish f → IsMark m.Semicolon u
+pub labelled_is : (depth room inner : ℕ) (n o t f u : Token) (name : List ℕ) (xs : List Stmt) (a : List Marked) → IsMark m.Colon o → IsWord w.Do t → BlockSpells depth inner xs a → IsWord w.Finish f
+    → IsMark m.Semicolon u
     → (labelled_part depth room n.span.at name).spells (s.Do n.span.at (Some name) xs) (mark depth o ∷ mark depth t ∷ (a ++ mark depth f ∷ mark depth u ∷ []))
 unfolding bind sign_part
 labelled_is depth room inner n o t f u name xs a v q g r j = seq o.span.at _ _ _ (signed o v) (do_is depth room inner (λ _. n.span.at) (Some name) t f u xs a q g r j)
@@ -161,10 +177,12 @@ labelled_is depth room inner n o t f u name xs a v q g r j = seq o.span.at _ _ _
 -- ---- `while`, `for` and `async`
 
 abbrev pub while_part : ℕ → ℕ → Part Stmt
-while_part depth room = bind (sign_part depth (word w.While)) (λ at. bind (sign_part depth (sign m.OpenParen)) (λ _. bind (expr_named (suc depth) room) (λ x. bind (sign_part (suc depth) (sign m.CloseParen)) (λ _. made_of (stmt_named (suc depth) room) (λ y. s.While at x y)))))
+while_part depth room = bind (sign_part depth (word w.While)) (λ at. bind (sign_part depth (sign m.OpenParen))
+    (λ _. bind (expr_named (suc depth) room) (λ x. bind (sign_part (suc depth) (sign m.CloseParen)) (λ _. made_of (stmt_named (suc depth) room) (λ y. s.While at x y)))))
 
 abbrev pub for_part : ℕ → ℕ → Part Stmt
-for_part depth room = bind (sign_part depth (word w.For)) (λ at. bind (sign_part depth (sign m.OpenParen)) (λ _. bind (head_named (suc depth) room) (λ h. bind (sign_part (suc depth) (sign m.CloseParen)) (λ _. made_of (stmt_named (suc depth) room) (λ y. s.For at h.init h.test h.next y)))))
+for_part depth room = bind (sign_part depth (word w.For)) (λ at. bind (sign_part depth (sign m.OpenParen))
+    (λ _. bind (head_named (suc depth) room) (λ h. bind (sign_part (suc depth) (sign m.CloseParen)) (λ _. made_of (stmt_named (suc depth) room) (λ y. s.For at h.init h.test h.next y)))))
 
 abbrev pub async_part : ℕ → ℕ → Part Stmt
 async_part depth room = bind (sign_part depth (word w.Async)) (λ at. made_of (stmt_named (suc depth) room) (λ y. s.Async at y))
@@ -173,7 +191,8 @@ pub is_while : (depth room : ℕ) (x : Stmt) (ms : List Marked) → (while_part 
 unfolding bind made_of sign_part
 is_while depth room _ _ (seq _ _ _ _ (signed t q) (seq _ _ _ _ (signed l i) (seq x _ a _ g (seq _ _ _ _ (signed r j) (made y c h))))) = while depth t l r x y a c q i g j h
 
-pub while_is : (depth room : ℕ) (t l r : Token) (x : Expr) (y : Stmt) (a c : List Marked) → IsWord w.While t → IsMark m.OpenParen l → ExprSpells (suc depth) 1 x a → IsMark m.CloseParen r → StmtSpells (suc depth) y c
+pub while_is : (depth room : ℕ) (t l r : Token) (x : Expr) (y : Stmt) (a c : List Marked) → IsWord w.While t → IsMark m.OpenParen l → ExprSpells (suc depth) 1 x a → IsMark m.CloseParen r
+    → StmtSpells (suc depth) y c
     → (while_part depth room).spells (s.While t.span.at x y) (mark depth t ∷ mark depth l ∷ (a ++ mark (suc depth) r ∷ c))
 unfolding bind made_of sign_part
 while_is depth room t l r x y a c q i g j h = seq t.span.at _ _ _ (signed t q) (seq l.span.at _ _ _ (signed l i) (seq x _ a _ g (seq r.span.at _ _ _ (signed r j) (made y c h))))
@@ -187,11 +206,13 @@ unfolding bind made_of sign_part
 async_is depth room t y c q h = seq t.span.at _ _ _ (signed t q) (made y c h)
 
 -- the same marks, grouped to the left
-moved : (depth : ℕ) (is ms ns : List Marked) (u v : Token) (more : List Marked) → (is ++ mark (suc depth) u ∷ (ms ++ mark (suc depth) v ∷ ns)) ++ more ≡ is ++ mark (suc depth) u ∷ (ms ++ mark (suc depth) v ∷ (ns ++ more))
+moved : (depth : ℕ) (is ms ns : List Marked) (u v : Token) (more : List Marked)
+    → (is ++ mark (suc depth) u ∷ (ms ++ mark (suc depth) v ∷ ns)) ++ more ≡ is ++ mark (suc depth) u ∷ (ms ++ mark (suc depth) v ∷ (ns ++ more))
 moved depth is ms ns u v more =
     append_assoc is (mark (suc depth) u ∷ (ms ++ mark (suc depth) v ∷ ns)) more ∙ ap (λ (l : List Marked). is ++ mark (suc depth) u ∷ l) (append_assoc ms (mark (suc depth) v ∷ ns) more)
 
-for_case : (depth : ℕ) (t l : Token) → IsWord w.For t → IsMark m.OpenParen l → (h : ForHead) (a : List Marked) → HeadSpells (suc depth) h a → (r : Token) → IsMark m.CloseParen r → (y : Stmt) (c : List Marked) → StmtSpells (suc depth) y c
+for_case : (depth : ℕ) (t l : Token) → IsWord w.For t → IsMark m.OpenParen l → (h : ForHead) (a : List Marked) → HeadSpells (suc depth) h a → (r : Token) → IsMark m.CloseParen r
+    → (y : Stmt) (c : List Marked) → StmtSpells (suc depth) y c
     → StmtSpells depth (s.For t.span.at h.init h.test h.next y) (mark depth t ∷ mark depth l ∷ (a ++ mark (suc depth) r ∷ c))
 for_case depth t l q i _ _ (heads u v init test next is ms ns f g d z e) r j y c b =
     let one : StmtSpells depth (s.For t.span.at init test next y) (mark depth t ∷ mark depth l ∷ (is ++ mark (suc depth) u ∷ (ms ++ mark (suc depth) v ∷ (ns ++ mark (suc depth) r ∷ c)))) =
@@ -202,12 +223,14 @@ pub is_for : (depth room : ℕ) (x : Stmt) (ms : List Marked) → (for_part dept
 unfolding bind made_of sign_part
 is_for depth room _ _ (seq _ _ _ _ (signed t q) (seq _ _ _ _ (signed l i) (seq h _ a _ g (seq _ _ _ _ (signed r j) (made y c b))))) = for_case depth t l q i h a g r j y c b
 
-for_shape : (depth room : ℕ) (t l : Token) → IsWord w.For t → IsMark m.OpenParen l → (h : ForHead) (a : List Marked) → HeadSpells (suc depth) h a → (r : Token) → IsMark m.CloseParen r → (y : Stmt) (c : List Marked) → StmtSpells (suc depth) y c
+for_shape : (depth room : ℕ) (t l : Token) → IsWord w.For t → IsMark m.OpenParen l → (h : ForHead) (a : List Marked) → HeadSpells (suc depth) h a → (r : Token) → IsMark m.CloseParen r
+    → (y : Stmt) (c : List Marked) → StmtSpells (suc depth) y c
     → (for_part depth room).spells (s.For t.span.at h.init h.test h.next y) (mark depth t ∷ mark depth l ∷ (a ++ mark (suc depth) r ∷ c))
 unfolding bind made_of sign_part
 for_shape depth room t l q i h a g r j y c b = seq t.span.at _ _ _ (signed t q) (seq l.span.at _ _ _ (signed l i) (seq h _ a _ g (seq r.span.at _ _ _ (signed r j) (made y c b))))
 
-pub for_is : (depth room : ℕ) (t l u v r : Token) (init : Option Stmt) (test : Option Expr) (next : Option Stmt) (y : Stmt) (is ms ns os : List Marked) → IsWord w.For t → IsMark m.OpenParen l → InitSpells (suc (suc depth)) init is → IsMark m.Semicolon u → TestSpells (suc depth) test ms
+pub for_is : (depth room : ℕ) (t l u v r : Token) (init : Option Stmt) (test : Option Expr) (next : Option Stmt) (y : Stmt) (is ms ns os : List Marked) → IsWord w.For t → IsMark m.OpenParen l
+    → InitSpells (suc (suc depth)) init is → IsMark m.Semicolon u → TestSpells (suc depth) test ms
     → IsMark m.Semicolon v → NextSpells (suc (suc depth)) next ns → IsMark m.CloseParen r → StmtSpells (suc depth) y os
     → (for_part depth room).spells (s.For t.span.at init test next y) (mark depth t ∷ mark depth l ∷ (is ++ mark (suc depth) u ∷ (ms ++ mark (suc depth) v ∷ (ns ++ mark (suc depth) r ∷ os))))
 for_is depth room t l u v r init test next y is ms ns os q i f g d z e j b =
@@ -217,7 +240,8 @@ for_is depth room t l u v r init test next y is ms ns os q i f g d z e j b =
 module _ (L depth room : ℕ) (now : depth + suc room ≡ suc L) (sl : Law L Stmt (stmt_named (suc depth) room) NoElse) where
   pub do_law : (place : ℕ → ℕ) (label : Option (List ℕ)) → Law L Stmt (do_part depth room place label) Any
   do_law place label = law_then (law_sign L depth (omega (arith, now)) (word w.Do)) (λ at. law_then (block_law L depth room now sl)
-      (λ x. law_then (law_sign L depth (omega (arith, now)) (word w.Finish)) (λ _. law_made (λ _. s.Do (place at) label x.1) Any (law_sign L depth (omega (arith, now)) (sign m.Semicolon)) (λ x rest h. tt))))
+      (λ x. law_then (law_sign L depth (omega (arith, now)) (word w.Finish))
+      (λ _. law_made (λ _. s.Do (place at) label x.1) Any (law_sign L depth (omega (arith, now)) (sign m.Semicolon)) (λ x rest h. tt))))
 
   pub labelled_law : (at : ℕ) (name : List ℕ) → Law L Stmt (labelled_part depth room at name) Any
   labelled_law at name = law_then (law_sign L depth (omega (arith, now)) (sign m.Colon)) (λ _. do_law (λ _. at) (Some name))
@@ -227,14 +251,16 @@ module _ (L depth room : ℕ) (now : depth + suc room ≡ suc L) (sl : Law L Stm
 
   pub while_law : Law L Stmt (while_part depth room) NoElse
   while_law = law_then (law_sign L depth (omega (arith, now)) (word w.While)) (λ at. law_then (law_sign L depth (omega (arith, now)) (sign m.OpenParen))
-      (λ _. law_expr_bind L (suc depth) room (omega (arith, now)) (whole_law L (suc depth) room (omega (arith, now))) (suc depth) (sign m.CloseParen) refl (λ x _. made_of (stmt_named (suc depth) room) (λ y. s.While at x y))
+      (λ _. law_expr_bind L (suc depth) room (omega (arith, now)) (whole_law L (suc depth) room (omega (arith, now))) (suc depth) (sign m.CloseParen) refl
+      (λ x _. made_of (stmt_named (suc depth) room) (λ y. s.While at x y))
       (λ x le. law_then (law_sign L (suc depth) le (sign m.CloseParen)) (λ _. law_made (λ y. s.While at x y) NoElse sl (λ y rest h q. h (while_ends at x y ∙ q))))))
 
   pub for_law : Law L Stmt (for_part depth room) NoElse
   for_law = law_then (law_sign L depth (omega (arith, now)) (word w.For)) (λ at. law_then (law_sign L depth (omega (arith, now)) (sign m.OpenParen))
       (λ _. law_bind (head_law L (suc depth) room (omega (arith, now)))
       (λ h a r e. let lt : 0 < room = within_had begins_head whole_head_at room a (h, r) e in
-      law_then (law_sign L (suc depth) (omega (arith, now, lt)) (sign m.CloseParen)) (λ _. law_made (λ y. s.For at h.init h.test h.next y) NoElse sl (λ y rest n q. n (for_ends at h.init h.test h.next y ∙ q))))
+      law_then (law_sign L (suc depth) (omega (arith, now, lt)) (sign m.CloseParen))
+      (λ _. law_made (λ y. s.For at h.init h.test h.next y) NoElse sl (λ y rest n q. n (for_ends at h.init h.test h.next y ∙ q))))
       (λ h y c rest g n. begins_bound (suc depth) (sign m.CloseParen) (λ _. made_of (stmt_named (suc depth) room) (λ y. s.For at h.init h.test h.next y)) y c rest g)))
 
   pub async_law : Law L Stmt (async_part depth room) NoElse

@@ -9,17 +9,20 @@ use Rattle.ac_lexer.specs.declared.token.Mark.TheVariants as m
 use Rattle.ac_lexer.specs.declared.token.Kind.{Kind}
 use Rattle.ac_lexer.specs.declared.token.Kind.TheVariants as k
 use Rattle.ac_lexer.specs.declared.token.Token.{Token}
-use Rattle.ac_parser.specs.Spelling.{Marked, mark, tokens, IsWord, IsMark, IsName, ExprSpells, variable}
+use Rattle.reading_laws.specs.Marks.{Marked, mark, tokens, IsWord, IsMark, IsName}
+use Rattle.ac_expressions.specs.Spelling.{ExprSpells, variable}
 use Rattle.ac_parser.specs.SpellingOfStatements.{no_value, some_value, DeclSpells, int_decl, array_decl, SimpleSpells, simple}
-use Rattle.ac_parser.specs.Reads.{◌>>=◌, word, sign, same_mark, starts_with, has_name, has_number, name_kind, is_there, name_at, number_at}
-use Rattle.ac_parser.specs.ReadsStatements.{named_simple_at, simple_at, whole_decl_at, decl_at}
-use Rattle.ac_parser.proofs.Parts.{Filled, Part, Law, Any, Opens, First, ret, seq, made, Either_of, first, second, law_same, law_bind, law_then, law_made, law_either, bind, made_of, either}
-use Rattle.ac_parser.proofs.Letters.{filler, signed, sign_part, law_sign, starts_by, is_case, is_kind_of, named, name_part, law_name, name_by, numbered}
-use Rattle.ac_parser.proofs.ExpressionHeads.{Ends}
-use Rattle.ac_parser.proofs.ChainLaws.{fill_up, expr_named}
-use Rattle.ac_parser.proofs.Openings.{by_last, last_is, begins_bound, no_bound, no_made, ends_bound, law_expr_made, within_had, law_within, deep_number, deep_number_law}
-use Rattle.ac_parser.proofs.CallLaws.{named_place, place_part, named_place_law, is_named_place, place_is}
-use Rattle.ac_parser.proofs.UnaryLaws.{whole_law}
+use Rattle.reading_laws.specs.Readers.{◌>>=◌, is_there}
+use Rattle.reading_laws.specs.Letters.{word, sign, same_mark, starts_with, has_name, has_number, name_kind, name_at, number_at}
+use Rattle.ac_parser.specs.inner.ReadsStatements.{named_simple_at, simple_at, whole_decl_at, decl_at}
+use Rattle.reading_laws.proofs.Parts.{Filled, Part, Law, Any, Opens, First, ret, seq, made, Either_of, first, second, law_same, law_bind, law_then, law_made, law_either, bind, made_of, either}
+use Rattle.reading_laws.proofs.Letters.{filler, signed, sign_part, law_sign, starts_by, is_case, is_kind_of, named, name_part, law_name, name_by, numbered}
+use Rattle.ac_expressions.proofs.ExpressionHeads.{Ends}
+use Rattle.ac_expressions.proofs.ChainLaws.{fill_up, expr_named}
+use Rattle.reading_laws.proofs.Openings.{by_last, last_is, begins_bound, no_bound, no_made, within_had, law_within, deep_number, deep_number_law}
+use Rattle.ac_expressions.proofs.Openings.{ends_bound, law_expr_made}
+use Rattle.ac_expressions.proofs.CallLaws.{named_place, place_part, named_place_law, is_named_place, place_is}
+use Rattle.ac_expressions.proofs.UnaryLaws.{whole_law}
 
 abbrev pub Semi : {X : Type 0} → X → List Token → Type 0
 Semi x rest = starts_with (sign m.Semicolon) rest ≡ true
@@ -71,7 +74,8 @@ fill_simple depth =
 abbrev pub simple_named : ℕ → ℕ → Part Stmt
 simple_named depth room = record { read = simple_at room; spells = SimpleSpells depth; filled = fill_simple depth }
 
-pub is_simple_rest : (depth room : ℕ) (t : Token) (name : List ℕ) → t.kind ≡ k.Name name → (x : Stmt) (ms : List Marked) → (simple_rest depth room t.span.at name).spells x ms → SimpleSpells depth x (mark depth t ∷ ms)
+pub is_simple_rest : (depth room : ℕ) (t : Token) (name : List ℕ) → t.kind ≡ k.Name name → (x : Stmt) (ms : List Marked) → (simple_rest depth room t.span.at name).spells x ms
+    → SimpleSpells depth x (mark depth t ∷ ms)
 unfolding bind made_of sign_part
 is_simple_rest depth room t name q _ _ (seq x _ a _ g (seq _ _ _ _ (signed c i) (made y d h))) = simple depth t c x y a d (is_named_place depth room t name q x a g) i h
 
@@ -107,7 +111,8 @@ pub record SimpleSplit (depth room : ℕ) (x : Stmt) (ms : List Marked) : Type 0
   pub is : ms ≡ mark depth token ∷ rest
   pub spells : (simple_rest depth room token.span.at name).spells x rest
 
-simple_split : (depth room : ℕ) (head c : Token) (x y : Expr) (ms ns : List Marked) → PlaceSplit depth room x (mark depth head ∷ ms) → IsMark m.Assign c → ExprSpells depth 1 y ns → SimpleSplit depth room (s.Assign head.span.at x y) (mark depth head ∷ (ms ++ mark depth c ∷ ns))
+simple_split : (depth room : ℕ) (head c : Token) (x y : Expr) (ms ns : List Marked) → PlaceSplit depth room x (mark depth head ∷ ms) → IsMark m.Assign c → ExprSpells depth 1 y ns
+    → SimpleSplit depth room (s.Assign head.span.at x y) (mark depth head ∷ (ms ++ mark depth c ∷ ns))
 unfolding bind made_of sign_part
 simple_split depth room head c x y ms ns p i h =
     let at : p.token.span.at ≡ head.span.at = ap (λ (m : Marked). m.token.span.at) (sym (same_first p.is)) in
@@ -123,7 +128,8 @@ simple_split depth room head c x y ms ns p i h =
     }
 
 pub split_simple : (depth room : ℕ) (x : Stmt) (ms : List Marked) → SimpleSpells depth x ms → SimpleSplit depth room x ms
-split_simple depth room _ _ (simple _ head c x y ms ns g i h) = simple_split depth room head c x y ms ns (split_place depth room x (mark depth head ∷ ms) (place_is depth room x (mark depth head ∷ ms) g)) i h
+split_simple depth room _ _ (simple _ head c x y ms ns g i h) = simple_split depth room head c x y ms ns
+    (split_place depth room x (mark depth head ∷ ms) (place_is depth room x (mark depth head ∷ ms) g)) i h
 
 simple_is : (depth room : ℕ) (x : Stmt) (ms : List Marked) → SimpleSpells depth x ms → (simple_part depth room).spells x ms
 unfolding bind name_part
@@ -160,8 +166,13 @@ simple_rest_law L depth room now at name =
 
 pub simple_law : (L depth room : ℕ) → depth + room ≡ suc L → Law L Stmt (simple_named depth room) (Ends 1)
 simple_law L depth room now =
-    law_within L depth room now has_name refl name_by (λ room ts. name_at ts >>= λ name. named_simple_at room name.0.0 name.0.1 name.1) (SimpleSpells depth) (fill_simple depth) (simple_opens depth) (simple_first depth)
-    (λ inner q le. law_same (simple_part depth inner) (record { read = λ ts. name_at ts >>= λ name. named_simple_at inner name.0.0 name.0.1 name.1; spells = SimpleSpells depth; filled = fill_simple depth }) (simple_same depth inner) (is_simple depth inner) (simple_is depth inner)
+    law_within L depth room now has_name refl name_by (λ room ts. name_at ts >>= λ name. named_simple_at room name.0.0 name.0.1 name.1) (SimpleSpells depth) (fill_simple depth) (simple_opens depth)
+    (simple_first depth)
+    (λ inner q le. law_same (simple_part depth inner) (record {
+      read = λ ts. name_at ts >>= λ name. named_simple_at inner name.0.0 name.0.1 name.1;
+      spells = SimpleSpells depth;
+      filled = fill_simple depth;
+    }) (simple_same depth inner) (is_simple depth inner) (simple_is depth inner)
     (law_then (law_name L depth le) (λ n. simple_rest_law L depth inner (omega (arith, now, q)) n.0 n.1)))
 
 -- ---- declarations
@@ -170,7 +181,8 @@ abbrev pub value_part : ℕ → ℕ → ℕ → List ℕ → Part Stmt
 value_part depth room at name = bind (sign_part depth (sign m.Assign)) (λ _. bind (expr_named depth (suc room)) (λ x. made_of (sign_part depth (sign m.Semicolon)) (λ _. s.Int at name (Some x))))
 
 abbrev pub size_part : ℕ → ℕ → ℕ → List ℕ → Part Stmt
-size_part depth room at name = bind (sign_part depth (sign m.OpenBracket)) (λ _. bind (deep_number (suc depth) room) (λ n. bind (sign_part (suc depth) (sign m.CloseBracket)) (λ _. made_of (sign_part depth (sign m.Semicolon)) (λ _. s.Array at name n.1))))
+size_part depth room at name = bind (sign_part depth (sign m.OpenBracket))
+    (λ _. bind (deep_number (suc depth) room) (λ n. bind (sign_part (suc depth) (sign m.CloseBracket)) (λ _. made_of (sign_part depth (sign m.Semicolon)) (λ _. s.Array at name n.1))))
 
 abbrev pub plain_part : ℕ → ℕ → List ℕ → Part Stmt
 plain_part depth at name = made_of (sign_part depth (sign m.Semicolon)) (λ _. s.Int at name None)
@@ -182,7 +194,11 @@ abbrev pub decl_part : ℕ → ℕ → Part Stmt
 decl_part depth room = bind (sign_part depth (word w.Int)) (λ at. bind (name_part depth) (λ n. either (starts_with (sign m.Assign)) (value_part depth room at n.1) (size_or_plain depth room at n.1)))
 
 pub fill_decl : (depth : ℕ) → Filled Stmt (DeclSpells depth)
-fill_decl depth = record { value = s.Int 0 (120 ∷ []) None; marks = mark depth an_int ∷ mark depth an_x ∷ ([] ++ mark depth a_semicolon ∷ []); spells = int_decl depth an_int an_x a_semicolon (120 ∷ []) None [] refl refl (no_value depth) refl }
+fill_decl depth = record {
+  value = s.Int 0 (120 ∷ []) None;
+  marks = mark depth an_int ∷ mark depth an_x ∷ ([] ++ mark depth a_semicolon ∷ []);
+  spells = int_decl depth an_int an_x a_semicolon (120 ∷ []) None [] refl refl (no_value depth) refl;
+}
 
 abbrev pub decl_named : ℕ → ℕ → Part Stmt
 decl_named depth room = record { read = decl_at room; spells = DeclSpells depth; filled = fill_decl depth }
@@ -191,31 +207,37 @@ decl_same : (depth room : ℕ) (a : List Token) → whole_decl_at room a ≡ (de
 unfolding bind made_of either sign_part name_part
 decl_same depth room a = refl
 
-is_value : (depth room : ℕ) (t n : Token) (name : List ℕ) → IsWord w.Int t → IsName name n → (x : Stmt) (ms : List Marked) → (value_part depth room t.span.at name).spells x ms → DeclSpells depth x (mark depth t ∷ mark depth n ∷ ms)
+is_value : (depth room : ℕ) (t n : Token) (name : List ℕ) → IsWord w.Int t → IsName name n → (x : Stmt) (ms : List Marked) → (value_part depth room t.span.at name).spells x ms
+    → DeclSpells depth x (mark depth t ∷ mark depth n ∷ ms)
 unfolding bind sign_part
 is_value depth room t n name q i _ _ (seq _ _ _ _ (signed c j) (seq x y a d g last)) =
     by_last (λ y d. DeclSpells depth y (mark depth t ∷ mark depth n ∷ mark depth c ∷ (a ++ d))) depth (sign m.Semicolon) (s.Int t.span.at name (Some x)) y d last
     (λ r z. int_decl depth t n r name (Some x) (mark depth c ∷ a) q i (some_value depth c x a j g) z)
 
-is_size : (depth room : ℕ) (t n : Token) (name : List ℕ) → IsWord w.Int t → IsName name n → (x : Stmt) (ms : List Marked) → (size_part depth room t.span.at name).spells x ms → DeclSpells depth x (mark depth t ∷ mark depth n ∷ ms)
+is_size : (depth room : ℕ) (t n : Token) (name : List ℕ) → IsWord w.Int t → IsName name n → (x : Stmt) (ms : List Marked) → (size_part depth room t.span.at name).spells x ms
+    → DeclSpells depth x (mark depth t ∷ mark depth n ∷ ms)
 unfolding bind sign_part
 is_size depth room t n name q i _ _ (seq _ _ _ _ (signed l j) (seq _ _ _ _ (numbered u size v) (seq _ y _ d (signed r z) last))) =
     by_last (λ y d. DeclSpells depth y (mark depth t ∷ mark depth n ∷ mark depth l ∷ mark (suc depth) u ∷ mark (suc depth) r ∷ d)) depth (sign m.Semicolon) (s.Array t.span.at name size) y d last
     (λ f g. array_decl depth t n l u r f name size q i j v z g)
 
-is_plain : (depth : ℕ) (t n : Token) (name : List ℕ) → IsWord w.Int t → IsName name n → (x : Stmt) (ms : List Marked) → (plain_part depth t.span.at name).spells x ms → DeclSpells depth x (mark depth t ∷ mark depth n ∷ ms)
+is_plain : (depth : ℕ) (t n : Token) (name : List ℕ) → IsWord w.Int t → IsName name n → (x : Stmt) (ms : List Marked) → (plain_part depth t.span.at name).spells x ms
+    → DeclSpells depth x (mark depth t ∷ mark depth n ∷ ms)
 is_plain depth t n name q i x ms last =
-    by_last (λ y d. DeclSpells depth y (mark depth t ∷ mark depth n ∷ d)) depth (sign m.Semicolon) (s.Int t.span.at name None) x ms last (λ r z. int_decl depth t n r name None [] q i (no_value depth) z)
+    by_last (λ y d. DeclSpells depth y (mark depth t ∷ mark depth n ∷ d)) depth (sign m.Semicolon) (s.Int t.span.at name None) x ms last
+    (λ r z. int_decl depth t n r name None [] q i (no_value depth) z)
 
 is_decl : (depth room : ℕ) (x : Stmt) (ms : List Marked) → (decl_part depth room).spells x ms → DeclSpells depth x ms
 unfolding bind either sign_part name_part
 is_decl depth room _ _ (seq _ _ _ _ (signed t q) (seq _ x _ a (named n name i) g)) = decl_case depth room t n name q i x a g
   where
-    size_case : (depth room : ℕ) (t n : Token) (name : List ℕ) → IsWord w.Int t → IsName name n → (x : Stmt) (a : List Marked) → Either_of Stmt (size_part depth room t.span.at name).spells (plain_part depth t.span.at name).spells x a → DeclSpells depth x (mark depth t ∷ mark depth n ∷ a)
+    size_case : (depth room : ℕ) (t n : Token) (name : List ℕ) → IsWord w.Int t → IsName name n → (x : Stmt) (a : List Marked)
+        → Either_of Stmt (size_part depth room t.span.at name).spells (plain_part depth t.span.at name).spells x a → DeclSpells depth x (mark depth t ∷ mark depth n ∷ a)
     size_case depth room t n name q i _ _ (first x a g) = is_size depth room t n name q i x a g
     size_case depth room t n name q i _ _ (second x a g) = is_plain depth t n name q i x a g
 
-    decl_case : (depth room : ℕ) (t n : Token) (name : List ℕ) → IsWord w.Int t → IsName name n → (x : Stmt) (a : List Marked) → Either_of Stmt (value_part depth room t.span.at name).spells (size_or_plain depth room t.span.at name).spells x a → DeclSpells depth x (mark depth t ∷ mark depth n ∷ a)
+    decl_case : (depth room : ℕ) (t n : Token) (name : List ℕ) → IsWord w.Int t → IsName name n → (x : Stmt) (a : List Marked)
+        → Either_of Stmt (value_part depth room t.span.at name).spells (size_or_plain depth room t.span.at name).spells x a → DeclSpells depth x (mark depth t ∷ mark depth n ∷ a)
     decl_case depth room t n name q i _ _ (first x a g) = is_value depth room t n name q i x a g
     decl_case depth room t n name q i _ _ (second x a g) = size_case depth room t n name q i x a g
 
@@ -224,9 +246,12 @@ unfolding bind either sign_part name_part
 decl_is depth room _ _ (int_decl _ t n r name None _ q i (no_value _) z) =
     seq t.span.at _ _ _ (signed t q) (seq (n.span.at, name) _ _ _ (named n name i) (second _ _ (second _ _ (last_is depth (sign m.Semicolon) (s.Int t.span.at name None) r z))))
 decl_is depth room _ _ (int_decl _ t n r name (Some _) _ q i (some_value _ c x a j g) z) =
-    seq t.span.at _ _ _ (signed t q) (seq (n.span.at, name) _ _ _ (named n name i) (first _ _ (seq c.span.at _ _ _ (signed c j) (seq x _ a _ g (last_is depth (sign m.Semicolon) (s.Int t.span.at name (Some x)) r z)))))
+    seq t.span.at _ _ _ (signed t q) (seq (n.span.at, name) _ _ _ (named n name i)
+    (first _ _ (seq c.span.at _ _ _ (signed c j) (seq x _ a _ g (last_is depth (sign m.Semicolon) (s.Int t.span.at name (Some x)) r z)))))
 decl_is depth room _ _ (array_decl _ t n l u r f name size q i j v z g) =
-    seq t.span.at _ _ _ (signed t q) (seq (n.span.at, name) _ _ _ (named n name i) (second _ _ (first _ _ (seq l.span.at _ _ _ (signed l j) (seq (u.span.at, size) _ _ _ (numbered u size v) (seq r.span.at _ _ _ (signed r z) (last_is depth (sign m.Semicolon) (s.Array t.span.at name size) f g)))))))
+    seq t.span.at _ _ _ (signed t q) (seq (n.span.at, name) _ _ _ (named n name i)
+    (second _ _ (first _ _ (seq l.span.at _ _ _ (signed l j) (seq (u.span.at, size) _ _ _ (numbered u size v)
+    (seq r.span.at _ _ _ (signed r z) (last_is depth (sign m.Semicolon) (s.Array t.span.at name size) f g)))))))
 
 decl_opens : (depth : ℕ) (t : Token) (ts : List Token) → starts_with (word w.Int) (t ∷ ts) ≡ true → Opens Stmt (DeclSpells depth) depth t
 decl_opens depth t ts h =
@@ -239,26 +264,44 @@ decl_opens depth t ts h =
     }
 
 pub decl_first : (depth : ℕ) (x : Stmt) (ms : List Marked) → DeclSpells depth x ms → First depth (starts_with (word w.Int)) ms
-decl_first depth _ _ (int_decl _ t n r name value a q i v z) = record { own = depth; deep = omega arith; token = t; others = mark depth n ∷ (a ++ mark depth r ∷ []); is = refl; begun = λ rest. is_kind_of (word w.Int) t q }
+decl_first depth _ _ (int_decl _ t n r name value a q i v z) = record {
+  own = depth;
+  deep = omega arith;
+  token = t;
+  others = mark depth n ∷ (a ++ mark depth r ∷ []);
+  is = refl;
+  begun = λ rest. is_kind_of (word w.Int) t q;
+}
 decl_first depth _ _ (array_decl _ t n l u r f name size q i j v z g) =
-    record { own = depth; deep = omega arith; token = t; others = mark depth n ∷ mark depth l ∷ mark (suc depth) u ∷ mark (suc depth) r ∷ mark depth f ∷ []; is = refl; begun = λ rest. is_kind_of (word w.Int) t q }
+    record {
+      own = depth;
+      deep = omega arith;
+      token = t;
+      others = mark depth n ∷ mark depth l ∷ mark (suc depth) u ∷ mark (suc depth) r ∷ mark depth f ∷ [];
+      is = refl;
+      begun = λ rest. is_kind_of (word w.Int) t q;
+    }
 
-size_not : (depth room at : ℕ) (name : List ℕ) (x : Stmt) (ms : List Marked) (rest : List Token) → (size_or_plain depth room at name).spells x ms → starts_with (sign m.Assign) (tokens ms ++ rest) ≡ false
+size_not : (depth room at : ℕ) (name : List ℕ) (x : Stmt) (ms : List Marked) (rest : List Token) → (size_or_plain depth room at name).spells x ms
+    → starts_with (sign m.Assign) (tokens ms ++ rest) ≡ false
 unfolding either same_mark
 size_not depth room at name _ _ rest (first x ms g) =
-    no_bound (sign m.Assign) depth (sign m.OpenBracket) refl (λ _. bind (deep_number (suc depth) room) (λ n. bind (sign_part (suc depth) (sign m.CloseBracket)) (λ _. made_of (sign_part depth (sign m.Semicolon)) (λ _. s.Array at name n.1)))) x ms rest g
+    no_bound (sign m.Assign) depth (sign m.OpenBracket) refl (λ _. bind (deep_number (suc depth) room)
+    (λ n. bind (sign_part (suc depth) (sign m.CloseBracket)) (λ _. made_of (sign_part depth (sign m.Semicolon)) (λ _. s.Array at name n.1)))) x ms rest g
 size_not depth room at name _ _ rest (second x ms g) = no_made (sign m.Assign) depth (sign m.Semicolon) refl (λ _. s.Int at name None) x ms rest g
 
 module _ (L depth room : ℕ) (now : depth + suc room ≡ suc L) where
   value_law : (at : ℕ) (name : List ℕ) → Law L Stmt (value_part depth room at name) Any
   value_law at name = law_then (law_sign L depth (omega (arith, now)) (sign m.Assign))
-      (λ _. law_expr_made L depth (suc room) now (whole_law L depth (suc room) now) depth (sign m.Semicolon) refl (λ x _. s.Int at name (Some x)) (λ x le. law_made (λ _. s.Int at name (Some x)) Any (law_sign L depth le (sign m.Semicolon)) (λ x rest h. tt)))
+      (λ _. law_expr_made L depth (suc room) now (whole_law L depth (suc room) now) depth (sign m.Semicolon) refl (λ x _. s.Int at name (Some x))
+      (λ x le. law_made (λ _. s.Int at name (Some x)) Any (law_sign L depth le (sign m.Semicolon)) (λ x rest h. tt)))
 
   size_law : (at : ℕ) (name : List ℕ) → Law L Stmt (size_part depth room at name) Any
   size_law at name = law_then (law_sign L depth (omega (arith, now)) (sign m.OpenBracket))
       (λ _. law_bind (deep_number_law L (suc depth) room (omega (arith, now)))
       (λ n a r h. let lt : 0 < room = within_had has_number (λ room ts. number_at ts) room a (n, r) h in
-      law_then (law_sign L (suc depth) (omega (arith, now, lt)) (sign m.CloseBracket)) (λ _. law_made (λ _. s.Array at name n.1) Any (law_sign L depth (omega (arith, now)) (sign m.Semicolon)) (λ x rest h. tt)))
+      law_then (law_sign L (suc depth) (omega (arith, now, lt)) (sign m.CloseBracket))
+      (λ _. law_made (λ _. s.Array at name n.1) Any (law_sign L depth (omega (arith, now)) (sign m.Semicolon)) (λ x rest h. tt)))
       (λ n y c rest g h. tt))
 
   plain_law : (at : ℕ) (name : List ℕ) → Law L Stmt (plain_part depth at name) Any
@@ -267,7 +310,8 @@ module _ (L depth room : ℕ) (now : depth + suc room ≡ suc L) where
   size_or_plain_law : (at : ℕ) (name : List ℕ) → Law L Stmt (size_or_plain depth room at name) Any
   unfolding same_mark
   size_or_plain_law at name = law_either (starts_with (sign m.OpenBracket)) (starts_by (sign m.OpenBracket)) (size_law at name) (plain_law at name)
-      (λ x ms rest g h. begins_bound depth (sign m.OpenBracket) (λ _. bind (deep_number (suc depth) room) (λ n. bind (sign_part (suc depth) (sign m.CloseBracket)) (λ _. made_of (sign_part depth (sign m.Semicolon)) (λ _. s.Array at name n.1)))) x ms rest g)
+      (λ x ms rest g h. begins_bound depth (sign m.OpenBracket) (λ _. bind (deep_number (suc depth) room)
+      (λ n. bind (sign_part (suc depth) (sign m.CloseBracket)) (λ _. made_of (sign_part depth (sign m.Semicolon)) (λ _. s.Array at name n.1)))) x ms rest g)
       (λ x ms rest g h. no_made (sign m.OpenBracket) depth (sign m.Semicolon) refl (λ _. s.Int at name None) x ms rest g)
 
   whole_decl_law : Law L Stmt (decl_part depth room) Any
@@ -277,5 +321,7 @@ module _ (L depth room : ℕ) (now : depth + suc room ≡ suc L) where
       (λ x ms rest g h. size_not depth room at n.1 x ms rest g)))
 
 pub decl_law : (L depth room : ℕ) → depth + room ≡ suc L → Law L Stmt (decl_named depth room) Any
-decl_law L depth room now = law_within L depth room now (starts_with (word w.Int)) refl (starts_by (word w.Int)) whole_decl_at (DeclSpells depth) (fill_decl depth) (decl_opens depth) (decl_first depth)
-    (λ inner q le. law_same (decl_part depth inner) (record { read = whole_decl_at inner; spells = DeclSpells depth; filled = fill_decl depth }) (decl_same depth inner) (is_decl depth inner) (decl_is depth inner) (whole_decl_law L depth inner (omega (arith, now, q))))
+decl_law L depth room now = law_within L depth room now (starts_with (word w.Int)) refl (starts_by (word w.Int)) whole_decl_at (DeclSpells depth) (fill_decl depth) (decl_opens depth)
+    (decl_first depth)
+    (λ inner q le. law_same (decl_part depth inner) (record { read = whole_decl_at inner; spells = DeclSpells depth; filled = fill_decl depth }) (decl_same depth inner) (is_decl depth inner)
+    (decl_is depth inner) (whole_decl_law L depth inner (omega (arith, now, q))))

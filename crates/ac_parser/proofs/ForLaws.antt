@@ -13,19 +13,23 @@ use Rattle.ac_lexer.specs.declared.token.Token.{Token}
 use Rattle.ac_parser.specs.declared.forms.ForBegins.{ForBegins}
 use Rattle.ac_parser.specs.declared.forms.ForBegins.TheVariants as b
 use Rattle.ac_parser.specs.declared.statements.ForHead.{ForHead}
-use Rattle.ac_parser.specs.Spelling.{Marked, mark, tokens, IsWord, IsMark, IsName, ExprSpells}
+use Rattle.reading_laws.specs.Marks.{Marked, mark, tokens, IsWord, IsMark, IsName}
+use Rattle.ac_expressions.specs.Spelling.{ExprSpells}
 use Rattle.ac_parser.specs.SpellingOfStatements.{TestSpells, no_test, some_test, SimpleSpells, InitSpells, no_init, simple_init, int_init, NextSpells, no_next, simple_next}
-use Rattle.ac_parser.specs.Reads.{word, sign, starts_with, has_name}
-use Rattle.ac_parser.specs.ReadsExpressions.{begins_expr, expr_at}
-use Rattle.ac_parser.specs.ReadsStatements.{for_word, for_kind, for_begins, is_for_part, begins_head, test_at, whole_int_init_at, int_init_at, init_by, init_at, next_at, head_of, whole_head_at, head_at}
-use Rattle.ac_parser.proofs.Heads.{ByHead, by_head}
-use Rattle.ac_parser.proofs.Parts.{Filled, Part, Law, Opens, First, itself, ret, law_ret, seq, made, first, second, chosen, law_same, law_bind, law_then, law_made, law_either, law_select, bind, made_of, either, select}
-use Rattle.ac_parser.proofs.Letters.{signed, sign_part, law_sign, starts_by, is_case, is_kind_of, named, name_part, law_name, name_by}
-use Rattle.ac_parser.proofs.ExpressionHeads.{Ends, begins_by}
-use Rattle.ac_parser.proofs.ChainLaws.{fill_up, expr_named}
-use Rattle.ac_parser.proofs.Openings.{started, starts_ends, begins_bound, law_within, expr_begins, or_case, starts_begins_not}
-use Rattle.ac_parser.proofs.CallLaws.{Closes}
-use Rattle.ac_parser.proofs.UnaryLaws.{whole_law}
+use Rattle.reading_laws.specs.Letters.{word, sign, starts_with, has_name}
+use Rattle.ac_expressions.specs.Reads.{begins_expr, expr_at}
+use Rattle.ac_parser.specs.inner.ReadsStatements.{for_word, for_kind, for_begins, is_for_part, begins_head, test_at, whole_int_init_at, int_init_at, init_by, init_at, next_at, head_of, whole_head_at}
+use Rattle.ac_parser.specs.inner.ReadsStatements.{head_at}
+use Rattle.reading_laws.proofs.Heads.{ByHead, by_head}
+use Rattle.reading_laws.proofs.Parts.{Filled, Part, Law, Opens, First, itself, ret, law_ret, seq, made, first, second, chosen, law_same, law_bind, law_then, law_made, law_either, law_select, bind}
+use Rattle.reading_laws.proofs.Parts.{made_of, either, select}
+use Rattle.reading_laws.proofs.Letters.{signed, sign_part, law_sign, starts_by, is_case, is_kind_of, named, name_part, law_name, name_by}
+use Rattle.ac_expressions.proofs.ExpressionHeads.{Ends, begins_by}
+use Rattle.ac_expressions.proofs.ChainLaws.{fill_up, expr_named}
+use Rattle.reading_laws.proofs.Openings.{started, begins_bound, law_within, or_case}
+use Rattle.ac_expressions.proofs.Openings.{starts_ends, expr_begins, starts_begins_not}
+use Rattle.ac_expressions.proofs.CallLaws.{Closes}
+use Rattle.ac_expressions.proofs.UnaryLaws.{whole_law}
 use Rattle.ac_parser.proofs.DeclLaws.{Semi, an_int, an_x, an_assign, a_semicolon, simple_named, simple_law, simple_opens, simple_first}
 
 -- ---- `[ expr ]`
@@ -92,9 +96,6 @@ next_holds : (depth room : ℕ) (x : Option Stmt) (ms : List Marked) (rest : Lis
 unfolding made_of
 next_holds depth room _ _ rest (made x ms g) = simple_begins depth x ms rest g
 
-name_not : (a : Word) (rest : List Token) → starts_with (word a) rest ≡ true → has_name rest ≡ false
-name_not a rest h = let z = started (word a) rest h in ap has_name z.is ∙ (rw z.kind refl)
-
 next_fails : (x : Option Stmt) (ms : List Marked) (rest : List Token) → (ret {X = Option Stmt} None).spells x ms → starts_with (sign m.CloseParen) rest ≡ true → has_name (tokens ms ++ rest) ≡ false
 unfolding ret
 next_fails _ _ rest itself h = let z = started (sign m.CloseParen) rest h in ap has_name z.is ∙ (rw z.kind refl)
@@ -112,10 +113,15 @@ pub data IntSpells (depth : ℕ) : Stmt → List Marked → Type 0 where
       → IntSpells depth (s.Int head.span.at name (Some x)) (mark depth head ∷ mark depth named ∷ mark depth equals ∷ ms)
 
 abbrev pub int_part : ℕ → ℕ → Part Stmt
-int_part depth room = bind (sign_part depth (word w.Int)) (λ at. bind (name_part depth) (λ n. bind (sign_part depth (sign m.Assign)) (λ _. made_of (expr_named depth (suc room)) (λ x. s.Int at n.1 (Some x)))))
+int_part depth room = bind (sign_part depth (word w.Int)) (λ at. bind (name_part depth)
+    (λ n. bind (sign_part depth (sign m.Assign)) (λ _. made_of (expr_named depth (suc room)) (λ x. s.Int at n.1 (Some x)))))
 
 pub fill_int : (depth : ℕ) → Filled Stmt (IntSpells depth)
-fill_int depth = let v = fill_up depth 10 1 refl in record { value = s.Int 0 (120 ∷ []) (Some v.value); marks = mark depth an_int ∷ mark depth an_x ∷ mark depth an_assign ∷ v.marks; spells = counting an_int an_x an_assign (120 ∷ []) v.value v.marks refl refl refl v.spells }
+fill_int depth = let v = fill_up depth 10 1 refl in record {
+  value = s.Int 0 (120 ∷ []) (Some v.value);
+  marks = mark depth an_int ∷ mark depth an_x ∷ mark depth an_assign ∷ v.marks;
+  spells = counting an_int an_x an_assign (120 ∷ []) v.value v.marks refl refl refl v.spells;
+}
 
 abbrev pub int_named : ℕ → ℕ → Part Stmt
 int_named depth room = record { read = int_init_at room; spells = IntSpells depth; filled = fill_int depth }
@@ -144,11 +150,19 @@ int_opens depth t ts h =
     }
 
 int_first : (depth : ℕ) (x : Stmt) (ms : List Marked) → IntSpells depth x ms → First depth (starts_with (word w.Int)) ms
-int_first depth _ _ (counting t n c name x a q i j g) = record { own = depth; deep = omega arith; token = t; others = mark depth n ∷ mark depth c ∷ a; is = refl; begun = λ rest. is_kind_of (word w.Int) t q }
+int_first depth _ _ (counting t n c name x a q i j g) = record {
+  own = depth;
+  deep = omega arith;
+  token = t;
+  others = mark depth n ∷ mark depth c ∷ a;
+  is = refl;
+  begun = λ rest. is_kind_of (word w.Int) t q;
+}
 
 int_law : (L depth room : ℕ) → depth + room ≡ suc L → Law L Stmt (int_named depth room) (Ends 1)
 int_law L depth room now = law_within L depth room now (starts_with (word w.Int)) refl (starts_by (word w.Int)) whole_int_init_at (IntSpells depth) (fill_int depth) (int_opens depth) (int_first depth)
-    (λ inner q le. law_same (int_part depth inner) (record { read = whole_int_init_at inner; spells = IntSpells depth; filled = fill_int depth }) (int_same depth inner) (is_int depth inner) (int_is depth inner)
+    (λ inner q le. law_same (int_part depth inner) (record { read = whole_int_init_at inner; spells = IntSpells depth; filled = fill_int depth }) (int_same depth inner) (is_int depth inner)
+    (int_is depth inner)
     (law_then (law_sign L depth le (word w.Int)) (λ at. law_then (law_name L depth le) (λ n. law_then (law_sign L depth le (sign m.Assign))
     (λ _. law_made (λ x. s.Int at n.1 (Some x)) (Ends 1) (whole_law L depth (suc inner) (omega (arith, now, q))) (λ x rest h. h))))))
 
@@ -190,7 +204,8 @@ init_is : (depth room : ℕ) (x : Option Stmt) (ms : List Marked) → InitSpells
 unfolding select made_of ret
 init_is depth room _ _ (no_init _) = chosen b.Other None [] refl itself
 init_is depth room _ _ (simple_init _ x ms g) = chosen b.Name (Some x) ms refl (made x ms g)
-init_is depth room _ _ (int_init _ t n c name x a q i j g) = chosen b.Int _ _ refl (made (s.Int t.span.at name (Some x)) (mark depth t ∷ mark depth n ∷ mark depth c ∷ a) (counting t n c name x a q i j g))
+init_is depth room _ _ (int_init _ t n c name x a q i j g) = chosen b.Int _ _ refl
+    (made (s.Int t.span.at name (Some x)) (mark depth t ∷ mark depth n ∷ mark depth c ∷ a) (counting t n c name x a q i j g))
 
 name_form : (kind : Kind) → (t : Token) → t.kind ≡ kind → (ts : List Token) → has_name (t ∷ ts) ≡ true → for_kind kind ≡ b.Name
 name_form (k.Name name) t q ts h = refl
@@ -206,7 +221,8 @@ named_form (t ∷ ts) h = name_form t.kind t refl ts h
 semi_form : (rest : List Token) → starts_with (sign m.Semicolon) rest ≡ true → for_begins rest ≡ b.Other
 semi_form rest h = let z = started (sign m.Semicolon) rest h in ap for_begins z.is ∙ ap for_kind z.kind
 
-begin_form : (depth room : ℕ) (form : ForBegins) (x : Option Stmt) (ms : List Marked) (rest : List Token) → (begin_part depth room form).spells x ms → starts_with (sign m.Semicolon) rest ≡ true → for_begins (tokens ms ++ rest) ≡ form
+begin_form : (depth room : ℕ) (form : ForBegins) (x : Option Stmt) (ms : List Marked) (rest : List Token) → (begin_part depth room form).spells x ms → starts_with (sign m.Semicolon) rest ≡ true
+    → for_begins (tokens ms ++ rest) ≡ form
 unfolding made_of ret
 begin_form depth room b.Int _ _ rest (made _ _ (counting t n c name x a q i j g)) h = rw q refl
 begin_form depth room b.Name _ _ rest (made x ms g) h = named_form (tokens ms ++ rest) (simple_begins depth x ms rest g)
@@ -227,14 +243,20 @@ init_law L depth room now = law_same (init_part depth room) (init_named depth ro
 -- ---- between the parentheses; the depth is that of the semicolons, and the room that of what is one deeper
 
 pub data HeadSpells (depth : ℕ) : ForHead → List Marked → Type 0 where
-  heads : (first second : Token) (init : Option Stmt) (test : Option Expr) (next : Option Stmt) (is ms ns : List Marked) → InitSpells (suc depth) init is → IsMark m.Semicolon first → TestSpells depth test ms → IsMark m.Semicolon second → NextSpells (suc depth) next ns
+  heads : (first second : Token) (init : Option Stmt) (test : Option Expr) (next : Option Stmt) (is ms ns : List Marked) → InitSpells (suc depth) init is → IsMark m.Semicolon first
+      → TestSpells depth test ms → IsMark m.Semicolon second → NextSpells (suc depth) next ns
       → HeadSpells depth (head_of init test next) (is ++ mark depth first ∷ (ms ++ mark depth second ∷ ns))
 
 abbrev pub head_part : ℕ → ℕ → Part ForHead
-head_part depth room = bind (init_named (suc depth) room) (λ i. bind (sign_part depth (sign m.Semicolon)) (λ _. bind (test_named depth (suc room)) (λ t. bind (sign_part depth (sign m.Semicolon)) (λ _. made_of (next_named (suc depth) room) (λ n. head_of i t n)))))
+head_part depth room = bind (init_named (suc depth) room) (λ i. bind (sign_part depth (sign m.Semicolon))
+    (λ _. bind (test_named depth (suc room)) (λ t. bind (sign_part depth (sign m.Semicolon)) (λ _. made_of (next_named (suc depth) room) (λ n. head_of i t n)))))
 
 pub fill_head : (depth : ℕ) → Filled ForHead (HeadSpells depth)
-fill_head depth = record { value = head_of None None None; marks = [] ++ mark depth a_semicolon ∷ ([] ++ mark depth a_semicolon ∷ []); spells = heads a_semicolon a_semicolon None None None [] [] [] (no_init (suc depth)) refl (no_test depth) refl (no_next (suc depth)) }
+fill_head depth = record {
+  value = head_of None None None;
+  marks = [] ++ mark depth a_semicolon ∷ ([] ++ mark depth a_semicolon ∷ []);
+  spells = heads a_semicolon a_semicolon None None None [] [] [] (no_init (suc depth)) refl (no_test depth) refl (no_next (suc depth));
+}
 
 abbrev pub head_named : ℕ → ℕ → Part ForHead
 head_named depth room = record { read = head_at room; spells = HeadSpells depth; filled = fill_head depth }
@@ -252,7 +274,13 @@ unfolding bind made_of sign_part
 head_is depth room _ _ (heads c f i t n a d z g q h r j) = seq i _ a _ g (seq c.span.at _ _ _ (signed c q) (seq t _ d _ h (seq f.span.at _ _ _ (signed f r) (made n z j))))
 
 semi_head : (depth : ℕ) (t : Token) → t.kind ≡ k.Mark m.Semicolon → Opens ForHead (HeadSpells depth) depth t
-semi_head depth t q = record { own = depth; deep = omega arith; value = head_of None None None; others = [] ++ mark depth a_semicolon ∷ []; spells = heads t a_semicolon None None None [] [] [] (no_init (suc depth)) q (no_test depth) refl (no_next (suc depth)) }
+semi_head depth t q = record {
+  own = depth;
+  deep = omega arith;
+  value = head_of None None None;
+  others = [] ++ mark depth a_semicolon ∷ [];
+  spells = heads t a_semicolon None None None [] [] [] (no_init (suc depth)) q (no_test depth) refl (no_next (suc depth));
+}
 
 part_head : (depth : ℕ) (t : Token) → Opens (Option Stmt) (InitSpells (suc depth)) (suc depth) t → Opens ForHead (HeadSpells depth) depth t
 part_head depth t o = record {
@@ -266,7 +294,13 @@ part_head depth t o = record {
 int_kind : (depth : ℕ) (t : Token) (a : Word) → IsWord a t → is_for_part (for_word a) ≡ true → Opens (Option Stmt) (InitSpells depth) depth t
 int_kind depth t w.Int q h =
     let v = fill_up depth 10 1 refl in
-    record { own = depth; deep = omega arith; value = Some (s.Int t.span.at (120 ∷ []) (Some v.value)); others = mark depth an_x ∷ mark depth an_assign ∷ v.marks; spells = int_init depth t an_x an_assign (120 ∷ []) v.value v.marks q refl refl v.spells }
+    record {
+      own = depth;
+      deep = omega arith;
+      value = Some (s.Int t.span.at (120 ∷ []) (Some v.value));
+      others = mark depth an_x ∷ mark depth an_assign ∷ v.marks;
+      spells = int_init depth t an_x an_assign (120 ∷ []) v.value v.marks q refl refl v.spells;
+    }
 int_kind depth t a q h = cc
 
 named_init : (depth : ℕ) (t : Token) → Opens Stmt (SimpleSpells depth) depth t → Opens (Option Stmt) (InitSpells depth) depth t
@@ -293,8 +327,16 @@ or_right : (p q : Bool) → q ≡ true → (p || q) ≡ true
 or_right true q h = refl
 or_right false q h = h
 
-init_first : (depth : ℕ) (x : Option Stmt) (a : List Marked) → InitSpells (suc depth) x a → (c : Token) (ms : List Marked) → c.kind ≡ k.Mark m.Semicolon → First depth begins_head (a ++ mark depth c ∷ ms)
-init_first depth _ _ (no_init _) c ms q = record { own = depth; deep = omega arith; token = c; others = ms; is = refl; begun = λ rest. or_left (starts_with (sign m.Semicolon) (c ∷ rest)) (is_for_part (for_begins (c ∷ rest))) (is_kind_of (sign m.Semicolon) c q) }
+init_first : (depth : ℕ) (x : Option Stmt) (a : List Marked) → InitSpells (suc depth) x a → (c : Token) (ms : List Marked) → c.kind ≡ k.Mark m.Semicolon
+    → First depth begins_head (a ++ mark depth c ∷ ms)
+init_first depth _ _ (no_init _) c ms q = record {
+  own = depth;
+  deep = omega arith;
+  token = c;
+  others = ms;
+  is = refl;
+  begun = λ rest. or_left (starts_with (sign m.Semicolon) (c ∷ rest)) (is_for_part (for_begins (c ∷ rest))) (is_kind_of (sign m.Semicolon) c q);
+}
 init_first depth _ _ (simple_init _ x a g) c ms q =
     let f = simple_first (suc depth) x a g in
     record {
@@ -323,9 +365,11 @@ head_by = by_head begins_head false (λ t. starts_with (sign m.Semicolon) (t ∷
 
 pub head_law : (L depth room : ℕ) → depth + room ≡ suc L → Law L ForHead (head_named depth room) Closes
 head_law L depth room now = law_within L depth room now begins_head refl head_by whole_head_at (HeadSpells depth) (fill_head depth) (head_opens depth) (head_first depth)
-    (λ inner q le. law_same (head_part depth inner) (record { read = whole_head_at inner; spells = HeadSpells depth; filled = fill_head depth }) (head_same depth inner) (is_head depth inner) (head_is depth inner)
+    (λ inner q le. law_same (head_part depth inner) (record { read = whole_head_at inner; spells = HeadSpells depth; filled = fill_head depth }) (head_same depth inner) (is_head depth inner)
+    (head_is depth inner)
     (law_bind (init_law L (suc depth) inner (omega (arith, now, q)))
     (λ i a r h. law_then (law_sign L depth le (sign m.Semicolon)) (λ _. law_bind (test_law L depth (suc inner) (omega (arith, now, q)))
     (λ t a r h. law_then (law_sign L depth le (sign m.Semicolon)) (λ _. law_made (λ n. head_of i t n) Closes (next_law L (suc depth) inner (omega (arith, now, q))) (λ n rest h. h)))
     (λ t y c rest g h. begins_bound depth (sign m.Semicolon) (λ _. made_of (next_named (suc depth) inner) (λ n. head_of i t n)) y c rest g)))
-    (λ i y c rest g h. begins_bound depth (sign m.Semicolon) (λ _. bind (test_named depth (suc inner)) (λ t. bind (sign_part depth (sign m.Semicolon)) (λ _. made_of (next_named (suc depth) inner) (λ n. head_of i t n)))) y c rest g)))
+    (λ i y c rest g h. begins_bound depth (sign m.Semicolon) (λ _. bind (test_named depth (suc inner))
+    (λ t. bind (sign_part depth (sign m.Semicolon)) (λ _. made_of (next_named (suc depth) inner) (λ n. head_of i t n)))) y c rest g)))

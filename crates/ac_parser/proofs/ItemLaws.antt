@@ -10,16 +10,18 @@ use Rattle.ac_lexer.specs.declared.token.Mark.TheVariants as m
 use Rattle.ac_lexer.specs.declared.token.Token.{Token}
 use Rattle.ac_parser.specs.declared.forms.ParamsBegin.{ParamsBegin}
 use Rattle.ac_parser.specs.declared.forms.ParamsBegin.TheVariants as p
-use Rattle.ac_parser.specs.Spelling.{Marked, mark, tokens, IsWord, IsMark, IsName}
-use Rattle.ac_parser.specs.SpellingOfItems.{GlobalValueSpells, zero_value, plain_value, negative_value, BracketsSpell, no_brackets, brackets, ParamSpells, param, MoreParamsSpell, no_param, one_param, ParamsSpell, no_params, void_params, some_params, ItemSpells, global, global_array}
-use Rattle.ac_parser.specs.Reads.{word, sign, same_mark, starts_with}
-use Rattle.ac_parser.specs.ReadsItems.{params_kind, params_begin, params_by, params_at}
-use Rattle.ac_parser.proofs.Marking.{tokens_split}
-use Rattle.ac_parser.proofs.Heads.{ByHead, by_head}
-use Rattle.ac_parser.proofs.Parts.{Part, Law, Any, itself, ret, law_ret, seq, made, first, second, chosen, law_same, law_bind, law_then, law_made, law_either, law_select, bind, made_of, either, select}
-use Rattle.ac_parser.proofs.Rows.{Many, none, some, many, law_many}
-use Rattle.ac_parser.proofs.Letters.{signed, sign_part, law_sign, starts_by, named, name_part, law_name, numbered, number_part, law_number, negated, negated_part, law_negated}
-use Rattle.ac_parser.proofs.Openings.{by_last, begins_bound, no_bound, started, starts_not}
+use Rattle.reading_laws.specs.Marks.{Marked, mark, tokens, IsWord, IsMark, IsName}
+use Rattle.ac_parser.specs.SpellingOfItems.{GlobalValueSpells, zero_value, plain_value, negative_value, BracketsSpell, no_brackets, brackets, ParamSpells, param, MoreParamsSpell, no_param, one_param}
+use Rattle.ac_parser.specs.SpellingOfItems.{ParamsSpell, no_params, void_params, some_params, ItemSpells, global, global_array}
+use Rattle.reading_laws.specs.Letters.{word, sign, same_mark, starts_with}
+use Rattle.ac_parser.specs.inner.ReadsItems.{params_kind, params_begin, params_by, params_at}
+use Rattle.reading_laws.proofs.Marking.{tokens_split}
+use Rattle.reading_laws.proofs.Heads.{ByHead, by_head}
+use Rattle.reading_laws.proofs.Parts.{Part, Law, Any, itself, ret, law_ret, seq, made, first, second, chosen, law_same, law_bind, law_then, law_made, law_either, law_select, bind, made_of, either}
+use Rattle.reading_laws.proofs.Parts.{select}
+use Rattle.reading_laws.proofs.Rows.{Many, none, some, many, law_many}
+use Rattle.reading_laws.proofs.Letters.{signed, sign_part, law_sign, starts_by, named, name_part, law_name, numbered, number_part, law_number, negated, negated_part, law_negated}
+use Rattle.reading_laws.proofs.Openings.{by_last, begins_bound, no_bound, started, starts_not}
 use Rattle.ac_parser.proofs.CompoundLaws.{block_named, block_law}
 use Rattle.ac_parser.proofs.StatementLaw.{stmt_law}
 
@@ -39,14 +41,16 @@ unfolding made_of number_part
 plus_not _ _ rest (made _ _ (numbered t n q)) = rw q refl
 
 signed_number_law : Law 256 ℤ signed_number Any
-signed_number_law = law_either (starts_with (sign m.Minus)) (starts_by (sign m.Minus)) (law_then (law_sign 256 0 (omega arith) (sign m.Minus)) (λ _. law_negated 256 0 (omega arith))) (law_made (λ n. n.1) Any (law_number 256 0 (omega arith)) (λ n rest h. tt))
+signed_number_law = law_either (starts_with (sign m.Minus)) (starts_by (sign m.Minus)) (law_then (law_sign 256 0 (omega arith) (sign m.Minus)) (λ _. law_negated 256 0 (omega arith)))
+    (law_made (λ n. n.1) Any (law_number 256 0 (omega arith)) (λ n rest h. tt))
     (λ x ms rest g h. begins_bound 0 (sign m.Minus) (λ _. negated_part 0) x ms rest g) (λ x ms rest g h. plus_not x ms rest g)
 
 abbrev pub global_value : ℕ → List ℕ → Part Item
 global_value at name = bind (sign_part 0 (sign m.Assign)) (λ _. bind signed_number (λ v. made_of (sign_part 0 (sign m.Semicolon)) (λ _. i.Global at name None v)))
 
 abbrev pub global_size : ℕ → List ℕ → Part Item
-global_size at name = bind (sign_part 0 (sign m.OpenBracket)) (λ _. bind (number_part 1) (λ n. bind (sign_part 1 (sign m.CloseBracket)) (λ _. made_of (sign_part 0 (sign m.Semicolon)) (λ _. i.Global at name (Some n.1) (pos 0)))))
+global_size at name = bind (sign_part 0 (sign m.OpenBracket)) (λ _. bind (number_part 1)
+    (λ n. bind (sign_part 1 (sign m.CloseBracket)) (λ _. made_of (sign_part 0 (sign m.Semicolon)) (λ _. i.Global at name (Some n.1) (pos 0)))))
 
 abbrev pub global_plain : ℕ → List ℕ → Part Item
 global_plain at name = made_of (sign_part 0 (sign m.Semicolon)) (λ _. i.Global at name None (pos 0))
@@ -58,7 +62,8 @@ pub global_value_law : (at : ℕ) (name : List ℕ) → Law 256 Item (global_val
 global_value_law at name = law_then (law_sign 256 0 (omega arith) (sign m.Assign)) (λ _. law_then signed_number_law (λ v. semi_law (i.Global at name None v)))
 
 pub global_size_law : (at : ℕ) (name : List ℕ) → Law 256 Item (global_size at name) Any
-global_size_law at name = law_then (law_sign 256 0 (omega arith) (sign m.OpenBracket)) (λ _. law_then (law_number 256 1 (omega arith)) (λ n. law_then (law_sign 256 1 (omega arith) (sign m.CloseBracket)) (λ _. semi_law (i.Global at name (Some n.1) (pos 0)))))
+global_size_law at name = law_then (law_sign 256 0 (omega arith) (sign m.OpenBracket))
+    (λ _. law_then (law_number 256 1 (omega arith)) (λ n. law_then (law_sign 256 1 (omega arith) (sign m.CloseBracket)) (λ _. semi_law (i.Global at name (Some n.1) (pos 0)))))
 
 pub global_plain_law : (at : ℕ) (name : List ℕ) → Law 256 Item (global_plain at name) Any
 global_plain_law at name = semi_law (i.Global at name None (pos 0))
@@ -68,18 +73,23 @@ unfolding either bind made_of sign_part number_part negated_part
 value_case _ _ (first _ _ (seq _ _ _ _ (signed t q) (negated u n r))) e i = negative_value e t u n i q r
 value_case _ _ (second _ _ (made _ _ (numbered t n q))) e i = plain_value e t n i q
 
-pub is_global_value : (t n : Token) (name : List ℕ) → IsWord w.Int t → IsName name n → (x : Item) (ms : List Marked) → (global_value t.span.at name).spells x ms → ItemSpells x (mark 0 t ∷ mark 0 n ∷ ms)
+pub is_global_value : (t n : Token) (name : List ℕ) → IsWord w.Int t → IsName name n → (x : Item) (ms : List Marked) → (global_value t.span.at name).spells x ms
+    → ItemSpells x (mark 0 t ∷ mark 0 n ∷ ms)
 unfolding bind sign_part
 is_global_value t n name q r _ _ (seq _ _ _ _ (signed e j) (seq v y a c g last)) =
-    by_last (λ y c. ItemSpells y (mark 0 t ∷ mark 0 n ∷ mark 0 e ∷ (a ++ c))) 0 (sign m.Semicolon) (i.Global t.span.at name None v) y c last (λ u z. global t n u name v (mark 0 e ∷ a) q r (value_case v a g e j) z)
+    by_last (λ y c. ItemSpells y (mark 0 t ∷ mark 0 n ∷ mark 0 e ∷ (a ++ c))) 0 (sign m.Semicolon) (i.Global t.span.at name None v) y c last
+    (λ u z. global t n u name v (mark 0 e ∷ a) q r (value_case v a g e j) z)
 
 pub is_global_size : (t n : Token) (name : List ℕ) → IsWord w.Int t → IsName name n → (x : Item) (ms : List Marked) → (global_size t.span.at name).spells x ms → ItemSpells x (mark 0 t ∷ mark 0 n ∷ ms)
 unfolding bind sign_part number_part
 is_global_size t n name q r _ _ (seq _ _ _ _ (signed l j) (seq _ _ _ _ (numbered u size v) (seq _ y _ c (signed d z) last))) =
-    by_last (λ y c. ItemSpells y (mark 0 t ∷ mark 0 n ∷ mark 0 l ∷ mark 1 u ∷ mark 1 d ∷ c)) 0 (sign m.Semicolon) (i.Global t.span.at name (Some size) (pos 0)) y c last (λ f g. global_array t n l u d f name size q r j v z g)
+    by_last (λ y c. ItemSpells y (mark 0 t ∷ mark 0 n ∷ mark 0 l ∷ mark 1 u ∷ mark 1 d ∷ c)) 0 (sign m.Semicolon) (i.Global t.span.at name (Some size) (pos 0)) y c last
+    (λ f g. global_array t n l u d f name size q r j v z g)
 
-pub is_global_plain : (t n : Token) (name : List ℕ) → IsWord w.Int t → IsName name n → (x : Item) (ms : List Marked) → (global_plain t.span.at name).spells x ms → ItemSpells x (mark 0 t ∷ mark 0 n ∷ ms)
-is_global_plain t n name q r x ms last = by_last (λ y c. ItemSpells y (mark 0 t ∷ mark 0 n ∷ c)) 0 (sign m.Semicolon) (i.Global t.span.at name None (pos 0)) x ms last (λ u z. global t n u name (pos 0) [] q r zero_value z)
+pub is_global_plain : (t n : Token) (name : List ℕ) → IsWord w.Int t → IsName name n → (x : Item) (ms : List Marked) → (global_plain t.span.at name).spells x ms
+    → ItemSpells x (mark 0 t ∷ mark 0 n ∷ ms)
+is_global_plain t n name q r x ms last = by_last (λ y c. ItemSpells y (mark 0 t ∷ mark 0 n ∷ c)) 0 (sign m.Semicolon) (i.Global t.span.at name None (pos 0)) x ms last
+    (λ u z. global t n u name (pos 0) [] q r zero_value z)
 
 -- ---- parameters
 
@@ -161,12 +171,15 @@ are_more _ _ (one_param t x xs a c q g r) = some x xs (mark 1 t ∷ a) c (seq t.
 abbrev pub list_part : Part (List Param)
 list_part = bind param_part (λ x. made_of more_params (λ xs. x ∷ xs))
 
-more_bracket : (xs : List Param) (ms : List Marked) (rest : List Token) → Many Param next_param.spells xs ms → starts_with (sign m.CloseParen) rest ≡ true → starts_with (sign m.OpenBracket) (tokens ms ++ rest) ≡ false
+more_bracket : (xs : List Param) (ms : List Marked) (rest : List Token) → Many Param next_param.spells xs ms → starts_with (sign m.CloseParen) rest ≡ true
+    → starts_with (sign m.OpenBracket) (tokens ms ++ rest) ≡ false
 unfolding same_mark
 more_bracket _ _ rest none h = starts_not (sign m.OpenBracket) (sign m.CloseParen) refl rest h
-more_bracket _ _ rest (some x xs a c g r) h = ap (starts_with (sign m.OpenBracket)) (tokens_split a c rest) ∙ no_bound (sign m.OpenBracket) 1 (sign m.Comma) refl (λ _. param_part) x a (tokens c ++ rest) g
+more_bracket _ _ rest (some x xs a c g r) h = ap (starts_with (sign m.OpenBracket)) (tokens_split a c rest)
+    ∙ no_bound (sign m.OpenBracket) 1 (sign m.Comma) refl (λ _. param_part) x a (tokens c ++ rest) g
 
-list_follows : (x : Param) (y : List Param) (c : List Marked) (rest : List Token) → (made_of more_params (λ xs. x ∷ xs)).spells y c → starts_with (sign m.CloseParen) rest ≡ true → starts_with (sign m.OpenBracket) (tokens c ++ rest) ≡ false
+list_follows : (x : Param) (y : List Param) (c : List Marked) (rest : List Token) → (made_of more_params (λ xs. x ∷ xs)).spells y c → starts_with (sign m.CloseParen) rest ≡ true
+    → starts_with (sign m.OpenBracket) (tokens c ++ rest) ≡ false
 unfolding made_of many
 list_follows x _ _ rest (made xs c g) h = more_bracket xs c rest g h
 
@@ -216,7 +229,8 @@ params_are _ _ (some_params x xs a c g r) = chosen p.Int _ _ refl (seq x (x ∷ 
 ended_form : (rest : List Token) → starts_with (sign m.CloseParen) rest ≡ true → params_begin rest ≡ p.Other
 ended_form rest h = let z = started (sign m.CloseParen) rest h in ap params_begin z.is ∙ ap params_kind z.kind
 
-form_begins : (form : ParamsBegin) (x : List Param) (ms : List Marked) (rest : List Token) → (params_form form).spells x ms → starts_with (sign m.CloseParen) rest ≡ true → params_begin (tokens ms ++ rest) ≡ form
+form_begins : (form : ParamsBegin) (x : List Param) (ms : List Marked) (rest : List Token) → (params_form form).spells x ms → starts_with (sign m.CloseParen) rest ≡ true
+    → params_begin (tokens ms ++ rest) ≡ form
 unfolding bind made_of ret many sign_part
 form_begins p.Void _ _ rest (made _ _ (signed t q)) h = rw q refl
 form_begins p.Int _ _ rest (seq _ _ _ c (seq _ _ _ d (signed t q) g) r) h = rw q refl
@@ -240,9 +254,12 @@ abbrev pub function_of : ℕ → Bool → Bool → List ℕ → List Param → L
 function_of at is_async gives_int name params body = i.Function (record { at = at; is_async = is_async; gives_int = gives_int; name = name; params = params; body = body })
 
 abbrev pub function_part : ℕ → Bool → Bool → List ℕ → Part Item
-function_part at is_async gives_int name = bind (sign_part 0 (sign m.OpenParen)) (λ _. bind params_named (λ ps. bind (sign_part 1 (sign m.CloseParen)) (λ _. made_of (block_named 1 255) (λ b. i.Function (record { at = at; is_async = is_async; gives_int = gives_int; name = name; params = ps; body = b.1 })))))
+function_part at is_async gives_int name = bind (sign_part 0 (sign m.OpenParen))
+    (λ _. bind params_named (λ ps. bind (sign_part 1 (sign m.CloseParen)) (λ _. made_of (block_named 1 255)
+    (λ b. i.Function (record { at = at; is_async = is_async; gives_int = gives_int; name = name; params = ps; body = b.1 })))))
 
 pub function_law : (at : ℕ) (is_async gives_int : Bool) (name : List ℕ) → Law 256 Item (function_part at is_async gives_int name) Any
 function_law at is_async gives_int name = law_then (law_sign 256 0 (omega arith) (sign m.OpenParen))
-    (λ _. law_bind params_law (λ ps a r h. law_then (law_sign 256 1 (omega arith) (sign m.CloseParen)) (λ _. law_made (λ b. function_of at is_async gives_int name ps b.1) Any (block_law 256 1 255 (omega arith) (stmt_law 256 255 2 (omega arith))) (λ b rest h. tt)))
+    (λ _. law_bind params_law (λ ps a r h. law_then (law_sign 256 1 (omega arith) (sign m.CloseParen))
+    (λ _. law_made (λ b. function_of at is_async gives_int name ps b.1) Any (block_law 256 1 255 (omega arith) (stmt_law 256 255 2 (omega arith))) (λ b rest h. tt)))
     (λ ps y c rest g h. begins_bound 1 (sign m.CloseParen) (λ _. made_of (block_named 1 255) (λ b. function_of at is_async gives_int name ps b.1)) y c rest g))

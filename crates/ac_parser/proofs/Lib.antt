@@ -1,15 +1,3 @@
-pub mod Halts
-pub mod Heads
-pub mod Marking
-pub mod Parts
-pub mod Rows
-pub mod Letters
-pub mod ExpressionHeads
-pub mod ChainLaws
-pub mod Openings
-pub mod CallLaws
-pub mod PrimaryLaws
-pub mod UnaryLaws
 pub mod DeclLaws
 pub mod ForLaws
 pub mod StatementHeads
@@ -23,6 +11,6 @@ pub mod ItemLaws
 pub mod ProgramLaws
 pub mod Programs
 pub mod Answered
-pub mod RowLoop
 pub mod Turns
 pub mod Weights
+pub mod Examples

@@ -8,14 +8,18 @@ use Rattle.ac_tree.specs.declared.stmt.Stmt.TheOpen.{Stmt-F}
 use Rattle.ac_lexer.specs.declared.token.Kind.{Kind}
 use Rattle.ac_lexer.specs.declared.token.Token.{Token}
 use Rattle.ac_parser.specs.declared.forms.Opening.TheVariants as f
-use Rattle.ac_parser.specs.Spelling.{Marked, mark, tokens, CallSpells, function_call, send, recv, read, write}
-use Rattle.ac_parser.specs.SpellingOfStatements.{ends_step, ends_open, SimpleSpells, StmtSpells, block, empty, assign, call_stmt, print, if_alone, if_else, while, for, break, continue, return, do_plain, do_labelled, async, cancel, yield, BlockSpells, braces}
-use Rattle.ac_parser.specs.Reads.{Reads, Sign, kind_of, is_kind, starts_with}
-use Rattle.ac_parser.specs.ReadsStatements.{opening_kind, opening_of, is_opening, begins_stmt}
-use Rattle.ac_parser.proofs.Halts.{bind_ok, result, same_result}
-use Rattle.ac_parser.proofs.Heads.{ByHead, by_head}
-use Rattle.ac_parser.proofs.Parts.{Part, First, bind, made_of, either}
-use Rattle.ac_parser.proofs.Letters.{is_case}
+use Rattle.reading_laws.specs.Marks.{Marked, mark, tokens}
+use Rattle.ac_expressions.specs.Spelling.{CallSpells, function_call, send, recv, read, write}
+use Rattle.ac_parser.specs.SpellingOfStatements.{ends_step, ends_open, SimpleSpells, StmtSpells, block, empty, assign, call_stmt, print, if_alone, if_else, while, for, break, continue, return}
+use Rattle.ac_parser.specs.SpellingOfStatements.{do_plain, do_labelled, async, cancel, yield, BlockSpells, braces}
+use Rattle.reading_laws.specs.Readers.{Reads}
+use Rattle.reading_laws.specs.Letters.{Sign, is_kind, starts_with}
+use Rattle.reading_laws.specs.inner.Tokens.{kind_of}
+use Rattle.ac_parser.specs.inner.ReadsStatements.{opening_kind, opening_of, is_opening, begins_stmt}
+use Rattle.reading_laws.proofs.Halts.{bind_ok, result, same_result}
+use Rattle.reading_laws.proofs.Heads.{ByHead, by_head}
+use Rattle.reading_laws.proofs.Parts.{Part, First, bind, made_of, either}
+use Rattle.reading_laws.proofs.Letters.{is_case}
 use Rattle.ac_parser.proofs.DeclLaws.{split_simple}
 
 -- ---- the ends of statements
@@ -82,12 +86,32 @@ same_first h = cc
 -- the first token of a call
 call_token : (depth : ℕ) (x : Expr) (ms : List Marked) → CallSpells depth x ms → StmtHeaded depth ms
 call_token _ _ _ (function_call depth t l r name xs a q i g j) = record { head = t; others = mark depth l ∷ (a ++ mark (suc depth) r ∷ []); is = refl; begins = rw q refl }
-call_token _ _ _ (send depth t l n c r name x a q i v f g j) = record { head = t; others = mark depth l ∷ mark (suc depth) n ∷ mark (suc depth) c ∷ (a ++ mark (suc depth) r ∷ []); is = refl; begins = rw q refl }
-call_token _ _ _ (recv depth t l n c u r name x a q i v f z g j) = record { head = t; others = mark depth l ∷ mark (suc depth) n ∷ mark (suc depth) c ∷ mark (suc depth) u ∷ (a ++ mark (suc depth) r ∷ []); is = refl; begins = rw q refl }
+call_token _ _ _ (send depth t l n c r name x a q i v f g j) = record {
+  head = t;
+  others = mark depth l ∷ mark (suc depth) n ∷ mark (suc depth) c ∷ (a ++ mark (suc depth) r ∷ []);
+  is = refl;
+  begins = rw q refl;
+}
+call_token _ _ _ (recv depth t l n c u r name x a q i v f z g j) = record {
+  head = t;
+  others = mark depth l ∷ mark (suc depth) n ∷ mark (suc depth) c ∷ mark (suc depth) u ∷ (a ++ mark (suc depth) r ∷ []);
+  is = refl;
+  begins = rw q refl;
+}
 call_token _ _ _ (read depth t l n c s u h r name array from len a b q i v f g z y d x j) =
-    record { head = t; others = mark depth l ∷ mark (suc depth) n ∷ mark (suc depth) c ∷ (a ++ mark (suc depth) s ∷ (b ++ mark (suc depth) u ∷ mark (suc depth) h ∷ mark (suc depth) r ∷ [])); is = refl; begins = rw q refl }
+    record {
+      head = t;
+      others = mark depth l ∷ mark (suc depth) n ∷ mark (suc depth) c ∷ (a ++ mark (suc depth) s ∷ (b ++ mark (suc depth) u ∷ mark (suc depth) h ∷ mark (suc depth) r ∷ []));
+      is = refl;
+      begins = rw q refl;
+    }
 call_token _ _ _ (write depth t l n c s u h r name array from len a b q i v f g z y d x j) =
-    record { head = t; others = mark depth l ∷ mark (suc depth) n ∷ mark (suc depth) c ∷ (a ++ mark (suc depth) s ∷ (b ++ mark (suc depth) u ∷ mark (suc depth) h ∷ mark (suc depth) r ∷ [])); is = refl; begins = rw q refl }
+    record {
+      head = t;
+      others = mark depth l ∷ mark (suc depth) n ∷ mark (suc depth) c ∷ (a ++ mark (suc depth) s ∷ (b ++ mark (suc depth) u ∷ mark (suc depth) h ∷ mark (suc depth) r ∷ []));
+      is = refl;
+      begins = rw q refl;
+    }
 
 behind : (depth : ℕ) (a c : List Marked) → StmtHeaded depth a → StmtHeaded depth (a ++ c)
 behind depth a c h = record { head = h.head; others = h.others ++ c; is = ap (λ (l : List Marked). l ++ c) h.is; begins = h.begins }
@@ -103,9 +127,15 @@ stmt_head _ _ _ (block depth at xs ms g) = block_head depth at xs ms g
 stmt_head _ _ _ (empty depth t q) = record { head = t; others = []; is = refl; begins = rw q refl }
 stmt_head _ _ _ (assign depth x c ms g i) = behind depth ms (mark depth c ∷ []) (simple_head depth x ms g)
 stmt_head _ _ _ (call_stmt depth head c x ms g i) = behind depth (mark depth head ∷ ms) (mark depth c ∷ []) (call_token depth x (mark depth head ∷ ms) g)
-stmt_head _ _ _ (print depth t l u r c format xs ms q i v g j z) = record { head = t; others = mark depth l ∷ mark (suc depth) u ∷ (ms ++ mark (suc depth) r ∷ mark depth c ∷ []); is = refl; begins = rw q refl }
+stmt_head _ _ _ (print depth t l u r c format xs ms q i v g j z) = record {
+  head = t;
+  others = mark depth l ∷ mark (suc depth) u ∷ (ms ++ mark (suc depth) r ∷ mark depth c ∷ []);
+  is = refl;
+  begins = rw q refl;
+}
 stmt_head _ _ _ (if_alone depth t l r x y ms ns q i g j h) = record { head = t; others = mark depth l ∷ (ms ++ mark (suc depth) r ∷ ns); is = refl; begins = rw q refl }
-stmt_head _ _ _ (if_else depth t l r o x y z ms ns os q i g j h v f u) = record { head = t; others = mark depth l ∷ (ms ++ mark (suc depth) r ∷ (ns ++ mark depth o ∷ os)); is = refl; begins = rw q refl }
+stmt_head _ _ _ (if_else depth t l r o x y z ms ns os q i g j h v f u) =
+    record { head = t; others = mark depth l ∷ (ms ++ mark (suc depth) r ∷ (ns ++ mark depth o ∷ os)); is = refl; begins = rw q refl }
 stmt_head _ _ _ (while depth t l r x y ms ns q i g j h) = record { head = t; others = mark depth l ∷ (ms ++ mark (suc depth) r ∷ ns); is = refl; begins = rw q refl }
 stmt_head _ _ _ (for depth t l c d r init test next y is ms ns os q i g j h v u z f) =
     record { head = t; others = mark depth l ∷ (is ++ mark (suc depth) c ∷ (ms ++ mark (suc depth) d ∷ (ns ++ mark (suc depth) r ∷ os))); is = refl; begins = rw q refl }
@@ -113,7 +143,8 @@ stmt_head _ _ _ (break depth t c q i) = record { head = t; others = mark depth c
 stmt_head _ _ _ (continue depth t c q i) = record { head = t; others = mark depth c ∷ []; is = refl; begins = rw q refl }
 stmt_head _ _ _ (return depth t c value ms q g i) = record { head = t; others = ms ++ mark depth c ∷ []; is = refl; begins = rw q refl }
 stmt_head _ _ _ (do_plain depth inner t f c xs ms q g i j) = record { head = t; others = ms ++ mark depth f ∷ mark depth c ∷ []; is = refl; begins = rw q refl }
-stmt_head _ _ _ (do_labelled depth inner n c t f d label xs ms q i j g v z) = record { head = n; others = mark depth c ∷ mark depth t ∷ (ms ++ mark depth f ∷ mark depth d ∷ []); is = refl; begins = rw q refl }
+stmt_head _ _ _ (do_labelled depth inner n c t f d label xs ms q i j g v z) =
+    record { head = n; others = mark depth c ∷ mark depth t ∷ (ms ++ mark depth f ∷ mark depth d ∷ []); is = refl; begins = rw q refl }
 stmt_head _ _ _ (async depth t y ms q g) = record { head = t; others = ms; is = refl; begins = rw q refl }
 stmt_head _ _ _ (cancel depth t n c label q i j) = record { head = t; others = mark depth n ∷ mark depth c ∷ []; is = refl; begins = rw q refl }
 stmt_head _ _ _ (yield depth t c q i) = record { head = t; others = mark depth c ∷ []; is = refl; begins = rw q refl }
@@ -132,7 +163,8 @@ kind_not : (v : Sign) → is_opening (opening_kind (kind_of v)) ≡ false → (k
 kind_not v n kind h true q = let z : kind ≡ kind_of v = is_case v kind q in let no : true ≡ false = sym h ∙ ap (λ (kind : Kind). is_opening (opening_kind kind)) z ∙ n in cc
 kind_not v n kind h false q = refl
 
-pub stmt_begins_not : (depth : ℕ) (v : Sign) → is_opening (opening_kind (kind_of v)) ≡ false → (x : Stmt) (ms : List Marked) (rest : List Token) → StmtSpells depth x ms → starts_with v (tokens ms ++ rest) ≡ false
+pub stmt_begins_not : (depth : ℕ) (v : Sign) → is_opening (opening_kind (kind_of v)) ≡ false → (x : Stmt) (ms : List Marked) (rest : List Token) → StmtSpells depth x ms
+    → starts_with v (tokens ms ++ rest) ≡ false
 stmt_begins_not depth v n x ms rest g =
     let h = stmt_head depth x ms g in
     ap (λ (ms : List Marked). starts_with v (tokens ms ++ rest)) h.is ∙ kind_not v n h.head.kind h.begins (is_kind v h.head.kind) refl
@@ -147,7 +179,8 @@ pub leaves_bind : {X Y : Type 0} {q : X → Part Y} {G : Y → List Token → Ty
 unfolding bind
 leaves_bind {X} {Y} {q} {G} p l = record { leaves = λ a y r h. let z = bind_ok (p.read a) (λ z. (q z.0).read z.1) (y, r) h in (l z.0.0).leaves z.0.1 y r z.2 }
 
-pub leaves_made : {X Y : Type 0} {p : Part X} {F : X → List Token → Type 0} (f : X → Y) (G : Y → List Token → Type 0) → Leaves X p F → ((x : X) (r : List Token) → F x r → G (f x) r) → Leaves Y (made_of p f) G
+pub leaves_made : {X Y : Type 0} {p : Part X} {F : X → List Token → Type 0} (f : X → Y) (G : Y → List Token → Type 0) → Leaves X p F → ((x : X) (r : List Token) → F x r → G (f x) r)
+    → Leaves Y (made_of p f) G
 unfolding made_of
 leaves_made {X} {Y} {p} {F} f G l c = record {
   leaves = λ a y r h.
@@ -167,6 +200,7 @@ pub leaves_either : {X : Type 0} {p q : Part X} {G : X → List Token → Type 0
 unfolding either
 leaves_either {X} {p} {q} {G} test l m = record { leaves = λ a x r h. either_case X (p.read a) (q.read a) (test a) x r G (l.leaves a x r) (m.leaves a x r) h }
   where
-    either_case : (X : Type 0) (f g : Reads X) (t : Bool) (x : X) (r : List Token) (G : X → List Token → Type 0) → (f ≡ Ok (x, r) → G x r) → (g ≡ Ok (x, r) → G x r) → (if t then f else g) ≡ result X (x, r) → G x r
+    either_case : (X : Type 0) (f g : Reads X) (t : Bool) (x : X) (r : List Token) (G : X → List Token → Type 0) → (f ≡ Ok (x, r) → G x r) → (g ≡ Ok (x, r) → G x r)
+        → (if t then f else g) ≡ result X (x, r) → G x r
     either_case X f g true x r G u v h = u h
     either_case X f g false x r G u v h = v h

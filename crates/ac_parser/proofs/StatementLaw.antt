@@ -13,17 +13,21 @@ use Rattle.ac_lexer.specs.declared.token.Kind.TheVariants as k
 use Rattle.ac_lexer.specs.declared.token.Token.{Token}
 use Rattle.ac_parser.specs.declared.forms.Opening.{Opening}
 use Rattle.ac_parser.specs.declared.forms.Opening.TheVariants as f
-use Rattle.ac_parser.specs.Spelling.{Marked, mark, tokens, IsWord, IsMark, CallSpells, no_more}
-use Rattle.ac_parser.specs.SpellingOfStatements.{SimpleSpells, StmtSpells, empty, block, if_alone, while, for, break, continue, return, do_plain, async, cancel, yield, print, assign, braces, no_entry, no_init, no_test, no_next}
-use Rattle.ac_parser.specs.Reads.{sign, same_mark, starts_with, look}
-use Rattle.ac_parser.specs.ReadsExpressions.{place_of}
-use Rattle.ac_parser.specs.ReadsStatements.{opening_word, opening_mark, opening_kind, opening_of, is_opening, begins_stmt, stmt_at}
-use Rattle.ac_parser.proofs.Marking.{tokens_split}
-use Rattle.ac_parser.proofs.Parts.{Law, Any, Opens, seq, first, second, law_same, law_before, law_then, law_either, law_select, law_look, bind, made_of, either}
-use Rattle.ac_parser.proofs.Letters.{filler, starts_by, law_name}
-use Rattle.ac_parser.proofs.ChainLaws.{fill_up}
-use Rattle.ac_parser.proofs.Openings.{begins_bound, no_bound, operation_opens}
-use Rattle.ac_parser.proofs.CallLaws.{call_part, deep_closed}
+use Rattle.reading_laws.specs.Marks.{Marked, mark, tokens, IsWord, IsMark}
+use Rattle.ac_expressions.specs.Spelling.{CallSpells, no_more}
+use Rattle.ac_parser.specs.SpellingOfStatements.{SimpleSpells, StmtSpells, empty, block, if_alone, while, for, break, continue, return, do_plain, async, cancel, yield, print, assign, braces, no_entry}
+use Rattle.ac_parser.specs.SpellingOfStatements.{no_init, no_test, no_next}
+use Rattle.reading_laws.specs.Letters.{sign, same_mark, starts_with}
+use Rattle.reading_laws.specs.Readers.{look}
+use Rattle.ac_expressions.specs.Reads.{place_of}
+use Rattle.ac_parser.specs.inner.ReadsStatements.{opening_word, opening_mark, opening_kind, opening_of, is_opening, begins_stmt, stmt_at}
+use Rattle.reading_laws.proofs.Marking.{tokens_split}
+use Rattle.reading_laws.proofs.Parts.{Law, Any, Opens, seq, first, second, law_same, law_before, law_then, law_either, law_select, law_look, bind, made_of, either}
+use Rattle.reading_laws.proofs.Letters.{filler, starts_by, law_name}
+use Rattle.ac_expressions.proofs.ChainLaws.{fill_up}
+use Rattle.reading_laws.proofs.Openings.{begins_bound, no_bound}
+use Rattle.ac_expressions.proofs.Openings.{operation_opens}
+use Rattle.ac_expressions.proofs.CallLaws.{call_part, deep_closed}
 use Rattle.ac_parser.proofs.DeclLaws.{simple_opens, a_semicolon, an_x}
 use Rattle.ac_parser.proofs.StatementHeads.{stmt_first, opening_by, stmt_by_head}
 use Rattle.ac_parser.proofs.StatementLaws.{call_stmt_part, called, assign_not, empty_law, call_stmt_law, assign_law, operation_stmt_law, print_law, word_law, return_law, cancel_law}
@@ -50,10 +54,22 @@ abbrev finish : Token
 finish = filler (k.Word w.Finish)
 
 by_operation : (depth : ℕ) (t : Token) → Opens Expr (CallSpells depth) depth t → Opens Stmt (StmtSpells depth) depth t
-by_operation depth t o = record { own = o.own; deep = o.deep; value = s.Call (place_of o.value) o.value; others = o.others ++ mark depth a_semicolon ∷ []; spells = called depth o.value (mark o.own t ∷ o.others) o.spells a_semicolon refl }
+by_operation depth t o = record {
+  own = o.own;
+  deep = o.deep;
+  value = s.Call (place_of o.value) o.value;
+  others = o.others ++ mark depth a_semicolon ∷ [];
+  spells = called depth o.value (mark o.own t ∷ o.others) o.spells a_semicolon refl;
+}
 
 by_simple : (depth : ℕ) (t : Token) → Opens Stmt (SimpleSpells depth) depth t → Opens Stmt (StmtSpells depth) depth t
-by_simple depth t o = record { own = o.own; deep = o.deep; value = o.value; others = o.others ++ mark depth a_semicolon ∷ []; spells = assign depth o.value a_semicolon (mark o.own t ∷ o.others) o.spells refl }
+by_simple depth t o = record {
+  own = o.own;
+  deep = o.deep;
+  value = o.value;
+  others = o.others ++ mark depth a_semicolon ∷ [];
+  spells = assign depth o.value a_semicolon (mark o.own t ∷ o.others) o.spells refl;
+}
 
 open_word : (depth : ℕ) (t : Token) (a : Word) → IsWord a t → is_opening (opening_word a) ≡ true → Opens Stmt (StmtSpells depth) depth t
 open_word depth t w.Send q h = by_operation depth t (operation_opens depth t w.Send q refl)
@@ -70,11 +86,23 @@ open_word depth t w.Printf q h = record {
 open_word depth t w.If q h =
     let v = fill_up (suc depth) 10 1 refl in
     let y = fill_stmt (suc depth) in
-    record { own = depth; deep = omega arith; value = s.If t.span.at v.value y.value None; others = mark depth paren ∷ (v.marks ++ mark (suc depth) close ∷ y.marks); spells = if_alone depth t paren close v.value y.value v.marks y.marks q refl v.spells refl y.spells }
+    record {
+      own = depth;
+      deep = omega arith;
+      value = s.If t.span.at v.value y.value None;
+      others = mark depth paren ∷ (v.marks ++ mark (suc depth) close ∷ y.marks);
+      spells = if_alone depth t paren close v.value y.value v.marks y.marks q refl v.spells refl y.spells;
+    }
 open_word depth t w.While q h =
     let v = fill_up (suc depth) 10 1 refl in
     let y = fill_stmt (suc depth) in
-    record { own = depth; deep = omega arith; value = s.While t.span.at v.value y.value; others = mark depth paren ∷ (v.marks ++ mark (suc depth) close ∷ y.marks); spells = while depth t paren close v.value y.value v.marks y.marks q refl v.spells refl y.spells }
+    record {
+      own = depth;
+      deep = omega arith;
+      value = s.While t.span.at v.value y.value;
+      others = mark depth paren ∷ (v.marks ++ mark (suc depth) close ∷ y.marks);
+      spells = while depth t paren close v.value y.value v.marks y.marks q refl v.spells refl y.spells;
+    }
 open_word depth t w.For q h =
     let y = fill_stmt (suc depth) in
     record {
@@ -82,11 +110,18 @@ open_word depth t w.For q h =
       deep = omega arith;
       value = s.For t.span.at None None None y.value;
       others = mark depth paren ∷ ([] ++ mark (suc depth) a_semicolon ∷ ([] ++ mark (suc depth) a_semicolon ∷ ([] ++ mark (suc depth) close ∷ y.marks)));
-      spells = for depth t paren a_semicolon a_semicolon close None None None y.value [] [] [] y.marks q refl (no_init (suc (suc depth))) refl (no_test (suc depth)) refl (no_next (suc (suc depth))) refl y.spells;
+      spells = for depth t paren a_semicolon a_semicolon close None None None y.value [] [] [] y.marks q refl (no_init (suc (suc depth))) refl (no_test (suc depth)) refl
+          (no_next (suc (suc depth))) refl y.spells;
     }
 open_word depth t w.Break q h = record { own = depth; deep = omega arith; value = s.Break t.span.at; others = mark depth a_semicolon ∷ []; spells = break depth t a_semicolon q refl }
 open_word depth t w.Continue q h = record { own = depth; deep = omega arith; value = s.Continue t.span.at; others = mark depth a_semicolon ∷ []; spells = continue depth t a_semicolon q refl }
-open_word depth t w.Return q h = record { own = depth; deep = omega arith; value = s.Return t.span.at None; others = [] ++ mark depth a_semicolon ∷ []; spells = return depth t a_semicolon None [] q (no_test depth) refl }
+open_word depth t w.Return q h = record {
+  own = depth;
+  deep = omega arith;
+  value = s.Return t.span.at None;
+  others = [] ++ mark depth a_semicolon ∷ [];
+  spells = return depth t a_semicolon None [] q (no_test depth) refl;
+}
 open_word depth t w.Do q h = record {
   own = depth;
   deep = omega arith;
@@ -94,13 +129,31 @@ open_word depth t w.Do q h = record {
   others = (mark depth brace ∷ ([] ++ mark depth end_brace ∷ [])) ++ mark depth finish ∷ mark depth a_semicolon ∷ [];
   spells = do_plain depth 0 t finish a_semicolon [] (mark depth brace ∷ ([] ++ mark depth end_brace ∷ [])) q (braces depth brace end_brace [] [] refl (no_entry (suc depth)) refl) refl refl;
 }
-open_word depth t w.Async q h = let y = fill_stmt (suc depth) in record { own = depth; deep = omega arith; value = s.Async t.span.at y.value; others = y.marks; spells = async depth t y.value y.marks q y.spells }
-open_word depth t w.Cancel q h = record { own = depth; deep = omega arith; value = s.Cancel t.span.at (120 ∷ []); others = mark depth an_x ∷ mark depth a_semicolon ∷ []; spells = cancel depth t an_x a_semicolon (120 ∷ []) q refl refl }
+open_word depth t w.Async q h = let y = fill_stmt (suc depth) in record {
+  own = depth;
+  deep = omega arith;
+  value = s.Async t.span.at y.value;
+  others = y.marks;
+  spells = async depth t y.value y.marks q y.spells;
+}
+open_word depth t w.Cancel q h = record {
+  own = depth;
+  deep = omega arith;
+  value = s.Cancel t.span.at (120 ∷ []);
+  others = mark depth an_x ∷ mark depth a_semicolon ∷ [];
+  spells = cancel depth t an_x a_semicolon (120 ∷ []) q refl refl;
+}
 open_word depth t w.Yield q h = record { own = depth; deep = omega arith; value = s.Yield t.span.at; others = mark depth a_semicolon ∷ []; spells = yield depth t a_semicolon q refl }
 open_word depth t a q h = cc
 
 open_mark : (depth : ℕ) (t : Token) (a : Mark) → IsMark a t → is_opening (opening_mark a) ≡ true → Opens Stmt (StmtSpells depth) depth t
-open_mark depth t m.OpenBrace q h = record { own = depth; deep = omega arith; value = s.Block t.span.at []; others = [] ++ mark depth end_brace ∷ []; spells = block depth t.span.at [] (mark depth t ∷ ([] ++ mark depth end_brace ∷ [])) (braces depth t end_brace [] [] q (no_entry (suc depth)) refl) }
+open_mark depth t m.OpenBrace q h = record {
+  own = depth;
+  deep = omega arith;
+  value = s.Block t.span.at [];
+  others = [] ++ mark depth end_brace ∷ [];
+  spells = block depth t.span.at [] (mark depth t ∷ ([] ++ mark depth end_brace ∷ [])) (braces depth t end_brace [] [] q (no_entry (suc depth)) refl);
+}
 open_mark depth t m.Semicolon q h = record { own = depth; deep = omega arith; value = s.Empty t.span.at; others = []; spells = empty depth t q }
 open_mark depth t a q h = cc
 
@@ -116,15 +169,19 @@ stmt_opens depth t ts h = open_kind depth t t.kind refl h
 
 -- ---- the law
 
-label_not : (depth room at : ℕ) (name : List ℕ) (x : Stmt) (ms : List Marked) (rest : List Token) → (label_or_assign depth room at name).spells x ms → starts_with (sign m.OpenParen) (tokens ms ++ rest) ≡ false
+label_not : (depth room at : ℕ) (name : List ℕ) (x : Stmt) (ms : List Marked) (rest : List Token) → (label_or_assign depth room at name).spells x ms
+    → starts_with (sign m.OpenParen) (tokens ms ++ rest) ≡ false
 unfolding either same_mark
 label_not depth room at name _ _ rest (first x ms g) = no_bound (sign m.OpenParen) depth (sign m.Colon) refl (λ _. do_part depth room (λ _. at) (Some name)) x ms rest g
 label_not depth room at name _ _ rest (second x ms g) = assign_not (sign m.OpenParen) refl refl depth room at name x ms rest g
 
-call_first : (depth room at : ℕ) (name : List ℕ) (x : Expr) (a c : List Marked) (rest : List Token) → (call_part depth room at name).spells x a → starts_with (sign m.OpenParen) (tokens (a ++ c) ++ rest) ≡ true
-call_first depth room at name x a c rest g = ap (starts_with (sign m.OpenParen)) (tokens_split a c rest) ∙ begins_bound depth (sign m.OpenParen) (λ _. made_of (deep_closed (suc depth) room) (λ xs. e.Call at name xs)) x a (tokens c ++ rest) g
+call_first : (depth room at : ℕ) (name : List ℕ) (x : Expr) (a c : List Marked) (rest : List Token) → (call_part depth room at name).spells x a
+    → starts_with (sign m.OpenParen) (tokens (a ++ c) ++ rest) ≡ true
+call_first depth room at name x a c rest g = ap (starts_with (sign m.OpenParen)) (tokens_split a c rest)
+    ∙ begins_bound depth (sign m.OpenParen) (λ _. made_of (deep_closed (suc depth) room) (λ xs. e.Call at name xs)) x a (tokens c ++ rest) g
 
-call_starts : (depth room at : ℕ) (name : List ℕ) (x : Stmt) (ms : List Marked) (rest : List Token) → (call_stmt_part depth room at name).spells x ms → starts_with (sign m.OpenParen) (tokens ms ++ rest) ≡ true
+call_starts : (depth room at : ℕ) (name : List ℕ) (x : Stmt) (ms : List Marked) (rest : List Token) → (call_stmt_part depth room at name).spells x ms
+    → starts_with (sign m.OpenParen) (tokens ms ++ rest) ≡ true
 unfolding bind
 call_starts depth room at name _ _ rest (seq x _ a c g last) = call_first depth room at name x a c rest g
 
@@ -132,10 +189,12 @@ module _ (L depth room : ℕ) (now : depth + suc room ≡ suc L) (sl : Law L Stm
   label_law : (at : ℕ) (name : List ℕ) → Law L Stmt (label_or_assign depth room at name) Any
   unfolding same_mark
   label_law at name = law_either (starts_with (sign m.Colon)) (starts_by (sign m.Colon)) (labelled_law L depth room now sl at name) (assign_law L depth room now at name)
-      (λ x ms rest g h. begins_bound depth (sign m.Colon) (λ _. do_part depth room (λ _. at) (Some name)) x ms rest g) (λ x ms rest g h. assign_not (sign m.Colon) refl refl depth room at name x ms rest g)
+      (λ x ms rest g h. begins_bound depth (sign m.Colon) (λ _. do_part depth room (λ _. at) (Some name)) x ms rest g)
+      (λ x ms rest g h. assign_not (sign m.Colon) refl refl depth room at name x ms rest g)
 
   named_law : Law L Stmt (named_stmt_part depth room) Any
-  named_law = law_then (law_name L depth (omega (arith, now))) (λ n. law_either (starts_with (sign m.OpenParen)) (starts_by (sign m.OpenParen)) (call_stmt_law L depth room now n.0 n.1) (label_law n.0 n.1)
+  named_law = law_then (law_name L depth (omega (arith, now))) (λ n. law_either (starts_with (sign m.OpenParen)) (starts_by (sign m.OpenParen)) (call_stmt_law L depth room now n.0 n.1)
+      (label_law n.0 n.1)
       (λ x ms rest g h. call_starts depth room n.0 n.1 x ms rest g) (λ x ms rest g h. label_not depth room n.0 n.1 x ms rest g))
 
   opening_law : (form : Opening) → Law L Stmt (opening_part depth room form) NoElse

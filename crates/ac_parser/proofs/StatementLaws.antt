@@ -9,18 +9,20 @@ use Rattle.ac_lexer.specs.declared.token.Word.TheVariants as w
 use Rattle.ac_lexer.specs.declared.token.Mark.TheVariants as m
 use Rattle.ac_lexer.specs.declared.token.Kind.TheVariants as k
 use Rattle.ac_lexer.specs.declared.token.Token.{Token}
-use Rattle.ac_parser.specs.Spelling.{Marked, mark, tokens, IsWord, IsMark, IsName, CallSpells, MoreSpell}
+use Rattle.reading_laws.specs.Marks.{Marked, mark, tokens, IsWord, IsMark, IsName}
+use Rattle.ac_expressions.specs.Spelling.{CallSpells, MoreSpell}
 use Rattle.ac_parser.specs.SpellingOfStatements.{TestSpells, StmtSpells, empty, assign, call_stmt, print, break, continue, return, cancel, yield}
-use Rattle.ac_parser.specs.Reads.{Sign, word, sign, is_kind, starts_with, has_text, text_at}
-use Rattle.ac_parser.specs.ReadsExpressions.{place_of, operation_at, expr_at}
-use Rattle.ac_parser.proofs.Marking.{tokens_split}
-use Rattle.ac_parser.proofs.Parts.{Part, Law, Any, itself, ret, seq, made, first, second, law_same, law_bind, law_then, law_made, bind, made_of, either}
-use Rattle.ac_parser.proofs.Letters.{signed, sign_part, law_sign, named, name_part, law_name, texted}
-use Rattle.ac_parser.proofs.ExpressionHeads.{call_head}
-use Rattle.ac_parser.proofs.ChainLaws.{expr_named}
-use Rattle.ac_parser.proofs.Openings.{by_last, last_is, begins_bound, begins_made, no_bound, ends_made, within_had, deep_text, deep_text_law}
-use Rattle.ac_parser.proofs.CallLaws.{call_part, named_place, call_law, is_call, more_named, more_law}
-use Rattle.ac_parser.proofs.UnaryLaws.{whole_law, operation_part, operation_reads, operation_law, is_operation}
+use Rattle.reading_laws.specs.Letters.{Sign, word, sign, is_kind, starts_with, has_text, text_at}
+use Rattle.ac_expressions.specs.Reads.{place_of, operation_at, expr_at}
+use Rattle.reading_laws.proofs.Marking.{tokens_split}
+use Rattle.reading_laws.proofs.Parts.{Part, Law, Any, itself, ret, seq, made, first, second, law_same, law_bind, law_then, law_made, bind, made_of, either}
+use Rattle.reading_laws.proofs.Letters.{signed, sign_part, law_sign, named, name_part, law_name, texted}
+use Rattle.ac_expressions.proofs.ExpressionHeads.{call_head}
+use Rattle.ac_expressions.proofs.ChainLaws.{expr_named}
+use Rattle.reading_laws.proofs.Openings.{by_last, last_is, begins_bound, begins_made, no_bound, within_had, deep_text, deep_text_law}
+use Rattle.ac_expressions.proofs.Openings.{ends_made}
+use Rattle.ac_expressions.proofs.CallLaws.{call_part, named_place, call_law, is_call, more_named, more_law}
+use Rattle.ac_expressions.proofs.UnaryLaws.{whole_law, operation_part, operation_reads, operation_law, is_operation}
 use Rattle.ac_parser.proofs.DeclLaws.{simple_rest, simple_rest_law, is_simple_rest}
 use Rattle.ac_parser.proofs.ForLaws.{test_named, test_law}
 
@@ -61,12 +63,14 @@ pub is_empty : (depth : ℕ) (x : Stmt) (ms : List Marked) → (empty_part depth
 unfolding made_of sign_part
 is_empty depth _ _ (made _ _ (signed t q)) = empty depth t q
 
-pub is_call_stmt : (depth room : ℕ) (t : Token) (name : List ℕ) → IsName name t → (x : Stmt) (ms : List Marked) → (call_stmt_part depth room t.span.at name).spells x ms → StmtSpells depth x (mark depth t ∷ ms)
+pub is_call_stmt : (depth room : ℕ) (t : Token) (name : List ℕ) → IsName name t → (x : Stmt) (ms : List Marked) → (call_stmt_part depth room t.span.at name).spells x ms
+    → StmtSpells depth x (mark depth t ∷ ms)
 unfolding bind
 is_call_stmt depth room t name q _ _ (seq x y a c g last) =
     by_last (λ y c. StmtSpells depth y (mark depth t ∷ (a ++ c))) depth (sign m.Semicolon) (s.Call t.span.at x) y c last (λ r j. call_stmt depth t r x a (is_call depth room t name q x a g) j)
 
-pub is_assign : (depth room : ℕ) (t : Token) (name : List ℕ) → IsName name t → (x : Stmt) (ms : List Marked) → (assign_part depth room t.span.at name).spells x ms → StmtSpells depth x (mark depth t ∷ ms)
+pub is_assign : (depth room : ℕ) (t : Token) (name : List ℕ) → IsName name t → (x : Stmt) (ms : List Marked) → (assign_part depth room t.span.at name).spells x ms
+    → StmtSpells depth x (mark depth t ∷ ms)
 unfolding bind
 is_assign depth room t name q _ _ (seq x y a c g last) =
     by_last (λ y c. StmtSpells depth y (mark depth t ∷ (a ++ c))) depth (sign m.Semicolon) x y c last (λ r j. assign depth x r (mark depth t ∷ a) (is_simple_rest depth room t name q x a g) j)
@@ -119,32 +123,40 @@ pub word_is : (depth : ℕ) (a : Word) (whole : ℕ → Stmt) (t r : Token) → 
 unfolding bind sign_part
 word_is depth a whole t r q j = seq t.span.at _ _ _ (signed t q) (last_is depth (sign m.Semicolon) (whole t.span.at) r j)
 
-pub print_is : (depth room : ℕ) (t l u r f : Token) (format : List ℕ) (xs : List Expr) (a : List Marked) → IsWord w.Printf t → IsMark m.OpenParen l → u.kind ≡ k.Text format → MoreSpell (suc depth) xs a → IsMark m.CloseParen r → IsMark m.Semicolon f
+pub print_is : (depth room : ℕ) (t l u r f : Token) (format : List ℕ) (xs : List Expr) (a : List Marked) → IsWord w.Printf t → IsMark m.OpenParen l → u.kind ≡ k.Text format
+    → MoreSpell (suc depth) xs a → IsMark m.CloseParen r → IsMark m.Semicolon f
     → (print_part depth room).spells (s.Print t.span.at format xs) (mark depth t ∷ mark depth l ∷ mark (suc depth) u ∷ (a ++ mark (suc depth) r ∷ mark depth f ∷ []))
 unfolding bind sign_part
 print_is depth room t l u r f format xs a q i v g j z =
-    seq t.span.at _ _ _ (signed t q) (seq l.span.at _ _ _ (signed l i) (seq format _ _ _ (texted u format v) (seq xs _ a _ g (seq r.span.at _ _ _ (signed r j) (last_is depth (sign m.Semicolon) (s.Print t.span.at format xs) f z)))))
+    seq t.span.at _ _ _ (signed t q) (seq l.span.at _ _ _ (signed l i) (seq format _ _ _ (texted u format v)
+    (seq xs _ a _ g (seq r.span.at _ _ _ (signed r j) (last_is depth (sign m.Semicolon) (s.Print t.span.at format xs) f z)))))
 
-pub return_is : (depth room : ℕ) (t r : Token) (x : Option Expr) (a : List Marked) → IsWord w.Return t → TestSpells depth x a → IsMark m.Semicolon r → (return_part depth room).spells (s.Return t.span.at x) (mark depth t ∷ (a ++ mark depth r ∷ []))
+pub return_is : (depth room : ℕ) (t r : Token) (x : Option Expr) (a : List Marked) → IsWord w.Return t → TestSpells depth x a → IsMark m.Semicolon r
+    → (return_part depth room).spells (s.Return t.span.at x) (mark depth t ∷ (a ++ mark depth r ∷ []))
 unfolding bind sign_part
 return_is depth room t r x a q g j = seq t.span.at _ _ _ (signed t q) (seq x _ a _ g (last_is depth (sign m.Semicolon) (s.Return t.span.at x) r j))
 
-pub cancel_is : (depth : ℕ) (t n r : Token) (label : List ℕ) → IsWord w.Cancel t → IsName label n → IsMark m.Semicolon r → (cancel_part depth).spells (s.Cancel t.span.at label) (mark depth t ∷ mark depth n ∷ mark depth r ∷ [])
+pub cancel_is : (depth : ℕ) (t n r : Token) (label : List ℕ) → IsWord w.Cancel t → IsName label n → IsMark m.Semicolon r
+    → (cancel_part depth).spells (s.Cancel t.span.at label) (mark depth t ∷ mark depth n ∷ mark depth r ∷ [])
 unfolding bind sign_part name_part
 cancel_is depth t n r label q i j = seq t.span.at _ _ _ (signed t q) (seq (n.span.at, label) _ _ _ (named n label i) (last_is depth (sign m.Semicolon) (s.Cancel t.span.at label) r j))
 
 -- ---- the first token behind a name
 
-rest_case : (v : Sign) (depth room at : ℕ) (name : List ℕ) (x : Expr) (a : List Marked) → is_kind v (k.Mark m.OpenBracket) ≡ false → (named_place depth room at name).spells x a → (rest : List Token) → starts_with v rest ≡ false → starts_with v (tokens a ++ rest) ≡ false
+rest_case : (v : Sign) (depth room at : ℕ) (name : List ℕ) (x : Expr) (a : List Marked) → is_kind v (k.Mark m.OpenBracket) ≡ false → (named_place depth room at name).spells x a → (rest : List Token)
+    → starts_with v rest ≡ false → starts_with v (tokens a ++ rest) ≡ false
 unfolding either ret
-rest_case v depth room at name _ _ h (first x a g) rest q = no_bound v depth (sign m.OpenBracket) h (λ _. bind (expr_named (suc depth) room) (λ x. made_of (sign_part (suc depth) (sign m.CloseBracket)) (λ _. e.Index at name x))) x a rest g
+rest_case v depth room at name _ _ h (first x a g) rest q = no_bound v depth (sign m.OpenBracket) h
+    (λ _. bind (expr_named (suc depth) room) (λ x. made_of (sign_part (suc depth) (sign m.CloseBracket)) (λ _. e.Index at name x))) x a rest g
 rest_case v depth room at name _ _ h (second _ _ itself) rest q = q
 
-pub assign_not : (v : Sign) → is_kind v (k.Mark m.OpenBracket) ≡ false → is_kind v (k.Mark m.Assign) ≡ false → (depth room at : ℕ) (name : List ℕ) (x : Stmt) (ms : List Marked) (rest : List Token) → (assign_part depth room at name).spells x ms → starts_with v (tokens ms ++ rest) ≡ false
+pub assign_not : (v : Sign) → is_kind v (k.Mark m.OpenBracket) ≡ false → is_kind v (k.Mark m.Assign) ≡ false → (depth room at : ℕ) (name : List ℕ) (x : Stmt) (ms : List Marked) (rest : List Token)
+    → (assign_part depth room at name).spells x ms → starts_with v (tokens ms ++ rest) ≡ false
 unfolding bind
 assign_not v h i depth room at name _ _ rest (seq x y _ c (seq u z a d g more) last) =
     ap (starts_with v) (tokens_split (a ++ d) c rest ∙ tokens_split a d (tokens c ++ rest))
-    ∙ rest_case v depth room at name u a h g (tokens d ++ (tokens c ++ rest)) (no_bound v depth (sign m.Assign) i (λ _. made_of (expr_named depth (suc room)) (λ y. s.Assign at u y)) x d (tokens c ++ rest) more)
+    ∙ rest_case v depth room at name u a h g (tokens d ++ (tokens c ++ rest))
+    (no_bound v depth (sign m.Assign) i (λ _. made_of (expr_named depth (suc room)) (λ y. s.Assign at u y)) x d (tokens c ++ rest) more)
 
 -- ---- the laws
 

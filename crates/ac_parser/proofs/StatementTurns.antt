@@ -9,22 +9,24 @@ use Rattle.ac_lexer.specs.declared.token.Mark.TheVariants as m
 use Rattle.ac_lexer.specs.declared.token.Token.{Token}
 use Rattle.ac_parser.specs.declared.forms.Opening.{Opening}
 use Rattle.ac_parser.specs.declared.forms.Opening.TheVariants as f
-use Rattle.ac_parser.specs.declared.forms.Operation.{Operation}
-use Rattle.ac_parser.specs.declared.forms.Operation.TheVariants as o
-use Rattle.ac_parser.specs.Spelling.{Marked, tokens}
+use Rattle.ac_expressions.specs.declared.forms.Operation.{Operation}
+use Rattle.ac_expressions.specs.declared.forms.Operation.TheVariants as o
+use Rattle.reading_laws.specs.Marks.{Marked, tokens}
 use Rattle.ac_parser.specs.SpellingOfStatements.{ends_open, BlockSpells, braces}
-use Rattle.ac_parser.specs.Reads.{halt, unexpected, ◌>>=◌, word, sign, starts_with, sign_at, word_at, look}
-use Rattle.ac_parser.specs.ReadsExpressions.{place_of}
-use Rattle.ac_parser.specs.ReadsStatements.{opening_of, is_opening, begins_stmt, stmt_at}
-use Rattle.ac_parser.proofs.Halts.{bind_ok, result, same_result}
-use Rattle.ac_parser.proofs.Marking.{tokens_split}
-use Rattle.ac_parser.proofs.Parts.{seq, made, chosen, look_never, bind, made_of, select}
-use Rattle.ac_parser.proofs.Letters.{signed, sign_part, named, name_part}
-use Rattle.ac_parser.proofs.ChainLaws.{expr_named}
-use Rattle.ac_parser.proofs.CallLaws.{call_part, named_place}
-use Rattle.ac_parser.proofs.UnaryLaws.{operation_part, form_part}
+use Rattle.reading_laws.specs.Readers.{halt, unexpected, ◌>>=◌, look}
+use Rattle.reading_laws.specs.Letters.{word, sign, starts_with, sign_at, word_at}
+use Rattle.ac_expressions.specs.Reads.{place_of}
+use Rattle.ac_parser.specs.inner.ReadsStatements.{opening_of, is_opening, begins_stmt, stmt_at}
+use Rattle.reading_laws.proofs.Halts.{bind_ok, result, same_result}
+use Rattle.reading_laws.proofs.Marking.{tokens_split}
+use Rattle.reading_laws.proofs.Parts.{seq, made, chosen, look_never, bind, made_of, select}
+use Rattle.reading_laws.proofs.Letters.{signed, sign_part, named, name_part}
+use Rattle.ac_expressions.proofs.ChainLaws.{expr_named}
+use Rattle.ac_expressions.proofs.CallLaws.{call_part, named_place}
+use Rattle.ac_expressions.proofs.UnaryLaws.{operation_part, form_part}
 use Rattle.ac_parser.proofs.DeclLaws.{simple_rest}
-use Rattle.ac_parser.proofs.StatementHeads.{Leaves, leaves_bind, leaves_made, leaves_last, leaves_either, block_ends, empty_ends, assign_ends, call_ends, print_ends, else_ends, while_ends, for_ends, break_ends, continue_ends, return_ends, do_ends, async_ends, cancel_ends, yield_ends}
+use Rattle.ac_parser.proofs.StatementHeads.{Leaves, leaves_bind, leaves_made, leaves_last, leaves_either, block_ends, empty_ends, assign_ends, call_ends, print_ends, else_ends, while_ends, for_ends}
+use Rattle.ac_parser.proofs.StatementHeads.{break_ends, continue_ends, return_ends, do_ends, async_ends, cancel_ends, yield_ends}
 use Rattle.ac_parser.proofs.StatementLaws.{assign_part, operation_named, operation_stmt_part}
 use Rattle.ac_parser.proofs.CompoundLaws.{stmt_named, block_named, do_part}
 use Rattle.ac_parser.proofs.BranchLaws.{other_named, Greedy}
@@ -50,7 +52,8 @@ operation_stmt_form depth room _ _ rest (seq x y a c g last) = ap opening_of (to
 block_form : (depth at : ℕ) (xs : List Stmt) (ms : List Marked) (rest : List Token) → BlockSpells depth at xs ms → opening_of (tokens ms ++ rest) ≡ f.Block
 block_form _ _ _ _ rest (braces depth l r xs a q g j) = rw q refl
 
-pub opening_form : (depth room : ℕ) (form : Opening) (x : Stmt) (ms : List Marked) (rest : List Token) → is_opening form ≡ true → (opening_part depth room form).spells x ms → opening_of (tokens ms ++ rest) ≡ form
+pub opening_form : (depth room : ℕ) (form : Opening) (x : Stmt) (ms : List Marked) (rest : List Token) → is_opening form ≡ true → (opening_part depth room form).spells x ms
+    → opening_of (tokens ms ++ rest) ≡ form
 unfolding bind made_of sign_part name_part
 opening_form depth room f.Block _ _ rest z (made x ms g) = block_form depth x.0 x.1 ms rest g
 opening_form depth room f.Empty _ _ rest z (made _ _ (signed t q)) = rw q refl
@@ -79,7 +82,8 @@ abbrev Takes : Option Stmt → List Token → Type 0
 Takes None rest = starts_with (word w.Else) rest ≡ false
 Takes (Some z) rest = Greedy z rest
 
-other_takes : (room : ℕ) → ((a : List Token) (x : Stmt) (r : List Token) → stmt_at room a ≡ Ok (x, r) → Greedy x r) → (a : List Token) (t : Bool) → starts_with (word w.Else) a ≡ t → (z : Option Stmt) (r : List Token)
+other_takes : (room : ℕ) → ((a : List Token) (x : Stmt) (r : List Token) → stmt_at room a ≡ Ok (x, r) → Greedy x r) → (a : List Token) (t : Bool) → starts_with (word w.Else) a ≡ t
+    → (z : Option Stmt) (r : List Token)
     → (if t then (word_at w.Else a >>= λ t. stmt_at room t.1 >>= λ x. Ok (Some x.0, x.1)) else Ok (None, a)) ≡ result (Option Stmt) (z, r) → Takes z r
 other_takes room g a true q z r h =
     let u = bind_ok (word_at w.Else a) (λ t. stmt_at room t.1 >>= λ x. Ok (Some x.0, x.1)) (z, r) h in
@@ -95,7 +99,8 @@ if_takes at x y None r h q = let no : true ≡ false = sym q ∙ h in cc
 if_takes at x y (Some z) r h q = else_ends at x y z ∙ h q
 
 simple_leaves : (depth room at : ℕ) (name : List ℕ) → Leaves Stmt (simple_rest depth room at name) (λ x r. ends_open x ≡ false)
-simple_leaves depth room at name = leaves_bind (named_place depth room at name) (λ x. leaves_bind (sign_part depth (sign m.Assign)) (λ _. leaves_last (expr_named depth (suc room)) (λ y. s.Assign at x y) (λ x r. ends_open x ≡ false) (λ y r. assign_ends at x y)))
+simple_leaves depth room at name = leaves_bind (named_place depth room at name)
+    (λ x. leaves_bind (sign_part depth (sign m.Assign)) (λ _. leaves_last (expr_named depth (suc room)) (λ y. s.Assign at x y) (λ x r. ends_open x ≡ false) (λ y r. assign_ends at x y)))
 
 assigned : (depth room at : ℕ) (name : List ℕ) (a : List Token) (x : Stmt) (r : List Token) → (assign_part depth room at name).read a ≡ Ok (x, r) → ends_open x ≡ false
 unfolding bind made_of sign_part
@@ -116,7 +121,8 @@ module _ (depth room : ℕ) (g : (a : List Token) (x : Stmt) (r : List Token) �
   semi x h = leaves_last (sign_part depth (sign m.Semicolon)) (λ _. x) Greedy (λ _ r. closed x h r)
 
   do_leaves : (place : ℕ → ℕ) (label : Option (List ℕ)) → Leaves Stmt (do_part depth room place label) Greedy
-  do_leaves place label = leaves_bind (sign_part depth (word w.Do)) (λ at. leaves_bind (block_named depth room) (λ x. leaves_bind (sign_part depth (word w.Finish)) (λ _. semi (s.Do (place at) label x.1) (do_ends (place at) label x.1))))
+  do_leaves place label = leaves_bind (sign_part depth (word w.Do)) (λ at. leaves_bind (block_named depth room)
+      (λ x. leaves_bind (sign_part depth (word w.Finish)) (λ _. semi (s.Do (place at) label x.1) (do_ends (place at) label x.1))))
 
   assign_leaves : (at : ℕ) (name : List ℕ) → Leaves Stmt (assign_part depth room at name) Greedy
   assign_leaves at name = record { leaves = λ a x r h. closed x (assigned depth room at name a x r h) r }
@@ -131,9 +137,11 @@ module _ (depth room : ℕ) (g : (a : List Token) (x : Stmt) (r : List Token) �
   opening_leaves f.Name = named_leaves
   opening_leaves f.Operation = leaves_bind (operation_named depth room) (λ x. semi (s.Call (place_of x) x) (call_ends (place_of x) x))
   opening_leaves f.Print = leaves_bind _ (λ at. leaves_bind _ (λ _. leaves_bind _ (λ format. leaves_bind _ (λ xs. leaves_bind _ (λ _. semi (s.Print at format xs) (print_ends at format xs))))))
-  opening_leaves f.If = leaves_bind _ (λ at. leaves_bind _ (λ _. leaves_bind _ (λ x. leaves_bind _ (λ _. leaves_bind _ (λ y. leaves_made (λ z. s.If at x y z) Greedy (other_leaves y) (λ z r h. if_takes at x y z r h))))))
+  opening_leaves f.If = leaves_bind _ (λ at. leaves_bind _ (λ _. leaves_bind _
+      (λ x. leaves_bind _ (λ _. leaves_bind _ (λ y. leaves_made (λ z. s.If at x y z) Greedy (other_leaves y) (λ z r h. if_takes at x y z r h))))))
   opening_leaves f.While = leaves_bind _ (λ at. leaves_bind _ (λ _. leaves_bind _ (λ x. leaves_bind _ (λ _. leaves_made (λ y. s.While at x y) Greedy inner (λ y r h q. while_ends at x y ∙ h q)))))
-  opening_leaves f.For = leaves_bind _ (λ at. leaves_bind _ (λ _. leaves_bind _ (λ h. leaves_bind _ (λ _. leaves_made (λ y. s.For at h.init h.test h.next y) Greedy inner (λ y r n q. for_ends at h.init h.test h.next y ∙ n q)))))
+  opening_leaves f.For = leaves_bind _ (λ at. leaves_bind _ (λ _. leaves_bind _
+      (λ h. leaves_bind _ (λ _. leaves_made (λ y. s.For at h.init h.test h.next y) Greedy inner (λ y r n q. for_ends at h.init h.test h.next y ∙ n q)))))
   opening_leaves f.Break = leaves_bind _ (λ at. semi (s.Break at) (break_ends at))
   opening_leaves f.Continue = leaves_bind _ (λ at. semi (s.Continue at) (continue_ends at))
   opening_leaves f.Return = leaves_bind _ (λ at. leaves_bind _ (λ x. semi (s.Return at x) (return_ends at x)))
@@ -143,11 +151,13 @@ module _ (depth room : ℕ) (g : (a : List Token) (x : Stmt) (r : List Token) �
   opening_leaves f.Yield = leaves_bind _ (λ at. semi (s.Yield at) (yield_ends at))
   opening_leaves f.Other = leaves_last (sign_part depth (sign m.Semicolon)) (λ at. s.Empty at) Greedy (λ at r. closed (s.Empty at) (empty_ends at) r)
 
-form_takes : (depth room : ℕ) → ((form : Opening) → Leaves Stmt (opening_part depth room form) Greedy) → (form : Opening) (t : Bool) (a : List Token) (x : Stmt) (r : List Token) → (if t then (opening_part depth room form).read a else Err (halt unexpected a)) ≡ result Stmt (x, r) → Greedy x r
+form_takes : (depth room : ℕ) → ((form : Opening) → Leaves Stmt (opening_part depth room form) Greedy) → (form : Opening) (t : Bool) (a : List Token) (x : Stmt) (r : List Token)
+    → (if t then (opening_part depth room form).read a else Err (halt unexpected a)) ≡ result Stmt (x, r) → Greedy x r
 form_takes depth room l opening true a x r h = (l opening).leaves a x r h
 form_takes depth room l opening false a x r h = cc
 
-stmt_takes : (depth room : ℕ) → ((form : Opening) → Leaves Stmt (opening_part depth room form) Greedy) → (a : List Token) (x : Stmt) (r : List Token) → (stmt_part depth room).read a ≡ Ok (x, r) → Greedy x r
+stmt_takes : (depth room : ℕ) → ((form : Opening) → Leaves Stmt (opening_part depth room form) Greedy) → (a : List Token) (x : Stmt) (r : List Token) → (stmt_part depth room).read a ≡ Ok (x, r)
+    → Greedy x r
 unfolding select
 stmt_takes depth room l a x r h = form_takes depth room l (opening_of a) (is_opening (opening_of a)) a x r h
 

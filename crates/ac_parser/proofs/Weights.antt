@@ -9,9 +9,14 @@ use Rattle.ac_tree.specs.declared.item.Program.{Program}
 use Rattle.ac_tree.specs.Weight.{expr_weight, links_weight, exprs_weight, value_weight, stmt_weight, some_weight, body_weight, param_weight, params_weight, item_weight, items_weight, IsSmall}
 use Rattle.ac_tree.proofs.WeightForms as f
 use Rattle.ac_lexer.specs.declared.token.Token.{Token}
-use Rattle.ac_parser.specs.Spelling.{Marked, mark, tokens, ExprSpells, number, constant, place, call, group, unary, alone, chain, LinksSpell, no_link, one_link, PlaceSpells, variable, element, CallSpells, function_call, send, recv, read, write, ArgsSpell, no_args, some_args, MoreSpell, no_more, one_more}
-use Rattle.ac_parser.specs.SpellingOfStatements.{ValueSpells, no_value, some_value, TestSpells, no_test, some_test, DeclSpells, int_decl, array_decl, SimpleSpells, simple, InitSpells, no_init, simple_init, int_init, NextSpells, no_next, simple_next, StmtSpells, block, empty, assign, call_stmt, print, if_alone, if_else, while, for, break, continue, return, do_plain, do_labelled, async, cancel, yield, BlockSpells, braces, EntriesSpell, no_entry, decl_entry, stmt_entry}
-use Rattle.ac_parser.specs.SpellingOfItems.{no_brackets, brackets, ParamSpells, param, MoreParamsSpell, no_param, one_param, ParamsSpell, no_params, void_params, some_params, ItemSpells, global, global_array, function, async_function, channel, file, core, ItemsSpell, no_item, one_item, ProgramSpells}
+use Rattle.reading_laws.specs.Marks.{Marked, mark, tokens}
+use Rattle.ac_expressions.specs.Spelling.{ExprSpells, number, constant, place, call, group, unary, alone, chain, LinksSpell, no_link, one_link, PlaceSpells, variable, element, CallSpells}
+use Rattle.ac_expressions.specs.Spelling.{function_call, send, recv, read, write, ArgsSpell, no_args, some_args, MoreSpell, no_more, one_more}
+use Rattle.ac_parser.specs.SpellingOfStatements.{ValueSpells, no_value, some_value, TestSpells, no_test, some_test, DeclSpells, int_decl, array_decl, SimpleSpells, simple, InitSpells, no_init}
+use Rattle.ac_parser.specs.SpellingOfStatements.{simple_init, int_init, NextSpells, no_next, simple_next, StmtSpells, block, empty, assign, call_stmt, print, if_alone, if_else, while, for, break}
+use Rattle.ac_parser.specs.SpellingOfStatements.{continue, return, do_plain, do_labelled, async, cancel, yield, BlockSpells, braces, EntriesSpell, no_entry, decl_entry, stmt_entry}
+use Rattle.ac_parser.specs.SpellingOfItems.{no_brackets, brackets, ParamSpells, param, MoreParamsSpell, no_param, one_param, ParamsSpell, no_params, void_params, some_params, ItemSpells, global}
+use Rattle.ac_parser.specs.SpellingOfItems.{global_array, function, async_function, channel, file, core, ItemsSpell, no_item, one_item, ProgramSpells}
 use Rattle.ac_parser.specs.Places.{IsTree}
 
 -- ---- expressions
@@ -104,7 +109,17 @@ mutual
       let a = length-append is (mark (suc depth) u ∷ (ms ++ mark (suc depth) v ∷ (ns ++ mark (suc depth) r ∷ os))) in
       let c = length-append ms (mark (suc depth) v ∷ (ns ++ mark (suc depth) r ∷ os)) in
       let w = length-append ns (mark (suc depth) r ∷ os) in
-      omega (arith, f.for_weighs h.span.at init test next y, init_light (suc (suc depth)) init is g, test_light (suc depth) test ms d, next_light (suc (suc depth)) next ns e, stmt_light (suc depth) y os b, a, c, w)
+      omega (
+        arith,
+        f.for_weighs h.span.at init test next y,
+        init_light (suc (suc depth)) init is g,
+        test_light (suc depth) test ms d,
+        next_light (suc (suc depth)) next ns e,
+        stmt_light (suc depth) y os b,
+        a,
+        c,
+        w,
+      )
   stmt_light _ _ _ (break depth t s q r) = omega (arith, f.break_weighs t.span.at)
   stmt_light _ _ _ (continue depth t s q r) = omega (arith, f.continue_weighs t.span.at)
   stmt_light _ _ _ (return depth t s value ms q g r) = omega (arith, f.return_weighs t.span.at value, test_light depth value ms g, length-append ms (mark depth s ∷ []))

@@ -1,25 +1,15 @@
 -- What the answers of a parse mean.
-use Rattle.std.specs.Prelude.{◌≡◌, ℕ, ◌<◌, ◌≤◌, ltb, List, [], ◌∷◌, ◌++◌, Option, Some, None, Result, Ok, Err, if◌then◌else◌}
+use Rattle.std.specs.Prelude.{◌≡◌, ℕ, ◌<◌, List, [], ◌∷◌, ◌++◌, Some, Result, Ok, Err}
 use Rattle.ac_tree.specs.declared.item.Program.{Program}
 use Rattle.ac_lexer.specs.declared.token.Token.{Token}
 use Rattle.ac_parser.specs.declared.faults.SyntaxFault.{SyntaxFault}
 use Rattle.ac_parser.specs.declared.faults.SyntaxFault.TheVariants as f
-use Rattle.ac_parser.specs.Spelling.{Marked, tokens}
+use Rattle.reading_laws.specs.Marks.{Marked, tokens, Low, cut}
 use Rattle.ac_parser.specs.SpellingOfItems.{ProgramSpells}
 
 -- how deep a token may be
 abbrev pub limit : ℕ
 limit = 256
-
--- no token is deeper than a limit
-abbrev pub Low : ℕ → List Marked → Type 0
-Low most [] = Unit {0}
-Low most (m ∷ ms) = (m.depth ≤ most) × Low most ms
-
--- the tokens from the first on that is too deep, with rest behind them
-abbrev pub cut : ℕ → List Marked → List Token → Option (List Token)
-cut most [] rest = None
-cut most (m ∷ ms) rest = if ltb most m.depth then Some (m.token ∷ (tokens ms ++ rest)) else cut most ms rest
 
 -- the place of the first token, or the length of the text where there is none
 abbrev pub place_in : ℕ → List Token → ℕ
@@ -55,7 +45,8 @@ pub record TooDeepAt (ts : List Token) (at : ℕ) : Type 0 where
   pub closing : List Marked
   pub tree : Program
   pub spells : ProgramSpells tree (used ++ deep ∷ closing)
-  pub always : (p : Program) (ms : List Marked) (more : List Token) → ProgramSpells p ms → tokens ms ≡ tokens used ++ deep.token ∷ more → cut limit ms [] ≡ Some (deep.token ∷ more)
+  pub always : (p : Program) (ms : List Marked) (more : List Token) → ProgramSpells p ms → tokens ms ≡ tokens used ++ deep.token ∷ more
+      → cut limit ms [] ≡ Some (deep.token ∷ more)
 
 -- The tokens spell the tree, none is too deep, and they spell no other.
 pub record IsTree (ts : List Token) (p : Program) : Type 0 where

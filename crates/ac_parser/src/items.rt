@@ -1,13 +1,18 @@
 //! The top level.
 
 ghost use Rattle.std.specs.Prelude.{◌≡◌};
-ghost use Rattle.ac_parser.specs.Reads.{Gives, has_token, with_front};
-ghost use Rattle.ac_parser.specs.ReadsItems.{signed_number_at, global_value_at, global_size_at, global_plain_at, brackets_at, param_at, next_param_at, more_params_at, some_params_at, params_at, function_at, int_item_at, void_item_at, gives_at, async_item_at, channel_at, file_at, core_at, item_at, items_at, program_at};
+ghost use Rattle.ac_expressions.specs.Returned.{Gives};
+ghost use Rattle.reading_laws.specs.inner.Tokens.{has_token};
+ghost use Rattle.reading_laws.specs.Readers.{with_front};
+ghost use Rattle.ac_parser.specs.inner.ReadsItems.{signed_number_at, global_value_at, global_size_at, global_plain_at, brackets_at};
+ghost use Rattle.ac_parser.specs.inner.ReadsItems.{param_at, next_param_at, more_params_at, some_params_at, params_at, function_at};
+ghost use Rattle.ac_parser.specs.inner.ReadsItems.{int_item_at, void_item_at, gives_at, async_item_at, channel_at, file_at, core_at};
+ghost use Rattle.ac_parser.specs.inner.ReadsItems.{item_at, items_at, program_at};
 
-use crate::cursor::{Cursor, Halt, is_mark, is_word, mark, name, negated, number, text, word};
 use crate::forms::{ItemBegins, ParamsBegin, item_next, params_next};
 use crate::statements::block;
 use ac_base::{List, Name};
+use ac_expressions::{Cursor, Halt, is_mark, is_word, mark, name, negated, number, text, word};
 use ac_lexer::{Mark, Word};
 use ac_tree::{Function, Item, Param, Program};
 use std::alloc::Global;
@@ -265,7 +270,7 @@ fn core_item(alloc: Global, c: &mut Cursor<'_>) -> Result<Item, Halt>
 
 // ---- the program
 
-#[tactic(auto, unfolding(crate::specs::ReadsItems::item_at))]
+#[tactic(auto, unfolding(crate::specs::inner::ReadsItems::item_at))]
 fn item(alloc: Global, c: &mut Cursor<'_>) -> Result<Item, Halt>
     ensures { Gives c.new.rest.now (λ x. (x, c.new.rest.now)) result (item_at c.old.rest.now) }
 {
@@ -305,7 +310,7 @@ fn items(alloc: Global, c: &mut Cursor<'_>) -> Result<List<Item>, Halt>
 }
 
 /// Items up to the end of the tokens.
-#[tactic(auto, unfolding(crate::specs::ReadsItems::program_at))]
+#[tactic(auto, unfolding(crate::specs::inner::ReadsItems::program_at))]
 pub fn program(alloc: Global, c: &mut Cursor<'_>) -> Result<Program, Halt>
     ensures { Gives c.new.rest.now (λ x. (x, c.new.rest.now)) result (program_at c.old.rest.now) }
 {

@@ -1,8 +1,6 @@
 //! From the tokens of a program to its tree.
 #![tactic(auto)]
 
-mod cursor;
-mod expressions;
 mod faults;
 mod forms;
 mod items;

@@ -3,10 +3,10 @@
 ghost use Rattle.std.specs.Prelude.{◌≡◌};
 ghost use Rattle.ac_parser.specs.Places.{Parses, place_in};
 
-use crate::cursor::{Cursor, Halt};
 use crate::faults::SyntaxFault;
 use crate::items::program;
 use ac_base::List;
+use ac_expressions::{Cursor, Halt};
 use ac_lexer::Token;
 use ac_tree::Program;
 use std::alloc::Global;
@@ -25,8 +25,9 @@ fn place_next(c: &Cursor<'_>, len: u32) -> u32
 ///
 /// A token is too deep where it is contained in more than 256 statements, parentheses, brackets and operands of unary operators.
 pub fn parse(alloc: Global, tokens: &List<Token>, len: u32) -> Result<Program, SyntaxFault>
-    // Ok: the tokens spell this program and no other, and none is too deep. Unexpected: what comes before the place begins a program, and with
-    // the token there it begins none. Too deep: in each program that begins so, the token at the place is the first that is too deep.
+    // Ok: the tokens spell this program and no other, and none is too deep.
+    // Unexpected: what comes before the place begins a program, and with the token there none.
+    // Too deep: in each program that begins so, the token at the place is the first too deep.
     ensures { Parses len tokens.now result }
 {
     let mut c = Cursor {

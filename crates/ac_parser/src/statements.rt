@@ -3,17 +3,22 @@
 //! The room is as in expressions: in a part behind its first token, that of what is one deeper.
 
 ghost use Rattle.std.specs.Prelude.{◌≡◌, suc, ◌+◌, ◌<◌, ◌^◌};
-ghost use Rattle.ac_parser.specs.Reads.{Gives};
-ghost use Rattle.ac_parser.specs.ReadsExpressions.{expr_at};
-ghost use Rattle.ac_parser.specs.ReadsStatements.{named_simple_at, simple_at, deep_number_at, deep_text_at, decl_value_at, decl_size_at, decl_plain_at, whole_decl_at, decl_at, test_at, whole_int_init_at, int_init_at, init_at, next_at, whole_head_at, begins_head, head_at, entry_at, entries_at, block_at, block_stmt_at, empty_at, plain_do_at, labelled_at, call_stmt_at, assign_at, named_stmt_at, operation_stmt_at, print_at, other_at, branches_at, if_at, while_at, for_at, break_at, continue_at, yield_at, return_at, async_at, cancel_at, stmt_at};
+ghost use Rattle.ac_expressions.specs.Returned.{Gives};
+ghost use Rattle.ac_expressions.specs.Reads.{expr_at};
+ghost use Rattle.ac_parser.specs.inner.ReadsStatements.{named_simple_at, simple_at, decl_value_at, decl_size_at, decl_plain_at};
+ghost use Rattle.ac_parser.specs.inner.ReadsStatements.{whole_decl_at, decl_at, test_at, whole_int_init_at, int_init_at, init_at, next_at};
+ghost use Rattle.ac_parser.specs.inner.ReadsStatements.{whole_head_at, begins_head, head_at, entry_at, entries_at, block_at, block_stmt_at};
+ghost use Rattle.ac_parser.specs.inner.ReadsStatements.{empty_at, plain_do_at, labelled_at, call_stmt_at, assign_at, named_stmt_at};
+ghost use Rattle.ac_parser.specs.inner.ReadsStatements.{operation_stmt_at, print_at, other_at, branches_at, if_at, while_at, for_at};
+ghost use Rattle.ac_parser.specs.inner.ReadsStatements.{break_at, continue_at, yield_at, return_at, async_at, cancel_at, stmt_at};
+ghost use Rattle.reading_laws.specs.inner.Tokens.{deep_number_at, deep_text_at};
 
-use crate::cursor::{
-    Cursor, Halt, is_mark, is_name, is_number, is_other, is_text, is_word, mark, name, number,
-    text, word,
-};
-use crate::expressions::{call, expression, more_args, named_place, operation, place};
-use crate::forms::{ForBegins, Opening, for_next, is_expression, is_statement, opening_next};
+use crate::forms::{ForBegins, Opening, for_next, is_statement, opening_next};
 use ac_base::{Boxed, Bytes, List, Name};
+use ac_expressions::{
+    Cursor, Halt, call, expression, is_expression, is_mark, is_name, is_number, is_other, is_text,
+    is_word, mark, more_args, name, named_place, number, operation, place, text, word,
+};
 use ac_lexer::{Mark, Word};
 use ac_tree::{Expr, Stmt};
 use std::alloc::Global;
@@ -346,7 +351,7 @@ fn cancel(alloc: Global, c: &mut Cursor<'_>) -> Result<Stmt, Halt>
 
 /// A statement.
 #[cycle(stmt)]
-#[tactic(auto, unfolding(crate::specs::ReadsStatements::stmt_at))]
+#[tactic(auto, unfolding(crate::specs::inner::ReadsStatements::stmt_at))]
 pub fn statement(alloc: Global, c: &mut Cursor<'_>, room: u32) -> Result<Stmt, Halt>
     ensures { Gives c.new.rest.now (λ x. (x, c.new.rest.now)) result (stmt_at room c.old.rest.now) }
 {

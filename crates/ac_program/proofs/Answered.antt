@@ -4,9 +4,9 @@ use Rattle.std.specs.Prelude.{Bool, true, false, ltb, if◌then◌else◌}
 use Rattle.std.proofs.lemmas.List.{append-nil}
 use Rattle.ac_tree.specs.declared.item.Program.{Program}
 use Rattle.ac_lexer.specs.declared.token.Token.{Token}
-use Rattle.ac_parser.specs.Spelling.{Marked, tokens}
-use Rattle.ac_parser.specs.Places.{Low, cut, limit, Stuck, UnexpectedAt, TooDeepAt, IsTree}
-use Rattle.ac_parser.proofs.Marking.{tokens_append, same_length, not_over, or_else, cut_append}
+use Rattle.reading_laws.specs.Marks.{Marked, tokens, Low, cut}
+use Rattle.ac_parser.specs.Places.{limit, Stuck, UnexpectedAt, TooDeepAt, IsTree}
+use Rattle.reading_laws.proofs.Marking.{tokens_append, same_length, not_over, or_else, cut_append}
 
 -- ---- where two ways to cut a list meet
 
@@ -78,7 +78,8 @@ module _ (ts : List Token) (len at place : ℕ) (u : UnexpectedAt len ts at) (d 
   -- the program that goes on from the token that is too deep goes on from the unexpected one
   goes_on : (used rest m : List Token) → Stuck used rest → tokens d.used ≡ used ++ m → rest ≡ m ++ d.deep.token ∷ d.rest → ⊥
   goes_on used rest [] stuck e r =
-      subst (Stuck used) r stuck d.tree whole (tokens d.closing) d.spells (tokens_append d.used (d.deep ∷ d.closing) ∙ ap (λ (ys : List Token). ys ++ d.deep.token ∷ tokens d.closing) (e ∙ append-nil used))
+      subst (Stuck used) r stuck d.tree whole (tokens d.closing) d.spells (tokens_append d.used (d.deep ∷ d.closing)
+      ∙ ap (λ (ys : List Token). ys ++ d.deep.token ∷ tokens d.closing) (e ∙ append-nil used))
   goes_on used rest (x ∷ m) stuck e r =
       subst (Stuck used) r stuck d.tree whole (m ++ d.deep.token ∷ tokens d.closing) d.spells
       (tokens_append d.used (d.deep ∷ d.closing) ∙ ap (λ (ys : List Token). ys ++ d.deep.token ∷ tokens d.closing) e ∙ append_assoc used (x ∷ m) (d.deep.token ∷ tokens d.closing))

@@ -27,10 +27,6 @@ pub value_small : (word : List ℕ) (i : ℕ) → i < 7 → i < length word → 
 value_small word i l within d =
     small i (digits_value 10 (take i word)) l (subst (λ k. digits_value 10 (take i word) < 10 ^ k) (length-take-le i word (omega arith)) (digits_value-lt 10 (take i word) d))
 
-pub value_more : (word : List ℕ) (i value digit : ℕ) → i < length word → value ≡ digits_value 10 (take i word) → digit ≡ digit_value (get_or word i 0) → value * 10 + digit ≡ digits_value 10 (take (i + 1) word)
+pub value_more : (word : List ℕ) (i value digit : ℕ) → i < length word → value ≡ digits_value 10 (take i word) → digit ≡ digit_value (get_or word i 0)
+    → value * 10 + digit ≡ digits_value 10 (take (i + 1) word)
 value_more word i value digit within e d = rw (digits_value_more 10 word i within, e, d) refl
-
--- digits whose value is not 0 are some
-pub some_digits : (word : List ℕ) → 1 ≤ digits_value 10 word → 1 ≤ length word
-some_digits [] h = absurd (omega (arith, h))
-some_digits (x ∷ xs) h = omega arith

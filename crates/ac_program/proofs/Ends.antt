@@ -15,7 +15,7 @@ use Rattle.stack_code.specs.Machine.{Flat, FlatEnd, exec, first_flat, Runs}
 use Rattle.core_machine.specs.declared.pause.Pause.{Pause}
 use Rattle.core_machine.specs.declared.pause.Pause.TheVariants as pause
 use Rattle.core_machine.specs.Words.{word_of}
-use Rattle.core_machine.specs.Machine.{Machine, IsRun, IsSeen, IsPaused}
+use Rattle.core_machine.specs.Machine.{Machine, IsOnItsWay, IsSeen, IsPaused}
 use Rattle.ac_compile.specs.Compiled.{IsCodeOf}
 use Rattle.ac_translation.specs.Same.{IsSame}
 use Rattle.std.proofs.lemmas.List.{length-map}
@@ -38,7 +38,7 @@ has_ended pause.OutOfSteps word e = rw e tt
 word_seen : (p : Pause) (o : Option CoreEnd) (end : CoreEnd) → o ≡ Some end → IfSome o (λ e. e.word ≡ word_of p) → HasEnded end.word
 word_seen p o end e h = let w : end.word ≡ word_of p = rw e at h in has_ended p end.word w
 
-ends_at : (m : Machine) (end : MachineEnd) (p : Pause) (state : Move Flat FlatEnd) → m.state ≡ state → IsRun m → IsPaused state p → IsSeen state end → Ends m end
+ends_at : (m : Machine) (end : MachineEnd) (p : Pause) (state : Move Flat FlatEnd) → m.state ≡ state → IsOnItsWay m → IsPaused state p → IsSeen state end → Ends m end
 ends_at m end p (On f) e r q s = absurd q
 ends_at m end p (Over x) e r q s =
     let same : x ≡ flat_end (Some end.core) end.instructions = ap (λ (c : Option CoreEnd). flat_end c x.count) s.0 ∙ ap (flat_end (Some end.core)) s.1 in
@@ -47,7 +47,7 @@ ends_at m end p (Over x) e r q s =
       ended = word_seen p x.core end.core s.0 q;
     }
 
-ends : (m : Machine) (end : MachineEnd) (p : Pause) → IsRun m → IsPaused m.state p → IsSeen m.state end → Ends m end
+ends : (m : Machine) (end : MachineEnd) (p : Pause) → IsOnItsWay m → IsPaused m.state p → IsSeen m.state end → Ends m end
 ends m end p r q s = ends_at m end p m.state refl r q s
 
 -- ---- the only core
@@ -57,17 +57,19 @@ all_one P x p zero d lt = p
 all_one P x p (suc k) d lt = absurd (omega arith)
 
 -- and it has ended
-pub only_ended : (m : Machine) (end : MachineEnd) (p : Pause) → IsRun m → IsPaused m.state p → IsSeen m.state end → (cores : List MachineEnd) → cores ≡ end ∷ [] → HaveEnded cores
+pub only_ended : (m : Machine) (end : MachineEnd) (p : Pause) → IsOnItsWay m → IsPaused m.state p → IsSeen m.state end → (cores : List MachineEnd) → cores ≡ end ∷ [] → HaveEnded cores
 only_ended m end p r q s cores c = rw c (all_one (λ e. HasEnded e.core.word) end (ends m end p r q s).ended)
 
 abbrev entries_of : Log → List Entry
 entries_of j = j.entries
 
-runs_as : (code code' : Parts) (core core' bound bound' : ℕ) (journal journal' : List Entry) (x : FlatEnd) → code ≡ code' → core ≡ core' → bound ≡ bound' → journal ≡ journal' → Runs code core bound journal x → Runs code' core' bound' journal' x
+runs_as : (code code' : Parts) (core core' bound bound' : ℕ) (journal journal' : List Entry) (x : FlatEnd) → code ≡ code' → core ≡ core' → bound ≡ bound' → journal ≡ journal'
+    → Runs code core bound journal x → Runs code' core' bound' journal' x
 runs_as code code' core core' bound bound' journal journal' x c k b j r = rw (← c, ← k, ← b, ← j) r
 
-module _ (program : Program) (code : Parts) (is_code : IsCodeOf program code) (is_same : IsSame code (resolved program)) (only : length code.entries ≡ 1) (steps : ℕ) (m : Machine) (end : MachineEnd) (p : Pause) (core_log worker_log : Log)
-    (code_is : m.code ≡ code) (core_is : m.core ≡ 0) (bound_is : m.bound ≡ steps) (run : IsRun m) (paused : IsPaused m.state p) (seen : IsSeen m.state end)
+module _ (program : Program) (code : Parts) (is_code : IsCodeOf program code) (is_same : IsSame code (resolved program)) (only : length code.entries ≡ 1) (steps : ℕ) (m : Machine) (end : MachineEnd)
+    (p : Pause) (core_log worker_log : Log)
+    (code_is : m.code ≡ code) (core_is : m.core ≡ 0) (bound_is : m.bound ≡ steps) (run : IsOnItsWay m) (paused : IsPaused m.state p) (seen : IsSeen m.state end)
     (logged : core_log.entries ≡ m.journal) (none : m.journal ≡ []) (worker : worker_log.entries ≡ []) where
   over : Ends m end
   over = ends m end p run paused seen

@@ -1,10 +1,17 @@
 pub mod Answered
+pub mod Calls
+pub mod Consequences
 pub mod Digits
 pub mod Endings
 pub mod Ends
+pub mod Faults
 pub mod Names
+pub mod OneRun
 pub mod Reasons
 pub mod Refusals
 pub mod Scans
+pub mod Statuses
+pub mod Stopping
 pub mod Streams
+pub mod TwoRules
 pub mod Examples

@@ -17,31 +17,32 @@ use Rattle.ac_program.proofs.Answered.{not_deep, not_unexpected, not_both}
 -- ---- what a source is, from its tokens on
 
 -- what is known of a program that a source spells
-data Ruled (bound : ℕ) (p : Program) : ℕ → Type 0 where
+pub data Ruled (bound : ℕ) (p : Program) : ℕ → Type 0 where
   breaks : (rule at : ℕ) → IsLeastBroken p.items rule at → Ruled bound p 3
   many : BreaksNone p.items → 4000000 < all_steps p bound → Ruled bound p 10
   unbuilt : (at : ℕ) → BreaksNone p.items → all_steps p bound ≤ 4000000 → slice_get (unbuilt_nodes p.items) 0 ≡ Some at → Ruled bound p 15
   built : BreaksNone p.items → all_steps p bound ≤ 4000000 → unbuilt_nodes p.items ≡ [] → Ruled bound p 0
 
 -- what a source comes to, by its status, where 0 stands for those of cores
-data Comes (source : List ℕ) (bound : ℕ) : ℕ → Type 0 where
+pub data Comes (source : List ℕ) (bound : ℕ) : ℕ → Type 0 where
   faulty : (f : LexFault) → HasFault source f → Comes source bound 2
   stray : (at : ℕ) → IsUnexpected source at → Comes source bound 2
   deep : (at : ℕ) → IsTooDeep source at → Comes source bound 10
   spelled : (p : Program) (number : ℕ) → IsSpelled source p → Ruled bound p number → Comes source bound number
 
-comes_of : (source : List ℕ) (bound : ℕ) (refusal : Refusal) → Refuses source bound refusal → Comes source bound (refusal_status refusal)
-comes_of source bound (r.BadByte at) h = faulty (l.BadByte at) h
-comes_of source bound (r.NumberTooLarge at) h = faulty (l.NumberTooLarge at) h
-comes_of source bound (r.OpenComment at) h = faulty (l.OpenComment at) h
-comes_of source bound (r.OpenText at) h = faulty (l.OpenText at) h
-comes_of source bound (r.Unexpected at) h = stray at h
-comes_of source bound (r.TooDeep at) h = deep at h
-comes_of source bound (r.Broken rule) h = spelled h.program 3 h.spelled (breaks rule.rule rule.at h.least)
-comes_of source bound r.TooManySteps h = spelled h.program 10 h.is_accepted.spelled (many h.is_accepted.clean h.over)
-comes_of source bound (r.NotBuilt at) h = spelled h.program 15 h.is_within.is_accepted.spelled (unbuilt at h.is_within.is_accepted.clean h.is_within.within h.unbuilt)
+pub comes_of : (source : List ℕ) (bound : ℕ) → length source ≤ 1048576 → (refusal : Refusal) → Refuses source bound refusal → Comes source bound (refusal_status refusal)
+comes_of source bound short r.TooLong h = absurd (omega (arith, short, h))
+comes_of source bound short (r.BadByte at) h = faulty (l.BadByte at) h
+comes_of source bound short (r.NumberTooLarge at) h = faulty (l.NumberTooLarge at) h
+comes_of source bound short (r.OpenComment at) h = faulty (l.OpenComment at) h
+comes_of source bound short (r.OpenText at) h = faulty (l.OpenText at) h
+comes_of source bound short (r.Unexpected at) h = stray at h
+comes_of source bound short (r.TooDeep at) h = deep at h
+comes_of source bound short (r.Broken rule) h = spelled h.program 3 h.spelled (breaks rule.rule rule.at h.least)
+comes_of source bound short r.TooManySteps h = spelled h.program 10 h.is_accepted.spelled (many h.is_accepted.clean h.over)
+comes_of source bound short (r.NotBuilt at) h = spelled h.program 15 h.is_within.is_accepted.spelled (unbuilt at h.is_within.is_accepted.clean h.is_within.within h.unbuilt)
 
-runs_of : (source : List ℕ) (bound : ℕ) (p : Program) → IsRunnable source bound p → Comes source bound 0
+pub runs_of : (source : List ℕ) (bound : ℕ) (p : Program) → IsRunnable source bound p → Comes source bound 0
 runs_of source bound p h = spelled p 0 h.is_within.is_accepted.spelled (built h.is_within.is_accepted.clean h.is_within.within h.built)
 
 -- ---- one of each
@@ -54,7 +55,8 @@ same_tokens source ts us h t = let e = h.only (Ok us) t.lexed in cc (e)
 
 module _ (source : List ℕ) where
   stray_spelled : (at : ℕ) (p : Program) → IsUnexpected source at → IsSpelled source p → ⊥
-  stray_spelled at p u s = not_unexpected s.tokens p (length source) at s.tree (subst (λ (ts : List Token). UnexpectedAt (length source) ts at) (same_tokens source s.tokens u.tokens s.lexed u.lexed) u.unexpected)
+  stray_spelled at p u s = not_unexpected s.tokens p (length source) at s.tree
+      (subst (λ (ts : List Token). UnexpectedAt (length source) ts at) (same_tokens source s.tokens u.tokens s.lexed u.lexed) u.unexpected)
 
   deep_spelled : (at : ℕ) (p : Program) → IsTooDeep source at → IsSpelled source p → ⊥
   deep_spelled at p d s = not_deep s.tokens p at s.tree (subst (λ (ts : List Token). TooDeepAt ts at) (same_tokens source s.tokens d.tokens s.lexed d.lexed) d.deep)
@@ -62,7 +64,7 @@ module _ (source : List ℕ) where
   stray_deep : (at place : ℕ) → IsUnexpected source at → IsTooDeep source place → ⊥
   stray_deep at place u d = not_both u.tokens (length source) at place u.unexpected (subst (λ (ts : List Token). TooDeepAt ts place) (same_tokens source u.tokens d.tokens u.lexed d.lexed) d.deep)
 
-  same_program : (p q : Program) → IsSpelled source p → IsSpelled source q → p ≡ q
+  pub same_program : (p q : Program) → IsSpelled source p → IsSpelled source q → p ≡ q
   same_program p q s t = s.tree.only q t.tree.marks t.tree.spells (sym t.tree.split ∙ same_tokens source s.tokens t.tokens s.lexed t.lexed)
 
 none_first : (ns : List ℕ) (at : ℕ) → slice_get ns 0 ≡ Some at → ns ≡ [] → ⊥
@@ -87,7 +89,7 @@ one_rule bound p _ _ (built c w u) (many c' o) = absurd (omega (arith, o, w))
 one_rule bound p _ _ (built c w u) (unbuilt at c' w' u') = absurd (none_first (unbuilt_nodes p.items) at u' u)
 one_rule bound p _ _ (built c w u) (built c' w' u') = refl
 
-one_status : (source : List ℕ) (bound m n : ℕ) → Comes source bound m → Comes source bound n → m ≡ n
+pub one_status : (source : List ℕ) (bound m n : ℕ) → Comes source bound m → Comes source bound n → m ≡ n
 one_status source bound _ _ (faulty f h) (faulty f' h') = refl
 one_status source bound _ _ (faulty f h) (stray at u) = refl
 one_status source bound _ _ (faulty f h) (deep at d) = absurd (no_tokens source f d.tokens h d.lexed)
@@ -108,10 +110,12 @@ one_status source bound m n (spelled p _ s k) (spelled q _ t j) = one_rule bound
 -- ---- refusals
 
 -- what refuses a source does so with one status
-pub refused_once : (source : List ℕ) (bound : ℕ) (a b : Refusal) → Refuses source bound a → Refuses source bound b → refusal_status a ≡ refusal_status b
-refused_once source bound a b h k = one_status source bound (refusal_status a) (refusal_status b) (comes_of source bound a h) (comes_of source bound b k)
+pub refused_once : (source : List ℕ) (bound : ℕ) → length source ≤ 1048576 → (a b : Refusal) → Refuses source bound a → Refuses source bound b → refusal_status a ≡ refusal_status b
+refused_once source bound short a b h k =
+    one_status source bound (refusal_status a) (refusal_status b) (comes_of source bound short a h) (comes_of source bound short b k)
 
-some_status : (refusal : Refusal) → 2 ≤ refusal_status refusal
+pub some_status : (refusal : Refusal) → 2 ≤ refusal_status refusal
+some_status r.TooLong = omega arith
 some_status (r.BadByte at) = omega arith
 some_status (r.NumberTooLarge at) = omega arith
 some_status (r.OpenComment at) = omega arith
@@ -123,6 +127,6 @@ some_status r.TooManySteps = omega arith
 some_status (r.NotBuilt at) = omega arith
 
 -- and it is not run
-pub refused_not : (source : List ℕ) (bound : ℕ) (refusal : Refusal) (p : Program) → Refuses source bound refusal → IsRunnable source bound p → ⊥
-refused_not source bound refusal p h k =
-    absurd (omega (arith, some_status refusal, one_status source bound (refusal_status refusal) 0 (comes_of source bound refusal h) (runs_of source bound p k)))
+pub refused_not : (source : List ℕ) (bound : ℕ) → length source ≤ 1048576 → (refusal : Refusal) (p : Program) → Refuses source bound refusal → IsRunnable source bound p → ⊥
+refused_not source bound short refusal p h k =
+    absurd (omega (arith, some_status refusal, one_status source bound (refusal_status refusal) 0 (comes_of source bound short refusal h) (runs_of source bound p k)))

@@ -5,36 +5,53 @@ use Rattle.std.specs.declared.option.Option.{Option}
 use Rattle.std.specs.Str.Parse.{digits_value}
 use Rattle.ac_program.specs.declared.words.scan.Next.{Next}
 use Rattle.ac_program.specs.declared.words.scan.Next.TheVariants.{Any, Value, Operand}
-use Rattle.ac_program.specs.Words.{IsPlain, IsBound, IsArguments, IsRun}
+use Rattle.ac_program.specs.Words.{IsPlain, IsBound, IsArguments, IsRunCall}
 use Rattle.ac_program.specs.Words.IsArguments.{no_more, operand, bound_apart, bound_joined, only_operands}
-use Rattle.ac_program.specs.Scanning.{IsOnly, IsMeant, CompletesNext, CompletesAny, CompletesValue, CompletesOperands}
+use Rattle.ac_program.specs.inner.Scanning.{IsOnly, IsMeant, CompletesNext, CompletesAny, CompletesValue, CompletesOperands}
 
 -- how a word goes into a call, where options may stand
 data Step (read : Option (List ℕ)) (bound : Option ℕ) (word : List ℕ) (words : List (List ℕ)) (file : List ℕ) (steps : ℕ) : Type 0 where
   plain : IsPlain word → read ≡ None → CompletesAny (Some word) bound words file steps → Step read bound word words file steps
   value : word ≡ codes "--steps" → bound ≡ None → CompletesValue read words file steps → Step read bound word words file steps
-  joined : (numeral : List ℕ) (number : ℕ) → word ≡ codes "--steps=" ++ numeral → IsBound numeral number → bound ≡ None → CompletesAny read (Some number) words file steps → Step read bound word words file steps
+  joined : (numeral : List ℕ) (number : ℕ) → word ≡ codes "--steps=" ++ numeral → IsBound numeral number → bound ≡ None → CompletesAny read (Some number) words file steps
+      → Step read bound word words file steps
   rest : word ≡ codes "--" → CompletesOperands read bound words file steps → Step read bound word words file steps
 
 step_of : (read : Option (List ℕ)) (bound : Option ℕ) {word : List ℕ} {words operands : List (List ℕ)} {given : Option ℕ} (file : List ℕ) (steps : ℕ) →
     IsArguments (word ∷ words) operands given → IsOnly read operands file → IsMeant bound given steps → Step read bound word words file steps
 step_of None bound file steps (operand p a) o m = plain p refl (record { operands = _; given = _; arguments = a; only = (cc, cc); meant = m })
 step_of (Some old) bound file steps (operand p a) o m = absurd (cc (o.0))
-step_of read None file steps (bound_apart e h a) o m = value e refl (record { value = _; others = _; number = _; split = refl; is_bound = h; completes = record { operands = _; given = None; arguments = a; only = o; meant = (refl, m) } })
+step_of read None file steps (bound_apart e h a) o m = value e refl (record {
+  value = _;
+  others = _;
+  number = _;
+  split = refl;
+  is_bound = h;
+  completes = record { operands = _; given = None; arguments = a; only = o; meant = (refl, m) };
+})
 step_of read (Some old) file steps (bound_apart e h a) o m = absurd (cc (m.0))
 step_of read None file steps (bound_joined e h a) o m = joined _ _ e h refl (record { operands = _; given = None; arguments = a; only = o; meant = (refl, m) })
 step_of read (Some old) file steps (bound_joined e h a) o m = absurd (cc (m.0))
 step_of read bound file steps (only_operands e h) o m = rest e (record { named = h; only = o; meant = m })
 
-forth : (read : Option (List ℕ)) (bound : Option ℕ) (word : List ℕ) (words : List (List ℕ)) (file : List ℕ) (steps : ℕ) → CompletesAny read bound (word ∷ words) file steps → Step read bound word words file steps
+forth : (read : Option (List ℕ)) (bound : Option ℕ) (word : List ℕ) (words : List (List ℕ)) (file : List ℕ) (steps : ℕ) → CompletesAny read bound (word ∷ words) file steps
+    → Step read bound word words file steps
 forth read bound word words file steps g = step_of read bound file steps g.arguments g.only g.meant
 
-back : (read : Option (List ℕ)) (bound : Option ℕ) (word : List ℕ) (words : List (List ℕ)) (file : List ℕ) (steps : ℕ) → Step read bound word words file steps → CompletesAny read bound (word ∷ words) file steps
+back : (read : Option (List ℕ)) (bound : Option ℕ) (word : List ℕ) (words : List (List ℕ)) (file : List ℕ) (steps : ℕ) → Step read bound word words file steps
+    → CompletesAny read bound (word ∷ words) file steps
 back None bound word words file steps (plain p e g) = record { operands = word ∷ g.operands; given = g.given; arguments = operand p g.arguments; only = rw (g.only.0, g.only.1) refl; meant = g.meant }
 back (Some old) bound word words file steps (plain p e g) = absurd (cc (e))
-back read None word words file steps (value e _ g) = record { operands = g.completes.operands; given = Some g.number; arguments = rw g.split (bound_apart e g.is_bound (rw g.completes.meant.0 at g.completes.arguments)); only = g.completes.only; meant = g.completes.meant.1 }
+back read None word words file steps (value e _ g) = record {
+  operands = g.completes.operands;
+  given = Some g.number;
+  arguments = rw g.split (bound_apart e g.is_bound (rw g.completes.meant.0 at g.completes.arguments));
+  only = g.completes.only;
+  meant = g.completes.meant.1;
+}
 back read (Some old) word words file steps (value e b g) = absurd (cc (b))
-back read None word words file steps (joined numeral number e h _ g) = record { operands = g.operands; given = Some number; arguments = bound_joined e h (rw g.meant.0 at g.arguments); only = g.only; meant = g.meant.1 }
+back read None word words file steps (joined numeral number e h _ g) =
+    record { operands = g.operands; given = Some number; arguments = bound_joined e h (rw g.meant.0 at g.arguments); only = g.only; meant = g.meant.1 }
 back read (Some old) word words file steps (joined numeral number e h b g) = absurd (cc (b))
 back read bound word words file steps (rest e g) = record { operands = words; given = None; arguments = only_operands e g.named; only = g.only; meant = g.meant }
 
@@ -48,14 +65,22 @@ same_bound word other numeral many number w e k h = let same : other ≡ numeral
 
 module _ (read : Option (List ℕ)) (bound : Option ℕ) (word : List ℕ) where
   pub at_plain : IsPlain word → read ≡ None → (words : List (List ℕ)) (file : List ℕ) (steps : ℕ) →
-      (CompletesAny read bound (word ∷ words) file steps → CompletesAny (Some word) bound words file steps) × (CompletesAny (Some word) bound words file steps → CompletesAny read bound (word ∷ words) file steps)
+      (CompletesAny read bound (word ∷ words) file steps → CompletesAny (Some word) bound words file steps)
+      × (CompletesAny (Some word) bound words file steps → CompletesAny read bound (word ∷ words) file steps)
   at_plain p e words file steps = (
-    λ g. elim (forth read bound word words file steps g) [ plain _ _ h ↦ h | value w _ _ ↦ absurd (not_plain word _ w p) | joined _ _ w _ _ _ ↦ absurd (not_plain word _ w p) | rest w _ ↦ absurd (not_plain word _ w p) ],
+    λ g. elim (forth read bound word words file steps g) [
+      | plain _ _ h ↦ h
+      | value w _ _ ↦ absurd (not_plain word _ w p)
+      | joined _ _ w _ _ _ ↦ absurd (not_plain word _ w p)
+      | rest w _ ↦
+          absurd (not_plain word _ w p)
+    ],
     λ h. back read bound word words file steps (plain p e h),
   )
 
   pub at_operands : word ≡ codes "--" → (words : List (List ℕ)) (file : List ℕ) (steps : ℕ) →
-      (CompletesAny read bound (word ∷ words) file steps → CompletesOperands read bound words file steps) × (CompletesOperands read bound words file steps → CompletesAny read bound (word ∷ words) file steps)
+      (CompletesAny read bound (word ∷ words) file steps → CompletesOperands read bound words file steps)
+      × (CompletesOperands read bound words file steps → CompletesAny read bound (word ∷ words) file steps)
   at_operands e words file steps = (
     λ g. elim (forth read bound word words file steps g) [ plain p _ _ ↦ absurd (not_plain word _ e p) | value w _ _ ↦ absurd (cc (w, e)) | joined _ _ w _ _ _ ↦ absurd (cc (w, e)) | rest _ h ↦ h ],
     λ h. back read bound word words file steps (rest e h),
@@ -69,9 +94,16 @@ module _ (read : Option (List ℕ)) (bound : Option ℕ) (word : List ℕ) where
   )
 
   pub at_joined : (numeral : List ℕ) (number : ℕ) → word ≡ codes "--steps=" ++ numeral → IsBound numeral number → bound ≡ None → (words : List (List ℕ)) (file : List ℕ) (steps : ℕ) →
-      (CompletesAny read bound (word ∷ words) file steps → CompletesAny read (Some number) words file steps) × (CompletesAny read (Some number) words file steps → CompletesAny read bound (word ∷ words) file steps)
+      (CompletesAny read bound (word ∷ words) file steps → CompletesAny read (Some number) words file steps)
+      × (CompletesAny read (Some number) words file steps → CompletesAny read bound (word ∷ words) file steps)
   at_joined numeral number e h b words file steps = (
-    λ g. elim (forth read bound word words file steps g) [ plain p _ _ ↦ absurd (not_plain word _ e p) | value w _ _ ↦ absurd (cc (w, e)) | joined other many w k _ s ↦ subst (λ n. CompletesAny read (Some n) words file steps) (same_bound word other numeral many number w e k h) s | rest w _ ↦ absurd (cc (w, e)) ],
+    λ g. elim (forth read bound word words file steps g) [
+      | plain p _ _ ↦ absurd (not_plain word _ e p)
+      | value w _ _ ↦ absurd (cc (w, e))
+      | joined other many w k _ s ↦
+          subst (λ n. CompletesAny read (Some n) words file steps) (same_bound word other numeral many number w e k h) s
+      | rest w _ ↦ absurd (cc (w, e))
+    ],
     λ s. back read bound word words file steps (joined numeral number e h b s),
   )
 
@@ -108,26 +140,28 @@ only_read None name operands file e o = absurd (cc (e))
 only_read (Some old) name operands file e o = cc (o.1, e)
 
 -- only one call is formed
-pub one_at_end : (next : Next) (read : Option (List ℕ)) (bound : Option ℕ) (name : List ℕ) → read ≡ Some name → (file : List ℕ) (steps : ℕ) → CompletesNext next read bound [] file steps → (file ≡ name) × (steps ≡ unwrap_or bound 100000)
+pub one_at_end : (next : Next) (read : Option (List ℕ)) (bound : Option ℕ) (name : List ℕ) → read ≡ Some name → (file : List ℕ) (steps : ℕ) → CompletesNext next read bound [] file steps
+    → (file ≡ name) × (steps ≡ unwrap_or bound 100000)
 one_at_end Any read bound name e file steps g = (only_read read name g.operands file e g.only, meant_none bound steps (rw (given_none refl g.arguments) at g.meant))
 one_at_end Value read bound name e file steps g = absurd (cc (g.split))
 one_at_end Operand read bound name e file steps g = (only_read read name [] file e g.only, meant_none bound steps g.meant)
 
 -- ---- the words from a place on
 
-pub words_from : {A : Type 0} (f : A → List ℕ) (items : List A) (i : ℕ) (item : A) (now : List ℕ) → i < length items → item ≡ get_or items i item → now ≡ f item → map f (drop i items) ≡ now ∷ map f (drop (i + 1) items)
+pub words_from : {A : Type 0} (f : A → List ℕ) (items : List A) (i : ℕ) (item : A) (now : List ℕ) → i < length items → item ≡ get_or items i item → now ≡ f item
+    → map f (drop i items) ≡ now ∷ map f (drop (i + 1) items)
 words_from f items i item now l e n = rw (add-one, drop-cons items i item, ← e, n) refl
 
 pub words_end : {A : Type 0} (f : A → List ℕ) (items : List A) (i : ℕ) → length items ≤ i → map f (drop i items) ≡ []
 words_end f items i l = rw (drop_all i items l) refl
 
 -- what `run` asks of the words after it
-pub arguments_of : (words others : List (List ℕ)) (file : List ℕ) (steps : ℕ) → IsRun words file steps → words ≡ codes "run" ∷ others → CompletesAny None None others file steps
+pub arguments_of : (words others : List (List ℕ)) (file : List ℕ) (steps : ℕ) → IsRunCall words file steps → words ≡ codes "run" ∷ others → CompletesAny None None others file steps
 arguments_of words others file steps r e =
     let same : r.command.rest ≡ others = cc (r.command.form, e) in
     record { operands = file ∷ []; given = r.given; arguments = rw same at r.command.arguments; only = refl; meant = r.bound }
 
-pub run_of : (words others : List (List ℕ)) (file : List ℕ) (steps : ℕ) → CompletesAny None None others file steps → words ≡ codes "run" ∷ others → IsRun words file steps
+pub run_of : (words others : List (List ℕ)) (file : List ℕ) (steps : ℕ) → CompletesAny None None others file steps → words ≡ codes "run" ∷ others → IsRunCall words file steps
 run_of words others file steps g e = record {
   given = g.given;
   command = record { rest = others; form = e; arguments = rw g.only at g.arguments };

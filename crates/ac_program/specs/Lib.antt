@@ -1,11 +1,10 @@
-pub mod Causes
+pub mod Headline
 pub mod History
-pub mod Journals
 pub mod Lines
-pub mod Outcome
+pub mod Making
 pub mod Reading
 pub mod Run
-pub mod Scanning
 pub mod Source
 pub mod Words
 pub mod Writing
+pub mod inner

@@ -1,7 +1,7 @@
 -- The lines that the program writes.
 use Rattle.std.specs.Prelude.{ℕ, pos, List, [], ◌∷◌, ◌++◌, codes}
 use Rattle.std.specs.Fmt.{signed_decimal}
-use Rattle.ac_types.specs.declared.rule.Rule.{Rule}
+use Rattle.ac_program.specs.declared.refusal.BrokenRule.{BrokenRule}
 use Rattle.ac_program.specs.declared.refusal.Refusal.{Refusal}
 use Rattle.ac_program.specs.declared.refusal.Refusal.TheVariants as r
 
@@ -18,11 +18,12 @@ limit_source_line = codes "limit: source" ++ 10 ∷ []
 abbrev pub place_line : List ℕ → ℕ → List ℕ
 place_line words at = words ++ (signed_decimal (pos at) ++ 10 ∷ [])
 
-abbrev pub rule_line : Rule → List ℕ
+abbrev pub rule_line : BrokenRule → List ℕ
 rule_line rule = codes "rule C" ++ (signed_decimal (pos rule.rule) ++ (codes " at " ++ (signed_decimal (pos rule.at) ++ 10 ∷ [])))
 
 -- the line of each refusal of a source
 abbrev pub refusal_line : Refusal → List ℕ
+refusal_line r.TooLong = limit_source_line
 refusal_line (r.BadByte at) = place_line (codes "bad byte at ") at
 refusal_line (r.NumberTooLarge at) = place_line (codes "number too large at ") at
 refusal_line (r.OpenComment at) = place_line (codes "open comment at ") at
@@ -35,6 +36,7 @@ refusal_line (r.NotBuilt at) = place_line (codes "not built at ") at
 
 -- and its status
 abbrev pub refusal_status : Refusal → ℕ
+refusal_status r.TooLong = 10
 refusal_status (r.BadByte at) = 2
 refusal_status (r.NumberTooLarge at) = 2
 refusal_status (r.OpenComment at) = 2

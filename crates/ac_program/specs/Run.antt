@@ -21,7 +21,8 @@ pub record IsCoreRun (program : Program) (core bound : ℕ) (journal : Log) (end
 abbrev pub AreCoreRuns : Program → ℕ → ℕ → List Log → List MachineEnd → Type 0
 AreCoreRuns program bound core journals [] = length journals ≡ 1
 AreCoreRuns program bound core [] (end ∷ ends) = ⊥
-AreCoreRuns program bound core (journal ∷ journals) (end ∷ ends) = IsCoreRun program core bound journal end × AreCoreRuns program bound (suc core) journals ends
+AreCoreRuns program bound core (journal ∷ journals) (end ∷ ends) =
+    IsCoreRun program core bound journal end × AreCoreRuns program bound (suc core) journals ends
 
 abbrev pub HasEnded : EndWord → Type 0
 HasEnded Finished = Unit {0}

@@ -7,17 +7,15 @@ use Rattle.ac_lexer.specs.Tokens.{LexesFrom, IsTokensOf, IsFirstFaultOf}
 use Rattle.ac_tree.specs.declared.item.Program.{Program}
 use Rattle.ac_tree.specs.Weight.{IsSmall}
 use Rattle.ac_parser.specs.Places.{IsTree, UnexpectedAt, TooDeepAt}
-use Rattle.ac_types.specs.declared.rule.Rule.{Rule}
+use Rattle.ac_program.specs.declared.refusal.BrokenRule.{BrokenRule}
 use Rattle.ac_types.specs.Reached.{BreaksNone, IsLeastBroken}
-use Rattle.ac_types.specs.Verdicts.{core_names}
+use Rattle.ac_names.specs.Numbered.{core_names}
 use Rattle.ac_resolve.specs.Resolution.{resolved}
 use Rattle.ac_compile.specs.Compiled.{IsCodeOf}
 use Rattle.ac_translation.specs.Same.{IsSame}
 use Rattle.ac_compile.specs.Unbuilt.{unbuilt_nodes}
 use Rattle.ac_program.specs.declared.refusal.Refusal.{Refusal}
 use Rattle.ac_program.specs.declared.refusal.Refusal.TheVariants as r
-use Rattle.ac_program.specs.declared.refusal.Stop.{Stop}
-use Rattle.ac_program.specs.declared.refusal.Stop.TheVariants as s
 use Rattle.stack_code.specs.Parts.{Parts}
 use Rattle.stack_code.specs.Sequential.{IsSequential}
 
@@ -61,7 +59,7 @@ pub record IsAccepted (source : List ℕ) (program : Program) : Type 0 where
   pub clean : BreaksNone program.items
 
 -- the source spells a program, of whose broken rules this is the least
-pub record IsBroken (source : List ℕ) (rule : Rule) : Type 0 where
+pub record IsBroken (source : List ℕ) (rule : BrokenRule) : Type 0 where
   pub program : Program
   pub spelled : IsSpelled source program
   pub least : IsLeastBroken program.items rule.rule rule.at
@@ -104,6 +102,7 @@ pub record IsRunnable (source : List ℕ) (bound : ℕ) (program : Program) : Ty
 
 -- What refuses a source, with so many steps for each core, by the first refusal in the order of work.
 abbrev pub Refuses : List ℕ → ℕ → Refusal → Type 0
+Refuses source bound r.TooLong = 1048576 < length source
 Refuses source bound (r.BadByte at) = HasFault source (l.BadByte at)
 Refuses source bound (r.NumberTooLarge at) = HasFault source (l.NumberTooLarge at)
 Refuses source bound (r.OpenComment at) = HasFault source (l.OpenComment at)
@@ -114,24 +113,7 @@ Refuses source bound (r.Broken rule) = IsBroken source rule
 Refuses source bound r.TooManySteps = IsTooMany source bound
 Refuses source bound (r.NotBuilt at) = IsNotBuilt source bound at
 
--- why work on a source stops, where memory was not refused
-abbrev pub Stops : List ℕ → ℕ → Stop → Type 0
-Stops source bound (s.Refused refusal) = Refuses source bound refusal
-Stops source bound s.NoMemory = Unit {0}
-
--- ---- what each part of the front gives, with whatever bound on steps
-
-abbrev pub GivesTokens : List ℕ → ℕ → Result (List Token) Stop → Type 0
-GivesTokens source bound (Ok tokens) = HasTokens source tokens × (length tokens ≤ length source)
-GivesTokens source bound (Err stop) = Stops source bound stop
-
-abbrev pub GivesProgram : List ℕ → ℕ → Result Program Stop → Type 0
-GivesProgram source bound (Ok program) = IsSpelled source program × IsSmall program
-GivesProgram source bound (Err stop) = Stops source bound stop
-
-abbrev pub GivesChecked : List ℕ → ℕ → Result Program Stop → Type 0
-GivesChecked source bound (Ok program) = IsAccepted source program
-GivesChecked source bound (Err stop) = Stops source bound stop
+-- ---- code
 
 -- the code of a program that the source spells and that is run with this bound
 pub record IsBuilt (source : List ℕ) (bound : ℕ) (code : Parts) : Type 0 where
@@ -141,10 +123,6 @@ pub record IsBuilt (source : List ℕ) (bound : ℕ) (code : Parts) : Type 0 whe
   pub is_same : IsSame code (resolved program)
   pub one_core : length code.entries ≡ 1
   pub sequential : IsSequential code
-
-abbrev pub GivesCode : List ℕ → ℕ → Result Parts Stop → Type 0
-GivesCode source bound (Ok code) = IsBuilt source bound code
-GivesCode source bound (Err stop) = Stops source bound stop
 
 -- the names of the cores of a program
 abbrev pub names_of : Program → List (List ℕ)

@@ -25,10 +25,16 @@ pub record IsBound (word : List ℕ) (steps : ℕ) : Type 0 where
 -- The words after a command give these operands in order and, where one is given, this bound on steps.
 pub data IsArguments : List (List ℕ) → List (List ℕ) → Option ℕ → Type 0 where
   no_more : IsArguments [] [] None
-  operand : {word : List ℕ} {words operands : List (List ℕ)} {given : Option ℕ} → IsPlain word → IsArguments words operands given → IsArguments (word ∷ words) (word ∷ operands) given
-  bound_apart : {word value : List ℕ} {words operands : List (List ℕ)} {steps : ℕ} → word ≡ codes "--steps" → IsBound value steps → IsArguments words operands None → IsArguments (word ∷ value ∷ words) operands (Some steps)
-  bound_joined : {word value : List ℕ} {words operands : List (List ℕ)} {steps : ℕ} → word ≡ codes "--steps=" ++ value → IsBound value steps → IsArguments words operands None → IsArguments (word ∷ words) operands (Some steps)
-  only_operands : {word : List ℕ} {words : List (List ℕ)} → word ≡ codes "--" → All (λ operand. operand ≢ codes "-") words → IsArguments (word ∷ words) words None
+  operand : {word : List ℕ} {words operands : List (List ℕ)} {given : Option ℕ} →
+      IsPlain word → IsArguments words operands given → IsArguments (word ∷ words) (word ∷ operands) given
+  bound_apart : {word value : List ℕ} {words operands : List (List ℕ)} {steps : ℕ} →
+      word ≡ codes "--steps" → IsBound value steps → IsArguments words operands None
+      → IsArguments (word ∷ value ∷ words) operands (Some steps)
+  bound_joined : {word value : List ℕ} {words operands : List (List ℕ)} {steps : ℕ} →
+      word ≡ codes "--steps=" ++ value → IsBound value steps → IsArguments words operands None
+      → IsArguments (word ∷ words) operands (Some steps)
+  only_operands : {word : List ℕ} {words : List (List ℕ)} →
+      word ≡ codes "--" → All (λ operand. operand ≢ codes "-") words → IsArguments (word ∷ words) words None
 
 -- The words are a command of this name, with these operands and, where one is given, this bound on steps.
 pub record IsCommand (name : List ℕ) (words operands : List (List ℕ)) (given : Option ℕ) : Type 0 where
@@ -37,7 +43,7 @@ pub record IsCommand (name : List ℕ) (words operands : List (List ℕ)) (given
   pub arguments : IsArguments rest operands given
 
 -- The words are `run` with one operand, the file, and this bound on steps, which is 100,000 where none is given.
-pub record IsRun (words : List (List ℕ)) (file : List ℕ) (steps : ℕ) : Type 0 where
+pub record IsRunCall (words : List (List ℕ)) (file : List ℕ) (steps : ℕ) : Type 0 where
   pub given : Option ℕ
   pub command : IsCommand (codes "run") words (file ∷ []) given
   pub bound : steps ≡ unwrap_or given 100000

@@ -1,16 +1,16 @@
 //! What is written, and the outcome that goes with it.
 
 ghost use Rattle.std.specs.Prelude.{◌≡◌, ◌≢◌, ◌≤◌, [], length, None, Some};
-ghost use Rattle.ac_outside.specs.Causes.{Rose};
-ghost use Rattle.ac_outside.specs.Told.{CountsOne, GrewBy};
+ghost use Rattle.ac_outside.specs.Told.{OpenedJust, GrewBy};
 ghost use Rattle.ac_program.specs.Writing.{TookFront};
 ghost use Rattle.ac_program.specs.Lines.{refusal_line, refusal_status};
-ghost use Rattle.ac_program.specs.Outcome.{IsDueOf, IsDueOfFile, TookWhole, TookPart};
+ghost use Rattle.ac_program.specs.Headline.{IsDueOfFile, TookWhole, TookPart, TellsLibrary, TellsSink};
+ghost use Rattle.ac_program.specs.Making.{IsDueOf};
 
 use crate::execute::{Done, execute};
 use crate::outcome::Outcome;
 use crate::reading::{ReadFault, read_text};
-use crate::refusal::{Refusal, Stop};
+use crate::refusal::{LIMIT_SOURCE, Refusal, Stop};
 use crate::writing::answer;
 use ac_base::Status;
 use ac_outside::{Library, Sink};
@@ -35,10 +35,9 @@ fn refuse_with<K: Sink>(sink: &mut K, number: u8, text: &[u8]) -> Outcome
     requires { number ≢ 8 }
     ensures run { result.run ≡ None }
     ensures status { result.status.number ≢ 8 → result.status.number ≡ number }
-    ensures whole { result.status.number ≢ 8 → GrewBy (K.held sink.old) (K.held sink.new) text.now }
-    ensures part { result.status.number ≡ 8 → TookFront (K.held sink.old) (K.held sink.new) text.now }
-    ensures failed { result.status.number ≡ 8 → Rose (K.faults sink.old) (K.faults sink.new) }
-    ensures well { result.status.number ≢ 8 → K.faults sink.new ≡ K.faults sink.old }
+    ensures whole { result.status.number ≢ 8 → GrewBy (K.told sink.old).held (K.told sink.new).held text.now }
+    ensures part { result.status.number ≡ 8 → TookFront (K.told sink.old).held (K.told sink.new).held text.now }
+    ensures sink { TellsSink (K.told sink.old) (K.told sink.new) result.status.number }
 {
     let status = answer(sink, Status { number }, text);
     Outcome { status, run: None }
@@ -49,10 +48,9 @@ pub fn refuse<K: Sink>(sink: &mut K, number: u8, line: &str) -> Outcome
     requires { number ≢ 8 }
     ensures run { result.run ≡ None }
     ensures status { result.status.number ≢ 8 → result.status.number ≡ number }
-    ensures whole { result.status.number ≢ 8 → GrewBy (K.held sink.old) (K.held sink.new) line.now }
-    ensures part { result.status.number ≡ 8 → TookFront (K.held sink.old) (K.held sink.new) line.now }
-    ensures failed { result.status.number ≡ 8 → Rose (K.faults sink.old) (K.faults sink.new) }
-    ensures well { result.status.number ≢ 8 → K.faults sink.new ≡ K.faults sink.old }
+    ensures whole { result.status.number ≢ 8 → GrewBy (K.told sink.old).held (K.told sink.new).held line.now }
+    ensures part { result.status.number ≡ 8 → TookFront (K.told sink.old).held (K.told sink.new).held line.now }
+    ensures sink { TellsSink (K.told sink.old) (K.told sink.new) result.status.number }
 {
     refuse_with(sink, number, line.as_bytes())
 }
@@ -61,11 +59,11 @@ pub fn refuse<K: Sink>(sink: &mut K, number: u8, line: &str) -> Outcome
 fn refuse_source<K: Sink>(alloc: Global, sink: &mut K, refusal: Refusal) -> Outcome
     ensures run { result.run ≡ None }
     ensures status { result.status.number ≢ 8 → result.status.number ≢ 11 → result.status.number ≡ refusal_status refusal }
-    ensures whole { result.status.number ≢ 8 → result.status.number ≢ 11 → GrewBy (K.held sink.old) (K.held sink.new) (refusal_line refusal) }
-    ensures part { result.status.number ≡ 8 → TookFront (K.held sink.old) (K.held sink.new) (refusal_line refusal) }
-    ensures memory { result.status.number ≡ 11 → GrewBy (K.held sink.old) (K.held sink.new) [] }
-    ensures failed { result.status.number ≡ 8 → Rose (K.faults sink.old) (K.faults sink.new) }
-    ensures well { result.status.number ≢ 8 → K.faults sink.new ≡ K.faults sink.old }
+    ensures whole { result.status.number ≢ 8 → result.status.number ≢ 11 →
+        GrewBy (K.told sink.old).held (K.told sink.new).held (refusal_line refusal) }
+    ensures part { result.status.number ≡ 8 → TookFront (K.told sink.old).held (K.told sink.new).held (refusal_line refusal) }
+    ensures memory { result.status.number ≡ 11 → GrewBy (K.told sink.old).held (K.told sink.new).held [] }
+    ensures sink { TellsSink (K.told sink.old) (K.told sink.new) result.status.number }
     ensures other { (result.status.number ≢ 1) × (result.status.number ≢ 7) }
 {
     match refusal.line(alloc) {
@@ -78,10 +76,9 @@ fn give<K: Sink>(sink: &mut K, done: Done) -> Outcome
     requires { done.status.number ≢ 8 }
     ensures run { result.run ≡ Some done.ended }
     ensures status { result.status.number ≢ 8 → result.status.number ≡ done.status.number }
-    ensures whole { result.status.number ≢ 8 → GrewBy (K.held sink.old) (K.held sink.new) done.report }
-    ensures part { result.status.number ≡ 8 → TookFront (K.held sink.old) (K.held sink.new) done.report }
-    ensures failed { result.status.number ≡ 8 → Rose (K.faults sink.old) (K.faults sink.new) }
-    ensures well { result.status.number ≢ 8 → K.faults sink.new ≡ K.faults sink.old }
+    ensures whole { result.status.number ≢ 8 → GrewBy (K.told sink.old).held (K.told sink.new).held done.report }
+    ensures part { result.status.number ≡ 8 → TookFront (K.told sink.old).held (K.told sink.new).held done.report }
+    ensures sink { TellsSink (K.told sink.old) (K.told sink.new) result.status.number }
 {
     let Done {
         ended,
@@ -98,12 +95,12 @@ fn give<K: Sink>(sink: &mut K, done: Done) -> Outcome
 /// Runs the program of a source and writes its report, or what refuses it.
 pub fn run_source<K: Sink>(alloc: Global, source: &[u8], steps: u32, sink: &mut K) -> Outcome
     requires { length source.now ≤ 1048576 }
-    ensures whole { result.status.number ≢ 8 → result.status.number ≢ 11 → TookWhole (IsDueOf source.now steps) result.status.number result.run (K.held sink.old) (K.held sink.new) }
-    ensures part { result.status.number ≡ 8 → TookPart (IsDueOf source.now steps) result.run (K.held sink.old) (K.held sink.new) }
-    ensures memory { result.status.number ≡ 11 → GrewBy (K.held sink.old) (K.held sink.new) [] }
+    ensures whole { result.status.number ≢ 8 → result.status.number ≢ 11 →
+        TookWhole (IsDueOf source.now steps) result.status.number result.run (K.told sink.old) (K.told sink.new) }
+    ensures part { result.status.number ≡ 8 → TookPart (IsDueOf source.now steps) result.run (K.told sink.old) (K.told sink.new) }
+    ensures memory { result.status.number ≡ 11 → GrewBy (K.told sink.old).held (K.told sink.new).held [] }
     ensures no_run { result.status.number ≡ 11 → result.run ≡ None }
-    ensures failed { result.status.number ≡ 8 → Rose (K.faults sink.old) (K.faults sink.new) }
-    ensures well { result.status.number ≢ 8 → K.faults sink.new ≡ K.faults sink.old }
+    ensures sink { TellsSink (K.told sink.old) (K.told sink.new) result.status.number }
     ensures other { (result.status.number ≢ 1) × (result.status.number ≢ 7) }
 {
     match execute(alloc, source, steps) {
@@ -122,26 +119,21 @@ pub fn run_file<L: Library, K: Sink>(
     sink: &mut K,
 ) -> Outcome
     ensures whole { result.status.number ≢ 8 → result.status.number ≢ 11 →
-        TookWhole (IsDueOfFile file.now steps
-        (record { text_at = L.text_at library.old; left_after = L.left library.new; opens = L.opens library.old; opens_after = L.opens library.new; faults = L.faults library.old; faults_after = L.faults library.new }))
-        result.status.number result.run (K.held sink.old) (K.held sink.new) }
+        TookWhole (IsDueOfFile file.now steps (L.told library.old) (L.told library.new))
+        result.status.number result.run (K.told sink.old) (K.told sink.new) }
     ensures part { result.status.number ≡ 8 →
-        TookPart (IsDueOfFile file.now steps
-        (record { text_at = L.text_at library.old; left_after = L.left library.new; opens = L.opens library.old; opens_after = L.opens library.new; faults = L.faults library.old; faults_after = L.faults library.new }))
-        result.run (K.held sink.old) (K.held sink.new) }
-    ensures opened { CountsOne (L.opens library.old) (L.opens library.new) }
-    ensures memory { result.status.number ≡ 11 → GrewBy (K.held sink.old) (K.held sink.new) [] }
+        TookPart (IsDueOfFile file.now steps (L.told library.old) (L.told library.new)) result.run (K.told sink.old) (K.told sink.new) }
+    ensures just { OpenedJust (L.told library.old) (L.told library.new) file.now }
+    ensures memory { result.status.number ≡ 11 → GrewBy (K.told sink.old).held (K.told sink.new).held [] }
     ensures no_run { result.status.number ≡ 11 → result.run ≡ None }
-    ensures library_failed { result.status.number ≡ 7 → Rose (L.faults library.old) (L.faults library.new) }
-    ensures library_well { result.status.number ≢ 7 → result.status.number ≢ 8 → L.faults library.new ≡ L.faults library.old }
-    ensures sink_failed { result.status.number ≡ 8 → Rose (K.faults sink.old) (K.faults sink.new) }
-    ensures sink_well { result.status.number ≢ 8 → K.faults sink.new ≡ K.faults sink.old }
+    ensures library { TellsLibrary (L.told library.old) (L.told library.new) result.status.number }
+    ensures sink { TellsSink (K.told sink.old) (K.told sink.new) result.status.number }
     ensures other { result.status.number ≢ 1 }
 {
     match read_text(alloc, library, file) {
         Err(ReadFault::NoMemory) => no_memory(),
         Err(ReadFault::Failed) => refuse(sink, 7, "library fault\n"),
-        Err(ReadFault::TooLong) => refuse(sink, 10, "limit: source\n"),
+        Err(ReadFault::TooLong) => refuse(sink, 10, LIMIT_SOURCE),
         Ok(source) => run_source(alloc, source.as_slice(), steps, sink),
     }
 }

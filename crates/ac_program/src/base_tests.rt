@@ -8,7 +8,7 @@ use std::alloc::Global;
 use std::test::Fail;
 
 #[test]
-fn decimals(rt: HostRuntime) -> Result<(), Fail> {
+fn numbers_are_written_in_decimal(rt: HostRuntime) -> Result<(), Fail> {
     let alloc = rt.alloc();
     for (value, text) in [
         (0, "0"),
@@ -47,7 +47,7 @@ fn ended(
 }
 
 #[test]
-fn reports(rt: HostRuntime) -> Result<(), Fail> {
+fn a_report_has_a_line_and_the_output_of_each_core(rt: HostRuntime) -> Result<(), Fail> {
     let alloc = rt.alloc();
     let trapped = EndWord::Trapped(Trap::ZeroDivisor);
     for (word, steps, count, output, line, number) in [
@@ -104,7 +104,7 @@ fn reports(rt: HostRuntime) -> Result<(), Fail> {
 }
 
 #[test]
-fn statuses(rt: HostRuntime) -> Result<(), Fail> {
+fn a_status_is_the_first_that_a_core_calls_for(rt: HostRuntime) -> Result<(), Fail> {
     let alloc = rt.alloc();
     let trapped = EndWord::Trapped(Trap::Index);
     for (first, second, number) in [
@@ -123,7 +123,7 @@ fn statuses(rt: HostRuntime) -> Result<(), Fail> {
 }
 
 #[test]
-fn memory(rt: HostRuntime) -> Result<(), Fail> {
+fn lists_boxes_and_journals_take_what_they_are_given(rt: HostRuntime) -> Result<(), Fail> {
     let alloc = rt.alloc();
     let mut list = List::new(alloc);
     list.push(4u8)?;

@@ -1,7 +1,7 @@
 //! From a source text to the code of its program.
 
 ghost use Rattle.std.specs.Prelude.{◌≤◌, length};
-ghost use Rattle.ac_program.specs.Source.{GivesCode};
+ghost use Rattle.ac_program.specs.inner.Parts.{GivesCode};
 
 use crate::front::accept;
 use crate::refusal::{Refusal, Stop};

@@ -2,7 +2,8 @@
 
 ghost use Rattle.std.specs.Prelude.{◌≤◌, length, IfOk};
 ghost use Rattle.ac_program.specs.Source.{IsBuilt};
-ghost use Rattle.ac_program.specs.Outcome.{IsDone, GivesDone};
+ghost use Rattle.ac_program.specs.Making.{IsDone};
+ghost use Rattle.ac_program.specs.inner.Parts.{GivesDone};
 
 use crate::building::build;
 use crate::refusal::Stop;

@@ -1,14 +1,8 @@
 //! The top call: from the words of a command line to a status and a report.
 #![tactic(auto)]
 
-ghost use Rattle.std.specs.Prelude.{◌≡◌, ◌≢◌, ◌≤◌, ◌<◌, ◌↔◌, ℕ, ◌⊎◌, List, [], map, length, string_bytes, None, Some};
-ghost use Rattle.ac_tree.specs.declared.item.Program.{Program};
-ghost use Rattle.ac_outside.specs.Causes.{Rose};
-ghost use Rattle.ac_outside.specs.Told.{CountsOne, GrewBy};
-ghost use Rattle.ac_program.specs.Words.{IsRun};
-ghost use Rattle.ac_program.specs.Source.{IsRunnable};
-ghost use Rattle.ac_program.specs.Outcome.{IsDue, TookWhole, TookPart};
-ghost use Rattle.ac_program.specs.Causes.{IsCall, IsTooLong, IsRefused, IsRefusedAs, IsReported, IsOfCores, IsUndisturbed};
+ghost use Rattle.std.specs.Prelude.{◌≡◌, ◌≢◌, map, string_bytes};
+ghost use Rattle.ac_program.specs.Headline.{IsDue, TookWhole, TookPart, GaveUp, TellsUsage, TellsLibrary, TellsSink, IsOfText, IsDecided};
 
 mod answering;
 #[cfg(test)]
@@ -19,7 +13,11 @@ mod front;
 mod outcome;
 mod reading;
 mod refusal;
+#[cfg(test)]
+mod resolved_tests;
 mod running;
+#[cfg(test)]
+mod shown;
 #[cfg(test)]
 mod tests;
 mod words;
@@ -55,66 +53,39 @@ pub fn ac_main<L: Library, K: Sink>(
     library: &mut L,
     sink: &mut K,
 ) -> Outcome
-    // The status is that of the words, the text and its run, and the sink has taken all that is due.
+    // But for a failed sink and want of memory, the status, the run and the text that the sink has
+    // taken are those due for these words and what the library did.
     ensures whole { result.status.number ≢ 8 → result.status.number ≢ 11 →
-        TookWhole (IsDue (map string_bytes words.now)
-        (record { text_at = L.text_at library.old; left_after = L.left library.new; opens = L.opens library.old; opens_after = L.opens library.new; faults = L.faults library.old; faults_after = L.faults library.new }))
-        result.status.number result.run (K.held sink.old) (K.held sink.new) }
+        TookWhole (IsDue (map string_bytes words.now) (L.told library.old) (L.told library.new))
+        result.status.number result.run (K.told sink.old) (K.told sink.new) }
 
-    // The sink failed, and has taken a front of what is due.
+    // Where the sink failed, it has taken a front of a text that is due, and not the whole.
     ensures part { result.status.number ≡ 8 →
-        TookPart (IsDue (map string_bytes words.now)
-        (record { text_at = L.text_at library.old; left_after = L.left library.new; opens = L.opens library.old; opens_after = L.opens library.new; faults = L.faults library.old; faults_after = L.faults library.new }))
-        result.run (K.held sink.old) (K.held sink.new) }
+        TookPart (IsDue (map string_bytes words.now) (L.told library.old) (L.told library.new))
+        result.run (K.told sink.old) (K.told sink.new) }
 
-    // Memory was refused: the words call for a run, the text was opened, nothing is written, and no
-    // run is kept.
-    ensures called { result.status.number ≡ 11 → IsCall (map string_bytes words.now) }
-    ensures opened { result.status.number ≡ 11 → CountsOne (L.opens library.old) (L.opens library.new) }
-    ensures memory { result.status.number ≡ 11 → GrewBy (K.held sink.old) (K.held sink.new) [] }
-    ensures no_run { result.status.number ≡ 11 → result.run ≡ None }
+    // Where memory was refused, the words call for a run, just the file was opened, nothing is
+    // written and no run is kept.
+    ensures memory { result.status.number ≡ 11 →
+        GaveUp (map string_bytes words.now) (L.told library.old) (L.told library.new)
+        result.run (K.told sink.old) (K.told sink.new) }
 
-    // The causes.
-    ensures usage { result.status.number ≡ 1 → (file : List ℕ) (steps : ℕ) → IsRun (map string_bytes words.now) file steps → ⊥ }
-    ensures only_usage { ((file : List ℕ) (steps : ℕ) → IsRun (map string_bytes words.now) file steps → ⊥) → (result.status.number ≡ 1) ⊎ (result.status.number ≡ 8) }
-    ensures library_failed { result.status.number ≡ 7 → Rose (L.faults library.old) (L.faults library.new) }
-    ensures library_well { result.status.number ≢ 7 → result.status.number ≢ 8 → L.faults library.new ≡ L.faults library.old }
-    ensures sink_failed { result.status.number ≡ 8 → Rose (K.faults sink.old) (K.faults sink.new) }
-    ensures sink_well { result.status.number ≢ 8 → K.faults sink.new ≡ K.faults sink.old }
-    ensures misspelled { result.status.number ≡ 2 →
-        IsRefused 2 (map string_bytes words.now)
-        (record { text_at = L.text_at library.old; left_after = L.left library.new; opens = L.opens library.old; opens_after = L.opens library.new; faults = L.faults library.old; faults_after = L.faults library.new }) }
-    ensures broken { result.status.number ≡ 3 →
-        IsRefused 3 (map string_bytes words.now)
-        (record { text_at = L.text_at library.old; left_after = L.left library.new; opens = L.opens library.old; opens_after = L.opens library.new; faults = L.faults library.old; faults_after = L.faults library.new }) }
-    ensures over { result.status.number ≡ 10 →
-        IsTooLong (map string_bytes words.now)
-        (record { text_at = L.text_at library.old; left_after = L.left library.new; opens = L.opens library.old; opens_after = L.opens library.new; faults = L.faults library.old; faults_after = L.faults library.new })
-        ⊎ IsRefused 10 (map string_bytes words.now)
-        (record { text_at = L.text_at library.old; left_after = L.left library.new; opens = L.opens library.old; opens_after = L.opens library.new; faults = L.faults library.old; faults_after = L.faults library.new }) }
-    ensures not_built { result.status.number ≡ 15 →
-        IsRefused 15 (map string_bytes words.now)
-        (record { text_at = L.text_at library.old; left_after = L.left library.new; opens = L.opens library.old; opens_after = L.opens library.new; faults = L.faults library.old; faults_after = L.faults library.new }) }
-    ensures reported { IsOfCores result.status.number →
-        IsReported (map string_bytes words.now)
-        (record { text_at = L.text_at library.old; left_after = L.left library.new; opens = L.opens library.old; opens_after = L.opens library.new; faults = L.faults library.old; faults_after = L.faults library.new })
-        result.status.number result.run }
+    // Status 1 stands for words that are no call.
+    ensures usage { TellsUsage (map string_bytes words.now) result.status.number }
+
+    // Status 7 stands for a library that failed.
+    ensures library { TellsLibrary (L.told library.old) (L.told library.new) result.status.number }
+
+    // Status 8 stands for a sink that failed.
+    ensures sink { TellsSink (K.told sink.old) (K.told sink.new) result.status.number }
+
+    // Any other status is that which the text of the file calls for, and just the file was opened.
+    ensures decided { IsOfText result.status.number →
+        IsDecided (map string_bytes words.now) (L.told library.old) (L.told library.new) result.status.number }
 
     // No core of a program that runs today can wait for ever: only a channel or a file makes a core
     // wait, and neither is built. So no core is stalled, for which status 5 stands.
     ensures no_stall { result.status.number ≢ 5 }
-
-    // What the text decides, where the library tells it.
-    ensures only_misspelled { (file text : List ℕ) (steps : ℕ) → IsRun (map string_bytes words.now) file steps → L.text_at library.old file ≡ Some text →
-        IsUndisturbed result.status.number → (result.status.number ≡ 2) ↔ ((length text ≤ 1048576) × IsRefusedAs 2 text steps) }
-    ensures only_broken { (file text : List ℕ) (steps : ℕ) → IsRun (map string_bytes words.now) file steps → L.text_at library.old file ≡ Some text →
-        IsUndisturbed result.status.number → (result.status.number ≡ 3) ↔ ((length text ≤ 1048576) × IsRefusedAs 3 text steps) }
-    ensures only_over { (file text : List ℕ) (steps : ℕ) → IsRun (map string_bytes words.now) file steps → L.text_at library.old file ≡ Some text →
-        IsUndisturbed result.status.number → (result.status.number ≡ 10) ↔ ((1048576 < length text) ⊎ ((length text ≤ 1048576) × IsRefusedAs 10 text steps)) }
-    ensures only_not_built { (file text : List ℕ) (steps : ℕ) → IsRun (map string_bytes words.now) file steps → L.text_at library.old file ≡ Some text →
-        IsUndisturbed result.status.number → (result.status.number ≡ 15) ↔ ((length text ≤ 1048576) × IsRefusedAs 15 text steps) }
-    ensures only_reported { (file text : List ℕ) (steps : ℕ) → IsRun (map string_bytes words.now) file steps → L.text_at library.old file ≡ Some text →
-        IsUndisturbed result.status.number → IsOfCores result.status.number ↔ ((length text ≤ 1048576) × ((program : Program) × IsRunnable text steps program)) }
 {
     let Some(call) = read_words(words) else {
         return refuse(sink, 1, USAGE);

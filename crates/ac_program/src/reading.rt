@@ -2,7 +2,7 @@
 
 ghost use Rattle.std.specs.Prelude.{◌≡◌, ◌≢◌, ◌+◌, ◌≤◌, length, IfOk, IsErrOf, Err};
 ghost use Rattle.ac_outside.specs.Causes.{Rose};
-ghost use Rattle.ac_outside.specs.Told.{CountsOne};
+ghost use Rattle.ac_outside.specs.Told.{OpenedJust};
 ghost use Rattle.ac_program.specs.Reading.{Gave, TookBytes};
 
 use ac_base::{Bytes, List};
@@ -20,13 +20,13 @@ const CHUNK: usize = 4096;
 #[derive(Clone, Copy, Debug, PartialEq, Eq, Error)]
 pub enum ReadFault {
     /// A call of the library failed.
-    #[error("the library failed")]
+    #[error("library fault")]
     Failed,
     /// The text is over the limit.
-    #[error("the text has more than {LIMIT} bytes")]
+    #[error("limit: source")]
     TooLong,
     /// Memory was refused.
-    #[error("memory was refused")]
+    #[error("no memory")]
     NoMemory,
 }
 
@@ -53,17 +53,18 @@ impl From<AllocError> for ReadFault {
 }
 
 /// Opens the text of a name and reads it to its end, or to one byte past the limit. Whatever the
-/// answer, the text was opened once and no other.
+/// answer, just that text was opened, once.
 pub fn read_text<L: Library>(alloc: Global, library: &mut L, name: &str) -> Result<Bytes, ReadFault>
-    ensures same { L.text_at library.new ≡ L.text_at library.old }
-    ensures count { CountsOne (L.opens library.old) (L.opens library.new) }
+    ensures same { (L.told library.new).text_at ≡ (L.told library.old).text_at }
+    ensures just { OpenedJust (L.told library.old) (L.told library.new) name.now }
 
-    ensures whole { IfOk result (λ text. Gave (L.text_at library.old name.now) text) }
+    ensures whole { IfOk result (λ text. Gave ((L.told library.old).text_at name.now) text) }
     ensures short { IfOk result (λ text. length text ≤ LIMIT) }
-    ensures long { IsErrOf result ReadFault.TooLong → TookBytes (L.text_at library.old name.now) (L.left library.new) (LIMIT + 1) }
+    ensures long { IsErrOf result ReadFault.TooLong →
+        TookBytes ((L.told library.old).text_at name.now) (L.told library.new).left (LIMIT + 1) }
 
-    ensures failed { IsErrOf result ReadFault.Failed → Rose (L.faults library.old) (L.faults library.new) }
-    ensures well { result ≢ Err ReadFault.Failed → L.faults library.new ≡ L.faults library.old }
+    ensures failed { IsErrOf result ReadFault.Failed → Rose (L.told library.old).faults (L.told library.new).faults }
+    ensures well { result ≢ Err ReadFault.Failed → (L.told library.new).faults ≡ (L.told library.old).faults }
 {
     let mut text = Vec::new(alloc);
     library.open_text(name)?;

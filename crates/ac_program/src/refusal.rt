@@ -3,14 +3,29 @@
 ghost use Rattle.std.specs.Prelude.{◌≡◌, ◌≢◌, IfOk};
 ghost use Rattle.ac_program.specs.Lines.{place_line, rule_line, refusal_line, refusal_status};
 ghost use Rattle.ac_program.specs.declared.refusal.Stop.TheVariants as s;
+ghost use Rattle.ac_program.specs.inner.Parts.{lex_stop, syntax_stop, check_stop};
 
 use ac_base::{Bytes, List, NoMemory, decimal};
-use ac_types::Rule;
+use ac_lexer::LexFault;
+use ac_parser::SyntaxFault;
+use ac_types::CheckFault;
 use std::alloc::Global;
 
-/// What refuses a source that is not too long. A place counts the bytes of the source from 0.
+/// The line of a source that is too long.
+pub const LIMIT_SOURCE: &str = "limit: source\n";
+
+/// A rule that a program breaks, by its number, and the first byte of the part that breaks it.
+#[derive(Clone, Copy, Debug, PartialEq, Eq)]
+pub struct BrokenRule {
+    pub rule: u8,
+    pub at: u32,
+}
+
+/// What refuses a source. A place counts the bytes of the source from 0.
 #[derive(Clone, Copy, Debug, PartialEq, Eq)]
 pub enum Refusal {
+    /// More than 1,048,576 bytes.
+    TooLong,
     /// A byte that may not stand there.
     BadByte { at: u32 },
     /// A number over 9,223,372,036,854,775,807.
@@ -24,7 +39,7 @@ pub enum Refusal {
     /// A token that is nested more than 256 deep.
     TooDeep { at: u32 },
     /// The least of the rules that the program breaks.
-    Broken(Rule),
+    Broken(BrokenRule),
     /// All cores together may go more than 4,000,000 steps.
     TooManySteps,
     /// A form that is not built.
@@ -47,6 +62,47 @@ impl From<NoMemory> for Stop {
     }
 }
 
+impl From<LexFault> for Stop {
+    ghost from_gives = { λ fault stop. stop ≡ lex_stop fault };
+
+    fn from(fault: LexFault) -> Stop {
+        match fault {
+            LexFault::TooLong => Stop::Refused(Refusal::TooLong),
+            LexFault::BadByte { at } => Stop::Refused(Refusal::BadByte { at }),
+            LexFault::NumberTooLarge { at } => Stop::Refused(Refusal::NumberTooLarge { at }),
+            LexFault::OpenComment { at } => Stop::Refused(Refusal::OpenComment { at }),
+            LexFault::OpenText { at } => Stop::Refused(Refusal::OpenText { at }),
+            LexFault::NoMemory => Stop::NoMemory,
+        }
+    }
+}
+
+impl From<SyntaxFault> for Stop {
+    ghost from_gives = { λ fault stop. stop ≡ syntax_stop fault };
+
+    fn from(fault: SyntaxFault) -> Stop {
+        match fault {
+            SyntaxFault::Unexpected { at } => Stop::Refused(Refusal::Unexpected { at }),
+            SyntaxFault::TooDeep { at } => Stop::Refused(Refusal::TooDeep { at }),
+            SyntaxFault::NoMemory => Stop::NoMemory,
+        }
+    }
+}
+
+impl From<CheckFault> for Stop {
+    ghost from_gives = { λ fault stop. stop ≡ check_stop fault };
+
+    fn from(fault: CheckFault) -> Stop {
+        match fault {
+            CheckFault::Broken { rule, at } => Stop::Refused(Refusal::Broken(BrokenRule {
+                rule,
+                at,
+            })),
+            CheckFault::NoMemory => Stop::NoMemory,
+        }
+    }
+}
+
 // Words and a place.
 fn place_line(alloc: Global, words: &[u8], at: u32) -> Result<Bytes, NoMemory>
     ensures { IfOk result (λ line. line ≡ place_line words.now at) }
@@ -58,7 +114,7 @@ fn place_line(alloc: Global, words: &[u8], at: u32) -> Result<Bytes, NoMemory>
     Ok(List::from_vec(line))
 }
 
-fn rule_line(alloc: Global, rule: Rule) -> Result<Bytes, NoMemory>
+fn rule_line(alloc: Global, rule: BrokenRule) -> Result<Bytes, NoMemory>
     ensures { IfOk result (λ line. line ≡ rule_line rule) }
 {
     let number = decimal(alloc, i64::from(rule.rule))?;
@@ -78,6 +134,7 @@ impl Refusal {
         ensures other { (result ≢ 1) × ((result ≢ 7) × ((result ≢ 8) × (result ≢ 11))) }
     {
         match self {
+            Refusal::TooLong => 10,
             Refusal::BadByte { .. } => 2,
             Refusal::NumberTooLarge { .. } => 2,
             Refusal::OpenComment { .. } => 2,
@@ -95,6 +152,10 @@ impl Refusal {
         ensures { IfOk result (λ line. line ≡ refusal_line self) }
     {
         match self {
+            Refusal::TooLong => Ok(List::from_vec(Vec::from_slice(
+                alloc,
+                LIMIT_SOURCE.as_bytes(),
+            )?)),
             Refusal::BadByte { at } => place_line(alloc, b"bad byte at ", at),
             Refusal::NumberTooLarge { at } => place_line(alloc, b"number too large at ", at),
             Refusal::OpenComment { at } => place_line(alloc, b"open comment at ", at),

@@ -7,7 +7,7 @@ ghost use Rattle.ac_compile.specs.Compiled.{IsCodeOf};
 ghost use Rattle.stack_code.specs.Sequential.{IsSequential};
 ghost use Rattle.ac_translation.specs.Same.{IsSame};
 ghost use Rattle.ac_program.specs.Run.{HaveEnded, IsRunOf};
-ghost use Rattle.ac_program.specs.Journals.{AreWithWorker};
+ghost use Rattle.ac_program.specs.inner.Journals.{AreWithWorker};
 
 use ac_base::{Bytes, Journal, List, MachineEnd, NoMemory};
 use core_machine::CoreMachine;

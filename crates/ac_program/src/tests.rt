@@ -156,15 +156,8 @@ struct Drops {
 }
 
 impl Library for Drops {
-    ghost text_at = { λ _ _. None };
-
-    ghost left = { λ _. None };
-
-    ghost opens = { λ _. None };
-
-    ghost faults = { λ _. 0 };
-
-    ghost is_open = { λ s. is_some s.inner.left };
+    ghost told = { λ s.
+        record { text_at = λ _. None; is_open = is_some s.inner.left; left = None; opens = None; names = None; faults = 0 } };
 
     ghost tells_opens = { λ _ _ told. told };
 
@@ -210,9 +203,7 @@ struct Sips {
 }
 
 impl Sink for Sips {
-    ghost held = { λ _. None };
-
-    ghost faults = { λ _. 0 };
+    ghost told = { λ _. record { held = None; faults = 0 } };
 
     fn write(&mut self, piece: &[u8]) -> Result<usize, Failed> {
         let size = piece.len().min(1);

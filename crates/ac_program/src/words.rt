@@ -1,7 +1,7 @@
 //! The words of a command line.
 
 ghost use Rattle.std.specs.Prelude.{◌≡◌, ℕ, List, map, string_bytes, IsNone, IfSome};
-ghost use Rattle.ac_program.specs.Words.{IsRun};
+ghost use Rattle.ac_program.specs.Words.{IsRunCall};
 
 mod bound;
 mod scan;
@@ -22,9 +22,10 @@ pub struct Call<'a> {
 /// bound on steps, as `--steps N` or `--steps=N`. It gives none exactly where they are not of this
 /// form, and else the only call that they form.
 pub fn read_words(words: &[String]) -> Option<Call<'_>>
-    ensures usage { IsNone result → (file : List ℕ) (steps : ℕ) → IsRun (map string_bytes words.now) file steps → ⊥ }
-    ensures call { IfSome result (λ call. IsRun (map string_bytes words.now) call.file.now call.steps) }
-    ensures only { IfSome result (λ call. (file : List ℕ) (steps : ℕ) → IsRun (map string_bytes words.now) file steps → (file ≡ call.file.now) × (steps ≡ call.steps)) }
+    ensures usage { IsNone result → (file : List ℕ) (steps : ℕ) → IsRunCall (map string_bytes words.now) file steps → ⊥ }
+    ensures call { IfSome result (λ call. IsRunCall (map string_bytes words.now) call.file.now call.steps) }
+    ensures only { IfSome result (λ call. (file : List ℕ) (steps : ℕ) → IsRunCall (map string_bytes words.now) file steps
+        → (file ≡ call.file.now) × (steps ≡ call.steps)) }
 {
     let (command, others) = words.split_first()?;
     if command.as_str() != "run" {

@@ -96,7 +96,12 @@ two_ac = rw (print_told 28 (codes "%d\n") (sum ∷ []), sum_read) refl
 -- int x = 1; int y = x; each takes a slot
 pub two_slots : resolved (one_core (s.Int 28 (codes "x") (Some (e.Number 36 (pos 1))) ∷ s.Int 39 (codes "y") (Some (e.Name 47 (codes "x"))) ∷ []))
     ≡ one_core_resolved 2 (c.Set (t.Variable (p.Local 0 0)) (f.Value (v.Number (pos 1))) ∷ c.Set (t.Variable (p.Local 0 1)) (f.Value (v.Variable (p.Local 0 0))) ∷ []) []
-two_slots = rw (int_told 28 (codes "x") (Some (e.Number 36 (pos 1))), int_told 39 (codes "y") (Some (e.Name 47 (codes "x"))), ap (λ (r : Reading). r.effect) (name_read 47 (codes "x")), ap (λ (r : Reading). r.effect) (number_read 36 (pos 1))) refl
+two_slots = rw (
+  int_told 28 (codes "x") (Some (e.Number 36 (pos 1))),
+  int_told 39 (codes "y") (Some (e.Name 47 (codes "x"))),
+  ap (λ (r : Reading). r.effect) (name_read 47 (codes "x")),
+  ap (λ (r : Reading). r.effect) (number_read 36 (pos 1)),
+) refl
 
 -- int x; int x; { int x = 7; x = 8; } x = 9; the inner declaration hides the outer ones, of which the first is meant
 index_read : (at : ℕ) (name : List ℕ) (index : Expr) → read (e.Index at name index) ≡ read_step (Expr-F.Index at name (read index))

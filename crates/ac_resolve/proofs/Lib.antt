@@ -1,3 +1,4 @@
+pub mod Shapes
 pub mod Rooms
 pub mod Scoped
 pub mod Functions

@@ -4,22 +4,21 @@ use Rattle.ac_tree.specs.declared.stmt.Stmt.{Stmt}
 use Rattle.ac_tree.specs.declared.stmt.Stmt.TheFolds.{fold-roll-Stmt, ind-Stmt, map-Stmt}
 use Rattle.ac_tree.specs.declared.stmt.Stmt.TheOpen.{Stmt-F}
 use Rattle.ac_tree.specs.Weight.{total, stmt_weigh, stmt_weight, some_weight, body_weight}
-use Rattle.ac_types.specs.Scopes.{Declaration}
-use Rattle.ac_types.specs.Room.{HasSlots, HasDepths}
-use Rattle.ac_types.specs.Statements.{part_words}
-use Rattle.ac_types.proofs.Slots.{few_elements}
+use Rattle.ac_names.specs.Scopes.{Declaration}
+use Rattle.ac_names.specs.Room.{HasSlots, HasDepths}
+use Rattle.ac_names.specs.Statements.{Shape, part_words, some_words, no_more, shape}
+use Rattle.ac_names.proofs.Statements.{names_of, listed_slot}
+use Rattle.ac_names.proofs.Slots.{words_few}
 use Rattle.ac_commands.specs.declared.command.Command.{Command}
 use Rattle.ac_resolve.specs.declared.walk.Walk.{Walk}
-use Rattle.ac_resolve.specs.Commands.{Texts, Told, all_words, all_texts, some_words, some_texts, told_step, told, some_told, body_told}
-use Rattle.ac_resolve.specs.Walks.{HasTexts, after, does, after_listed, after_some, after_init, after_body, body_does}
-use Rattle.ac_resolve.proofs.Scoped.{names_of, walk_of, some_slot}
+use Rattle.ac_resolve.specs.Commands.{Texts, Told, some_shape, all_texts, some_texts, told_step, told, some_told, body_told}
+use Rattle.ac_resolve.specs.inner.Walks.{HasTexts, after, does, after_listed, after_some, after_init, after_body, body_does}
+use Rattle.ac_resolve.proofs.Scoped.{walk_of}
+use Rattle.ac_resolve.proofs.Shapes.{shape_is}
 
--- a statement of that weight takes few slots and few texts
-abbrev IsFew : Told → ℕ → Type 0
-IsFew q weight = (part_words q.shape ≤ 683 * weight) × ((ts : Texts) → length (q.texts ts) ≤ length ts + weight)
-
+-- a statement of that weight has few texts
 abbrev Claim : Stmt → Type 0
-Claim x = IsFew (told x) (stmt_weight x)
+Claim x = (ts : Texts) → length ((told x).texts ts) ≤ length ts + stmt_weight x
 
 abbrev Stmt_ : Type 0
 Stmt_ = (x : Stmt) × Claim x
@@ -27,45 +26,15 @@ Stmt_ = (x : Stmt) × Claim x
 abbrev stmts_of : List Stmt_ → List Stmt
 stmts_of xs = map (λ x. x.0) xs
 
-words_few : (xs : List Stmt_) → all_words (map told (stmts_of xs)) ≤ 683 * total (map stmt_weight (stmts_of xs))
-words_few [] = omega arith
-words_few (x ∷ xs) = let h = words_few xs in let k = x.1.0 in omega (arith, h, k)
-
 texts_few : (xs : List Stmt_) (ts : Texts) → length (all_texts (map told (stmts_of xs)) ts) ≤ length ts + total (map stmt_weight (stmts_of xs))
 texts_few [] ts = omega arith
-texts_few (x ∷ xs) ts = let h = texts_few xs ((told x.0).texts ts) in let k = x.1.1 ts in omega (arith, h, k)
+texts_few (x ∷ xs) ts = let h = texts_few xs ((told x.0).texts ts) in let k = x.1 ts in omega (arith, h, k)
 
 abbrev told_layer : Stmt-F Stmt_ → Told
 told_layer y = told_step (map-Stmt Stmt Told told (map-Stmt Stmt_ Stmt (λ x. x.0) y))
 
 abbrev weight_layer : Stmt-F Stmt_ → ℕ
 weight_layer y = stmt_weigh (map-Stmt Stmt ℕ stmt_weight (map-Stmt Stmt_ Stmt (λ x. x.0) y))
-
-none : (n : ℕ) → 0 ≤ n
-none n = omega arith
-
-slots_layer : (y : Stmt-F Stmt_) → part_words (told_layer y).shape ≤ 683 * weight_layer y
-slots_layer (Stmt-F.Block at body) = let h = words_few body in omega (arith, h)
-slots_layer (Stmt-F.Empty at) = none _
-slots_layer (Stmt-F.Int at name value) = omega arith
-slots_layer (Stmt-F.Array at name size) = let h = few_elements size in omega (arith, h)
-slots_layer (Stmt-F.Assign at place value) = none _
-slots_layer (Stmt-F.Call at call) = none _
-slots_layer (Stmt-F.Print at format args) = none _
-slots_layer (Stmt-F.If at test body None) = let h = body.1.0 in omega (arith, h)
-slots_layer (Stmt-F.If at test body (Some x)) = let h = body.1.0 in let k = x.1.0 in omega (arith, h, k)
-slots_layer (Stmt-F.While at test body) = let h = body.1.0 in omega (arith, h)
-slots_layer (Stmt-F.For at None test None body) = let h = body.1.0 in omega (arith, h)
-slots_layer (Stmt-F.For at None test (Some y) body) = let h = body.1.0 in let k = y.1.0 in omega (arith, h, k)
-slots_layer (Stmt-F.For at (Some x) test None body) = let h = body.1.0 in let k = x.1.0 in omega (arith, h, k)
-slots_layer (Stmt-F.For at (Some x) test (Some y) body) = let h = body.1.0 in let k = x.1.0 in let j = y.1.0 in omega (arith, h, k, j)
-slots_layer (Stmt-F.Break at) = none _
-slots_layer (Stmt-F.Continue at) = none _
-slots_layer (Stmt-F.Return at value) = none _
-slots_layer (Stmt-F.Do at label body) = let h = words_few body in omega (arith, h)
-slots_layer (Stmt-F.Async at body) = none _
-slots_layer (Stmt-F.Cancel at label) = none _
-slots_layer (Stmt-F.Yield at) = none _
 
 more : (m n : ℕ) → m ≤ m + n
 more m n = omega arith
@@ -78,49 +47,53 @@ texts_layer (Stmt-F.Array at name size) ts = more _ _
 texts_layer (Stmt-F.Assign at place value) ts = more _ _
 texts_layer (Stmt-F.Call at call) ts = more _ _
 texts_layer (Stmt-F.Print at format args) ts = let h = length-append ts (format ∷ []) in omega (arith, h)
-texts_layer (Stmt-F.If at test body None) ts = let h = body.1.1 ts in omega (arith, h)
-texts_layer (Stmt-F.If at test body (Some x)) ts = let h = body.1.1 ts in let k = x.1.1 ((told body.0).texts ts) in omega (arith, h, k)
-texts_layer (Stmt-F.While at test body) ts = let h = body.1.1 ts in omega (arith, h)
-texts_layer (Stmt-F.For at None test None body) ts = let h = body.1.1 ts in omega (arith, h)
-texts_layer (Stmt-F.For at None test (Some y) body) ts = let h = y.1.1 ts in let k = body.1.1 ((told y.0).texts ts) in omega (arith, h, k)
-texts_layer (Stmt-F.For at (Some x) test None body) ts = let h = x.1.1 ts in let k = body.1.1 ((told x.0).texts ts) in omega (arith, h, k)
+texts_layer (Stmt-F.If at test body None) ts = let h = body.1 ts in omega (arith, h)
+texts_layer (Stmt-F.If at test body (Some x)) ts = let h = body.1 ts in let k = x.1 ((told body.0).texts ts) in omega (arith, h, k)
+texts_layer (Stmt-F.While at test body) ts = let h = body.1 ts in omega (arith, h)
+texts_layer (Stmt-F.For at None test None body) ts = let h = body.1 ts in omega (arith, h)
+texts_layer (Stmt-F.For at None test (Some y) body) ts = let h = y.1 ts in let k = body.1 ((told y.0).texts ts) in omega (arith, h, k)
+texts_layer (Stmt-F.For at (Some x) test None body) ts = let h = x.1 ts in let k = body.1 ((told x.0).texts ts) in omega (arith, h, k)
 texts_layer (Stmt-F.For at (Some x) test (Some y) body) ts =
-    let h = x.1.1 ts in
-    let j = y.1.1 ((told x.0).texts ts) in
-    let k = body.1.1 ((told y.0).texts ((told x.0).texts ts)) in
+    let h = x.1 ts in
+    let j = y.1 ((told x.0).texts ts) in
+    let k = body.1 ((told y.0).texts ((told x.0).texts ts)) in
     omega (arith, h, j, k)
 texts_layer (Stmt-F.Break at) ts = more _ _
 texts_layer (Stmt-F.Continue at) ts = more _ _
 texts_layer (Stmt-F.Return at value) ts = more _ _
 texts_layer (Stmt-F.Do at label body) ts = let h = texts_few body ts in omega (arith, h)
-texts_layer (Stmt-F.Async at body) ts = let h = body.1.1 ts in omega (arith, h)
+texts_layer (Stmt-F.Async at body) ts = let h = body.1 ts in omega (arith, h)
 texts_layer (Stmt-F.Cancel at label) ts = more _ _
 texts_layer (Stmt-F.Yield at) ts = more _ _
 
-same_few : (q r : Told) (m n : ℕ) → q ≡ r → m ≡ n → part_words r.shape ≤ 683 * n → ((ts : Texts) → length (r.texts ts) ≤ length ts + n) → IsFew q m
-same_few q r m n e f h k =
-    let g : part_words q.shape ≡ part_words r.shape = ap (λ (x : Told). part_words x.shape) e in
-    (omega (arith, g, f, h), λ ts. let l : length (q.texts ts) ≡ length (r.texts ts) = ap (λ (x : Told). length (x.texts ts)) e in let j = k ts in omega (arith, l, f, j))
+same_few : (q r : Told) (m n : ℕ) → q ≡ r → m ≡ n → ((ts : Texts) → length (r.texts ts) ≤ length ts + n) → (ts : Texts) → length (q.texts ts) ≤ length ts + m
+same_few q r m n e f k ts = let l : length (q.texts ts) ≡ length (r.texts ts) = ap (λ (x : Told). length (x.texts ts)) e in let j = k ts in omega (arith, l, f, j)
 
-pub is_few : (x : Stmt) → Claim x
-is_few = ind-Stmt Claim
+short : (x : Stmt) → Claim x
+short = ind-Stmt Claim
     (λ x y is.
     same_few _ (told_layer y) _ (weight_layer y)
     (fold-roll-Stmt Told told_step x ∙ sym (ap (λ z. told_step (map-Stmt Stmt Told told z)) is))
     (fold-roll-Stmt ℕ stmt_weigh x ∙ sym (ap (λ z. stmt_weigh (map-Stmt Stmt ℕ stmt_weight z)) is))
-    (slots_layer y) (texts_layer y))
+    (texts_layer y))
+
+few_slots : (x : Stmt) → part_words (told x).shape ≤ 683 * stmt_weight x
+few_slots x =
+    let few = words_few (Unit {0}) no_more x in
+    let same : part_words (told x).shape ≡ part_words (shape x) = ap (λ (s : Shape). part_words s) (shape_is x) in
+    omega (arith, few, same)
 
 -- ---- the room that is left after a statement
 
 pub room_after : (x : Stmt) (rest slot slot2 : ℕ) (ts ts2 : Texts) → slot2 ≡ slot + part_words (told x).shape → ts2 ≡ (told x).texts ts →
     HasSlots slot (stmt_weight x + rest) → HasTexts ts (stmt_weight x + rest) → HasSlots slot2 rest × HasTexts ts2 rest
 room_after x rest slot slot2 ts ts2 e f h k =
-    let few = (is_few x).0 in
-    let short = (is_few x).1 ts in
+    let few = few_slots x in
+    let fits = short x ts in
     let l : length ts2 ≡ length ((told x).texts ts) = ap length f in
-    (omega (arith, few, e, h), omega (arith, short, l, k))
+    (omega (arith, few, e, h), omega (arith, fits, l, k))
 
-pub some_after : (x : Option Stmt) (rest slot slot2 : ℕ) (ts ts2 : Texts) → slot2 ≡ slot + some_words (some_told x) → ts2 ≡ some_texts (some_told x) ts →
+pub some_after : (x : Option Stmt) (rest slot slot2 : ℕ) (ts ts2 : Texts) → slot2 ≡ slot + some_words (some_shape (some_told x)) → ts2 ≡ some_texts (some_told x) ts →
     HasSlots slot (some_weight x + rest) → HasTexts ts (some_weight x + rest) → HasSlots slot2 rest × HasTexts ts2 rest
 some_after None rest slot slot2 ts ts2 e f h k = let l : length ts2 ≡ length ts = ap length f in (omega (arith, e, h), omega (arith, l, k))
 some_after (Some x) rest slot slot2 ts ts2 e f h k = room_after x rest slot slot2 ts ts2 e f h k
@@ -128,7 +101,7 @@ some_after (Some x) rest slot slot2 ts ts2 e f h k = room_after x rest slot slot
 -- the texts of a body
 pub body_few : (xs : List Stmt) (ts : Texts) → length (all_texts (body_told xs) ts) ≤ length ts + body_weight xs
 body_few [] ts = omega arith
-body_few (x ∷ xs) ts = let h = body_few xs ((told x).texts ts) in let k = (is_few x).1 ts in omega (arith, h, k)
+body_few (x ∷ xs) ts = let h = body_few xs ((told x).texts ts) in let k = short x ts in omega (arith, h, k)
 
 -- ---- `if`
 
@@ -141,18 +114,20 @@ if_room body other depth n w v e l h d k =
 
 -- ---- `for`
 
-module _ (init next : Option Stmt) (body : Stmt) (depth n : ℕ) (w v : Walk) (o : List (List Declaration)) (e : v ≡ after_init (some_told init) depth (walk_of (names_of o w.names.labels w.names.slot) w.texts))
+module _ (init next : Option Stmt) (body : Stmt) (depth n : ℕ) (w v : Walk) (o : List (List Declaration))
+    (e : v ≡ after_init (some_told init) depth (walk_of (names_of o w.names.labels w.names.slot) w.texts))
     (l : 8 * (some_weight init + (some_weight next + stmt_weight body)) + 3 ≡ n) (h : HasSlots w.names.slot (some_weight init + (some_weight next + stmt_weight body)))
     (d : HasDepths depth (some_weight init + (some_weight next + stmt_weight body))) (k : HasTexts w.texts (some_weight init + (some_weight next + stmt_weight body))) where
   in_for : HasSlots v.names.slot (some_weight next + stmt_weight body) × HasTexts v.texts (some_weight next + stmt_weight body)
   in_for =
       some_after init (some_weight next + stmt_weight body) w.names.slot v.names.slot w.texts v.texts
-      (ap (λ (x : Walk). x.names.slot) e ∙ some_slot (some_told init) depth (names_of o w.names.labels w.names.slot)) (ap (λ (x : Walk). x.texts) e) h k
+      (ap (λ (x : Walk). x.names.slot) e ∙ listed_slot (some_shape (some_told init)) depth (names_of o w.names.labels w.names.slot)) (ap (λ (x : Walk). x.texts) e) h k
 
   pub next_room : (8 * some_weight next + 2 < n) × (HasSlots v.names.slot (some_weight next) × (HasDepths depth (some_weight next) × HasTexts v.texts (some_weight next)))
   next_room = let r = in_for.0 in let t = in_for.1 in (omega (arith, l), (omega (arith, r), (omega (arith, d), omega (arith, t))))
 
-  pub for_room : (u : Walk) → u ≡ after_some (some_told next) v → (8 * stmt_weight body + 1 < n) × (HasSlots u.names.slot (stmt_weight body) × (HasDepths depth (stmt_weight body) × HasTexts u.texts (stmt_weight body)))
+  pub for_room : (u : Walk) → u ≡ after_some (some_told next) v → (8 * stmt_weight body + 1 < n)
+      × (HasSlots u.names.slot (stmt_weight body) × (HasDepths depth (stmt_weight body) × HasTexts u.texts (stmt_weight body)))
   for_room u f =
       let r = some_after next (stmt_weight body) v.names.slot u.names.slot v.texts u.texts (ap (λ (x : Walk). x.names.slot) f) (ap (λ (x : Walk). x.texts) f) in_for.0 in_for.1 in
       (omega (arith, l), (r.0, (omega (arith, d), r.1)))

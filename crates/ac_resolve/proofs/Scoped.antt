@@ -1,45 +1,14 @@
--- The names after the statements of a list, and a walk after a scope.
-use Rattle.std.proofs.Common.{◌≡◌, ℕ, ◌+◌, List, [], ◌∷◌, Option, Some, None, refl, ap, ◌∙◌, arith}
-use Rattle.ac_types.specs.declared.walk.Names.{Names}
-use Rattle.ac_types.specs.Scopes.{Declaration, declared, closed}
-use Rattle.ac_types.specs.Statements.{Named, part_words, part_names, declared_at, opened, meaning_at}
+-- A walk after a scope, and after a statement of a list.
+use Rattle.std.proofs.Common.{◌≡◌, ℕ, List, [], ◌∷◌, sym, ap, ◌∙◌}
+use Rattle.ac_tree.specs.declared.stmt.Stmt.{Stmt}
+use Rattle.ac_names.specs.declared.names.Names.{Names}
+use Rattle.ac_names.specs.Scopes.{Declaration, closed}
+use Rattle.ac_names.specs.Statements.{Shape, part_names, part_words, declares, declared_in, opened, moved}
+use Rattle.ac_names.proofs.Statements.{names_of, names_shut}
 use Rattle.ac_resolve.specs.declared.walk.Walk.{Walk}
-use Rattle.ac_resolve.specs.Commands.{Texts, Told, passed, all_passed, all_words, all_texts, some_words, some_passed}
-use Rattle.ac_resolve.specs.Walks.{after_body, after_scope}
-
--- ---- the names after the statements of a list
-
-closed_declared : (name : List ℕ) (n : Option ℕ) (depth slot : ℕ) (scopes : List (List Declaration)) → closed (declared name (meaning_at n depth slot) scopes) ≡ closed scopes
-closed_declared name n depth slot [] = refl
-closed_declared name n depth slot (x ∷ xs) = refl
-
-closed_at : (named : Option Named) (depth slot : ℕ) (scopes : List (List Declaration)) → closed (declared_at named depth slot scopes) ≡ closed scopes
-closed_at None depth slot scopes = refl
-closed_at (Some n) depth slot scopes = closed_declared n.name n.len depth slot scopes
-
-pub passed_closed : (qs : List Told) (depth : ℕ) (n : Names) → closed (all_passed qs depth n).scopes ≡ closed n.scopes
-passed_closed [] depth n = refl
-passed_closed (q ∷ qs) depth n = passed_closed qs depth (passed q depth n) ∙ closed_at (part_names q.shape) depth n.slot n.scopes
-
-pub passed_labels : (qs : List Told) (depth : ℕ) (n : Names) → (all_passed qs depth n).labels ≡ n.labels
-passed_labels [] depth n = refl
-passed_labels (q ∷ qs) depth n = passed_labels qs depth (passed q depth n)
-
-add_assoc : (x y z : ℕ) → (x + y) + z ≡ x + (y + z)
-add_assoc x y z = omega arith
-
-add_none : (x : ℕ) → x ≡ x + 0
-add_none x = omega arith
-
-pub passed_slot : (qs : List Told) (depth : ℕ) (n : Names) → (all_passed qs depth n).slot ≡ n.slot + all_words qs
-passed_slot [] depth n = add_none n.slot
-passed_slot (q ∷ qs) depth n = passed_slot qs depth (passed q depth n) ∙ add_assoc n.slot (part_words q.shape) (all_words qs)
-
-abbrev pub names_of : List (List Declaration) → List (List Declaration) → ℕ → Names
-names_of scopes labels slot = record { scopes = scopes; labels = labels; slot = slot }
-
-pub same_names : (s1 s2 l1 l2 : List (List Declaration)) (n1 n2 : ℕ) → s1 ≡ s2 → l1 ≡ l2 → n1 ≡ n2 → names_of s1 l1 n1 ≡ names_of s2 l2 n2
-same_names s1 s2 l1 l2 n1 n2 e f g = ap (λ x. names_of x l1 n1) e ∙ ap (λ x. names_of s2 x n1) f ∙ ap (λ x. names_of s2 l2 x) g
+use Rattle.ac_resolve.specs.Commands.{Texts, Told, shapes, all_texts, told}
+use Rattle.ac_resolve.specs.inner.Walks.{after, after_listed, after_body, after_scope}
+use Rattle.ac_resolve.proofs.Shapes.{shape_is}
 
 abbrev pub walk_of : Names → Texts → Walk
 walk_of n texts = record { names = n; texts = texts }
@@ -51,10 +20,7 @@ abbrev pub open_in : Walk → Walk
 open_in w = walk_of (opened w.names) w.texts
 
 shut_body : (qs : List Told) (depth : ℕ) (w : Walk) → shut (after_body qs depth (open_in w)) ≡ after_scope qs w
-shut_body qs depth w =
-    ap (λ n. walk_of n (all_texts qs w.texts))
-    (same_names (closed (all_passed qs depth (opened w.names)).scopes) w.names.scopes (all_passed qs depth (opened w.names)).labels w.names.labels (all_passed qs depth (opened w.names)).slot (w.names.slot + all_words qs)
-    (passed_closed qs depth (opened w.names)) (passed_labels qs depth (opened w.names)) (passed_slot qs depth (opened w.names)))
+shut_body qs depth w = ap (λ n. walk_of n (all_texts qs w.texts)) (names_shut (shapes qs) depth w.names)
 
 module _ (qs : List Told) (depth : ℕ) (w : Walk) (o : List (List Declaration)) (e : o ≡ [] ∷ w.names.scopes) where
   pub scope_after : (v : Walk) (k : List (List Declaration)) → v ≡ after_body qs depth (walk_of (names_of o w.names.labels w.names.slot) w.texts) → k ≡ closed v.names.scopes →
@@ -64,6 +30,10 @@ module _ (qs : List Told) (depth : ℕ) (w : Walk) (o : List (List Declaration))
       ∙ ap (λ (x : Walk). shut x) (f ∙ ap (λ x. after_body qs depth (walk_of (names_of x w.names.labels w.names.slot) w.texts)) e)
       ∙ shut_body qs depth w
 
-pub some_slot : (init : Option Told) (depth : ℕ) (n : Names) → (some_passed init depth n).slot ≡ n.slot + some_words init
-some_slot None depth n = add_none n.slot
-some_slot (Some q) depth n = refl
+-- ---- a statement of a list
+
+pub listed_after : (x : Stmt) (depth : ℕ) (w v : Walk) (k : Names) → v ≡ after (told x) w → k ≡ declared_in (declares x) depth w.names.slot v.names → walk_of k v.texts ≡ after_listed (told x) depth w
+listed_after x depth w v k e f =
+    ap (λ z. walk_of z v.texts) f
+    ∙ ap (λ (z : Walk). walk_of (declared_in (declares x) depth w.names.slot z.names) z.texts) e
+    ∙ ap (λ (s : Shape). walk_of (declared_in (part_names s) depth w.names.slot (moved w.names (part_words (told x).shape))) ((told x).texts w.texts)) (sym (shape_is x))

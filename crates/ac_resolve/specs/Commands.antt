@@ -4,29 +4,16 @@ use Rattle.ac_tree.specs.declared.expr.Expr.{Expr}
 use Rattle.ac_tree.specs.declared.stmt.Stmt.{Stmt}
 use Rattle.ac_tree.specs.declared.stmt.Stmt.TheFolds.{fold-Stmt, map-Stmt}
 use Rattle.ac_tree.specs.declared.stmt.Stmt.TheOpen.{Stmt-F}
-use Rattle.ac_types.specs.declared.walk.Names.{Names}
-use Rattle.ac_types.specs.Scopes.{visible}
-use Rattle.ac_types.specs.Nodes.{Node}
-use Rattle.ac_types.specs.Statements.{Part, part_names, part_words, stmt_step, array_len, declared_at, opened, moved, in_do, in_async, sum_words}
+use Rattle.ac_names.specs.declared.names.Names.{Names}
+use Rattle.ac_names.specs.Scopes.{visible}
+use Rattle.ac_names.specs.Statements.{Shape, shape_step, part_words, array_len, listed}
+use Rattle.ac_names.specs.Statements.{some_words, some_listed, opened, moved, in_do, in_async}
 use Rattle.ac_commands.specs.declared.value.Place.TheVariants as p
 use Rattle.ac_commands.specs.declared.effect.Target.TheVariants as t
 use Rattle.ac_commands.specs.declared.command.Command.{Command}
 use Rattle.ac_commands.specs.declared.command.Command.TheVariants as c
 use Rattle.ac_resolve.specs.Places.{cancel_of}
 use Rattle.ac_resolve.specs.Computed.{value_in, values_in, test_in, target_in, effect_in, initial_in, operand_in}
-
--- what a statement declares and the slots that it takes, which do not depend on what its nodes give
-abbrev pub Shape : Type 0
-Shape = Part (Unit {0})
-
-abbrev pub no_node : Node → Unit {0}
-no_node node = tt
-
-abbrev pub no_join : Unit {0} → Unit {0} → Unit {0}
-no_join a b = tt
-
-abbrev pub shape_step : Stmt-F Shape → Shape
-shape_step = stmt_step (Unit {0}) no_node tt no_join
 
 abbrev pub Texts : Type 0
 Texts = List (List ℕ)
@@ -42,16 +29,12 @@ pub record Told : Type 0 where
 abbrev pub shape_of : Told → Shape
 shape_of q = q.shape
 
--- the names after a statement of a list: a name is visible from the end of its declaration
-abbrev pub passed : Told → ℕ → Names → Names
-passed q depth n = record { scopes = declared_at (part_names q.shape) depth n.slot n.scopes; labels = n.labels; slot = n.slot + part_words q.shape }
+abbrev pub shapes : List Told → List Shape
+shapes qs = map shape_of qs
 
-abbrev pub all_passed : List Told → ℕ → Names → Names
-all_passed [] depth n = n
-all_passed (q ∷ qs) depth n = all_passed qs depth (passed q depth n)
-
-abbrev pub all_words : List Told → ℕ
-all_words qs = sum_words (map shape_of qs)
+abbrev pub some_shape : Option Told → Option Shape
+some_shape None = None
+some_shape (Some q) = Some q.shape
 
 abbrev pub all_texts : List Told → Texts → Texts
 all_texts [] texts = texts
@@ -59,17 +42,9 @@ all_texts (q ∷ qs) texts = all_texts qs (q.texts texts)
 
 abbrev pub commands : List Told → Names → ℕ → Texts → List Command
 commands [] n depth texts = []
-commands (q ∷ qs) n depth texts = q.commands n depth texts ++ commands qs (passed q depth n) depth (q.texts texts)
+commands (q ∷ qs) n depth texts = q.commands n depth texts ++ commands qs (listed q.shape depth n) depth (q.texts texts)
 
 -- a part that may be left out
-abbrev pub some_words : Option Told → ℕ
-some_words None = 0
-some_words (Some q) = part_words q.shape
-
-abbrev pub some_passed : Option Told → ℕ → Names → Names
-some_passed None depth n = n
-some_passed (Some q) depth n = passed q depth n
-
 abbrev pub some_texts : Option Told → Texts → Texts
 some_texts None texts = texts
 some_texts (Some q) texts = q.texts texts
@@ -96,7 +71,7 @@ texts_step _ texts = texts
 
 -- the names in a `for` whose first part declares
 abbrev pub for_names : Option Told → ℕ → Names → Names
-for_names init depth n = some_passed init depth (opened n)
+for_names init depth n = some_listed (some_shape init) depth (opened n)
 
 abbrev pub commands_step : Stmt-F Told → Names → ℕ → Texts → List Command
 commands_step (Stmt-F.Block at body) n depth texts = commands body (opened n) depth texts
@@ -107,13 +82,14 @@ commands_step (Stmt-F.Assign at place value) n depth texts = c.Set (target_in pl
 commands_step (Stmt-F.Call at call) n depth texts = c.Run (effect_in call n.scopes depth) ∷ []
 commands_step (Stmt-F.Print at format args) n depth texts = c.Print (length texts) (values_in args n.scopes depth) ∷ []
 commands_step (Stmt-F.If at test body other) n depth texts =
-    c.If (value_in test n.scopes depth) (body.commands n depth texts) (other_commands other (moved n (part_words body.shape)) depth (body.texts texts)) ∷ []
+    c.If (value_in test n.scopes depth) (body.commands n depth texts)
+    (other_commands other (moved n (part_words body.shape)) depth (body.texts texts)) ∷ []
 commands_step (Stmt-F.While at test body) n depth texts = c.While (value_in test n.scopes depth) (body.commands n depth texts) ∷ []
 commands_step (Stmt-F.For at init test next body) n depth texts =
     some_commands init (opened n) depth texts
     ++ c.For (test_in test (for_names init depth n).scopes depth)
     (some_commands next (for_names init depth n) depth (some_texts init texts))
-    (body.commands (moved (for_names init depth n) (some_words next)) depth (some_texts next (some_texts init texts)))
+    (body.commands (moved (for_names init depth n) (some_words (some_shape next))) depth (some_texts next (some_texts init texts)))
     ∷ []
 commands_step (Stmt-F.Break at) n depth texts = c.Break ∷ []
 commands_step (Stmt-F.Continue at) n depth texts = c.Continue ∷ []
@@ -135,29 +111,3 @@ some_told (Some x) = Some (told x)
 
 abbrev pub body_told : List Stmt → List Told
 body_told body = map told body
-
--- ---- forms by their parts; where their first bytes are does not matter
-
-abbrev pub print_told : List ℕ → List Expr → Told
-print_told format args = told_step (Stmt-F.Print 0 format args)
-
-abbrev pub int_told : List ℕ → Option Expr → Told
-int_told name value = told_step (Stmt-F.Int 0 name value)
-
-abbrev pub array_told : List ℕ → ℤ → Told
-array_told name size = told_step (Stmt-F.Array 0 name size)
-
-abbrev pub if_told : Expr → Told → Option Told → Told
-if_told test body other = told_step (Stmt-F.If 0 test body other)
-
-abbrev pub while_told : Expr → Told → Told
-while_told test body = told_step (Stmt-F.While 0 test body)
-
-abbrev pub for_told : Option Told → Option Expr → Option Told → Told → Told
-for_told init test next body = told_step (Stmt-F.For 0 init test next body)
-
-abbrev pub do_told : Option (List ℕ) → List Told → Told
-do_told label body = told_step (Stmt-F.Do 0 label body)
-
-abbrev pub async_told : Told → Told
-async_told body = told_step (Stmt-F.Async 0 body)

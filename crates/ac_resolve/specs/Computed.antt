@@ -3,7 +3,7 @@ use Rattle.std.specs.Prelude.{ℕ, pos, List, [], ◌∷◌, map, Option, None, 
 use Rattle.ac_tree.specs.declared.expr.Expr.{Expr, fold-Expr}
 use Rattle.ac_tree.specs.declared.expr.Link.{Link, fold-Link}
 use Rattle.ac_tree.specs.declared.expr.Expr.TheOpen.{Expr-F, Link-F}
-use Rattle.ac_types.specs.Scopes.{Declaration, visible}
+use Rattle.ac_names.specs.Scopes.{Declaration, visible}
 use Rattle.ac_commands.specs.declared.value.Value.{Value}
 use Rattle.ac_commands.specs.declared.value.Value.TheVariants as v
 use Rattle.ac_commands.specs.declared.value.ValueLink.{ValueLink}

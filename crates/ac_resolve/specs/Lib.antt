@@ -1,5 +1,5 @@
 pub mod Places
 pub mod Computed
 pub mod Commands
-pub mod Walks
 pub mod Resolution
+pub mod inner

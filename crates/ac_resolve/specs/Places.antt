@@ -3,8 +3,8 @@
 use Rattle.std.specs.Prelude.{ℕ, ℤ, pos, negsuc, ◌-◌, Option, Some}
 use Rattle.ac_tree.specs.declared.expr.Constant.{Constant}
 use Rattle.ac_tree.specs.declared.expr.Constant.TheVariants as c
-use Rattle.ac_types.specs.declared.meaning.Meaning.{Meaning}
-use Rattle.ac_types.specs.declared.meaning.Meaning.TheVariants as m
+use Rattle.ac_names.specs.declared.meaning.Meaning.{Meaning}
+use Rattle.ac_names.specs.declared.meaning.Meaning.TheVariants as m
 use Rattle.ac_commands.specs.declared.value.Place.{Place}
 use Rattle.ac_commands.specs.declared.value.Place.TheVariants as p
 use Rattle.ac_commands.specs.declared.value.Array.{Array}

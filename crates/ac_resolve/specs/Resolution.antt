@@ -4,18 +4,19 @@ use Rattle.ac_tree.specs.declared.item.Item.{Item}
 use Rattle.ac_tree.specs.declared.item.Item.TheVariants as i
 use Rattle.ac_tree.specs.declared.item.Function as tree
 use Rattle.ac_tree.specs.declared.item.Program.{Program}
-use Rattle.ac_types.specs.declared.past.Counts.{Counts}
-use Rattle.ac_types.specs.declared.walk.Names.{Names}
-use Rattle.ac_types.specs.Scopes.{Declaration, visible}
-use Rattle.ac_types.specs.Items.{outermost, whole, no_past, counted, kinds_in, function_names, params_named}
-use Rattle.ac_types.specs.Verdicts.{capacity_size, file_paths}
+use Rattle.ac_names.specs.declared.past.Counts.{Counts}
+use Rattle.ac_names.specs.declared.names.Names.{Names}
+use Rattle.ac_names.specs.Scopes.{Declaration, visible}
+use Rattle.ac_names.specs.Items.{outermost, whole, no_past, counted, kinds_in, function_names, params_named}
+use Rattle.ac_names.specs.Numbered.{capacity_size, file_paths}
 use Rattle.ac_commands.specs.declared.program.Function.{Function}
 use Rattle.ac_commands.specs.declared.program.Channel.{Channel}
 use Rattle.ac_commands.specs.declared.program.Core.{Core}
 use Rattle.ac_commands.specs.declared.program.Start.{Start}
 use Rattle.ac_commands.specs.declared.program.Resolved.{Resolved}
 use Rattle.ac_resolve.specs.Places.{function_of, core_of}
-use Rattle.ac_resolve.specs.Commands.{Texts, all_words, all_texts, commands, body_told}
+use Rattle.ac_names.specs.Statements.{sum_words}
+use Rattle.ac_resolve.specs.Commands.{Texts, shapes, all_texts, commands, body_told}
 
 -- ---- functions
 
@@ -29,7 +30,7 @@ function_in f scopes texts = record {
   is_async = f.is_async;
   gives_int = f.gives_int;
   params = kinds_in f.params;
-  slots = length f.params + all_words (body_told f.body);
+  slots = length f.params + sum_words (shapes (body_told f.body));
   body = commands (body_told f.body) (body_names f scopes) 0 texts;
 }
 
@@ -57,7 +58,8 @@ cores_in (_ ∷ items) scopes = cores_in items scopes
 abbrev pub channels_in : List Item → List (List Declaration) → List Channel
 channels_in [] scopes = []
 channels_in (i.Channel at name from to cap ∷ items) scopes =
-    record { from = core_of (visible from scopes); to = core_of (visible to scopes); capacity = capacity_size cap } ∷ channels_in items scopes
+    record { from = core_of (visible from scopes); to = core_of (visible to scopes); capacity = capacity_size cap }
+    ∷ channels_in items scopes
 channels_in (_ ∷ items) scopes = channels_in items scopes
 
 -- what an int global of that slot holds at the start

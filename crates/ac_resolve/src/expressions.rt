@@ -5,15 +5,16 @@ ghost use Rattle.ac_commands.specs.declared.effect.Argument.TheVariants as g;
 ghost use Rattle.ac_commands.specs.declared.effect.Effect.TheVariants as f;
 ghost use Rattle.ac_commands.specs.declared.effect.Target.TheVariants as t;
 ghost use Rattle.ac_commands.specs.declared.value.Place.TheVariants as p;
-ghost use Rattle.ac_resolve.specs.Computed.{value_in, links_in, values_in, test_in, argument_in, arguments_in, target_in, effect_in, initial_in, operand_in};
+ghost use Rattle.ac_resolve.specs.Computed.{value_in, links_in, values_in, test_in, argument_in};
+ghost use Rattle.ac_resolve.specs.Computed.{arguments_in, target_in, effect_in, initial_in, operand_in};
 
 use crate::names::{
     array_of, channel_of, constant_value, file_of, function_of, name_argument, place_of,
 };
 use ac_base::{Boxed, List, NoMemory};
 use ac_commands::{Argument, Effect, Place, Target, Value, ValueLink};
+use ac_names::Scopes;
 use ac_tree::{Expr, Link};
-use ac_types::Scopes;
 use std::alloc::Global;
 
 /// The value of an expression in these scopes, with so many async bodies round it.

@@ -2,63 +2,21 @@
 
 ghost use Rattle.std.specs.Prelude.{◌≡◌, ◌+◌, ◌<◌, ◌≤◌, ℕ, [], length, OnOk, IfOk};
 ghost use Rattle.ac_tree.specs.Weight.{body_weight, params_weight, item_weight, items_weight};
-ghost use Rattle.ac_types.specs.Items.{kinds_in, no_past, counted, param_at};
-ghost use Rattle.ac_types.specs.Room.{HasCounts};
-ghost use Rattle.ac_types.specs.Verdicts.{file_paths};
-ghost use Rattle.ac_resolve.specs.Resolution.{function_in, functions_in, cores_in, channels_in, start_at, starts_in, resolved};
-ghost use Rattle.ac_resolve.specs.Walks.{HasTexts, after_param, after_params, after_function, after_functions, after_global, counts_after};
+ghost use Rattle.ac_names.specs.Items.{no_past, past_all};
+ghost use Rattle.ac_names.specs.Room.{HasCounts};
+ghost use Rattle.ac_names.specs.Numbered.{file_paths};
+ghost use Rattle.ac_resolve.specs.Resolution.{function_in, functions_in, cores_in, channels_in, starts_in, resolved};
+ghost use Rattle.ac_resolve.specs.inner.Walks.{HasTexts, after_function, after_functions, after_global};
 
 use crate::names::{core_of, function_of};
 use crate::statements::resolve_body;
 use crate::walk::Walk;
 use ac_base::{Bytes, List, NoMemory};
 use ac_commands::{Channel, Core, Function, Resolved, Start};
-use ac_tree::{Function as Declared, Item, Param};
-use ac_types::{Checked, Counts, Meaning, Names, Scopes, capacity_size};
+use ac_names::{Names, Past, Scopes, capacity_size, kinds_of};
+use ac_tree::{Function as Declared, Item};
+use ac_types::Checked;
 use std::alloc::Global;
-
-fn param_at(is_array: bool, slot: u32) -> Meaning
-    ensures { result ≡ param_at is_array slot }
-{
-    if is_array {
-        Meaning::ArrayParam(slot)
-    } else {
-        Meaning::Local { depth: 0, slot }
-    }
-}
-
-fn declare_param(walk: &mut Walk, param: &Param) -> Result<(), NoMemory>
-    requires { walk.old.names.slot + 1 < 4294967296 }
-    ensures { OnOk result (walk.new ≡ after_param param.now walk.old) }
-{
-    let slot = walk.names.slot;
-    let _ = walk
-        .names
-        .scopes
-        .declare(&param.name, param_at(param.is_array, slot))?;
-    walk.take(1);
-    Ok(())
-}
-
-fn declare_params(walk: &mut Walk, params: &[Param]) -> Result<(), NoMemory>
-    requires { walk.old.names.slot + length params.now < 4294967296 }
-    ensures { OnOk result (walk.new ≡ after_params params.now walk.old) }
-{
-    for param in params {
-        declare_param(walk, param)?;
-    }
-    Ok(())
-}
-
-fn kinds_in(alloc: Global, params: &[Param]) -> Result<List<bool>, NoMemory>
-    ensures { IfOk result (λ kinds. kinds ≡ kinds_in params.now) }
-{
-    let mut kinds = List::new(alloc);
-    for param in params {
-        kinds.push(param.is_array)?;
-    }
-    Ok(kinds)
-}
 
 /// A function in the scopes of the top level.
 fn function_in(alloc: Global, walk: &mut Walk, function: &Declared) -> Result<Function, NoMemory>
@@ -70,9 +28,9 @@ fn function_in(alloc: Global, walk: &mut Walk, function: &Declared) -> Result<Fu
     ensures function { IfOk result (λ f. f ≡ function_in function.now walk.old.names.scopes walk.old.texts) }
 {
     let name = function.name.copy(alloc)?;
-    let params = kinds_in(alloc, function.params.as_slice())?;
+    let params = kinds_of(alloc, function.params.as_slice())?;
     walk.names.scopes.open()?;
-    declare_params(walk, function.params.as_slice())?;
+    walk.names.declare_params(function.params.as_slice())?;
     let mut body = List::new(alloc);
     resolve_body(alloc, walk, 0, &mut body, function.body.as_slice())?;
     let slots = walk.names.slot;
@@ -160,16 +118,16 @@ fn files_in(alloc: Global, items: &[Item]) -> Result<List<Bytes>, NoMemory>
     Ok(list)
 }
 
-/// How many slots the globals have, and what is in them at the start.
+/// What is known of the items before a place, and what is in the globals among them at the start.
 #[derive(Drop)]
 struct Globals {
-    counts: Counts,
+    past: Past,
     starts: List<Start>,
 }
 
 impl Globals {
     fn add(&mut self, item: &Item) -> Result<(), NoMemory>
-        requires { HasCounts self.old.counts (item_weight item.now) }
+        requires { HasCounts self.old.past.counts (item_weight item.now) }
         ensures { OnOk result (self.new ≡ after_global item.now self.old) }
     {
         if let Item::Global {
@@ -181,29 +139,22 @@ impl Globals {
         {
             if *value != 0 {
                 self.starts.push(Start {
-                    slot: self.counts.slots,
+                    slot: self.past.counts.slots,
                     value: *value,
                 })?;
             }
         }
-        self.counts = self.counts.counted(item);
-        Ok(())
+        self.past.pass(item)
     }
 }
 
 fn globals_in(alloc: Global, items: &[Item]) -> Result<Globals, NoMemory>
     requires { items_weight items.now ≤ 1048576 }
-    ensures counts { IfOk result (λ g. g.counts ≡ counts_after no_past.counts items.now) }
+    ensures past { IfOk result (λ g. g.past ≡ past_all no_past items.now) }
     ensures starts { IfOk result (λ g. g.starts ≡ starts_in no_past.counts items.now) }
 {
     let mut globals = Globals {
-        counts: Counts {
-            cores: 0,
-            functions: 0,
-            channels: 0,
-            files: 0,
-            slots: 0,
-        },
+        past: Past::new(alloc),
         starts: List::new(alloc),
     };
     for item in items {
@@ -217,22 +168,22 @@ pub fn resolve(alloc: Global, checked: &Checked) -> Result<Resolved, NoMemory>
     ensures { IfOk result (λ r. r ≡ resolved checked.now) }
 {
     let items = checked.tree().items.as_slice();
-    let scopes = checked.top_level(alloc)?;
-    let cores = cores_in(alloc, &scopes, items)?;
-    let channels = channels_in(alloc, &scopes, items)?;
-    let files = files_in(alloc, items)?;
     let globals = globals_in(alloc, items)?;
+    let Globals { past, starts } = globals;
+    let Past {
+        counts,
+        names,
+        paths: _,
+    } = past;
     let mut walk = Walk {
-        names: Names {
-            scopes,
-            labels: Scopes::new(alloc),
-            slot: 0,
-        },
+        names: Names::outermost(alloc, names)?,
         texts: List::new(alloc),
     };
+    let cores = cores_in(alloc, &walk.names.scopes, items)?;
+    let channels = channels_in(alloc, &walk.names.scopes, items)?;
+    let files = files_in(alloc, items)?;
     let functions = functions_in(alloc, &mut walk, items)?;
     let Walk { names: _, texts } = walk;
-    let Globals { counts, starts } = globals;
     Ok(Resolved {
         cores,
         functions,

@@ -10,6 +10,4 @@ mod walk;
 pub use items::resolve;
 
 #[cfg(test)]
-mod shown;
-#[cfg(test)]
 mod tests;

@@ -1,11 +1,12 @@
 //! What a name stands for, by what it means and by the number of async bodies round its use.
 
 ghost use Rattle.std.specs.Prelude.{◌≡◌, ◌-◌};
-ghost use Rattle.ac_resolve.specs.Places.{constant_value, place_of, array_of, name_argument, cancel_of, function_of, channel_of, file_of, core_of};
+ghost use Rattle.ac_resolve.specs.Places.{constant_value, place_of, array_of, name_argument};
+ghost use Rattle.ac_resolve.specs.Places.{cancel_of, function_of, channel_of, file_of, core_of};
 
 use ac_commands::{Argument, Array, Command, Place, Value};
+use ac_names::Meaning;
 use ac_tree::Constant;
-use ac_types::Meaning;
 
 /// The number of a named result.
 pub fn constant_value(which: Constant) -> i64

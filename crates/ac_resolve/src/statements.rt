@@ -4,12 +4,14 @@
 
 ghost use Rattle.std.specs.Prelude.{◌≡◌, [], ◌∷◌, ◌++◌, ◌+◌, ◌<◌, OnOk, IfOk};
 ghost use Rattle.ac_tree.specs.Weight.{stmt_weight, some_weight, body_weight};
-ghost use Rattle.ac_types.specs.Room.{HasSlots, HasDepths};
-ghost use Rattle.ac_types.specs.Statements.{array_len, part_names};
+ghost use Rattle.ac_names.specs.Room.{HasSlots, HasDepths};
+ghost use Rattle.ac_names.specs.Statements.{array_len};
 ghost use Rattle.ac_commands.specs.declared.command.Command.TheVariants as d;
-ghost use Rattle.ac_resolve.specs.Commands.{told, some_told, body_told, print_told, int_told, array_told, if_told, while_told, for_told, do_told, async_told};
+ghost use Rattle.ac_resolve.specs.Commands.{told, some_told, body_told};
+ghost use Rattle.ac_resolve.specs.inner.Forms.{print_told, int_told, array_told, if_told, while_told, for_told, do_told, async_told};
 ghost use Rattle.ac_resolve.specs.Computed.{target_in, effect_in, operand_in};
-ghost use Rattle.ac_resolve.specs.Walks.{HasTexts, after, does, after_listed, after_some, some_does, other_does, after_init, after_body, body_does, after_scope, scope_does, taken, labelled_in, declared_in};
+ghost use Rattle.ac_resolve.specs.inner.Walks.{HasTexts, after, does, after_listed, after_some, some_does};
+ghost use Rattle.ac_resolve.specs.inner.Walks.{other_does, after_init, after_body, body_does, after_scope, scope_does};
 
 use crate::expressions::{
     effect_in, initial_in, operand_in, target_in, test_in, value_in, values_in,
@@ -18,79 +20,9 @@ use crate::names::cancel_of;
 use crate::walk::Walk;
 use ac_base::{Boxed, Bytes, List, Name, NoMemory};
 use ac_commands::{Command, Place, Target};
+use ac_names::{Scopes, array_len};
 use ac_tree::{Expr, Stmt};
-use ac_types::{Meaning, Scopes, array_len};
 use std::alloc::Global;
-
-impl Walk {
-    /// Gives so many slots.
-    pub fn take(&mut self, slots: u32)
-        requires { self.old.names.slot + slots < 4294967296 }
-        ensures { self.new ≡ taken slots self.old }
-    {
-        self.names.slot += slots;
-    }
-
-    /// Opens the scope of labels of a `do`.
-    fn label(&mut self, label: &Option<Name>, depth: u32) -> Result<(), NoMemory>
-        ensures { OnOk result (self.new ≡ labelled_in label.now depth self.old) }
-    {
-        let slot = self.names.slot;
-        self.names.labels.open()?;
-        match label {
-            None => Ok(()),
-            Some(name) => {
-                let _ = self
-                    .names
-                    .labels
-                    .declare(name, Meaning::Label { depth, slot })?;
-                Ok(())
-            }
-        }
-    }
-
-    /// Declares what a statement declares that took its slots from a slot on.
-    fn declare(&mut self, depth: u32, slot: u32, stmt: &Stmt) -> Result<(), NoMemory>
-        ensures { OnOk result (self.new ≡ declared_in (part_names (told stmt.now).shape) depth slot self.old) }
-    {
-        match stmt {
-            Stmt::Int {
-                at: _,
-                name,
-                value: _,
-            } => {
-                let _ = self
-                    .names
-                    .scopes
-                    .declare(name, Meaning::Local { depth, slot })?;
-                Ok(())
-            }
-            Stmt::Array { at: _, name, size } => {
-                let len = array_len(*size);
-                let _ = self
-                    .names
-                    .scopes
-                    .declare(name, Meaning::LocalArray { depth, slot, len })?;
-                Ok(())
-            }
-            Stmt::Block { .. } => Ok(()),
-            Stmt::Empty { .. } => Ok(()),
-            Stmt::Assign { .. } => Ok(()),
-            Stmt::Call { .. } => Ok(()),
-            Stmt::Print { .. } => Ok(()),
-            Stmt::If { .. } => Ok(()),
-            Stmt::While { .. } => Ok(()),
-            Stmt::For { .. } => Ok(()),
-            Stmt::Break { .. } => Ok(()),
-            Stmt::Continue { .. } => Ok(()),
-            Stmt::Return { .. } => Ok(()),
-            Stmt::Do { .. } => Ok(()),
-            Stmt::Async { .. } => Ok(()),
-            Stmt::Cancel { .. } => Ok(()),
-            Stmt::Yield { .. } => Ok(()),
-        }
-    }
-}
 
 fn resolve_int(
     alloc: Global,
@@ -105,7 +37,7 @@ fn resolve_int(
     ensures commands { OnOk result (out.new ≡ out.old ++ does (int_told name.now value.now) depth walk.old) }
 {
     let slot = walk.names.slot;
-    walk.take(1);
+    walk.names.take(1);
     let value = initial_in(alloc, &walk.names.scopes, depth, value)?;
     let target = Target::Variable(Place::Local { level: 0, slot });
     out.push(Command::Set { target, value })
@@ -124,7 +56,7 @@ fn resolve_array(
 {
     let slot = walk.names.slot;
     let len = array_len(size);
-    walk.take(len);
+    walk.names.take(len);
     out.push(Command::Clear { slot, len })
 }
 
@@ -304,7 +236,8 @@ fn resolve_for(
     requires depths { HasDepths depth (some_weight init.now + (some_weight next.now + stmt_weight body.now)) }
     requires texts { HasTexts walk.old.texts (some_weight init.now + (some_weight next.now + stmt_weight body.now)) }
     ensures walk { OnOk result (walk.new ≡ after (for_told (some_told init.now) test.now (some_told next.now) (told body.now)) walk.old) }
-    ensures commands { OnOk result (out.new ≡ out.old ++ does (for_told (some_told init.now) test.now (some_told next.now) (told body.now)) depth walk.old) }
+    ensures commands { OnOk result (out.new ≡ out.old
+        ++ does (for_told (some_told init.now) test.now (some_told next.now) (told body.now)) depth walk.old) }
 {
     walk.names.scopes.open()?;
     resolve_init(alloc, walk, depth, out, init)?;
@@ -331,8 +264,7 @@ fn resolve_do(
     ensures commands { OnOk result (out.new ≡ out.old ++ does (do_told label.now (body_told body.now)) depth walk.old) }
 {
     let slot = walk.names.slot;
-    walk.label(label, depth)?;
-    walk.take(1);
+    walk.names.enter_do(label, depth)?;
     let mut list = List::new(alloc);
     resolve_scope(alloc, walk, depth, &mut list, body)?;
     walk.names.labels.close();
@@ -458,7 +390,7 @@ fn resolve_listed(
 {
     let slot = walk.names.slot;
     resolve_stmt(alloc, walk, depth, out, stmt)?;
-    walk.declare(depth, slot, stmt)
+    walk.names.declare(depth, slot, stmt)
 }
 
 /// Appends the commands of statements whose declarations have a scope of their own.

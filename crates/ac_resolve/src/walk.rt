@@ -1,7 +1,7 @@
 //! A walk over a program.
 
 use ac_base::{Bytes, List};
-use ac_types::Names;
+use ac_names::Names;
 
 /// The names at the place where a walk is, and the texts before it.
 #[derive(Drop)]

@@ -10,7 +10,9 @@ use Rattle.work_item.specs.declared.cell.Place as cells
 use Rattle.work_item.specs.declared.cell.Cell.{Cell}
 use Rattle.work_item.specs.declared.cell.Cell.TheVariants as c
 use Rattle.work_item.specs.Store.{Store, above, cell_at, int_in, place_in, global_at}
-use Rattle.core_state.specs.Arithmetic.{Computed, bind, at_zero, truth, negated, not_true, flipped, sum_of, difference_of, product_of, quotient, remainder, shifted_left, shifted_right, is_equal, is_not_equal, is_less, is_at_most, both_bits, either_bits, differing_bits}
+use Rattle.core_state.specs.Arithmetic.{Computed, bind, at_zero, truth, negated, not_true, flipped, sum_of}
+use Rattle.core_state.specs.Arithmetic.{difference_of, product_of, quotient, remainder, shifted_left, shifted_right}
+use Rattle.core_state.specs.Arithmetic.{is_equal, is_not_equal, is_less, is_at_most, both_bits, either_bits, differing_bits}
 use Rattle.core_state.specs.Frames.{element}
 use Rattle.ac_commands.specs.declared.value.Place.{Place}
 use Rattle.ac_commands.specs.declared.value.Place.TheVariants as p

@@ -1,5 +1,6 @@
 -- What the next step of a thread comes to, by the work that it has.
-use Rattle.std.specs.Prelude.{ℕ, ◌-◌, ℤ, pos, List, [], ◌∷◌, ◌++◌, length, replicate, Option, Some, None, nat_lt, slice_get, slice_index_or, Result, Ok, Err, if◌then◌else◌}
+use Rattle.std.specs.Prelude.{ℕ, ◌-◌, ℤ, pos, List, [], ◌∷◌, ◌++◌, length, replicate, Option, Some}
+use Rattle.std.specs.Prelude.{None, nat_lt, slice_get, slice_index_or, Result, Ok, Err, if◌then◌else◌}
 use Rattle.ac_base.specs.declared.ends.Trap.{Trap}
 use Rattle.ac_base.specs.declared.ends.EndWord.{EndWord}
 use Rattle.ac_base.specs.declared.ends.EndWord.TheVariants as word
@@ -24,7 +25,8 @@ use Rattle.ac_commands.specs.declared.program.Function.{Function}
 use Rattle.ac_commands.specs.declared.program.Resolved.{Resolved}
 use Rattle.ac_semantics.specs.Evaluation.{value_of, values_of, arguments_of, array}
 use Rattle.ac_semantics.specs.Held.{Held, with_shared, with_store, stepped, entered}
-use Rattle.ac_semantics.specs.Work.{After, Puts, Drops, Gives, Work, Do, Turn, Close, Back, Given, Leave, End, before, ahead, past_loop, at_turn}
+use Rattle.ac_semantics.specs.Work.{After, Puts, Drops, Gives, Work, Do, Turn, Close, Back}
+use Rattle.ac_semantics.specs.Work.{Given, Leave, End, before, ahead, past_loop, at_turn}
 
 -- What a step comes to. Where it has no meaning, no case of these, the core stays where it is, and comes to no end.
 pub data Next : Type 0 where

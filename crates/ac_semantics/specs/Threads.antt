@@ -1,5 +1,6 @@
 -- The threads of a core and their blocks, and the moves of a core (Harris, Abadi, Isaacs, McIlroy, OOPSLA 2011).
-use Rattle.std.specs.Prelude.{ℕ, ◌+◌, ℤ, pos, List, [], ◌∷◌, ◌++◌, length, replicate, Option, Some, None, Bool, true, false, not, ◌&&◌, nat_eq, slice_index_or, slice_set, if◌then◌else◌}
+use Rattle.std.specs.Prelude.{ℕ, ◌+◌, ℤ, pos, List, [], ◌∷◌, ◌++◌, length, replicate, Option, Some, None}
+use Rattle.std.specs.Prelude.{Bool, true, false, not, ◌&&◌, nat_eq, slice_index_or, slice_set, if◌then◌else◌}
 use Rattle.ac_base.specs.declared.entry.Entry.{Entry}
 use Rattle.ac_base.specs.declared.ends.CoreEnd.{CoreEnd}
 use Rattle.ac_base.specs.declared.ends.EndWord.TheVariants as word
@@ -91,7 +92,11 @@ starts c t s own ws =
       running = Some (record { number = length c.threads });
       work = own;
       ready = t ∷ c.ready;
-      threads = with_phase c.threads t Active ws ++ record { around = closes ws ++ (thread_at c.threads t).around; phase = Active; work = [] } ∷ [];
+      threads = with_phase c.threads t Active ws ++ record {
+        around = closes ws ++ (thread_at c.threads t).around;
+        phase = Active;
+        work = [];
+      } ∷ [];
     }
 
 abbrev pub arrives : Bool → CoreState → Item → BlockId → Held → List Work → CoreState

@@ -19,7 +19,7 @@ use Rattle.stack_code.specs.declared.parts.Entered.{Entered}
 use Rattle.stack_code.specs.Parts.{Parts}
 use Rattle.stack_code.specs.Machine.{FlatEnd, told, exec, with_starts as starts_made, first_globals as globals_made, first_core as first_machine, first_flat, Runs}
 use Rattle.ac_translation.specs.Translation.{body_code, last_code, functions_code, no_exits, start_of, code_of}
-use Rattle.ac_translation.specs.WellFormed.{in_function, are_well_formed, IsWellFormed}
+use Rattle.ac_translation.proofs.WellFormed.{in_function, are_well_formed, IsWellFormed}
 use Rattle.ac_translation.specs.Same.{IsSame}
 use Rattle.ac_translation.proofs.Sized.{body_sized}
 use Rattle.ac_translation.proofs.Placed.{has_all, Placed, first_part, other_part, here}
@@ -67,7 +67,8 @@ module _ (program : Resolved) where
   is_code = record { texts = refl; functions = pairs }
 
   -- the thread of a core that is about to enter the function
-  first_works : (f : Function) (e : Entered) → EntersAt code.instrs f e → are_well_formed program.functions f.body in_function ≡ true → Works code.instrs program.functions first_activation e.at [] (before first_frame f.body (Leave ∷ []))
+  first_works : (f : Function) (e : Entered) → EntersAt code.instrs f e → are_well_formed program.functions f.body in_function ≡ true
+      → Works code.instrs program.functions first_activation e.at [] (before first_frame f.body (Leave ∷ []))
   first_works f e h form =
       let body_at = first_part code.instrs (body_code f.body) last_code h.stands in
       let last_at = other_part code.instrs (body_code f.body) last_code (body_sized f.body) h.stands in
@@ -78,7 +79,8 @@ module _ (program : Resolved) where
         nothing = refl;
       }))
 
-  both_begin : (f : Function) (e : Entered) → EntersAt code.instrs f e → are_well_formed program.functions f.body in_function ≡ true → (journal : List Entry) → BothBegin (Stands code.instrs program.functions) (λ (x : FlatEnd). x.core) (first_state program f journal) (first_flat code e journal)
+  both_begin : (f : Function) (e : Entered) → EntersAt code.instrs f e → are_well_formed program.functions f.body in_function ≡ true → (journal : List Entry)
+      → BothBegin (Stands code.instrs program.functions) (λ (x : FlatEnd). x.core) (first_state program f journal) (first_flat code e journal)
   both_begin f e h form journal =
       let globals = starts_are program.starts (replicate program.slots (pos 0)) in
       let s = first_shared journal in
@@ -88,10 +90,12 @@ module _ (program : Resolved) where
       subst (BothBegin (Stands code.instrs program.functions) (λ (x : FlatEnd). x.core) (first_state program f journal)) same
       (cores_begin code program.functions (first_globals program) s made f e (λ store. first_stands code program.functions f e s store (first_works f e h form)))
 
-  runs_same : IsWellFormed program → (f : Function) (e : Entered) → EntersAt code.instrs f e → are_well_formed program.functions f.body in_function ≡ true → (bound : ℕ) (journal : List Entry) (end : Option CoreEnd) →
+  runs_same : IsWellFormed program → (f : Function) (e : Entered) → EntersAt code.instrs f e → are_well_formed program.functions f.body in_function ≡ true
+      → (bound : ℕ) (journal : List Entry) (end : Option CoreEnd) →
       ComesTo (step program bound) (first_state program f journal) end ↔ ((count : ℕ) × ComesTo (exec code bound) (first_flat code e journal) (record { core = end; count = count }))
   runs_same fine f e h form bound journal end =
-      let both = same_comes (step program bound) (exec code bound) (Stands code.instrs program.functions) (λ (x : FlatEnd). x.core) (core_follows code program is_code fine bound) (first_state program f journal) (first_flat code e journal) (both_begin f e h form journal) end in (
+      let both = same_comes (step program bound) (exec code bound) (Stands code.instrs program.functions) (λ (x : FlatEnd). x.core) (core_follows code program is_code fine bound)
+      (first_state program f journal) (first_flat code e journal) (both_begin f e h form journal) end in (
         λ x. let y = both.0 x in (y.0.count, subst (λ o. ComesTo (exec code bound) (first_flat code e journal) (record { core = o; count = y.0.count })) y.2 y.1),
         λ x. both.1 (record { core = end; count = x.0 }, x.1, refl),
       )
@@ -110,7 +114,12 @@ module _ (program : Resolved) where
         let c = core_of program.cores core begins.entry begins.entry_is in
         let f = function_of code.instrs h.1.function (slice_get program.functions begins.entry) (slice_get code.functions begins.entry) (pairs begins.entry) begins.function_is in
         let enters : Enters program core f.function = record { here = c.core; core_is = c.is; function_is = subst (λ n. slice_get program.functions n ≡ Some f.function) (sym c.enters) f.is } in
-        record { function = f.function; enters = enters; ends = (runs_same fine f.function h.1.function f.enters (fine.bodies c.core.entry f.function enters.function_is) bound journal end).1 (h.0, h.1.comes) }
+        record {
+          function = f.function;
+          enters = enters;
+          ends = (runs_same fine f.function h.1.function f.enters (fine.bodies c.core.entry f.function enters.function_is) bound journal end).1
+              (h.0, h.1.comes);
+        }
 
   pub code_same : IsWellFormed program → IsSame (code_of program) program
   code_same fine core bound journal end = (forth fine core bound journal end, back fine core bound journal end)

@@ -1,5 +1,6 @@
 -- What holds of threads and blocks, and that a block's count of the threads started directly in it is 0 just where no thread within it lives.
-use Rattle.std.proofs.Common.{◌≡◌, ◌≢◌, ℕ, zero, suc, ◌+◌, ◌<◌, ◌≤◌, List, [], ◌∷◌, ◌++◌, length, get_or, set, Bool, true, false, inl, inr, refl, sym, ap, ◌∙◌, subst, arith, length-append, nat_eq, if◌then◌else◌}
+use Rattle.std.proofs.Common.{◌≡◌, ◌≢◌, ℕ, zero, suc, ◌+◌, ◌<◌, ◌≤◌, List, [], ◌∷◌, ◌++◌, length, get_or, set, Bool, true}
+use Rattle.std.proofs.Common.{false, inl, inr, refl, sym, ap, ◌∙◌, subst, arith, length-append, nat_eq, if◌then◌else◌}
 use Rattle.std.specs.Prelude.{not, ◌&&◌}
 use Rattle.std.specs.List.{sum_by}
 use Rattle.std.proofs.lemmas.Bool.{cases_eq, cases_lt, eq-eqb}
@@ -150,7 +151,8 @@ none_set b (x ∷ ts) zero new e = ap (λ q. not q && none_within b ts) e
 none_set b (x ∷ ts) (suc t) new e = ap (λ q. not (is_within b x) && q) (none_set b ts t new e)
 
 -- a living thread that has entered b, and one that was started directly in b
-pub held_at : (ts : List Thread) (o : ℕ) (b : BlockId) (inside outside : List BlockId) → Lives (at ts o).phase → entered (at ts o) ≡ inside ++ b ∷ outside → held b (at ts o) ≡ among b inside + 1 + among b outside
+pub held_at : (ts : List Thread) (o : ℕ) (b : BlockId) (inside outside : List BlockId) → Lives (at ts o).phase → entered (at ts o) ≡ inside ++ b ∷ outside
+    → held b (at ts o) ≡ among b inside + 1 + among b outside
 held_at ts o b inside outside l e =
     let x = alive_is (at ts o).phase (among b (entered (at ts o))) l in
     let y = ap (among b) e in
@@ -238,7 +240,8 @@ pub positive : (n : ℕ) → 0 < n → nat_eq n 0 ≡ false
 positive n p = grind (arith, nat_tests)
 
 -- the count of an innermost block tells whether a thread within it lives, wherever its owner is
-pub count_tells : (ts : List Thread) (blocks : ℕ) → Good ts blocks → (o : ℕ) (b : BlockId) (rest : List BlockId) → Lives (at ts o).phase → entered (at ts o) ≡ b ∷ rest → nat_eq (sum_by (direct b) ts) 0 ≡ none_within b ts
+pub count_tells : (ts : List Thread) (blocks : ℕ) → Good ts blocks → (o : ℕ) (b : BlockId) (rest : List BlockId) → Lives (at ts o).phase → entered (at ts o) ≡ b ∷ rest
+    → nat_eq (sum_by (direct b) ts) 0 ≡ none_within b ts
 count_tells ts blocks good o b rest l e = go (none_within b ts) refl
   where
     go : (q : Bool) → none_within b ts ≡ q → nat_eq (sum_by (direct b) ts) 0 ≡ none_within b ts

@@ -47,7 +47,8 @@ module _ (ts ts' : List Thread) (t : ℕ) (new : Thread) (change : Changed nobod
   module _ (blocks : ℕ) (good : Good ts blocks) where
     -- the thread lives before and after, and is what the other threads need of it
     change_good : (blocks' : ℕ) → Lives old.phase → Lives new.phase → new.around ≡ old.around →
-        ((u : ℕ) (c : BlockId) (rest inside outside : List BlockId) → Lives (at ts u).phase → (at ts u).around ≡ c ∷ rest → entered old ≡ inside ++ c ∷ outside → (more : List BlockId) × (entered new ≡ more ++ c ∷ outside)) →
+        ((u : ℕ) (c : BlockId) (rest inside outside : List BlockId) → Lives (at ts u).phase → (at ts u).around ≡ c ∷ rest → entered old ≡ inside ++ c ∷ outside
+        → (more : List BlockId) × (entered new ≡ more ++ c ∷ outside)) →
         ((b : BlockId) → sum_by (held b) ts' ≤ 1) → ((b : BlockId) → blocks' ≤ b.number → sum_by (held b) ts' ≡ 0) → Good ts' blocks'
     change_good blocks' lo ln same keep once fresh = record { nested = nested; once = once; fresh = fresh }
       where
@@ -84,25 +85,31 @@ module _ (ts ts' : List Thread) (t : ℕ) (new : Thread) (change : Changed nobod
     -- the thread has entered the same
     pub same_good : Lives old.phase → Lives new.phase → new.around ≡ old.around → entered new ≡ entered old → Good ts' blocks
     same_good lo ln same e =
-        let bound : (b : BlockId) → sum_by (held b) ts' ≡ sum_by (held b) ts = λ b. (let h = held_change b lo ln in let z : among b (entered new) ≡ among b (entered old) = ap (among b) e in omega (arith, h, z)) in
+        let bound : (b : BlockId) → sum_by (held b) ts' ≡ sum_by (held b) ts =
+        λ b. (let h = held_change b lo ln in let z : among b (entered new) ≡ among b (entered old) = ap (among b) e in omega (arith, h, z)) in
         change_good blocks lo ln same (λ u c rest inside outside l a h. (inside, e ∙ h)) (λ b. let h = bound b in let k = good.once b in omega (arith, h, k)) (λ b le. bound b ∙ good.fresh b le)
 
     -- the thread enters a new block
     pub open_good : (new_block : BlockId) → new_block.number ≡ blocks → Lives old.phase → Lives new.phase → new.around ≡ old.around → entered new ≡ new_block ∷ entered old → Good ts' (blocks + 1)
     open_good nb n lo ln same e =
-        let bound : (b : BlockId) → sum_by (held b) ts' ≡ sum_by (held b) ts + one b.number nb.number = λ b. (let h = held_change b lo ln in let z : among b (entered new) ≡ one b.number nb.number + among b (entered old) = ap (among b) e in omega (arith, h, z)) in
+        let bound : (b : BlockId) → sum_by (held b) ts' ≡ sum_by (held b) ts
+        + one b.number nb.number = λ b. (let h = held_change b lo ln in let z : among b (entered new) ≡ one b.number nb.number + among b (entered old) = ap (among b) e in omega (arith, h, z)) in
         change_good (blocks + 1) lo ln same (λ u c rest inside outside l a h. (nb ∷ inside, e ∙ ap (λ z. nb ∷ z) h))
         (λ b. elim (cases_eq b.number nb.number) as (λ _. sum_by (held b) ts' ≤ 1) [
-          | inl q ↦ (let h = bound b in let f = good.fresh b (omega (arith, q, n)) in let k : one b.number nb.number ≡ 1 = subst (λ z. one b.number z ≡ 1) q (one_same b.number) in omega (arith, h, f, k))
+          | inl q ↦ (let h = bound b in let f = good.fresh b (omega (arith, q, n)) in let k : one b.number nb.number ≡ 1 = subst (λ z. one b.number z ≡ 1) q (one_same b.number) in
+              omega (arith, h, f, k))
           | inr ne ↦ (let h = bound b in let f = good.once b in let k = one_other b.number nb.number ne in omega (arith, h, f, k))
         ])
-        (λ b le. let h = bound b in let f = good.fresh b (omega (arith, le)) in let ne : b.number ≢ nb.number = (λ q. omega (arith, le, q, n)) in let k = one_other b.number nb.number ne in omega (arith, h, f, k))
+        (λ b le. let h = bound b in let f = good.fresh b (omega (arith, le)) in let ne : b.number ≢ nb.number = (λ q. omega (arith, le, q, n)) in let k = one_other b.number nb.number ne in
+        omega (arith, h, f, k))
 
     -- the thread leaves a block in which nobody lives
-    pub leave_good : (b : BlockId) (below : List BlockId) → Lives old.phase → Lives new.phase → new.around ≡ old.around → entered old ≡ b ∷ below → entered new ≡ below → none_within b ts ≡ true → Good ts' blocks
+    pub leave_good : (b : BlockId) (below : List BlockId) → Lives old.phase → Lives new.phase → new.around ≡ old.around → entered old ≡ b ∷ below → entered new ≡ below → none_within b ts ≡ true
+        → Good ts' blocks
     leave_good b below lo ln same was is none =
         let bound : (c : BlockId) → sum_by (held c) ts' ≤ sum_by (held c) ts =
-        λ c. (let h = held_change c lo ln in let z : among c (entered old) ≡ one c.number b.number + among c below = ap (among c) was in let y : among c (entered new) ≡ among c below = ap (among c) is in omega (arith, h, z, y)) in
+        λ c. (let h = held_change c lo ln in let z : among c (entered old) ≡ one c.number b.number + among c below = ap (among c) was in
+        let y : among c (entered new) ≡ among c below = ap (among c) is in omega (arith, h, z, y)) in
         change_good blocks lo ln same keep (λ c. let h = bound c in let k = good.once c in omega (arith, h, k)) (λ c le. let h = bound c in let k = good.fresh c le in omega (arith, h, k))
       where
         apart : (u : ℕ) (c : BlockId) (rest : List BlockId) → Lives (at ts u).phase → (at ts u).around ≡ c ∷ rest → b ≢ c
@@ -118,7 +125,8 @@ module _ (ts ts' : List Thread) (t : ℕ) (new : Thread) (change : Changed nobod
         shorter c [] outside ne q = absurd (ne (let z : b ≡ c = cc in z))
         shorter c (i ∷ inside) outside ne q = (inside, let z : below ≡ inside ++ c ∷ outside = cc in z)
 
-        keep : (u : ℕ) (c : BlockId) (rest inside outside : List BlockId) → Lives (at ts u).phase → (at ts u).around ≡ c ∷ rest → entered old ≡ inside ++ c ∷ outside → (more : List BlockId) × (entered new ≡ more ++ c ∷ outside)
+        keep : (u : ℕ) (c : BlockId) (rest inside outside : List BlockId) → Lives (at ts u).phase → (at ts u).around ≡ c ∷ rest → entered old ≡ inside ++ c ∷ outside
+            → (more : List BlockId) × (entered new ≡ more ++ c ∷ outside)
         keep u c rest inside outside l a h =
             let r = shorter c inside outside (apart u c rest l a) (sym was ∙ h) in
             (r.0, is ∙ r.1)

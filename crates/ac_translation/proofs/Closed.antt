@@ -20,7 +20,8 @@ use Rattle.ac_commands.specs.declared.program.Function.{Function}
 use Rattle.stack_code.specs.declared.instr.Instr.{Instr}
 use Rattle.stack_code.specs.declared.instr.Instr.TheVariants as i
 use Rattle.ac_translation.specs.Pieces.{Piece, no_code, one, ◌⨾◌, all, over, out_past, out_turn, loop}
-use Rattle.ac_translation.specs.Translation.{lazily, joined_code, chained_code, array_code, value_step, link_step, value_code, link_code, values_code, argument_code, place_code, effect_code, target_code, test_code, at_loop, at_next, operand_code, command_step, command_code, body_code, last_code, function_code, functions_code}
+use Rattle.ac_translation.specs.Translation.{lazily, joined_code, chained_code, array_code, value_step, link_step, value_code, link_code, values_code, argument_code, place_code, effect_code}
+use Rattle.ac_translation.specs.Translation.{target_code, test_code, at_loop, at_next, operand_code, command_step, command_code, body_code, last_code, function_code, functions_code}
 
 -- each way to make a piece keeps it
 pub record IsKept (P : Piece → Type 0) : Type 0 where

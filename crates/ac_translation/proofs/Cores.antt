@@ -22,7 +22,7 @@ use Rattle.ac_semantics.specs.Threads.{Phase, Active, AtFinish, Ended, Thread, n
 use Rattle.stack_code.specs.declared.parts.Entered.{Entered}
 use Rattle.stack_code.specs.Parts.{Parts}
 use Rattle.stack_code.specs.Machine.{Block, Flat, FlatEnd, Thread as Stack, nobody as no_stack, thread_at as stack_of, told, exec, first_core as first_machine}
-use Rattle.ac_translation.specs.WellFormed.{IsWellFormed}
+use Rattle.ac_translation.proofs.WellFormed.{IsWellFormed}
 use Rattle.ac_translation.proofs.Functions.{IsCodeOf}
 use Rattle.ac_translation.proofs.Tables.{total_one, one_same, one_other}
 use Rattle.ac_translation.proofs.Blocks.{among, Lives, held, at, OwnerOf, Waits, held_at}
@@ -157,7 +157,8 @@ module _ (code : Parts) (functions : List Function) where
         others = first_others work none w;
       })
     where
-      first_others : (work : List Work) (none : closes work ≡ []) → Works code.instrs functions first_activation e.at [] work → Others code.instrs functions (only work none) None (record no_stack { place = e.at } ∷ [])
+      first_others : (work : List Work) (none : closes work ≡ []) → Works code.instrs functions first_activation e.at [] work
+          → Others code.instrs functions (only work none) None (record no_stack { place = e.at } ∷ [])
       first_others work none w zero ne l = record { activation = first_activation; place = e.at; operands = []; is = refl; around = refl; works = w }
       first_others work none w (suc u) ne l = absurd l
 

@@ -18,7 +18,8 @@ pub block_put : (bs : List (Option Block)) (b : BlockId) (x : Block) (y : Option
 block_put bs b x y h = set_changed None bs b.number y (block_stands bs b x h)
 
 -- the counts of the blocks with one thread more in the innermost of these, or in none
-pub counted_in_tells : (bs : List (Option Block)) (path : List BlockId) (b : BlockId) (k : ℕ) (x : Block) → k ≡ x.count + head_is b path → block_at bs b ≡ Some x → block_at (counted_in bs (first path)) b ≡ Some (record x { count = k })
+pub counted_in_tells : (bs : List (Option Block)) (path : List BlockId) (b : BlockId) (k : ℕ) (x : Block) → k ≡ x.count + head_is b path → block_at bs b ≡ Some x
+    → block_at (counted_in bs (first path)) b ≡ Some (record x { count = k })
 counted_in_tells bs [] b k x q h = let z : x.count ≡ k = omega (arith, q) in h ∙ ap {A = ℕ} {B = Option Block} (λ y. Some (record x { count = y })) z
 counted_in_tells bs (c ∷ path) b k x q h =
     elim (cases_eq c.number b.number) as (λ _. block_at (counted_in bs (Some c)) b ≡ Some (record x { count = k })) [
@@ -45,7 +46,8 @@ counted_in_length bs None = refl
 counted_in_length bs (Some c) = length-set bs c.number (one_more (block_at bs c))
 
 -- the counts with one thread less in the innermost of these, which stands in the table
-pub counted_out_tells : (bs : List (Option Block)) (c : BlockId) (path : List BlockId) (z x : Block) (b : BlockId) (k : ℕ) → block_at bs c ≡ Some z → x.count ≡ k + head_is b (c ∷ path) → block_at bs b ≡ Some x →
+pub counted_out_tells : (bs : List (Option Block)) (c : BlockId) (path : List BlockId) (z x : Block) (b : BlockId) (k : ℕ) → block_at bs c ≡ Some z → x.count ≡ k + head_is b (c ∷ path)
+    → block_at bs b ≡ Some x →
     block_at (with_block bs c (Some (record z { count = z.count - 1 }))) b ≡ Some (record x { count = k })
 counted_out_tells bs c path z x b k stood q h =
     let put = block_put bs c z (Some (record z { count = z.count - 1 })) stood in

@@ -30,7 +30,7 @@ use Rattle.stack_code.specs.Parts.{Parts}
 use Rattle.stack_code.specs.Machine.{Flat, counted, argument, arguments, or_trap as or_end, calls as enters, returns as gives_back}
 use Rattle.ac_translation.specs.Pieces.{Exits, one, ◌⨾◌, all}
 use Rattle.ac_translation.specs.Translation.{array_code, value_code, argument_code, effect_code, target_code, body_code, last_code}
-use Rattle.ac_translation.specs.WellFormed.{is_for, are_for, fits_function, is_computed, in_function, are_well_formed, IsWellFormed}
+use Rattle.ac_translation.proofs.WellFormed.{is_for, are_for, fits_function, is_computed, in_function, are_well_formed, IsWellFormed}
 use Rattle.ac_translation.proofs.Sized.{one_sized, value_sized, argument_sized, arguments_sized, effect_sized, body_sized}
 use Rattle.ac_translation.proofs.Placed.{Placed, first_part, other_part, here}
 use Rattle.ac_translation.proofs.Functions.{EntersAt, entry_of, IsCodeOf}
@@ -41,15 +41,18 @@ use Rattle.ac_translation.proofs.Works.{both_true, not_both, Scope, no_scope, af
 -- ---- arguments
 
 module _ (code : Parts) (bound : ℕ) (R : CoreState → Flat → Type 0) (a : Around) (c : CoreState) (s : Held) where
-  argument_keeps : (array : Bool) (x : Argument) {exits : Exits} {place to : ℕ} {operands : List Cell} (go : Cell → Next) → is_for array x ≡ true → Placed code.instrs (argument_code x) exits place to →
+  argument_keeps : (array : Bool) (x : Argument) {exits : Exits} {place to : ℕ} {operands : List Cell} (go : Cell → Next) → is_for array x ≡ true → Placed code.instrs (argument_code x) exits place to
+      →
       ((o : Cell) → KeepsAt code bound R a c s to (o ∷ operands) (go (argument array o))) → KeepsAt code bound R a c s place operands (or_trap s (argument_of s.store a.activation.frame x) go)
   argument_keeps false (g.Value x) go e h next = evaluates_on code bound R a c s (λ v. Ok (cell.Int v)) go (value_evaluates code bound R a c s x) h next
   argument_keeps true (g.Value x) go e h next = let no : false ≡ true = e in cc
   argument_keeps false (g.Array x) go e h next = let no : false ≡ true = e in cc
   argument_keeps true (g.Array x) go e h next = array_keeps code bound R a c s x (λ p. go (cell.Array p)) h next
 
-  pub arguments_keep : (params : List Bool) (xs : List Argument) {exits : Exits} {place to : ℕ} {operands : List Cell} (go : List Cell → Next) → are_for params xs ≡ true → Placed code.instrs (all (map argument_code xs)) exits place to →
-      ((os : List Cell) → length os ≡ length xs → KeepsAt code bound R a c s to (pushed os operands) (go (arguments params os))) → KeepsAt code bound R a c s place operands (or_trap s (arguments_of s.store a.activation.frame xs) go)
+  pub arguments_keep : (params : List Bool) (xs : List Argument) {exits : Exits} {place to : ℕ} {operands : List Cell} (go : List Cell → Next) → are_for params xs ≡ true
+      → Placed code.instrs (all (map argument_code xs)) exits place to →
+      ((os : List Cell) → length os ≡ length xs → KeepsAt code bound R a c s to (pushed os operands) (go (arguments params os)))
+      → KeepsAt code bound R a c s place operands (or_trap s (arguments_of s.store a.activation.frame xs) go)
   arguments_keep [] [] {place = place} {to = to} {operands = operands} go e h next =
       let ends = h.ends in
       let same : to ≡ place = omega (arith, ends) in
@@ -91,7 +94,8 @@ module _ (code : Parts) (program : Resolved) (same : IsCodeOf code program) (fin
   -- the new frame is made, and the function is entered
   enters_keep : (f : Function) (e : Entered) (number count : ℕ) (after : After) {x : Exits} {place to : ℕ} (s : Held) (ws : List Work) (scope : Scope) (os : List Cell) → Born s →
       IsOutside after scope → EntersAt code.instrs f e → are_well_formed program.functions f.body in_function ≡ true →
-      slice_get code.instrs place ≡ Some (i.Call number count) → slice_get code.functions number ≡ Some e → count ≡ length os → Placed code.instrs (after_code after) x (place + 1) to → DoesAt scope to ws →
+      slice_get code.instrs place ≡ Some (i.Call number count) → slice_get code.functions number ≡ Some e → count ≡ length os → Placed code.instrs (after_code after) x (place + 1) to
+      → DoesAt scope to ws →
       At s place (pushed os []) (calls (Some f) (arguments f.params os) after a.activation.frame ws s)
   enters_keep f e number count after {x} {place} {to} s ws scope os b out h form is found many stands_at d =
       let frame = next_frame s.store in
@@ -117,7 +121,8 @@ module _ (code : Parts) (program : Resolved) (same : IsCodeOf code program) (fin
 
   call_keeps : (number : ℕ) (args : List Argument) (after : After) {x : Exits} {place to : ℕ} (s : Held) (ws : List Work) (scope : Scope) → Born s → IsOutside after scope →
       Placed code.instrs (effect_code (f.Call number args) ⨾ after_code after) x place to → DoesAt scope to ws →
-      (o : Option Function) → slice_get program.functions number ≡ o → fits_function o args ≡ true → At s place [] (or_trap s (arguments_of s.store a.activation.frame args) (λ vs. calls o vs after a.activation.frame ws s))
+      (o : Option Function) → slice_get program.functions number ≡ o → fits_function o args ≡ true
+      → At s place [] (or_trap s (arguments_of s.store a.activation.frame args) (λ vs. calls o vs after a.activation.frame ws s))
   call_keeps number args after s ws scope b out h d None is form = let no : false ≡ true = form in cc
   call_keeps number args after {x} {place} {to} s ws scope b out h d (Some callee) is form =
       let entry = entry_of code.instrs callee (slice_get program.functions number) (slice_get code.functions number) (same.functions number) is in
@@ -128,7 +133,8 @@ module _ (code : Parts) (program : Resolved) (same : IsCodeOf code program) (fin
       let after_at = other_part code.instrs (first ⨾ instr) (after_code after) (effect_sized (f.Call number args)) h in
       let near : place + (first.size + 1) ≡ place + first.size + 1 = omega arith in
       arguments_keep code bound R a c s callee.params args (λ vs. calls (Some callee) vs after a.activation.frame ws s) form (first_part code.instrs first instr effect_at) (λ os many.
-      enters_keep callee entry.entered number (length args) after {x = x} s ws scope os b out entry.enters (fine.bodies number callee is) call_at.has.0 entry.is (sym many) (subst (λ n. Placed code.instrs (after_code after) x n to) near after_at) d)
+      enters_keep callee entry.entered number (length args) after {x = x} s ws scope os b out entry.enters (fine.bodies number callee is) call_at.has.0 entry.is (sym many)
+      (subst (λ n. Placed code.instrs (after_code after) x n to) near after_at) d)
 
   -- ---- what is done with a value
 
@@ -162,7 +168,8 @@ module _ (code : Parts) (program : Resolved) (same : IsCodeOf code program) (fin
       let m = λ (k : ℕ). flat (record a { activation = called a.activation to takes.others }) t takes.back (value ∷ []) (counted k) in
       turn_follows code bound R a c i.Ret (core own) m h refl
       (λ k. ap (gives_back (flat a s at (o ∷ []) k) value) takes.is)
-      (λ k. subst (λ f. R (core f) (m k)) (sym d.own_is) (stands to takes.others t takes.back (value ∷ []) (Given (int_in o) to after ∷ ws) (counted k) b (gives (int_in o) after takes.exits takes.next takes.outer takes.outside takes.stands takes.rest)))
+      (λ k. subst (λ f. R (core f) (m k)) (sym d.own_is) (stands to takes.others t takes.back (value ∷ []) (Given (int_in o) to after ∷ ws) (counted k) b
+      (gives (int_in o) after takes.exits takes.next takes.outer takes.outside takes.stands takes.rest)))
   returns_follow (Given value to after ∷ ws) scope place e d s at o b h = absurd d
   returns_follow (Leave ∷ ws) scope place e d s at o b h =
       ends_follows code bound R a c i.Ret (seen_of Finished false s) counted h refl (λ k. ap (gives_back (flat a s at (o ∷ []) k) (cell.Int (int_in o))) d.alone)

@@ -25,7 +25,8 @@ use Rattle.ac_translation.proofs.Wakes.{item, active as is_counted, Listed, list
 use Rattle.ac_translation.proofs.Ends.{left_good, one_less, none_woken, some_left, not_arrived, at_finish, has_entered, owner_lives, owner_woken, freed_good, freed_waits}
 use Rattle.ac_translation.proofs.Works.{both_true}
 use Rattle.ac_translation.proofs.Keeps.{Activation, Around, flat, SameBirths, FollowsAt, turn_follows}
-use Rattle.ac_translation.proofs.Standing.{running, around_of, resting, halted, seated, stack_at, Parked, Others, Together, Stands, rests, with_births, still_stacks, in_stacks, others_back, sitting, Seat}
+use Rattle.ac_translation.proofs.Standing.{running, around_of, resting, halted, seated, stack_at, Parked, Others, Together}
+use Rattle.ac_translation.proofs.Standing.{Stands, rests, with_births, still_stacks, in_stacks, others_back, sitting, Seat}
 
 module _ (code : Parts) (functions : List Function) (bound : ℕ) (s0 : Held) (t : Item) (ws : List Work) (ready : List Item) (ts : List Thread) (activation : Activation) (stacks : List Stack)
     (bs : List (Option Block)) (x : Seat ts t ws activation)
@@ -89,7 +90,8 @@ module _ (code : Parts) (functions : List Function) (bound : ℕ) (s0 : Held) (t
     listed' = listed_gone all dead t.number gone change ready t refl refl h.listed
 
     tracks' : Tracks dead fewer
-    tracks' = tracks_count all dead t.number gone change bs fewer s.blocks h.good h.tracks (λ l. absurd l) (λ b y count q. counted_out_tells bs block others here y b (sum_by (direct b) dead) here_is (count ∙ less b) q)
+    tracks' = tracks_count all dead t.number gone change bs fewer s.blocks h.good h.tracks (λ l. absurd l)
+        (λ b y count q. counted_out_tells bs block others here y b (sum_by (direct b) dead) here_is (count ∙ less b) q)
 
     others' : Others code.instrs functions dead None stacks'
     others' = others_back code.instrs functions all dead t gone change stacks h.others no_stack (in_stacks code.instrs functions ts t ws activation x h) (λ l. absurd l)
@@ -163,7 +165,8 @@ module _ (code : Parts) (functions : List Function) (bound : ℕ) (s0 : Held) (t
       left = with_block bs block None
 
       same : SameBut block fewer left
-      same b ne = changed_same bs left block None (block_put bs block here None here_is) b ne ∙ sym (changed_same bs fewer block _ (block_put bs block here (Some (record here { count = here.count - 1 })) here_is) b ne)
+      same b ne = changed_same bs left block None (block_put bs block here None here_is) b ne
+          ∙ sym (changed_same bs fewer block _ (block_put bs block here (Some (record here { count = here.count - 1 })) here_is) b ne)
 
       freed_tracks : Tracks next left
       freed_tracks =
@@ -175,7 +178,8 @@ module _ (code : Parts) (functions : List Function) (bound : ℕ) (s0 : Held) (t
           elim (found nobody dead next own.owner freed frees u) as (λ _. Parked code.instrs functions (at next u) (stack_at stacks' u)) [
             | inl q ↦
                 let p = others' own.owner tt owner_alive in
-                let now : Parked code.instrs functions freed (stack_at stacks' own.owner) = record { activation = p.activation; place = p.place; operands = p.operands; is = p.is; around = p.around; works = p.works } in
+                let now : Parked code.instrs functions freed (stack_at stacks' own.owner) =
+                record { activation = p.activation; place = p.place; operands = p.operands; is = p.is; around = p.around; works = p.works } in
                 subst (λ y. Parked code.instrs functions y (stack_at stacks' u)) (sym q.1) (subst (λ z. Parked code.instrs functions freed (stack_at stacks' z)) q.0 now)
             | inr q ↦ subst (λ y. Parked code.instrs functions y (stack_at stacks' u)) (sym q.1) (others' u tt (subst (λ (y : Thread). Lives y.phase) q.1 l))
           ]
@@ -222,7 +226,8 @@ module _ (code : Parts) (functions : List Function) (bound : ℕ) (s0 : Held) (t
           let last = eqb-true (here s h block others e r).count 1 parts.0 in
           let owner = item (own s h block others e r).owner in
           let work = (at dead (own s h block others e r).owner).work in
-          turn_follows code bound R a c i.End (resting (given_back s) (owner ∷ ready) (with_phase dead owner Active work)) (λ k. halted (given_back s) (owner ∷ ready) stacks' (with_block bs block None) (counted k)) is
+          turn_follows code bound R a c i.End (resting (given_back s) (owner ∷ ready) (with_phase dead owner Active work))
+          (λ k. halted (given_back s) (owner ∷ ready) stacks' (with_block bs block None) (counted k)) is
           (ap (λ o. On (wakes o (resting (given_back s) ready dead))) (woken_is s h block others e r last parts.1))
           (λ k. ap {A = Flat} {B = Move Flat FlatEnd} (λ m. On m) (ends k true n))
           (λ k. rests (given_back s) (owner ∷ ready) (with_phase dead owner Active work) stacks' (with_block bs block None) (counted k) (awake s h block others e r last parts.1))

@@ -20,7 +20,8 @@ waits_true : (p : Phase) (b : BlockId) → p ≡ AtFinish b → waits_at p b ≡
 waits_true p b e = ap (λ q. waits_at q b) e ∙ eq-eqb b.number b.number refl
 
 -- the living thread t, which has entered nothing, ends
-module _ (ts left : List Thread) (t : ℕ) (new : Thread) (change : Changed nobody ts left t new) (blocks : ℕ) (good : Good ts blocks) (waits : Waits ts) (lives : Lives (at ts t).phase) (gone : new.phase ≡ Ended) (empty : entered (at ts t) ≡ []) where
+module _ (ts left : List Thread) (t : ℕ) (new : Thread) (change : Changed nobody ts left t new) (blocks : ℕ) (good : Good ts blocks) (waits : Waits ts) (lives : Lives (at ts t).phase)
+    (gone : new.phase ≡ Ended) (empty : entered (at ts t) ≡ []) where
   pub left_good : Good left blocks
   left_good = end_good ts left t new change blocks good lives gone empty
 

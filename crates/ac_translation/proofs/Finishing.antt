@@ -22,7 +22,8 @@ use Rattle.ac_translation.proofs.Counts.{block_put}
 use Rattle.ac_translation.proofs.Wakes.{listed_same, listed_gone, waits_change}
 use Rattle.ac_translation.proofs.Keeps.{Activation, within, thread_in, Around, flat, SameBirths, FollowsAt, turn_follows}
 use Rattle.ac_translation.proofs.Works.{Works, works_closes}
-use Rattle.ac_translation.proofs.Standing.{running, around_of, resting, halted, seated, Together, Stands, rests, runs, with_births, still_stacks, in_stacks, others_kept, others_back, sitting, never_waits, Seat}
+use Rattle.ac_translation.proofs.Standing.{running, around_of, resting, halted, seated, Together, Stands, rests, runs}
+use Rattle.ac_translation.proofs.Standing.{with_births, still_stacks, in_stacks, others_kept, others_back, sitting, never_waits, Seat}
 
 same_finish : (b c : BlockId) → AtFinish b ≡ AtFinish c → b ≡ c
 same_finish b c e = cc
@@ -77,7 +78,8 @@ module _ (code : Parts) (functions : List Function) (bound : ℕ) (s0 : Held) (t
           good = leave_good all ts' t.number new change s.blocks h.good block below x.lives tt x.around inside left (none_is block ∙ none);
           waits = waits_change all ts' t.number new change h.waits (direct_change all ts' t.number new change x.lives tt x.around) (λ b e. absurd (never_waits b e));
           listed = listed_same all ts' t.number new change ready (Some t) (sym x.active) h.listed;
-          tracks = tracks_leave all ts' t.number new change bs bs' s.blocks h.good h.tracks block below (changed_same bs bs' block None put) x.lives (λ b ne. ap (λ p. waits_at p b) x.active) refl x.around inside left;
+          tracks = tracks_leave all ts' t.number new change bs bs' s.blocks h.good h.tracks block below (changed_same bs bs' block None put) x.lives
+              (λ b ne. ap (λ p. waits_at p b) x.active) refl x.around inside left;
           others = others_kept code.instrs functions all ts' t new change stacks h.others;
         }
 
@@ -98,10 +100,12 @@ module _ (code : Parts) (functions : List Function) (bound : ℕ) (s0 : Held) (t
           stacks_are = length-set stacks t.number kept ∙ still_stacks code.instrs functions ts t ws activation x h (AtFinish block) work;
           blocks_are = length-set bs block.number (Some y) ∙ h.blocks_are;
           good = same_good all ts' t.number new change s.blocks h.good x.lives tt x.around same;
-          waits = waits_change all ts' t.number new change h.waits (direct_change all ts' t.number new change x.lives tt x.around) (λ b e. subst (λ b. 0 < sum_by (direct b) all) (same_finish block b e) some);
+          waits = waits_change all ts' t.number new change h.waits (direct_change all ts' t.number new change x.lives tt x.around)
+              (λ b e. subst (λ b. 0 < sum_by (direct b) all) (same_finish block b e) some);
           listed = listed_gone all ts' t.number new change ready t refl refl h.listed;
           tracks = tracks_wait all ts' t.number new change bs bs' s.blocks h.good h.tracks block below here here_is (block_put bs block here (Some y) here_is) x.active refl x.around inside same;
-          others = others_back code.instrs functions all ts' t new change stacks h.others kept (in_stacks code.instrs functions ts t ws activation x h) (λ _. record { activation = within activation below; place = place; operands = []; is = refl; around = x.was_around; works = w });
+          others = others_back code.instrs functions all ts' t new change stacks h.others kept (in_stacks code.instrs functions ts t ws activation x h)
+              (λ _. record { activation = within activation below; place = place; operands = []; is = refl; around = x.was_around; works = w });
         }
 
     count_is : nat_eq here.count 0 ≡ none_within block ts
@@ -115,7 +119,8 @@ module _ (code : Parts) (functions : List Function) (bound : ℕ) (s0 : Held) (t
       h : Together code.instrs functions all s.blocks ready (Some t) stacks bs
       h = with_births code.instrs functions s0 s b h0
 
-      begins : (q : Bool) → none_within block ts ≡ q → (k : ℕ) → arrives_there (flat a s place [] k) t (first (activation.entered ++ activation.around)) ≡ arrives_at q (flat a s place [] k) t block (here s h (place + 1) block below work e w)
+      begins : (q : Bool) → none_within block ts ≡ q → (k : ℕ) → arrives_there (flat a s place [] k) t (first (activation.entered ++ activation.around))
+          ≡ arrives_at q (flat a s place [] k) t block (here s h (place + 1) block below work e w)
       begins q n k =
           ap (λ l. arrives_there (flat a s place [] k) t (first (l ++ activation.around))) e
           ∙ ap (arrives_in (flat a s place [] k) t block) (here_is s h (place + 1) block below work e w)
@@ -127,12 +132,15 @@ module _ (code : Parts) (functions : List Function) (bound : ℕ) (s0 : Held) (t
           let left = within activation below in
           let m = λ (k : ℕ). flat (around_of t left ready stacks bs') s (place + 1) [] (counted k) in
           turn_follows code bound R a c (i.Finish slot) (running s t work ready ts) m is (ap (λ q. On (arrives q c t block s work)) n)
-          (λ k. begins true n k ∙ ap {A = Option BlockId} {B = Move Flat FlatEnd} (λ parent. On (record (m k) { current = record (thread_in left (place + 1) []) { block = parent } })) (round_is s h (place + 1) block below work e w))
+          (λ k. begins true n k ∙ ap {A = Option BlockId} {B = Move Flat FlatEnd} (λ parent. On (record (m k) { current = record (thread_in left (place + 1) []) { block = parent } }))
+          (round_is s h (place + 1) block below work e w))
           (λ k. runs s t work ready ts left (place + 1) [] stacks bs' (counted k) x.was_active x.was_around (passes s h (place + 1) block below work e w n) w)
       go false n =
           let y = record (here s h (place + 1) block below work e w) { waits = true } in
           let bs' = with_block bs block (Some y) in
           let kept = thread_in (within activation below) (place + 1) [] in
-          turn_follows code bound R a c (i.Finish slot) (resting s ready (with_phase ts t (AtFinish block) work)) (λ k. halted s ready (set stacks t.number kept) bs' (counted k)) is (ap (λ q. On (arrives q c t block s work)) n)
-          (λ k. begins false n k ∙ ap {A = Option BlockId} {B = Move Flat FlatEnd} (λ parent. On (halted s ready (set stacks t.number (record kept { block = parent })) bs' (counted k))) (round_is s h (place + 1) block below work e w))
+          turn_follows code bound R a c (i.Finish slot) (resting s ready (with_phase ts t (AtFinish block) work)) (λ k. halted s ready (set stacks t.number kept) bs' (counted k)) is
+          (ap (λ q. On (arrives q c t block s work)) n)
+          (λ k. begins false n k ∙ ap {A = Option BlockId} {B = Move Flat FlatEnd} (λ parent. On (halted s ready (set stacks t.number (record kept { block = parent })) bs' (counted k)))
+          (round_is s h (place + 1) block below work e w))
           (λ k. rests s ready (with_phase ts t (AtFinish block) work) (set stacks t.number kept) bs' (counted k) (waits s h (place + 1) block below work e w n))

@@ -1,3 +1,4 @@
+pub mod WellFormed
 pub mod Tables
 pub mod Blocks
 pub mod Changes

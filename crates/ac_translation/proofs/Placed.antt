@@ -67,7 +67,8 @@ module _ (code : List Instr) where
     pub back : slice_get code (place + (head.size + body.size) + next.size) ≡ Some (i.Jump place)
     pub ends : place + (head.size + (body.size + (next.size + 1))) ≡ to
 
-  pub loop_at : (turns : ℕ → ℕ → ℕ) (head body next : Piece) {exits : Exits} {place to : ℕ} → IsSized head → IsSized body → IsSized next → Placed (loop turns head body next) exits place to → LoopAt turns head body next exits place to
+  pub loop_at : (turns : ℕ → ℕ → ℕ) (head body next : Piece) {exits : Exits} {place to : ℕ} → IsSized head → IsSized body → IsSized next → Placed (loop turns head body next) exits place to
+      → LoopAt turns head body next exits place to
   loop_at turns head body next {exits} {place} {to} x y z h =
       let within = loop_exits turns place head body next in
       let middle = body.at within (place + head.size) in

@@ -10,7 +10,8 @@ use Rattle.ac_commands.specs.declared.program.Function.{Function}
 use Rattle.stack_code.specs.declared.instr.Instr.{Instr}
 use Rattle.stack_code.specs.declared.instr.Instr.TheVariants as i
 use Rattle.ac_translation.specs.Pieces.{Exits, Piece, no_code, one, ◌⨾◌, all, over, out_past, out_turn, loop_exits, loop}
-use Rattle.ac_translation.specs.Translation.{joined_code, value_code, values_code, argument_code, place_code, effect_code, target_code, operand_code, test_code, command_code, body_code, last_code, function_code, functions_code}
+use Rattle.ac_translation.specs.Translation.{joined_code, value_code, values_code, argument_code, place_code, effect_code, target_code}
+use Rattle.ac_translation.specs.Translation.{operand_code, test_code, command_code, body_code, last_code, function_code, functions_code}
 use Rattle.ac_translation.proofs.Closed as closed
 
 pub record IsSized (p : Piece) : Type 0 where
@@ -86,9 +87,6 @@ place_sized = closed.place_has IsSized kept
 pub effect_sized : (x : Effect) → IsSized (effect_code x)
 effect_sized = closed.effect_has IsSized kept
 
-pub target_sized : (x : Target) → IsSized (target_code x)
-target_sized = closed.target_has IsSized kept
-
 pub operand_sized : (x : Option Effect) → IsSized (operand_code x)
 operand_sized = closed.operand_has IsSized kept
 
@@ -100,9 +98,6 @@ command_sized = closed.command_has IsSized kept
 
 pub body_sized : (body : List Command) → IsSized (body_code body)
 body_sized = closed.body_has IsSized kept
-
-pub last_sized : IsSized last_code
-last_sized = closed.last_has IsSized kept
 
 pub function_sized : (x : Function) → IsSized (function_code x)
 function_sized = closed.function_has IsSized kept

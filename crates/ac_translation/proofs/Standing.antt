@@ -76,7 +76,8 @@ pub record Seat (ts : List Thread) (t : Item) (ws : List Work) (activation : Act
   pub has : entered (at (seated ts t ws) t.number) ≡ activation.entered
   pub changed : (phase : Phase) (work : List Work) → Changed nobody (seated ts t ws) (with_phase ts t phase work) t.number (sitting ts t phase work)
 
-pub seat_of : (ts : List Thread) (t : Item) (ws : List Work) (activation : Activation) → (thread_at ts t).phase ≡ Active → activation.around ≡ (thread_at ts t).around → closes ws ≡ activation.entered → Seat ts t ws activation
+pub seat_of : (ts : List Thread) (t : Item) (ws : List Work) (activation : Activation) → (thread_at ts t).phase ≡ Active → activation.around ≡ (thread_at ts t).around → closes ws ≡ activation.entered
+    → Seat ts t ws activation
 seat_of ts t ws activation active around has =
     let lt = in_table (λ (x : Thread). x.phase ≡ Active) nobody ts t.number never active in
     let is = (set_changed nobody ts t.number (sitting ts t Active ws) lt).here in

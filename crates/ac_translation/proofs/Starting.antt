@@ -26,7 +26,8 @@ use Rattle.ac_translation.proofs.Wakes.{active as is_counted, listed_same, liste
 use Rattle.ac_translation.proofs.Keeps.{Activation, within, started, thread_in, Around, flat, SameBirths, FollowsAt, turn_follows, turns_or_ends}
 use Rattle.ac_translation.proofs.Works.{Works, works_closes}
 use Rattle.ac_translation.proofs.Turns.{next_block}
-use Rattle.ac_translation.proofs.Standing.{running, around_of, resting, halted, seated, stack_at, Parked, Others, Together, Stands, rests, runs, with_births, still_stacks, in_stacks, others_kept, others_back, sitting, never_waits, Seat, on_together}
+use Rattle.ac_translation.proofs.Standing.{running, around_of, resting, halted, seated, stack_at, Parked, Others, Together, Stands, rests, runs}
+use Rattle.ac_translation.proofs.Standing.{with_births, still_stacks, in_stacks, others_kept, others_back, sitting, never_waits, Seat, on_together}
 
 module _ (code : Parts) (functions : List Function) (bound : ℕ) (s0 : Held) (t : Item) (ws : List Work) (ready : List Item) (ts : List Thread) (activation : Activation) (stacks : List Stack)
     (bs : List (Option Block)) (x : Seat ts t ws activation)
@@ -81,7 +82,8 @@ module _ (code : Parts) (functions : List Function) (bound : ℕ) (s0 : Held) (t
       (λ k. subst (λ n. R (running s' t work ready ts) (numbered n k)) (sym h.blocks_are) (runs s' t work ready ts inner (place + 1) [] stacks bs' (counted k) x.was_active x.was_around together w))
 
   -- a thread that rests stands where it goes on
-  stays : (work : List Work) (place : ℕ) → Works code.instrs functions activation place [] work → Parked code.instrs functions (record (thread_at ts t) { phase = Active; work = work }) (thread_in activation place [])
+  stays : (work : List Work) (place : ℕ) → Works code.instrs functions activation place [] work
+      → Parked code.instrs functions (record (thread_at ts t) { phase = Active; work = work }) (thread_in activation place [])
   stays work place w = record { activation = activation; place = place; operands = []; is = refl; around = x.was_around; works = w }
 
   pub yields_follow : (s : Held) (place : ℕ) (work : List Work) → SameBirths s0 s → slice_get code.instrs place ≡ Some i.Yield → Works code.instrs functions activation (place + 1) [] work →
@@ -171,7 +173,8 @@ module _ (code : Parts) (functions : List Function) (bound : ℕ) (s0 : Held) (t
     others_stay : Others code.instrs functions with_it (Some new_item) stacks'
     others_stay v ne l =
         let here = grows.there v ne in
-        let back = others_back code.instrs functions all before_it t (sitting ts t Active work) (x.changed Active work) stacks h.others creator (in_stacks code.instrs functions ts t ws activation x h) (λ _. stays work to w) v tt (subst (λ (y : Thread). Lives y.phase) here l) in
+        let back = others_back code.instrs functions all before_it t (sitting ts t Active work) (x.changed Active work) stacks h.others creator (in_stacks code.instrs functions ts t ws activation x h)
+        (λ _. stays work to w) v tt (subst (λ (y : Thread). Lives y.phase) here l) in
         let n : length (set stacks t.number creator) ≡ length before_it = length-set stacks t.number creator ∙ on.stacks_are in
         let stack = (pushed_changed no_stack (set stacks t.number creator) no_stack).there v (λ e. ne (sym n ∙ e)) in
         subst (Parked code.instrs functions (at with_it v)) (sym stack) (subst (λ y. Parked code.instrs functions y (stack_at (set stacks t.number creator) v)) (sym here) back)

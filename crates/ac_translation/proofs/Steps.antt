@@ -24,13 +24,14 @@ use Rattle.stack_code.specs.Parts.{Parts}
 use Rattle.stack_code.specs.Machine.{Flat, with_shared as shares, goes, text_at, or_trap as or_end}
 use Rattle.ac_translation.specs.Pieces.{Exits, Piece, no_code, one, ◌⨾◌, over, out_past, out_turn, loop_exits, loop}
 use Rattle.ac_translation.specs.Translation.{value_code, values_code, effect_code, target_code, test_code, at_loop, at_next, command_step, command_code, body_code}
-use Rattle.ac_translation.specs.WellFormed.{is_computed, in_loop, in_block, well_formed_step, is_well_formed, are_well_formed, IsWellFormed}
+use Rattle.ac_translation.proofs.WellFormed.{is_computed, in_loop, in_block, well_formed_step, is_well_formed, are_well_formed, IsWellFormed}
 use Rattle.ac_translation.proofs.Sized.{IsSized, no_sized, one_sized, over_sized, value_sized, values_sized, test_sized, body_sized}
 use Rattle.ac_translation.proofs.Placed.{Placed, first_part, other_part, Jumps, here, jump, LoopAt, loop_at}
 use Rattle.ac_translation.proofs.Functions.{IsCodeOf}
 use Rattle.ac_translation.proofs.Keeps.{within, started, Around, flat, SameBirths, FollowsAt, KeepsAt, keeps, one_follows, one_keeps, ends_follows, computes, jumps_follow}
 use Rattle.ac_translation.proofs.Values.{pushed, many_are, value_evaluates, values_keep}
-use Rattle.ac_translation.proofs.Works.{both_true, Scope, round_of, looped, blocked, exits_in, exits_of, pieces_of, tests_of, code_by_form, test_by_form, LastAt, Does, Works, works, gives, Relates, does_in_block, jumps_do, before_does, zero_works, break_works, continue_works, ahead_does}
+use Rattle.ac_translation.proofs.Works.{both_true, Scope, round_of, looped, blocked, exits_in, exits_of, pieces_of, tests_of, code_by_form, test_by_form, LastAt, Does}
+use Rattle.ac_translation.proofs.Works.{Works, works, gives, Relates, does_in_block, jumps_do, before_does, zero_works, break_works, continue_works, ahead_does}
 use Rattle.ac_translation.proofs.Turns.{next_block, Turns}
 use Rattle.ac_translation.proofs.Effects.{lands, lands_in, returns_follow, finish_follows, performs_keeps}
 
@@ -47,7 +48,8 @@ not_true true e = let no : false ≡ true = e in cc
 not_true false e = refl
 
 -- The relation holds wherever the code stands that does the work, in whichever activation of the thread.
-module _ (code : Parts) (program : Resolved) (same : IsCodeOf code program) (fine : IsWellFormed program) (bound : ℕ) (R : CoreState → Flat → Type 0) (a : Around) (c : CoreState) (stands : Relates code.instrs program.functions R a c)
+module _ (code : Parts) (program : Resolved) (same : IsCodeOf code program) (fine : IsWellFormed program) (bound : ℕ) (R : CoreState → Flat → Type 0) (a : Around) (c : CoreState)
+    (stands : Relates code.instrs program.functions R a c)
     (turns : Turns code program.functions bound R a c) where
   abbrev At : Held → ℕ → List Cell → Next → Type 0
   At s place operands next = KeepsAt code bound R a c s place operands next
@@ -118,7 +120,8 @@ module _ (code : Parts) (program : Resolved) (same : IsCodeOf code program) (fin
   loop_keeps : (self : Command) (ws : List Work) (scope : Scope) (turns : ℕ → ℕ → ℕ) (test : Option Value) (body : List Command) (next : Piece) {at to : ℕ} (s : Held) → Born s → IsSized next →
       Placed code.instrs (command_code self) scope.exits at to → is_well_formed program.functions self (round_of scope) ≡ true → DoesAt scope to ws →
       let head = test_code test ((body_code body).size + (next.size + 1)) in
-      Placed code.instrs (loop turns head (body_code body) next) scope.exits at to → are_well_formed program.functions body (in_loop (round_of scope)) ≡ true → exits_of self at ≡ loop_exits turns at head (body_code body) next →
+      Placed code.instrs (loop turns head (body_code body) next) scope.exits at to → are_well_formed program.functions body (in_loop (round_of scope)) ≡ true
+      → exits_of self at ≡ loop_exits turns at head (body_code body) next →
       (LoopAt code.instrs turns head (body_code body) next scope.exits at to → Jumps code.instrs (at + (head.size + (body_code body).size)) (turns at (at + (head.size + (body_code body).size)))) →
       At s (at + 1) [] (loops (test_of test a.activation.frame s.store) self body a.activation.frame ws s)
   loop_keeps self ws scope turns test body next {at} {to} s b z whole form d h forms same turn =
@@ -176,7 +179,8 @@ module _ (code : Parts) (program : Resolved) (same : IsCodeOf code program) (fin
       let start = at + 1 + first.size + 1 in
       let near : start + inside.size + 1 ≡ start + (inside.size + 1) = omega arith in
       let after_body = jumps_do code.instrs program.functions a.activation scope ws (jump jump_at.has.0 here) (subst (λ n. DoesAt scope n ws) (sym ends) d) in
-      (value_evaluates code bound R a c s test).by (λ v. Goes s (at_zero v (before a.activation.frame other ws) (before a.activation.frame body ws))) (first_part code.instrs first (over i.Jz (inside.size + 1) ⨾ inside ⨾ past) test_at) (λ o.
+      (value_evaluates code bound R a c s test).by (λ v. Goes s (at_zero v (before a.activation.frame other ws) (before a.activation.frame body ws)))
+      (first_part code.instrs first (over i.Jz (inside.size + 1) ⨾ inside ⨾ past) test_at) (λ o.
       jz_lands (inside.size + 1) s (before a.activation.frame other ws) (before a.activation.frame body ws) o b (first_part code.instrs (over i.Jz (inside.size + 1)) (inside ⨾ past) jz_at)
       (works scope (subst (λ n. DoesAt scope n (before a.activation.frame other ws)) near (before_does code.instrs program.functions a.activation other ws scope g other_at d)))
       (works scope (before_does code.instrs program.functions a.activation body ws scope f (first_part code.instrs inside past body_at) after_body)))
@@ -226,7 +230,8 @@ module _ (code : Parts) (program : Resolved) (same : IsCodeOf code program) (fin
       let own = started a.activation (next_frame s.store) in
       keeps code bound R a c (turns.starts slots (at + 1 + 1 + (size + 1)) s (at + 1) (before (next_frame s.store) body (End (next_frame s.store) ∷ [])) ws b start_at.has.0
       (works scope (subst (λ n. DoesAt scope n ws) past d))
-      (works (blocked scope) (before_does code.instrs program.functions own body (End (next_frame s.store) ∷ []) (blocked scope) forms.1 (first_part code.instrs (body_code body) (one i.End) body_at) (record {
+      (works (blocked scope) (before_does code.instrs program.functions own body (End (next_frame s.store) ∷ []) (blocked scope) forms.1 (first_part code.instrs (body_code body) (one i.End) body_at)
+      (record {
         at = at + 1 + 1 + size;
         jumps = here;
         stands = end_at.has.0;
@@ -245,10 +250,12 @@ module _ (code : Parts) (program : Resolved) (same : IsCodeOf code program) (fin
 
   form_keeps : (self : Command) (ws : List Work) (scope : Scope) {at to : ℕ} (s : Held) → Born s → Placed code.instrs (command_code self) scope.exits at to →
       is_well_formed program.functions self (round_of scope) ≡ true → DoesAt scope to ws →
-      (x : Command-F Command) → out-Command self ≡ x → Placed code.instrs (command_step (pieces_of x)) scope.exits at to → well_formed_step program.functions (tests_of program.functions x) (round_of scope) ≡ true → At s (at + 1) [] (does_form program self x a.activation.frame ws s)
+      (x : Command-F Command) → out-Command self ≡ x → Placed code.instrs (command_step (pieces_of x)) scope.exits at to
+      → well_formed_step program.functions (tests_of program.functions x) (round_of scope) ≡ true → At s (at + 1) [] (does_form program self x a.activation.frame ws s)
   form_keeps self ws scope {at} {to} s b whole form d Command-F.Nothing e h g = subst (λ n. At s n [] (Goes s ws)) (sym h.ends) (lands_here s to ws scope b d)
   form_keeps self ws scope s b whole form d (Command-F.Set target value) e h g =
-      performs_keeps code program same fine bound R a c stands value (Puts target) s ws scope b tt g (other_part code.instrs (one i.Step) (effect_code value ⨾ target_code target) (one_sized i.Step) h) d
+      performs_keeps code program same fine bound R a c stands value (Puts target) s ws scope b tt g
+      (other_part code.instrs (one i.Step) (effect_code value ⨾ target_code target) (one_sized i.Step) h) d
   form_keeps self ws scope {at} {to} s b whole form d (Command-F.Clear slot len) e h g =
       let clear_at = other_part code.instrs (one i.Step) (one (i.Clear slot len)) (one_sized i.Step) h in
       let t = with_store s (with_cleared s.store a.activation.frame slot len) in
@@ -269,21 +276,27 @@ module _ (code : Parts) (program : Resolved) (same : IsCodeOf code program) (fin
       let near : mid + 0 ≡ mid = omega arith in
       subst (λ n. Jumps code.instrs n at) near (jump parts.back here))
   form_keeps self ws scope {at} {to} s b whole form d (Command-F.For test next body) e h g =
-      loop_keeps self ws scope at_next test body (body_code next) s b (body_sized next) whole form d h (both_true (are_well_formed program.functions body (in_loop (round_of scope))) (are_well_formed program.functions next (round_of scope)) g).0 (ap (λ x. exits_in (pieces_of x) at) e) (λ parts. here)
+      loop_keeps self ws scope at_next test body (body_code next) s b (body_sized next) whole form d h
+      (both_true (are_well_formed program.functions body (in_loop (round_of scope))) (are_well_formed program.functions next (round_of scope)) g).0 (ap (λ x. exits_in (pieces_of x) at) e)
+      (λ parts. here)
   form_keeps self ws scope {at} {to} s b whole form d Command-F.Break e h g =
       let out_at = other_part code.instrs (one i.Step) out_past (one_sized i.Step) h in
-      keeps code bound R a c (one_follows code bound R a c (i.Jump scope.exits.past) out_at.has.0 (land s scope.exits.past (past_loop ws) b (break_works code.instrs program.functions a.activation ws scope to g d)) (λ k. refl))
+      keeps code bound R a c (one_follows code bound R a c (i.Jump scope.exits.past) out_at.has.0
+      (land s scope.exits.past (past_loop ws) b (break_works code.instrs program.functions a.activation ws scope to g d)) (λ k. refl))
   form_keeps self ws scope {at} {to} s b whole form d Command-F.Continue e h g =
       let out_at = other_part code.instrs (one i.Step) out_turn (one_sized i.Step) h in
-      keeps code bound R a c (one_follows code bound R a c (i.Jump scope.exits.turn) out_at.has.0 (land s scope.exits.turn (at_turn ws) b (continue_works code.instrs program.functions a.activation ws scope to g d)) (λ k. refl))
+      keeps code bound R a c (one_follows code bound R a c (i.Jump scope.exits.turn) out_at.has.0
+      (land s scope.exits.turn (at_turn ws) b (continue_works code.instrs program.functions a.activation ws scope to g d)) (λ k. refl))
   form_keeps self ws scope {at} {to} s b whole form d (Command-F.Return None) e h g =
       let outside = not_true scope.block (both_true (not scope.block) true g).0 in
       let push_at = other_part code.instrs (one i.Step) (one (i.Push (pos 0)) ⨾ one i.Ret) (one_sized i.Step) h in
       let ret_at = other_part code.instrs (one (i.Push (pos 0))) (one i.Ret) (one_sized (i.Push (pos 0))) push_at in
-      one_keeps code bound R a c {exits = scope.exits} (i.Push (pos 0)) (first_part code.instrs (one (i.Push (pos 0))) (one i.Ret) push_at) (keeps code bound R a c (returns_follow code program same fine bound R a c stands ws scope to outside d s (at + 1 + 1) (cell.Int (pos 0)) b ret_at.has.0)) (λ k. refl)
+      one_keeps code bound R a c {exits = scope.exits} (i.Push (pos 0)) (first_part code.instrs (one (i.Push (pos 0))) (one i.Ret) push_at)
+      (keeps code bound R a c (returns_follow code program same fine bound R a c stands ws scope to outside d s (at + 1 + 1) (cell.Int (pos 0)) b ret_at.has.0)) (λ k. refl)
   form_keeps self ws scope s b whole form d (Command-F.Return (Some effect)) e h g =
       let forms = both_true (not scope.block) (is_computed program.functions effect) g in
-      performs_keeps code program same fine bound R a c stands effect Gives s ws scope b (not_true scope.block forms.0) forms.1 (other_part code.instrs (one i.Step) (effect_code effect ⨾ one i.Ret) (one_sized i.Step) h) d
+      performs_keeps code program same fine bound R a c stands effect Gives s ws scope b (not_true scope.block forms.0) forms.1
+      (other_part code.instrs (one i.Step) (effect_code effect ⨾ one i.Ret) (one_sized i.Step) h) d
   form_keeps self ws scope {at} {to} s b whole form d (Command-F.Do slot body) e h g = do_keeps slot body ws scope s b h g d
   form_keeps self ws scope {at} {to} s b whole form d (Command-F.Async slots body) e h g = async_keeps slots body ws scope s b h g d
   form_keeps self ws scope {at} {to} s b whole form d Command-F.Yield e h g =
@@ -343,7 +356,8 @@ module _ (code : Parts) (program : Resolved) (same : IsCodeOf code program) (fin
   does_follows (Given value to after ∷ ws) scope place s b d = absurd d
   does_follows (Leave ∷ ws) scope place s b d = last_follows (Leave ∷ ws) scope place s b d.last d
   does_follows (End own ∷ ws) scope place s b d =
-      subst (λ (f : FrameId). FollowsAt code bound R a c s place [] (Dies f s)) (sym d.own_is) (jumps_follow code bound R a c d.jumps (turns.dies s d.at d.block d.others b d.stands d.entered d.around))
+      subst (λ (f : FrameId). FollowsAt code bound R a c s place [] (Dies f s)) (sym d.own_is)
+      (jumps_follow code bound R a c d.jumps (turns.dies s d.at d.block d.others b d.stands d.entered d.around))
 
   -- the machine is where the thread is, and follows its next step
   pub next_follows : (ws : List Work) (place : ℕ) (operands : List Cell) (s : Held) → Born s → WorksAt place operands ws → FollowsAt code bound R a c s place operands (next_of program bound ws s)

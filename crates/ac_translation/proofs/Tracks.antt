@@ -94,15 +94,19 @@ module _ (ts ts' : List Thread) (t : ℕ) (new : Thread) (change : Changed nobod
   old = at ts t
 
   -- what is told of the changed thread's blocks, and of those of each other one
-  tracks_change : (Lives new.phase → (b : BlockId) (inside outside : List BlockId) → entered new ≡ inside ++ b ∷ outside → block_at bs' b ≡ Some (entry (first (outside ++ new.around)) t (sum_by (direct b) ts') (waits_at new.phase b))) →
-      ((o : ℕ) (b : BlockId) (inside outside : List BlockId) → t ≢ o → Lives (at ts o).phase → entered (at ts o) ≡ inside ++ b ∷ outside → block_at bs' b ≡ Some (told ts ts' o b outside)) → Tracks ts' bs'
+  tracks_change : (Lives new.phase → (b : BlockId) (inside outside : List BlockId) → entered new ≡ inside ++ b ∷ outside
+      → block_at bs' b ≡ Some (entry (first (outside ++ new.around)) t (sum_by (direct b) ts') (waits_at new.phase b))) →
+      ((o : ℕ) (b : BlockId) (inside outside : List BlockId) → t ≢ o → Lives (at ts o).phase → entered (at ts o) ≡ inside ++ b ∷ outside → block_at bs' b ≡ Some (told ts ts' o b outside))
+      → Tracks ts' bs'
   tracks_change mine others o b inside outside =
       elim (found nobody ts ts' t new change o) as (λ _. Lives (at ts' o).phase → entered (at ts' o) ≡ inside ++ b ∷ outside → block_at bs' b ≡ Some (told ts' ts' o b outside)) [
         | inl q ↦
-            subst (λ (x : Thread). Lives x.phase → entered x ≡ inside ++ b ∷ outside → block_at bs' b ≡ Some (entry (first (outside ++ x.around)) o (sum_by (direct b) ts') (waits_at x.phase b))) (sym q.1)
+            subst (λ (x : Thread). Lives x.phase → entered x ≡ inside ++ b ∷ outside → block_at bs' b ≡ Some (entry (first (outside ++ x.around)) o (sum_by (direct b) ts') (waits_at x.phase b)))
+            (sym q.1)
             (λ l e. subst (λ z. block_at bs' b ≡ Some (entry (first (outside ++ new.around)) z (sum_by (direct b) ts') (waits_at new.phase b))) q.0 (mine l b inside outside e))
         | inr q ↦
-            subst (λ (x : Thread). Lives x.phase → entered x ≡ inside ++ b ∷ outside → block_at bs' b ≡ Some (entry (first (outside ++ x.around)) o (sum_by (direct b) ts') (waits_at x.phase b))) (sym q.1)
+            subst (λ (x : Thread). Lives x.phase → entered x ≡ inside ++ b ∷ outside → block_at bs' b ≡ Some (entry (first (outside ++ x.around)) o (sum_by (direct b) ts') (waits_at x.phase b)))
+            (sym q.1)
             (λ l e. others o b inside outside q.0 l e)
       ]
 
@@ -111,12 +115,14 @@ module _ (ts ts' : List Thread) (t : ℕ) (new : Thread) (change : Changed nobod
     Counts = (b : BlockId) → sum_by (direct b) ts' ≡ sum_by (direct b) ts
 
     -- the same is told of another thread's block
-    other_told : Counts → (o : ℕ) (b : BlockId) (inside outside : List BlockId) → Lives (at ts o).phase → entered (at ts o) ≡ inside ++ b ∷ outside → block_at bs' b ≡ block_at bs b → block_at bs' b ≡ Some (told ts ts' o b outside)
+    other_told : Counts → (o : ℕ) (b : BlockId) (inside outside : List BlockId) → Lives (at ts o).phase → entered (at ts o) ≡ inside ++ b ∷ outside → block_at bs' b ≡ block_at bs b
+        → block_at bs' b ≡ Some (told ts ts' o b outside)
     other_told d o b inside outside l h same =
         same ∙ tracks o b inside outside l h ∙ ap (λ z. Some (entry (first (outside ++ (at ts o).around)) o z (waits_at (at ts o).phase b))) (sym (d b))
 
     -- and of a block of this one
-    same_told : Counts → new.around ≡ old.around → (b : BlockId) (inside outside : List BlockId) → Lives old.phase → entered old ≡ inside ++ b ∷ outside → block_at bs' b ≡ block_at bs b → waits_at old.phase b ≡ waits_at new.phase b →
+    same_told : Counts → new.around ≡ old.around → (b : BlockId) (inside outside : List BlockId) → Lives old.phase → entered old ≡ inside ++ b ∷ outside → block_at bs' b ≡ block_at bs b
+        → waits_at old.phase b ≡ waits_at new.phase b →
         block_at bs' b ≡ Some (entry (first (outside ++ new.around)) t (sum_by (direct b) ts') (waits_at new.phase b))
     same_told d a b inside outside l h same waits =
         same ∙ tracks t b inside outside l h
@@ -134,18 +140,21 @@ module _ (ts ts' : List Thread) (t : ℕ) (new : Thread) (change : Changed nobod
         (λ o b inside outside ne l h. other_told d o b inside outside l h (ap (λ z. block_at z b) is))
 
     -- the thread enters a new block
-    pub tracks_open : (nb : BlockId) → nb.number ≡ blocks → Changed None bs bs' nb.number (Some (entry (first (entered old ++ old.around)) t 0 false)) → old.phase ≡ Active → new.phase ≡ Active → new.around ≡ old.around → entered new ≡ nb ∷ entered old → Tracks ts' bs'
+    pub tracks_open : (nb : BlockId) → nb.number ≡ blocks → Changed None bs bs' nb.number (Some (entry (first (entered old ++ old.around)) t 0 false)) → old.phase ≡ Active → new.phase ≡ Active
+        → new.around ≡ old.around → entered new ≡ nb ∷ entered old → Tracks ts' bs'
     tracks_open nb n made po pn a e =
         let lo : Lives old.phase = subst Lives (sym po) tt in
         let ln : Lives new.phase = subst Lives (sym pn) tt in
         let d = direct_change ts ts' t new change lo ln a in
-        let other = λ (o : ℕ) (b : BlockId) (inside outside : List BlockId) (l : Lives (at ts o).phase) (h : entered (at ts o) ≡ inside ++ b ∷ outside). changed_same bs bs' nb _ made b (λ q. born ts blocks good o b inside outside l h (sym (ap number q) ∙ n)) in
+        let other = λ (o : ℕ) (b : BlockId) (inside outside : List BlockId) (l : Lives (at ts o).phase) (h : entered (at ts o) ≡ inside ++ b ∷ outside). changed_same bs bs' nb _ made b
+        (λ q. born ts blocks good o b inside outside l h (sym (ap number q) ∙ n)) in
         tracks_change
         (λ l b inside outside h. mine lo d other inside outside b (sym e ∙ h))
         (λ o b inside outside ne l h. other_told d o b inside outside l h (other o b inside outside l h))
       where
         mine : Lives old.phase → Counts → ((o : ℕ) (b : BlockId) (inside outside : List BlockId) → Lives (at ts o).phase → entered (at ts o) ≡ inside ++ b ∷ outside → block_at bs' b ≡ block_at bs b) →
-            (inside outside : List BlockId) (b : BlockId) → nb ∷ entered old ≡ inside ++ b ∷ outside → block_at bs' b ≡ Some (entry (first (outside ++ new.around)) t (sum_by (direct b) ts') (waits_at new.phase b))
+            (inside outside : List BlockId) (b : BlockId) → nb ∷ entered old ≡ inside ++ b ∷ outside
+            → block_at bs' b ≡ Some (entry (first (outside ++ new.around)) t (sum_by (direct b) ts') (waits_at new.phase b))
         mine lo d other [] outside b h =
             let q : nb ≡ b = cc in
             let r : entered old ≡ outside = cc in
@@ -160,7 +169,8 @@ module _ (ts ts' : List Thread) (t : ℕ) (new : Thread) (change : Changed nobod
             same_told d a b is outside lo r (other t b is outside lo r) (ap (λ p. waits_at p b) (po ∙ sym pn))
 
     -- the thread leaves the block b, of which the machine may say what it likes
-    pub tracks_leave : (b : BlockId) (below : List BlockId) → SameBut b bs bs' → Lives old.phase → ((c : BlockId) → b ≢ c → waits_at old.phase c ≡ false) → new.phase ≡ Active → new.around ≡ old.around → entered old ≡ b ∷ below → entered new ≡ below → Tracks ts' bs'
+    pub tracks_leave : (b : BlockId) (below : List BlockId) → SameBut b bs bs' → Lives old.phase → ((c : BlockId) → b ≢ c → waits_at old.phase c ≡ false) → new.phase ≡ Active → new.around ≡ old.around
+        → entered old ≡ b ∷ below → entered new ≡ below → Tracks ts' bs'
     tracks_leave b below same lo quiet pn a was is =
         let ln : Lives new.phase = subst Lives (sym pn) tt in
         let d = direct_change ts ts' t new change lo ln a in
@@ -172,7 +182,8 @@ module _ (ts ts' : List Thread) (t : ℕ) (new : Thread) (change : Changed nobod
         (λ o c inside outside ne l h. other_told d o c inside outside l h (same c (apart ts blocks good t o b c [] below inside outside ne lo was l h)))
 
     -- the thread waits at the finish of b
-    pub tracks_wait : (b : BlockId) (below : List BlockId) (x : Block) → block_at bs b ≡ Some x → Changed None bs bs' b.number (Some (record x { waits = true })) → old.phase ≡ Active → new.phase ≡ AtFinish b → new.around ≡ old.around → entered old ≡ b ∷ below → entered new ≡ entered old → Tracks ts' bs'
+    pub tracks_wait : (b : BlockId) (below : List BlockId) (x : Block) → block_at bs b ≡ Some x → Changed None bs bs' b.number (Some (record x { waits = true })) → old.phase ≡ Active
+        → new.phase ≡ AtFinish b → new.around ≡ old.around → entered old ≡ b ∷ below → entered new ≡ entered old → Tracks ts' bs'
     tracks_wait b below x stood made po pn a was is =
         let lo : Lives old.phase = subst Lives (sym po) tt in
         let ln : Lives new.phase = subst Lives (sym pn) tt in
@@ -181,7 +192,8 @@ module _ (ts ts' : List Thread) (t : ℕ) (new : Thread) (change : Changed nobod
         (λ l c inside outside h. mine lo d inside outside c (sym was ∙ sym is ∙ h) (sym is ∙ h))
         (λ o c inside outside ne l h. other_told d o c inside outside l h (changed_same bs bs' b _ made c (apart ts blocks good t o b c [] below inside outside ne lo was l h)))
       where
-        mine : Lives old.phase → Counts → (inside outside : List BlockId) (c : BlockId) → b ∷ below ≡ inside ++ c ∷ outside → entered old ≡ inside ++ c ∷ outside → block_at bs' c ≡ Some (entry (first (outside ++ new.around)) t (sum_by (direct c) ts') (waits_at new.phase c))
+        mine : Lives old.phase → Counts → (inside outside : List BlockId) (c : BlockId) → b ∷ below ≡ inside ++ c ∷ outside → entered old ≡ inside ++ c ∷ outside
+            → block_at bs' c ≡ Some (entry (first (outside ++ new.around)) t (sum_by (direct c) ts') (waits_at new.phase c))
         mine lo d [] outside c h full =
             let q : b ≡ c = cc in
             let was_told : Some x ≡ Some (told ts ts t c outside) = sym stood ∙ ap (λ (z : BlockId). block_at bs z) q ∙ tracks t c [] outside lo full in
@@ -200,7 +212,8 @@ module _ (ts ts' : List Thread) (t : ℕ) (new : Thread) (change : Changed nobod
             same_told d a c (i ∷ is') outside lo full (changed_same bs bs' b _ made c ne) w
 
     -- a thread is started, or has ended: the counts change
-    pub tracks_count : (Lives new.phase → entered new ≡ []) → ((b : BlockId) (x : Block) → x.count ≡ sum_by (direct b) ts → block_at bs b ≡ Some x → block_at bs' b ≡ Some (record x { count = sum_by (direct b) ts' })) → Tracks ts' bs'
+    pub tracks_count : (Lives new.phase → entered new ≡ []) → ((b : BlockId) (x : Block) → x.count ≡ sum_by (direct b) ts → block_at bs b ≡ Some x
+        → block_at bs' b ≡ Some (record x { count = sum_by (direct b) ts' })) → Tracks ts' bs'
     tracks_count empty counts =
         tracks_change
         (λ l b inside outside h. absurd (none_full b inside outside (sym (empty l) ∙ h)))

@@ -72,19 +72,22 @@ pushed-reverse (o ∷ os) operands =
 pub many_are : (m : Flat) (os operands : List Cell) (count : ℕ) (go : List Cell → List Cell → Move Flat FlatEnd) → count ≡ length os → on_many m count go (pushed os operands) ≡ go os operands
 many_are m os operands count go e =
     let n : count ≡ length (reverse os) = e ∙ sym (length-reverse os) in
-    let enough : nat_le (length (reverse os)) (length (reverse os ++ operands)) ≡ true = let le : length (reverse os) ≤ length (reverse os ++ operands) = omega (arith, length-append (reverse os) operands) in grind (arith, nat_tests) in
+    let enough : nat_le (length (reverse os)) (length (reverse os ++ operands)) ≡ true = let le : length (reverse os)
+    ≤ length (reverse os ++ operands) = omega (arith, length-append (reverse os) operands) in grind (arith, nat_tests) in
     rw (pushed-reverse os operands, n, enough, take-append_seam (reverse os) operands, drop-append_seam (reverse os) operands, reverse-reverse os) refl
 
 module _ (code : Parts) (bound : ℕ) (R : CoreState → Flat → Type 0) (a : Around) (c : CoreState) (s : Held) where
   -- ---- jumps
 
-  jz_keeps : {place to : ℕ} {operands : List Cell} {x y : Next} (o : Cell) (v : ℤ) → int_in o ≡ v → slice_get code.instrs place ≡ Some (i.Jz to) → KeepsAt code bound R a c s to operands x → KeepsAt code bound R a c s (place + 1) operands y →
+  jz_keeps : {place to : ℕ} {operands : List Cell} {x y : Next} (o : Cell) (v : ℤ) → int_in o ≡ v → slice_get code.instrs place ≡ Some (i.Jz to) → KeepsAt code bound R a c s to operands x
+      → KeepsAt code bound R a c s (place + 1) operands y →
       KeepsAt code bound R a c s place (o ∷ operands) (at_zero v x y)
   jz_keeps {to = to} o (pos zero) e h x y = keeps code bound R a c (one_follows code bound R a c (i.Jz to) h x (λ k. rw e))
   jz_keeps {to = to} o (pos (suc n)) e h x y = keeps code bound R a c (one_follows code bound R a c (i.Jz to) h y (λ k. rw e))
   jz_keeps {to = to} o (negsuc n) e h x y = keeps code bound R a c (one_follows code bound R a c (i.Jz to) h y (λ k. rw e))
 
-  jnz_keeps : {place to : ℕ} {operands : List Cell} {x y : Next} (o : Cell) (v : ℤ) → int_in o ≡ v → slice_get code.instrs place ≡ Some (i.Jnz to) → KeepsAt code bound R a c s (place + 1) operands x → KeepsAt code bound R a c s to operands y →
+  jnz_keeps : {place to : ℕ} {operands : List Cell} {x y : Next} (o : Cell) (v : ℤ) → int_in o ≡ v → slice_get code.instrs place ≡ Some (i.Jnz to) → KeepsAt code bound R a c s (place + 1) operands x
+      → KeepsAt code bound R a c s to operands y →
       KeepsAt code bound R a c s place (o ∷ operands) (at_zero v x y)
   jnz_keeps {to = to} o (pos zero) e h x y = keeps code bound R a c (one_follows code bound R a c (i.Jnz to) h x (λ k. rw e))
   jnz_keeps {to = to} o (pos (suc n)) e h x y = keeps code bound R a c (one_follows code bound R a c (i.Jnz to) h y (λ k. rw e))
@@ -97,25 +100,31 @@ module _ (code : Parts) (bound : ℕ) (R : CoreState → Flat → Type 0) (a : A
 
   -- it goes on with any cell that is read as the value
   pub record Evaluates (p : Piece) (r : Computed) : Type 0 where
-    pub by : {exits : Exits} {place to : ℕ} {operands : List Cell} (go : ℤ → Next) → Placed code.instrs p exits place to → ((o : Cell) → At to (o ∷ operands) (go (int_in o))) → At place operands (or_trap s r go)
+    pub by : {exits : Exits} {place to : ℕ} {operands : List Cell} (go : ℤ → Next) → Placed code.instrs p exits place to → ((o : Cell) → At to (o ∷ operands) (go (int_in o)))
+        → At place operands (or_trap s r go)
 
-  pub evaluates_on : {A : Type 0} {p : Piece} {r : Computed} {exits : Exits} {place to : ℕ} {operands : List Cell} (f : ℤ → Result A Trap) (go : A → Next) → Evaluates p r → Placed code.instrs p exits place to →
+  pub evaluates_on : {A : Type 0} {p : Piece} {r : Computed} {exits : Exits} {place to : ℕ} {operands : List Cell} (f : ℤ → Result A Trap) (go : A → Next) → Evaluates p r
+      → Placed code.instrs p exits place to →
       ((o : Cell) → At to (o ∷ operands) (or_trap s (f (int_in o)) go)) → At place operands (or_trap s (bind r f) go)
   evaluates_on {r = r} {place = place} {operands = operands} f go e h next = subst (At place operands) (sym (or_bind s r f go)) (e.by (λ x. or_trap s (f x) go) h next)
 
   -- the same of a reference to an array
-  pub array_follows : {exits : Exits} {place to : ℕ} {operands : List Cell} (whole : Array) (go : cells.Place → Next) → Placed code.instrs (one (array_code whole)) exits place to → ((o : Cell) → At to (o ∷ operands) (go (place_in o))) →
+  pub array_follows : {exits : Exits} {place to : ℕ} {operands : List Cell} (whole : Array) (go : cells.Place → Next) → Placed code.instrs (one (array_code whole)) exits place to
+      → ((o : Cell) → At to (o ∷ operands) (go (place_in o))) →
       FollowsAt code bound R a c s place operands (go (array s.store a.activation.frame whole))
-  array_follows {exits} (arr.Global slot len) go h next = piece_follows code bound R a c {exits = exits} (i.ArrG slot len) h (next (cell.Array (record { home = None; start = slot; len = len }))) (λ k. refl)
+  array_follows {exits} (arr.Global slot len) go h next = piece_follows code bound R a c {exits = exits} (i.ArrG slot len) h (next (cell.Array (record { home = None; start = slot; len = len })))
+      (λ k. refl)
   array_follows {exits} (arr.Local level slot len) go h next =
       piece_follows code bound R a c {exits = exits} (i.Arr level slot len) h (next (cell.Array (record { home = Some (above s.store a.activation.frame level); start = slot; len = len }))) (λ k. refl)
   array_follows {exits} (arr.Param level slot) go h next = piece_follows code bound R a c {exits = exits} (i.Load level slot) h (next (cell_at s.store a.activation.frame level slot)) (λ k. refl)
 
-  pub array_keeps : {exits : Exits} {place to : ℕ} {operands : List Cell} (whole : Array) (go : cells.Place → Next) → Placed code.instrs (one (array_code whole)) exits place to → ((o : Cell) → At to (o ∷ operands) (go (place_in o))) →
+  pub array_keeps : {exits : Exits} {place to : ℕ} {operands : List Cell} (whole : Array) (go : cells.Place → Next) → Placed code.instrs (one (array_code whole)) exits place to
+      → ((o : Cell) → At to (o ∷ operands) (go (place_in o))) →
       At place operands (go (array s.store a.activation.frame whole))
   array_keeps {exits} whole go h next = keeps code bound R a c (array_follows {exits = exits} whole go h next)
 
-  unary_keeps : {exits : Exits} {place to : ℕ} {operands : List Cell} (op : UnaryOp) (x : Cell) (go : ℤ → Next) → Placed code.instrs (one (unary_code op)) exits place to → ((o : Cell) → At to (o ∷ operands) (go (int_in o))) →
+  unary_keeps : {exits : Exits} {place to : ℕ} {operands : List Cell} (op : UnaryOp) (x : Cell) (go : ℤ → Next) → Placed code.instrs (one (unary_code op)) exits place to
+      → ((o : Cell) → At to (o ∷ operands) (go (int_in o))) →
       At place (x ∷ operands) (go (unary op (int_in x)))
   unary_keeps {exits} u.Neg x go h next = one_keeps code bound R a c {exits = exits} i.Neg h (next (cell.Int (negated (int_in x)))) (λ k. refl)
   unary_keeps {exits} u.Not x go h next = one_keeps code bound R a c {exits = exits} i.Not h (next (cell.Int (not_true (int_in x)))) (λ k. refl)
@@ -130,7 +139,8 @@ module _ (code : Parts) (bound : ℕ) (R : CoreState → Flat → Type 0) (a : A
     right : At (place + 1) operands (or_trap s (bind r (λ y. Ok (truth y))) go)
     over_it : At target operands (go decided)
 
-  lazy_at : {p : Piece} {r : Computed} {exits : Exits} {place to : ℕ} {operands : List Cell} (jump : ℕ → Instr) (decided : ℤ) (go : ℤ → Next) → IsSized p → Evaluates p r → Placed code.instrs (lazily jump (i.Push decided) p) exits place to →
+  lazy_at : {p : Piece} {r : Computed} {exits : Exits} {place to : ℕ} {operands : List Cell} (jump : ℕ → Instr) (decided : ℤ) (go : ℤ → Next) → IsSized p → Evaluates p r
+      → Placed code.instrs (lazily jump (i.Push decided) p) exits place to →
       ((o : Cell) → At to (o ∷ operands) (go (int_in o))) → LazyAt jump decided r place operands go
   lazy_at {p} {r} {exits} {place} {to} {operands} jump decided go z e h next =
       let last = one (i.Push decided) in
@@ -154,7 +164,8 @@ module _ (code : Parts) (bound : ℕ) (R : CoreState → Flat → Type 0) (a : A
         over_it = subst (λ n. At n operands (go decided)) past (one_keeps code bound R a c {exits = exits} (i.Push decided) last_at (next (cell.Int decided)) (λ k. refl));
       }
 
-  joined_keeps : {p : Piece} {r : Computed} {exits : Exits} {place to : ℕ} {operands : List Cell} (op : BinaryOp) (x : Cell) (go : ℤ → Next) → IsSized p → Evaluates p r → Placed code.instrs (joined_code op p) exits place to →
+  joined_keeps : {p : Piece} {r : Computed} {exits : Exits} {place to : ℕ} {operands : List Cell} (op : BinaryOp) (x : Cell) (go : ℤ → Next) → IsSized p → Evaluates p r
+      → Placed code.instrs (joined_code op p) exits place to →
       ((o : Cell) → At to (o ∷ operands) (go (int_in o))) → At place (x ∷ operands) (or_trap s (joined (Ok (int_in x)) op r) go)
   joined_keeps {r = r} {place = place} {operands = operands} b.Or x go z e h next =
       let lazy = lazy_at i.Jnz (pos 1) go z e h next in
@@ -164,7 +175,8 @@ module _ (code : Parts) (bound : ℕ) (R : CoreState → Flat → Type 0) (a : A
       subst (At place (x ∷ operands)) (sym (or_zero s (int_in x) (Ok (pos 0)) (bind r (λ y. Ok (truth y))) go)) (jz_keeps x (int_in x) refl lazy.jumps lazy.over_it lazy.right)
   joined_keeps {p = p} {exits = exits} {operands = operands} op x go z e h next =
       evaluates_on (operate op (int_in x)) go e (first_part code.instrs p (one (operator_code op)) h) (λ y.
-      computes code bound R a c {exits = exits} (operator_code op) (operate op (int_in x) (int_in y)) (λ v. s) (λ v. cell.Int v ∷ operands) go (other_part code.instrs p (one (operator_code op)) z h) (λ k. refl) (λ v e. next (cell.Int v)))
+      computes code bound R a c {exits = exits} (operator_code op) (operate op (int_in x) (int_in y)) (λ v. s) (λ v. cell.Int v ∷ operands) go (other_part code.instrs p (one (operator_code op)) z h)
+      (λ k. refl) (λ v e. next (cell.Int v)))
 
   abbrev means : Value → Computed
   means x = value_of s.store a.activation.frame x
@@ -184,7 +196,8 @@ module _ (code : Parts) (bound : ℕ) (R : CoreState → Flat → Type 0) (a : A
   abbrev links_of : List Link_ → List ValueLink
   links_of links = map (λ (l : Link_). l.0) links
 
-  links_keep : (links : List Link_) {exits : Exits} {place to : ℕ} {operands : List Cell} (x : Cell) (go : ℤ → Next) → Placed code.instrs (chained_code (map link_code (links_of links))) exits place to → ((o : Cell) → At to (o ∷ operands) (go (int_in o))) →
+  links_keep : (links : List Link_) {exits : Exits} {place to : ℕ} {operands : List Cell} (x : Cell) (go : ℤ → Next) → Placed code.instrs (chained_code (map link_code (links_of links))) exits place to
+      → ((o : Cell) → At to (o ∷ operands) (go (int_in o))) →
       At place (x ∷ operands) (or_trap s (chained (Ok (int_in x)) (map link_means (links_of links))) go)
   links_keep [] {place = place} {to = to} {operands = operands} x go h next =
       let ends = h.ends in
@@ -206,20 +219,28 @@ module _ (code : Parts) (bound : ℕ) (R : CoreState → Flat → Type 0) (a : A
       Evaluates (value_step (map-Value Value ValueLink Piece (BinaryOp × Piece) value_code link_code (map-Value Value_ Link_ Value ValueLink (λ x. x.0) (λ l. l.0) y)))
       (means_step s.store a.activation.frame (map-Value Value ValueLink Computed (BinaryOp × Computed) means link_means (map-Value Value_ Link_ Value ValueLink (λ x. x.0) (λ l. l.0) y)))
   value_layer (Value-F.Number value) = record { by = λ {exits} go h next. one_keeps code bound R a c {exits = exits} (i.Push value) h (next (cell.Int value)) (λ k. refl) }
-  value_layer (Value-F.Variable (pl.Global slot)) = record { by = λ {exits} go h next. one_keeps code bound R a c {exits = exits} (i.LoadG slot) h (next (cell.Int (global_at s.store slot))) (λ k. refl) }
-  value_layer (Value-F.Variable (pl.Local level slot)) = record { by = λ {exits} go h next. one_keeps code bound R a c {exits = exits} (i.Load level slot) h (next (cell_at s.store a.activation.frame level slot)) (λ k. refl) }
+  value_layer (Value-F.Variable (pl.Global slot)) = record {
+    by = λ {exits} go h next. one_keeps code bound R a c {exits = exits} (i.LoadG slot) h (next (cell.Int (global_at s.store slot)))
+        (λ k. refl);
+  }
+  value_layer (Value-F.Variable (pl.Local level slot)) = record {
+    by = λ {exits} go h next. one_keeps code bound R a c {exits = exits} (i.Load level slot) h
+        (next (cell_at s.store a.activation.frame level slot)) (λ k. refl);
+  }
   value_layer (Value-F.Element whole index) = record {
     by = λ {exits} {place} {to} {operands} go h next.
         let inner = value_code index.0 in
         let index_at = other_part code.instrs (one (array_code whole)) (inner ⨾ one i.Elem) (one_sized (array_code whole)) h in
         array_keeps whole (λ p. or_trap s (bind (means index.0) (element s.store p)) go) (first_part code.instrs (one (array_code whole)) (inner ⨾ one i.Elem) h) (λ o.
         evaluates_on (element s.store (place_in o)) go index.1 (first_part code.instrs inner (one i.Elem) index_at) (λ y.
-        computes code bound R a c {exits = exits} i.Elem (element s.store (place_in o) (int_in y)) (λ v. s) (λ v. cell.Int v ∷ operands) go (other_part code.instrs inner (one i.Elem) (value_sized index.0) index_at) (λ k. refl) (λ v e. next (cell.Int v))));
+        computes code bound R a c {exits = exits} i.Elem (element s.store (place_in o) (int_in y)) (λ v. s) (λ v. cell.Int v ∷ operands) go
+        (other_part code.instrs inner (one i.Elem) (value_sized index.0) index_at) (λ k. refl) (λ v e. next (cell.Int v))));
   }
   value_layer (Value-F.Unary op operand) = record {
     by = λ {exits} {place} {to} {operands} go h next.
         let inner = value_code operand.0 in
-        evaluates_on (λ x. Ok (unary op x)) go operand.1 (first_part code.instrs inner (one (unary_code op)) h) (λ o. unary_keeps op o go (other_part code.instrs inner (one (unary_code op)) (value_sized operand.0) h) next);
+        evaluates_on (λ x. Ok (unary op x)) go operand.1 (first_part code.instrs inner (one (unary_code op)) h)
+        (λ o. unary_keeps op o go (other_part code.instrs inner (one (unary_code op)) (value_sized operand.0) h) next);
   }
   value_layer (Value-F.Chain first rest) = record {
     by = λ {exits} {place} {to} {operands} go h next.
@@ -241,7 +262,8 @@ module _ (code : Parts) (bound : ℕ) (R : CoreState → Flat → Type 0) (a : A
   pub value_evaluates : (x : Value) → Evaluates (value_code x) (means x)
   value_evaluates =
       ind-Value (λ x. Evaluates (value_code x) (means x)) (λ l. Evaluates (value_code l.operand) (means l.operand))
-      (λ x y is. evaluates_as (fold-roll-Value Piece (BinaryOp × Piece) value_step link_step x) (fold-roll-Value Computed (BinaryOp × Computed) (means_step s.store a.activation.frame) means_link_step x) (subst Meant is (value_layer y)))
+      (λ x y is. evaluates_as (fold-roll-Value Piece (BinaryOp × Piece) value_step link_step x)
+      (fold-roll-Value Computed (BinaryOp × Computed) (means_step s.store a.activation.frame) means_link_step x) (subst Meant is (value_layer y)))
       (λ x y is. subst (λ (z : ValueLink-F Value ValueLink). Evaluates (value_code z.operand) (means z.operand)) is y.operand.1)
 
   -- ---- several

@@ -24,7 +24,8 @@ woken_none all (t ∷ ts) k h = go t.phase refl (woken_none all ts (k + 1) (λ u
 abbrev pub item : ℕ → Item
 item n = record { number = n }
 
-pub woken_one : (all ts : List Thread) (k o : ℕ) (b : BlockId) → (at ts o).phase ≡ AtFinish b → none_within b all ≡ true → ((u : ℕ) (c : BlockId) → (at ts u).phase ≡ AtFinish c → none_within c all ≡ true → u ≡ o) → woken all ts k ≡ Some (item (k + o))
+pub woken_one : (all ts : List Thread) (k o : ℕ) (b : BlockId) → (at ts o).phase ≡ AtFinish b → none_within b all ≡ true
+    → ((u : ℕ) (c : BlockId) → (at ts u).phase ≡ AtFinish c → none_within c all ≡ true → u ≡ o) → woken all ts k ≡ Some (item (k + o))
 woken_one all [] k o b e h only = absurd (let no : Ended ≡ AtFinish b = e in cc)
 woken_one all (t ∷ ts) k zero b e h only =
     let f : may_pass all t.phase ≡ true = ap (may_pass all) e ∙ h in
@@ -103,7 +104,8 @@ module _ (ts ts' : List Thread) (t : ℕ) (new : Thread) (change : Changed nobod
       small Ended = omega arith
 
   -- a thread is born or wakes, and is put in front of a list or runs
-  pub listed_new : (ready ready' : List Item) (was now : Option Item) → active (at ts t).phase ≡ 0 → active new.phase ≡ 1 → ((u : ℕ) → running_is u now + listed_as u ready' ≡ one u t + (running_is u was + listed_as u ready)) → Listed ts ready was → Listed ts' ready' now
+  pub listed_new : (ready ready' : List Item) (was now : Option Item) → active (at ts t).phase ≡ 0 → active new.phase ≡ 1
+      → ((u : ℕ) → running_is u now + listed_as u ready' ≡ one u t + (running_is u was + listed_as u ready)) → Listed ts ready was → Listed ts' ready' now
   listed_new ready ready' was now p pn more h u =
       elim (found nobody ts ts' t new change u) as (λ _. running_is u now + listed_as u ready' ≡ active (at ts' u).phase) [
         | inl q ↦

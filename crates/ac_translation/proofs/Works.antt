@@ -17,7 +17,7 @@ use Rattle.stack_code.specs.declared.instr.Instr.TheVariants as i
 use Rattle.stack_code.specs.Machine.{Caller, Flat}
 use Rattle.ac_translation.specs.Pieces.{Exits, Piece, no_code, one, ◌⨾◌, all, loop_exits}
 use Rattle.ac_translation.specs.Translation.{target_code, test_code, at_loop, at_next, command_step, command_code, body_code, last_code, no_exits}
-use Rattle.ac_translation.specs.WellFormed.{Round, in_loop, well_formed_step, is_well_formed, are_well_formed}
+use Rattle.ac_translation.proofs.WellFormed.{Round, in_loop, well_formed_step, is_well_formed, are_well_formed}
 use Rattle.ac_translation.proofs.Sized.{test_sized, command_sized, body_sized}
 use Rattle.ac_translation.proofs.Keeps.{Activation, called, within, Around, flat, SameBirths}
 use Rattle.ac_translation.proofs.Placed.{Placed, first_part, other_part, Jumps, here, jump, jumps_on, loop_at}
@@ -187,7 +187,8 @@ module _ (code : List Instr) (functions : List Function) where
   -- the same in some scope, or where a call has just given its value, which is the one operand
   pub data Works (activation : Activation) (place : ℕ) : List Cell → List Work → Type 0 where
     works : {ws : List Work} (scope : Scope) → Does scope activation place ws → Works activation place [] ws
-    gives : {ws : List Work} (value : ℤ) (after : After) (exits : Exits) (next : ℕ) (scope : Scope) → IsOutside after scope → Placed code (after_code after) exits place next → Does scope activation next ws →
+    gives : {ws : List Work} (value : ℤ) (after : After) (exits : Exits) (next : ℕ) (scope : Scope) → IsOutside after scope → Placed code (after_code after) exits place next
+        → Does scope activation next ws →
         Works activation place (cell.Int value ∷ []) (Given value activation.frame after ∷ ws)
 
   -- the relation holds wherever the code stands that does the work, in whichever activation of the thread
@@ -204,7 +205,17 @@ module _ (code : List Instr) (functions : List Function) where
     pub jumps_do : (scope : Scope) {place to : ℕ} (ws : List Work) → Jumps code place to → Does scope activation to ws → Does scope activation place ws
     jumps_do scope [] j d = d
     jumps_do scope (Do own c ∷ ws) j d = record { at = d.at; to = d.to; jumps = jumps_on code j d.jumps; stands = d.stands; form = d.form; own_is = d.own_is; rest = d.rest }
-    jumps_do scope (Turn own c ∷ ws) j d = record { at = d.at; to = d.to; outer = d.outer; is = d.is; jumps = jumps_on code j d.jumps; stands = d.stands; form = d.form; own_is = d.own_is; rest = d.rest }
+    jumps_do scope (Turn own c ∷ ws) j d = record {
+      at = d.at;
+      to = d.to;
+      outer = d.outer;
+      is = d.is;
+      jumps = jumps_on code j d.jumps;
+      stands = d.stands;
+      form = d.form;
+      own_is = d.own_is;
+      rest = d.rest;
+    }
     jumps_do scope (Close block ∷ ws) j d = record {
       at = d.at;
       to = d.to;
@@ -238,7 +249,8 @@ module _ (code : List Instr) (functions : List Function) where
     }
 
     -- a body, and what comes after it
-    pub before_does : (body : List Command) (ws : List Work) (scope : Scope) {place to : ℕ} → are_well_formed functions body (round_of scope) ≡ true → Placed code (body_code body) scope.exits place to → Does scope activation to ws →
+    pub before_does : (body : List Command) (ws : List Work) (scope : Scope) {place to : ℕ} → are_well_formed functions body (round_of scope) ≡ true → Placed code (body_code body) scope.exits place to
+        → Does scope activation to ws →
         Does scope activation place (before activation.frame body ws)
     before_does [] ws scope {place} {to} f h d =
         let ends = h.ends in
@@ -257,7 +269,8 @@ module _ (code : List Instr) (functions : List Function) where
         }
 
     -- by what a test comes to
-    pub zero_works : {p q : ℕ} {operands : List Cell} {xs ys : List Work} (v : ℤ) → Works activation p operands xs → Works activation q operands ys → Works activation (at_zero v p q) operands (at_zero v xs ys)
+    pub zero_works : {p q : ℕ} {operands : List Cell} {xs ys : List Work} (v : ℤ) → Works activation p operands xs → Works activation q operands ys
+        → Works activation (at_zero v p q) operands (at_zero v xs ys)
     zero_works (pos zero) x y = x
     zero_works (pos (suc n)) x y = y
     zero_works (negsuc n) x y = y
@@ -303,8 +316,10 @@ module _ (code : List Instr) (functions : List Function) where
     continue_works (End own ∷ ws) scope place e d = absurd (not_both scope.loop d.no_loop e)
 
     -- the next part of a loop, and then the loop again
-    turn_does : (c : Command) (ws : List Work) (outer : Scope) (x : Command-F Command) {place at to : ℕ} → Placed code (command_step (pieces_of x)) outer.exits at to → well_formed_step functions (tests_of functions x) (round_of outer) ≡ true →
-        Jumps code place (exits_in (pieces_of x) at).turn → Does outer activation at (Do activation.frame c ∷ ws) → Does outer activation place (before activation.frame (next_in x) (Do activation.frame c ∷ ws))
+    turn_does : (c : Command) (ws : List Work) (outer : Scope) (x : Command-F Command) {place at to : ℕ} → Placed code (command_step (pieces_of x)) outer.exits at to
+        → well_formed_step functions (tests_of functions x) (round_of outer) ≡ true →
+        Jumps code place (exits_in (pieces_of x) at).turn → Does outer activation at (Do activation.frame c ∷ ws)
+        → Does outer activation place (before activation.frame (next_in x) (Do activation.frame c ∷ ws))
     turn_does c ws outer (Command-F.For test next body) {at = at} h f j d =
         let head = test_code test ((body_code body).size + ((body_code next).size + 1)) in
         let parts = loop_at code at_next head (body_code body) (body_code next) (test_sized test ((body_code body).size + ((body_code next).size + 1))) (body_sized body) (body_sized next) h in
@@ -313,9 +328,11 @@ module _ (code : List Instr) (functions : List Function) where
         jumps_do outer (before activation.frame next (Do activation.frame c ∷ ws)) j (before_does next (Do activation.frame c ∷ ws) outer forms.1 parts.next_at again)
     turn_does c ws outer x h f j d = jumps_do outer (Do activation.frame c ∷ ws) j d
 
-    pub ahead_does : {scope : Scope} {place : ℕ} (c : Command) (ws : List Work) (d : Does scope activation place (Turn activation.frame c ∷ ws)) → Does d.outer activation place (before activation.frame (next_part c) (Do activation.frame c ∷ ws))
+    pub ahead_does : {scope : Scope} {place : ℕ} (c : Command) (ws : List Work) (d : Does scope activation place (Turn activation.frame c ∷ ws))
+        → Does d.outer activation place (before activation.frame (next_part c) (Do activation.frame c ∷ ws))
     ahead_does c ws d =
-        turn_does c ws d.outer (out-Command c) (subst (λ p. Placed code p d.outer.exits d.at d.to) (code_by_form c) d.stands) (subst (λ t. t (round_of d.outer) ≡ true) (test_by_form functions c) d.form) d.jumps
+        turn_does c ws d.outer (out-Command c) (subst (λ p. Placed code p d.outer.exits d.at d.to) (code_by_form c) d.stands)
+        (subst (λ t. t (round_of d.outer) ≡ true) (test_by_form functions c) d.form) d.jumps
         (record { at = d.at; to = d.to; jumps = here; stands = d.stands; form = d.form; own_is = refl; rest = d.rest })
 
   -- ---- blocks

@@ -1,4 +1,3 @@
 pub mod Pieces
 pub mod Translation
-pub mod WellFormed
 pub mod Same

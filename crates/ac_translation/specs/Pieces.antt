@@ -59,13 +59,17 @@ abbrev pub loop_end : ℕ → Piece → Piece → Piece → ℕ
 loop_end place head body next = place + (head.size + (body.size + (next.size + 1)))
 
 abbrev pub loop_exits : (ℕ → ℕ → ℕ) → ℕ → Piece → Piece → Piece → Exits
-loop_exits turns place head body next = record { past = loop_end place head body next; turn = turns place (place + (head.size + body.size)) }
+loop_exits turns place head body next = record {
+  past = loop_end place head body next;
+  turn = turns place (place + (head.size + body.size));
+}
 
 abbrev pub loop : (ℕ → ℕ → ℕ) → Piece → Piece → Piece → Piece
 loop turns head body next = record {
   size = head.size + (body.size + (next.size + 1));
   at = λ exits place.
-      head.at exits place ++ (body.at (loop_exits turns place head body next) (place + head.size) ++ (next.at exits (place + (head.size + body.size)) ++ i.Jump place ∷ []));
+      head.at exits place ++ (body.at (loop_exits turns place head body next) (place + head.size)
+      ++ (next.at exits (place + (head.size + body.size)) ++ i.Jump place ∷ []));
   pasts = λ place. head.pasts place ++ next.pasts (place + (head.size + body.size));
   turns = λ place. head.turns place ++ next.turns (place + (head.size + body.size));
 }

@@ -187,7 +187,8 @@ no_exits = record { past = 0; turn = 0 }
 
 abbrev pub functions_from : ℕ → List Function → List Entered
 functions_from at [] = []
-functions_from at (f ∷ fs) = record { name = f.name; at = at; params = f.params; words = f.slots } ∷ functions_from (at + (function_code f).size) fs
+functions_from at (f ∷ fs) = record { name = f.name; at = at; params = f.params; words = f.slots }
+    ∷ functions_from (at + (function_code f).size) fs
 
 abbrev pub functions_code : List Function → Piece
 functions_code fs = all (map function_code fs)

@@ -1,1 +1,2 @@
 pub mod WeightForms
+pub mod Examples

@@ -1,6 +1,7 @@
 -- The weight of a program: tokens that each text of it has, added form by form. Not counted are the commas between arguments and
 -- between parameters, the semicolon of an assignment, which is none in a `for`, the word `else`, the `=` before a value, the value of
--- a global, and the words `async` and `void`. So a program weighs at most as many tokens as spell it, and may weigh less.
+-- a global, the word `async` of a function, and the word `void` for no parameters. So a program weighs at most as many tokens as
+-- spell it, and may weigh less.
 use Rattle.std.specs.Prelude.{ℕ, ◌+◌, ◌≤◌, List, [], ◌∷◌, map, Option, None, Some, Bool, true, false}
 use Rattle.ac_tree.specs.declared.expr.Expr.{Expr, fold-Expr}
 use Rattle.ac_tree.specs.declared.expr.Expr.TheOpen.{Expr-F, Link-F}

@@ -3,9 +3,12 @@ use Rattle.std.proofs.Common.{◌≡◌, List, Bool, subst}
 use Rattle.ac_tree.specs.declared.item.Item.{Item}
 use Rattle.ac_types.specs.declared.verdict.Verdict.{Verdict}
 use Rattle.ac_types.specs.declared.verdict.Verdict.TheVariants as v
+use Rattle.ac_names.specs.declared.past.Counts.{Counts}
+use Rattle.ac_names.specs.Items.{whole}
 use Rattle.ac_types.specs.Reached.{BreaksNone, entries_of, all_calls}
-use Rattle.ac_types.specs.Search.{AreAll}
-use Rattle.ac_types.specs.Verdicts.{Judges}
+use Rattle.ac_reach.specs.Reached.{AreAll}
+use Rattle.ac_types.specs.inner.Verdicts.{Judges}
 
-pub clean_told : (items items2 : List Item) (verdict : Verdict) (reach : List (List Bool)) → items2 ≡ items → Judges items2 verdict → verdict ≡ v.Clean reach → BreaksNone items × AreAll (all_calls items) (entries_of items) reach
-clean_told items items2 verdict reach e h f = subst (λ x. Judges x (v.Clean reach)) e (subst (Judges items2) f h)
+pub clean_told : (items items2 : List Item) (verdict : Verdict) (counts : Counts) (reach : List (List Bool)) → items2 ≡ items → Judges items2 verdict → verdict ≡ v.Clean counts reach →
+    BreaksNone items × ((counts ≡ (whole items).counts) × AreAll (all_calls items) (entries_of items) reach)
+clean_told items items2 verdict counts reach e h f = subst (λ x. Judges x (v.Clean counts reach)) e (subst (Judges items2) f h)

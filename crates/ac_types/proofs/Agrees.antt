@@ -6,16 +6,17 @@ use Rattle.ac_tree.specs.declared.expr.Expr.TheOpen.{Expr-F, Link-F}
 use Rattle.ac_types.specs.declared.around.Around.{Around}
 use Rattle.ac_types.specs.declared.around.Position.{Position}
 use Rattle.ac_types.specs.declared.around.Position.TheVariants as p
-use Rattle.ac_types.specs.declared.meaning.Meaning.{Meaning}
+use Rattle.ac_names.specs.declared.meaning.Meaning.{Meaning}
 use Rattle.ac_types.specs.declared.numbered.Callee.{Callee}
 use Rattle.ac_types.specs.declared.numbered.Tables.{Tables}
 use Rattle.ac_types.specs.declared.seen.Seen.{Seen}
-use Rattle.ac_types.specs.Scopes.{Declaration, or_else, visible}
+use Rattle.ac_names.specs.Scopes.{Declaration, or_else, visible}
 use Rattle.ac_types.specs.Around.{position_of}
 use Rattle.ac_types.specs.Tables.{callee, takes_array}
-use Rattle.ac_types.specs.Nodes.{Node, noted, seen_all, least_broken, called, first_of, calls_of, at_node}
+use Rattle.ac_types.specs.Nodes.{Node, called, calls_of}
+use Rattle.ac_types.specs.inner.Seen.{noted, seen_all, least_broken, first_of, at_node, unseen, join_seen, expr_seen, values_seen, value_seen}
 use Rattle.ac_types.specs.Judged.{value_tests, file_tests}
-use Rattle.ac_types.specs.Expressions.{plain, call_node, expr_step, link_step, link_all, links_step, args_step, values_all, value_all, one_node, join_nodes, unseen, join_seen, expr_nodes, expr_seen, values_seen, value_seen}
+use Rattle.ac_types.specs.Expressions.{plain, call_node, expr_step, link_step, link_all, links_step, args_step, values_all, value_all, one_node, join_nodes, expr_nodes}
 
 pub seen_append : (xs ys : List Node) (s : Seen) → seen_all (xs ++ ys) s ≡ seen_all ys (seen_all xs s)
 seen_append [] ys s = refl
@@ -97,7 +98,8 @@ chain_agrees x ls t s a u =
 pair_agrees : (x y : Expr_) (t : Tables) (s : List (List Declaration)) (a : Around) (u : Seen) →
     expr_seen y.0 t s a p.Value (expr_seen x.0 t s a p.Value u) ≡ seen_all (expr_nodes x.0 t s a p.Value ++ expr_nodes y.0 t s a p.Value) u
 pair_agrees x y t s a u =
-    seen_two (expr_nodes x.0 t s a p.Value) (expr_nodes y.0 t s a p.Value) u (expr_seen x.0 t s a p.Value u) (expr_seen y.0 t s a p.Value (expr_seen x.0 t s a p.Value u)) (x.1 t s a p.Value u) (y.1 t s a p.Value (expr_seen x.0 t s a p.Value u))
+    seen_two (expr_nodes x.0 t s a p.Value) (expr_nodes y.0 t s a p.Value) u (expr_seen x.0 t s a p.Value u) (expr_seen y.0 t s a p.Value (expr_seen x.0 t s a p.Value u)) (x.1 t s a p.Value u)
+    (y.1 t s a p.Value (expr_seen x.0 t s a p.Value u))
 
 call_agrees : (at : ℕ) (m : Option Meaning) (f : Option Callee) (xs : List Expr_) (t : Tables) (s : List (List Declaration)) (a : Around) (w : Position) (u : Seen) →
     args_step (Seen → Seen) noted unseen join_seen m 0 (map expr_seen (exprs_of xs)) t s a (noted (call_node at m f (length (map expr_seen (exprs_of xs))) a w) u)
@@ -148,7 +150,8 @@ pub values_agree : (xs : List Expr) (t : Tables) (s : List (List Declaration)) (
     values_seen xs t s a u ≡ seen_all (values_all (List Node) one_node [] join_nodes xs t s a) u
 values_agree [] t s a u = refl
 values_agree (x ∷ xs) t s a u =
-    seen_two (expr_nodes x t s a p.Value) (values_all (List Node) one_node [] join_nodes xs t s a) u (expr_seen x t s a p.Value u) (values_seen xs t s a (expr_seen x t s a p.Value u)) (expr_agrees x t s a p.Value u)
+    seen_two (expr_nodes x t s a p.Value) (values_all (List Node) one_node [] join_nodes xs t s a) u (expr_seen x t s a p.Value u) (values_seen xs t s a (expr_seen x t s a p.Value u))
+    (expr_agrees x t s a p.Value u)
     (values_agree xs t s a (expr_seen x t s a p.Value u))
 
 pub value_agrees : (w : Position) (x : Option Expr) (t : Tables) (s : List (List Declaration)) (a : Around) (u : Seen) →

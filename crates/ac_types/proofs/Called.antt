@@ -1,13 +1,13 @@
 -- What a walk says of the functions that a function calls.
 use Rattle.std.proofs.Common.{◌≡◌, ℕ, List, [], ◌++◌, ap, ◌∙◌}
 use Rattle.ac_tree.specs.declared.item.Function.{Function}
-use Rattle.ac_types.specs.declared.numbered.Reached.{Reached}
+use Rattle.ac_reach.specs.declared.reached.Reached.{Reached}
 use Rattle.ac_types.specs.declared.numbered.Tables.{Tables}
 use Rattle.ac_types.specs.declared.seen.Seen.{Seen}
 use Rattle.ac_types.specs.declared.walk.Walk.{Walk}
 use Rattle.ac_types.specs.Nodes.{calls_of}
 use Rattle.ac_types.specs.Items.{function_nodes}
-use Rattle.ac_types.specs.Seeing.{after_function}
+use Rattle.ac_types.specs.inner.Items.{after_function}
 use Rattle.ac_types.proofs.Agrees.{calls_seen}
 use Rattle.ac_types.proofs.Wholes.{function_agrees}
 

@@ -2,11 +2,11 @@
 use Rattle.std.proofs.Common.{◌≡◌, ℕ, suc, Bool, true, false, List, [], ◌∷◌, ◌++◌, refl}
 use Rattle.std.specs.Prelude.{not}
 use Rattle.ac_tree.specs.declared.item.Item.{Item}
-use Rattle.ac_types.specs.declared.numbered.Reached.{Reached}
+use Rattle.ac_reach.specs.declared.reached.Reached.{Reached}
 use Rattle.ac_types.specs.Nodes.{Node}
 use Rattle.ac_types.specs.Items.{program_nodes}
-use Rattle.ac_types.specs.Reached.{IsBrokenRule, BreaksIn, BreaksNone}
-use Rattle.ac_types.proofs.Rows.{rows_there}
+use Rattle.ac_types.specs.Reached.{IsBrokenRule, BreaksIn, BreaksNone, all_calls, entries_of}
+use Rattle.ac_reach.proofs.Rows.{rows_there}
 
 abbrev pub AllClean : List Node → Type 0
 AllClean [] = Unit {0}
@@ -30,4 +30,5 @@ not_false false h = absurd (h refl)
 
 -- the nodes of a program that breaks no rule
 pub clean_program : (items : List Item) → BreaksNone items → (rows : List Reached) × AllClean (program_nodes items rows)
-clean_program items c = let r = rows_there items in (r.rows, clean_nodes (program_nodes items r.rows) (λ n q b. c n q (record { rows = r.rows; reached = r.are; is = b })))
+clean_program items c = let r = rows_there (all_calls items) (entries_of items) in
+    (r.rows, clean_nodes (program_nodes items r.rows) (λ n q b. c n q (record { rows = r.rows; reached = r.are; is = b })))

@@ -1,31 +1,21 @@
 -- A walk after a function.
-use Rattle.std.proofs.Common.{◌≡◌, ℕ, List, [], ◌∷◌, refl, sym, ap, ◌∙◌}
+use Rattle.std.proofs.Common.{◌≡◌, List, [], ◌∷◌, sym, ap, ◌∙◌}
 use Rattle.ac_tree.specs.declared.stmt.Stmt.{Stmt}
 use Rattle.ac_tree.specs.declared.item.Function.{Function}
 use Rattle.ac_tree.specs.declared.item.Param.{Param}
 use Rattle.ac_types.specs.declared.around.Around.{Around}
-use Rattle.ac_types.specs.declared.meaning.Meaning.{Meaning}
-use Rattle.ac_types.specs.declared.numbered.Reached.{Reached}
+use Rattle.ac_reach.specs.declared.reached.Reached.{Reached}
 use Rattle.ac_types.specs.declared.numbered.Tables.{Tables}
-use Rattle.ac_types.specs.declared.walk.Names.{Names}
 use Rattle.ac_types.specs.declared.walk.Walk.{Walk}
-use Rattle.ac_types.specs.Scopes.{Declaration, declared, closed}
-use Rattle.ac_types.specs.Statements.{body_seen, names_after, after_body}
-use Rattle.ac_types.specs.Items.{param_at, param_named, params_named, function_names, around_of, function_seen}
-use Rattle.ac_types.specs.Seeing.{after_params, after_function}
-use Rattle.ac_types.proofs.Bodies.{names_of, walk_of, same_names, after_closed, after_labels}
-
-closed_one : (name : List ℕ) (m : Meaning) (scopes : List (List Declaration)) → closed (declared name m scopes) ≡ closed scopes
-closed_one name m [] = refl
-closed_one name m (x ∷ xs) = refl
-
-params_closed : (xs : List Param) (n : Names) → closed (params_named xs n).scopes ≡ closed n.scopes
-params_closed [] n = refl
-params_closed (x ∷ xs) n = params_closed xs (param_named x n) ∙ closed_one x.name (param_at x.is_array n.slot) n.scopes
-
-params_labels : (xs : List Param) (n : Names) → (params_named xs n).labels ≡ n.labels
-params_labels [] n = refl
-params_labels (x ∷ xs) n = params_labels xs (param_named x n)
+use Rattle.ac_names.specs.Scopes.{Declaration, closed}
+use Rattle.ac_types.specs.inner.Statements.{body_seen, after_body}
+use Rattle.ac_names.specs.Statements.{names_after}
+use Rattle.ac_names.specs.Items.{params_named, function_names}
+use Rattle.ac_types.specs.Items.{around_of}
+use Rattle.ac_types.specs.inner.Items.{function_seen, after_params, after_function}
+use Rattle.ac_names.proofs.Parameters.{params_closed, params_labels}
+use Rattle.ac_names.proofs.Statements.{names_of, same_names, after_closed, after_labels}
+use Rattle.ac_types.proofs.Bodies.{walk_of}
 
 -- a function in a walk whose frame is empty
 abbrev inside : Tables → Function → Reached → Walk → Walk
@@ -39,8 +29,9 @@ left_function t f reached w l n =
     let names = params_named f.params (function_names w.names.scopes) in
     let around = around_of f reached in
     ap (λ k. walk_of k (function_seen f t w.names.scopes reached w.seen))
-    (same_names (closed (names_after (body_seen f.body) around names).scopes) w.names.scopes (names_after (body_seen f.body) around names).labels w.names.labels 0 w.names.slot
-    (after_closed (body_seen f.body) around names ∙ params_closed f.params (function_names w.names.scopes)) (after_labels (body_seen f.body) around names ∙ params_labels f.params (function_names w.names.scopes) ∙ sym l)
+    (same_names (closed (names_after (body_seen f.body) around.depth names).scopes) w.names.scopes (names_after (body_seen f.body) around.depth names).labels w.names.labels 0 w.names.slot
+    (after_closed (body_seen f.body) around.depth names ∙ params_closed f.params (function_names w.names.scopes))
+    (after_labels (body_seen f.body) around.depth names ∙ params_labels f.params (function_names w.names.scopes) ∙ sym l)
     (sym n))
 
 pub function_after : (t : Tables) (f : Function) (reached : Reached) (w v u : Walk) (o c : List (List Declaration)) (ps : List Param) (body : List Stmt) (a : Around) →

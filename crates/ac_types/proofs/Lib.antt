@@ -1,18 +1,16 @@
-pub mod Parted
-pub mod Visible
-pub mod Inners
-pub mod Tables
 pub mod Bodies
 pub mod Agrees
 pub mod Functions
 pub mod Wholes
-pub mod Searches
 pub mod Called
 pub mod Lowest
-pub mod Rows
 pub mod Judging
 pub mod Gathering
 pub mod Accepting
 pub mod Cleans
 pub mod Numbers
 pub mod Slots
+pub mod Formats
+pub mod Others
+pub mod Forms
+mod Examples

@@ -1,55 +1,55 @@
 -- The first broken rule of a list of nodes is that of the least pair.
-use Rattle.std.proofs.Common.{◌≡◌, ℕ, zero, suc, ◌<◌, ◌≤◌, ◌⊎◌, Bool, true, false, List, [], ◌∷◌, Option, None, Some, refl, inl, inr, arith, ap, sym, subst}
-use Rattle.std.specs.Prelude.{min, nat_lt}
+use Rattle.std.proofs.Common.{◌≡◌, ℕ, zero, suc, ◌<◌, ◌≤◌, ◌⊎◌, Bool, true, false, List, [], ◌∷◌, Option, None, Some, refl, inl, inr, arith, ap, subst}
+use Rattle.std.specs.Prelude.{nat_lt, if◌then◌else◌}
 use Rattle.std.proofs.lemmas.Bool.Decides.{nat_tests}
+use Rattle.ac_types.specs.declared.rule.BrokenRule.{BrokenRule}
 use Rattle.ac_types.specs.declared.rule.Rule.{Rule}
-use Rattle.ac_types.specs.Scopes.{or_else}
-use Rattle.ac_types.specs.Nodes.{Node, least_with, least_broken, first_of, at_node}
-use Rattle.ac_types.specs.Rules.{IsUpTo}
+use Rattle.ac_names.specs.Scopes.{or_else}
+use Rattle.ac_types.specs.Nodes.{Node}
+use Rattle.ac_types.specs.inner.Seen.{least_with, least_broken, first_of, at_node}
+use Rattle.ac_types.specs.Rules.{rule_number, IsUpTo}
 use Rattle.ac_types.specs.Reached.{IsBrokenRule, BreaksIn}
 
 -- ---- the least rule of a node
 
-pub record IsMin (r : ℕ) (ts : List (ℕ × Bool)) : Type 0 where
-  pub among : IsBrokenRule r ts
-  pub least : (q : ℕ) → IsBrokenRule q ts → r ≤ q
+pub record IsMin (r : Rule) (ts : List (Rule × Bool)) : Type 0 where
+  pub among : IsBrokenRule (rule_number r) ts
+  pub least : (q : ℕ) → IsBrokenRule q ts → rule_number r ≤ q
 
-abbrev pub MinOf : List (ℕ × Bool) → Option ℕ → Type 0
+abbrev pub MinOf : List (Rule × Bool) → Option Rule → Type 0
 MinOf ts None = (q : ℕ) → IsBrokenRule q ts → ⊥
 MinOf ts (Some r) = IsMin r ts
 
 not_both : (b : Bool) → b ≡ false → b ≡ true → ⊥
 not_both b e f = cc
 
-one_test : (t : ℕ × Bool) (ts : List (ℕ × Bool)) (b : Bool) (o : Option ℕ) → t.1 ≡ b → MinOf ts o → MinOf (t ∷ ts) (least_with t.0 b o)
+one_test : (t : Rule × Bool) (ts : List (Rule × Bool)) (b : Bool) (o : Option Rule) → t.1 ≡ b → MinOf ts o → MinOf (t ∷ ts) (least_with t.0 b o)
 one_test t ts false None e m = λ q h. by q h where
-  by : (q : ℕ) → ((q ≡ t.0) × (t.1 ≡ true)) ⊎ IsBrokenRule q ts → ⊥
+  by : (q : ℕ) → ((q ≡ rule_number t.0) × (t.1 ≡ true)) ⊎ IsBrokenRule q ts → ⊥
   by q (inl h) = not_both t.1 e h.1
   by q (inr h) = m q h
 one_test t ts false (Some r) e m = record { among = inr m.among; least = λ q h. by q h } where
-  by : (q : ℕ) → ((q ≡ t.0) × (t.1 ≡ true)) ⊎ IsBrokenRule q ts → r ≤ q
+  by : (q : ℕ) → ((q ≡ rule_number t.0) × (t.1 ≡ true)) ⊎ IsBrokenRule q ts → rule_number r ≤ q
   by q (inl h) = absurd (not_both t.1 e h.1)
   by q (inr h) = m.least q h
 one_test t ts true None e m = record { among = inl (refl, e); least = λ q h. by q h } where
-  by : (q : ℕ) → ((q ≡ t.0) × (t.1 ≡ true)) ⊎ IsBrokenRule q ts → t.0 ≤ q
+  by : (q : ℕ) → ((q ≡ rule_number t.0) × (t.1 ≡ true)) ⊎ IsBrokenRule q ts → rule_number t.0 ≤ q
   by q (inl h) = let f = h.0 in omega (arith, f)
   by q (inr h) = absurd (m q h)
-one_test t ts true (Some r) e m = record { among = here (nat_lt r t.0) refl; least = λ q h. by q h } where
-  here : (b : Bool) → nat_lt r t.0 ≡ b → ((min t.0 r ≡ t.0) × (t.1 ≡ true)) ⊎ IsBrokenRule (min t.0 r) ts
-  here true f =
-      let lt : r < t.0 = grind (arith, nat_tests, f) in
-      let same : min t.0 r ≡ r = omega (arith, lt) in
-      inr (subst (λ n. IsBrokenRule n ts) (sym same) m.among)
-  here false f =
-      let le : t.0 ≤ r = grind (arith, nat_tests, f) in
-      let same : min t.0 r ≡ t.0 = omega (arith, le) in
-      inl (same, e)
+one_test t ts true (Some r) e m = here (nat_lt (rule_number r) (rule_number t.0)) refl where
+  lower : rule_number r < rule_number t.0 → (q : ℕ) → ((q ≡ rule_number t.0) × (t.1 ≡ true)) ⊎ IsBrokenRule q ts → rule_number r ≤ q
+  lower lt q (inl h) = let f = h.0 in omega (arith, f, lt)
+  lower lt q (inr h) = m.least q h
 
-  by : (q : ℕ) → ((q ≡ t.0) × (t.1 ≡ true)) ⊎ IsBrokenRule q ts → min t.0 r ≤ q
-  by q (inl h) = let f = h.0 in omega (arith, f)
-  by q (inr h) = let l = m.least q h in omega (arith, l)
+  higher : rule_number t.0 ≤ rule_number r → (q : ℕ) → ((q ≡ rule_number t.0) × (t.1 ≡ true)) ⊎ IsBrokenRule q ts → rule_number t.0 ≤ q
+  higher le q (inl h) = let f = h.0 in omega (arith, f)
+  higher le q (inr h) = let l = m.least q h in omega (arith, l, le)
 
-pub min_of : (ts : List (ℕ × Bool)) → MinOf ts (least_broken ts)
+  here : (b : Bool) → nat_lt (rule_number r) (rule_number t.0) ≡ b → IsMin (if b then r else t.0) (t ∷ ts)
+  here true f = record { among = inr m.among; least = λ q h. lower (grind (arith, nat_tests, f)) q h }
+  here false f = record { among = inl (refl, e); least = λ q h. higher (grind (arith, nat_tests, f)) q h }
+
+pub min_of : (ts : List (Rule × Bool)) → MinOf ts (least_broken ts)
 min_of [] = λ q h. h
 min_of (t ∷ ts) = one_test t ts t.1 (least_broken ts) refl (min_of ts)
 
@@ -61,9 +61,9 @@ pub record LeastIn (nodes : List Node) (rule at : ℕ) : Type 0 where
   pub place : is.node.at ≡ at
   pub least : (n r : ℕ) → BreaksIn nodes n r → IsUpTo number rule n r
 
-abbrev pub Tells : List Node → Option Rule → Type 0
+abbrev pub Tells : List Node → Option BrokenRule → Type 0
 Tells nodes None = (number rule : ℕ) → BreaksIn nodes number rule → ⊥
-Tells nodes (Some r) = LeastIn nodes r.rule r.at
+Tells nodes (Some r) = LeastIn nodes (rule_number r.rule) r.at
 
 none_broken : (n r : ℕ) → BreaksIn [] n r → ⊥
 none_broken n r b = cc b.stands
@@ -91,17 +91,17 @@ least_more : (n : Node) (ns : List Node) (a r : ℕ) → ((q : ℕ) → IsBroken
 least_more n ns a r e h zero q b = absurd (e q (head n ns q b))
 least_more n ns a r e h (suc m) q b = up a r m q (h m q (back n ns m q b))
 
-least_here : (n : Node) (ns : List Node) (r : ℕ) → IsMin r n.tests → (m q : ℕ) → BreaksIn (n ∷ ns) m q → IsUpTo zero r m q
+least_here : (n : Node) (ns : List Node) (r : Rule) → IsMin r n.tests → (m q : ℕ) → BreaksIn (n ∷ ns) m q → IsUpTo zero (rule_number r) m q
 least_here n ns r h zero q b = inr (refl, h.least q (head n ns q b))
 least_here n ns r h (suc m) q b = inl (omega arith)
 
-one_node_more : (n : Node) (ns : List Node) (m : Option ℕ) (o : Option Rule) → MinOf n.tests m → Tells ns o → Tells (n ∷ ns) (or_else (at_node n.at m) o)
+one_node_more : (n : Node) (ns : List Node) (m : Option Rule) (o : Option BrokenRule) → MinOf n.tests m → Tells ns o → Tells (n ∷ ns) (or_else (at_node n.at m) o)
 one_node_more n ns None None e h = none_more n ns e h
 one_node_more n ns None (Some r) e h = record {
   number = suc h.number;
-  is = shifted n ns h.number r.rule h.is;
+  is = shifted n ns h.number (rule_number r.rule) h.is;
   place = h.place;
-  least = least_more n ns h.number r.rule e h.least;
+  least = least_more n ns h.number (rule_number r.rule) e h.least;
 }
 one_node_more n ns (Some r) o e h = record {
   number = zero;

@@ -1,99 +1,35 @@
 -- What statements and items take of what is counted, by what they weigh.
-use Rattle.std.proofs.Common.{◌≡◌, ℕ, ◌+◌, ◌*◌, ◌<◌, ◌≤◌, Bool, true, false, List, [], ◌∷◌, length, map, Option, Some, None, refl, sym, ap, ◌∙◌, arith}
-use Rattle.std.specs.Prelude.{ℤ, pos, negsuc, nat_le, if◌then◌else◌}
-use Rattle.std.proofs.lemmas.Bool.Decides.{nat_tests}
+use Rattle.std.proofs.Common.{◌≡◌, ℕ, ◌+◌, ◌*◌, ◌<◌, ◌≤◌, List, ◌∷◌, length, Option, Some, None, refl, ap, ◌∙◌, arith}
 use Rattle.ac_tree.specs.declared.expr.Expr.{Expr}
 use Rattle.ac_tree.specs.declared.stmt.Stmt.{Stmt}
 use Rattle.ac_tree.specs.declared.stmt.Stmt.TheVariants as s
-use Rattle.ac_tree.specs.declared.stmt.Stmt.TheFolds.{fold-roll-Stmt, ind-Stmt, map-Stmt}
-use Rattle.ac_tree.specs.declared.stmt.Stmt.TheOpen.{Stmt-F}
 use Rattle.ac_tree.specs.declared.item.Function.{Function}
 use Rattle.ac_tree.specs.declared.item.Param.{Param}
-use Rattle.ac_tree.specs.Weight.{param_weight, params_weight, total, expr_weight, value_weight, stmt_weigh, stmt_weight, some_weight, body_weight}
+use Rattle.ac_tree.specs.Weight.{params_weight, expr_weight, value_weight, stmt_weight, some_weight, body_weight}
 use Rattle.ac_tree.proofs.WeightForms as f
 use Rattle.ac_types.specs.declared.around.Around.{Around}
 use Rattle.ac_types.specs.declared.around.Position.TheVariants as p
 use Rattle.ac_types.specs.declared.numbered.Tables.{Tables}
 use Rattle.ac_types.specs.declared.seen.Seen.{Seen}
-use Rattle.ac_types.specs.declared.walk.Names.{Names}
 use Rattle.ac_types.specs.declared.walk.Walk.{Walk}
-use Rattle.ac_types.specs.Scopes.{Declaration}
-use Rattle.ac_types.specs.Items.{param_named, params_named}
-use Rattle.ac_types.specs.Seeing.{after_params}
+use Rattle.ac_names.specs.Scopes.{Declaration}
+use Rattle.ac_types.specs.inner.Items.{after_params}
 use Rattle.ac_types.specs.Around.{inside_loop}
-use Rattle.ac_types.specs.Room.{HasSlots, HasDepths}
-use Rattle.ac_types.specs.Nodes.{noted}
-use Rattle.ac_types.specs.Expressions.{unseen, join_seen}
-use Rattle.ac_types.specs.Statements.{array_len, part_words, SeenPart, stmt_step, stmt_seen, some_seen, sum_words, some_words, after, after_listed, after_some, after_init, after_value, after_test, after_open}
-use Rattle.ac_types.proofs.Bodies.{names_of, walk_of}
+use Rattle.ac_names.specs.Room.{HasSlots, HasDepths}
+use Rattle.ac_types.specs.inner.Seen.{noted, unseen, join_seen}
+use Rattle.ac_names.specs.Statements.{part_words, some_words}
+use Rattle.ac_types.specs.inner.Statements.{SeenPart, stmt_seen, some_seen, after, after_listed, after_some, after_init, after_value, after_test, after_open}
+use Rattle.ac_types.specs.Statements.{Gives, gives_step}
+use Rattle.ac_names.proofs.Parameters.{few_params, params_slot}
+use Rattle.ac_names.proofs.Slots.{words_few as told_few}
+use Rattle.ac_names.proofs.Statements.{names_of}
+use Rattle.ac_types.proofs.Bodies.{walk_of}
 
-pub few_elements : (size : ℤ) → array_len size ≤ 4096
-few_elements (pos n) = by (nat_le n 4096) refl where
-  by : (b : Bool) → nat_le n 4096 ≡ b → (if b then n else 0) ≤ 4096
-  by true e = grind (arith, nat_tests, e)
-  by false e = omega arith
-few_elements (negsuc n) = omega arith
+abbrev few : Stmt → Type 0
+few x = part_words (stmt_seen x) ≤ 683 * stmt_weight x
 
--- ---- statements
-
-abbrev Claim : Stmt → Type 0
-Claim x = part_words (stmt_seen x) ≤ 683 * stmt_weight x
-
-abbrev Stmt_ : Type 0
-Stmt_ = (x : Stmt) × Claim x
-
-abbrev stmts_of : List Stmt_ → List Stmt
-stmts_of xs = map (λ x. x.0) xs
-
-sum_few : (xs : List Stmt_) → sum_words (map stmt_seen (stmts_of xs)) ≤ 683 * total (map stmt_weight (stmts_of xs))
-sum_few [] = omega arith
-sum_few (x ∷ xs) = let h = sum_few xs in let k = x.1 in omega (arith, h, k)
-
-abbrev seen_step : Stmt-F SeenPart → SeenPart
-seen_step = stmt_step (Seen → Seen) noted unseen join_seen
-
-abbrev seen_layer : Stmt-F Stmt_ → SeenPart
-seen_layer y = seen_step (map-Stmt Stmt SeenPart stmt_seen (map-Stmt Stmt_ Stmt (λ x. x.0) y))
-
-abbrev weight_layer : Stmt-F Stmt_ → ℕ
-weight_layer y = stmt_weigh (map-Stmt Stmt ℕ stmt_weight (map-Stmt Stmt_ Stmt (λ x. x.0) y))
-
-none : (n : ℕ) → 0 ≤ n
-none n = omega arith
-
-layer : (y : Stmt-F Stmt_) → part_words (seen_layer y) ≤ 683 * weight_layer y
-layer (Stmt-F.Block at body) = let h = sum_few body in omega (arith, h)
-layer (Stmt-F.Empty at) = none _
-layer (Stmt-F.Int at name value) = omega arith
-layer (Stmt-F.Array at name size) = let h = few_elements size in omega (arith, h)
-layer (Stmt-F.Assign at place value) = none _
-layer (Stmt-F.Call at call) = none _
-layer (Stmt-F.Print at format args) = none _
-layer (Stmt-F.If at test body None) = let h = body.1 in omega (arith, h)
-layer (Stmt-F.If at test body (Some x)) = let h = body.1 in let k = x.1 in omega (arith, h, k)
-layer (Stmt-F.While at test body) = let h = body.1 in omega (arith, h)
-layer (Stmt-F.For at None test None body) = let h = body.1 in omega (arith, h)
-layer (Stmt-F.For at None test (Some y) body) = let h = body.1 in let k = y.1 in omega (arith, h, k)
-layer (Stmt-F.For at (Some x) test None body) = let h = body.1 in let k = x.1 in omega (arith, h, k)
-layer (Stmt-F.For at (Some x) test (Some y) body) = let h = body.1 in let k = x.1 in let j = y.1 in omega (arith, h, k, j)
-layer (Stmt-F.Break at) = none _
-layer (Stmt-F.Continue at) = none _
-layer (Stmt-F.Return at value) = none _
-layer (Stmt-F.Do at label body) = let h = sum_few body in omega (arith, h)
-layer (Stmt-F.Async at body) = none _
-layer (Stmt-F.Cancel at label) = none _
-layer (Stmt-F.Yield at) = none _
-
-same_few : (q r : SeenPart) (m n : ℕ) → q ≡ r → m ≡ n → part_words r ≤ 683 * n → part_words q ≤ 683 * m
-same_few q r m n e f h = let g : part_words q ≡ part_words r = ap (λ (k : SeenPart). part_words k) e in omega (arith, g, f, h)
-
-pub words_few : (x : Stmt) → Claim x
-words_few = ind-Stmt Claim
-    (λ x y is.
-    same_few _ (seen_layer y) _ (weight_layer y)
-    (fold-roll-Stmt SeenPart seen_step x ∙ sym (ap (λ z. seen_step (map-Stmt Stmt SeenPart stmt_seen z)) is))
-    (fold-roll-Stmt ℕ stmt_weigh x ∙ sym (ap (λ z. stmt_weigh (map-Stmt Stmt ℕ stmt_weight z)) is))
-    (layer y))
+words_few : (x : Stmt) → few x
+words_few x = told_few (Gives (Seen → Seen)) (gives_step (Seen → Seen) noted unseen join_seen) x
 
 pub some_few : (x : Option Stmt) → some_words (some_seen x) ≤ 683 * some_weight x
 some_few None = omega arith
@@ -116,7 +52,8 @@ module _ (t : Tables) (a : Around) (x : Stmt) (at : ℕ) (test : Expr) (body : S
   if_whole : x ≡ s.If at test body other → if_weight
   if_whole is = ap stmt_weight is ∙ f.if_weighs at test body other
 
-  pub if_slots : (y : Stmt) (w v u : Walk) → x ≡ s.If at test body other → v ≡ after_test t a at test w → y ≡ body → u ≡ after t a (stmt_seen y) v → HasSlots w.names.slot (stmt_weight x) → HasSlots u.names.slot (some_weight other)
+  pub if_slots : (y : Stmt) (w v u : Walk) → x ≡ s.If at test body other → v ≡ after_test t a at test w → y ≡ body → u ≡ after t a (stmt_seen y) v → HasSlots w.names.slot (stmt_weight x)
+      → HasSlots u.names.slot (some_weight other)
   if_slots y w v u is e same d h =
       let g : if_weight = if_whole is in
       let n : v.names.slot ≡ w.names.slot = ap (λ (k : Walk). k.names.slot) e in
@@ -181,7 +118,8 @@ module _ (t : Tables) (a : Around) (x : Stmt) (at : ℕ) (init : Option Stmt) (t
       let z : stmt_weight y ≡ stmt_weight body = ap stmt_weight same in
       omega (arith, g, z, d, h)
 
-pub rest_room : (t : Tables) (a : Around) (xs ys : List Stmt) (x : Stmt) (w v : Walk) → ys ≡ x ∷ xs → v ≡ after_listed t a (stmt_seen x) w → HasSlots w.names.slot (body_weight ys) → HasDepths a.depth (body_weight ys) →
+pub rest_room : (t : Tables) (a : Around) (xs ys : List Stmt) (x : Stmt) (w v : Walk) → ys ≡ x ∷ xs → v ≡ after_listed t a (stmt_seen x) w → HasSlots w.names.slot (body_weight ys)
+    → HasDepths a.depth (body_weight ys) →
     HasSlots v.names.slot (body_weight xs) × HasDepths a.depth (body_weight xs)
 rest_room t a xs ys x w v is e h k =
     let g : body_weight ys ≡ stmt_weight x + body_weight xs = ap body_weight is in
@@ -194,24 +132,7 @@ rest_less xs ys x most is h = let g : body_weight ys ≡ stmt_weight x + body_we
 
 -- ---- functions
 
-few_params : (xs : List Param) → length xs ≤ params_weight xs
-few_params [] = omega arith
-few_params (x ∷ xs) = let h = few_params xs in let k = one_param x.is_array in omega (arith, h, k) where
-  one_param : (b : Bool) → 1 ≤ param_weight b
-  one_param true = omega arith
-  one_param false = omega arith
-
-params_slot : (xs : List Param) (n : Names) → (params_named xs n).slot ≡ n.slot + length xs
-params_slot [] n = omega arith
-params_slot (x ∷ xs) n = let h = params_slot xs (param_named x n) in omega (arith, h)
-
 module _ (g : Function) (ps : List Param) (same : ps ≡ g.params) (small : params_weight g.params + body_weight g.body ≤ 1048576) where
-  pub params_slots : (slot : ℕ) → slot ≡ 0 → slot + length ps < 4294967296
-  params_slots slot e =
-      let n : length ps ≡ length g.params = ap length same in
-      let few = few_params g.params in
-      omega (arith, n, few, small, e)
-
   pub body_slots : (body : List Stmt) (w v : Walk) (o : List (List Declaration)) → w.names.slot ≡ 0 → body ≡ g.body → v ≡ after_params ps (walk_of (names_of o w.names.labels w.names.slot) w.seen) →
       HasSlots v.names.slot (body_weight body)
   body_slots body w v o e is ev =

@@ -11,23 +11,27 @@ use Rattle.ac_tree.specs.declared.item.Param.{Param}
 use Rattle.ac_types.specs.declared.around.Around.{Around}
 use Rattle.ac_types.specs.declared.around.Position.{Position}
 use Rattle.ac_types.specs.declared.around.Position.TheVariants as p
-use Rattle.ac_types.specs.declared.numbered.Reached.{Reached}
+use Rattle.ac_reach.specs.declared.reached.Reached.{Reached}
 use Rattle.ac_types.specs.declared.numbered.Tables.{Tables}
-use Rattle.ac_types.specs.declared.past.Past.{Past}
+use Rattle.ac_names.specs.declared.past.Past.{Past}
 use Rattle.ac_types.specs.declared.seen.Seen.{Seen}
-use Rattle.ac_types.specs.declared.walk.Names.{Names}
-use Rattle.ac_types.specs.Scopes.{Declaration, in_scope}
+use Rattle.ac_names.specs.declared.names.Names.{Names}
+use Rattle.ac_names.specs.Scopes.{Declaration, in_scope, in_inner}
 use Rattle.ac_types.specs.Around.{inside_loop, inside_do, inside_async}
-use Rattle.ac_types.specs.Nodes.{Node, noted, seen_all}
-use Rattle.ac_types.specs.Inner.{in_inner}
+use Rattle.ac_types.specs.Nodes.{Node}
+use Rattle.ac_types.specs.inner.Seen.{noted, seen_all, unseen, join_seen, expr_seen, value_seen}
 use Rattle.ac_types.specs.Judged.{once_tests, print_tests, return_tests, async_tests}
-use Rattle.ac_types.specs.Expressions.{plain, one_node, join_nodes, unseen, join_seen, expr_nodes, expr_seen, value_seen, value_all}
-use Rattle.ac_types.specs.Statements.{Named, Part, part_names, part_words, part_gives, SeenPart, stmt_step, stmt_seen, stmt_nodes, bodies, body_gives, some_gives, sum_words, some_words, listed, some_listed, moved, opened, in_do, in_async, declared_at}
-use Rattle.ac_types.specs.Items.{param_named, params_named, function_names, around_of, params_give, params_seen, function_seen, function_nodes, reached_in, item_gives, item_seen, items_give, items_seen, past_after}
+use Rattle.ac_types.specs.Expressions.{plain, one_node, join_nodes, expr_nodes, value_all}
+use Rattle.ac_names.specs.Statements.{Named, part_names, part_words, part_gives, sum_words, some_words, listed, some_listed, moved, opened, in_do, in_async, declared_at}
+use Rattle.ac_types.specs.inner.Statements.{SeenPart, seen_step, stmt_seen, bodies}
+use Rattle.ac_types.specs.Statements.{StmtPart, stmt_step, stmt_nodes, body_gives, some_gives}
+use Rattle.ac_names.specs.Items.{param_named, params_named, function_names, past_after}
+use Rattle.ac_types.specs.Items.{around_of, params_give, function_nodes, reached_in, item_gives, items_give}
+use Rattle.ac_types.specs.inner.Items.{params_seen, function_seen, item_seen, items_seen}
 use Rattle.ac_types.proofs.Agrees.{seen_two, expr_agrees, values_agree, value_agrees}
 
 abbrev pub NodesPart : Type 0
-NodesPart = Part (List Node)
+NodesPart = StmtPart (List Node)
 
 -- a statement as it is seen, and its nodes
 pub record Agree (q : SeenPart) (r : NodesPart) : Type 0 where
@@ -44,7 +48,7 @@ Stmt_ = (x : Stmt) × Claim x
 abbrev stmts_of : List Stmt_ → List Stmt
 stmts_of xs = map (λ x. x.0) xs
 
-listed_same : (q : SeenPart) (r : NodesPart) (a : Around) (n : Names) → Agree q r → listed q a n ≡ listed r a n
+listed_same : (q : SeenPart) (r : NodesPart) (a : Around) (n : Names) → Agree q r → listed q a.depth n ≡ listed r a.depth n
 listed_same q r a n h =
     ap (λ (k : Option Named). record { scopes = declared_at k a.depth n.slot n.scopes; labels = n.labels; slot = n.slot + part_words q }) h.names
     ∙ ap (λ (k : ℕ). record { scopes = declared_at (part_names r) a.depth n.slot n.scopes; labels = n.labels; slot = n.slot + k }) h.words
@@ -60,15 +64,11 @@ body_agrees : (xs : List Stmt_) (t : Tables) (n : Names) (a : Around) (u : Seen)
 body_agrees [] t n a u = refl
 body_agrees (x ∷ xs) t n a u =
     let v = part_gives (stmt_seen x.0) t n a u in
-    seen_two (part_gives (stmt_nodes x.0) t n a) (bodies_nodes (map stmt_nodes (stmts_of xs)) t (listed (stmt_nodes x.0) a n) a) u v
-    (bodies (map stmt_seen (stmts_of xs)) t (listed (stmt_seen x.0) a n) a v) (x.1.gives t n a u)
-    (ap (λ k. bodies (map stmt_seen (stmts_of xs)) t k a v) (listed_same (stmt_seen x.0) (stmt_nodes x.0) a n x.1) ∙ body_agrees xs t (listed (stmt_nodes x.0) a n) a v)
+    seen_two (part_gives (stmt_nodes x.0) t n a) (bodies_nodes (map stmt_nodes (stmts_of xs)) t (listed (stmt_nodes x.0) a.depth n) a) u v
+    (bodies (map stmt_seen (stmts_of xs)) t (listed (stmt_seen x.0) a.depth n) a v) (x.1.gives t n a u)
+    (ap (λ k. bodies (map stmt_seen (stmts_of xs)) t k a v) (listed_same (stmt_seen x.0) (stmt_nodes x.0) a n x.1) ∙ body_agrees xs t (listed (stmt_nodes x.0) a.depth n) a v)
 
 -- ---- parts that may be left out
-
-abbrev first_of_ : Option Stmt_ → Option Stmt
-first_of_ None = None
-first_of_ (Some x) = Some x.0
 
 abbrev some_q : Option Stmt_ → Option SeenPart
 some_q None = None
@@ -88,7 +88,7 @@ some_words_agree : (o : Option Stmt_) → some_words (some_q o) ≡ some_words (
 some_words_agree None = refl
 some_words_agree (Some x) = x.1.words
 
-some_listed_agree : (o : Option Stmt_) (a : Around) (n : Names) → some_listed (some_q o) a n ≡ some_listed (some_r o) a n
+some_listed_agree : (o : Option Stmt_) (a : Around) (n : Names) → some_listed (some_q o) a.depth n ≡ some_listed (some_r o) a.depth n
 some_listed_agree None a n = refl
 some_listed_agree (Some x) a n = listed_same (stmt_seen x.0) (stmt_nodes x.0) a n x.1
 
@@ -105,7 +105,8 @@ if_agrees test body other t n a u =
     let v = expr_seen test t n.scopes a p.Value u in
     let z = part_gives (stmt_seen body.0) t n a v in
     let last = some_gives_r (some_r other) t (moved n (part_words (stmt_nodes body.0))) a in
-    seen_two (expr_nodes test t n.scopes a p.Value) (part_gives (stmt_nodes body.0) t n a ++ last) u v (some_gives_q (some_q other) t (moved n (part_words (stmt_seen body.0))) a z) (expr_agrees test t n.scopes a p.Value u)
+    seen_two (expr_nodes test t n.scopes a p.Value) (part_gives (stmt_nodes body.0) t n a ++ last) u v (some_gives_q (some_q other) t (moved n (part_words (stmt_seen body.0))) a z)
+    (expr_agrees test t n.scopes a p.Value u)
     (seen_two (part_gives (stmt_nodes body.0) t n a) last v z (some_gives_q (some_q other) t (moved n (part_words (stmt_seen body.0))) a z) (body.1.gives t n a v)
     (ap (λ k. some_gives_q (some_q other) t (moved n k) a z) body.1.words ∙ some_agrees other t (moved n (part_words (stmt_nodes body.0))) a z))
 
@@ -113,7 +114,8 @@ while_agrees : (test : Expr) (body : Stmt_) (t : Tables) (n : Names) (a : Around
     part_gives (stmt_seen body.0) t n (inside_loop a) (expr_seen test t n.scopes a p.Value u) ≡ seen_all (expr_nodes test t n.scopes a p.Value ++ part_gives (stmt_nodes body.0) t n (inside_loop a)) u
 while_agrees test body t n a u =
     let v = expr_seen test t n.scopes a p.Value u in
-    seen_two (expr_nodes test t n.scopes a p.Value) (part_gives (stmt_nodes body.0) t n (inside_loop a)) u v (part_gives (stmt_seen body.0) t n (inside_loop a) v) (expr_agrees test t n.scopes a p.Value u) (body.1.gives t n (inside_loop a) v)
+    seen_two (expr_nodes test t n.scopes a p.Value) (part_gives (stmt_nodes body.0) t n (inside_loop a)) u v (part_gives (stmt_seen body.0) t n (inside_loop a) v)
+    (expr_agrees test t n.scopes a p.Value u) (body.1.gives t n (inside_loop a) v)
 
 abbrev value_nodes : Position → Option Expr → Tables → List (List Declaration) → Around → List Node
 value_nodes = value_all (List Node) one_node [] join_nodes
@@ -128,27 +130,26 @@ for_rest_agrees test next body t l a u =
     let v = value_seen p.Value test t l.scopes a u in
     let z = some_gives_q (some_q next) t l a v in
     let last = part_gives (stmt_nodes body.0) t (moved l (some_words (some_r next))) (inside_loop a) in
-    seen_two (value_nodes p.Value test t l.scopes a) (some_gives_r (some_r next) t l a ++ last) u v (for_rest test next body t l (some_words (some_q next)) a u) (value_agrees p.Value test t l.scopes a u)
+    seen_two (value_nodes p.Value test t l.scopes a) (some_gives_r (some_r next) t l a ++ last) u v (for_rest test next body t l (some_words (some_q next)) a u)
+    (value_agrees p.Value test t l.scopes a u)
     (seen_two (some_gives_r (some_r next) t l a) last v z (for_rest test next body t l (some_words (some_q next)) a u) (some_agrees next t l a v)
     (ap (λ k. part_gives (stmt_seen body.0) t (moved l k) (inside_loop a) z) (some_words_agree next) ∙ body.1.gives t (moved l (some_words (some_r next))) (inside_loop a) z))
 
 for_agrees : (init : Option Stmt_) (test : Option Expr) (next : Option Stmt_) (body : Stmt_) (t : Tables) (n : Names) (a : Around) (u : Seen) →
-    for_rest test next body t (some_listed (some_q init) a n) (some_words (some_q next)) a (some_gives_q (some_q init) t n a u)
-    ≡ seen_all (some_gives_r (some_r init) t n a ++ (value_nodes p.Value test t (some_listed (some_r init) a n).scopes a
-    ++ (some_gives_r (some_r next) t (some_listed (some_r init) a n) a ++ part_gives (stmt_nodes body.0) t (moved (some_listed (some_r init) a n) (some_words (some_r next))) (inside_loop a)))) u
+    for_rest test next body t (some_listed (some_q init) a.depth n) (some_words (some_q next)) a (some_gives_q (some_q init) t n a u)
+    ≡ seen_all (some_gives_r (some_r init) t n a ++ (value_nodes p.Value test t (some_listed (some_r init) a.depth n).scopes a
+    ++ (some_gives_r (some_r next) t (some_listed (some_r init) a.depth n) a
+    ++ part_gives (stmt_nodes body.0) t (moved (some_listed (some_r init) a.depth n) (some_words (some_r next))) (inside_loop a)))) u
 for_agrees init test next body t n a u =
-    let l = some_listed (some_r init) a n in
+    let l = some_listed (some_r init) a.depth n in
     let v = some_gives_q (some_q init) t n a u in
     seen_two (some_gives_r (some_r init) t n a)
     (value_nodes p.Value test t l.scopes a ++ (some_gives_r (some_r next) t l a ++ part_gives (stmt_nodes body.0) t (moved l (some_words (some_r next))) (inside_loop a)))
-    u v (for_rest test next body t (some_listed (some_q init) a n) (some_words (some_q next)) a v) (some_agrees init t n a u)
+    u v (for_rest test next body t (some_listed (some_q init) a.depth n) (some_words (some_q next)) a v) (some_agrees init t n a u)
     (ap (λ k. for_rest test next body t k (some_words (some_q next)) a v) (some_listed_agree init a n) ∙ for_rest_agrees test next body t l a v)
 
 add_same : (a b c d : ℕ) → a ≡ b → c ≡ d → a + c ≡ b + d
 add_same a b c d e f = ap (λ k. k + c) e ∙ ap (λ k. b + k) f
-
-abbrev seen_step : Stmt-F SeenPart → SeenPart
-seen_step = stmt_step (Seen → Seen) noted unseen join_seen
 
 abbrev node_step : Stmt-F NodesPart → NodesPart
 node_step = stmt_step (List Node) one_node [] join_nodes
@@ -162,14 +163,32 @@ nodes_layer y = node_step (map-Stmt Stmt NodesPart stmt_nodes (map-Stmt Stmt_ St
 assign_agrees : (place value : Expr) (t : Tables) (n : Names) (a : Around) (u : Seen) →
     expr_seen value t n.scopes a p.Whole (expr_seen place t n.scopes a p.Value u) ≡ seen_all (expr_nodes place t n.scopes a p.Value ++ expr_nodes value t n.scopes a p.Whole) u
 assign_agrees place value t n a u =
-    seen_two (expr_nodes place t n.scopes a p.Value) (expr_nodes value t n.scopes a p.Whole) u (expr_seen place t n.scopes a p.Value u) (expr_seen value t n.scopes a p.Whole (expr_seen place t n.scopes a p.Value u))
+    seen_two (expr_nodes place t n.scopes a p.Value) (expr_nodes value t n.scopes a p.Whole) u (expr_seen place t n.scopes a p.Value u)
+    (expr_seen value t n.scopes a p.Whole (expr_seen place t n.scopes a p.Value u))
     (expr_agrees place t n.scopes a p.Value u) (expr_agrees value t n.scopes a p.Whole (expr_seen place t n.scopes a p.Value u))
 
-for_layer : (at : ℕ) (init : Option Stmt_) (test : Option Expr) (next : Option Stmt_) (body : Stmt_) → Agree (seen_layer (Stmt-F.For at init test next body)) (nodes_layer (Stmt-F.For at init test next body))
+for_layer : (at : ℕ) (init : Option Stmt_) (test : Option Expr) (next : Option Stmt_) (body : Stmt_)
+    → Agree (seen_layer (Stmt-F.For at init test next body)) (nodes_layer (Stmt-F.For at init test next body))
 for_layer at None test None body = record { names = refl; words = ap (λ k. 0 + k) body.1.words; gives = λ t n a u. for_agrees None test None body t (opened n) a (noted (plain at []) u) }
-for_layer at None test (Some y) body = record { names = refl; words = add_same (0 + part_words (stmt_seen y.0)) (0 + part_words (stmt_nodes y.0)) (part_words (stmt_seen body.0)) (part_words (stmt_nodes body.0)) (ap (λ k. 0 + k) y.1.words) body.1.words; gives = λ t n a u. for_agrees None test (Some y) body t (opened n) a (noted (plain at []) u) }
-for_layer at (Some x) test None body = record { names = refl; words = add_same (part_words (stmt_seen x.0) + 0) (part_words (stmt_nodes x.0) + 0) (part_words (stmt_seen body.0)) (part_words (stmt_nodes body.0)) (ap (λ k. k + 0) x.1.words) body.1.words; gives = λ t n a u. for_agrees (Some x) test None body t (opened n) a (noted (plain at []) u) }
-for_layer at (Some x) test (Some y) body = record { names = refl; words = add_same (part_words (stmt_seen x.0) + part_words (stmt_seen y.0)) (part_words (stmt_nodes x.0) + part_words (stmt_nodes y.0)) (part_words (stmt_seen body.0)) (part_words (stmt_nodes body.0)) (add_same _ _ _ _ x.1.words y.1.words) body.1.words; gives = λ t n a u. for_agrees (Some x) test (Some y) body t (opened n) a (noted (plain at []) u) }
+for_layer at None test (Some y) body = record {
+  names = refl;
+  words = add_same (0 + part_words (stmt_seen y.0)) (0 + part_words (stmt_nodes y.0)) (part_words (stmt_seen body.0))
+      (part_words (stmt_nodes body.0)) (ap (λ k. 0 + k) y.1.words) body.1.words;
+  gives = λ t n a u. for_agrees None test (Some y) body t (opened n) a (noted (plain at []) u);
+}
+for_layer at (Some x) test None body = record {
+  names = refl;
+  words = add_same (part_words (stmt_seen x.0) + 0) (part_words (stmt_nodes x.0) + 0) (part_words (stmt_seen body.0))
+      (part_words (stmt_nodes body.0)) (ap (λ k. k + 0) x.1.words) body.1.words;
+  gives = λ t n a u. for_agrees (Some x) test None body t (opened n) a (noted (plain at []) u);
+}
+for_layer at (Some x) test (Some y) body = record {
+  names = refl;
+  words =
+      add_same (part_words (stmt_seen x.0) + part_words (stmt_seen y.0)) (part_words (stmt_nodes x.0) + part_words (stmt_nodes y.0)) (part_words (stmt_seen body.0)) (part_words (stmt_nodes body.0))
+      (add_same _ _ _ _ x.1.words y.1.words) body.1.words;
+  gives = λ t n a u. for_agrees (Some x) test (Some y) body t (opened n) a (noted (plain at []) u);
+}
 
 layer : (y : Stmt-F Stmt_) → Agree (seen_layer y) (nodes_layer y)
 layer (Stmt-F.Block at body) = record { names = refl; words = sum_agrees body; gives = λ t n a u. body_agrees body t (opened n) a (noted (plain at []) u) }
@@ -186,7 +205,11 @@ layer (Stmt-F.For at init test next body) = for_layer at init test next body
 layer (Stmt-F.Break at) = record { names = refl; words = refl; gives = λ t n a u. refl }
 layer (Stmt-F.Continue at) = record { names = refl; words = refl; gives = λ t n a u. refl }
 layer (Stmt-F.Return at value) = record { names = refl; words = refl; gives = λ t n a u. value_agrees p.Whole value t n.scopes a (noted (plain at (return_tests a (is_some value))) u) }
-layer (Stmt-F.Do at label body) = record { names = refl; words = ap (λ k. 1 + k) (sum_agrees body); gives = λ t n a u. body_agrees body t (opened (in_do label a.depth n)) (inside_do a) (noted (plain at (async_tests a)) u) }
+layer (Stmt-F.Do at label body) = record {
+  names = refl;
+  words = ap (λ k. 1 + k) (sum_agrees body);
+  gives = λ t n a u. body_agrees body t (opened (in_do label a.depth n)) (inside_do a) (noted (plain at (async_tests a)) u);
+}
 layer (Stmt-F.Async at body) = record { names = refl; words = refl; gives = λ t n a u. body.1.gives t (in_async n) (inside_async a) _ }
 layer (Stmt-F.Cancel at label) = record { names = refl; words = refl; gives = λ t n a u. refl }
 layer (Stmt-F.Yield at) = record { names = refl; words = refl; gives = λ t n a u. refl }
@@ -212,9 +235,9 @@ whole_body : (xs : List Stmt) (t : Tables) (n : Names) (a : Around) (u : Seen) �
 whole_body [] t n a u = refl
 whole_body (x ∷ xs) t n a u =
     let v = part_gives (stmt_seen x) t n a u in
-    seen_two (part_gives (stmt_nodes x) t n a) (bodies_nodes (map stmt_nodes xs) t (listed (stmt_nodes x) a n) a) u v
-    (bodies (map stmt_seen xs) t (listed (stmt_seen x) a n) a v) ((stmt_agrees x).gives t n a u)
-    (ap (λ k. bodies (map stmt_seen xs) t k a v) (listed_same (stmt_seen x) (stmt_nodes x) a n (stmt_agrees x)) ∙ whole_body xs t (listed (stmt_nodes x) a n) a v)
+    seen_two (part_gives (stmt_nodes x) t n a) (bodies_nodes (map stmt_nodes xs) t (listed (stmt_nodes x) a.depth n) a) u v
+    (bodies (map stmt_seen xs) t (listed (stmt_seen x) a.depth n) a v) ((stmt_agrees x).gives t n a u)
+    (ap (λ k. bodies (map stmt_seen xs) t k a v) (listed_same (stmt_seen x) (stmt_nodes x) a n (stmt_agrees x)) ∙ whole_body xs t (listed (stmt_nodes x) a.depth n) a v)
 
 params_agree : (xs : List Param) (n : Names) (u : Seen) → params_seen xs n u ≡ seen_all (params_give (List Node) one_node [] join_nodes xs n) u
 params_agree [] n u = refl
@@ -243,4 +266,5 @@ item_agrees q (i.Core at name entry) t s u = refl
 pub items_agree : (q : Past) (xs : List Item) (t : Tables) (s : List (List Declaration)) (u : Seen) → items_seen q xs t s u ≡ seen_all (items_nodes q xs t s) u
 items_agree q [] t s u = refl
 items_agree q (x ∷ xs) t s u =
-    seen_two (item_nodes q x t s) (items_nodes (past_after q x) xs t s) u (item_seen q x t s u) (items_seen (past_after q x) xs t s (item_seen q x t s u)) (item_agrees q x t s u) (items_agree (past_after q x) xs t s (item_seen q x t s u))
+    seen_two (item_nodes q x t s) (items_nodes (past_after q x) xs t s) u (item_seen q x t s u) (items_seen (past_after q x) xs t s (item_seen q x t s u)) (item_agrees q x t s u)
+    (items_agree (past_after q x) xs t s (item_seen q x t s u))

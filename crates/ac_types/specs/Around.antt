@@ -3,9 +3,9 @@ use Rattle.std.specs.Prelude.{ℕ, ◌+◌, Option, Some, None, Bool, true, fals
 use Rattle.ac_types.specs.declared.around.Around.{Around}
 use Rattle.ac_types.specs.declared.around.Position.{Position}
 use Rattle.ac_types.specs.declared.around.Position.TheVariants as p
-use Rattle.ac_types.specs.declared.numbered.Reached.{Reached}
-use Rattle.ac_types.specs.declared.numbered.Reached.TheVariants as r
-use Rattle.ac_types.specs.Kinds.{either}
+use Rattle.ac_reach.specs.declared.reached.Reached.{Reached}
+use Rattle.ac_reach.specs.declared.reached.Reached.TheVariants as r
+use Rattle.ac_names.specs.Kinds.{either}
 
 abbrev pub is_array_position : Position → Bool
 is_array_position p.Array = true

@@ -6,15 +6,15 @@ use Rattle.ac_tree.specs.declared.expr.Expr.TheOpen.{Expr-F, Link-F}
 use Rattle.ac_types.specs.declared.around.Around.{Around}
 use Rattle.ac_types.specs.declared.around.Position.{Position}
 use Rattle.ac_types.specs.declared.around.Position.TheVariants as p
-use Rattle.ac_types.specs.declared.meaning.Meaning.{Meaning}
+use Rattle.ac_names.specs.declared.meaning.Meaning.{Meaning}
 use Rattle.ac_types.specs.declared.numbered.Callee.{Callee}
 use Rattle.ac_types.specs.declared.numbered.Tables.{Tables}
-use Rattle.ac_types.specs.declared.seen.Seen.{Seen}
-use Rattle.ac_types.specs.Scopes.{Declaration, visible}
+use Rattle.ac_names.specs.Scopes.{Declaration, visible}
 use Rattle.ac_types.specs.Around.{position_of}
 use Rattle.ac_types.specs.Tables.{callee, takes_array, ends_named}
-use Rattle.ac_types.specs.Nodes.{Node, noted}
-use Rattle.ac_types.specs.Judged.{Tests, value_tests, name_tests, index_tests, call_tests, sends_away, takes_away, channel_tests, file_tests}
+use Rattle.ac_types.specs.Nodes.{Node}
+use Rattle.ac_types.specs.Judged.{Tests, value_tests, name_tests, index_tests, call_tests}
+use Rattle.ac_types.specs.Judged.{sends_away, takes_away, channel_tests, file_tests}
 
 abbrev pub plain : ℕ → Tests → Node
 plain at tests = record { at = at; tests = tests; calls = None }
@@ -41,7 +41,8 @@ module _ (X : Type 0) (one : Node → X) (none : X) (join : X → X → X) where
   -- the arguments from a number on, by what the called name means
   abbrev pub args_step : Option Meaning → ℕ → List ExprPart → Tables → List (List Declaration) → Around → X
   args_step meaning number [] t s a = none
-  args_step meaning number (x ∷ xs) t s a = join (x t s a (position_of (takes_array t meaning number))) (args_step meaning (number + 1) xs t s a)
+  args_step meaning number (x ∷ xs) t s a = join (x t s a (position_of (takes_array t meaning number)))
+      (args_step meaning (number + 1) xs t s a)
 
   -- a link is no node: its operand is
   abbrev pub expr_step : Expr-F ExprPart ExprPart → ExprPart
@@ -51,12 +52,20 @@ module _ (X : Type 0) (one : Node → X) (none : X) (join : X → X → X) where
   expr_step (Expr-F.Index at name index) t s a w = join (one (plain at (index_tests (visible name s) w))) (index t s a p.Value)
   expr_step (Expr-F.Group at inner) t s a w = join (one (plain at (value_tests w))) (inner t s a p.Value)
   expr_step (Expr-F.Unary at op inner) t s a w = join (one (plain at (value_tests w))) (inner t s a p.Value)
-  expr_step (Expr-F.Chain at level first rest) t s a w = join (one (plain at (value_tests w))) (join (first t s a p.Value) (links_step rest t s a))
-  expr_step (Expr-F.Call at name args) t s a w = join (one (call_node at (visible name s) (callee t (visible name s)) (length args) a w)) (args_step (visible name s) 0 args t s a)
-  expr_step (Expr-F.Send at channel value) t s a w = join (one (plain at (channel_tests (visible channel s) (sends_away a.reached (ends_named t (visible channel s))) a w))) (value t s a p.Value)
-  expr_step (Expr-F.Recv at channel place) t s a w = join (one (plain at (channel_tests (visible channel s) (takes_away a.reached (ends_named t (visible channel s))) a w))) (place t s a p.Value)
-  expr_step (Expr-F.Read at file from len array) t s a w = join (one (plain at (file_tests (visible file s) (visible array s) a w))) (join (from t s a p.Value) (len t s a p.Value))
-  expr_step (Expr-F.Write at file from len array) t s a w = join (one (plain at (file_tests (visible file s) (visible array s) a w))) (join (from t s a p.Value) (len t s a p.Value))
+  expr_step (Expr-F.Chain at level first rest) t s a w =
+      join (one (plain at (value_tests w))) (join (first t s a p.Value) (links_step rest t s a))
+  expr_step (Expr-F.Call at name args) t s a w = join (one (call_node at (visible name s) (callee t (visible name s)) (length args) a w))
+      (args_step (visible name s) 0 args t s a)
+  expr_step (Expr-F.Send at channel value) t s a w =
+      join (one (plain at (channel_tests (visible channel s) (sends_away a.reached (ends_named t (visible channel s))) a w)))
+      (value t s a p.Value)
+  expr_step (Expr-F.Recv at channel place) t s a w =
+      join (one (plain at (channel_tests (visible channel s) (takes_away a.reached (ends_named t (visible channel s))) a w)))
+      (place t s a p.Value)
+  expr_step (Expr-F.Read at file from len array) t s a w =
+      join (one (plain at (file_tests (visible file s) (visible array s) a w))) (join (from t s a p.Value) (len t s a p.Value))
+  expr_step (Expr-F.Write at file from len array) t s a w =
+      join (one (plain at (file_tests (visible file s) (visible array s) a w))) (join (from t s a p.Value) (len t s a p.Value))
 
   abbrev pub link_step : Link-F ExprPart ExprPart → ExprPart
   link_step link t s a w = link.operand t s a w
@@ -93,26 +102,3 @@ join_nodes xs ys = xs ++ ys
 
 abbrev pub expr_nodes : Expr → ExprPart (List Node) one_node [] join_nodes
 expr_nodes = expr_all (List Node) one_node [] join_nodes
-
--- ---- with what is seen after them, by what was seen before
-
-abbrev pub unseen : Seen → Seen
-unseen seen = seen
-
-abbrev pub join_seen : (Seen → Seen) → (Seen → Seen) → Seen → Seen
-join_seen f g seen = g (f seen)
-
-abbrev pub expr_seen : Expr → Tables → List (List Declaration) → Around → Position → Seen → Seen
-expr_seen = expr_all (Seen → Seen) noted unseen join_seen
-
-abbrev pub links_seen : List Link → Tables → List (List Declaration) → Around → Seen → Seen
-links_seen = links_all (Seen → Seen) noted unseen join_seen
-
-abbrev pub args_seen : Option Meaning → ℕ → List Expr → Tables → List (List Declaration) → Around → Seen → Seen
-args_seen = args_all (Seen → Seen) noted unseen join_seen
-
-abbrev pub values_seen : List Expr → Tables → List (List Declaration) → Around → Seen → Seen
-values_seen = values_all (Seen → Seen) noted unseen join_seen
-
-abbrev pub value_seen : Position → Option Expr → Tables → List (List Declaration) → Around → Seen → Seen
-value_seen = value_all (Seen → Seen) noted unseen join_seen

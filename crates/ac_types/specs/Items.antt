@@ -1,92 +1,33 @@
--- The nodes of a program in preorder, the names of its top level, and what stands in its tables.
-use Rattle.std.specs.Prelude.{ℕ, ℤ, pos, negsuc, ◌+◌, List, [], ◌∷◌, map, slice_get, Option, None, Some, Bool, true, false, not, nat_eq, nat_lt, nat_le}
+-- The nodes of a program in preorder, and what stands in its tables.
+use Rattle.std.specs.Prelude.{ℕ, ℤ, pos, negsuc, List, [], ◌∷◌, map, slice_get, Option}
+use Rattle.std.specs.Prelude.{None, Some, Bool, false, not, nat_eq, nat_lt, nat_le}
 use Rattle.ac_tree.specs.declared.item.Item.{Item}
 use Rattle.ac_tree.specs.declared.item.Item.TheVariants as i
 use Rattle.ac_tree.specs.declared.item.Function.{Function}
 use Rattle.ac_tree.specs.declared.item.Param.{Param}
 use Rattle.ac_types.specs.declared.around.Around.{Around}
-use Rattle.ac_types.specs.declared.kind.Kind.TheVariants as k
-use Rattle.ac_types.specs.declared.meaning.Meaning.{Meaning}
-use Rattle.ac_types.specs.declared.meaning.Meaning.TheVariants as m
+use Rattle.ac_types.specs.declared.rule.Rule.TheVariants as rule
+use Rattle.ac_names.specs.declared.kind.Kind.TheVariants as k
+use Rattle.ac_names.specs.declared.meaning.Meaning.{Meaning}
+use Rattle.ac_names.specs.declared.meaning.Meaning.TheVariants as m
 use Rattle.ac_types.specs.declared.numbered.Callee.{Callee}
 use Rattle.ac_types.specs.declared.numbered.Signature.{Signature}
 use Rattle.ac_types.specs.declared.numbered.Ends.{Ends}
-use Rattle.ac_types.specs.declared.numbered.Reached.{Reached}
-use Rattle.ac_types.specs.declared.numbered.Reached.TheVariants as r
+use Rattle.ac_reach.specs.declared.reached.Reached.{Reached}
+use Rattle.ac_reach.specs.declared.reached.Reached.TheVariants as r
 use Rattle.ac_types.specs.declared.numbered.Tables.{Tables}
-use Rattle.ac_types.specs.declared.past.Counts.{Counts}
-use Rattle.ac_types.specs.declared.past.Past.{Past}
-use Rattle.ac_types.specs.declared.seen.Seen.{Seen}
-use Rattle.ac_types.specs.declared.walk.Names.{Names}
-use Rattle.ac_types.specs.Scopes.{Declaration, in_scope, visible, declared, added}
-use Rattle.ac_types.specs.Inner.{in_inner}
-use Rattle.ac_types.specs.Kinds.{is_other, is_undeclared, is_declared, either, both}
+use Rattle.ac_names.specs.declared.past.Past.{Past}
+use Rattle.ac_names.specs.declared.names.Names.{Names}
+use Rattle.ac_names.specs.Scopes.{Declaration, in_scope, visible, in_inner}
+use Rattle.ac_names.specs.Kinds.{is_other, is_undeclared, is_declared, either, both}
 use Rattle.ac_types.specs.Tables.{callee}
-use Rattle.ac_types.specs.Nodes.{Node, noted}
+use Rattle.ac_types.specs.Nodes.{Node}
 use Rattle.ac_types.specs.Judged.{Tests, once_tests, array_tests}
-use Rattle.ac_types.specs.Expressions.{plain, one_node, join_nodes, unseen, join_seen}
-use Rattle.ac_types.specs.Statements.{array_len, body_gives, stmt_all}
-
--- ---- the top level, whose names are visible in the whole text
-
-abbrev pub item_name : Item → List ℕ
-item_name (i.Global at name size value) = name
-item_name (i.Function f) = f.name
-item_name (i.Channel at name from to cap) = name
-item_name (i.File at name path) = name
-item_name (i.Core at name entry) = name
-
-abbrev pub global_at : Option ℤ → ℕ → Meaning
-global_at None slot = m.Global slot
-global_at (Some size) slot = m.GlobalArray slot (array_len size)
-
-abbrev pub global_slots : Option ℤ → ℕ
-global_slots None = 1
-global_slots (Some size) = array_len size
-
--- what an item means, by the numbers that are given before it
-abbrev pub item_meaning : Counts → Item → Meaning
-item_meaning c (i.Global at name size value) = global_at size c.slots
-item_meaning c (i.Function f) = m.Function c.functions
-item_meaning c (i.Channel at name from to cap) = m.Channel c.channels
-item_meaning c (i.File at name path) = m.File c.files
-item_meaning c (i.Core at name entry) = m.Core c.cores
-
-abbrev pub counted : Counts → Item → Counts
-counted c (i.Global at name size value) = record { cores = c.cores; functions = c.functions; channels = c.channels; files = c.files; slots = c.slots + global_slots size }
-counted c (i.Function f) = record { cores = c.cores; functions = c.functions + 1; channels = c.channels; files = c.files; slots = c.slots }
-counted c (i.Channel at name from to cap) = record { cores = c.cores; functions = c.functions; channels = c.channels + 1; files = c.files; slots = c.slots }
-counted c (i.File at name path) = record { cores = c.cores; functions = c.functions; channels = c.channels; files = c.files + 1; slots = c.slots }
-counted c (i.Core at name entry) = record { cores = c.cores + 1; functions = c.functions; channels = c.channels; files = c.files; slots = c.slots }
-
-abbrev pub paths_with : ℕ → Item → List Declaration → List Declaration
-paths_with number (i.File at name path) paths = added path (m.File number) paths
-paths_with number _ paths = paths
-
--- what is known of the items before a place, after one item more
-abbrev pub past_after : Past → Item → Past
-past_after p x = record { counts = counted p.counts x; names = added (item_name x) (item_meaning p.counts x) p.names; paths = paths_with p.counts.files x p.paths }
-
-abbrev pub past_all : Past → List Item → Past
-past_all p [] = p
-past_all p (x ∷ xs) = past_all (past_after p x) xs
-
-abbrev pub no_past : Past
-no_past = record { counts = record { cores = 0; functions = 0; channels = 0; files = 0; slots = 0 }; names = []; paths = [] }
-
-abbrev pub whole : List Item → Past
-whole items = past_all no_past items
-
--- the scopes round an item
-abbrev pub outermost : List Item → List (List Declaration)
-outermost items = (whole items).names ∷ []
+use Rattle.ac_types.specs.Expressions.{plain, one_node, join_nodes}
+use Rattle.ac_names.specs.Items.{no_past, past_after, whole, outermost, kinds_in, param_named, params_named, function_names}
+use Rattle.ac_types.specs.Statements.{body_gives, stmt_all}
 
 -- ---- tables
-
--- whether each parameter is an array
-abbrev pub kinds_in : List Param → List Bool
-kinds_in [] = []
-kinds_in (x ∷ xs) = x.is_array ∷ kinds_in xs
 
 abbrev pub signature_of : Function → Signature
 signature_of f = record { is_async = f.is_async; gives_int = f.gives_int; params = kinds_in f.params }
@@ -133,44 +74,41 @@ is_same_core _ _ = false
 -- a channel between what two names mean, with so many channels before it
 abbrev pub link_tests : Option Meaning → Option Meaning → Option Meaning → ℤ → ℕ → Tests
 link_tests before from to cap channels =
-    (1, is_declared before)
-    ∷ (2, either (is_undeclared from) (is_undeclared to))
-    ∷ (4, either (is_other k.Core from) (is_other k.Core to))
-    ∷ (14, either (is_same_core from to) (either (not (is_capacity cap)) (nat_le 64 channels))) ∷ []
+    (rule.DeclaredOnce, is_declared before)
+    ∷ (rule.NameIsDeclared, either (is_undeclared from) (is_undeclared to))
+    ∷ (rule.NameFitsItsPlace, either (is_other k.Core from) (is_other k.Core to))
+    ∷ (rule.ChannelIsAllowed, either (is_same_core from to) (either (not (is_capacity cap)) (nat_le 64 channels))) ∷ []
 
 -- a file with so many before it, by whether one of them has its path
 abbrev pub path_tests : Option Meaning → ℕ → Option Meaning → Tests
-path_tests before files same = (1, is_declared before) ∷ (17, either (nat_le 16 files) (is_declared same)) ∷ []
+path_tests before files same =
+    (rule.DeclaredOnce, is_declared before) ∷ (rule.FileIsAllowed, either (nat_le 16 files) (is_declared same)) ∷ []
 
 abbrev pub is_no_entry : Option Callee → Bool
 is_no_entry None = false
 is_no_entry (Some f) = either (not f.is_async) (not (nat_eq f.params 0))
 
 abbrev pub core_tests : Option Meaning → Option Meaning → Option Callee → Tests
-core_tests before entry f = (1, is_declared before) ∷ (2, is_undeclared entry) ∷ (4, is_other k.Function entry) ∷ (10, is_no_entry f) ∷ []
+core_tests before entry f =
+    (rule.DeclaredOnce, is_declared before)
+    ∷ (rule.NameIsDeclared, is_undeclared entry)
+    ∷ (rule.NameFitsItsPlace, is_other k.Function entry)
+    ∷ (rule.EntryIsAsyncWithoutParameters, is_no_entry f) ∷ []
 
 abbrev pub program_tests : ℕ → Tests
-program_tests cores = (15, either (nat_eq cores 0) (nat_lt 16 cores)) ∷ []
+program_tests cores = (rule.NumberOfCoresIsAllowed, either (nat_eq cores 0) (nat_lt 16 cores)) ∷ []
 
 -- ---- functions
 
-abbrev pub param_at : Bool → ℕ → Meaning
-param_at true slot = m.ArrayParam slot
-param_at false slot = m.Local 0 slot
-
-abbrev pub param_named : Param → Names → Names
-param_named x n = record { scopes = declared x.name (param_at x.is_array n.slot) n.scopes; labels = n.labels; slot = n.slot + 1 }
-
-abbrev pub params_named : List Param → Names → Names
-params_named [] n = n
-params_named (x ∷ xs) n = params_named xs (param_named x n)
-
--- the parameters of a function and the declarations directly in its body have one scope
-abbrev pub function_names : List (List Declaration) → Names
-function_names scopes = record { scopes = [] ∷ scopes; labels = []; slot = 0 }
-
 abbrev pub around_of : Function → Reached → Around
-around_of f reached = record { is_async = f.is_async; gives_int = f.gives_int; depth = 0; in_do = false; in_loop = false; reached = reached }
+around_of f reached = record {
+  is_async = f.is_async;
+  gives_int = f.gives_int;
+  depth = 0;
+  in_do = false;
+  in_loop = false;
+  reached = reached;
+}
 
 module _ (X : Type 0) (one : Node → X) (none : X) (join : X → X → X) where
   abbrev pub params_give : List Param → Names → X
@@ -181,21 +119,26 @@ module _ (X : Type 0) (one : Node → X) (none : X) (join : X → X → X) where
   abbrev pub function_gives : Function → Tables → List (List Declaration) → Reached → X
   function_gives f t scopes reached =
       join (params_give f.params (function_names scopes))
-      (body_gives X one none join (map (stmt_all X one none join) f.body) t (params_named f.params (function_names scopes)) (around_of f reached))
+      (body_gives X one none join (map (stmt_all X one none join) f.body) t (params_named f.params (function_names scopes))
+      (around_of f reached))
 
   abbrev pub item_gives : Past → Item → Tables → List (List Declaration) → X
   item_gives p (i.Global at name size value) t scopes = one (plain at (global_tests (in_scope name p.names) size))
-  item_gives p (i.Function f) t scopes = join (one (plain f.at (once_tests (in_scope f.name p.names)))) (function_gives f t scopes (reached_in (slice_get t.reached p.counts.functions)))
-  item_gives p (i.Channel at name from to cap) t scopes = one (plain at (link_tests (in_scope name p.names) (visible from scopes) (visible to scopes) cap p.counts.channels))
+  item_gives p (i.Function f) t scopes = join (one (plain f.at (once_tests (in_scope f.name p.names))))
+      (function_gives f t scopes (reached_in (slice_get t.reached p.counts.functions)))
+  item_gives p (i.Channel at name from to cap) t scopes =
+      one (plain at (link_tests (in_scope name p.names) (visible from scopes) (visible to scopes) cap p.counts.channels))
   item_gives p (i.File at name path) t scopes = one (plain at (path_tests (in_scope name p.names) p.counts.files (in_scope path p.paths)))
-  item_gives p (i.Core at name entry) t scopes = one (plain at (core_tests (in_scope name p.names) (visible entry scopes) (callee t (visible entry scopes))))
+  item_gives p (i.Core at name entry) t scopes = one
+      (plain at (core_tests (in_scope name p.names) (visible entry scopes) (callee t (visible entry scopes))))
 
   abbrev pub items_give : Past → List Item → Tables → List (List Declaration) → X
   items_give p [] t scopes = none
   items_give p (x ∷ xs) t scopes = join (item_gives p x t scopes) (items_give (past_after p x) xs t scopes)
 
   abbrev pub program_gives : List Item → List Reached → X
-  program_gives items reached = join (one (plain 0 (program_tests (whole items).counts.cores))) (items_give no_past items (tables_of items reached) (outermost items))
+  program_gives items reached = join (one (plain 0 (program_tests (whole items).counts.cores)))
+      (items_give no_past items (tables_of items reached) (outermost items))
 
 -- ---- with lists of nodes
 
@@ -209,20 +152,3 @@ program_nodes = program_gives (List Node) one_node [] join_nodes
 -- those after the program's own
 abbrev pub items_nodes : List Item → List Reached → List Node
 items_nodes items reached = items_give (List Node) one_node [] join_nodes no_past items (tables_of items reached) (outermost items)
-
--- ---- with what is seen after them, by what was seen before
-
-abbrev pub params_seen : List Param → Names → Seen → Seen
-params_seen = params_give (Seen → Seen) noted unseen join_seen
-
-abbrev pub function_seen : Function → Tables → List (List Declaration) → Reached → Seen → Seen
-function_seen = function_gives (Seen → Seen) noted unseen join_seen
-
-abbrev pub item_seen : Past → Item → Tables → List (List Declaration) → Seen → Seen
-item_seen = item_gives (Seen → Seen) noted unseen join_seen
-
-abbrev pub items_seen : Past → List Item → Tables → List (List Declaration) → Seen → Seen
-items_seen = items_give (Seen → Seen) noted unseen join_seen
-
-abbrev pub program_seen : List Item → List Reached → Seen → Seen
-program_seen = program_gives (Seen → Seen) noted unseen join_seen

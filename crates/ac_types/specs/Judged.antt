@@ -1,42 +1,27 @@
 -- The rules that each form of node is judged by, with whether it breaks them.
---     1    a name is declared twice in one scope
---     2    a name is used where no declaration of it is visible
---     3    a call has not as many arguments as its function has parameters
---     4    a name means something else than its place needs
---     5    a function that is not async calls an async one
---     6    an operation, a `do`, an `async`, a `cancel` or a `yield` stands in a function that is not async
---     7    an `async` stands in no `do` of its function
---     8    a `cancel` stands in no `do` of its function with that label
---     9    a `return` stands in a `do` or an async body; a `break` or a `continue` in no loop, or a `do` or an async body is between
---     10   the entry of a core is not async or has parameters
---     11   a core that is not that end of the channel reaches a Send or a Recv
---     12   the value of a call of a void function is used; a `return` gives an int in a void function, or none in an int function
---     13   the size of an array is not 1 to 4096
---     14   the cores of a channel are the same, its capacity is not 1 to 64, or there are 64 channels before it
---     15   there are not 1 to 16 cores
---     16   a `%` of a format begins none of `%d`, `%c` and `%%`, or the arguments are not as many as its `%d` and `%c`
---     17   there are 16 files before a file, or one of the same path
---     18   a call or an operation is not a statement, or whole on the right side of an assignment, in an initialiser or in a `return`
-use Rattle.std.specs.Prelude.{ℕ, ℤ, pos, negsuc, ◌+◌, List, [], ◌∷◌, Option, Some, None, Bool, true, false, not, nat_eq, nat_le, if◌then◌else◌}
+use Rattle.std.specs.Prelude.{ℕ, ℤ, pos, negsuc, ◌+◌, List, [], ◌∷◌, Option, Some, None}
+use Rattle.std.specs.Prelude.{Bool, true, false, not, nat_eq, nat_le, if◌then◌else◌}
 use Rattle.ac_types.specs.declared.around.Around.{Around}
 use Rattle.ac_types.specs.declared.around.Position.{Position}
 use Rattle.ac_types.specs.declared.around.Position.TheVariants as p
-use Rattle.ac_types.specs.declared.kind.Kind.TheVariants as k
-use Rattle.ac_types.specs.declared.meaning.Meaning.{Meaning}
+use Rattle.ac_types.specs.declared.rule.Rule.{Rule}
+use Rattle.ac_types.specs.declared.rule.Rule.TheVariants as rule
+use Rattle.ac_names.specs.declared.kind.Kind.TheVariants as k
+use Rattle.ac_names.specs.declared.meaning.Meaning.{Meaning}
 use Rattle.ac_types.specs.declared.numbered.Callee.{Callee}
 use Rattle.ac_types.specs.declared.numbered.Ends.{Ends}
-use Rattle.ac_types.specs.declared.numbered.Reached.{Reached}
-use Rattle.ac_types.specs.Kinds.{is_other, is_undeclared, is_declared, either, both}
+use Rattle.ac_reach.specs.declared.reached.Reached.{Reached}
+use Rattle.ac_names.specs.Kinds.{is_other, is_undeclared, is_declared, either, both}
 use Rattle.ac_types.specs.Around.{is_array_position, is_used, is_partial, is_closed, is_reached_by_another}
 
 abbrev pub Tests : Type 0
-Tests = List (ℕ × Bool)
+Tests = List (Rule × Bool)
 
 -- ---- expressions
 
 -- what is no name: no argument for an array parameter
 abbrev pub value_tests : Position → Tests
-value_tests position = (4, is_array_position position) ∷ []
+value_tests position = (rule.NameFitsItsPlace, is_array_position position) ∷ []
 
 -- a name at its position
 abbrev pub is_misplaced : Option Meaning → Position → Bool
@@ -44,10 +29,12 @@ is_misplaced meaning p.Array = is_other k.Array meaning
 is_misplaced meaning _ = is_other k.Int meaning
 
 abbrev pub name_tests : Option Meaning → Position → Tests
-name_tests meaning position = (2, is_undeclared meaning) ∷ (4, is_misplaced meaning position) ∷ []
+name_tests meaning position = (rule.NameIsDeclared, is_undeclared meaning) ∷ (rule.NameFitsItsPlace, is_misplaced meaning position) ∷ []
 
 abbrev pub index_tests : Option Meaning → Position → Tests
-index_tests meaning position = (2, is_undeclared meaning) ∷ (4, either (is_other k.Array meaning) (is_array_position position)) ∷ []
+index_tests meaning position =
+    (rule.NameIsDeclared, is_undeclared meaning)
+    ∷ (rule.NameFitsItsPlace, either (is_other k.Array meaning) (is_array_position position)) ∷ []
 
 abbrev pub is_miscounted : Option Callee → ℕ → Bool
 is_miscounted None args = false
@@ -64,12 +51,12 @@ uses_void (Some f) position = both (not f.gives_int) (is_used position)
 -- a call of what the name means, with that many arguments
 abbrev pub call_tests : Option Meaning → Option Callee → ℕ → Around → Position → Tests
 call_tests meaning f args a position =
-    (2, is_undeclared meaning)
-    ∷ (3, is_miscounted f args)
-    ∷ (4, either (is_other k.Function meaning) (is_array_position position))
-    ∷ (5, calls_async f a)
-    ∷ (12, uses_void f position)
-    ∷ (18, is_partial position) ∷ []
+    (rule.NameIsDeclared, is_undeclared meaning)
+    ∷ (rule.ArgumentsMatchParameters, is_miscounted f args)
+    ∷ (rule.NameFitsItsPlace, either (is_other k.Function meaning) (is_array_position position))
+    ∷ (rule.AsyncIsCalledInAsync, calls_async f a)
+    ∷ (rule.ValueFitsFunction, uses_void f position)
+    ∷ (rule.CallStandsAlone, is_partial position) ∷ []
 
 abbrev pub sends_away : Reached → Option Ends → Bool
 sends_away reached None = false
@@ -82,25 +69,25 @@ takes_away reached (Some e) = is_reached_by_another reached e.to
 -- a Send or a Recv, by whether a core reaches it that is not that end
 abbrev pub channel_tests : Option Meaning → Bool → Around → Position → Tests
 channel_tests meaning away a position =
-    (2, is_undeclared meaning)
-    ∷ (4, either (is_other k.Channel meaning) (is_array_position position))
-    ∷ (6, not a.is_async)
-    ∷ (11, away)
-    ∷ (18, is_partial position) ∷ []
+    (rule.NameIsDeclared, is_undeclared meaning)
+    ∷ (rule.NameFitsItsPlace, either (is_other k.Channel meaning) (is_array_position position))
+    ∷ (rule.StandsInAsyncFunction, not a.is_async)
+    ∷ (rule.OnlyItsEndUsesChannel, away)
+    ∷ (rule.CallStandsAlone, is_partial position) ∷ []
 
 -- a Read or a Write
 abbrev pub file_tests : Option Meaning → Option Meaning → Around → Position → Tests
 file_tests file array a position =
-    (2, either (is_undeclared file) (is_undeclared array))
-    ∷ (4, either (is_other k.File file) (either (is_other k.Array array) (is_array_position position)))
-    ∷ (6, not a.is_async)
-    ∷ (18, is_partial position) ∷ []
+    (rule.NameIsDeclared, either (is_undeclared file) (is_undeclared array))
+    ∷ (rule.NameFitsItsPlace, either (is_other k.File file) (either (is_other k.Array array) (is_array_position position)))
+    ∷ (rule.StandsInAsyncFunction, not a.is_async)
+    ∷ (rule.CallStandsAlone, is_partial position) ∷ []
 
 -- ---- statements
 
 -- a declaration, by what its name means in its scope before it
 abbrev pub once_tests : Option Meaning → Tests
-once_tests before = (1, is_declared before) ∷ []
+once_tests before = (rule.DeclaredOnce, is_declared before) ∷ []
 
 -- the elements of an array
 abbrev pub is_size : ℤ → Bool
@@ -108,7 +95,7 @@ is_size (pos n) = both (nat_le 1 n) (nat_le n 4096)
 is_size (negsuc n) = false
 
 abbrev pub array_tests : Option Meaning → ℤ → Tests
-array_tests before size = (1, is_declared before) ∷ (13, not (is_size size)) ∷ []
+array_tests before size = (rule.DeclaredOnce, is_declared before) ∷ (rule.ArraySizeIsAllowed, not (is_size size)) ∷ []
 
 -- the number of `%d` and `%c` from a place on, after so many, or none where a `%` begins nothing; by whether a `%` is before
 abbrev pub holes : Bool → ℕ → List ℕ → Option ℕ
@@ -125,23 +112,23 @@ is_misprinted None args = true
 is_misprinted (Some count) args = not (nat_eq count args)
 
 abbrev pub print_tests : List ℕ → ℕ → Tests
-print_tests format args = (16, is_misprinted (holes false 0 format) args) ∷ []
+print_tests format args = (rule.FormatFitsArguments, is_misprinted (holes false 0 format) args) ∷ []
 
 abbrev pub leave_tests : Around → Tests
-leave_tests a = (9, not a.in_loop) ∷ []
+leave_tests a = (rule.JumpStaysInside, not a.in_loop) ∷ []
 
 abbrev pub differs : Bool → Bool → Bool
 differs true b = not b
 differs false b = b
 
 abbrev pub return_tests : Around → Bool → Tests
-return_tests a gives = (9, is_closed a) ∷ (12, differs a.gives_int gives) ∷ []
+return_tests a gives = (rule.JumpStaysInside, is_closed a) ∷ (rule.ValueFitsFunction, differs a.gives_int gives) ∷ []
 
 abbrev pub async_tests : Around → Tests
-async_tests a = (6, not a.is_async) ∷ []
+async_tests a = (rule.StandsInAsyncFunction, not a.is_async) ∷ []
 
 abbrev pub body_tests : Around → Tests
-body_tests a = (6, not a.is_async) ∷ (7, not a.in_do) ∷ []
+body_tests a = (rule.StandsInAsyncFunction, not a.is_async) ∷ (rule.AsyncStandsInDo, not a.in_do) ∷ []
 
 abbrev pub cancel_tests : Option Meaning → Around → Tests
-cancel_tests label a = (6, not a.is_async) ∷ (8, is_undeclared label) ∷ []
+cancel_tests label a = (rule.StandsInAsyncFunction, not a.is_async) ∷ (rule.CancelStandsInItsDo, is_undeclared label) ∷ []

@@ -2,20 +2,14 @@
 
 ghost use Rattle.std.specs.Prelude.{◌≡◌, ◌<◌, length, slice_get, pos, Some, IfOk, IfErr, true};
 ghost use Rattle.ac_tree.specs.Weight.{IsSmall};
-ghost use Rattle.ac_types.specs.Items.{outermost};
 ghost use Rattle.ac_types.specs.Reached.{BreaksNone, Reaches, all_calls};
-ghost use Rattle.ac_types.specs.Verdicts.{IsFault, core_names, capacities, file_paths};
+ghost use Rattle.ac_types.specs.Verdicts.{IsFault};
+ghost use Rattle.ac_names.specs.Numbered.{core_names, capacities, file_paths};
 
-use crate::counted::{
-    capacity_size, count_channels, count_cores, count_files, count_functions, find_capacity,
-    find_core, find_path,
-};
 use crate::fault::CheckFault;
-use crate::gathered::whole;
-use crate::past::Past;
-use crate::scopes::Scopes;
 use crate::verdict::{Verdict, judge};
-use ac_base::{Bytes, List, Name, NoMemory};
+use ac_base::{Bytes, List, Name};
+use ac_names::{Counts, capacity_size, find_capacity, find_core, find_path};
 use ac_tree::Program;
 use std::alloc::Global;
 use std::marker::Model;
@@ -26,18 +20,21 @@ use std::marker::Model;
 #[derive(Drop)]
 pub struct Checked {
     program: Program,
+    counts: Counts,
     // for each core whether it reaches each function
     reach: List<List<bool>>,
 }
 
 impl Model for Checked {
+    ghost use Rattle.std.specs.Prelude.{◌≡◌};
     ghost use Rattle.std.specs.Coded.{codes};
     ghost use Rattle.ac_tree.specs.contracts.expr.Expr as e;
     ghost use Rattle.ac_tree.specs.contracts.stmt.Stmt as s;
     ghost use Rattle.ac_tree.specs.declared.item.Program.{Program};
     ghost use Rattle.ac_tree.specs.Weight.{IsSmall};
+    ghost use Rattle.ac_names.specs.Items.{whole};
     ghost use Rattle.ac_types.specs.Reached.{BreaksNone, entries_of, all_calls};
-    ghost use Rattle.ac_types.specs.Search.{AreAll};
+    ghost use Rattle.ac_reach.specs.Reached.{AreAll};
 
     ghost Value = { Program };
 
@@ -45,7 +42,8 @@ impl Model for Checked {
 
     ghost view = { λ c. c.program };
 
-    ghost invariant = { λ c. (BreaksNone c.program.items × IsSmall c.program) × AreAll (all_calls c.program.items) (entries_of c.program.items) c.reach };
+    ghost invariant = { λ c. (BreaksNone c.program.items × IsSmall c.program) × (c.counts ≡ (whole c.program.items).counts)
+        × AreAll (all_calls c.program.items) (entries_of c.program.items) c.reach };
 }
 
 /// Checks the rules of a program. It is accepted exactly where it breaks none; else the fault is the least pair of a node, by
@@ -58,11 +56,15 @@ pub fn check(alloc: Global, program: Program) -> Result<Checked, CheckFault>
     ensures broken { IfErr result (λ fault. IsFault program fault) }
 {
     match judge(alloc, program.items.as_slice())? {
-        Verdict::Broken(rule) => Err(CheckFault::Broken {
-            rule: rule.rule,
-            at: rule.at,
+        Verdict::Broken(broken) => Err(CheckFault::Broken {
+            rule: broken.rule.number(),
+            at: broken.at,
         }),
-        Verdict::Clean(reach) => Ok(Checked { program, reach }),
+        Verdict::Clean(counts, reach) => Ok(Checked {
+            program,
+            counts,
+            reach,
+        }),
     }
 }
 
@@ -76,43 +78,32 @@ impl Checked {
         &self.program
     }
 
-    /// The scopes round the items, which are one: the names of the top level. Of several declarations of one name the first
-    /// counts.
-    pub fn top_level(&self, alloc: Global) -> Result<Scopes, NoMemory>
-        ensures { IfOk result (λ scopes. scopes ≡ outermost self.now.items) }
-    {
-        let Past { names, .. } = whole(alloc, self.program.items.as_slice())?;
-        let mut scopes = Scopes::new(alloc);
-        scopes.enter(names)?;
-        Ok(scopes)
-    }
-
     /// The number of cores.
     pub fn cores(&self) -> u32
         ensures { result ≡ length (core_names self.now.items) }
     {
-        count_cores(self.program.items.as_slice())
+        self.counts.cores
     }
 
     /// The number of functions.
     pub fn functions(&self) -> u32
         ensures { result ≡ length (all_calls self.now.items) }
     {
-        count_functions(self.program.items.as_slice())
+        self.counts.functions
     }
 
     /// The number of channels.
     pub fn channels(&self) -> u32
         ensures { result ≡ length (capacities self.now.items) }
     {
-        count_channels(self.program.items.as_slice())
+        self.counts.channels
     }
 
     /// The number of files.
     pub fn files(&self) -> u32
         ensures { result ≡ length (file_paths self.now.items) }
     {
-        count_files(self.program.items.as_slice())
+        self.counts.files
     }
 
     /// The name of a core. There is one of that number.

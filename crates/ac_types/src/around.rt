@@ -3,7 +3,7 @@
 ghost use Rattle.std.specs.Prelude.{◌≡◌};
 ghost use Rattle.ac_types.specs.Around.{is_array_position, is_used, is_partial, position_of, inside_do, inside_loop, is_closed};
 
-use crate::numbered::Reached;
+use ac_reach::Reached;
 
 /// Where an expression stands.
 #[derive(Clone, Copy, Debug, PartialEq, Eq)]

@@ -2,18 +2,18 @@
 
 ghost use Rattle.std.specs.Prelude.{◌≡◌, ◌<◌, ◌^◌, length, OnOk};
 ghost use Rattle.ac_types.specs.Around.{position_of};
-ghost use Rattle.ac_types.specs.Expressions.{number_of, expr_seen, links_seen, args_seen, values_seen, value_seen};
-ghost use Rattle.ac_types.specs.Scopes.{visible};
+ghost use Rattle.ac_types.specs.Expressions.{number_of};
+ghost use Rattle.ac_types.specs.inner.Seen.{expr_seen, links_seen, args_seen, values_seen, value_seen};
+ghost use Rattle.ac_names.specs.Scopes.{visible};
 
 use crate::around::{Around, Position};
 use crate::judged::{
     judge_call, judge_file, judge_index, judge_name, judge_recv, judge_send, judge_value,
 };
-use crate::meaning::Meaning;
 use crate::numbered::{Callee, Tables};
-use crate::scopes::Scopes;
 use crate::seen::Seen;
 use ac_base::NoMemory;
+use ac_names::{Meaning, Scopes};
 use ac_tree::{Expr, Link};
 
 fn position_of(is_array: bool) -> Position

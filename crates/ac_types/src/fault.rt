@@ -9,8 +9,8 @@ use thiserror::Error;
 /// Why a program is not accepted.
 #[derive(Clone, Copy, Debug, PartialEq, Eq, Error)]
 pub enum CheckFault {
-    /// The least pair of a node, by its number in preorder, and a rule that it breaks: the rule, and the first byte of the node.
-    #[error("rule {rule} at {at}")]
+    /// The least pair of a node, by its number in preorder, and a rule that it breaks: the rule's number, and the first byte of the node.
+    #[error("rule C{rule} at {at}")]
     Broken { rule: u8, at: u32 },
     /// Memory was refused.
     #[error("no memory")]

@@ -2,22 +2,21 @@
 
 ghost use Rattle.std.specs.Prelude.{◌≡◌, ◌+◌, ◌≤◌, [], length, OnOk, IfOk};
 ghost use Rattle.ac_tree.specs.Weight.{body_weight, params_weight, items_weight};
-ghost use Rattle.ac_types.specs.Items.{kinds_in, no_past, past_all, signature_of, signatures, core_number, channel_ends, all_ends, function_nodes, outermost};
+ghost use Rattle.ac_names.specs.Items.{outermost};
+ghost use Rattle.ac_types.specs.Items.{signature_of, signatures, core_number, channel_ends, all_ends, function_nodes};
 ghost use Rattle.ac_types.specs.Nodes.{calls_of};
 ghost use Rattle.ac_types.specs.Reached.{function_number, entries, calls_in, entries_of};
-ghost use Rattle.ac_types.specs.Verdicts.{AreTables};
-ghost use Rattle.ac_types.specs.declared.numbered.Reached.TheVariants as r;
+ghost use Rattle.ac_types.specs.inner.Verdicts.{AreTables};
+ghost use Rattle.ac_reach.specs.declared.reached.Reached.TheVariants as r;
 
 use crate::items::see_function;
-use crate::meaning::Meaning;
-use crate::numbered::{Ends, Reached, Signature, Tables};
-use crate::past::Past;
-use crate::reach::{reach_table, rows};
-use crate::scopes::Scopes;
+use crate::numbered::{Ends, Signature, Tables};
 use crate::seen::Seen;
 use crate::walk::Walk;
 use ac_base::{List, Name, NoMemory};
-use ac_tree::{Function, Item, Param};
+use ac_names::{Meaning, Scopes, kinds_of};
+use ac_reach::{Reach, Reached, find_reach};
+use ac_tree::{Function, Item};
 use std::alloc::Global;
 use std::mem;
 
@@ -26,28 +25,6 @@ use std::mem;
 pub struct Gathered {
     pub tables: Tables,
     pub reach: List<List<bool>>,
-}
-
-/// What is known of all items.
-pub fn whole(alloc: Global, items: &[Item]) -> Result<Past, NoMemory>
-    requires { items_weight items.now ≤ 1048576 }
-    ensures { IfOk result (λ past. past ≡ past_all no_past items.now) }
-{
-    let mut past = Past::new(alloc);
-    for item in items {
-        past.pass(item)?;
-    }
-    Ok(past)
-}
-
-fn kinds_of(alloc: Global, params: &[Param]) -> Result<List<bool>, NoMemory>
-    ensures { IfOk result (λ kinds. kinds ≡ kinds_in params.now) }
-{
-    let mut kinds = List::new(alloc);
-    for param in params {
-        kinds.push(param.is_array)?;
-    }
-    Ok(kinds)
 }
 
 fn signature(alloc: Global, function: &Function) -> Result<Signature, NoMemory>
@@ -202,7 +179,11 @@ pub fn gather(alloc: Global, walk: &mut Walk, items: &[Item]) -> Result<Gathered
         reached: List::new(alloc),
     };
     let calls = all_calls(alloc, walk, &tables, items)?;
-    let reach = reach_table(alloc, calls.as_slice(), entered.as_slice())?;
-    tables.reached = rows(alloc, calls.as_slice(), reach.as_slice())?;
-    Ok(Gathered { tables, reach })
+    let reach = find_reach(alloc, calls.as_slice(), entered.as_slice())?;
+    let Reach { flags, rows } = reach;
+    tables.reached = rows;
+    Ok(Gathered {
+        tables,
+        reach: flags,
+    })
 }

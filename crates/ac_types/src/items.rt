@@ -2,24 +2,26 @@
 
 ghost use Rattle.std.specs.Prelude.{◌≡◌, ◌+◌, ◌≤◌, ◌<◌, [], length, slice_get, OnOk};
 ghost use Rattle.ac_tree.specs.Weight.{body_weight, params_weight, item_weight, items_weight};
-ghost use Rattle.ac_types.specs.Items.{around_of, param_at, reached_in, global_tests, is_capacity, is_same_core, link_tests, path_tests, is_no_entry, core_tests, program_tests, no_past};
-ghost use Rattle.ac_types.specs.Nodes.{least_broken};
-ghost use Rattle.ac_types.specs.Seeing.{after_param, after_params, after_function, after_item, after_items};
+ghost use Rattle.ac_types.specs.Items.{around_of, reached_in, global_tests, is_capacity, is_same_core};
+ghost use Rattle.ac_types.specs.Items.{link_tests, path_tests, is_no_entry, core_tests, program_tests};
+ghost use Rattle.ac_names.specs.Items.{no_past};
+ghost use Rattle.ac_types.specs.inner.Seen.{least_broken};
+ghost use Rattle.ac_types.specs.inner.Items.{after_param, after_params, after_function, after_item, after_items};
 
 use crate::around::Around;
-use crate::judged::{judge_array, judge_once};
-use crate::kind::{Kind, is_other};
-use crate::meaning::Meaning;
-use crate::numbered::{Callee, Reached, Tables};
-use crate::past::Past;
+use crate::judged::{is_declared, is_undeclared, judge_array, judge_once};
+use crate::numbered::{Callee, Tables};
+use crate::rule::Rule;
 use crate::seen::least;
 use crate::statements::see_body;
 use crate::walk::Walk;
 use ac_base::NoMemory;
+use ac_names::{Kind, Meaning, Past, is_other};
+use ac_reach::Reached;
 use ac_tree::{Function, Item, Param};
 use std::alloc::Global;
 
-fn judge_global(before: Option<Meaning>, size: Option<i64>) -> Option<u8>
+fn judge_global(before: Option<Meaning>, size: Option<i64>) -> Option<Rule>
     ensures { result ≡ least_broken (global_tests before size) }
 {
     match size {
@@ -52,24 +54,25 @@ fn judge_link(
     to: Option<Meaning>,
     cap: i64,
     channels: u32,
-) -> Option<u8>
+) -> Option<Rule>
     ensures { result ≡ least_broken (link_tests before from to cap channels) }
 {
-    let is_unknown = from.is_none() || to.is_none();
+    let is_unknown = is_undeclared(from) || is_undeclared(to);
     let is_no_core = is_other(Kind::Core, from) || is_other(Kind::Core, to);
     let is_too_much = !is_capacity(cap) || channels >= 64;
     let is_wrong = is_same_core(from, to) || is_too_much;
-    let rest = least(14, is_wrong, None);
-    let rest = least(4, is_no_core, rest);
-    let rest = least(2, is_unknown, rest);
-    least(1, before.is_some(), rest)
+    let rest = least(Rule::ChannelIsAllowed, is_wrong, None);
+    let rest = least(Rule::NameFitsItsPlace, is_no_core, rest);
+    let rest = least(Rule::NameIsDeclared, is_unknown, rest);
+    least(Rule::DeclaredOnce, is_declared(before), rest)
 }
 
-fn judge_path(before: Option<Meaning>, files: u32, same: Option<Meaning>) -> Option<u8>
+fn judge_path(before: Option<Meaning>, files: u32, same: Option<Meaning>) -> Option<Rule>
     ensures { result ≡ least_broken (path_tests before files same) }
 {
-    let is_wrong = files >= 16 || same.is_some();
-    least(1, before.is_some(), least(17, is_wrong, None))
+    let is_wrong = files >= 16 || is_declared(same);
+    let rest = least(Rule::FileIsAllowed, is_wrong, None);
+    least(Rule::DeclaredOnce, is_declared(before), rest)
 }
 
 fn is_no_entry(callee: Option<Callee>) -> bool
@@ -81,20 +84,26 @@ fn is_no_entry(callee: Option<Callee>) -> bool
     }
 }
 
-fn judge_core(before: Option<Meaning>, entry: Option<Meaning>, callee: Option<Callee>) -> Option<u8>
+fn judge_core(
+    before: Option<Meaning>,
+    entry: Option<Meaning>,
+    callee: Option<Callee>,
+) -> Option<Rule>
     ensures { result ≡ least_broken (core_tests before entry callee) }
 {
-    let rest = least(10, is_no_entry(callee), None);
-    let rest = least(4, is_other(Kind::Function, entry), rest);
-    let rest = least(2, entry.is_none(), rest);
-    least(1, before.is_some(), rest)
+    let is_wrong = is_no_entry(callee);
+    let rest = least(Rule::EntryIsAsyncWithoutParameters, is_wrong, None);
+    let is_no_function = is_other(Kind::Function, entry);
+    let rest = least(Rule::NameFitsItsPlace, is_no_function, rest);
+    let rest = least(Rule::NameIsDeclared, is_undeclared(entry), rest);
+    least(Rule::DeclaredOnce, is_declared(before), rest)
 }
 
 /// A program with that many cores.
-pub fn judge_program(cores: u32) -> Option<u8>
+pub fn judge_program(cores: u32) -> Option<Rule>
     ensures { result ≡ least_broken (program_tests cores) }
 {
-    least(15, cores == 0 || cores > 16, None)
+    least(Rule::NumberOfCoresIsAllowed, cores == 0 || cores > 16, None)
 }
 
 fn around_of(function: &Function, reached: Reached) -> Around
@@ -110,28 +119,13 @@ fn around_of(function: &Function, reached: Reached) -> Around
     }
 }
 
-fn param_at(is_array: bool, slot: u32) -> Meaning
-    ensures { result ≡ param_at is_array slot }
-{
-    if is_array {
-        Meaning::ArrayParam(slot)
-    } else {
-        Meaning::Local { depth: 0, slot }
-    }
-}
-
 fn see_param(walk: &mut Walk, param: &Param) -> Result<(), NoMemory>
     requires { walk.old.names.slot + 1 < 4294967296 }
     ensures { OnOk result (walk.new ≡ after_param param.now walk.old) }
 {
-    let slot = walk.names.slot;
-    walk.note(param.at, judge_once(walk.before(&param.name)))?;
-    let _ = walk
-        .names
-        .scopes
-        .declare(&param.name, param_at(param.is_array, slot))?;
-    walk.take(1);
-    Ok(())
+    let before = walk.names.scopes.find_inner(&param.name);
+    walk.note(param.at, judge_once(before))?;
+    walk.names.declare_param(param)
 }
 
 fn see_params(walk: &mut Walk, params: &[Param]) -> Result<(), NoMemory>

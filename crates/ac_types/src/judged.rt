@@ -2,15 +2,19 @@
 
 ghost use Rattle.std.specs.Prelude.{◌≡◌, false};
 ghost use Rattle.ac_types.specs.Around.{is_array_position, is_used, is_partial, is_closed, is_reached_by_another};
-ghost use Rattle.ac_types.specs.Judged.{value_tests, is_misplaced, name_tests, index_tests, is_miscounted, calls_async, uses_void, call_tests, sends_away, takes_away, channel_tests, file_tests, once_tests, is_size, array_tests, holes, is_misprinted, print_tests, leave_tests, return_tests, async_tests, body_tests, cancel_tests};
-ghost use Rattle.ac_types.specs.Kinds.{is_undeclared};
-ghost use Rattle.ac_types.specs.Nodes.{least_broken};
+ghost use Rattle.ac_types.specs.Judged.{value_tests, is_misplaced, name_tests, index_tests, is_miscounted};
+ghost use Rattle.ac_types.specs.Judged.{calls_async, uses_void, call_tests, sends_away, takes_away, channel_tests};
+ghost use Rattle.ac_types.specs.Judged.{file_tests, once_tests, is_size, array_tests, holes, is_misprinted};
+ghost use Rattle.ac_types.specs.Judged.{print_tests, leave_tests, return_tests, async_tests, body_tests, cancel_tests};
+ghost use Rattle.ac_names.specs.Kinds.{is_undeclared, is_declared};
+ghost use Rattle.ac_types.specs.inner.Seen.{least_broken};
 
 use crate::around::{Around, Position};
-use crate::kind::{Kind, is_other};
-use crate::meaning::Meaning;
-use crate::numbered::{Callee, Ends, Reached};
+use crate::numbered::{Callee, Ends};
+use crate::rule::Rule;
 use crate::seen::least;
+use ac_names::{Kind, Meaning, is_other};
+use ac_reach::Reached;
 
 fn is_array(position: Position) -> bool
     ensures { result ≡ is_array_position position }
@@ -40,17 +44,25 @@ fn is_partial(position: Position) -> bool
     }
 }
 
-fn is_undeclared(meaning: Option<Meaning>) -> bool
+/// Whether a name means nothing.
+pub fn is_undeclared(meaning: Option<Meaning>) -> bool
     ensures { result ≡ is_undeclared meaning }
 {
     meaning.is_none()
 }
 
+/// Whether a name means something.
+pub fn is_declared(meaning: Option<Meaning>) -> bool
+    ensures { result ≡ is_declared meaning }
+{
+    meaning.is_some()
+}
+
 /// What is no name.
-pub fn judge_value(position: Position) -> Option<u8>
+pub fn judge_value(position: Position) -> Option<Rule>
     ensures { result ≡ least_broken (value_tests position) }
 {
-    least(4, is_array(position), None)
+    least(Rule::NameFitsItsPlace, is_array(position), None)
 }
 
 fn is_misplaced(meaning: Option<Meaning>, position: Position) -> bool
@@ -63,20 +75,21 @@ fn is_misplaced(meaning: Option<Meaning>, position: Position) -> bool
 }
 
 /// A name.
-pub fn judge_name(meaning: Option<Meaning>, position: Position) -> Option<u8>
+pub fn judge_name(meaning: Option<Meaning>, position: Position) -> Option<Rule>
     ensures { result ≡ least_broken (name_tests meaning position) }
 {
-    let rest = least(4, is_misplaced(meaning, position), None);
-    least(2, is_undeclared(meaning), rest)
+    let is_unfit = is_misplaced(meaning, position);
+    let rest = least(Rule::NameFitsItsPlace, is_unfit, None);
+    least(Rule::NameIsDeclared, is_undeclared(meaning), rest)
 }
 
 /// An element of an array.
-pub fn judge_index(meaning: Option<Meaning>, position: Position) -> Option<u8>
+pub fn judge_index(meaning: Option<Meaning>, position: Position) -> Option<Rule>
     ensures { result ≡ least_broken (index_tests meaning position) }
 {
     let is_wrong = is_other(Kind::Array, meaning) || is_array(position);
-    let rest = least(4, is_wrong, None);
-    least(2, is_undeclared(meaning), rest)
+    let rest = least(Rule::NameFitsItsPlace, is_wrong, None);
+    least(Rule::NameIsDeclared, is_undeclared(meaning), rest)
 }
 
 fn is_miscounted(callee: Option<Callee>, args: u64) -> bool
@@ -113,16 +126,24 @@ pub fn judge_call(
     args: u64,
     around: Around,
     position: Position,
-) -> Option<u8>
+) -> Option<Rule>
     ensures { result ≡ least_broken (call_tests meaning callee args around position) }
 {
     let is_wrong = is_other(Kind::Function, meaning) || is_array(position);
-    let rest = least(18, is_partial(position), None);
-    let rest = least(12, uses_void(callee, position), rest);
-    let rest = least(5, calls_async(callee, around), rest);
-    let rest = least(4, is_wrong, rest);
-    let rest = least(3, is_miscounted(callee, args), rest);
-    least(2, is_undeclared(meaning), rest)
+    let rest = least(Rule::CallStandsAlone, is_partial(position), None);
+    let rest = least(Rule::ValueFitsFunction, uses_void(callee, position), rest);
+    let rest = least(
+        Rule::AsyncIsCalledInAsync,
+        calls_async(callee, around),
+        rest,
+    );
+    let rest = least(Rule::NameFitsItsPlace, is_wrong, rest);
+    let rest = least(
+        Rule::ArgumentsMatchParameters,
+        is_miscounted(callee, args),
+        rest,
+    );
+    least(Rule::NameIsDeclared, is_undeclared(meaning), rest)
 }
 
 fn is_reached_by_another(reached: Reached, core: Option<u32>) -> bool
@@ -161,15 +182,15 @@ fn judge_channel(
     is_away: bool,
     around: Around,
     position: Position,
-) -> Option<u8>
+) -> Option<Rule>
     ensures { result ≡ least_broken (channel_tests meaning is_away around position) }
 {
     let is_wrong = is_other(Kind::Channel, meaning) || is_array(position);
-    let rest = least(18, is_partial(position), None);
-    let rest = least(11, is_away, rest);
-    let rest = least(6, !around.is_async, rest);
-    let rest = least(4, is_wrong, rest);
-    least(2, is_undeclared(meaning), rest)
+    let rest = least(Rule::CallStandsAlone, is_partial(position), None);
+    let rest = least(Rule::OnlyItsEndUsesChannel, is_away, rest);
+    let rest = least(Rule::StandsInAsyncFunction, !around.is_async, rest);
+    let rest = least(Rule::NameFitsItsPlace, is_wrong, rest);
+    least(Rule::NameIsDeclared, is_undeclared(meaning), rest)
 }
 
 /// A Send.
@@ -178,7 +199,7 @@ pub fn judge_send(
     ends: Option<Ends>,
     around: Around,
     position: Position,
-) -> Option<u8>
+) -> Option<Rule>
     ensures { result ≡ least_broken (channel_tests meaning (sends_away around.reached ends) around position) }
 {
     judge_channel(meaning, sends_away(around.reached, ends), around, position)
@@ -190,7 +211,7 @@ pub fn judge_recv(
     ends: Option<Ends>,
     around: Around,
     position: Position,
-) -> Option<u8>
+) -> Option<Rule>
     ensures { result ≡ least_broken (channel_tests meaning (takes_away around.reached ends) around position) }
 {
     judge_channel(meaning, takes_away(around.reached, ends), around, position)
@@ -202,23 +223,23 @@ pub fn judge_file(
     array: Option<Meaning>,
     around: Around,
     position: Position,
-) -> Option<u8>
+) -> Option<Rule>
     ensures { result ≡ least_broken (file_tests file array around position) }
 {
     let is_unknown = is_undeclared(file) || is_undeclared(array);
     let is_no_array = is_other(Kind::Array, array) || is_array(position);
     let is_wrong = is_other(Kind::File, file) || is_no_array;
-    let rest = least(18, is_partial(position), None);
-    let rest = least(6, !around.is_async, rest);
-    let rest = least(4, is_wrong, rest);
-    least(2, is_unknown, rest)
+    let rest = least(Rule::CallStandsAlone, is_partial(position), None);
+    let rest = least(Rule::StandsInAsyncFunction, !around.is_async, rest);
+    let rest = least(Rule::NameFitsItsPlace, is_wrong, rest);
+    least(Rule::NameIsDeclared, is_unknown, rest)
 }
 
 /// A declaration, by what its name means in its scope before it.
-pub fn judge_once(before: Option<Meaning>) -> Option<u8>
+pub fn judge_once(before: Option<Meaning>) -> Option<Rule>
     ensures { result ≡ least_broken (once_tests before) }
 {
-    least(1, before.is_some(), None)
+    least(Rule::DeclaredOnce, is_declared(before), None)
 }
 
 /// Whether an array may have that many elements.
@@ -229,11 +250,11 @@ pub fn is_size(size: i64) -> bool
 }
 
 /// A declaration of an array, by what its name means in its scope before it.
-pub fn judge_array(before: Option<Meaning>, size: i64) -> Option<u8>
+pub fn judge_array(before: Option<Meaning>, size: i64) -> Option<Rule>
     ensures { result ≡ least_broken (array_tests before size) }
 {
-    let rest = least(13, !is_size(size), None);
-    least(1, before.is_some(), rest)
+    let rest = least(Rule::ArraySizeIsAllowed, !is_size(size), None);
+    least(Rule::DeclaredOnce, is_declared(before), rest)
 }
 
 // The number of `%d` and `%c` of a format. None where a `%` begins nothing.
@@ -267,46 +288,49 @@ fn is_misprinted(count: Option<u64>, args: u64) -> bool
 }
 
 /// A print of a format with that many arguments.
-pub fn judge_print(format: &[u8], args: u64) -> Option<u8>
+pub fn judge_print(format: &[u8], args: u64) -> Option<Rule>
     ensures { result ≡ least_broken (print_tests format.now args) }
 {
-    least(16, is_misprinted(holes(format), args), None)
+    let is_wrong = is_misprinted(holes(format), args);
+    least(Rule::FormatFitsArguments, is_wrong, None)
 }
 
 /// A `break` or a `continue`.
-pub fn judge_leave(around: Around) -> Option<u8>
+pub fn judge_leave(around: Around) -> Option<Rule>
     ensures { result ≡ least_broken (leave_tests around) }
 {
-    least(9, !around.in_loop, None)
+    least(Rule::JumpStaysInside, !around.in_loop, None)
 }
 
 /// A `return`, by whether it has an operand.
-pub fn judge_return(around: Around, gives: bool) -> Option<u8>
+pub fn judge_return(around: Around, gives: bool) -> Option<Rule>
     ensures { result ≡ least_broken (return_tests around gives) }
 {
     let is_closed = around.in_do || around.depth > 0;
     let differs = around.gives_int != gives;
-    least(9, is_closed, least(12, differs, None))
+    let rest = least(Rule::ValueFitsFunction, differs, None);
+    least(Rule::JumpStaysInside, is_closed, rest)
 }
 
 /// A `do` or a `yield`.
-pub fn judge_async(around: Around) -> Option<u8>
+pub fn judge_async(around: Around) -> Option<Rule>
     ensures { result ≡ least_broken (async_tests around) }
 {
-    least(6, !around.is_async, None)
+    least(Rule::StandsInAsyncFunction, !around.is_async, None)
 }
 
 /// An `async`.
-pub fn judge_body(around: Around) -> Option<u8>
+pub fn judge_body(around: Around) -> Option<Rule>
     ensures { result ≡ least_broken (body_tests around) }
 {
-    least(6, !around.is_async, least(7, !around.in_do, None))
+    let rest = least(Rule::AsyncStandsInDo, !around.in_do, None);
+    least(Rule::StandsInAsyncFunction, !around.is_async, rest)
 }
 
 /// A `cancel`, by what its label means.
-pub fn judge_cancel(label: Option<Meaning>, around: Around) -> Option<u8>
+pub fn judge_cancel(label: Option<Meaning>, around: Around) -> Option<Rule>
     ensures { result ≡ least_broken (cancel_tests label around) }
 {
-    let rest = least(8, is_undeclared(label), None);
-    least(6, !around.is_async, rest)
+    let rest = least(Rule::CancelStandsInItsDo, is_undeclared(label), None);
+    least(Rule::StandsInAsyncFunction, !around.is_async, rest)
 }

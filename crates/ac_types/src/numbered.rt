@@ -3,8 +3,9 @@
 ghost use Rattle.std.specs.Prelude.{◌≡◌};
 ghost use Rattle.ac_types.specs.Tables.{callee, takes_array, ends_named};
 
-use crate::meaning::Meaning;
 use ac_base::List;
+use ac_names::Meaning;
+use ac_reach::Reached;
 
 /// How a function is called.
 #[derive(Drop)]
@@ -20,14 +21,6 @@ pub struct Signature {
 pub struct Ends {
     pub from: Option<u32>,
     pub to: Option<u32>,
-}
-
-/// The cores that reach a function.
-#[derive(Clone, Copy, Debug, PartialEq, Eq)]
-pub enum Reached {
-    ByNone,
-    ByOne(u32),
-    BySeveral,
 }
 
 /// How the function is called that a name means: its kind, and how many parameters it has.

@@ -1,27 +1,28 @@
 //! What a walk over the tree has seen so far.
 
 ghost use Rattle.std.specs.Prelude.{◌≡◌, None, [], OnOk};
-ghost use Rattle.ac_types.specs.Nodes.{least_with, noted_by};
+ghost use Rattle.ac_types.specs.inner.Seen.{least_with, noted_by};
 
-use crate::rule::Rule;
+use crate::rule::{BrokenRule, Rule};
 use ac_base::{List, NoMemory};
 use std::alloc::Global;
 
 /// The first broken rule of the nodes that a walk has seen, and the numbers of the functions that they call, in order.
 #[derive(Drop)]
 pub struct Seen {
-    pub first: Option<Rule>,
+    pub first: Option<BrokenRule>,
     pub calls: List<u32>,
 }
 
 /// The lesser of a rule, where it is broken, and of the least of the other rules.
-pub fn least(rule: u8, is_broken: bool, rest: Option<u8>) -> Option<u8>
+pub fn least(rule: Rule, is_broken: bool, rest: Option<Rule>) -> Option<Rule>
     ensures { result ≡ least_with rule is_broken rest }
 {
     if is_broken {
         match rest {
             None => Some(rule),
-            Some(other) => Some(rule.min(other)),
+            Some(other) if other.number() < rule.number() => Some(other),
+            Some(_) => Some(rule),
         }
     } else {
         rest
@@ -41,14 +42,14 @@ impl Seen {
     }
 
     /// Notes a node with the least rule that it breaks and the function that it calls.
-    pub fn note(&mut self, at: u32, rule: Option<u8>, call: Option<u32>) -> Result<(), NoMemory>
+    pub fn note(&mut self, at: u32, rule: Option<Rule>, call: Option<u32>) -> Result<(), NoMemory>
         ensures { OnOk result (self.new ≡ noted_by at rule call self.old) }
     {
         if let Some(function) = call {
             self.calls.push(function)?;
         }
         match (self.first, rule) {
-            (None, Some(rule)) => self.first = Some(Rule { rule, at }),
+            (None, Some(rule)) => self.first = Some(BrokenRule { rule, at }),
             _ => {}
         }
         Ok(())

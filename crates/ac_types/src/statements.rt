@@ -3,9 +3,12 @@
 ghost use Rattle.std.specs.Prelude.{◌≡◌, ◌+◌, ◌<◌, OnOk, IfOk};
 ghost use Rattle.ac_tree.specs.Weight.{stmt_weight, some_weight, body_weight};
 ghost use Rattle.ac_types.specs.Around.{inside_loop};
-ghost use Rattle.ac_types.specs.Inner.{in_inner};
-ghost use Rattle.ac_types.specs.Room.{HasSlots, HasDepths};
-ghost use Rattle.ac_types.specs.Statements.{array_len, after, after_listed, after_some, after_init, after_body, after_scope, after_test, after_open, noted_plain, taken, after_expr, after_value, labelled_in, declared_in, stmt_seen, some_seen, body_seen, block_seen, int_seen, array_seen, assign_seen, call_seen, print_seen, return_seen, do_seen, async_seen, cancel_seen, part_names};
+ghost use Rattle.ac_names.specs.Room.{HasSlots, HasDepths};
+ghost use Rattle.ac_names.specs.Statements.{array_len};
+ghost use Rattle.ac_types.specs.inner.Statements.{after, after_listed, after_some, after_init, after_body, after_scope};
+ghost use Rattle.ac_types.specs.inner.Statements.{after_test, after_open, noted_plain, after_expr, after_value, stmt_seen};
+ghost use Rattle.ac_types.specs.inner.Statements.{some_seen, body_seen, block_seen, int_seen, array_seen, assign_seen};
+ghost use Rattle.ac_types.specs.inner.Statements.{call_seen, print_seen, return_seen, do_seen, async_seen, cancel_seen};
 
 use crate::around::{Around, Position};
 use crate::expressions::{see_expr, see_value, see_values};
@@ -13,37 +16,19 @@ use crate::judged::{
     judge_array, judge_async, judge_body, judge_cancel, judge_leave, judge_once, judge_print,
     judge_return,
 };
-use crate::meaning::Meaning;
 use crate::numbered::Tables;
+use crate::rule::Rule;
 use crate::walk::Walk;
 use ac_base::{Boxed, Bytes, List, Name, NoMemory};
+use ac_names::array_len;
 use ac_tree::{Expr, Stmt};
-
-/// The elements of an array, or 0 where that may not be its size.
-pub fn array_len(size: i64) -> u32
-    ensures { result ≡ array_len size }
-{
-    if 0 <= size && size <= 4096 {
-        size as u32
-    } else {
-        0
-    }
-}
 
 impl Walk {
     /// Notes a node that calls nothing.
-    pub fn note(&mut self, at: u32, rule: Option<u8>) -> Result<(), NoMemory>
+    pub fn note(&mut self, at: u32, rule: Option<Rule>) -> Result<(), NoMemory>
         ensures { OnOk result (self.new ≡ noted_plain at rule self.old) }
     {
         self.seen.note(at, rule, None)
-    }
-
-    /// Gives so many slots.
-    pub fn take(&mut self, slots: u32)
-        requires { self.old.names.slot + slots < 4294967296 }
-        ensures { self.new ≡ taken slots self.old }
-    {
-        self.names.slot += slots;
     }
 
     /// Sees an expression at its position.
@@ -85,73 +70,6 @@ impl Walk {
             value,
         )
     }
-
-    /// What a name means in the innermost scope.
-    pub fn before(&self, name: &Name) -> Option<Meaning>
-        ensures { result ≡ in_inner name.now self.now.names.scopes }
-    {
-        self.names.scopes.find_inner(name)
-    }
-
-    /// Opens the scope of labels of a `do`.
-    fn label(&mut self, label: &Option<Name>, depth: u32) -> Result<(), NoMemory>
-        ensures { OnOk result (self.new ≡ labelled_in label.now depth self.old) }
-    {
-        let slot = self.names.slot;
-        self.names.labels.open()?;
-        match label {
-            None => Ok(()),
-            Some(name) => {
-                let _ = self
-                    .names
-                    .labels
-                    .declare(name, Meaning::Label { depth, slot })?;
-                Ok(())
-            }
-        }
-    }
-
-    /// Declares what a statement declares that took its slots from a slot on.
-    fn declare(&mut self, depth: u32, slot: u32, stmt: &Stmt) -> Result<(), NoMemory>
-        ensures { OnOk result (self.new ≡ declared_in (part_names (stmt_seen stmt.now)) depth slot self.old) }
-    {
-        match stmt {
-            Stmt::Int {
-                at: _,
-                name,
-                value: _,
-            } => {
-                let _ = self
-                    .names
-                    .scopes
-                    .declare(name, Meaning::Local { depth, slot })?;
-                Ok(())
-            }
-            Stmt::Array { at: _, name, size } => {
-                let len = array_len(*size);
-                let _ = self
-                    .names
-                    .scopes
-                    .declare(name, Meaning::LocalArray { depth, slot, len })?;
-                Ok(())
-            }
-            Stmt::Block { .. } => Ok(()),
-            Stmt::Empty { .. } => Ok(()),
-            Stmt::Assign { .. } => Ok(()),
-            Stmt::Call { .. } => Ok(()),
-            Stmt::Print { .. } => Ok(()),
-            Stmt::If { .. } => Ok(()),
-            Stmt::While { .. } => Ok(()),
-            Stmt::For { .. } => Ok(()),
-            Stmt::Break { .. } => Ok(()),
-            Stmt::Continue { .. } => Ok(()),
-            Stmt::Return { .. } => Ok(()),
-            Stmt::Do { .. } => Ok(()),
-            Stmt::Async { .. } => Ok(()),
-            Stmt::Cancel { .. } => Ok(()),
-            Stmt::Yield { .. } => Ok(()),
-        }
-    }
 }
 
 fn see_int(
@@ -165,9 +83,10 @@ fn see_int(
     requires { walk.old.names.slot + 1 < 4294967296 }
     ensures { OnOk result (walk.new ≡ after tables.now around (int_seen at name.now value.now) walk.old) }
 {
-    walk.note(at, judge_once(walk.before(name)))?;
+    let before = walk.names.scopes.find_inner(name);
+    walk.note(at, judge_once(before))?;
     walk.value(tables, around, Position::Whole, value)?;
-    walk.take(1);
+    walk.names.take(1);
     Ok(())
 }
 
@@ -182,8 +101,9 @@ fn see_array(
     requires { walk.old.names.slot + array_len size < 4294967296 }
     ensures { OnOk result (walk.new ≡ after tables.now around (array_seen at name.now size) walk.old) }
 {
-    walk.note(at, judge_array(walk.before(name), size))?;
-    walk.take(array_len(size));
+    let before = walk.names.scopes.find_inner(name);
+    walk.note(at, judge_array(before, size))?;
+    walk.names.take(array_len(size));
     Ok(())
 }
 
@@ -377,8 +297,7 @@ fn see_do(
     ensures { OnOk result (walk.new ≡ after tables.now around (do_seen at label.now (body_seen body.now)) walk.old) }
 {
     walk.note(at, judge_async(around))?;
-    walk.label(label, around.depth)?;
-    walk.take(1);
+    walk.names.enter_do(label, around.depth)?;
     let around = Around {
         in_do: true,
         in_loop: false,
@@ -457,7 +376,7 @@ fn see_listed(walk: &mut Walk, tables: &Tables, around: Around, stmt: &Stmt) -> 
 {
     let slot = walk.names.slot;
     see_stmt(walk, tables, around, stmt)?;
-    walk.declare(around.depth, slot, stmt)
+    walk.names.declare(around.depth, slot, stmt)
 }
 
 /// Sees the nodes of statements whose declarations have a scope of their own.

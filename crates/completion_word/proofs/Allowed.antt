@@ -17,10 +17,12 @@ use Rattle.completion_word.specs.declared.views.Decision.{Decision}
 use Rattle.completion_word.specs.declared.views.Owner.{Owner}
 use Rattle.completion_word.specs.declared.views.Peer.{Peer}
 use Rattle.completion_word.specs.declared.views.View.{View}
-use Rattle.completion_word.specs.Link.{offer, decision, offer_at, decision_at, code, standing_of, stamp_in, open_by, open_standing, decided_by, decided_standing, AreWords, Answered, IsTrueLook, Agreed, owner_view, peer_view}
+use Rattle.completion_word.specs.Link.{offer, decision, offer_at, decision_at, code, standing_of, stamp_in, open_by, open_standing}
+use Rattle.completion_word.specs.Link.{decided_by, decided_standing, AreWords, Answered, IsTrueLook, Agreed, owner_view, peer_view}
 use Rattle.completion_word.specs.Rule.{WordRule}
-use Rattle.completion_word.specs.Steps.{after_post, after_withdraw, after_learn, after_look, after_take, after_pass, learnt_of, look_of, stamp_seen, SawOfferBelow, SawWithdrawalBelow, Posts, Withdraws, Learns, Looks, Takes, Passes}
-use Rattle.completion_word.proofs.Codes.{standing_is, stamp-offered, stamp-withdrawn, stamp-taken, stamp-passed, withdrawn_not_offered, taken_not_offered, look-open}
+use Rattle.completion_word.specs.Steps.{after_post, after_withdraw, after_learn, after_look, after_take, after_pass, learnt_of, look_of}
+use Rattle.completion_word.specs.Steps.{stamp_seen, SawOfferBelow, SawWithdrawalBelow, ShowsOffer, Posts, Withdraws, Learns, Looks, Takes, Passes}
+use Rattle.completion_word.proofs.Codes.{standing_is, stamp-offered, stamp-withdrawn, stamp-taken, stamp-passed, withdrawn_not_offered, taken_not_offered, look-open, shows-open, shows-decided}
 use Rattle.completion_word.proofs.Growth.{grows_same, grows_push, grows_set, starts_same, starts_push, starts-at, starts-length, told_grows}
 use Rattle.completion_word.proofs.Keeps.{words_post, agree_post, words_withdraw, agree_withdraw, words_find, agree_find, agree_learn, agree_seen, agree_look, words_decide, agree_decide}
 use Rattle.completion_word.proofs.Moves.{knows_owner, knows_peer, by_owner, by_peer, owner_moves, peer_moves}
@@ -31,15 +33,18 @@ loaded places ws i offers ds h = subst (λ (xs : List ℕ). AreWords places xs o
 
 -- ---- post
 
-pub post_allowed : {S : Type 0} (places slots id : ℕ) (me : Me S View) (x : Owner) (i n t : ℕ) → me ≡ (owner_view x, []) → i ≡ length x.offers % places → n ≡ code (Offered t) → length x.offers < length x.learned + places → x.last < t → t < 2 ^ 60
+pub post_allowed : {S : Type 0} (places slots id : ℕ) (me : Me S View) (x : Owner) (i n t : ℕ) → me ≡ (owner_view x, []) → i ≡ length x.offers % places → n ≡ code (Offered t)
+    → length x.offers < length x.learned + places → x.last < t → t < 2 ^ 60
     → Allows (WordRule places) slots id me i (λ _. n) (λ _. Posts (step slots i n 0 none) me n)
 post_allowed {S} places slots id me x i n t is at_word stores room later small =
-    subst (λ (z : Me S View × (ℕ × ℕ)). Allows (WordRule places) slots id z.0 z.1.0 (λ _. z.1.1) (λ _. Posts (step slots z.1.0 z.1.1 0 none) z.0 z.1.1)) (λ j. (sym is j, (sym at_word j, sym stores j))) inner
+    subst (λ (z : Me S View × (ℕ × ℕ)). Allows (WordRule places) slots id z.0 z.1.0 (λ _. z.1.1) (λ _. Posts (step slots z.1.0 z.1.1 0 none) z.0 z.1.1))
+    (λ j. (sym is j, (sym at_word j, sym stores j))) inner
   where
     word : ℕ
     word = length x.offers % places
 
-    inner : Allows (WordRule places) slots id (owner_view x, []) (length x.offers % places) (λ _. code (Offered t)) (λ _. Posts (step {S = S} slots (length x.offers % places) (code (Offered t)) 0 none) (owner_view x, []) (code (Offered t)))
+    inner : Allows (WordRule places) slots id (owner_view x, []) (length x.offers % places) (λ _. code (Offered t))
+        (λ _. Posts (step {S = S} slots (length x.offers % places) (code (Offered t)) 0 none) (owner_view x, []) (code (Offered t)))
     inner s h _ at _ =
         let mine = (h.seats id (owner_view x) at).of_owner x refl in
         let here = by_owner places s h x mine.1 in
@@ -66,7 +71,8 @@ data Finds (ws : List ℕ) (i : ℕ) (x : Owner) (ds : List Decision) (k : ℕ) 
   still : length ds ≤ k → get_or ws i 0 ≡ code (Offered (offer_at x.offers k).stamp) → Finds ws i x ds k
   gone : (u : ℕ) → k < length ds → (decision_at ds k).outcome ≡ outcome.Taken u → get_or ws i 0 ≡ code (Taken u) → Finds ws i x ds k
 
-finds : (places : ℕ) (ws : List ℕ) (x : Owner) (p : Peer) (k : ℕ) → AreWords places ws x.offers p.decisions → Agreed places x p → length x.learned ≤ k → k < length x.offers → (offer_at x.offers k).withdrawn ≡ None → Finds ws (k % places) x p.decisions k
+finds : (places : ℕ) (ws : List ℕ) (x : Owner) (p : Peer) (k : ℕ) → AreWords places ws x.offers p.decisions → Agreed places x p → length x.learned ≤ k → k < length x.offers
+    → (offer_at x.offers k).withdrawn ≡ None → Finds ws (k % places) x p.decisions k
 finds places ws x p k words h low high open_ =
     let z = offer_at x.offers k in
     let d = decision_at p.decisions k in
@@ -79,7 +85,8 @@ finds places ws x p k words h low high open_ =
     (λ (l : length p.decisions ≤ k). still l (words.undecided k high l ∙ ap (λ (w : Option ℕ). code (open_by z.stamp w)) open_))
     (cases_lt k (length p.decisions))
 
-pub withdraw_allowed : (places slots id : ℕ) (me : Me ℕ View) (x : Owner) (k i t u old new : ℕ) → me ≡ (owner_view x, []) → i ≡ k % places → old ≡ code (Offered t) → new ≡ code (Withdrawn u) → length x.learned ≤ k → k < length x.offers → (offer_at x.offers k).withdrawn ≡ None
+pub withdraw_allowed : (places slots id : ℕ) (me : Me ℕ View) (x : Owner) (k i t u old new : ℕ) → me ≡ (owner_view x, []) → i ≡ k % places → old ≡ code (Offered t) → new ≡ code (Withdrawn u)
+    → length x.learned ≤ k → k < length x.offers → (offer_at x.offers k).withdrawn ≡ None
     → t ≡ (offer_at x.offers k).stamp → x.last < u → u < 2 ^ 60
     → Allows (WordRule places) slots id me i (λ n. either (eqb n old) new n) (Withdraws (step slots i old new (some k)) me)
 withdraw_allowed places slots id me x k i t u old new is at_word olds news low high open_ stamp later small =
@@ -87,7 +94,8 @@ withdraw_allowed places slots id me x k i t u old new is at_word olds news low h
     (λ j. (sym is j, (sym at_word j, (sym olds j, sym news j))))
     inner
   where
-    inner : Allows (WordRule places) slots id (owner_view x, []) (k % places) (λ n. either (eqb n (code (Offered t))) (code (Withdrawn u)) n) (Withdraws (step slots (k % places) (code (Offered t)) (code (Withdrawn u)) (some k)) (owner_view x, []))
+    inner : Allows (WordRule places) slots id (owner_view x, []) (k % places) (λ n. either (eqb n (code (Offered t))) (code (Withdrawn u)) n)
+        (Withdraws (step slots (k % places) (code (Offered t)) (code (Withdrawn u)) (some k)) (owner_view x, []))
     inner s h _ at _ =
         let mine = (h.seats id (owner_view x) at).of_owner x refl in
         let here = by_owner places s h x mine.1 in
@@ -140,6 +148,22 @@ withdraw_allowed places slots id me x k i t u old new is at_word olds news low h
 
 -- ---- learn
 
+-- the word of an offer that is not learned shows it
+pub word_shows : (places : ℕ) (ws : List ℕ) (x : Owner) (p : Peer) (k : ℕ) → AreWords places ws x.offers p.decisions → Agreed places x p → length x.learned ≤ k → k < length x.offers
+    → ShowsOffer (offer_at x.offers k) (standing_of (get_or ws (k % places) 0))
+word_shows places ws x p k words h low high =
+    let z = offer_at x.offers k in
+    let n = get_or ws (k % places) 0 in
+    let near = h.offered_within in
+    ⊎_elim
+    (λ (l : k < length p.decisions).
+    let saw = standing_is n (decided_standing (decision_at p.decisions k)) (words.decided k l (omega arith)) in
+    subst (ShowsOffer z) (sym saw) (shows-decided z.stamp z.withdrawn (decision_at p.decisions k) (h.answered k l)))
+    (λ (l : length p.decisions ≤ k).
+    let saw = standing_is n (open_standing z) (words.undecided k high l) in
+    subst (ShowsOffer z) (sym saw) (shows-open z.stamp z.withdrawn))
+    (cases_lt k (length p.decisions))
+
 pub learn_allowed : {S : Type 0} (places slots id : ℕ) (me : Me S View) (x : Owner) (i : ℕ) → me ≡ (owner_view x, []) → i ≡ length x.learned % places → length x.learned < length x.offers
     → Allows (WordRule places) slots id me i (λ n. n) (Learns (step slots i 0 0 none) me)
 learn_allowed {S} places slots id me x i is at_word some_left =
@@ -153,8 +177,10 @@ learn_allowed {S} places slots id me x i is at_word some_left =
         let l = length x.learned in
         let n = get_or s.words (l % places) 0 in
         let y = after_learn (learnt_of (standing_of n)) (standing_of n) x in
-        let saw : l < length ds → standing_of n ≡ decided_standing (decision_at ds l) = λ decided. standing_is n (decided_standing (decision_at ds l)) (here.words.decided l decided here.agreed.offered_within) in
-        let first = here.told.of_peer.first in (
+        let saw : l < length ds → standing_of n ≡ decided_standing (decision_at ds l) =
+        λ decided. standing_is n (decided_standing (decision_at ds l)) (here.words.decided l decided here.agreed.offered_within) in
+        let first = here.told.of_peer.first in
+        let shows = word_shows places s.words x h.peer l here.words here.agreed (le_refl (length x.learned)) some_left in (
           owner_view y,
           keeps,
           tt,
@@ -166,6 +192,7 @@ learn_allowed {S} places slots id me x i is at_word some_left =
               (knows_owner y h.peer h.owner_seat h.peer_seat id mine.0),
           (
             refl,
+            shows,
             (λ t is. let q = here.agreed.found_true l some_left t is in ap learnt_of (saw q.0 ∙ ap decided_by q.1)),
             (λ was_told. ap learnt_of (saw (omega (arith, was_told, starts-length ds x.told first)) ∙ ap decided_standing (starts-at ds x.told l first was_told))),
           ),
@@ -220,14 +247,16 @@ meets : (ws : List ℕ) (i : ℕ) (z : Offer) (t : ℕ) (w : Option ℕ) → z.w
 meets ws i z t None is stamp word = offered (word ∙ (λ j. code (open_by (stamp j) (is j)))) is
 meets ws i z t (Some w) is stamp word = withdrawn w (word ∙ (λ j. code (open_by (stamp j) (is j)))) is
 
-pub take_allowed : {S : Type 0} (places slots id : ℕ) (me : Me S View) (x : Peer) (i t u old new : ℕ) → me ≡ (peer_view x, []) → i ≡ length x.decisions % places → old ≡ code (Offered t) → new ≡ code (Taken u) → x.look ≡ Some (look.Offered t) → t < u
+pub take_allowed : {S : Type 0} (places slots id : ℕ) (me : Me S View) (x : Peer) (i t u old new : ℕ) → me ≡ (peer_view x, []) → i ≡ length x.decisions % places → old ≡ code (Offered t)
+    → new ≡ code (Taken u) → x.look ≡ Some (look.Offered t) → t < u
     → Allows (WordRule places) slots id me i (λ n. either (eqb n old) new n) (Takes (step slots i old new none) me)
 take_allowed {S} places slots id me x i t u old new is at_word olds news showed later =
     subst (λ (z : Me S View × (ℕ × (ℕ × ℕ))). Allows (WordRule places) slots id z.0 z.1.0 (λ n. either (eqb n z.1.1.0) z.1.1.1 n) (Takes (step slots z.1.0 z.1.1.0 z.1.1.1 none) z.0))
     (λ j. (sym is j, (sym at_word j, (sym olds j, sym news j))))
     inner
   where
-    inner : Allows (WordRule places) slots id (peer_view x, []) (length x.decisions % places) (λ n. either (eqb n (code (Offered t))) (code (Taken u)) n) (Takes (step {S = S} slots (length x.decisions % places) (code (Offered t)) (code (Taken u)) none) (peer_view x, []))
+    inner : Allows (WordRule places) slots id (peer_view x, []) (length x.decisions % places) (λ n. either (eqb n (code (Offered t))) (code (Taken u)) n)
+        (Takes (step {S = S} slots (length x.decisions % places) (code (Offered t)) (code (Taken u)) none) (peer_view x, []))
     inner s h _ at _ =
         let mine = (h.seats id (peer_view x) at).of_peer x refl in
         let here = by_peer places s h x mine.1 in
@@ -243,7 +272,8 @@ take_allowed {S} places slots id me x i t u old new is at_word olds news showed 
               let d = decision (outcome.Taken u) t in
               let y = after_take taking.Won u x in
               let stored : (λ (v : ℕ). decision (outcome.Taken u) v) (stamp_seen x.look) ≡ d = ap (λ (l : Option Look). decision (outcome.Taken u) (stamp_seen l)) showed in
-              let answer : Answered z.stamp z.withdrawn (decision (outcome.Taken u) (stamp_seen x.look)) = subst (λ (q : ℕ × (Option ℕ × Decision)). Answered q.0 q.1.0 q.1.1) (λ j. (sym saw.1 j, (sym open_ j, sym stored j))) (u, later, refl) in
+              let answer : Answered z.stamp z.withdrawn (decision (outcome.Taken u) (stamp_seen x.look)) =
+              subst (λ (q : ℕ × (Option ℕ × Decision)). Answered q.0 q.1.0 q.1.1) (λ j. (sym saw.1 j, (sym open_ j, sym stored j))) (u, later, refl) in
               let e : eqb n (code (Offered t)) ≡ true = eq-eqb n (code (Offered t)) found in
               let near = here.agreed.offered_within in
               let decided = here.agreed.learned_decided in
@@ -254,7 +284,8 @@ take_allowed {S} places slots id me x i t u old new is at_word olds news showed 
                 peer_moves places s here id y (peer_view y) (set s.words (r % places) (code (Taken u))) mine.0
                     (words_decide places s.words o.offers x.decisions (decision (outcome.Taken u) (stamp_seen x.look)) here.words h.some_place saw.0 (omega (arith, near, decided)))
                     (agree_decide places o.offers o.learned o.last x.decisions x.look (decision (outcome.Taken u) (stamp_seen x.look)) here.agreed saw.0 answer)
-                    (told_grows o.told o.told_look x.told_offers o.offers o.offers x.decisions y.decisions (grows_same o.offers) (starts_push x.decisions (decision (outcome.Taken u) (stamp_seen x.look))) here.told)
+                    (told_grows o.told o.told_look x.told_offers o.offers o.offers x.decisions y.decisions (grows_same o.offers)
+                    (starts_push x.decisions (decision (outcome.Taken u) (stamp_seen x.look))) here.told)
                     (starts_push x.decisions (decision (outcome.Taken u) (stamp_seen x.look)))
                     (knows_peer o y h.owner_seat h.peer_seat id mine.0),
                 (ap (λ (v : ℕ). (peer_view (after_take taking.Won v x), [])) (sym (stamp-taken u)), small),
@@ -269,7 +300,8 @@ take_allowed {S} places slots id me x i t u old new is at_word olds news showed 
                 tt,
                 peer_moves places s here id y (peer_view y) (set s.words (r % places) n) mine.0
                     (loaded places s.words (r % places) o.offers x.decisions here.words)
-                    (agree_seen places o.offers o.learned o.last x.decisions x.look (Some (look.Withdrawn w)) here.agreed (λ l now. let same : look.Withdrawn w ≡ l = cc in subst (IsTrueLook o.offers r) same (saw.0, is_withdrawn)))
+                    (agree_seen places o.offers o.learned o.last x.decisions x.look (Some (look.Withdrawn w)) here.agreed
+                    (λ l now. let same : look.Withdrawn w ≡ l = cc in subst (IsTrueLook o.offers r) same (saw.0, is_withdrawn)))
                     here.told
                     (starts_same x.decisions)
                     (knows_peer o y h.owner_seat h.peer_seat id mine.0),
@@ -285,12 +317,15 @@ withdrawal_seen (Some (look.Offered t)) u h = absurd h
 withdrawal_seen (Some (look.Withdrawn w)) u h = (w, refl, h)
 withdrawal_seen (Some look.Nothing) u h = absurd h
 
-pub pass_allowed : {S : Type 0} (places slots id : ℕ) (me : Me S View) (x : Peer) (i w u n : ℕ) → me ≡ (peer_view x, []) → i ≡ length x.decisions % places → n ≡ code (Passed u) → x.look ≡ Some (look.Withdrawn w) → w < u
+pub pass_allowed : {S : Type 0} (places slots id : ℕ) (me : Me S View) (x : Peer) (i w u n : ℕ) → me ≡ (peer_view x, []) → i ≡ length x.decisions % places → n ≡ code (Passed u)
+    → x.look ≡ Some (look.Withdrawn w) → w < u
     → Allows (WordRule places) slots id me i (λ _. n) (λ _. Passes (step slots i n 0 none) me n)
 pass_allowed {S} places slots id me x i w u n is at_word stores showed later =
-    subst (λ (z : Me S View × (ℕ × ℕ)). Allows (WordRule places) slots id z.0 z.1.0 (λ _. z.1.1) (λ _. Passes (step slots z.1.0 z.1.1 0 none) z.0 z.1.1)) (λ j. (sym is j, (sym at_word j, sym stores j))) inner
+    subst (λ (z : Me S View × (ℕ × ℕ)). Allows (WordRule places) slots id z.0 z.1.0 (λ _. z.1.1) (λ _. Passes (step slots z.1.0 z.1.1 0 none) z.0 z.1.1))
+    (λ j. (sym is j, (sym at_word j, sym stores j))) inner
   where
-    inner : Allows (WordRule places) slots id (peer_view x, []) (length x.decisions % places) (λ _. code (Passed u)) (λ _. Passes (step {S = S} slots (length x.decisions % places) (code (Passed u)) 0 none) (peer_view x, []) (code (Passed u)))
+    inner : Allows (WordRule places) slots id (peer_view x, []) (length x.decisions % places) (λ _. code (Passed u))
+        (λ _. Passes (step {S = S} slots (length x.decisions % places) (code (Passed u)) 0 none) (peer_view x, []) (code (Passed u)))
     inner s h _ at _ =
         let mine = (h.seats id (peer_view x) at).of_peer x refl in
         let here = by_peer places s h x mine.1 in
@@ -300,7 +335,8 @@ pass_allowed {S} places slots id me x i w u n is at_word stores showed later =
         let saw = here.agreed.look_true (look.Withdrawn w) showed in
         let few = here.agreed.counts_small in
         let d = decision (outcome.Passed u) (stamp_seen x.look) in
-        let answer : Answered z.stamp z.withdrawn d = subst (λ (q : Option ℕ × Option Look). Answered z.stamp q.0 (decision (outcome.Passed u) (stamp_seen q.1))) (λ j. (sym saw.1 j, sym showed j)) (u, later, refl) in
+        let answer : Answered z.stamp z.withdrawn d = subst (λ (q : Option ℕ × Option Look). Answered z.stamp q.0 (decision (outcome.Passed u) (stamp_seen q.1))) (λ j. (sym saw.1 j, sym showed j))
+        (u, later, refl) in
         let y = after_pass u x in
         let near = here.agreed.offered_within in
         let decided = here.agreed.learned_decided in (

@@ -1,13 +1,14 @@
 -- What a word says is what was written into it.
-use Rattle.std.proofs.Common.{◌≡◌, ◌≢◌, ℕ, ◌+◌, ◌*◌, ◌/◌, ◌%◌, List, [], ◌∷◌, ◌++◌, Option, Some, None, refl, ap, ◌∙◌, arith}
+use Rattle.std.proofs.Common.{◌≡◌, ◌≢◌, ℕ, ◌+◌, ◌*◌, ◌/◌, ◌%◌, List, [], ◌∷◌, ◌++◌, Option, Some, None, refl, sym, ap, ◌∙◌, subst, arith}
 use Rattle.completion_word.specs.declared.answers.Learnt.TheVariants as learnt
 use Rattle.completion_word.specs.declared.answers.Look.TheVariants as look
 use Rattle.completion_word.specs.declared.standing.Standing.{Standing}
 use Rattle.completion_word.specs.declared.standing.Standing.TheVariants.{Unused, Offered, Withdrawn, Taken, Passed}
 use Rattle.completion_word.specs.declared.views.Outcome.{Outcome}
 use Rattle.completion_word.specs.declared.views.Outcome.TheVariants as outcome
-use Rattle.completion_word.specs.Link.{code, standing_by, standing_of, stamp_in, open_by, decided_by}
-use Rattle.completion_word.specs.Steps.{learnt_of, look_of, with_learnt}
+use Rattle.completion_word.specs.declared.views.Decision.{Decision}
+use Rattle.completion_word.specs.Link.{code, standing_by, standing_of, stamp_in, open_by, decided_by, decided_standing, Answered}
+use Rattle.completion_word.specs.Steps.{learnt_of, look_of, with_learnt, Shows}
 
 pub standing-code : (s : Standing) → standing_of (code s) ≡ s
 standing-code Unused = refl
@@ -46,6 +47,16 @@ learnt-open stamp (Some w) = refl
 pub with_learnt-decided : (how : Outcome) (learned : List Outcome) → with_learnt (learnt_of (decided_by how)) learned ≡ learned ++ how ∷ []
 with_learnt-decided (outcome.Taken t) learned = refl
 with_learnt-decided (outcome.Passed t) learned = refl
+
+-- an offer that is not decided shows as its owner left it
+pub shows-open : (stamp : ℕ) (w : Option ℕ) → Shows stamp w (open_by stamp w)
+shows-open stamp None = (refl, refl)
+shows-open stamp (Some w) = refl
+
+-- and else as it was decided
+pub shows-decided : (stamp : ℕ) (w : Option ℕ) (d : Decision) → Answered stamp w d → Shows stamp w (decided_standing d)
+shows-decided stamp None d h = subst (λ (e : Decision). Shows stamp None (decided_standing e)) (sym h.2) (refl, h.1)
+shows-decided stamp (Some w) d h = subst (λ (e : Decision). Shows stamp (Some w) (decided_standing e)) (sym h.2) (w, refl, h.1)
 
 -- a look shows an offer that is not decided, and no decision
 pub look-decided : (how : Outcome) → look_of (decided_by how) ≡ look.Nothing

@@ -52,7 +52,8 @@ pub starts_more : (first old new : List Decision) → StartsWith new old → Sta
 starts_more first old new more h = (h.0 ++ more.0, more.1 ∙ (λ i. h.1 i ++ more.0) ∙ append_assoc first h.0 more.0)
 
 -- what was true of a note of the peer stays true
-pub past_grows : (told : List Decision) (seen : Option Sighting) (offers offers' : List Offer) (ds ds' : List Decision) → Grows offers offers' → StartsWith ds' ds → IsPast told seen offers ds → IsPast told seen offers' ds'
+pub past_grows : (told : List Decision) (seen : Option Sighting) (offers offers' : List Offer) (ds ds' : List Decision) → Grows offers offers' → StartsWith ds' ds → IsPast told seen offers ds
+    → IsPast told seen offers' ds'
 past_grows told seen offers offers' ds ds' g more h = record {
   first = starts_more told ds ds' more h.first;
   look_true = λ s is. look_grows offers offers' s.number s.look g (h.look_true s is);
@@ -61,7 +62,8 @@ past_grows told seen offers offers' ds ds' g more h = record {
 pub starts-length : (decisions first : List Decision) → StartsWith decisions first → length first ≤ length decisions
 starts-length decisions first h = omega (arith, length-append first h.0, ap length h.1)
 
-pub told_grows : (told : List Decision) (seen : Option Sighting) (known : ℕ) (offers offers' : List Offer) (ds ds' : List Decision) → Grows offers offers' → StartsWith ds' ds → IsTold told seen known offers ds → IsTold told seen known offers' ds'
+pub told_grows : (told : List Decision) (seen : Option Sighting) (known : ℕ) (offers offers' : List Offer) (ds ds' : List Decision) → Grows offers offers' → StartsWith ds' ds
+    → IsTold told seen known offers ds → IsTold told seen known offers' ds'
 told_grows told seen known offers offers' ds ds' g more h = record { of_peer = past_grows told seen offers offers' ds ds' g more h.of_peer; of_owner = omega (arith, h.of_owner, g.more) }
 
 -- a decision of a prefix is the decision of its number

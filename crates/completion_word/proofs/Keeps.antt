@@ -1,5 +1,6 @@
 -- Each step on a word keeps what is said of the words and of the parts of the two views that they rest on.
-use Rattle.std.proofs.Common.{◌≡◌, ℕ, ◌+◌, ◌-◌, ◌%◌, ◌^◌, ◌<◌, ◌≤◌, List, [], ◌∷◌, ◌++◌, length, get_or, set, Option, Some, None, sym, refl, ap, ◌∙◌, subst, ⊎_elim, arith, length-append, length-set, get_or-set_other, get_or-set_same, le_refl}
+use Rattle.std.proofs.Common.{◌≡◌, ℕ, ◌+◌, ◌-◌, ◌%◌, ◌^◌, ◌<◌, ◌≤◌, List, [], ◌∷◌, ◌++◌, length, get_or, set, Option, Some, None, sym}
+use Rattle.std.proofs.Common.{refl, ap, ◌∙◌, subst, ⊎_elim, arith, length-append, length-set, get_or-set_other, get_or-set_same, le_refl}
 use Rattle.std.specs.Option.{ForSome}
 use Rattle.std.proofs.lemmas.List.{get_or_append_left}
 use Rattle.std.proofs.lemmas.Bool.{cases_lt}
@@ -21,7 +22,8 @@ use Rattle.completion_word.proofs.Growth.{grows_push, grows_set, look_grows}
 
 -- ---- post
 
-pub words_post : (places : ℕ) (ws : List ℕ) (offers : List Offer) (ds : List Decision) (t : ℕ) → AreWords places ws offers ds → 0 < places → length ds ≤ length offers → length offers < length ds + places
+pub words_post : (places : ℕ) (ws : List ℕ) (offers : List Offer) (ds : List Decision) (t : ℕ) → AreWords places ws offers ds → 0 < places → length ds ≤ length offers
+    → length offers < length ds + places
     → AreWords places (set ws (length offers % places) (code (Offered t))) (offers ++ offer t ∷ []) ds
 words_post places ws offers ds t h some_place decided room =
     let s = length offers in
@@ -38,7 +40,8 @@ words_post places ws offers ds t h some_place decided room =
       unused = λ k sk l. get_or-set_other ws (s % places) k v 0 (λ same. let low : s % places ≡ s = mod-eq_of_lt (omega arith) in omega arith) ∙ h.unused k (omega arith) l;
     }
 
-pub agree_post : (places : ℕ) (offers : List Offer) (learned : List Outcome) (last : ℕ) (ds : List Decision) (seen : Option Look) (t : ℕ) → Agree places offers learned last ds seen → length offers < length learned + places → last < t → t < 2 ^ 60
+pub agree_post : (places : ℕ) (offers : List Offer) (learned : List Outcome) (last : ℕ) (ds : List Decision) (seen : Option Look) (t : ℕ) → Agree places offers learned last ds seen
+    → length offers < length learned + places → last < t → t < 2 ^ 60
     → Agree places (offers ++ offer t ∷ []) learned t ds seen
 agree_post places offers learned last ds seen t h room later small =
     let s = length offers in
@@ -63,7 +66,8 @@ agree_post places offers learned last ds seen t h room later small =
 
 -- ---- withdraw
 
-pub words_withdraw : (places : ℕ) (ws : List ℕ) (offers : List Offer) (ds : List Decision) (k u : ℕ) (y : Offer) → AreWords places ws offers ds → 0 < places → length offers ≤ length ds + places → length ds ≤ k → k < length offers
+pub words_withdraw : (places : ℕ) (ws : List ℕ) (offers : List Offer) (ds : List Decision) (k u : ℕ) (y : Offer) → AreWords places ws offers ds → 0 < places → length offers ≤ length ds + places
+    → length ds ≤ k → k < length offers
     → y.withdrawn ≡ Some u → AreWords places (set ws (k % places) (code (Withdrawn u))) (set offers k y) ds
 words_withdraw places ws offers ds k u y h some_place near undecided inside is =
     let r = length ds in
@@ -79,7 +83,8 @@ words_withdraw places ws offers ds k u y h some_place near undecided inside is =
       unused = λ j sj l. get_or-set_other ws (k % places) j v 0 (λ at. let low : k % places ≡ k = mod-eq_of_lt (omega arith) in omega arith) ∙ h.unused j (omega arith) l;
     }
 
-pub agree_withdraw : (places : ℕ) (offers : List Offer) (learned : List Outcome) (last : ℕ) (ds : List Decision) (seen : Option Look) (k u : ℕ) → Agree places offers learned last ds seen → length ds ≤ k → k < length offers → (offer_at offers k).withdrawn ≡ None → last < u → u < 2 ^ 60
+pub agree_withdraw : (places : ℕ) (offers : List Offer) (learned : List Outcome) (last : ℕ) (ds : List Decision) (seen : Option Look) (k u : ℕ) → Agree places offers learned last ds seen
+    → length ds ≤ k → k < length offers → (offer_at offers k).withdrawn ≡ None → last < u → u < 2 ^ 60
     → Agree places (set offers k (record (offer_at offers k) { withdrawn = Some u })) learned u ds seen
 agree_withdraw places offers learned last ds seen k u h undecided inside open_ later small =
     let r = length ds in
@@ -104,7 +109,8 @@ agree_withdraw places offers learned last ds seen k u h undecided inside open_ l
     }
 
 -- a withdrawal that came too late leaves the words
-pub words_find : (places : ℕ) (ws : List ℕ) (offers : List Offer) (ds : List Decision) (k : ℕ) (found : Option ℕ) → AreWords places ws offers ds → AreWords places ws (set offers k (record (offer_at offers k) { found_taken = found })) ds
+pub words_find : (places : ℕ) (ws : List ℕ) (offers : List Offer) (ds : List Decision) (k : ℕ) (found : Option ℕ) → AreWords places ws offers ds
+    → AreWords places ws (set offers k (record (offer_at offers k) { found_taken = found })) ds
 words_find places ws offers ds k found h =
     let y : Offer = record (offer_at offers k) { found_taken = found } in
     let same : length (set offers k y) ≡ length offers = length-set offers k y in record {
@@ -114,7 +120,8 @@ words_find places ws offers ds k found h =
       unused = λ j sj l. h.unused j (omega arith) l;
     }
 
-pub agree_find : (places : ℕ) (offers : List Offer) (learned : List Outcome) (last : ℕ) (ds : List Decision) (seen : Option Look) (k t : ℕ) → Agree places offers learned last ds seen → k < length ds → (decision_at ds k).outcome ≡ outcome.Taken t
+pub agree_find : (places : ℕ) (offers : List Offer) (learned : List Outcome) (last : ℕ) (ds : List Decision) (seen : Option Look) (k t : ℕ) → Agree places offers learned last ds seen → k < length ds
+    → (decision_at ds k).outcome ≡ outcome.Taken t
     → Agree places (set offers k (record (offer_at offers k) { found_taken = Some t })) learned last ds seen
 agree_find places offers learned last ds seen k t h decided taken =
     let r = length ds in
@@ -158,7 +165,8 @@ agree_learnt places offers learned last ds seen h more =
       look_true = h.look_true;
     }
 
-pub agree_learn : (places : ℕ) (ws : List ℕ) (offers : List Offer) (learned : List Outcome) (last : ℕ) (ds : List Decision) (seen : Option Look) → AreWords places ws offers ds → Agree places offers learned last ds seen → length learned < length offers
+pub agree_learn : (places : ℕ) (ws : List ℕ) (offers : List Offer) (learned : List Outcome) (last : ℕ) (ds : List Decision) (seen : Option Look) → AreWords places ws offers ds
+    → Agree places offers learned last ds seen → length learned < length offers
     → Agree places offers (with_learnt (learnt_of (standing_of (get_or ws (length learned % places) 0))) learned) last ds seen
 agree_learn places ws offers learned last ds seen words h some_left =
     let l = length learned in
@@ -177,7 +185,8 @@ agree_learn places ws offers learned last ds seen words h some_left =
 
 -- ---- look
 
-pub agree_seen : (places : ℕ) (offers : List Offer) (learned : List Outcome) (last : ℕ) (ds : List Decision) (seen seen' : Option Look) → Agree places offers learned last ds seen → ForSome seen' (IsTrueLook offers (length ds)) → Agree places offers learned last ds seen'
+pub agree_seen : (places : ℕ) (offers : List Offer) (learned : List Outcome) (last : ℕ) (ds : List Decision) (seen seen' : Option Look) → Agree places offers learned last ds seen
+    → ForSome seen' (IsTrueLook offers (length ds)) → Agree places offers learned last ds seen'
 agree_seen places offers learned last ds seen seen' h true_ = record {
   learned_decided = h.learned_decided;
   decided_offered = h.decided_offered;
@@ -192,7 +201,8 @@ agree_seen places offers learned last ds seen seen' h true_ = record {
 }
 
 -- the word in which the next offer will stand shows nothing
-nothing_yet : (places : ℕ) (ws : List ℕ) (offers : List Offer) (ds : List Decision) → AreWords places ws offers ds → 0 < places → length ds ≤ length offers → length offers ≤ length ds → look_of (standing_of (get_or ws (length ds % places) 0)) ≡ look.Nothing
+nothing_yet : (places : ℕ) (ws : List ℕ) (offers : List Offer) (ds : List Decision) → AreWords places ws offers ds → 0 < places → length ds ≤ length offers → length offers ≤ length ds
+    → look_of (standing_of (get_or ws (length ds % places) 0)) ≡ look.Nothing
 nothing_yet places ws offers ds h some_place decided all =
     let r = length ds in
     let Word : ℕ → Look = λ i. look_of (standing_of (get_or ws i 0)) in
@@ -211,7 +221,8 @@ shown_true : (offers : List Offer) (r : ℕ) (w : Option ℕ) → r < length off
 shown_true offers r None inside is = (inside, refl)
 shown_true offers r (Some w) inside is = (inside, is)
 
-pub agree_look : (places : ℕ) (ws : List ℕ) (offers : List Offer) (learned : List Outcome) (last : ℕ) (ds : List Decision) (seen : Option Look) → AreWords places ws offers ds → 0 < places → Agree places offers learned last ds seen
+pub agree_look : (places : ℕ) (ws : List ℕ) (offers : List Offer) (learned : List Outcome) (last : ℕ) (ds : List Decision) (seen : Option Look) → AreWords places ws offers ds → 0 < places
+    → Agree places offers learned last ds seen
     → Agree places offers learned last ds (Some (look_of (standing_of (get_or ws (length ds % places) 0))))
 agree_look places ws offers learned last ds seen words some_place h =
     let r = length ds in
@@ -228,7 +239,8 @@ agree_look places ws offers learned last ds seen words some_place h =
 
 -- ---- take and pass
 
-pub words_decide : (places : ℕ) (ws : List ℕ) (offers : List Offer) (ds : List Decision) (d : Decision) → AreWords places ws offers ds → 0 < places → length ds < length offers → length offers ≤ length ds + places
+pub words_decide : (places : ℕ) (ws : List ℕ) (offers : List Offer) (ds : List Decision) (d : Decision) → AreWords places ws offers ds → 0 < places → length ds < length offers
+    → length offers ≤ length ds + places
     → AreWords places (set ws (length ds % places) (code (decided_standing d))) offers (ds ++ d ∷ [])
 words_decide places ws offers ds d h some_place open_ near =
     let s = length offers in
@@ -245,7 +257,8 @@ words_decide places ws offers ds d h some_place open_ near =
       unused = λ k sk l. get_or-set_other ws (r % places) k v 0 (λ at. let low : r % places ≡ r = mod-eq_of_lt (omega arith) in omega arith) ∙ h.unused k sk l;
     }
 
-pub agree_decide : (places : ℕ) (offers : List Offer) (learned : List Outcome) (last : ℕ) (ds : List Decision) (seen : Option Look) (d : Decision) → Agree places offers learned last ds seen → length ds < length offers → Answers (offer_at offers (length ds)) d
+pub agree_decide : (places : ℕ) (offers : List Offer) (learned : List Outcome) (last : ℕ) (ds : List Decision) (seen : Option Look) (d : Decision) → Agree places offers learned last ds seen
+    → length ds < length offers → Answers (offer_at offers (length ds)) d
     → Agree places offers learned last (ds ++ d ∷ []) None
 agree_decide places offers learned last ds seen d h open_ answer =
     let r = length ds in

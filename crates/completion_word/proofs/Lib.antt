@@ -7,3 +7,4 @@ pub mod Allowed
 pub mod Sides
 pub mod Notes
 pub mod Laws
+pub mod Examples

@@ -1,5 +1,6 @@
 -- Lists read by an index, and the places of two numbers.
-use Rattle.std.proofs.Common.{◌≡◌, ◌≢◌, ℕ, zero, suc, ◌+◌, ◌%◌, ◌<◌, ◌≤◌, ◌⊎◌, List, [], ◌∷◌, ◌++◌, length, get_or, inl, inr, ⊎_elim, sym, refl, ap, subst, arith, length-append, length-set, get_or-set_other, get_or-set_same, set}
+use Rattle.std.proofs.Common.{◌≡◌, ◌≢◌, ℕ, zero, suc, ◌+◌, ◌%◌, ◌<◌, ◌≤◌, ◌⊎◌, List, [], ◌∷◌, ◌++◌, length, get_or, inl, inr, ⊎_elim}
+use Rattle.std.proofs.Common.{sym, refl, ap, subst, arith, length-append, length-set, get_or-set_other, get_or-set_same, set}
 use Rattle.std.proofs.lemmas.List.{get_or_append_left, get_or_push}
 use Rattle.std.proofs.lemmas.Bool.{cases_lt}
 use Rattle.atomic_table.proofs.Lists.{one_turn}
@@ -9,14 +10,16 @@ use native.Mathlib.Decide.{ℕ_discrete}
 use lib.ListN.{get_elem?}
 
 -- what holds of each item and of a new one holds of each item of the longer list
-pub snoc_all : {X : Type 0} (P : ℕ → X → Type 0) (xs : List X) (x d : X) → ((k : ℕ) → k < length xs → P k (get_or xs k d)) → P (length xs) x → (k : ℕ) → k < length (xs ++ x ∷ []) → P k (get_or (xs ++ x ∷ []) k d)
+pub snoc_all : {X : Type 0} (P : ℕ → X → Type 0) (xs : List X) (x d : X) → ((k : ℕ) → k < length xs → P k (get_or xs k d)) → P (length xs) x → (k : ℕ) → k < length (xs ++ x ∷ [])
+    → P k (get_or (xs ++ x ∷ []) k d)
 snoc_all {X} P xs x d below here k l =
     dite (ℕ_discrete k (length xs))
     (λ e. subst (λ (j : ℕ). P j (get_or (xs ++ x ∷ []) j d)) (sym e) (subst (P (length xs)) (sym (get_or_push xs x d (length xs) refl)) here))
     (λ ne. let lt : k < length xs = omega (arith, length-append xs (x ∷ [])) in subst (P k) (sym (get_or_append_left xs (x ∷ []) d k lt)) (below k lt))
 
 -- the same where one item is changed
-pub set_all : {X : Type 0} (P : ℕ → X → Type 0) (xs : List X) (i : ℕ) (y d : X) → ((k : ℕ) → k < length xs → k ≢ i → P k (get_or xs k d)) → (i < length xs → P i y) → (k : ℕ) → k < length (set xs i y) → P k (get_or (set xs i y) k d)
+pub set_all : {X : Type 0} (P : ℕ → X → Type 0) (xs : List X) (i : ℕ) (y d : X) → ((k : ℕ) → k < length xs → k ≢ i → P k (get_or xs k d)) → (i < length xs → P i y) → (k : ℕ) → k < length (set xs i y)
+    → P k (get_or (set xs i y) k d)
 set_all {X} P xs i y d others here k l =
     let lt : k < length xs = omega (arith, length-set xs i y) in
     dite (ℕ_discrete k i)

@@ -17,7 +17,8 @@ use Rattle.completion_word.proofs.Growth.{Grows, grows_same, told_grows, starts_
 -- ---- what one seat knows
 
 -- what a seat knows stays true, if the side that changes is not its own
-pub knows_more : (o o' : Owner) (p p' : Peer) (owner_seat peer_seat seat : ℕ) (v : View) → Grows o.offers o'.offers → StartsWith p'.decisions p.decisions → (seat ≡ owner_seat → o' ≡ o) → (seat ≡ peer_seat → p' ≡ p) → Knows o p owner_seat peer_seat seat v → Knows o' p' owner_seat peer_seat seat v
+pub knows_more : (o o' : Owner) (p p' : Peer) (owner_seat peer_seat seat : ℕ) (v : View) → Grows o.offers o'.offers → StartsWith p'.decisions p.decisions → (seat ≡ owner_seat → o' ≡ o)
+    → (seat ≡ peer_seat → p' ≡ p) → Knows o p owner_seat peer_seat seat v → Knows o' p' owner_seat peer_seat seat v
 knows_more o o' p p' owner_seat peer_seat seat v grows starts owner peer h = record {
   of_owner = λ x is. let q = h.of_owner x is in (q.0, q.1 ∙ sym (owner q.0));
   of_peer = λ x is. let q = h.of_peer x is in (q.0, q.1 ∙ sym (peer q.0));
@@ -50,7 +51,8 @@ knows_nothing o p owner_seat peer_seat seat = record {
 }
 
 -- what is said of a list of views stays true where one seat knows something else
-pub seat_set : (o : Owner) (p : Peer) (owner_seat peer_seat id : ℕ) (w : View) (views : List View) → ((seat : ℕ) (v : View) → get_elem? views seat ≡ some v → seat ≢ id → Knows o p owner_seat peer_seat seat v) → Knows o p owner_seat peer_seat id w
+pub seat_set : (o : Owner) (p : Peer) (owner_seat peer_seat id : ℕ) (w : View) (views : List View)
+    → ((seat : ℕ) (v : View) → get_elem? views seat ≡ some v → seat ≢ id → Knows o p owner_seat peer_seat seat v) → Knows o p owner_seat peer_seat id w
     → (seat : ℕ) (v : View) → get_elem? (set views id w) seat ≡ some v → Knows o p owner_seat peer_seat seat v
 seat_set o p owner_seat peer_seat id w views others knows seat v at = ⊎_elim
     (λ (q : (seat ≡ id) × (w ≡ v)). subst (λ (z : ℕ × View). Knows o p owner_seat peer_seat z.0 z.1) (λ i. (sym q.0 i, q.1 i)) knows)
@@ -58,7 +60,8 @@ seat_set o p owner_seat peer_seat id w views others knows seat v at = ⊎_elim
     (at_set views id seat w v at)
 
 -- the same where a seat comes
-pub seat_push : (o : Owner) (p : Peer) (owner_seat peer_seat : ℕ) (w : View) (views : List View) → ((seat : ℕ) (v : View) → get_elem? views seat ≡ some v → Knows o p owner_seat peer_seat seat v) → Knows o p owner_seat peer_seat (length views) w
+pub seat_push : (o : Owner) (p : Peer) (owner_seat peer_seat : ℕ) (w : View) (views : List View) → ((seat : ℕ) (v : View) → get_elem? views seat ≡ some v → Knows o p owner_seat peer_seat seat v)
+    → Knows o p owner_seat peer_seat (length views) w
     → (seat : ℕ) (v : View) → get_elem? (views ++ w ∷ []) seat ≡ some v → Knows o p owner_seat peer_seat seat v
 seat_push o p owner_seat peer_seat w views before knows seat v at = ⊎_elim
     (λ (q : get_elem? views seat ≡ some v). before seat v q)
@@ -94,7 +97,8 @@ module _ {S : Type 0} where
   }
 
   -- a step of the seat that has the owner's view
-  pub owner_moves : (places : ℕ) (s : State S View) (h : WordRule places s) (id : ℕ) (y : Owner) (w : View) (ws : List ℕ) → id ≡ h.owner_seat → AreWords places ws y.offers h.peer.decisions → Agreed places y h.peer → Told y h.peer → Grows h.owner.offers y.offers
+  pub owner_moves : (places : ℕ) (s : State S View) (h : WordRule places s) (id : ℕ) (y : Owner) (w : View) (ws : List ℕ) → id ≡ h.owner_seat → AreWords places ws y.offers h.peer.decisions
+      → Agreed places y h.peer → Told y h.peer → Grows h.owner.offers y.offers
       → Knows y h.peer h.owner_seat h.peer_seat id w → WordRule places record { words = ws; homes = s.homes; views = set s.views id w }
   owner_moves places s h id y w ws mine words agreed told grows knows = record {
     owner = y;
@@ -111,7 +115,8 @@ module _ {S : Type 0} where
   }
 
   -- a step of the seat that has the peer's view
-  pub peer_moves : (places : ℕ) (s : State S View) (h : WordRule places s) (id : ℕ) (y : Peer) (w : View) (ws : List ℕ) → id ≡ h.peer_seat → AreWords places ws h.owner.offers y.decisions → Agreed places h.owner y → Told h.owner y → StartsWith y.decisions h.peer.decisions
+  pub peer_moves : (places : ℕ) (s : State S View) (h : WordRule places s) (id : ℕ) (y : Peer) (w : View) (ws : List ℕ) → id ≡ h.peer_seat → AreWords places ws h.owner.offers y.decisions
+      → Agreed places h.owner y → Told h.owner y → StartsWith y.decisions h.peer.decisions
       → Knows h.owner y h.owner_seat h.peer_seat id w → WordRule places record { words = ws; homes = s.homes; views = set s.views id w }
   peer_moves places s h id y w ws mine words agreed told starts knows = record {
     owner = h.owner;

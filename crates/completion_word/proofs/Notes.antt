@@ -15,7 +15,8 @@ use Rattle.completion_word.specs.declared.views.PeerNote.{PeerNote}
 use Rattle.completion_word.specs.declared.views.View.{View}
 use Rattle.completion_word.specs.Link.{offer_at, decision_at, sighting, Answers, IsTrueLook, Agreed, Told, IsTold, StartsWith, owner_view, peer_view, no_view}
 use Rattle.completion_word.specs.Rule.{Knows, WordRule}
-use Rattle.completion_word.specs.Steps.{found_by, found_below, known_of, owner_note, seen_at, peer_note, owner_notes, peer_notes, notes_of, with_notes, longer, after_hearing, after_told, owner_after_meeting, AgreesAsTold, HearsOwner, HearsPeer, Checks}
+use Rattle.completion_word.specs.Steps.{found_by, found_below, known_of, owner_note, seen_at, peer_note, owner_notes, peer_notes, notes_of}
+use Rattle.completion_word.specs.Steps.{with_notes, owner_with, peer_with, longer, after_hearing, after_told, owner_after_meeting, AgreesAsTold, HearsOwner, HearsPeer, Checks}
 use Rattle.completion_word.proofs.Growth.{grows_same, starts_same, starts-at, starts-length}
 use Rattle.completion_word.proofs.Moves.{knows_owner, knows_peer, seat_set, seat_push, by_owner, by_peer, owner_moves, peer_moves}
 use Rattle.completion_word.proofs.Sides.{spends, other_was}
@@ -72,7 +73,8 @@ peer_notes-is None n is = absurd (cc)
 peer_notes-is (Some p) n is = (p, refl, cc)
 
 -- the notes of what a seat knows are true
-knows_notes : (places : ℕ) (o : Owner) (p : Peer) (owner_seat peer_seat seat other : ℕ) (v : View) → Agreed places o p → Told o p → Knows o p owner_seat peer_seat seat v → Knows o p owner_seat peer_seat other (notes_of v)
+knows_notes : (places : ℕ) (o : Owner) (p : Peer) (owner_seat peer_seat seat other : ℕ) (v : View) → Agreed places o p → Told o p → Knows o p owner_seat peer_seat seat v
+    → Knows o p owner_seat peer_seat other (notes_of v)
 knows_notes places o p owner_seat peer_seat seat other v agreed told h = record {
   of_owner = λ (x : Owner) (is : (notes_of v).owner ≡ Some x). absurd (cc);
   of_peer = λ (x : Peer) (is : (notes_of v).peer ≡ Some x). absurd (cc);
@@ -130,14 +132,8 @@ takes_in {S} places id other v w s h at apart there =
 
 -- ---- told
 
--- the views of a seat that holds a note of the other side
-abbrev pub peer_with : Peer → OwnerNote → View
-peer_with p n = record { owner = None; peer = Some p; owner_note = Some n; peer_note = None }
-
-abbrev pub owner_with : Owner → PeerNote → View
-owner_with o n = record { owner = Some o; peer = None; owner_note = None; peer_note = Some n }
-
-pub hear_owner_allowed : {S : Type 0} (places slots id : ℕ) (me : Me S View) (x : Peer) (n : OwnerNote) → me ≡ (peer_with x n, []) → Allows (WordRule places) slots id me 0 (λ k. k) (HearsOwner (step slots 0 0 0 none) me)
+pub hear_owner_allowed : {S : Type 0} (places slots id : ℕ) (me : Me S View) (x : Peer) (n : OwnerNote) → me ≡ (peer_with x n, [])
+    → Allows (WordRule places) slots id me 0 (λ k. k) (HearsOwner (step slots 0 0 0 none) me)
 hear_owner_allowed {S} places slots id me x n is = subst (λ (z : Me S View). Allows (WordRule places) slots id z 0 (λ k. k) (HearsOwner (step slots 0 0 0 none) z)) (sym is) inner
   where
     inner : Allows (WordRule places) slots id (peer_with x n, []) 0 (λ k. k) (HearsOwner (step {S = S} slots 0 0 0 none) (peer_with x n, []))
@@ -161,7 +157,8 @@ hear_owner_allowed {S} places slots id me x n is = subst (λ (z : Me S View). Al
 longer_past : (told more : List Decision) (decisions : List Decision) → StartsWith decisions told → StartsWith decisions more → StartsWith decisions (longer told more)
 longer_past told more decisions a b = elim (leb (length told) (length more)) as (λ q. StartsWith decisions (cond q more told)) [ true ↦ b | false ↦ a ]
 
-pub hear_peer_allowed : {S : Type 0} (places slots id : ℕ) (me : Me S View) (x : Owner) (n : PeerNote) → me ≡ (owner_with x n, []) → Allows (WordRule places) slots id me 0 (λ k. k) (HearsPeer (step slots 0 0 0 none) me)
+pub hear_peer_allowed : {S : Type 0} (places slots id : ℕ) (me : Me S View) (x : Owner) (n : PeerNote) → me ≡ (owner_with x n, [])
+    → Allows (WordRule places) slots id me 0 (λ k. k) (HearsPeer (step slots 0 0 0 none) me)
 hear_peer_allowed {S} places slots id me x n is = subst (λ (z : Me S View). Allows (WordRule places) slots id z 0 (λ k. k) (HearsPeer (step slots 0 0 0 none) z)) (sym is) inner
   where
     inner : Allows (WordRule places) slots id (owner_with x n, []) 0 (λ k. k) (HearsPeer (step {S = S} slots 0 0 0 none) (owner_with x n, []))
@@ -176,7 +173,10 @@ hear_peer_allowed {S} places slots id me x n is = subst (λ (z : Me S View). All
           owner_moves places s here id y (owner_view y) (set s.words 0 (get_or s.words 0 0)) mine.0
               (loaded places s.words 0 x.offers h.peer.decisions here.words)
               here.agreed
-              record { of_peer = record { first = longer_past x.told n.decisions h.peer.decisions here.told.of_peer.first note.of_peer.first; look_true = note.of_peer.look_true }; of_owner = here.told.of_owner }
+              record {
+                of_peer = record { first = longer_past x.told n.decisions h.peer.decisions here.told.of_peer.first note.of_peer.first; look_true = note.of_peer.look_true };
+                of_owner = here.told.of_owner;
+              }
               (grows_same x.offers)
               (knows_owner y h.peer h.owner_seat h.peer_seat id mine.0),
           (refl, note.of_owner),
@@ -211,7 +211,8 @@ check_allowed {S} places slots id me x is = subst (λ (z : Me S View). Allows (W
           owner_view x,
           keeps,
           tt,
-          owner_moves places s here id x (owner_view x) (set s.words 0 (get_or s.words 0 0)) mine.0 (loaded places s.words 0 x.offers h.peer.decisions here.words) here.agreed here.told (grows_same x.offers) (knows_owner x h.peer h.owner_seat h.peer_seat id mine.0),
+          owner_moves places s here id x (owner_view x) (set s.words 0 (get_or s.words 0 0)) mine.0 (loaded places s.words 0 x.offers h.peer.decisions here.words) here.agreed here.told
+              (grows_same x.offers) (knows_owner x h.peer h.owner_seat h.peer_seat id mine.0),
           (refl, as_told places x h.peer here.agreed here.told),
         )
 
@@ -237,10 +238,12 @@ agree_met places o p near known h = record {
 }
 
 -- the two views after each side was told of the other
-pub met : (places : ℕ) (o o1 o2 : Owner) (p p1 p2 : Peer) → o1 ≡ o → p1 ≡ after_hearing (owner_note o) p → o2 ≡ after_told (peer_note p1) o1 → p2 ≡ p1 → length o.offers ≤ length o.learned + places → known_of o ≤ length p.decisions → AgreesAsTold o2 → Agreed places o2 p2
+pub met : (places : ℕ) (o o1 o2 : Owner) (p p1 p2 : Peer) → o1 ≡ o → p1 ≡ after_hearing (owner_note o) p → o2 ≡ after_told (peer_note p1) o1 → p2 ≡ p1 → length o.offers ≤ length o.learned + places
+    → known_of o ≤ length p.decisions → AgreesAsTold o2 → Agreed places o2 p2
 met places o o1 o2 p p1 p2 same_owner heard told same_peer near known agrees =
     let whole : longer o.told p.decisions ≡ p.decisions = longer-all o.told p.decisions (omega arith) in
     let peer : p2 ≡ after_hearing (owner_note o) p = same_peer ∙ heard in
     let owner : o2 ≡ after_told (peer_note (after_hearing (owner_note o) p)) o = told ∙ (λ i. after_told (peer_note (heard i)) (same_owner i)) in
-    let final : AgreesAsTold (owner_after_meeting p o) = subst (λ (ds : List Decision). AgreesAsTold (record o { told = ds; told_look = seen_at (length p.decisions) p.look })) whole (subst AgreesAsTold owner agrees) in
+    let final : AgreesAsTold (owner_after_meeting p o) = subst (λ (ds : List Decision). AgreesAsTold (record o { told = ds; told_look = seen_at (length p.decisions) p.look })) whole
+    (subst AgreesAsTold owner agrees) in
     subst (λ (z : Owner × Peer). Agreed places z.0 z.1) (λ i. (sym owner i, sym peer i)) (agree_met places o p near known final)

@@ -12,7 +12,7 @@ use Rattle.completion_word.specs.declared.views.PeerNote.{PeerNote}
 use Rattle.completion_word.specs.declared.views.View.{View}
 use Rattle.completion_word.specs.Link.{Agreed, Told, owner_view, peer_view, both_views, no_view, new_owner, new_peer}
 use Rattle.completion_word.specs.Rule.{Knows, WordRule}
-use Rattle.completion_word.specs.Steps.{owner_part, peer_part, both_parts}
+use Rattle.completion_word.specs.inner.Parts.{owner_part, peer_part, both_parts}
 use Rattle.completion_word.proofs.Moves.{knows_owner, knows_peer, knows_nothing, seat_set, seat_push}
 use Rattle.completion_word.proofs.Growth.{starts_same}
 

@@ -16,10 +16,12 @@ pub record Knows (owner : Owner) (peer : Peer) (owner_seat peer_seat seat : ℕ)
   pub of_peer : ForSome v.peer (λ p. (seat ≡ peer_seat) × (p ≡ peer))
   -- the offers that a note of the owner counts were posted, and all that the owner knew of is decided
   pub of_owner_note : ForSome v.owner_note (λ n. (n.offered ≤ length owner.offers) × (n.known ≤ length peer.decisions))
-  -- what a note of the peer says is true: its decisions are a prefix of the peer's, its look is true, and the peer was told of no more offers than there are
+  -- what a note of the peer says is true: its decisions are a prefix of the peer's, its look is true, and the peer was told of no more
+  -- offers than there are
   pub of_peer_note : ForSome v.peer_note (λ n. IsTold n.decisions n.look n.told_offers owner.offers peer.decisions)
 
--- There are a view of the owner and a view of the peer that agree. The words say how their offers stand; what each was told of the other is true; and so is what every seat knows
+-- There are a view of the owner and a view of the peer that agree. The words say how their offers stand; what each was told of the other is
+-- true; and so is what every seat knows
 pub record WordRule {S : Type 0} (places : ℕ) (s : State S View) : Type 0 where
   pub owner : Owner
   pub peer : Peer

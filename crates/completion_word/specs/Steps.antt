@@ -1,5 +1,7 @@
--- The eleven kinds of step of a link: split, post, withdraw, learn, look, take, pass, join, note, told and check. First what each does to the view of the seat that makes it, and at the end, under "the steps", what a step on a word tells that seat.
-use Rattle.std.specs.Prelude.{◌≡◌, ◌≢◌, ℕ, zero, suc, ◌+◌, ◌^◌, ◌<◌, ◌≤◌, ◌==◌, nat_le, if◌then◌else◌, max, Bool, true, false, List, [], ◌∷◌, ◌++◌, length, slice_set, Option, Some, None}
+-- The eleven kinds of step of a link: split, post, withdraw, learn, look, take, pass, join, note, told and check. First what each does to
+-- the view of the seat that makes it, and at the end, under "the steps", what a step on a word tells that seat.
+use Rattle.std.specs.Prelude.{◌≡◌, ◌≢◌, ℕ, zero, suc, ◌+◌, ◌^◌, ◌<◌, ◌≤◌, ◌==◌, nat_le, if◌then◌else◌, max}
+use Rattle.std.specs.Prelude.{Bool, true, false, List, [], ◌∷◌, ◌++◌, length, slice_set, Option, Some, None}
 use Rattle.std.specs.Option.{ForSome}
 use mathlib.Core.Option as maybe
 use Rattle.atomic_table.specs.Table.{Me, Step}
@@ -24,7 +26,8 @@ use Rattle.completion_word.specs.declared.views.Peer.{Peer}
 use Rattle.completion_word.specs.declared.views.OwnerNote.{OwnerNote}
 use Rattle.completion_word.specs.declared.views.PeerNote.{PeerNote}
 use Rattle.completion_word.specs.declared.views.View.{View}
-use Rattle.completion_word.specs.Link.{offer, decision, sighting, offer_at, decision_at, standing_of, stamp_in, decided_standing, Answers, IsTrueLook, owner_view, peer_view, owner_in, peer_in, outcome_at}
+use Rattle.completion_word.specs.Link.{offer, decision, sighting, offer_at, decision_at, standing_of, stamp_in}
+use Rattle.completion_word.specs.Link.{decided_standing, Answers, IsTrueLook, owner_view, peer_view, owner_in, peer_in, outcome_at}
 
 -- ---- post: the owner stores Offered in the word of its next offer
 
@@ -40,8 +43,15 @@ IsOpen x = (x.withdrawn ≡ None) × (x.found_taken ≡ None)
 
 -- the offer is withdrawn, or the withdrawal came too late and found it taken
 abbrev pub after_withdraw : Withdrawal → ℕ → ℕ → Owner → Owner
-after_withdraw withdrawal.Withdrawn k stamp o = record o { offers = slice_set o.offers k (record (offer_at o.offers k) { withdrawn = Some stamp }); last = stamp }
-after_withdraw (withdrawal.Taken t) k stamp o = record o { offers = slice_set o.offers k (record (offer_at o.offers k) { found_taken = Some t }) }
+after_withdraw withdrawal.Withdrawn k stamp o = record o {
+  offers =
+      slice_set o.offers k (record (offer_at o.offers k) { withdrawn = Some stamp });
+  last = stamp;
+}
+after_withdraw (withdrawal.Taken t) k stamp o = record o {
+  offers =
+      slice_set o.offers k (record (offer_at o.offers k) { found_taken = Some t });
+}
 
 -- what an exchange tells that found this number, as the offer was posted or not: where it did not, it saw the peer's stamp
 abbrev pub withdrawal_if : Bool → ℕ → Withdrawal
@@ -76,6 +86,22 @@ with_learnt learnt.Undecided learned = learned
 -- one load more, what it saw, and one offer more that is learned, where it told of a decision
 abbrev pub after_learn : Learnt → Standing → Owner → Owner
 after_learn told seen o = record o { learned = with_learnt told o.learned; loads = o.loads + 1; saw = seen }
+
+-- what a load may see in the word of an offer that is not learned: the offer with its stamp or its withdrawal with its stamp, as its owner
+-- left it, or a decision with a later stamp than the one of these that it answers
+abbrev pub Shows : ℕ → Option ℕ → Standing → Type 0
+Shows stamp withdrawn Unused = ⊥
+Shows stamp withdrawn (Offered t) = (withdrawn ≡ None) × (t ≡ stamp)
+Shows stamp withdrawn (Withdrawn w) = withdrawn ≡ Some w
+Shows stamp withdrawn (Taken t) = (withdrawn ≡ None) × (stamp < t)
+Shows stamp withdrawn (Passed t) = (w : ℕ) × (withdrawn ≡ Some w) × (w < t)
+
+abbrev pub ShowsOffer : Offer → Standing → Type 0
+ShowsOffer x seen = Shows x.stamp x.withdrawn seen
+
+-- a load sees the first offer that is not learned, and no other
+abbrev pub SeesFirst : Owner → Standing → Type 0
+SeesFirst o seen = ShowsOffer (offer_at o.offers (length o.learned)) seen
 
 -- a load of an offer that a withdrawal found taken tells of that taking
 abbrev pub IsLearntAsFound : Owner → Learnt → Type 0
@@ -153,17 +179,6 @@ taking_if false n = taking.Withdrawn (stamp_in n)
 abbrev pub after_pass : ℕ → Peer → Peer
 after_pass stamp p = after_decision (outcome.Passed stamp) p
 
--- ---- split and join: the two sides part as the words are made, and meet in one seat as they are closed
-
-abbrev pub owner_part : View → View
-owner_part v = record { owner = v.owner; peer = None; owner_note = None; peer_note = None }
-
-abbrev pub peer_part : View → View
-peer_part v = record { owner = None; peer = v.peer; owner_note = None; peer_note = None }
-
-abbrev pub both_parts : View → View → View
-both_parts v w = record { owner = v.owner; peer = w.peer; owner_note = None; peer_note = None }
-
 -- ---- note: a note is copied off a seat, which keeps what it knows
 
 -- the least count of leading offers among which are all that were found taken; in the first, n is the count for the offers after one
@@ -202,9 +217,6 @@ abbrev pub peer_notes : Option Peer → Option PeerNote
 peer_notes None = None
 peer_notes (Some p) = Some (peer_note p)
 
-abbrev pub same_view : View → View
-same_view v = v
-
 abbrev pub notes_of : View → View
 notes_of v = record { owner = None; peer = None; owner_note = owner_notes v.owner; peer_note = peer_notes v.peer }
 
@@ -212,6 +224,13 @@ notes_of v = record { owner = None; peer = None; owner_note = owner_notes v.owne
 
 abbrev pub with_notes : View → View → View
 with_notes v w = record { owner = v.owner; peer = v.peer; owner_note = w.owner_note; peer_note = w.peer_note }
+
+-- the views of a seat that holds a note of the other side
+abbrev pub peer_with : Peer → OwnerNote → View
+peer_with p n = record { owner = None; peer = Some p; owner_note = Some n; peer_note = None }
+
+abbrev pub owner_with : Owner → PeerNote → View
+owner_with o n = record { owner = Some o; peer = None; owner_note = None; peer_note = Some n }
 
 abbrev pub owner_note_or : Option OwnerNote → OwnerNote
 owner_note_or None = record { offered = 0; known = 0 }
@@ -247,9 +266,11 @@ pub record AgreesAsTold (o : Owner) : Type 0 where
   pub decided_offered : length o.told ≤ length o.offers
   pub answered : (k : ℕ) → k < length o.told → Answers (offer_at o.offers k) (decision_at o.told k)
   pub learned_true : (k : ℕ) → k < length o.learned → k < length o.told → outcome_at o.learned k ≡ (decision_at o.told k).outcome
-  pub found_true : (k : ℕ) → k < length o.offers → k < length o.told → ForSome (offer_at o.offers k).found_taken (λ t. (decision_at o.told k).outcome ≡ outcome.Taken t)
+  pub found_true : (k : ℕ) → k < length o.offers → k < length o.told
+      → ForSome (offer_at o.offers k).found_taken (λ t. (decision_at o.told k).outcome ≡ outcome.Taken t)
   pub offers_stamped : (k : ℕ) → k < length o.offers → (offer_at o.offers k).stamp ≤ o.last
-  pub withdrawals_stamped : (k : ℕ) → k < length o.offers → ForSome (offer_at o.offers k).withdrawn (λ w. ((offer_at o.offers k).stamp < w) × (w ≤ o.last))
+  pub withdrawals_stamped : (k : ℕ) → k < length o.offers
+      → ForSome (offer_at o.offers k).withdrawn (λ w. ((offer_at o.offers k).stamp < w) × (w ≤ o.last))
   pub counts_small : (length o.offers ≤ o.last) × (o.last < 2 ^ 60)
   pub look_true : ForSome o.told_look (λ s. IsTrueLook o.offers s.number s.look)
 
@@ -259,7 +280,8 @@ abbrev pub AreCounts : Closed → Owner → Peer → Type 0
 AreCounts counts o p = (counts.offered ≡ length o.offers) × (counts.decided ≡ length p.decisions) × (counts.learned ≡ length o.learned)
 
 -- ---- the steps
--- `st` is the step, with the numbers that it stores or exchanges and what it announces, `m` and `m'` are the seat before and after it, and `n` is the number that it found, or at a store the number stored.
+-- `st` is the step, with the numbers that it stores or exchanges and what it announces, `m` and `m'` are the seat before and after it, and
+-- `n` is the number that it found, or at a store the number stored.
 
 -- the step announces the number of its offer, as a value of the type of the table's slots, of which there are none
 abbrev pub Withdraws : Step ℕ → Me ℕ View → ℕ → Me ℕ View → Type 0
@@ -274,6 +296,7 @@ module _ {S : Type 0} where
   abbrev pub Learns : Step S → Me S View → ℕ → Me S View → Type 0
   Learns st m n m' =
       (m' ≡ (owner_view (after_learn (learnt_of (standing_of n)) (standing_of n) (owner_in m.0)), m.1))
+      × SeesFirst (owner_in m.0) (standing_of n)
       × IsLearntAsFound (owner_in m.0) (learnt_of (standing_of n))
       × IsLearntAsTold (owner_in m.0) (learnt_of (standing_of n))
 

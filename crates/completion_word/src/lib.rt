@@ -2,6 +2,7 @@
 #![tactic(auto)]
 
 mod answers;
+mod law;
 mod rule;
 mod seats;
 mod standing;
@@ -9,6 +10,7 @@ mod views;
 mod words;
 
 pub use answers::{Closed, Learnt, Look, Taking, Withdrawal};
+pub use law::{rule_is_kept, rule_means};
 pub use seats::{OwnerSeat, PeerSeat};
 pub use standing::Standing;
 pub use views::{Decision, Offer, Outcome, Owner, OwnerNote, Peer, PeerNote, Sighting, View};

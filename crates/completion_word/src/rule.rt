@@ -1,7 +1,9 @@
 //! The rule over the words of a link, and the kinds of step that its seats make.
 ghost use Rattle.completion_word.specs.Link.{both_views, new_owner, new_peer, no_view};
 ghost use Rattle.completion_word.specs.Rule.{WordRule};
-ghost use Rattle.completion_word.specs.Steps.{Posts, Withdraws, Learns, Looks, Takes, Passes, HearsOwner, HearsPeer, Checks, owner_part, peer_part, both_parts, same_view, notes_of, with_notes};
+ghost use Rattle.completion_word.specs.Steps.{Posts, Withdraws, Learns, Looks, Takes, Passes, HearsOwner, HearsPeer};
+ghost use Rattle.completion_word.specs.Steps.{Checks, notes_of, with_notes};
+ghost use Rattle.completion_word.specs.inner.Parts.{owner_part, peer_part, both_parts, same_view};
 
 use crate::views::View;
 use atomic_table::{Join, Play, Split, TableRule};

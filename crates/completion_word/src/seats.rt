@@ -1,6 +1,7 @@
 //! The two seats of a link. Each belongs to one thread at a time.
 ghost use Rattle.std.specs.Prelude.{◌≡◌, ◌+◌, ◌^◌, ◌<◌, ◌≤◌, [], length};
-ghost use Rattle.completion_word.specs.Link.{AreStamps, owner_in, owner_view, peer_in, peer_view};
+ghost use Rattle.completion_word.specs.Link.{owner_in, owner_view, peer_in, peer_view};
+ghost use Rattle.completion_word.specs.inner.Stamps.{AreStamps};
 ghost use Rattle.completion_word.specs.Steps.{stamp_seen};
 
 use crate::views::View;

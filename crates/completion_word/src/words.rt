@@ -26,7 +26,11 @@ pub struct Words {
 impl Words {
     ghost use Rattle.std.specs.Prelude.{◌+◌, ◌^◌, ◌%◌, [], length, IfOk};
     ghost use Rattle.completion_word.specs.Link.{new_owner, new_peer, offer_at, Agreed, Told, owner_view, peer_view, owner_in, peer_in};
-    ghost use Rattle.completion_word.specs.Steps.{after_post, after_withdraw, after_learn, after_look, after_take, after_pass, after_told, after_hearing, owner_after_meeting, peer_after_meeting, known_of, owner_note, peer_note, learnt_of, look_of, IsOpen, IsWithdrawalAsTold, IsLearntAsFound, IsLearntAsTold, IsLookAsTold, SawOfferBelow, SawWithdrawalBelow, AgreesAsTold, AreCounts};
+    ghost use Rattle.completion_word.specs.Steps.{after_post, after_withdraw, after_learn, after_look, after_take};
+    ghost use Rattle.completion_word.specs.Steps.{after_pass, after_told, after_hearing, owner_after_meeting};
+    ghost use Rattle.completion_word.specs.Steps.{peer_after_meeting, known_of, owner_note, peer_note, learnt_of};
+    ghost use Rattle.completion_word.specs.Steps.{look_of, IsOpen, IsWithdrawalAsTold, SeesFirst, IsLearntAsFound};
+    ghost use Rattle.completion_word.specs.Steps.{IsLearntAsTold, IsLookAsTold, SawOfferBelow, SawWithdrawalBelow, AgreesAsTold, AreCounts};
     ghost use Rattle.completion_word.specs.Seats.{owner_of, peer_of, IsOwnerOf, IsPeerOf, places_of};
 
     /// Words of a new link, none of which is used, and the seats of its two sides. No other call
@@ -126,6 +130,9 @@ impl Words {
 
         // It is `Undecided` exactly where the load saw no decision.
         ensures cause { result ≡ learnt_of (owner_of owner.new).saw }
+
+        // The load saw that offer as its owner left it, or a decision that answers it.
+        ensures saw { SeesFirst (owner_of owner.old) (owner_of owner.new).saw }
 
         // A withdrawal found the offer taken, or the owner was told of its decision: it is that
         // decision.

@@ -4,8 +4,8 @@ use Rattle.stack_code.specs.declared.instr.Instr.{Instr}
 use Rattle.stack_code.specs.declared.instr.Instr.TheVariants as i
 use Rattle.stack_code.specs.Parts.{Parts}
 use Rattle.stack_code.specs.Machine.{Flat}
-use Rattle.core_machine.specs.Operators.{binary}
-use Rattle.core_machine.specs.Fit.{HasInts, Finds}
+use Rattle.core_machine.specs.inner.Operators.{binary}
+use Rattle.core_machine.specs.inner.Needs.{HasInts, Finds}
 
 pub finds_ints : (code : Parts) (m : Flat) (instr : Instr) → IsSome (binary instr) → Finds code m instr → HasInts m
 finds_ints code m i.BitOr h f = f

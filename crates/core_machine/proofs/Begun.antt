@@ -1,6 +1,6 @@
 -- A core that begins stands at the first address of its function, in the frame that was made for it.
 use Rattle.std.proofs.Common.{◌≡◌, ℕ, zero, suc, ◌<◌, ◌^◌, List, [], ◌∷◌, length, Option, Some, None, Ok, Err, Bool, true, false, refl, sym, ap, ◌∙◌, subst, arith}
-use Rattle.std.specs.Prelude.{All, ℤ, pos, replicate, slice_get, slice_set, slice_index_or, if◌then◌else◌}
+use Rattle.std.specs.Prelude.{ℤ, pos, replicate, slice_get, slice_set, slice_index_or, if◌then◌else◌}
 use Rattle.std.proofs.lemmas.Option.{get_or_from_slice_get}
 use Rattle.std.proofs.lemmas.List.{length-replicate, length-set}
 use Rattle.std.proofs.lemmas.List.Elements.{All-replicate}
@@ -23,9 +23,9 @@ use Rattle.core_machine.specs.declared.pause.Pause.TheVariants.{Trapped}
 use Rattle.core_machine.specs.declared.running.Running.{Running}
 use Rattle.core_machine.specs.Kinds.{is_int}
 use Rattle.stack_code.specs.Sequential.{IsSequential}
-use Rattle.core_machine.specs.Beginning.{HasBegun}
+use Rattle.core_machine.specs.inner.Beginning.{HasBegun}
 use Rattle.core_machine.specs.Fit.{IsFit, IsFrameOf}
-use Rattle.core_machine.specs.Machine.{IsFirst, IsRun}
+use Rattle.core_machine.specs.Machine.{IsFirst, IsOnItsWay}
 use Rattle.core_machine.specs.State.{entry_of, flat_of, state_of, machine_of, IsSound}
 
 -- ---- the globals
@@ -36,9 +36,6 @@ length-starts (x ∷ starts) globals = length-starts starts (slice_set globals x
 
 length_first : (code : Parts) → length (first_globals code) ≡ code.globals
 length_first code = length-starts code.starts (replicate code.globals (pos 0)) ∙ length-replicate code.globals (pos 0)
-
-pub starts_within : (code : Parts) (globals : List ℤ) → IsValid code → length globals ≡ code.globals → All (λ (x : Start). x.slot < length globals) code.starts
-starts_within code globals v e = λ k d lt. subst (λ n. (slice_index_or code.starts k d).slot < n) (sym e) (v.lists.starts.starts k d lt).0
 
 -- ---- the function of a core
 
@@ -57,9 +54,11 @@ entry_is code core function b = rw (b.entry_is, b.function_is) refl
 abbrev pub bare : Parts → Store
 bare code = record { globals = first_globals code; frames = [] }
 
-pub is_bare : (code : Parts) (s t : Store) (globals : ℕ) (starts : List Start) → s ≡ no_frames globals → globals ≡ code.globals → starts ≡ code.starts → t.globals ≡ with_starts starts s.globals → t.frames ≡ s.frames → t ≡ bare code
+pub is_bare : (code : Parts) (s t : Store) (globals : ℕ) (starts : List Start) → s ≡ no_frames globals → globals ≡ code.globals → starts ≡ code.starts → t.globals ≡ with_starts starts s.globals
+    → t.frames ≡ s.frames → t ≡ bare code
 is_bare code s t globals starts none many all set kept =
-    let first : t.globals ≡ first_globals code = set ∙ ap (λ (x : Store). with_starts starts x.globals) none ∙ ap (λ n. with_starts starts (replicate n (pos 0))) many ∙ ap (λ xs. with_starts xs (replicate code.globals (pos 0))) all in
+    let first : t.globals ≡ first_globals code = set ∙ ap (λ (x : Store). with_starts starts x.globals) none ∙ ap (λ n. with_starts starts (replicate n (pos 0))) many
+    ∙ ap (λ xs. with_starts xs (replicate code.globals (pos 0))) all in
     let empty : t.frames ≡ [] = kept ∙ ap (λ (x : Store). x.frames) none in
     let with_frames : List (Option Frame) → Store = λ f. record { globals = first_globals code; frames = f } in
     let with_globals : List ℤ → Store = λ g. record { globals = g; frames = t.frames } in
@@ -76,7 +75,8 @@ few_slots code function g w (Some f) = go f.number
     go zero = omega (arith, w, length-replicate function.words no_int)
     go (suc n) = omega arith
 
-frame_there : (code : Parts) (function : Entered) (entry : ℕ) → params_of code (home.Function entry) ≡ [] → IsFrameOf code (framed code function) (record { home = home.Function entry; slots = function.words }) first_frame
+frame_there : (code : Parts) (function : Entered) (entry : ℕ) → params_of code (home.Function entry) ≡ []
+    → IsFrameOf code (framed code function) (record { home = home.Function entry; slots = function.words }) first_frame
 frame_there code function entry p = record {
   lives = refl;
   slots = length-replicate function.words no_int;
@@ -90,7 +90,8 @@ one_move : (f : Flat → Move Flat FlatEnd) (x : Move Flat FlatEnd) → GoesOn f
 one_move f (On m) = GoesOn-more f (On m) m (GoesOn-none f (On m))
 one_move f (Over e) = GoesOn-none f (Over e)
 
-module _ (m : Running) (function : Entered) (b : Begins m.code.now m.core function) (frame : m.frame ≡ first_frame) (place : m.place ≡ function.at) (journal : m.journal.entries ≡ []) (operands : m.operands ≡ [])
+module _ (m : Running) (function : Entered) (b : Begins m.code.now m.core function) (frame : m.frame ≡ first_frame) (place : m.place ≡ function.at) (journal : m.journal.entries ≡ [])
+    (operands : m.operands ≡ [])
     (output : m.output.items ≡ []) (steps : m.steps ≡ 0) (count : m.count ≡ 0) where
   abbrev start : Move Flat FlatEnd
   start = first_flat m.code.now function m.journal.entries
@@ -118,7 +119,7 @@ module _ (m : Running) (function : Entered) (b : Begins m.code.now m.core functi
     pub first_of : IsFirst (machine_of m)
     first_of = record { function = function; begins = b; state = state_first }
 
-    pub run_of : IsRun (machine_of m)
+    pub run_of : IsOnItsWay (machine_of m)
     run_of = record { function = function; begins = b; goes = subst (GoesOn (exec m.code.now m.bound) start) (sym state_first) (one_move (exec m.code.now m.bound) start) }
 
     pub sound_first : IsValid m.code.now → IsSequential m.code.now → m.core < length m.code.now.entries → m.code.now.globals < 2 ^ 32 → function.words < 2 ^ 32 → IsSound m

@@ -20,9 +20,11 @@ use Rattle.stack_code.specs.declared.shape.Leads.TheVariants.{Two}
 use Rattle.stack_code.specs.Parts.{Parts}
 use Rattle.stack_code.specs.Shapes.{after, body_with, pushes, goes, effect, is_int_alone, can_return, directives_in}
 use Rattle.stack_code.specs.Machine.{Flat}
-use Rattle.core_machine.specs.Kinds.{is_int, is_reference, on_top, Stand, second_place}
+use Rattle.core_machine.specs.Kinds.{is_int}
+use Rattle.core_machine.specs.inner.Operands.{is_reference, on_top, Stand, second_place}
 use Rattle.stack_code.specs.Sequential.{is_sequential}
-use Rattle.core_machine.specs.Fit.{HaveKinds, IsFit, HasInt, HasInts, HasCell, HasArray, Finds}
+use Rattle.core_machine.specs.Fit.{HaveKinds, IsFit}
+use Rattle.core_machine.specs.inner.Needs.{HasInt, HasInts, HasCell, HasArray, Finds}
 use Rattle.core_machine.proofs.Taken.{on_some_is, if_is, after_is, Top, top_of, ints_of}
 
 some_same : {A : Type 0} (x y : A) → Some x ≡ Some y → x ≡ y

@@ -1,5 +1,6 @@
 -- Where an instruction of valid code leads: to one of the ways of its address, with operands of the kinds that are left.
-use Rattle.std.proofs.Common.{◌≡◌, ℕ, zero, suc, ◌+◌, ◌≤◌, ◌<◌, List, [], ◌∷◌, ◌++◌, length, take, drop, map, Option, Some, None, Result, Ok, Err, Bool, true, false, refl, sym, ap, ◌∙◌, subst, inl, inr, arith}
+use Rattle.std.proofs.Common.{◌≡◌, ℕ, zero, suc, ◌+◌, ◌≤◌, ◌<◌, List, [], ◌∷◌, ◌++◌, length, take, drop, map, Option}
+use Rattle.std.proofs.Common.{Some, None, Result, Ok, Err, Bool, true, false, refl, sym, ap, ◌∙◌, subst, inl, inr, arith}
 use Rattle.std.specs.Prelude.{if◌then◌else◌, ℤ, pos, negsuc, slice_get, nat_le, nat_lt, nat_eq, replicate, reverse}
 use Rattle.std.proofs.lemmas.Bool.Decides.{nat_tests}
 use Rattle.ac_base.specs.declared.ends.Trap.{Trap}
@@ -12,7 +13,8 @@ use Rattle.work_item.specs.declared.cell.Place.{Place}
 use Rattle.work_item.specs.Store.{Store, cells_of, cell_at, place_in, int_in, no_int, global_at, with_int_at, with_cell_at, with_global, with_cleared, above}
 use Rattle.work_item.specs.Conditions.{LiesIn}
 use Rattle.core_state.specs.Moves.{Move, On, Over}
-use Rattle.core_state.specs.Arithmetic.{Computed, at_zero, bind, truth, negated, not_true, flipped, sum_of, difference_of, product_of, quotient, remainder, shifted_left, shifted_right, is_equal, is_not_equal, is_less, is_at_most, both_bits, either_bits, differing_bits}
+use Rattle.core_state.specs.Arithmetic.{Computed, at_zero, bind, truth, negated, not_true, flipped, sum_of, difference_of, product_of, quotient, remainder}
+use Rattle.core_state.specs.Arithmetic.{shifted_left, shifted_right, is_equal, is_not_equal, is_less, is_at_most, both_bits, either_bits, differing_bits}
 use Rattle.core_state.specs.Frames.{within, element, set_element}
 use Rattle.core_state.specs.Shared.{Shared, with_step, printed, formatted, output_limit}
 use Rattle.stack_code.specs.declared.instr.Instr.{Instr}
@@ -29,7 +31,8 @@ use Rattle.stack_code.specs.Parts.{Parts}
 use Rattle.stack_code.specs.Shapes.{on_some, after, body_with, pushed, pushes, goes, with_operands, loaded, is_array, params_of, directives_in, effect, LeadsTo}
 use Rattle.stack_code.specs.Valid.{Goes}
 use Rattle.stack_code.specs.Machine as flat
-use Rattle.stack_code.specs.Machine.{Flat, FlatEnd, seen_of, with_shared, with_store, begin, counted, at, or_trap, on_top, on_two, on_three, on_many, one_operand, two_operands, one_place, text_at, always}
+use Rattle.stack_code.specs.Machine.{Flat, FlatEnd, seen_of, with_shared, with_store, begin, counted, at, or_trap, on_top}
+use Rattle.stack_code.specs.Machine.{on_two, on_three, on_many, one_operand, two_operands, one_place, text_at, always}
 use Rattle.core_machine.specs.Kinds.{is_int}
 use Rattle.stack_code.specs.Sequential.{is_sequential}
 use Rattle.core_machine.specs.Fit.{HasKind, HaveKinds, IsFit}
@@ -66,11 +69,14 @@ module _ (P : Flat → Type 0) (m : Flat) where
   two_on : (go : Cell → Cell → List Cell → Move Flat FlatEnd) (ops : List Cell) (y x : Cell) (below : List Cell) → ops ≡ y ∷ x ∷ below → Onward P (go x y below) → Onward P (on_two m go ops)
   two_on go ops y x below e h = subst (λ l. Onward P (on_two m go l)) (sym e) h
 
-  three_on : (go : Cell → Cell → Cell → List Cell → Move Flat FlatEnd) (ops : List Cell) (z y x : Cell) (below : List Cell) → ops ≡ z ∷ y ∷ x ∷ below → Onward P (go x y z below) → Onward P (on_three m go ops)
+  three_on : (go : Cell → Cell → Cell → List Cell → Move Flat FlatEnd) (ops : List Cell) (z y x : Cell) (below : List Cell) → ops ≡ z ∷ y ∷ x ∷ below → Onward P (go x y z below)
+      → Onward P (on_three m go ops)
   three_on go ops z y x below e h = subst (λ l. Onward P (on_three m go l)) (sym e) h
 
-  many_on : (count : ℕ) (go : List Cell → List Cell → Move Flat FlatEnd) (ops : List Cell) → count ≤ length ops → Onward P (go (reverse (take count ops)) (drop count ops)) → Onward P (on_many m count go ops)
-  many_on count go ops le h = let t : nat_le count (length ops) ≡ true = grind (arith, nat_tests) in subst (λ (b : Bool). Onward P (if b then go (reverse (take count ops)) (drop count ops) else On m)) (sym t) h
+  many_on : (count : ℕ) (go : List Cell → List Cell → Move Flat FlatEnd) (ops : List Cell) → count ≤ length ops → Onward P (go (reverse (take count ops)) (drop count ops))
+      → Onward P (on_many m count go ops)
+  many_on count go ops le h = let t : nat_le count (length ops) ≡ true = grind (arith, nat_tests) in
+      subst (λ (b : Bool). Onward P (if b then go (reverse (take count ops)) (drop count ops) else On m)) (sym t) h
 
   trap_on : {A : Type 0} (r : Result A Trap) (go : A → Move Flat FlatEnd) → ((x : A) → r ≡ Ok x → Onward P (go x)) → Onward P (or_trap m r go)
   trap_on (Ok x) go h = h x refl
@@ -160,13 +166,16 @@ module _ (code : Parts) (bound : ℕ) (m : Flat) (fit : IsFit code m) where
         top_on (Next code bound m s instr) m _ ops o.top o.below o.is
         (put_on a.0 kind.Int (cell.Int (f (int_in o.top))) o.below (same ∙ after_leads (want.Int ∷ []) s a.0 (pushes place kind.Int) a.1.0) (none_wanted store o.kinds a.0 o.below o.taken o.have) tt)
 
-    pub binary_on : (f : ℤ → ℤ → Computed) (leads : Leads) → effect code place instr s ≡ after (want.Int ∷ want.Int ∷ []) s (pushes place kind.Int) → effect code place instr s ≡ Some leads → Goal (two_operands m f)
+    pub binary_on : (f : ℤ → ℤ → Computed) (leads : Leads) → effect code place instr s ≡ after (want.Int ∷ want.Int ∷ []) s (pushes place kind.Int) → effect code place instr s ≡ Some leads
+        → Goal (two_operands m f)
     binary_on f leads same e =
         let a = after_is (want.Int ∷ want.Int ∷ []) s (pushes place kind.Int) leads (sym same ∙ e) in
         let o = top_of store want.Int (want.Int ∷ []) s.operands a.0 ops a.1.0 fit.operands in
         let p = top_of store want.Int [] o.kinds a.0 o.below o.taken o.have in
         two_on (Next code bound m s instr) m _ ops o.top p.top p.below (o.is ∙ ap (λ l. o.top ∷ l) p.is)
-        (trap_on (Next code bound m s instr) m (f (int_in p.top) (int_in o.top)) _ (λ v _. put_on a.0 kind.Int (cell.Int v) p.below (same ∙ after_leads (want.Int ∷ want.Int ∷ []) s a.0 (pushes place kind.Int) a.1.0) (none_wanted store p.kinds a.0 p.below p.taken p.have) tt))
+        (trap_on (Next code bound m s instr) m (f (int_in p.top) (int_in o.top)) _
+        (λ v _. put_on a.0 kind.Int (cell.Int v) p.below (same ∙ after_leads (want.Int ∷ want.Int ∷ []) s a.0 (pushes place kind.Int) a.1.0)
+        (none_wanted store p.kinds a.0 p.below p.taken p.have) tt))
 
     load_on : (level slot : ℕ) (body : Body) → effect code place instr s ≡ pushes place (loaded (is_array code body.home slot)) s → InFrame m code fit level slot 1 body →
         Goal (flat.goes m (cell_at store m.current.frame level slot ∷ ops))
@@ -179,10 +188,12 @@ module _ (code : Parts) (bound : ℕ) (m : Flat) (fit : IsFit code m) where
     array_on : (level slot len : ℕ) (body : Body) → effect code place instr s ≡ pushes place (kind.Reference (nat_eq len 1)) s → InFrame m code fit level slot len body →
         Goal (flat.goes m (cell.Array (record { home = Some (above store m.current.frame level); start = slot; len = len }) ∷ ops))
     array_on level slot len body e there =
-        let lies : slot + len ≤ length (cells_of store (above store m.current.frame level)) = subst (λ n. slot + len ≤ length (cells_of store (above store m.current.frame n))) (sym there.own) there.slots in
+        let lies : slot + len ≤ length (cells_of store (above store m.current.frame level)) =
+        subst (λ n. slot + len ≤ length (cells_of store (above store m.current.frame n))) (sym there.own) there.slots in
         pushed_on (kind.Reference (nat_eq len 1)) (cell.Array (record { home = Some (above store m.current.frame level); start = slot; len = len })) e lies
 
-    set_on : (change : Cell → Store) (leads : Leads) → effect code place instr s ≡ after (want.Int ∷ []) s (goes place) → effect code place instr s ≡ Some leads → ((x : Cell) → KeepsStore store (change x)) →
+    set_on : (change : Cell → Store) (leads : Leads) → effect code place instr s ≡ after (want.Int ∷ []) s (goes place) → effect code place instr s ≡ Some leads
+        → ((x : Cell) → KeepsStore store (change x)) →
         Goal (on_top m (λ x below. flat.goes (with_store m (change x)) below) ops)
     set_on change leads same e keeps =
         let a = after_is (want.Int ∷ []) s (goes place) leads (sym same ∙ e) in
@@ -209,7 +220,9 @@ module _ (code : Parts) (bound : ℕ) (m : Flat) (fit : IsFit code m) where
         let o = top_of store want.Int (want.Reference ∷ []) s.operands a.0 ops a.1.0 fit.operands in
         let p = top_of store want.Reference [] o.kinds a.0 o.below o.taken o.have in
         two_on (Next code bound m s instr) m _ ops o.top p.top p.below (o.is ∙ ap (λ l. o.top ∷ l) p.is)
-        (trap_on (Next code bound m s instr) m (element store (place_in p.top) (int_in o.top)) _ (λ v _. put_on a.0 kind.Int (cell.Int v) p.below (same ∙ after_leads (want.Int ∷ want.Reference ∷ []) s a.0 (pushes place kind.Int) a.1.0) (none_wanted store p.kinds a.0 p.below p.taken p.have) tt))
+        (trap_on (Next code bound m s instr) m (element store (place_in p.top) (int_in o.top)) _
+        (λ v _. put_on a.0 kind.Int (cell.Int v) p.below (same ∙ after_leads (want.Int ∷ want.Reference ∷ []) s a.0 (pushes place kind.Int) a.1.0)
+        (none_wanted store p.kinds a.0 p.below p.taken p.have) tt))
 
     place_on : (leads : Leads) → effect code place instr s ≡ after (want.Int ∷ want.Reference ∷ []) s (pushes place (kind.Reference true)) → effect code place instr s ≡ Some leads →
         Goal (on_two m (λ x y below. or_trap m (within (place_in x) (int_in y)) (λ index. flat.goes m (cell.Array (one_place (place_in x) index) ∷ below))) ops)
@@ -221,7 +234,8 @@ module _ (code : Parts) (bound : ℕ) (m : Flat) (fit : IsFit code m) where
         let h : LiesIn store (one_place (place_in p.top) index) = omega (arith, lt, p.wanted.1) in h) in
         two_on (Next code bound m s instr) m _ ops o.top p.top p.below (o.is ∙ ap (λ l. o.top ∷ l) p.is)
         (trap_on (Next code bound m s instr) m (within (place_in p.top) (int_in o.top)) _
-        (λ index w. put_on a.0 (kind.Reference true) (cell.Array (one_place (place_in p.top) index)) p.below (same ∙ after_leads (want.Int ∷ want.Reference ∷ []) s a.0 (pushes place (kind.Reference true)) a.1.0) (none_wanted store p.kinds a.0 p.below p.taken p.have) (lies index w)))
+        (λ index w. put_on a.0 (kind.Reference true) (cell.Array (one_place (place_in p.top) index)) p.below
+        (same ∙ after_leads (want.Int ∷ want.Reference ∷ []) s a.0 (pushes place (kind.Reference true)) a.1.0) (none_wanted store p.kinds a.0 p.below p.taken p.have) (lies index w)))
 
     -- what is set of an array leaves the sizes
     set_elem_to : (at : Place) (index value : ℤ) (kept : Store) → set_element store at index value ≡ Ok kept → KeepsStore store kept
@@ -253,7 +267,8 @@ module _ (code : Parts) (bound : ℕ) (m : Flat) (fit : IsFit code m) where
     branch_to to u (pos (suc n)) a b h k = k
     branch_to to u (negsuc n) a b h k = k
 
-    branch_on : (to : ℕ) (aim : Cell → ℕ) (leads : Leads) → effect code place instr s ≡ after (want.Int ∷ []) s (λ u. Some (Two (place + 1) u to u)) → effect code place instr s ≡ Some leads → ((x : Cell) (u : Shape) → LeadsTo (Two (place + 1) u to u) (aim x) u) →
+    branch_on : (to : ℕ) (aim : Cell → ℕ) (leads : Leads) → effect code place instr s ≡ after (want.Int ∷ []) s (λ u. Some (Two (place + 1) u to u)) → effect code place instr s ≡ Some leads
+        → ((x : Cell) (u : Shape) → LeadsTo (Two (place + 1) u to u) (aim x) u) →
         Goal (on_top m (λ x below. flat.goes_to (aim x) m below) ops)
     branch_on to aim leads same e onto =
         let a = after_is (want.Int ∷ []) s (λ u. Some (Two (place + 1) u to u)) leads (sym same ∙ e) in
@@ -274,7 +289,8 @@ module _ (code : Parts) (bound : ℕ) (m : Flat) (fit : IsFit code m) where
             subst (λ (h : Shared). h.steps ≡ m.shared.steps) is refl
         go false e = absurd (cc)
 
-    print_on : (text count : ℕ) (leads : Leads) → effect code place instr s ≡ on_some (slice_get code.texts text) (λ bytes. if nat_eq count (directives_in bytes) then after (replicate count want.Int) s (goes place) else None) → effect code place instr s ≡ Some leads →
+    print_on : (text count : ℕ) (leads : Leads) → effect code place instr s
+        ≡ on_some (slice_get code.texts text) (λ bytes. if nat_eq count (directives_in bytes) then after (replicate count want.Int) s (goes place) else None) → effect code place instr s ≡ Some leads →
         Goal (on_many m count (λ args below. or_trap m (printed m.shared (formatted (text_at code text) (map int_in args))) (λ h. flat.goes (with_shared m h) below)) ops)
     print_on text count leads same e =
         let b = on_some_is (slice_get code.texts text) _ leads (sym same ∙ e) in
@@ -303,7 +319,8 @@ module _ (code : Parts) (bound : ℕ) (m : Flat) (fit : IsFit code m) where
       top_on (Next code bound m s i.Ret) m _ ops o.0 o.1.0 o.1.1
       (subst (λ callers. Onward (Next code bound m s i.Ret) (flat.returns m (cell.Int (int_in o.0)) callers)) (sym fit.callers) tt)
 
-  in_slots : (level slot len : ℕ) (leads : Leads) (go : Body → Option Leads) → on_some (body_with s level slot len) go ≡ Some leads → (body : Body) × (InFrame m code fit level slot len body × ((on_some (body_with s level slot len) go ≡ go body) × (go body ≡ Some leads)))
+  in_slots : (level slot len : ℕ) (leads : Leads) (go : Body → Option Leads) → on_some (body_with s level slot len) go ≡ Some leads
+      → (body : Body) × (InFrame m code fit level slot len body × ((on_some (body_with s level slot len) go ≡ go body) × (go body ≡ Some leads)))
   in_slots level slot len leads go e =
       let b = on_some_is (body_with s level slot len) go leads e in
       (b.0, (in_frame code m fit level slot len b.0 b.1.0, (ap (λ o. on_some o go) b.1.0, b.1.1)))
@@ -312,7 +329,8 @@ module _ (code : Parts) (bound : ℕ) (m : Flat) (fit : IsFit code m) where
   in_globals true o leads e = (refl, (refl, e))
   in_globals false o leads e = let no : None ≡ Some leads = e in cc
 
-  pub onward : (t : Item) (instr : Instr) (leads : Leads) → slice_get code.instrs place ≡ Some instr → effect code place instr s ≡ Some leads → is_sequential instr ≡ true → Onward (Next code bound m s instr) (begin code bound m t (Some instr))
+  pub onward : (t : Item) (instr : Instr) (leads : Leads) → slice_get code.instrs place ≡ Some instr → effect code place instr s ≡ Some leads → is_sequential instr ≡ true
+      → Onward (Next code bound m s instr) (begin code bound m t (Some instr))
   onward t i.Step leads here e q = step_on here
   onward t (i.Push value) leads here e q = pushed_on t (i.Push value) here (λ no. cc) kind.Int (cell.Int value) refl tt
   onward t (i.Load level slot) leads here e q =
@@ -323,7 +341,8 @@ module _ (code : Parts) (bound : ℕ) (m : Flat) (fit : IsFit code m) where
       pushed_on t (i.LoadG slot) here (λ no. cc) kind.Int (cell.Int (global_at store slot)) b.1.0 tt
   onward t (i.Store level slot) leads here e q =
       let b = in_slots level slot 1 leads _ e in
-      set_on t (i.Store level slot) here (λ no. cc) (λ x. with_cell_at store m.current.frame level slot (cell.Int (int_in x))) leads b.1.1.0 e (λ x. set_int store (above store m.current.frame level) slot (int_in x))
+      set_on t (i.Store level slot) here (λ no. cc) (λ x. with_cell_at store m.current.frame level slot (cell.Int (int_in x))) leads b.1.1.0 e
+      (λ x. set_int store (above store m.current.frame level) slot (int_in x))
   onward t (i.StoreG slot) leads here e q =
       let b = in_globals (nat_lt slot code.globals) (after (want.Int ∷ []) s (goes place)) leads e in
       set_on t (i.StoreG slot) here (λ no. cc) (λ x. with_global store slot (int_in x)) leads b.1.0 e (λ x. set_global store slot (int_in x))

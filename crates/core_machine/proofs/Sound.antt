@@ -13,16 +13,18 @@ use Rattle.stack_code.specs.declared.shape.Leads.{Leads}
 use Rattle.stack_code.specs.Parts.{Parts}
 use Rattle.stack_code.specs.Shapes.{effect}
 use Rattle.stack_code.specs.Valid as valid
-use Rattle.stack_code.specs.Valid.{Fits, IsValid, Reaches, Quiet}
+use Rattle.stack_code.specs.Valid.{Fits, IsValid, Quiet}
 use Rattle.stack_code.specs.Kept.{IsRanked}
 use Rattle.stack_code.specs.Machine.{Flat, begin, exec, first_flat, first_item}
 use Rattle.core_machine.specs.declared.pause.Pause.{Pause}
 use Rattle.core_machine.specs.declared.running.Running.{Running}
 use Rattle.stack_code.specs.Sequential.{is_sequential, IsSequential}
-use Rattle.core_machine.specs.Fit.{IsFit, IsFrameOf, Finds}
-use Rattle.core_machine.specs.Machine.{Machine, IsRun, IsSameCore}
-use Rattle.core_machine.specs.State.{flat_of, end_or, state_of, machine_of, left_from, left_of, IsSound}
-use Rattle.core_machine.specs.Changes.{Keeps, Does}
+use Rattle.core_machine.specs.Fit.{IsFit, IsFrameOf}
+use Rattle.core_machine.specs.inner.Needs.{Finds}
+use Rattle.core_machine.specs.Machine.{Machine, IsOnItsWay, IsSameCore}
+use Rattle.core_machine.specs.State.{flat_of, end_or, state_of, machine_of, IsSound}
+use Rattle.core_machine.specs.inner.Left.{left_from, left_of}
+use Rattle.core_machine.specs.inner.Changes.{Keeps, Does}
 use Rattle.core_machine.proofs.Found.{finds}
 use Rattle.core_machine.proofs.Onward.{Onward, Uses, one, none, Next, onward}
 
@@ -97,11 +99,13 @@ step_falls bound steps all x y lt le = let e : bound - steps ≡ (bound - (steps
 abbrev measure : ℕ → List ℕ → Flat → ℕ
 measure bound ranks m = (bound - m.shared.steps) * (sum ranks + 1) + slice_index ranks m.current.place
 
-pub falls : (code : Parts) (bound : ℕ) (ranks : List ℕ) (m next : Flat) (fit : IsFit code m) (instr : Instr) → IsRanked code ranks → slice_get code.instrs m.current.place ≡ Some instr → Next code bound m fit.shape instr next → measure bound ranks next < measure bound ranks m
+pub falls : (code : Parts) (bound : ℕ) (ranks : List ℕ) (m next : Flat) (fit : IsFit code m) (instr : Instr) → IsRanked code ranks → slice_get code.instrs m.current.place ≡ Some instr
+    → Next code bound m fit.shape instr next → measure bound ranks next < measure bound ranks m
 falls code bound ranks m next fit instr ranked here n = go n.uses
   where
     go : Uses bound instr m.shared.steps next.shared.steps → measure bound ranks next < measure bound ranks m
-    go (one is lt e) = subst (λ k. (bound - k) * (sum ranks + 1) + slice_index ranks next.current.place < measure bound ranks m) (sym e) (step_falls bound m.shared.steps (sum ranks) (slice_index ranks next.current.place) (slice_index ranks m.current.place) lt (rank_within ranks next.current.place))
+    go (one is lt e) = subst (λ k. (bound - k) * (sum ranks + 1) + slice_index ranks next.current.place < measure bound ranks m) (sym e)
+        (step_falls bound m.shared.steps (sum ranks) (slice_index ranks next.current.place) (slice_index ranks m.current.place) lt (rank_within ranks next.current.place))
     go (none other e) =
         let quiet : Quiet code m.current.place next.current.place = record {
           shape = fit.shape;
@@ -119,10 +123,11 @@ pub running : (m : Flat) (o : Option Pause) → o ≡ None → end_or m o ≡ On
 running m o e = ap (end_or m) e
 
 -- one move more of the code's run
-run_on : (m n : Machine) → IsSameCore m n → IsRun m → (f : Flat) → m.state ≡ On f → n.state ≡ exec m.code m.bound f → IsRun n
+run_on : (m n : Machine) → IsSameCore m n → IsOnItsWay m → (f : Flat) → m.state ≡ On f → n.state ≡ exec m.code m.bound f → IsOnItsWay n
 run_on m n s r f e g =
     let start = first_flat m.code r.function m.journal in
-    let goes : GoesOn (exec m.code m.bound) start n.state = subst (GoesOn (exec m.code m.bound) start) (sym g) (GoesOn-more (exec m.code m.bound) start f (subst (GoesOn (exec m.code m.bound) start) e r.goes)) in
+    let goes : GoesOn (exec m.code m.bound) start n.state = subst (GoesOn (exec m.code m.bound) start) (sym g)
+    (GoesOn-more (exec m.code m.bound) start f (subst (GoesOn (exec m.code m.bound) start) e r.goes)) in
     record { function = r.function; begins = rw (s.code, s.core) r.begins; goes = rw (s.code, s.bound, s.journal) goes }
 
 same_core : (before after : Running) → Keeps before after → IsSameCore (machine_of before) (machine_of after)
@@ -150,7 +155,8 @@ module _ (before after : Running) (instr : Instr) (still : before.ended ≡ None
         (does ∙ ap (begin before.code.now before.bound (flat_of before) first_item) (sym here));
   }
 
-  less_left : (ranks : List ℕ) → IsRanked before.code.now ranks → (o : Option Pause) → after.ended ≡ o → left_from o (measure after.bound ranks (flat_of after)) < suc (measure before.bound ranks (flat_of before))
+  less_left : (ranks : List ℕ) → IsRanked before.code.now ranks → (o : Option Pause) → after.ended ≡ o
+      → left_from o (measure after.bound ranks (flat_of after)) < suc (measure before.bound ranks (flat_of before))
   less_left ranks r None e =
       let less = falls before.code.now before.bound ranks (flat_of before) (flat_of after) fit instr r here (next e) in
       let same : measure after.bound ranks (flat_of after) ≡ measure before.bound ranks (flat_of after) = ap (λ bound. measure bound ranks (flat_of after)) keeps.bound in
@@ -166,7 +172,8 @@ pub keeps_on : (a b c : Running) → Keeps a b → Keeps b c → Keeps a c
 keeps_on a b c k l = record { code = l.code ∙ k.code; core = l.core ∙ k.core; bound = l.bound ∙ k.bound; journal = l.journal ∙ k.journal }
 
 -- one turn more of the same code
-pub goes_on : (a b c : Running) → Keeps a b → b.ended ≡ None → GoesOn (exec a.code.now a.bound) (state_of a) (state_of b) → state_of c ≡ exec b.code.now b.bound (flat_of b) → GoesOn (exec a.code.now a.bound) (state_of a) (state_of c)
+pub goes_on : (a b c : Running) → Keeps a b → b.ended ≡ None → GoesOn (exec a.code.now a.bound) (state_of a) (state_of b) → state_of c ≡ exec b.code.now b.bound (flat_of b)
+    → GoesOn (exec a.code.now a.bound) (state_of a) (state_of c)
 goes_on a b c k still g e =
     let same : state_of c ≡ exec a.code.now a.bound (flat_of b) = e ∙ ap (λ code. exec code b.bound (flat_of b)) k.code ∙ ap (λ n. exec a.code.now n (flat_of b)) k.bound in
     subst (GoesOn (exec a.code.now a.bound) (state_of a)) (sym same)

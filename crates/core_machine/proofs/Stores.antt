@@ -35,7 +35,8 @@ set_global s slot value = record { sizes = sizes; lives = λ f l. l; ints = λ f
 
 -- ---- the cells of one frame
 
-at_set : (frames : List (Option Frame)) (n : ℕ) (cells : List Cell) → slice_index_or (slice_set frames n (some_with cells (slice_index_or frames n None))) n None ≡ some_with cells (slice_index_or frames n None)
+at_set : (frames : List (Option Frame)) (n : ℕ) (cells : List Cell) → slice_index_or (slice_set frames n (some_with cells (slice_index_or frames n None))) n None
+    ≡ some_with cells (slice_index_or frames n None)
 at_set [] n cells = refl
 at_set (x ∷ frames) zero cells = refl
 at_set (x ∷ frames) (suc n) cells = at_set frames n cells

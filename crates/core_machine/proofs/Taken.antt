@@ -12,7 +12,8 @@ use Rattle.stack_code.specs.declared.shape.Want.{Want}
 use Rattle.stack_code.specs.declared.shape.Want.TheVariants as want
 use Rattle.stack_code.specs.declared.shape.Leads.{Leads}
 use Rattle.stack_code.specs.Shapes.{on_some, takes, taken, with_operands, after}
-use Rattle.core_machine.specs.Kinds.{is_int, is_reference}
+use Rattle.core_machine.specs.Kinds.{is_int}
+use Rattle.core_machine.specs.inner.Operands.{is_reference}
 use Rattle.core_machine.specs.Fit.{HasKind, HaveKinds}
 use Rattle.core_machine.proofs.Stores.{KeepsStore}
 
@@ -26,7 +27,8 @@ pub if_is : {A : Type 0} (b : Bool) (o : Option A) (y : A) → (if b then o else
 if_is true o y e = (refl, e)
 if_is false o y e = let no : None ≡ Some y = e in cc
 
-pub after_is : (wants : List Want) (s : Shape) (go : Shape → Option Leads) (leads : Leads) → after wants s go ≡ Some leads → (kinds : List Kind) × ((taken wants s.operands ≡ Some kinds) × (go (with_operands s kinds) ≡ Some leads))
+pub after_is : (wants : List Want) (s : Shape) (go : Shape → Option Leads) (leads : Leads) → after wants s go ≡ Some leads
+    → (kinds : List Kind) × ((taken wants s.operands ≡ Some kinds) × (go (with_operands s kinds) ≡ Some leads))
 after_is wants s go leads e = on_some_is (taken wants s.operands) (λ kinds. go (with_operands s kinds)) leads e
 
 -- and what it leads to, with the operands that are left
@@ -77,7 +79,8 @@ pub none_wanted : (s : Store) (kinds left : List Kind) (operands : List Cell) �
 none_wanted s kinds left operands t h = let e : kinds ≡ left = cc in subst (λ ks. HaveKinds s ks operands) e h
 
 -- so many ints
-pub ints_of : (s : Store) (count : ℕ) (kinds left : List Kind) (operands : List Cell) → taken (replicate count want.Int) kinds ≡ Some left → HaveKinds s kinds operands → (count ≤ length operands) × HaveKinds s left (drop count operands)
+pub ints_of : (s : Store) (count : ℕ) (kinds left : List Kind) (operands : List Cell) → taken (replicate count want.Int) kinds ≡ Some left → HaveKinds s kinds operands
+    → (count ≤ length operands) × HaveKinds s left (drop count operands)
 ints_of s zero kinds left operands t h = (omega arith, none_wanted s kinds left operands t h)
 ints_of s (suc count) kinds left operands t h =
     let o = top_of s want.Int (replicate count want.Int) kinds left operands t h in

@@ -25,7 +25,7 @@ pub record IsFirst (m : Machine) : Type 0 where
   pub state : m.state ≡ and_then (first_flat m.code function m.journal) (exec m.code m.bound)
 
 -- the machine has come to its state from the core's beginning, by moves of the code under its journal
-pub record IsRun (m : Machine) : Type 0 where
+pub record IsOnItsWay (m : Machine) : Type 0 where
   pub function : Entered
   pub begins : Begins m.code m.core function
   pub goes : GoesOn (exec m.code m.bound) (first_flat m.code function m.journal) m.state

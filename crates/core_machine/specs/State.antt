@@ -1,5 +1,5 @@
 -- The state that the fields of a running core stand for.
-use Rattle.std.specs.Prelude.{◌≡◌, ℕ, suc, ◌+◌, ◌-◌, ◌*◌, List, [], ◌∷◌, Option, Some, None, false, sum, slice_get, slice_index, option_and_then}
+use Rattle.std.specs.Prelude.{◌≡◌, ℕ, [], ◌∷◌, Option, Some, None, false, slice_get, option_and_then}
 use Rattle.core_machine.specs.declared.pause.Pause.{Pause}
 use Rattle.core_machine.specs.Words.{word_of}
 use Rattle.core_state.specs.Moves.{Move, On, Over}
@@ -10,7 +10,7 @@ use Rattle.stack_code.specs.Machine.{Thread, Flat, FlatEnd, nobody, first_item, 
 use Rattle.core_machine.specs.declared.running.Running.{Running}
 use Rattle.stack_code.specs.Sequential.{IsSequential}
 use Rattle.core_machine.specs.Fit.{IsFit}
-use Rattle.core_machine.specs.Machine.{Machine, IsRun}
+use Rattle.core_machine.specs.Machine.{Machine, IsOnItsWay}
 
 -- the address at which the thread of a core was made
 abbrev pub address_of : Option Entered → ℕ
@@ -55,12 +55,4 @@ pub record IsSound (m : Running) : Type 0 where
   pub fit : m.ended ≡ None → IsFit m.code.now (flat_of m)
   pub sequential : IsSequential m.code.now
   pub quiet : m.journal.entries ≡ []
-  pub ran : IsRun (machine_of m)
-
--- how much a core can still do, at most: the steps that are left, and what it can do before the next one
-abbrev pub left_from : Option Pause → ℕ → ℕ
-left_from None n = suc n
-left_from (Some pause) n = 0
-
-abbrev pub left_of : List ℕ → Running → ℕ
-left_of ranks m = left_from m.ended ((m.bound - m.steps) * (sum ranks + 1) + slice_index ranks m.place)
+  pub ran : IsOnItsWay (machine_of m)

@@ -1,7 +1,9 @@
 //! The operators on ints.
 
 ghost use Rattle.std.specs.Prelude.{◌≡◌};
-ghost use Rattle.core_state.specs.Arithmetic.{truth_of, truth, negated, not_true, flipped, sum_of, difference_of, product_of, quotient, remainder, shifted_left, shifted_right, is_equal, is_not_equal, is_less, is_at_most, both_bits, either_bits, differing_bits, shift_count, low_byte};
+ghost use Rattle.core_state.specs.Arithmetic.{truth_of, truth, negated, not_true, flipped, sum_of, difference_of, product_of};
+ghost use Rattle.core_state.specs.Arithmetic.{quotient, remainder, shifted_left, shifted_right, is_equal, is_not_equal};
+ghost use Rattle.core_state.specs.Arithmetic.{is_less, is_at_most, both_bits, either_bits, differing_bits, shift_count, low_byte};
 
 use ac_base::Trap;
 

@@ -4,7 +4,7 @@ ghost use Rattle.std.specs.Prelude.{◌≡◌, ◌<◌, length, All, IfOk};
 ghost use Rattle.stack_code.specs.declared.parts.Start.{Start};
 ghost use Rattle.stack_code.specs.Machine.{with_starts};
 ghost use Rattle.core_state.specs.Frames.{has_words};
-ghost use Rattle.core_machine.specs.Beginning.{HasBegun};
+ghost use Rattle.core_machine.specs.inner.Beginning.{HasBegun};
 
 use crate::pause::Pause;
 use ac_base::{NoMemory, Trap};

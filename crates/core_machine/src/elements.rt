@@ -24,8 +24,9 @@ impl Running<'_> {
     ghost use Rattle.std.specs.Prelude.{◌≡◌, true, None, Some, ◌+◌, ◌-◌, ◌≤◌, ◌<◌, ◌^◌, [], ◌∷◌, length};
     ghost use Rattle.work_item.specs.Conditions.{LiesIn};
     ghost use Rattle.stack_code.specs.declared.instr.Instr.{Instr};
-    ghost use Rattle.core_machine.specs.Kinds.{is_int, is_reference, Stand, second_place};
-    ghost use Rattle.core_machine.specs.Changes.{Keeps, Does};
+    ghost use Rattle.core_machine.specs.Kinds.{is_int};
+    ghost use Rattle.core_machine.specs.inner.Operands.{is_reference, Stand, second_place};
+    ghost use Rattle.core_machine.specs.inner.Changes.{Keeps, Does};
 
     /// Pops an index, then a reference, and pushes that element.
     pub fn element(&mut self)

@@ -1,6 +1,7 @@
 //! Texts of `printf` with their values.
 
-ghost use Rattle.std.specs.Prelude.{◌≡◌, ◌≤◌, ◌+◌, ℕ, List, ◌∷◌, ◌++◌, false, true, length, map, nat_le, Ok, Err, IfOk, OnOk, OnErr, if◌then◌else◌};
+ghost use Rattle.std.specs.Prelude.{◌≡◌, ◌≤◌, ◌+◌, ℕ, List, ◌∷◌, ◌++◌, false, true, length};
+ghost use Rattle.std.specs.Prelude.{map, nat_le, Ok, Err, IfOk, OnOk, OnErr, if◌then◌else◌};
 ghost use Rattle.core_state.specs.Shared.{formatted, formatted_from, output_limit};
 ghost use Rattle.work_item.specs.Store.{int_in};
 
@@ -36,7 +37,8 @@ fn add_directive<'a>(
     byte: u8,
 ) -> Result<&'a [Cell], NoMemory>
     ensures ok { IfOk result (λ others. (text : List ℕ) →
-        output.new.items ++ formatted_from false text (map int_in others.now) ≡ output.old.items ++ formatted_from true (byte ∷ text) (map int_in values.entry.now)) }
+        output.new.items ++ formatted_from false text (map int_in others.now)
+        ≡ output.old.items ++ formatted_from true (byte ∷ text) (map int_in values.entry.now)) }
     ensures front { (added : List ℕ) × (output.new.items ≡ output.old.items ++ added) }
 {
     if byte == b'%' {
@@ -67,7 +69,8 @@ fn add_byte<'a>(
     byte: u8,
 ) -> Result<Scan<'a>, NoMemory>
     ensures ok { IfOk result (λ after. (text : List ℕ) →
-        output.new.items ++ formatted_from after.directive text (map int_in after.values.now) ≡ output.old.items ++ formatted_from scan.entry.directive (byte ∷ text) (map int_in scan.entry.values.now)) }
+        output.new.items ++ formatted_from after.directive text (map int_in after.values.now)
+        ≡ output.old.items ++ formatted_from scan.entry.directive (byte ∷ text) (map int_in scan.entry.values.now)) }
     ensures front { (added : List ℕ) × (output.new.items ≡ output.old.items ++ added) }
 {
     if scan.directive {
@@ -115,8 +118,10 @@ pub fn add_formatted(
     text: &[u8],
     values: &[Cell],
 ) -> Result<bool, NoMemory>
-    ensures fits { IfOk result (λ added. added ≡ nat_le (length output.old.items + length (formatted text.now (map int_in values.now))) output_limit) }
-    ensures ok { IfOk result (λ added. output.new.items ≡ (if added then output.old.items ++ formatted text.now (map int_in values.now) else output.old.items)) }
+    ensures fits { IfOk result (λ added. added ≡ nat_le
+        (length output.old.items + length (formatted text.now (map int_in values.now))) output_limit) }
+    ensures ok { IfOk result (λ added. output.new.items
+        ≡ (if added then output.old.items ++ formatted text.now (map int_in values.now) else output.old.items)) }
     ensures err { OnErr result (output.new.items ≡ output.old.items) }
 {
     let before = output.len();

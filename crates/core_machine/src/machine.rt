@@ -36,7 +36,7 @@ impl<'a> CoreMachine<'a> {
     ghost use Rattle.core_state.specs.Moves.{On, GoesOn};
     ghost use Rattle.stack_code.specs.Machine.{exec};
     ghost use Rattle.stack_code.specs.Sequential.{IsSequential};
-    ghost use Rattle.core_machine.specs.Machine.{IsFirst, IsRun, IsSameCore, IsSeen, IsPaused};
+    ghost use Rattle.core_machine.specs.Machine.{IsFirst, IsOnItsWay, IsSameCore, IsSeen, IsPaused};
 
     /// A core of the code before its first instruction, with a bound on its steps. Where there is
     /// no room for its frame it has ended.
@@ -58,7 +58,7 @@ impl<'a> CoreMachine<'a> {
         ensures bound { IfOk result (λ m. m.bound ≡ steps) }
         ensures journal { IfOk result (λ m. m.journal ≡ []) }
         ensures first { IfOk result IsFirst }
-        ensures run { IfOk result IsRun }
+        ensures run { IfOk result IsOnItsWay }
     {
         let entered = code.begin(core);
         let mut frames = Frames::new(alloc, code.globals())?;
@@ -89,7 +89,7 @@ impl<'a> CoreMachine<'a> {
         ensures goes { GoesOn (exec self.old.code self.old.bound) self.old.state self.new.state }
         ensures pause { IfOk result (λ pause. IsPaused self.new.state pause) }
         ensures same { IsSameCore self.old self.new }
-        ensures run { IsRun self.new }
+        ensures run { IsOnItsWay self.new }
     {
         self.running.run()
     }

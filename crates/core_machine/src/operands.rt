@@ -2,7 +2,8 @@
 
 ghost use Rattle.std.specs.Prelude.{◌≡◌, ◌≤◌, true, [], ◌∷◌, OnOk, OnErr, length, reverse, take, drop};
 ghost use Rattle.work_item.specs.declared.cell.Cell.{Cell};
-ghost use Rattle.core_machine.specs.Kinds.{is_int, is_reference, on_top};
+ghost use Rattle.core_machine.specs.Kinds.{is_int};
+ghost use Rattle.core_machine.specs.inner.Operands.{is_reference, on_top};
 
 use ac_base::NoMemory;
 use std::alloc::Global;

@@ -1,7 +1,7 @@
 //! Instructions that apply an operator.
 
 ghost use Rattle.std.specs.Prelude.{◌≡◌, IsSome, Some, option_map};
-ghost use Rattle.core_machine.specs.Operators.{unary, binary};
+ghost use Rattle.core_machine.specs.inner.Operators.{unary, binary};
 
 use crate::arithmetic;
 use crate::pause::Pause;
@@ -51,9 +51,10 @@ fn binary(instr: Instr, x: i64, y: i64) -> Result<i64, Trap>
 impl Running<'_> {
     ghost use Rattle.std.specs.Prelude.{◌≡◌, true, None, Some, IsSome, ◌+◌, ◌-◌, ◌≤◌, ◌<◌, ◌^◌, [], ◌∷◌, length};
     ghost use Rattle.stack_code.specs.declared.instr.Instr.{Instr};
-    ghost use Rattle.core_machine.specs.Kinds.{is_int, on_top, Stand};
-    ghost use Rattle.core_machine.specs.Operators.{unary, binary};
-    ghost use Rattle.core_machine.specs.Changes.{Keeps, Does};
+    ghost use Rattle.core_machine.specs.Kinds.{is_int};
+    ghost use Rattle.core_machine.specs.inner.Operands.{on_top, Stand};
+    ghost use Rattle.core_machine.specs.inner.Operators.{unary, binary};
+    ghost use Rattle.core_machine.specs.inner.Changes.{Keeps, Does};
 
     /// Applies an operator to one int.
     pub fn apply_unary(&mut self, instr: Instr)

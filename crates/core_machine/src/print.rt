@@ -11,7 +11,7 @@ impl Running<'_> {
     ghost use Rattle.std.specs.Prelude.{◌≡◌, None, Some, ◌+◌, ◌-◌, ◌≤◌, ◌<◌, ◌^◌, length, OnOk, OnErr};
     ghost use Rattle.stack_code.specs.declared.instr.Instr.{Instr};
     ghost use Rattle.core_machine.specs.State.{flat_of, state_of};
-    ghost use Rattle.core_machine.specs.Changes.{Keeps, Does, Stays};
+    ghost use Rattle.core_machine.specs.inner.Changes.{Keeps, Does, Stays};
 
     /// Pops so many ints, and prints a text with them.
     pub fn print(&mut self, text: u32, count: u32) -> Result<(), NoMemory>

@@ -33,8 +33,9 @@ impl Running<'_> {
     ghost use Rattle.std.specs.Prelude.{◌≡◌, true, None, Some, ◌+◌, ◌-◌, ◌≤◌, ◌<◌, ◌^◌, min, length};
     ghost use Rattle.stack_code.specs.declared.instr.Instr.{Instr};
     ghost use Rattle.core_machine.specs.declared.pause.Pause.{Pause};
-    ghost use Rattle.core_machine.specs.Kinds.{is_int, on_top};
-    ghost use Rattle.core_machine.specs.Changes.{Keeps, Does};
+    ghost use Rattle.core_machine.specs.Kinds.{is_int};
+    ghost use Rattle.core_machine.specs.inner.Operands.{on_top};
+    ghost use Rattle.core_machine.specs.inner.Changes.{Keeps, Does};
 
     /// One instruction more, and on to that address.
     pub fn go_to(&mut self, place: usize)

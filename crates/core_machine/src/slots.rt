@@ -11,9 +11,10 @@ impl Running<'_> {
     ghost use Rattle.work_item.specs.Store.{above, cells_of};
     ghost use Rattle.work_item.specs.Conditions.{Lives, HasLevel, HasSlot, HasGlobal};
     ghost use Rattle.stack_code.specs.declared.instr.Instr.{Instr};
-    ghost use Rattle.core_machine.specs.Kinds.{is_int, on_top};
+    ghost use Rattle.core_machine.specs.Kinds.{is_int};
+    ghost use Rattle.core_machine.specs.inner.Operands.{on_top};
     ghost use Rattle.core_machine.specs.State.{flat_of, state_of};
-    ghost use Rattle.core_machine.specs.Changes.{Keeps, Does, Stays};
+    ghost use Rattle.core_machine.specs.inner.Changes.{Keeps, Does, Stays};
 
     /// Pushes an int.
     pub fn push(&mut self, value: i64) -> Result<(), NoMemory>

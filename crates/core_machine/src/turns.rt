@@ -13,9 +13,10 @@ impl Running<'_> {
     ghost use Rattle.stack_code.specs.Kept.{IsRanked};
     ghost use Rattle.stack_code.specs.Valid.{IsValid};
     ghost use Rattle.stack_code.specs.Machine.{exec};
-    ghost use Rattle.core_machine.specs.State.{flat_of, state_of, left_of, IsSound};
-    ghost use Rattle.core_machine.specs.Fit.{Finds};
-    ghost use Rattle.core_machine.specs.Changes.{Keeps, Does, Stays};
+    ghost use Rattle.core_machine.specs.State.{flat_of, state_of, IsSound};
+    ghost use Rattle.core_machine.specs.inner.Left.{left_of};
+    ghost use Rattle.core_machine.specs.inner.Needs.{Finds};
+    ghost use Rattle.core_machine.specs.inner.Changes.{Keeps, Does, Stays};
 
     // One instruction, which finds what it needs.
     fn execute(&mut self, instr: Instr) -> Result<(), NoMemory>

@@ -3,11 +3,6 @@ use Rattle.std.proofs.Common.{◌≡◌, ℕ, zero, suc, ◌<◌, ◌≤◌, ref
 use Rattle.std.proofs.lemmas.Bool.{cases_lt}
 use Rattle.core_state.specs.Moves.{Move, On, Over, and_then, moves, EndsAs}
 
--- a run that is over
-abbrev IsOver : {S E : Type 0} → Move S E → Type 0
-IsOver (On s) = ⊥
-IsOver (Over e) = Unit {0}
-
 module _ {S E : Type 0} (f : S → Move S E) where
   -- one state leads to another in one move or more
   pub record Leads (a b : S) : Type 0 where

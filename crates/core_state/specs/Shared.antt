@@ -1,6 +1,7 @@
 -- What the source and the code of a core share, which is what is seen of it but for its globals, and what is seen of it at an end. Globals,
 -- frames, threads and blocks are each meaning's own.
-use Rattle.std.specs.Prelude.{ℕ, ◌+◌, ◌-◌, ◌^◌, ℤ, Bool, true, false, List, [], ◌∷◌, ◌++◌, length, replicate, ◌==◌, nat_le, nat_lt, Option, Some, None, Result, Ok, Err, if◌then◌else◌}
+use Rattle.std.specs.Prelude.{ℕ, ◌+◌, ◌-◌, ◌^◌, ℤ, Bool, true, false, List, [], ◌∷◌, ◌++◌, length, replicate}
+use Rattle.std.specs.Prelude.{◌==◌, nat_le, nat_lt, Option, Some, None, Result, Ok, Err, if◌then◌else◌}
 use Rattle.std.specs.Fmt.{signed_decimal}
 use Rattle.ac_base.specs.declared.ends.Trap.{Trap}
 use Rattle.ac_base.specs.declared.ends.Trap.TheVariants.{OutputFull}
@@ -52,7 +53,8 @@ formatted text vs = formatted_from false text vs
 
 -- what is printed, where the output keeps within its limit
 abbrev pub printed : Shared → List ℕ → Result Shared Trap
-printed s bytes = if nat_le (length s.output + length bytes) output_limit then Ok (record s { output = s.output ++ bytes }) else Err OutputFull
+printed s bytes = if nat_le (length s.output + length bytes) output_limit then Ok (record s { output = s.output ++ bytes })
+    else Err OutputFull
 
 -- ---- ends
 

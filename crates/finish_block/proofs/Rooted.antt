@@ -80,12 +80,15 @@ of_some o P x e l = subst (λ q. IfSome q P) e l
 abbrev pub Shows : List (Option Block) → ℕ → Table → Type 0
 Shows bs spare t = record { blocks = bs; spare = spare } ≡ t
 
-pub seen_same : (bs : List (Option Block)) (spare : ℕ) (t : Table) (b : BlockId) (x y : Block) → IsRooted bs → Shows bs spare t → block_at t.blocks b ≡ Some x → y.parent ≡ x.parent → IsRooted (set bs b.number (Some y))
+pub seen_same : (bs : List (Option Block)) (spare : ℕ) (t : Table) (b : BlockId) (x y : Block) → IsRooted bs → Shows bs spare t → block_at t.blocks b ≡ Some x → y.parent ≡ x.parent
+    → IsRooted (set bs b.number (Some y))
 seen_same bs spare t b x y r same e p = rooted_same bs b x y r (ap (λ u. block_at u.blocks b) same ∙ e) p
 
-pub seen_gone : (bs : List (Option Block)) (spare : ℕ) (t : Table) (b : BlockId) (x : Block) → IsRooted bs → Shows bs spare t → block_at t.blocks b ≡ Some x → Childless t.blocks b → IsRooted (set bs b.number None)
+pub seen_gone : (bs : List (Option Block)) (spare : ℕ) (t : Table) (b : BlockId) (x : Block) → IsRooted bs → Shows bs spare t → block_at t.blocks b ≡ Some x → Childless t.blocks b
+    → IsRooted (set bs b.number None)
 seen_gone bs spare t b x r same e alone = rooted_gone bs b x r (ap (λ u. block_at u.blocks b) same ∙ e) (subst (λ u. Childless u.blocks b) (sym same) alone)
 
-pub seen_made : (bs after : List (Option Block)) (spare : ℕ) (t : Table) (parent : Option BlockId) (owner : Item) → IsRooted bs → Shows bs spare t → ParentLives t.blocks parent → after ≡ bs ++ Some (new_block parent owner) ∷ [] → IsRooted after
+pub seen_made : (bs after : List (Option Block)) (spare : ℕ) (t : Table) (parent : Option BlockId) (owner : Item) → IsRooted bs → Shows bs spare t → ParentLives t.blocks parent
+    → after ≡ bs ++ Some (new_block parent owner) ∷ [] → IsRooted after
 seen_made bs after spare t parent owner r same alive is =
     subst IsRooted (sym is) (rooted_made bs parent owner r (subst (λ u. ParentLives u.blocks parent) (sym same) alive))

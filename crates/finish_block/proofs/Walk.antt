@@ -18,7 +18,8 @@ mark_of : (o : Option Block) (x : Block) → o ≡ Some x → IsSomeAnd o (λ y.
 mark_of o x e m = subst (λ q. IsSomeAnd q (λ y. y.cancelled ≡ true)) e m
 
 -- a block without a mark has another block round it that bears it
-unmarked : (bs : List (Option Block)) (a b : BlockId) (x : Block) → block_at bs b ≡ Some x → x.cancelled ≡ false → IsMarked bs a → IsRound bs a b → (p : BlockId) × ((x.parent ≡ Some p) × IsRound bs a p)
+unmarked : (bs : List (Option Block)) (a b : BlockId) (x : Block) → block_at bs b ≡ Some x → x.cancelled ≡ false → IsMarked bs a → IsRound bs a b
+    → (p : BlockId) × ((x.parent ≡ Some p) × IsRound bs a p)
 unmarked bs a b x e bare m itself = let h : true ≡ false = sym (mark_of (block_at bs b) x e m) ∙ bare in absurd (cc)
 unmarked bs a b x e bare m (further c p y f up rest) =
     (p, (ap (λ z. z.parent) (one_block (block_at bs c) x y e f) ∙ up, rest))

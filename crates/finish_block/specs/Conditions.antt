@@ -34,4 +34,5 @@ ChildlessAtFinish blocks b = IfSome (block_at blocks b) (λ x. x.count ≡ 0 →
 
 -- the parent of a live block lives and is older
 abbrev pub IsRooted : List (Option Block) → Type 0
-IsRooted blocks = (b : BlockId) (x : Block) (p : BlockId) → block_at blocks b ≡ Some x → x.parent ≡ Some p → (p.number < b.number) × Lives blocks p
+IsRooted blocks = (b : BlockId) (x : Block) (p : BlockId) → block_at blocks b ≡ Some x → x.parent ≡ Some p
+    → (p.number < b.number) × Lives blocks p

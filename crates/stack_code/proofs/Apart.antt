@@ -17,9 +17,10 @@ use Rattle.stack_code.specs.Parts.{Parts}
 use Rattle.stack_code.specs.Shapes.{on_some, params_in, params_of, is_array}
 use Rattle.stack_code.specs.Valid.{Reaches, home_at, Use, AsInt, AsReference, AsBlock, use_of, Uses, param, loads, sets, enters, HasOneUse}
 use Rattle.stack_code.specs.Kept.{IsTable}
-use Rattle.stack_code.specs.Reserve.{named_of, block_in, ints_at, block_at, arrays_from, arrays_in, slots_of, HasRow, Adds, SameSlots, row_of, AllSorted, NamesBlock, Reserves, IsReserve, IsFree, Freed}
+use Rattle.stack_code.specs.inner.Reserve.{named_of, block_in, ints_at, block_at, arrays_from, arrays_in, slots_of, HasRow}
+use Rattle.stack_code.specs.inner.Reserve.{Adds, SameSlots, row_of, AllSorted, NamesBlock, Reserves, IsReserve, IsFree, Freed}
 use Rattle.stack_code.proofs.Homes.{HasHome, home_inside}
-use Rattle.stack_code.proofs.Places.{within}
+use Rattle.way_order.proofs.Places.{within}
 use Rattle.stack_code.proofs.Rounds.{below_or_next}
 use Rattle.stack_code.proofs.Naming.{here_of, block_use, ints_use, block_named, load_named, sets_named}
 
@@ -36,14 +37,16 @@ use_block true e = let no : AsReference ≡ AsBlock = e in cc
 use_block false e = int_block e
 
 -- a block that is a parameter
-pub param_conflict : (code : Parts) (table : List (Option Shape)) (at : ℕ) (n : Named) (o : Option Bool) (array : Bool) → IsTable code table → block_at code table at ≡ Some n → o ≡ slice_get (params_of code n.home) n.slot → o ≡ Some array → HasOneUse code → ⊥
+pub param_conflict : (code : Parts) (table : List (Option Shape)) (at : ℕ) (n : Named) (o : Option Bool) (array : Bool) → IsTable code table → block_at code table at ≡ Some n
+    → o ≡ slice_get (params_of code n.home) n.slot → o ≡ Some array → HasOneUse code → ⊥
 param_conflict code table at n o array t h e is one = use_block array (one n.home n.slot (use_of array) AsBlock (param array (sym e ∙ is)) (block_use code table at n t h))
 
 block_used : (code : Parts) (table : List (Option Shape)) (end : ℕ) (h : Home) (x : ℕ) → IsTable code table → NamesBlock code table end h x → Uses code h x AsBlock
 block_used code table end h x t b = subst (λ z. Uses code z x AsBlock) b.home_is (subst (λ z. Uses code b.named.home z AsBlock) b.slot_is (block_use code table b.at b.named t b.is))
 
 -- an int that is reserved
-int_conflict : (code : Parts) (table : List (Option Shape)) (end : ℕ) (h : Home) (x : ℕ) → IsTable code table → Uses code h x AsInt → (slice_get (params_of code h) x ≡ Some true) ⊎ NamesBlock code table end h x → HasOneUse code → ⊥
+int_conflict : (code : Parts) (table : List (Option Shape)) (end : ℕ) (h : Home) (x : ℕ) → IsTable code table → Uses code h x AsInt
+    → (slice_get (params_of code h) x ≡ Some true) ⊎ NamesBlock code table end h x → HasOneUse code → ⊥
 int_conflict code table end h x t u r one = elim r [
   | inl e ↦ int_reference (one h x AsInt AsReference u (param true e))
   | inr b ↦ int_block (one h x AsInt AsBlock u (block_used code table end h x t b))
@@ -63,14 +66,16 @@ row_by : (code : Parts) (r : Reserved) (h : Home) → length r.functions.items �
 row_by code r (home.Function number) f a lt = omega arith
 row_by code r (home.Async at) f a lt = omega arith
 
-pub block_row : (code : Parts) (table : List (Option Shape)) (r : Reserved) (at end : ℕ) (n : Named) → IsTable code table → Reserves code table r end → block_at code table at ≡ Some n → HasRow r n.home
+pub block_row : (code : Parts) (table : List (Option Shape)) (r : Reserved) (at end : ℕ) (n : Named) → IsTable code table → Reserves code table r end → block_at code table at ≡ Some n
+    → HasRow r n.home
 block_row code table r at end n t s h =
     let w = here_of code table at (block_in code) n h in
     row_by code r n.home s.functions s.asyncs (home_inside code at 0 w.shape n.home (t.reached at w.shape w.has) (home_by code w.shape w.instr n w.names_it))
 
 -- ---- one address more
 
-module _ (code : Parts) (table : List (Option Shape)) (r r' : Reserved) (at : ℕ) (n : Named) (t : IsTable code table) (s : Reserves code table r at) (h : block_at code table at ≡ Some n) (a : Adds r r' n.home n.slot) where
+module _ (code : Parts) (table : List (Option Shape)) (r r' : Reserved) (at : ℕ) (n : Named) (t : IsTable code table) (s : Reserves code table r at) (h : block_at code table at ≡ Some n)
+    (a : Adds r r' n.home n.slot) where
   same_name : (k : ℕ) (m : Named) → k ≡ at → block_at code table k ≡ Some m → n ≡ m
   same_name k m e b = let x : Some n ≡ Some m = sym h ∙ subst (λ j. block_at code table j ≡ Some m) e b in cc
 
@@ -105,25 +110,34 @@ module _ (code : Parts) (table : List (Option Shape)) (r r' : Reserved) (at : �
 
 -- ---- whether an int is free
 
-pub free_by : (code : Parts) (table : List (Option Shape)) (r : Reserved) (at end : ℕ) (n : Named) (row : List ℕ) (b : Bool) → IsTable code table → Reserves code table r end → ints_at code table at ≡ Some n → row ≡ slots_of r n.home → (IsTrue b ↔ ((x : ℕ) × (Contains row x × ((n.slot ≤ x) × (x < n.slot + n.len))))) → Freed code table r at (not b)
+pub free_by : (code : Parts) (table : List (Option Shape)) (r : Reserved) (at end : ℕ) (n : Named) (row : List ℕ) (b : Bool) → IsTable code table → Reserves code table r end
+    → ints_at code table at ≡ Some n → row ≡ slots_of r n.home → (IsTrue b ↔ ((x : ℕ) × (Contains row x × ((n.slot ≤ x) × (x < n.slot + n.len))))) → Freed code table r at (not b)
 free_by code table r at end n row true t s h e d = λ one.
     let w = d.0 refl in
     int_conflict code table end n.home w.0 t (ints_use code table at w.0 n t h w.1.1.0 w.1.1.1) (s.sound n.home w.0 (subst (λ z. Contains z w.0) e w.1.0)) one
 free_by code table r at end n row false t s h e d = λ m x named low high c.
     let k : Some n ≡ Some m = sym h ∙ named in
     let q : m ≡ n = cc in
-    false≢true (d.1 (x, (subst (λ z. Contains z x) (sym e) (subst (λ (z : Named). Contains (slots_of r z.home) x) q c), (subst (λ (z : Named). z.slot ≤ x) q low, subst (λ (z : Named). x < z.slot + z.len) q high))))
+    false≢true (d.1 (
+      x,
+      (
+        subst (λ z. Contains z x) (sym e) (subst (λ (z : Named). Contains (slots_of r z.home) x) q c),
+        (subst (λ (z : Named). z.slot ≤ x) q low, subst (λ (z : Named). x < z.slot + z.len) q high),
+      ),
+    ))
 
 abbrev AnyIn : List ℕ → ℕ → ℕ → Type 0
 AnyIn row low high = (x : ℕ) × (Contains row x × ((low ≤ x) × (x < high)))
 
-pub free_at : (code : Parts) (table : List (Option Shape)) (r : Reserved) (at end : ℕ) (n : Named) (row : List ℕ) (b : Bool) (low len : ℕ) → IsTable code table → Reserves code table r end → ints_at code table at ≡ Some n → row ≡ slots_of r n.home → low ≡ n.slot → len ≡ n.len → (IsTrue b ↔ AnyIn row low (low + len)) → Freed code table r at (not b)
+pub free_at : (code : Parts) (table : List (Option Shape)) (r : Reserved) (at end : ℕ) (n : Named) (row : List ℕ) (b : Bool) (low len : ℕ) → IsTable code table → Reserves code table r end
+    → ints_at code table at ≡ Some n → row ≡ slots_of r n.home → low ≡ n.slot → len ≡ n.len → (IsTrue b ↔ AnyIn row low (low + len)) → Freed code table r at (not b)
 free_at code table r at end n row b low len t s h e el en d =
     free_by code table r at end n row b t s h e (subst (λ y. IsTrue b ↔ AnyIn row n.slot (n.slot + y)) en (subst (λ z. IsTrue b ↔ AnyIn row z (z + len)) el d))
 
 -- ---- all of it
 
-module _ (code : Parts) (table : List (Option Shape)) (r : Reserved) (t : IsTable code table) (s : Reserves code table r (length code.instrs)) (free : (k : ℕ) → k < length code.instrs → IsFree code table r k) where
+module _ (code : Parts) (table : List (Option Shape)) (r : Reserved) (t : IsTable code table) (s : Reserves code table r (length code.instrs))
+    (free : (k : ℕ) → k < length code.instrs → IsFree code table r k) where
   -- a use, as the tables tell it
   abbrev Told : Home → ℕ → Use → Type 0
   Told h x AsInt = Contains (slots_of r h) x → ⊥
@@ -152,7 +166,8 @@ module _ (code : Parts) (table : List (Option Shape)) (r : Reserved) (t : IsTabl
   inside : (at : ℕ) (u : Shape) → Reaches code at u → at < length code.instrs
   inside at u q = let lt : at < length table = within table at (Some u) (t.has at u q) in let l : length table ≡ length code.instrs = t.long in omega arith
 
-  told_load : (at level : ℕ) (u : Shape) (h : Home) (x : ℕ) (array : Bool) → Reaches code at u → slice_get code.instrs at ≡ Some (i.Load level x) → home_at u level ≡ Some h → is_array code h x ≡ array → Told h x (use_of array)
+  told_load : (at level : ℕ) (u : Shape) (h : Home) (x : ℕ) (array : Bool) → Reaches code at u → slice_get code.instrs at ≡ Some (i.Load level x) → home_at u level ≡ Some h → is_array code h x ≡ array
+      → Told h x (use_of array)
   told_load at level u h x true q here e a = array_is (slice_get (params_of code h) x) a
   told_load at level u h x false q here e a = free at (inside at u q) (named_of h x 1) x (load_named code table at level x u h (t.has at u q) here e a) (omega arith) (omega arith)
 
@@ -203,7 +218,8 @@ arrays_sound k (false ∷ params) x c = let w = arrays_sound (k + 1) params x c 
 arrays_has : (k : ℕ) (params : List Bool) (j : ℕ) → slice_get params j ≡ Some true → Contains (arrays_from k params) (k + j)
 arrays_has k [] j h = let no : None ≡ Some true = h in cc
 arrays_has k (true ∷ params) zero h = (0, omega arith, omega arith)
-arrays_has k (true ∷ params) (suc j) h = Contains-append_right (k ∷ []) (arrays_from (k + 1) params) (k + suc j) (subst (Contains (arrays_from (k + 1) params)) (omega arith) (arrays_has (k + 1) params j h))
+arrays_has k (true ∷ params) (suc j) h = Contains-append_right (k ∷ []) (arrays_from (k + 1) params) (k + suc j)
+    (subst (Contains (arrays_from (k + 1) params)) (omega arith) (arrays_has (k + 1) params j h))
 arrays_has k (false ∷ params) zero h = let no : Some false ≡ Some true = h in let f : false ≡ true = cc in absurd (false≢true f)
 arrays_has k (false ∷ params) (suc j) h = subst (Contains (arrays_from (k + 1) params)) (omega arith) (arrays_has (k + 1) params j h)
 
@@ -254,7 +270,8 @@ module _ (code : Parts) (table : List (Option Shape)) (r : Reserved) (f : r.func
 
 -- ---- the end: the rows in order
 
-module _ (code : Parts) (table : List (Option Shape)) (r r' : Reserved) (s : Reserves code table r (length code.instrs)) (f : AllSorted r.functions.items r'.functions.items) (a : AllSorted r.asyncs.items r'.asyncs.items) where
+module _ (code : Parts) (table : List (Option Shape)) (r r' : Reserved) (s : Reserves code table r (length code.instrs)) (f : AllSorted r.functions.items r'.functions.items)
+    (a : AllSorted r.asyncs.items r'.asyncs.items) where
   same_slots : (h : Home) → SameSlots (slots_of r h) (slots_of r' h)
   same_slots (home.Function number) = f.same number
   same_slots (home.Async at) = a.same at

@@ -51,7 +51,8 @@ module _ (code : Parts) (s : Shape) where
   unfolding shape_at
   shape_behind at instr e = ap shape_at (add-one at) ∙ ap (λ o. behind_some code at o (shape_at at)) e
 
-  pub shape_onward : (at : ℕ) (instr : Instr) (t : Shape) (leads : Leads) → slice_get code.instrs at ≡ Some instr → jumps instr ≡ false → shape_at at ≡ t → effect code at instr t ≡ Some leads → shape_at (at + 1) ≡ onward t (Some leads)
+  pub shape_onward : (at : ℕ) (instr : Instr) (t : Shape) (leads : Leads) → slice_get code.instrs at ≡ Some instr → jumps instr ≡ false → shape_at at ≡ t → effect code at instr t ≡ Some leads
+      → shape_at (at + 1) ≡ onward t (Some leads)
   shape_onward at instr t leads h j e f =
       shape_behind at instr h
       ∙ ap (behind code at instr) e

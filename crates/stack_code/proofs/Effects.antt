@@ -13,7 +13,8 @@ use Rattle.stack_code.specs.declared.shape.Shape.{Shape}
 use Rattle.stack_code.specs.declared.shape.Leads.{Leads}
 use Rattle.stack_code.specs.declared.shape.Leads.TheVariants.{Stop, One, Two}
 use Rattle.stack_code.specs.Parts.{Parts}
-use Rattle.stack_code.specs.Shapes.{on_some, body_with, loaded, is_array, arguments, is_entered, entered, can_start, can_end, can_return, directives_in, channels_of, taken, with_operands, pushed, after, first, inner, is_block, finished, finished_in, goes, pushes, branches, calls, effect, LeadsTo}
+use Rattle.stack_code.specs.Shapes.{on_some, body_with, loaded, is_array, arguments, is_entered, entered, can_start, can_end, can_return, directives_in, channels_of}
+use Rattle.stack_code.specs.Shapes.{taken, with_operands, pushed, after, first, inner, is_block, finished, finished_in, goes, pushes, branches, calls, effect, LeadsTo}
 
 -- the same bodies, one more at an `Async`, or those of a function's first address
 pub data Bodies (code : Parts) (at : ℕ) (instr : Instr) (s t : Shape) : Type 0 where
@@ -71,7 +72,8 @@ module _ (code : Parts) (at : ℕ) (instr : Instr) (s : Shape) (l : Leads) where
   by_branches to e = by_after (want.Int ∷ []) (λ t. Some (Two (at + 1) t to t)) (λ kinds f. by_two (at + 1) to (with_operands s kinds) (with_operands s kinds) (same refl) (same refl) f) e
 
   by_call : (number count : ℕ) (function : Entered) → slice_get code.functions number ≡ Some function → calls at number count s function ≡ Some l → L l
-  by_call number count function f e = by_if (nat_eq count (length function.params)) _ (λ g. by_after (arguments function.params) (λ t. Some (Two (at + 1) (pushed kind.Int t) function.at (first number function))) (λ kinds h.
+  by_call number count function f e = by_if (nat_eq count (length function.params)) _
+      (λ g. by_after (arguments function.params) (λ t. Some (Two (at + 1) (pushed kind.Int t) function.at (first number function))) (λ kinds h.
       by_two (at + 1) function.at (with_operands s (kind.Int ∷ kinds)) (first number function) (same refl) (begin number function f refl) h) g) e
 
   by_finished : (slot : ℕ) (t : Shape) → finished slot s ≡ Some t → t.bodies ≡ s.bodies
@@ -94,11 +96,13 @@ module _ (code : Parts) (at : ℕ) (instr : Instr) (s : Shape) (l : Leads) where
 pub leading : (code : Parts) (at : ℕ) (instr : Instr) (s : Shape) (l : Leads) → effect code at instr s ≡ Some l → Leading code at instr s l
 leading code at i.Step s l e = by_goes code at i.Step s l e
 leading code at (i.Push v) s l e = by_pushes code at (i.Push v) s l kind.Int e
-leading code at (i.Load level slot) s l e = by_some code at (i.Load level slot) s l (body_with s level slot 1) _ (λ body r f. by_pushes code at (i.Load level slot) s l (loaded (is_array code body.home slot)) f) e
+leading code at (i.Load level slot) s l e = by_some code at (i.Load level slot) s l (body_with s level slot 1) _
+    (λ body r f. by_pushes code at (i.Load level slot) s l (loaded (is_array code body.home slot)) f) e
 leading code at (i.LoadG slot) s l e = by_if code at (i.LoadG slot) s l (nat_lt slot code.globals) _ (by_pushes code at (i.LoadG slot) s l kind.Int) e
 leading code at (i.Store level slot) s l e = by_some code at (i.Store level slot) s l (body_with s level slot 1) _ (λ body r. by_take code at (i.Store level slot) s l (want.Int ∷ [])) e
 leading code at (i.StoreG slot) s l e = by_if code at (i.StoreG slot) s l (nat_lt slot code.globals) _ (by_take code at (i.StoreG slot) s l (want.Int ∷ [])) e
-leading code at (i.Arr level slot len) s l e = by_some code at (i.Arr level slot len) s l (body_with s level slot len) _ (λ body r. by_pushes code at (i.Arr level slot len) s l (kind.Reference (nat_eq len 1))) e
+leading code at (i.Arr level slot len) s l e = by_some code at (i.Arr level slot len) s l (body_with s level slot len) _
+    (λ body r. by_pushes code at (i.Arr level slot len) s l (kind.Reference (nat_eq len 1))) e
 leading code at (i.ArrG slot len) s l e = by_if code at (i.ArrG slot len) s l (nat_le (slot + len) code.globals) _ (by_pushes code at (i.ArrG slot len) s l (kind.Reference (nat_eq len 1))) e
 leading code at i.Elem s l e = by_make code at i.Elem s l (want.Int ∷ want.Reference ∷ []) kind.Int e
 leading code at i.SetElem s l e = by_take code at i.SetElem s l (want.Int ∷ want.Reference ∷ want.Int ∷ []) e
@@ -128,14 +132,18 @@ leading code at i.Drop s l e = by_take code at i.Drop s l (want.Any ∷ []) e
 leading code at (i.Jump to) s l e = by_one code at (i.Jump to) s l to s refl e
 leading code at (i.Jz to) s l e = by_branches code at (i.Jz to) s l to e
 leading code at (i.Jnz to) s l e = by_branches code at (i.Jnz to) s l to e
-leading code at (i.Print text count) s l e = by_some code at (i.Print text count) s l (slice_get code.texts text) _ (λ bytes r. by_if code at (i.Print text count) s l (nat_eq count (directives_in bytes)) _ (by_take code at (i.Print text count) s l (replicate count want.Int))) e
-leading code at (i.Call number count) s l e = by_some code at (i.Call number count) s l (slice_get code.functions number) (calls at number count s) (λ function r. by_call code at (i.Call number count) s l number count function r) e
+leading code at (i.Print text count) s l e = by_some code at (i.Print text count) s l (slice_get code.texts text) _
+    (λ bytes r. by_if code at (i.Print text count) s l (nat_eq count (directives_in bytes)) _ (by_take code at (i.Print text count) s l (replicate count want.Int))) e
+leading code at (i.Call number count) s l e = by_some code at (i.Call number count) s l (slice_get code.functions number) (calls at number count s)
+    (λ function r. by_call code at (i.Call number count) s l number count function r) e
 leading code at i.Ret s l e = by_stop code at i.Ret s l (can_return s) e
-leading code at (i.Enter slot) s l e = by_some code at (i.Enter slot) s l (body_with s 0 slot 1) _ (λ body r. by_if_not code at (i.Enter slot) s l (is_entered s 0 slot) _ (by_one code at (i.Enter slot) s l (at + 1) (entered slot s) refl)) e
+leading code at (i.Enter slot) s l e = by_some code at (i.Enter slot) s l (body_with s 0 slot 1) _
+    (λ body r. by_if_not code at (i.Enter slot) s l (is_entered s 0 slot) _ (by_one code at (i.Enter slot) s l (at + 1) (entered slot s) refl)) e
 leading code at (i.Finish slot) s l e = by_finish code at (i.Finish slot) s l slot e
 leading code at (i.Async slots to) s l e = by_async code at (i.Async slots to) s l slots to refl e
 leading code at i.End s l e = by_stop code at i.End s l (can_end s) e
-leading code at (i.Cancel level slot) s l e = by_some code at (i.Cancel level slot) s l (slice_get s.bodies level) _ (λ body r. by_if code at (i.Cancel level slot) s l (is_entered s level slot) _ (by_goes code at (i.Cancel level slot) s l)) e
+leading code at (i.Cancel level slot) s l e = by_some code at (i.Cancel level slot) s l (slice_get s.bodies level) _
+    (λ body r. by_if code at (i.Cancel level slot) s l (is_entered s level slot) _ (by_goes code at (i.Cancel level slot) s l)) e
 leading code at i.Yield s l e = by_goes code at i.Yield s l e
 leading code at (i.Send channel) s l e = by_if code at (i.Send channel) s l (nat_lt channel (channels_of code)) _ (by_make code at (i.Send channel) s l (want.Int ∷ []) kind.Int) e
 leading code at (i.Recv channel) s l e = by_if code at (i.Recv channel) s l (nat_lt channel (channels_of code)) _ (by_make code at (i.Recv channel) s l (want.One ∷ []) kind.Int) e

@@ -11,8 +11,8 @@ use Rattle.stack_code.specs.declared.shape.Shape.{Shape}
 use Rattle.stack_code.specs.Parts.{Parts}
 use Rattle.stack_code.specs.Shapes.{first, inner}
 use Rattle.stack_code.specs.Valid.{Reaches, begins, goes, home_at}
-use Rattle.stack_code.specs.Bodies.{IsHome, IsBody}
-use Rattle.stack_code.proofs.Places.{within}
+use Rattle.stack_code.specs.inner.Bodies.{IsHome, IsBody}
+use Rattle.way_order.proofs.Places.{within}
 use Rattle.stack_code.proofs.Effects.{Bodies, same, more, begin, leading}
 
 abbrev pub AllBodies : Parts → List Body → Type 0

@@ -9,7 +9,8 @@ use Rattle.stack_code.specs.Parts.{Parts}
 use Rattle.stack_code.specs.Shapes.{params_of, is_array}
 use Rattle.stack_code.specs.Valid.{Reaches, Use, AsInt, use_of, Uses, param, loads, sets, enters}
 
-module _ (code : Parts) (no_params : (home : Home) → params_of code home ≡ []) (no_blocks : (at : ℕ) (s : Shape) (slot : ℕ) → Reaches code at s → slice_get code.instrs at ≡ Some (i.Enter slot) → ⊥) where
+module _ (code : Parts) (no_params : (home : Home) → params_of code home ≡ [])
+    (no_blocks : (at : ℕ) (s : Shape) (slot : ℕ) → Reaches code at s → slice_get code.instrs at ≡ Some (i.Enter slot) → ⊥) where
   no_array : (home : Home) (slot : ℕ) → is_array code home slot ≡ false
   no_array home slot = ap (λ params. unwrap_or (slice_get params slot) false) (no_params home)
 

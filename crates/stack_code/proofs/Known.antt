@@ -4,13 +4,12 @@ use Rattle.std.specs.Prelude.{slice_get, slice_set, ◌↔◌, IsTrue}
 use Rattle.std.proofs.lemmas.Bool.{false≢true}
 use Rattle.stack_code.specs.declared.instr.Instr.{Instr}
 use Rattle.stack_code.specs.declared.shape.Shape.{Shape}
-use Rattle.stack_code.specs.declared.shape.Leads.TheVariants.{Stop, One, Two}
 use Rattle.stack_code.specs.Parts.{Parts}
 use Rattle.stack_code.specs.Shapes.{effect, LeadsTo}
 use Rattle.stack_code.specs.Valid.{Fits, Reaches, goes, IsShaped}
 use Rattle.stack_code.specs.Kept.{Has}
-use Rattle.stack_code.specs.Work.{IsOpen, IsClosed, nones, IsWork, Extends, IsMet, Met, IsFollowed, IsTurned}
-use Rattle.stack_code.proofs.Places.{set_same, set_cases, set_other, set_length, end_cases, end_before, end_here, within}
+use Rattle.stack_code.specs.inner.Work.{IsOpen, IsClosed, nones, IsWork, Extends, IsMet, Met, IsFollowed, IsTurned}
+use Rattle.way_order.proofs.Places.{set_same, set_cases, set_other, set_length, end_cases, end_before, end_here, within}
 
 one_some : (s t : Shape) → Some s ≡ Some t → s ≡ t
 one_some s t e = cc
@@ -90,11 +89,13 @@ module _ (code : Parts) (table : List (Option Shape)) (found : List ℕ) (next t
     grows = λ k at h. end_before found (to ∷ []) at k h;
   }
 
-pub met_new_at : (code : Parts) (table : List (Option Shape)) (found found2 : List ℕ) (next to : ℕ) (t : Shape) → IsWork code table found next → Reaches code to t → slice_get table to ≡ Some None → found2 ≡ found ++ to ∷ [] → IsMet code table (slice_set table to (Some t)) found found2 next to t
+pub met_new_at : (code : Parts) (table : List (Option Shape)) (found found2 : List ℕ) (next to : ℕ) (t : Shape) → IsWork code table found next → Reaches code to t → slice_get table to ≡ Some None
+    → found2 ≡ found ++ to ∷ [] → IsMet code table (slice_set table to (Some t)) found found2 next to t
 met_new_at code table found found2 next to t w r n e = rw e (met_new code table found next to t w r n)
 
 -- an address that has a shape already
-met_old : (code : Parts) (table : List (Option Shape)) (found : List ℕ) (next to : ℕ) (s t : Shape) → IsWork code table found next → Has table to s → s ≡ t → IsMet code table table found found next to t
+met_old : (code : Parts) (table : List (Option Shape)) (found : List ℕ) (next to : ℕ) (s t : Shape) → IsWork code table found next → Has table to s → s ≡ t
+    → IsMet code table table found found next to t
 met_old code table found next to s t w h e = record {
   work = w;
   has = subst (λ z. Has table to z) e h;
@@ -102,42 +103,14 @@ met_old code table found next to s t w h e = record {
   grows = λ k at x. x;
 }
 
-pub met_known : (code : Parts) (table : List (Option Shape)) (found : List ℕ) (next to : ℕ) (s t : Shape) (same : Bool) → IsWork code table found next → Reaches code to t → Has table to s → (IsTrue same ↔ (s ≡ t)) → Met code table table found found next to t same
+pub met_known : (code : Parts) (table : List (Option Shape)) (found : List ℕ) (next to : ℕ) (s t : Shape) (same : Bool) → IsWork code table found next → Reaches code to t → Has table to s
+    → (IsTrue same ↔ (s ≡ t)) → Met code table table found found next to t same
 met_known code table found next to s t true w r h d = met_old code table found next to s t w h (d.0 refl)
 met_known code table found next to s t false w r h d = λ v. false≢true (d.1 (v.same to s t (w.reached to s h) r))
 
-pub met_outside : (code : Parts) (table : List (Option Shape)) (found : List ℕ) (next to : ℕ) (t : Shape) → IsWork code table found next → Reaches code to t → length table ≤ to → IsShaped code → ⊥
-met_outside code table found next to t w r out v =
-    let f = v.fits to t r in
-    let x : to < length code.instrs = within code.instrs to f.instr f.here in
-    let l : length table ≡ length code.instrs = w.long in
-    omega arith
-
--- both ways of an instruction
-pub followed_two : (code : Parts) (t1 t2 t3 : List (Option Shape)) (f1 f2 f3 : List ℕ) (next a : ℕ) (t : Shape) (b : ℕ) (u : Shape) → IsMet code t1 t2 f1 f2 next a t → IsMet code t2 t3 f2 f3 next b u → IsFollowed code t1 t3 f1 f3 next (Two a t b u)
-followed_two code t1 t2 t3 f1 f2 f3 next a t b u m n = record {
-  work = n.work;
-  has = λ x v l. elim l [
-    | inl e ↦ n.more x v (subst (λ z. Has t2 z v) e.0 (subst (λ z. Has t2 a z) e.1 m.has))
-    | inr e ↦ subst (λ z. Has t3 z v) e.0 (subst (λ z. Has t3 b z) e.1 n.has)
-  ];
-  more = λ at s h. n.more at s (m.more at s h);
-  grows = λ k at h. n.grows k at (m.grows k at h);
-}
-
-pub followed_one : (code : Parts) (t1 t2 : List (Option Shape)) (f1 f2 : List ℕ) (next to : ℕ) (t : Shape) → IsMet code t1 t2 f1 f2 next to t → IsFollowed code t1 t2 f1 f2 next (One to t)
-followed_one code t1 t2 f1 f2 next to t m = record {
-  work = m.work;
-  has = λ x v e. subst (λ z. Has t2 z v) e.0 (subst (λ z. Has t2 to z) e.1 m.has);
-  more = m.more;
-  grows = m.grows;
-}
-
-pub followed_none : (code : Parts) (t1 : List (Option Shape)) (f1 : List ℕ) (next : ℕ) → IsWork code t1 f1 next → IsFollowed code t1 t1 f1 f1 next Stop
-followed_none code t1 f1 next w = record { work = w; has = λ x v e. absurd e; more = λ at s h. h; grows = λ k at h. h }
-
 -- an address is followed
-pub turned : (code : Parts) (table table' : List (Option Shape)) (found found' : List ℕ) (next at : ℕ) (s : Shape) (f : Fits code at s) → slice_get found next ≡ Some at → Has table at s → IsFollowed code table table' found found' next f.leads → IsTurned code table table' found' next
+pub turned : (code : Parts) (table table' : List (Option Shape)) (found found' : List ℕ) (next at : ℕ) (s : Shape) (f : Fits code at s) → slice_get found next ≡ Some at → Has table at s
+    → IsFollowed code table table' found found' next f.leads → IsTurned code table table' found' next
 turned code table table' found found' next at s f here h m = record {
   work = record {
     long = m.work.long;

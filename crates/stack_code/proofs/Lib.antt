@@ -1,5 +1,4 @@
 pub mod Reversed
-pub mod Places
 pub mod Tables
 pub mod Known
 pub mod Rounds

@@ -7,7 +7,7 @@ use Rattle.std.proofs.lemmas.Bool.Decides.{nat_tests}
 use Rattle.stack_code.specs.declared.parts.Start.{Start}
 use Rattle.stack_code.specs.Parts.{Parts}
 use Rattle.stack_code.specs.Valid.{IsStart, HasStarts}
-use Rattle.stack_code.specs.Rises.{rising_from}
+use Rattle.stack_code.specs.inner.Rises.{rising_from}
 
 abbrev slots : List Start → List ℕ
 slots starts = map (λ (start : Start). start.slot) starts
@@ -36,7 +36,8 @@ from_next x starts up lt =
 abbrev Rises : ℕ → List Start → Type 0
 Rises next starts = FromOn next starts × IsStrictlyIncreasing (slots starts)
 
-rises_by : (next : ℕ) (x : Start) (starts : List Start) (b : Bool) → nat_lt x.slot next ≡ b → (rising_from (x.slot + 1) starts ≡ true → Rises (x.slot + 1) starts) → (if b then false else rising_from (x.slot + 1) starts) ≡ true → Rises next (x ∷ starts)
+rises_by : (next : ℕ) (x : Start) (starts : List Start) (b : Bool) → nat_lt x.slot next ≡ b → (rising_from (x.slot + 1) starts ≡ true → Rises (x.slot + 1) starts)
+    → (if b then false else rising_from (x.slot + 1) starts) ≡ true → Rises next (x ∷ starts)
 rises_by next x starts true t rest e = absurd (false≢true e)
 rises_by next x starts false t rest e =
     let w = rest e in
@@ -47,7 +48,8 @@ rises : (next : ℕ) (starts : List Start) → rising_from next starts ≡ true 
 rises next [] e = (λ lt. absurd (omega arith), λ k lt. absurd (omega arith))
 rises next (x ∷ starts) e = rises_by next x starts (nat_lt x.slot next) refl (rises (x.slot + 1) starts) e
 
-rising_by : (next : ℕ) (x : Start) (starts : List Start) (b : Bool) → nat_lt x.slot next ≡ b → next ≤ x.slot → rising_from (x.slot + 1) starts ≡ true → (if b then false else rising_from (x.slot + 1) starts) ≡ true
+rising_by : (next : ℕ) (x : Start) (starts : List Start) (b : Bool) → nat_lt x.slot next ≡ b → next ≤ x.slot → rising_from (x.slot + 1) starts ≡ true
+    → (if b then false else rising_from (x.slot + 1) starts) ≡ true
 rising_by next x starts true t le e = absurd (let lt : x.slot < next = grind (arith, nat_tests) in omega arith)
 rising_by next x starts false t le e = e
 

@@ -1,5 +1,6 @@
 -- The search for shapes from its beginning to its end.
-use Rattle.std.proofs.Common.{◌≡◌, ℕ, zero, suc, ◌+◌, ◌<◌, ◌≤◌, ◌⊎◌, inl, inr, List, [], length, Option, Some, None, Bool, true, false, nat_lt, replicate, refl, sym, ap, ◌∙◌, subst, arith, Result, Ok, Err}
+use Rattle.std.proofs.Common.{◌≡◌, ℕ, zero, suc, ◌+◌, ◌<◌, ◌≤◌, ◌⊎◌, inl, inr, List, [], length, Option, Some, None}
+use Rattle.std.proofs.Common.{Bool, true, false, nat_lt, replicate, refl, sym, ap, ◌∙◌, subst, arith, Result, Ok, Err}
 use Rattle.std.specs.Prelude.{slice_get, get_or, IfOk}
 use Rattle.std.proofs.lemmas.Option.{slice_get_read, slice_get-get_or}
 use Rattle.std.proofs.lemmas.Bool.Decides.{nat_tests}
@@ -12,8 +13,8 @@ use Rattle.stack_code.specs.Parts.{Parts, Begins}
 use Rattle.stack_code.specs.Shapes.{first, effect, LeadsTo}
 use Rattle.stack_code.specs.Valid.{Fits, Goes, Reaches, begins, goes, IsShaped}
 use Rattle.stack_code.specs.Kept.{Has}
-use Rattle.stack_code.specs.Work.{IsClosed, nones, IsWork, Extends, IsMet, Met, Followed, IsTurned, Turned, HasEntries, IsBegun, Begun, IsFound}
-use Rattle.stack_code.proofs.Places.{within}
+use Rattle.stack_code.specs.inner.Work.{IsClosed, nones, IsWork, Extends, IsMet, Met, Followed, IsTurned, Turned, HasEntries, IsBegun, IsFound}
+use Rattle.way_order.proofs.Places.{within}
 use Rattle.stack_code.proofs.Known.{same_has, turned, leads_same, unfit, reached_on}
 
 -- ---- one address
@@ -25,29 +26,22 @@ module _ (code : Parts) (table : List (Option Shape)) (found : List ℕ) (next a
   pub inside : at < length table
   inside = let h = w.held next at (found_at found next at lt here) in within table at (Some h.0) h.1
 
-  pub inside_code : at < length code.instrs
-  inside_code = let x : at < length table = inside in let l : length table ≡ length code.instrs = w.long in omega arith
-
   -- an address that was found has its shape
   pub held_is : (x : Option Shape) → x ≡ get_or table at x → x ≡ Some s → Has table at s
   held_is x e xs = slice_get_read table (length table) at x refl inside e ∙ ap Some xs
 
-  pub not_none : (x : Option Shape) → x ≡ get_or table at x → x ≡ None → ⊥
-  not_none x e none =
-      let h = w.held next at (found_at found next at lt here) in
-      let y : Some None ≡ Some (Some h.0) = sym (slice_get_read table (length table) at x refl inside e ∙ ap Some none) ∙ h.1 in
-      cc
-
   abbrev fit : (instr : Instr) (o : Option Leads) (l : Leads) → slice_get code.instrs at ≡ Some instr → o ≡ effect code at instr s → o ≡ Some l → Fits code at s
   fit instr o l i e f = record { instr = instr; leads = l; here = i; finds = sym e ∙ f }
 
-  pub here_reached : (instr : Instr) (o : Option Leads) (l : Leads) → Has table at s → slice_get code.instrs at ≡ Some instr → o ≡ effect code at instr s → o ≡ Some l → (to : ℕ) (t : Shape) → LeadsTo l to t → Reaches code to t
+  pub here_reached : (instr : Instr) (o : Option Leads) (l : Leads) → Has table at s → slice_get code.instrs at ≡ Some instr → o ≡ effect code at instr s → o ≡ Some l → (to : ℕ) (t : Shape)
+      → LeadsTo l to t → Reaches code to t
   here_reached instr o l h i e f = reached_on code at s (fit instr o l i e f) (w.reached at s h)
 
   pub here_unfit : (instr : Instr) (o : Option Leads) → Has table at s → slice_get code.instrs at ≡ Some instr → o ≡ effect code at instr s → o ≡ None → IsShaped code → ⊥
   here_unfit instr o h i e f = unfit code at s instr (w.reached at s h) i (sym e ∙ f)
 
-  pub here_turned : (instr : Instr) (o : Option Leads) (l : Leads) → Has table at s → slice_get code.instrs at ≡ Some instr → o ≡ effect code at instr s → o ≡ Some l → (t2 : List (Option Shape)) (f2 : List ℕ) (r : Result Bool NoMemory) → IfOk r (λ ok. Followed code table t2 found f2 next l ok) → IfOk r (λ ok. Turned code table t2 f2 next ok)
+  pub here_turned : (instr : Instr) (o : Option Leads) (l : Leads) → Has table at s → slice_get code.instrs at ≡ Some instr → o ≡ effect code at instr s → o ≡ Some l
+      → (t2 : List (Option Shape)) (f2 : List ℕ) (r : Result Bool NoMemory) → IfOk r (λ ok. Followed code table t2 found f2 next l ok) → IfOk r (λ ok. Turned code table t2 f2 next ok)
   here_turned instr o l h i e f t2 f2 (Ok true) m = turned code table t2 found f2 next at s (fit instr o l i e f) (found_at found next at lt here) h m
   here_turned instr o l h i e f t2 f2 (Ok false) m = m
   here_turned instr o l h i e f t2 f2 (Err x) m = m
@@ -81,17 +75,15 @@ first_work code table found n e l f =
       behind = omega arith;
     }
 
-pub met_true : (code : Parts) (table table' : List (Option Shape)) (found found' : List ℕ) (next to : ℕ) (t : Shape) (ok : Bool) → ok ≡ true → Met code table table' found found' next to t ok → IsMet code table table' found found' next to t
+pub met_true : (code : Parts) (table table' : List (Option Shape)) (found found' : List ℕ) (next to : ℕ) (t : Shape) (ok : Bool) → ok ≡ true → Met code table table' found found' next to t ok
+    → IsMet code table table' found found' next to t
 met_true code table table' found found' next to t true e m = m
 met_true code table table' found found' next to t false e m = let x : false ≡ true = e in cc
 
-pub turned_true : (code : Parts) (table table' : List (Option Shape)) (found' : List ℕ) (next : ℕ) (ok : Bool) → ok ≡ true → Turned code table table' found' next ok → IsTurned code table table' found' next
+pub turned_true : (code : Parts) (table table' : List (Option Shape)) (found' : List ℕ) (next : ℕ) (ok : Bool) → ok ≡ true → Turned code table table' found' next ok
+    → IsTurned code table table' found' next
 turned_true code table table' found' next true e m = m
 turned_true code table table' found' next false e m = let x : false ≡ true = e in cc
-
-pub begun_true : (code : Parts) (table : List (Option Shape)) (found : List ℕ) (ok : Bool) → ok ≡ true → Begun code table found ok → IsBegun code table found 0
-begun_true code table found true e m = m
-begun_true code table found false e m = let x : false ≡ true = e in cc
 
 -- ---- entries
 
@@ -138,7 +130,8 @@ entries_all code table es n h e le core function b lt = let l : length es ≡ le
 pub entries_kept : (code : Parts) (table table' : List (Option Shape)) (n : ℕ) → HasEntries code table n → Extends table table' → HasEntries code table' n
 entries_kept code table table' n h x core function b lt = x function.at (first b.entry function) (h core function b lt)
 
-pub entry_reached : (code : Parts) (core number : ℕ) (function : Entered) (s : Shape) → slice_get code.entries core ≡ Some number → slice_get code.functions number ≡ Some function → s ≡ first number function → Reaches code function.at s
+pub entry_reached : (code : Parts) (core number : ℕ) (function : Entered) (s : Shape) → slice_get code.entries core ≡ Some number → slice_get code.functions number ≡ Some function
+    → s ≡ first number function → Reaches code function.at s
 entry_reached code core number function s e f same = subst (Reaches code function.at) (sym same) (begins core function (record { entry = number; entry_is = e; function_is = f }))
 
 -- ---- the end

@@ -1,5 +1,6 @@
 -- Rows of slots.
-use Rattle.std.proofs.Common.{◌≡◌, ℕ, zero, suc, ◌+◌, ◌<◌, ◌⊎◌, inl, inr, List, [], ◌∷◌, ◌++◌, length, Bool, true, false, nat_eq, Result, Ok, Err, Contains, Vec, Global, refl, sym, ap, ◌∙◌, subst, arith}
+use Rattle.std.proofs.Common.{◌≡◌, ℕ, zero, suc, ◌+◌, ◌<◌, ◌⊎◌, inl, inr, List, [], ◌∷◌, ◌++◌, length, Bool, true}
+use Rattle.std.proofs.Common.{false, nat_eq, Result, Ok, Err, Contains, Vec, Global, refl, sym, ap, ◌∙◌, subst, arith}
 use Rattle.std.specs.Prelude.{slice_set, get_or, OnOk}
 use Rattle.std.specs.List.Sorted.{IsNonDecreasing, IsPermutation}
 use Rattle.std.proofs.lemmas.Bool.Decides.{nat_tests}
@@ -9,8 +10,8 @@ use Rattle.ac_base.specs.declared.memory.NoMemory.{NoMemory}
 use Rattle.stack_code.specs.declared.shape.Home.{Home}
 use Rattle.stack_code.specs.declared.shape.Home.TheVariants as home
 use Rattle.stack_code.specs.declared.uses.Reserved.{Reserved}
-use Rattle.stack_code.specs.Reserve.{slots_of, Adds, SameSlots, row_of, SortedTo}
-use Rattle.stack_code.proofs.Places.{set_length}
+use Rattle.stack_code.specs.inner.Reserve.{slots_of, Adds, SameSlots, row_of, SortedTo}
+use Rattle.way_order.proofs.Places.{set_length}
 
 -- the same place, or another
 pub equal_or_not : (i k : ℕ) → (i ≡ k) ⊎ (i ≡ k → ⊥)
@@ -48,7 +49,8 @@ module _ (rows rows' : List (List ℕ)) (i slot : ℕ) (lt : i < length rows) (e
 
   pub kept_row : (k x : ℕ) → Contains (row_of rows k) x → Contains (row_of rows' k) x
   kept_row k x h = elim (equal_or_not i k) [
-    | inl q ↦ subst (λ j. Contains (row_of rows' j) x) q (subst (λ row. Contains row x) (sym here) (Contains-append_left (row_of rows i) (slot ∷ []) x (subst (λ j. Contains (row_of rows j) x) (sym q) h)))
+    | inl q ↦ subst (λ j. Contains (row_of rows' j) x) q (subst (λ row. Contains row x) (sym here)
+        (Contains-append_left (row_of rows i) (slot ∷ []) x (subst (λ j. Contains (row_of rows j) x) (sym q) h)))
     | inr ne ↦ subst (λ row. Contains row x) (sym (other k ne)) h
   ]
 
@@ -70,7 +72,8 @@ module _ (rows rows' : List (List ℕ)) (i slot : ℕ) (lt : i < length rows) (e
 abbrev Rows : Type 0
 Rows = Vec (List ℕ) Global
 
-module _ (functions asyncs functions' : Rows) (number slot : ℕ) (lt : number < length functions.items) (e : functions'.items ≡ slice_set functions.items number (row_of functions.items number ++ slot ∷ [])) where
+module _ (functions asyncs functions' : Rows) (number slot : ℕ) (lt : number < length functions.items)
+    (e : functions'.items ≡ slice_set functions.items number (row_of functions.items number ++ slot ∷ [])) where
   abbrev r : Reserved
   r = record { functions = functions; asyncs = asyncs }
 
@@ -118,17 +121,21 @@ module _ (functions asyncs asyncs' : Rows) (at slot : ℕ) (lt : at < length asy
     asyncs = long_row asyncs.items asyncs'.items at slot lt e;
   }
 
-pub add_function : (r : Reserved) (functions' : Rows) (h : Home) (number slot : ℕ) (o : Result Unit NoMemory) → h ≡ home.Function number → number < length r.functions.items → OnOk o (functions'.items ≡ slice_set r.functions.items number (row_of r.functions.items number ++ slot ∷ [])) → OnOk o (Adds r (record { functions = functions'; asyncs = r.asyncs }) h slot)
-add_function r functions' h number slot (Ok x) is lt e = subst (λ z. Adds r (record { functions = functions'; asyncs = r.asyncs }) z slot) (sym is) (adds_function r.functions r.asyncs functions' number slot lt e)
+pub add_function : (r : Reserved) (functions' : Rows) (h : Home) (number slot : ℕ) (o : Result Unit NoMemory) → h ≡ home.Function number → number < length r.functions.items
+    → OnOk o (functions'.items ≡ slice_set r.functions.items number (row_of r.functions.items number ++ slot ∷ [])) → OnOk o (Adds r (record { functions = functions'; asyncs = r.asyncs }) h slot)
+add_function r functions' h number slot (Ok x) is lt e = subst (λ z. Adds r (record { functions = functions'; asyncs = r.asyncs }) z slot) (sym is)
+    (adds_function r.functions r.asyncs functions' number slot lt e)
 add_function r functions' h number slot (Err x) is lt e = e
 
-pub add_async : (r : Reserved) (asyncs' : Rows) (h : Home) (at slot : ℕ) (o : Result Unit NoMemory) → h ≡ home.Async at → at < length r.asyncs.items → OnOk o (asyncs'.items ≡ slice_set r.asyncs.items at (row_of r.asyncs.items at ++ slot ∷ [])) → OnOk o (Adds r (record { functions = r.functions; asyncs = asyncs' }) h slot)
+pub add_async : (r : Reserved) (asyncs' : Rows) (h : Home) (at slot : ℕ) (o : Result Unit NoMemory) → h ≡ home.Async at → at < length r.asyncs.items
+    → OnOk o (asyncs'.items ≡ slice_set r.asyncs.items at (row_of r.asyncs.items at ++ slot ∷ [])) → OnOk o (Adds r (record { functions = r.functions; asyncs = asyncs' }) h slot)
 add_async r asyncs' h at slot (Ok x) is lt e = subst (λ z. Adds r (record { functions = r.functions; asyncs = asyncs' }) z slot) (sym is) (adds_async r.functions r.asyncs asyncs' at slot lt e)
 add_async r asyncs' h at slot (Err x) is lt e = e
 
 -- ---- in order
 
-module _ (rows0 rows : List (List ℕ)) (at : ℕ) (middle row row' : List ℕ) (s : SortedTo rows0 rows at) (lt : at < length rows) (e : row ≡ row_of rows at) (p : IsPermutation row row') (n : IsNonDecreasing row') where
+module _ (rows0 rows : List (List ℕ)) (at : ℕ) (middle row row' : List ℕ) (s : SortedTo rows0 rows at) (lt : at < length rows) (e : row ≡ row_of rows at) (p : IsPermutation row row')
+    (n : IsNonDecreasing row') where
   abbrev middles : List (List ℕ)
   middles = slice_set rows at middle
 

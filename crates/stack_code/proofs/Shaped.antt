@@ -24,7 +24,8 @@ module _ (code : Parts) (table : ℕ → Shape) where
     pub fits : Fits code at (table at)
     pub keeps : (to : ℕ) (t : Shape) → LeadsTo fits.leads to t → IsKept to t
 
-  module _ (starts : (core : ℕ) (function : Entered) (entry : Begins code core function) → IsKept function.at (first entry.entry function)) (closed : (at : ℕ) → at < length code.instrs → IsClosed at) where
+  module _ (starts : (core : ℕ) (function : Entered) (entry : Begins code core function) → IsKept function.at (first entry.entry function))
+      (closed : (at : ℕ) → at < length code.instrs → IsClosed at) where
     pub kept : (at : ℕ) (s : Shape) → Reaches code at s → IsKept at s
     kept _ _ (begins core function entry) = starts core function entry
     kept _ _ (goes at s to t r g) =

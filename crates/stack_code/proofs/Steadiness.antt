@@ -12,8 +12,8 @@ use Rattle.stack_code.specs.Parts.{Parts}
 use Rattle.stack_code.specs.Shapes.{effect, LeadsTo}
 use Rattle.stack_code.specs.Valid.{goes, Quiet, QuietWay, one, more, TakesSteps}
 use Rattle.stack_code.specs.Kept.{Has, IsTable}
-use Rattle.stack_code.specs.Quiet.{IsLed, IsWays, IsGraph, IsSteady}
-use Rattle.stack_code.proofs.Places.{within, got}
+use Rattle.stack_code.specs.inner.Quiet.{IsLed, IsWays, IsGraph, IsSteady}
+use Rattle.way_order.proofs.Places.{within, got}
 use Rattle.stack_code.proofs.Known.{same_has}
 
 -- ---- one address
@@ -85,7 +85,8 @@ module _ (code : Parts) (table : List (Option Shape)) (graph : List Ways) (t : I
     }
 
   -- what the ranks of the graph say of the code
-  pub ranked_by : (o : Result (Option (List ℕ)) NoMemory) → IfOk o (λ found. IfSome found (λ ranks. IsRanking graph ranks)) → IfOk o (λ found. IfNone found (HasCycle graph)) → IfOk o (λ found. MatchOption found (TakesSteps code → ⊥) (λ ranks. IsSteady code ranks))
+  pub ranked_by : (o : Result (Option (List ℕ)) NoMemory) → IfOk o (λ found. IfSome found (λ ranks. IsRanking graph ranks)) → IfOk o (λ found. IfNone found (HasCycle graph))
+      → IfOk o (λ found. MatchOption found (TakesSteps code → ⊥) (λ ranks. IsSteady code ranks))
   ranked_by (Ok (Some ranks)) r n = steady ranks r
   ranked_by (Ok None) r n = not_steady n
   ranked_by (Err e) r n = tt

@@ -3,9 +3,5 @@ pub mod Machine
 pub mod Shapes
 pub mod Valid
 pub mod Kept
-pub mod Work
-pub mod Bodies
 pub mod Sequential
-pub mod Reserve
-pub mod Quiet
-pub mod Rises
+pub mod inner

@@ -1,5 +1,7 @@
 -- What the flat machine does, instruction by instruction.
-use Rattle.std.specs.Prelude.{ℕ, ◌+◌, ◌-◌, ◌^◌, min, ℤ, pos, List, [], ◌∷◌, ◌++◌, length, map, take, drop, replicate, reverse, Option, Some, None, Bool, true, false, nat_eq, nat_le, nat_lt, ◌&&◌, slice_get, slice_index_or, slice_set, Result, Ok, Err, if◌then◌else◌}
+use Rattle.std.specs.Prelude.{ℕ, ◌+◌, ◌-◌, ◌^◌, min, ℤ, pos, List, [], ◌∷◌, ◌++◌, length, map, take, drop}
+use Rattle.std.specs.Prelude.{replicate, reverse, Option, Some, None, Bool, true, false, nat_eq, nat_le}
+use Rattle.std.specs.Prelude.{nat_lt, ◌&&◌, slice_get, slice_index_or, slice_set, Result, Ok, Err, if◌then◌else◌}
 use Rattle.ac_base.specs.declared.ends.Trap.{Trap}
 use Rattle.ac_base.specs.declared.ends.EndWord.{EndWord}
 use Rattle.ac_base.specs.declared.ends.EndWord.TheVariants as word
@@ -11,9 +13,12 @@ use Rattle.work_item.specs.declared.ids.BlockId.{BlockId}
 use Rattle.work_item.specs.declared.cell.Place as cells
 use Rattle.work_item.specs.declared.cell.Cell.{Cell}
 use Rattle.work_item.specs.declared.cell.Cell.TheVariants as cell
-use Rattle.work_item.specs.Store.{Store, above, cell_at, global_at, no_int, int_in, place_in, next_frame, with_cell_at, with_cleared, with_global, released}
+use Rattle.work_item.specs.Store.{Store, above, cell_at, global_at, no_int, int_in, place_in}
+use Rattle.work_item.specs.Store.{next_frame, with_cell_at, with_cleared, with_global, released}
 use Rattle.core_state.specs.Moves.{Move, On, Over, ComesTo}
-use Rattle.core_state.specs.Arithmetic.{Computed, at_zero, truth, negated, not_true, flipped, sum_of, difference_of, product_of, quotient, remainder, shifted_left, shifted_right, is_equal, is_not_equal, is_less, is_at_most, both_bits, either_bits, differing_bits}
+use Rattle.core_state.specs.Arithmetic.{Computed, at_zero, truth, negated, not_true, flipped, sum_of, difference_of}
+use Rattle.core_state.specs.Arithmetic.{product_of, quotient, remainder, shifted_left, shifted_right, is_equal}
+use Rattle.core_state.specs.Arithmetic.{is_not_equal, is_less, is_at_most, both_bits, either_bits, differing_bits}
 use Rattle.core_state.specs.Frames.{within, element, set_element, begun, first_frame, with_entered}
 use Rattle.core_state.specs.Shared.{Shared, with_step, with_turn, first_shared, printed, formatted, seen, if_turn, begins}
 use Rattle.stack_code.specs.declared.instr.Instr.{Instr}
@@ -145,7 +150,14 @@ with_block blocks b x = slice_set blocks b.number x
 -- the running thread stops and is kept so
 abbrev pub stops : Flat → Item → Thread → List Item → List (Option Block) → Flat
 stops m t kept ready blocks =
-    record m { running = None; current = nobody; ready = ready; threads = slice_set m.threads t.number kept; blocks = blocks; count = counted m.count }
+    record m {
+      running = None;
+      current = nobody;
+      ready = ready;
+      threads = slice_set m.threads t.number kept;
+      blocks = blocks;
+      count = counted m.count;
+    }
 
 abbrev pub one_more : Option Block → Option Block
 one_more None = None
@@ -172,9 +184,14 @@ starts m t to store =
 -- the owner arrives at the finish of its innermost block: it passes at count 0, and else waits
 abbrev pub arrives_at : Bool → Flat → Item → BlockId → Block → Move Flat FlatEnd
 arrives_at true m t b x =
-    On (record m { current = record m.current { place = m.current.place + 1; block = x.parent }; blocks = with_block m.blocks b None; count = counted m.count })
+    On (record m {
+      current = record m.current { place = m.current.place + 1; block = x.parent };
+      blocks = with_block m.blocks b None;
+      count = counted m.count;
+    })
 arrives_at false m t b x =
-    On (stops m t (record m.current { place = m.current.place + 1; block = x.parent }) m.ready (with_block m.blocks b (Some (record x { waits = true }))))
+    On (stops m t (record m.current { place = m.current.place + 1; block = x.parent }) m.ready
+    (with_block m.blocks b (Some (record x { waits = true }))))
 
 abbrev pub arrives_in : Flat → Item → BlockId → Option Block → Move Flat FlatEnd
 arrives_in m t b None = On m

@@ -1,5 +1,6 @@
 -- What each instruction does to the shape of its address.
-use Rattle.std.specs.Prelude.{◌≡◌, ◌⊎◌, ℕ, ◌+◌, ◌-◌, List, [], ◌∷◌, length, map, replicate, reverse, Option, Some, None, Bool, true, false, not, ◌&&◌, ◌||◌, nat_eq, nat_le, nat_lt, slice_get, unwrap_or, if◌then◌else◌}
+use Rattle.std.specs.Prelude.{◌≡◌, ◌⊎◌, ℕ, ◌+◌, ◌-◌, List, [], ◌∷◌, length, map, replicate, reverse, Option, Some, None, Bool}
+use Rattle.std.specs.Prelude.{true, false, not, ◌&&◌, ◌||◌, nat_eq, nat_le, nat_lt, slice_get, unwrap_or, if◌then◌else◌}
 use Rattle.std.specs.List.{list_any}
 use Rattle.stack_code.specs.declared.instr.Instr.{Instr}
 use Rattle.stack_code.specs.declared.instr.Instr.TheVariants as i
@@ -83,13 +84,18 @@ arguments params = reverse (map want_of params)
 
 -- the shape at a function's first address
 abbrev pub first : ℕ → Entered → Shape
-first number function = record { bodies = (record { home = home.Function number; slots = function.words }) ∷ []; blocks = []; operands = [] }
+first number function = record {
+  bodies = (record { home = home.Function number; slots = function.words }) ∷ [];
+  blocks = [];
+  operands = [];
+}
 
 -- ---- slots
 
 -- the body so many levels up, where so many slots from that one on lie in its frame
 abbrev pub body_with : Shape → ℕ → ℕ → ℕ → Option Body
-body_with s level slot len = on_some (slice_get s.bodies level) (λ (body : Body). if nat_le (slot + len) body.slots then Some body else None)
+body_with s level slot len = on_some (slice_get s.bodies level)
+    (λ (body : Body). if nat_le (slot + len) body.slots then Some body else None)
 
 -- ---- blocks
 
@@ -215,7 +221,8 @@ effect code at (i.Jump to) s = Some (One to s)
 effect code at (i.Jz to) s = branches at to s
 effect code at (i.Jnz to) s = branches at to s
 effect code at (i.Print text count) s =
-    on_some (slice_get code.texts text) (λ bytes. if nat_eq count (directives_in bytes) then after (replicate count want.Int) s (goes at) else None)
+    on_some (slice_get code.texts text) (λ bytes. if nat_eq count (directives_in bytes) then after (replicate count want.Int) s (goes at)
+    else None)
 effect code at (i.Call number count) s = on_some (slice_get code.functions number) (calls at number count s)
 effect code at i.Ret s = if can_return s then Some Stop else None
 effect code at (i.Enter slot) s = on_some (body_with s 0 slot 1) (λ body. if is_entered s 0 slot then None else goes at (entered slot s))

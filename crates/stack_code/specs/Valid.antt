@@ -1,5 +1,6 @@
 -- Valid code: a machine that runs it never leaves it, never lacks an operand or a slot, and takes a step from time to time.
-use Rattle.std.specs.Prelude.{◌≡◌, ◌≢◌, ℕ, ◌+◌, ◌^◌, ◌<◌, ◌≤◌, pos, [], length, map, All, Option, Some, None, Bool, true, false, slice_get, option_map}
+use Rattle.std.specs.Prelude.{◌≡◌, ◌≢◌, ℕ, ◌+◌, ◌^◌, ◌<◌, ◌≤◌, pos, [], length, map, All}
+use Rattle.std.specs.Prelude.{Option, Some, None, Bool, true, false, slice_get, option_map}
 use Rattle.std.specs.List.Sorted.{IsStrictlyIncreasing}
 use Rattle.stack_code.specs.declared.instr.Instr.{Instr}
 use Rattle.stack_code.specs.declared.instr.Instr.TheVariants as i
@@ -85,9 +86,13 @@ home_at s level = option_map (λ (body : Body). body.home) (slice_get s.bodies l
 pub data Uses (code : Parts) (home : Home) (slot : ℕ) : Use → Type 0 where
   -- a parameter is a reference where it is an array, and else an int
   param : (array : Bool) → slice_get (params_of code home) slot ≡ Some array → Uses code home slot (use_of array)
-  loads : (at level : ℕ) (s : Shape) → Reaches code at s → slice_get code.instrs at ≡ Some (i.Load level slot) → home_at s level ≡ Some home → Uses code home slot (use_of (is_array code home slot))
-  sets : (at : ℕ) (s : Shape) (instr : Instr) (slots : Slots) → Reaches code at s → slice_get code.instrs at ≡ Some instr → ints_of instr ≡ Some slots → home_at s slots.level ≡ Some home → slots.slot ≤ slot → slot < slots.slot + slots.len → Uses code home slot AsInt
-  enters : (at : ℕ) (s : Shape) → Reaches code at s → slice_get code.instrs at ≡ Some (i.Enter slot) → home_at s 0 ≡ Some home → Uses code home slot AsBlock
+  loads : (at level : ℕ) (s : Shape) → Reaches code at s → slice_get code.instrs at ≡ Some (i.Load level slot) → home_at s level ≡ Some home
+      → Uses code home slot (use_of (is_array code home slot))
+  sets : (at : ℕ) (s : Shape) (instr : Instr) (slots : Slots) → Reaches code at s → slice_get code.instrs at ≡ Some instr
+      → ints_of instr ≡ Some slots → home_at s slots.level ≡ Some home → slots.slot ≤ slot → slot < slots.slot + slots.len
+      → Uses code home slot AsInt
+  enters : (at : ℕ) (s : Shape) → Reaches code at s → slice_get code.instrs at ≡ Some (i.Enter slot) → home_at s 0 ≡ Some home
+      → Uses code home slot AsBlock
 
 -- each slot of a frame has one use
 abbrev pub HasOneUse : Parts → Type 0

@@ -3,7 +3,8 @@
 ghost use Rattle.std.specs.Prelude.{◌≡◌, ◌↔◌, nat_eq, reverse, slice_get, IfOk, IsTrue};
 ghost use Rattle.std.specs.List.{list_any};
 ghost use Rattle.stack_code.specs.declared.shape.OpenBlock.{OpenBlock};
-ghost use Rattle.stack_code.specs.Shapes.{is_block, body_with, is_entered, entered, finished, has_own, inner, can_start, can_end, can_return};
+ghost use Rattle.stack_code.specs.Shapes.{is_block, body_with, is_entered, entered, finished};
+ghost use Rattle.stack_code.specs.Shapes.{has_own, inner, can_start, can_end, can_return};
 
 use crate::shape::{Body, Home, Kind, OpenBlock, Shape};
 use ac_base::NoMemory;

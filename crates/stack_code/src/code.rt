@@ -84,9 +84,42 @@ impl Code {
         ends: List<ChannelEnds>,
         starts: List<Start>,
     ) -> Result<Option<Code>, NoMemory>
-        ensures same { IfOk result (λ made. IfSome made (λ code. code ≡ record { instrs = instrs; functions = functions; texts = texts; entries = entries; names = names; globals = globals; capacities = capacities; ends = ends; starts = starts })) }
-        ensures valid { IfOk result (λ made. IfSome made (λ code. IsValid (record { instrs = instrs; functions = functions; texts = texts; entries = entries; names = names; globals = globals; capacities = capacities; ends = ends; starts = starts }))) }
-        ensures none { IfOk result (λ made. IfNone made (IsValid (record { instrs = instrs; functions = functions; texts = texts; entries = entries; names = names; globals = globals; capacities = capacities; ends = ends; starts = starts }) → ⊥)) }
+        ensures same { IfOk result (λ made. IfSome made
+            (λ code. code ≡ record {
+              instrs = instrs;
+              functions = functions;
+              texts = texts;
+              entries = entries;
+              names = names;
+              globals = globals;
+              capacities = capacities;
+              ends = ends;
+              starts = starts;
+            })) }
+        ensures valid { IfOk result (λ made. IfSome made
+            (λ code. IsValid (record {
+              instrs = instrs;
+              functions = functions;
+              texts = texts;
+              entries = entries;
+              names = names;
+              globals = globals;
+              capacities = capacities;
+              ends = ends;
+              starts = starts;
+            }))) }
+        ensures none { IfOk result (λ made. IfNone made
+            (IsValid (record {
+              instrs = instrs;
+              functions = functions;
+              texts = texts;
+              entries = entries;
+              names = names;
+              globals = globals;
+              capacities = capacities;
+              ends = ends;
+              starts = starts;
+            }) → ⊥)) }
     {
         let sketch = Sketch::new(
             alloc, instrs, functions, texts, entries, names, globals, capacities, ends, starts,

@@ -1,8 +1,10 @@
 //! Where an instruction leads from a shape.
 
-ghost use Rattle.std.specs.Prelude.{◌≡◌, [], ◌∷◌, ◌+◌, ◌^◌, ◌<◌, ℕ, IfOk, Some, None, option_copied, slice_get, nat_lt, nat_le, nat_eq, if◌then◌else◌, replicate};
+ghost use Rattle.std.specs.Prelude.{◌≡◌, [], ◌∷◌, ◌+◌, ◌^◌, ◌<◌, ℕ, IfOk, Some, None, option_copied};
+ghost use Rattle.std.specs.Prelude.{slice_get, nat_lt, nat_le, nat_eq, if◌then◌else◌, replicate};
 ghost use Rattle.stack_code.specs.declared.parts.Entered.{Entered};
-ghost use Rattle.stack_code.specs.Shapes.{on_some, body_with, after, goes, pushes, branches, calls, transfers, first, can_start, inner, is_entered, entered, finished, channels_of, effect};
+ghost use Rattle.stack_code.specs.Shapes.{on_some, body_with, after, goes, pushes, branches, calls, transfers, first};
+ghost use Rattle.stack_code.specs.Shapes.{can_start, inner, is_entered, entered, finished, channels_of, effect};
 
 use crate::bodies::{
     begin_body, body_at, body_with_slots, copy, enter, finish, has_block, may_end, may_return,
@@ -231,7 +233,8 @@ fn clear(at: u32, slot: u32, len: u32, shape: Shape) -> Option<Leads>
 
 fn into_block(at: u32, slot: u32, shape: Shape) -> Result<Option<Leads>, NoMemory>
     requires { at + 1 < 2 ^ 32 }
-    ensures { IfOk result (λ l. l ≡ on_some (body_with shape 0 slot 1) (λ body. if is_entered shape 0 slot then None else goes at (entered slot shape))) }
+    ensures { IfOk result (λ l. l ≡ on_some (body_with shape 0 slot 1)
+        (λ body. if is_entered shape 0 slot then None else goes at (entered slot shape))) }
 {
     match body_with_slots(&shape, 0, slot, 1) {
         Some(_) => {
@@ -323,7 +326,8 @@ fn global_array(
     shape: Shape,
 ) -> Result<Option<Leads>, NoMemory>
     requires { at + 1 < 2 ^ 32 }
-    ensures { IfOk result (λ l. l ≡ (if nat_le (slot + len) code.now.globals then pushes at (Kind.Reference (nat_eq len 1)) shape else None)) }
+    ensures { IfOk result (λ l. l ≡ (if nat_le (slot + len) code.now.globals then pushes at (Kind.Reference (nat_eq len 1)) shape
+        else None)) }
 {
     if u64::from(slot) + u64::from(len) <= u64::from(code.globals()) {
         push_on(at, Kind::Reference { one: len == 1 }, shape)
@@ -341,7 +345,8 @@ fn operate(
     shape: Shape,
 ) -> Result<Option<Leads>, NoMemory>
     requires { at + 1 < 2 ^ 32 }
-    ensures { IfOk result (λ l. l ≡ (if nat_lt channel (channels_of code.now) then after (want ∷ []) shape (pushes at Kind.Int) else None)) }
+    ensures { IfOk result (λ l. l ≡ (if nat_lt channel (channels_of code.now) then after (want ∷ []) shape (pushes at Kind.Int)
+        else None)) }
 {
     if u64::from(channel) < code.channels() {
         make_on(at, &[want], Kind::Int, shape)

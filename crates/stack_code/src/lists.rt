@@ -2,7 +2,7 @@
 
 ghost use Rattle.std.specs.Prelude.{◌≡◌, ◌↔◌, All, IsTrue};
 ghost use Rattle.stack_code.specs.Valid.{IsEntry, HasCores, IsCapacity, IsChannel, HasLinks, IsStart, HasStarts, HasRoom, HasLists};
-ghost use Rattle.stack_code.specs.Rises.{rising_from};
+ghost use Rattle.stack_code.specs.inner.Rises.{rising_from};
 
 use crate::parts::{ChannelEnds, Entered, Start};
 use crate::sketch::Sketch;

@@ -34,7 +34,17 @@ impl Model for Sketch {
 
     ghost Value = { Parts };
 
-    ghost view = { λ c. record { instrs = c.instrs; functions = c.functions; texts = c.texts; entries = c.entries; names = c.names; globals = c.globals; capacities = c.capacities; ends = c.ends; starts = c.starts } };
+    ghost view = { λ c. record {
+      instrs = c.instrs;
+      functions = c.functions;
+      texts = c.texts;
+      entries = c.entries;
+      names = c.names;
+      globals = c.globals;
+      capacities = c.capacities;
+      ends = c.ends;
+      starts = c.starts;
+    } };
 
     ghost invariant = { λ c. c.directives ≡ map directives_in c.texts };
 }
@@ -81,7 +91,17 @@ impl Sketch {
         ends: List<ChannelEnds>,
         starts: List<Start>,
     ) -> Result<Sketch, NoMemory>
-        ensures { IfOk result (λ it. it ≡ record { instrs = instrs; functions = functions; texts = texts; entries = entries; names = names; globals = globals; capacities = capacities; ends = ends; starts = starts }) }
+        ensures { IfOk result (λ it. it ≡ record {
+          instrs = instrs;
+          functions = functions;
+          texts = texts;
+          entries = entries;
+          names = names;
+          globals = globals;
+          capacities = capacities;
+          ends = ends;
+          starts = starts;
+        }) }
     {
         let directives = all_directives(alloc, texts.as_slice())?;
         Ok(Sketch {

@@ -1,10 +1,12 @@
 //! What the slots of frames are used for.
 
-ghost use Rattle.std.specs.Prelude.{◌≡◌, ◌⊎◌, [], ◌∷◌, ◌++◌, ℕ, ◌+◌, ◌-◌, ◌<◌, ◌≤◌, ◌^◌, ◌↔◌, Contains, length, map, replicate, slice_get, slice_index, slice_index_or, slice_set, IsTrue, IfOk, OnOk, MatchBool, MatchOption, option_map};
+ghost use Rattle.std.specs.Prelude.{◌≡◌, ◌⊎◌, [], ◌∷◌, ◌++◌, ℕ, ◌+◌, ◌-◌, ◌<◌, ◌≤◌, ◌^◌, ◌↔◌, Contains, length, map, replicate, slice_get};
+ghost use Rattle.std.specs.Prelude.{slice_index, slice_index_or, slice_set, IsTrue, IfOk, OnOk, MatchBool, MatchOption, option_map};
 ghost use Rattle.std.specs.List.Sorted.{IsNonDecreasing, IsPermutation};
 ghost use Rattle.stack_code.specs.Valid.{home_at, HasOneUse};
 ghost use Rattle.stack_code.specs.Kept.{IsTable};
-ghost use Rattle.stack_code.specs.Reserve.{named_of, ints_in, block_in, ints_at, block_at, arrays_from, arrays_in, slots_of, HasRow, Adds, AllSorted, Reserves, Taken, IsReserve, Freed};
+ghost use Rattle.stack_code.specs.inner.Reserve.{named_of, ints_in, block_in, ints_at, block_at, arrays_from, arrays_in};
+ghost use Rattle.stack_code.specs.inner.Reserve.{slots_of, HasRow, Adds, AllSorted, Reserves, Taken, IsReserve, Freed};
 
 use crate::bodies::body_at;
 use crate::instr::Instr;

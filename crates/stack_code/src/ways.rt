@@ -3,7 +3,7 @@
 ghost use Rattle.std.specs.Prelude.{◌≡◌, ◌+◌, ◌<◌, ◌^◌, length, IfOk, MatchOption};
 ghost use Rattle.stack_code.specs.Valid.{TakesSteps};
 ghost use Rattle.stack_code.specs.Kept.{IsTable};
-ghost use Rattle.stack_code.specs.Quiet.{IsLed, IsWays, IsGraph, IsSteady};
+ghost use Rattle.stack_code.specs.inner.Quiet.{IsLed, IsWays, IsGraph, IsSteady};
 
 use crate::bodies::copy;
 use crate::effect::leads;

@@ -4,7 +4,7 @@ ghost use Rattle.std.specs.Prelude.{◌≡◌, ℕ, ◌+◌, ◌<◌, ◌^◌, l
 ghost use Rattle.stack_code.specs.declared.shape.Shape.{Shape};
 ghost use Rattle.stack_code.specs.Shapes.{LeadsTo};
 ghost use Rattle.stack_code.specs.Valid.{Reaches, IsShaped};
-ghost use Rattle.stack_code.specs.Work.{IsWork, Met, Followed, Turned, Begun, IsFound};
+ghost use Rattle.stack_code.specs.inner.Work.{IsWork, Met, Followed, Turned, Begun, IsFound};
 
 use crate::bodies::{copy, same_shape};
 use crate::effect::{first_shape, leads};
@@ -27,7 +27,8 @@ impl Work {
     fn meet(&mut self, code: &Sketch, to: u32, shape: Shape) -> Result<bool, NoMemory>
         requires work { IsWork code.now self.old.table.items self.old.found.items self.old.next }
         requires reached { Reaches code.now to shape }
-        ensures met { IfOk result (λ ok. Met code.now self.old.table.items self.new.table.items self.old.found.items self.new.found.items self.old.next to shape ok) }
+        ensures met { IfOk result (λ ok. Met code.now self.old.table.items self.new.table.items self.old.found.items self.new.found.items
+            self.old.next to shape ok) }
         ensures next { self.new.next ≡ self.old.next }
     {
         let place = to as usize;
@@ -47,7 +48,8 @@ impl Work {
     fn follow(&mut self, code: &Sketch, to: Leads) -> Result<bool, NoMemory>
         requires work { IsWork code.now self.old.table.items self.old.found.items self.old.next }
         requires reached { (at : ℕ) (s : Shape) → LeadsTo to at s → Reaches code.now at s }
-        ensures followed { IfOk result (λ ok. Followed code.now self.old.table.items self.new.table.items self.old.found.items self.new.found.items self.old.next to ok) }
+        ensures followed { IfOk result (λ ok. Followed code.now self.old.table.items self.new.table.items self.old.found.items
+            self.new.found.items self.old.next to ok) }
         ensures next { self.new.next ≡ self.old.next }
     {
         match to {
@@ -72,7 +74,8 @@ impl Work {
         requires few { length code.now.instrs < 2 ^ 32 }
         requires more { self.old.next < length self.old.found.items }
         requires work { IsWork code.now self.old.table.items self.old.found.items self.old.next }
-        ensures turned { IfOk result (λ ok. Turned code.now self.old.table.items self.new.table.items self.new.found.items self.old.next ok) }
+        ensures turned { IfOk result (λ ok. Turned code.now self.old.table.items self.new.table.items self.new.found.items self.old.next
+            ok) }
         ensures next { self.new.next ≡ self.old.next }
     {
         let at = self.found[self.next];

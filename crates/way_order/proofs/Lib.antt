@@ -2,3 +2,5 @@ pub mod Places
 pub mod Steps
 pub mod Turns
 pub mod Whole
+pub mod Apart
+pub mod Examples

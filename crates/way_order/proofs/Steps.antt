@@ -5,7 +5,7 @@ use Rattle.way_order.specs.declared.graph.Ways.{Ways}
 use Rattle.way_order.specs.declared.search.Mark.{Mark}
 use Rattle.way_order.specs.declared.search.Mark.TheVariants.{New, Open, Done}
 use Rattle.way_order.specs.Graph.{Goes, Way, HasCycle}
-use Rattle.way_order.specs.Search.{weight, left, HasAllDone, IsDone, IsSearch, IsTop, Follows, Keeps, IsClosed}
+use Rattle.way_order.specs.inner.Search.{weight, left, HasAllDone, IsDone, IsSearch, IsTop, Follows, Keeps, IsClosed}
 use Rattle.way_order.proofs.Places.{set_same, set_cases, set_other, set_length, end_cases, end_before, end_here, within, got}
 
 pub left_set : (ms : List Mark) (i : ℕ) (m v : Mark) → slice_get ms i ≡ Some m → left (slice_set ms i v) + weight m ≡ left ms + weight v

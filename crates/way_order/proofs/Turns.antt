@@ -6,21 +6,25 @@ use Rattle.way_order.specs.declared.search.Mark.{Mark}
 use Rattle.way_order.specs.declared.search.Mark.TheVariants.{New, Open, Done}
 use Rattle.way_order.specs.declared.search.Look.TheVariants.{Closed, Cycle, Fresh}
 use Rattle.way_order.specs.Graph.{Goes, HasCycle, IsInside}
-use Rattle.way_order.specs.Search.{left, HasAllDone, IsSearch, IsTop, Follows, Keeps, IsClosed, Seen}
+use Rattle.way_order.specs.inner.Search.{left, HasAllDone, IsSearch, IsTop, Follows, Keeps, IsClosed, Seen}
 use Rattle.way_order.proofs.Places.{end_here, within, got}
 use Rattle.std.proofs.lemmas.Option.{slice_get-get_or}
 use Rattle.way_order.proofs.Steps.{open_search, open_less, open_keeps, open_here, close_search, close_less, close_keeps, cycle, ways_done}
 
-pub opened_at : (g : List Ways) (ms : List Mark) (path path' : List ℕ) (count a d : ℕ) → IsSearch g ms path count → slice_get ms a ≡ Some New → Follows g path a → path' ≡ path ++ a ∷ [] → d ≡ length path → IsSearch g (slice_set ms a (Open d)) path' count
+pub opened_at : (g : List Ways) (ms : List Mark) (path path' : List ℕ) (count a d : ℕ) → IsSearch g ms path count → slice_get ms a ≡ Some New → Follows g path a → path' ≡ path ++ a ∷ []
+    → d ≡ length path → IsSearch g (slice_set ms a (Open d)) path' count
 opened_at g ms path path' count a d s n f p e = rw (p, e) (open_search g ms path count a s n f)
 
-pub less_at : (g : List Ways) (ms : List Mark) (path : List ℕ) (count a d : ℕ) → IsSearch g ms path count → slice_get ms a ≡ Some New → Follows g path a → d ≡ length path → left (slice_set ms a (Open d)) < left ms
+pub less_at : (g : List Ways) (ms : List Mark) (path : List ℕ) (count a d : ℕ) → IsSearch g ms path count → slice_get ms a ≡ Some New → Follows g path a → d ≡ length path
+    → left (slice_set ms a (Open d)) < left ms
 less_at g ms path count a d s n f e = rw e (open_less g ms path count a s n f)
 
-pub keeps_at : (g : List Ways) (ms : List Mark) (path : List ℕ) (count a d : ℕ) → IsSearch g ms path count → slice_get ms a ≡ Some New → Follows g path a → d ≡ length path → Keeps ms (slice_set ms a (Open d))
+pub keeps_at : (g : List Ways) (ms : List Mark) (path : List ℕ) (count a d : ℕ) → IsSearch g ms path count → slice_get ms a ≡ Some New → Follows g path a → d ≡ length path
+    → Keeps ms (slice_set ms a (Open d))
 keeps_at g ms path count a d s n f e = rw e (open_keeps g ms path count a s n f)
 
-pub here_at : (g : List Ways) (ms : List Mark) (path : List ℕ) (count a d : ℕ) → IsSearch g ms path count → slice_get ms a ≡ Some New → Follows g path a → d ≡ length path → slice_get (slice_set ms a (Open d)) a ≡ Some New → ⊥
+pub here_at : (g : List Ways) (ms : List Mark) (path : List ℕ) (count a d : ℕ) → IsSearch g ms path count → slice_get ms a ≡ Some New → Follows g path a → d ≡ length path
+    → slice_get (slice_set ms a (Open d)) a ≡ Some New → ⊥
 here_at g ms path count a d s n f e = rw e (open_here g ms path count a s n f)
 
 top_is : (path front : List ℕ) (a v : ℕ) → IsTop path a → path ≡ front ++ v ∷ [] → path ≡ front ++ a ∷ []
@@ -37,23 +41,23 @@ top_is path front a v t e =
 pub top_open : (g : List Ways) (ms : List Mark) (path : List ℕ) (count a : ℕ) → IsSearch g ms path count → IsTop path a → a < length ms
 top_open g ms path count a s t = within ms a (Open t.0) (s.opened t.0 a t.1.1)
 
-pub closed_at : (g : List Ways) (ms : List Mark) (path front : List ℕ) (count a v : ℕ) → IsSearch g ms path count → IsTop path a → HasAllDone g ms a → path ≡ front ++ v ∷ [] → IsSearch g (slice_set ms a (Done count)) front (count + 1)
+pub closed_at : (g : List Ways) (ms : List Mark) (path front : List ℕ) (count a v : ℕ) → IsSearch g ms path count → IsTop path a → HasAllDone g ms a → path ≡ front ++ v ∷ []
+    → IsSearch g (slice_set ms a (Done count)) front (count + 1)
 closed_at g ms path front count a v s t c e =
     let p = top_is path front a v t e in
     close_search g ms front count a (subst (λ z. IsSearch g ms z count) p s) c
 
-pub closed_less : (g : List Ways) (ms : List Mark) (path front : List ℕ) (count a v : ℕ) → IsSearch g ms path count → IsTop path a → HasAllDone g ms a → path ≡ front ++ v ∷ [] → left (slice_set ms a (Done count)) < left ms
+pub closed_less : (g : List Ways) (ms : List Mark) (path front : List ℕ) (count a v : ℕ) → IsSearch g ms path count → IsTop path a → HasAllDone g ms a → path ≡ front ++ v ∷ []
+    → left (slice_set ms a (Done count)) < left ms
 closed_less g ms path front count a v s t c e =
     let p = top_is path front a v t e in
     close_less g ms front count a (subst (λ z. IsSearch g ms z count) p s) c
 
-pub closed_keeps : (g : List Ways) (ms : List Mark) (path front : List ℕ) (count a v : ℕ) → IsSearch g ms path count → IsTop path a → HasAllDone g ms a → path ≡ front ++ v ∷ [] → Keeps ms (slice_set ms a (Done count))
+pub closed_keeps : (g : List Ways) (ms : List Mark) (path front : List ℕ) (count a v : ℕ) → IsSearch g ms path count → IsTop path a → HasAllDone g ms a → path ≡ front ++ v ∷ []
+    → Keeps ms (slice_set ms a (Done count))
 closed_keeps g ms path front count a v s t c e =
     let p = top_is path front a v t e in
     close_keeps g ms front count a (subst (λ z. IsSearch g ms z count) p s) c
-
-pub way_by : (g : List Ways) (a b : ℕ) (w : Ways) → slice_get g a ≡ Some w → (w.one ≡ Some b) ⊎ (w.other ≡ Some b) → Goes g a b
-way_by g a b w h e = (w, h, e)
 
 pub follows_by : (g : List Ways) (path : List ℕ) (a b : ℕ) (w : Ways) → IsTop path a → slice_get g a ≡ Some w → (w.one ≡ Some b) ⊎ (w.other ≡ Some b) → Follows g path b
 follows_by g path a b w t h e k x len got =

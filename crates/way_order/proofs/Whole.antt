@@ -1,17 +1,14 @@
 -- The search from its beginning to its end.
-use Rattle.std.proofs.Common.{◌≡◌, ℕ, zero, suc, ◌+◌, ◌*◌, ◌<◌, ◌≤◌, List, [], ◌∷◌, ◌++◌, length, Some, None, Bool, true, false, nat_lt, replicate, refl, sym, ap, ◌∙◌, subst, arith}
+use Rattle.std.proofs.Common.{◌≡◌, ℕ, zero, suc, ◌+◌, ◌*◌, ◌<◌, ◌≤◌, List, [], ◌∷◌, length, Some, None, Bool, true, false, nat_lt, replicate, refl, sym, ap, ◌∙◌, subst, arith}
 use Rattle.std.specs.Prelude.{slice_get, slice_index, map}
 use Rattle.way_order.specs.declared.graph.Ways.{Ways}
 use Rattle.way_order.specs.declared.search.Mark.{Mark}
 use Rattle.way_order.specs.declared.search.Mark.TheVariants.{New, Open, Done}
 use Rattle.way_order.specs.Graph.{Goes, IsRanking}
-use Rattle.way_order.specs.Search.{rank_in, left, IsSearch, Follows, Keeps, IsRooted, Rooted}
+use Rattle.way_order.specs.inner.Search.{rank_in, left, IsSearch, Keeps, IsRooted, Rooted}
 use Rattle.way_order.proofs.Places.{within, got}
 use Rattle.std.proofs.lemmas.Bool.Decides.{nat_tests}
 use Rattle.way_order.proofs.Steps.{new_open, new_done}
-
-pub keeps_along : (a b c : List Mark) → Keeps a b → Keeps b c → Keeps a c
-keeps_along a b c p q k h = p k (q k h)
 
 left_new : (n : ℕ) → left (replicate n New) ≡ 2 * n
 left_new zero = refl
@@ -26,9 +23,14 @@ length_new : (n : ℕ) → length (replicate n New) ≡ n
 length_new zero = refl
 length_new (suc n) = ap suc (length_new n)
 
-pub more_new : (n : ℕ) → replicate n New ++ New ∷ [] ≡ replicate (suc n) New
-more_new zero = refl
-more_new (suc n) = ap (λ l. New ∷ l) (more_new n)
+rank_at : (ms : List Mark) (a : ℕ) (m : Mark) → slice_get ms a ≡ Some m → slice_index (map rank_in ms) a ≡ rank_in m
+rank_at [] a m h = let no : None ≡ Some m = h in cc
+rank_at (n ∷ ms) zero m h = let e : Some n ≡ Some m = h in let x : n ≡ m = cc in ap rank_in x
+rank_at (n ∷ ms) (suc a) m h = rank_at ms a m h
+
+length_ranks : (ms : List Mark) → length (map rank_in ms) ≡ length ms
+length_ranks [] = refl
+length_ranks (m ∷ ms) = ap suc (length_ranks ms)
 
 pub first_search : (g : List Ways) (ms : List Mark) (path : List ℕ) (n : ℕ) → ms ≡ replicate n New → n ≡ length g → path ≡ [] → IsSearch g ms path 0
 first_search g ms path n e l p =
@@ -43,19 +45,8 @@ first_search g ms path n e l p =
       room = let x : left ms ≡ 2 * n = ap left e ∙ left_new n in omega arith;
     }
 
-pub follows_none : (g : List Ways) (path : List ℕ) (a : ℕ) → path ≡ [] → Follows g path a
-follows_none g path a p k b len h = let no : None ≡ Some b = subst (λ z. slice_get z k ≡ Some b) p h in cc
-
-rank_at : (ms : List Mark) (a : ℕ) (m : Mark) → slice_get ms a ≡ Some m → slice_index (map rank_in ms) a ≡ rank_in m
-rank_at [] a m h = let no : None ≡ Some m = h in cc
-rank_at (n ∷ ms) zero m h = let e : Some n ≡ Some m = h in let x : n ≡ m = cc in ap rank_in x
-rank_at (n ∷ ms) (suc a) m h = rank_at ms a m h
-
-length_ranks : (ms : List Mark) → length (map rank_in ms) ≡ length ms
-length_ranks [] = refl
-length_ranks (m ∷ ms) = ap suc (length_ranks ms)
-
-module _ (g : List Ways) (ms : List Mark) (path : List ℕ) (count n : ℕ) (s : IsSearch g ms path count) (p : path ≡ []) (len : length g ≤ n) (none : (k : ℕ) → k < n → slice_get ms k ≡ Some New → ⊥) where
+module _ (g : List Ways) (ms : List Mark) (path : List ℕ) (count n : ℕ) (s : IsSearch g ms path count) (p : path ≡ []) (len : length g ≤ n)
+    (none : (k : ℕ) → k < n → slice_get ms k ≡ Some New → ⊥) where
   falls_at : (a b : ℕ) → Goes g a b → (m : Mark) → slice_get ms a ≡ Some m → slice_index (map rank_in ms) b < slice_index (map rank_in ms) a
   falls_at a b way New h = absurd (let lt : a < length g = within g a way.0 way.1 in none a (omega arith) h)
   falls_at a b way (Open k) h = let q = s.placed a k h in let no : None ≡ Some a = subst (λ z. slice_get z k ≡ Some a) p q in cc
@@ -79,7 +70,8 @@ module _ (g : List Ways) (ms : List Mark) (path : List ℕ) (count n : ℕ) (s :
       let x : ranks ≡ map rank_in ms = r ∙ ap (map rank_in) e in
       subst (IsRanking g) (sym x) (record { long = length_ranks ms ∙ s.long; falls = falls })
 
-pub none_more : (ms ms2 ms3 : List Mark) (n : ℕ) → ((k : ℕ) → k < n → slice_get ms k ≡ Some New → ⊥) → Keeps ms ms2 → (slice_get ms2 n ≡ Some New → ⊥) → Keeps ms2 ms3 → (k : ℕ) → k < n + 1 → slice_get ms3 k ≡ Some New → ⊥
+pub none_more : (ms ms2 ms3 : List Mark) (n : ℕ) → ((k : ℕ) → k < n → slice_get ms k ≡ Some New → ⊥) → Keeps ms ms2 → (slice_get ms2 n ≡ Some New → ⊥) → Keeps ms2 ms3 → (k : ℕ) → k < n + 1
+    → slice_get ms3 k ≡ Some New → ⊥
 none_more ms ms2 ms3 n h a here b k lt got = by (nat_lt k n) refl
   where
     by : (t : Bool) → nat_lt k n ≡ t → ⊥
@@ -90,5 +82,6 @@ pub rooted_true : (g : List Ways) (ms ms' : List Mark) (path' : List ℕ) (count
 rooted_true g ms ms' path' count' root true e r = r
 rooted_true g ms ms' path' count' root false e r = let no : false ≡ true = e in cc
 
-pub none_root : (ms ms3 : List Mark) (n : ℕ) → ((k : ℕ) → k < n → slice_get ms k ≡ Some New → ⊥) → Keeps ms ms3 → (slice_get ms3 n ≡ Some New → ⊥) → (k : ℕ) → k < n + 1 → slice_get ms3 k ≡ Some New → ⊥
+pub none_root : (ms ms3 : List Mark) (n : ℕ) → ((k : ℕ) → k < n → slice_get ms k ≡ Some New → ⊥) → Keeps ms ms3 → (slice_get ms3 n ≡ Some New → ⊥) → (k : ℕ) → k < n + 1 → slice_get ms3 k ≡ Some New
+    → ⊥
 none_root ms ms3 n h a here = none_more ms ms3 ms3 n h a here (λ b got. got)

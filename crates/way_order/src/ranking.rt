@@ -2,7 +2,7 @@
 
 ghost use Rattle.std.specs.Prelude.{◌≡◌, ◌<◌, ◌^◌, length, map, IfOk, IfSome, IfNone};
 ghost use Rattle.way_order.specs.Graph.{IsInside, HasCycle, IsRanking};
-ghost use Rattle.way_order.specs.Search.{rank_in};
+ghost use Rattle.way_order.specs.inner.Search.{rank_in};
 
 use crate::graph::Ways;
 use crate::search::{Mark, Search};

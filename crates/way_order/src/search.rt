@@ -2,7 +2,7 @@
 
 ghost use Rattle.std.specs.Prelude.{◌≡◌, ◌<◌, ◌^◌, [], ◌∷◌, ◌++◌, length, slice_get, Some, IfOk, OnOk, MatchOption};
 ghost use Rattle.way_order.specs.Graph.{IsInside, HasCycle};
-ghost use Rattle.way_order.specs.Search.{IsSearch, IsTop, Follows, HasAllDone, Seen, Turned, left, Keeps, Finished, Rooted};
+ghost use Rattle.way_order.specs.inner.Search.{IsSearch, IsTop, Follows, HasAllDone, Seen, Turned, left, Keeps, Finished, Rooted};
 
 use crate::graph::Ways;
 use ac_base::NoMemory;
@@ -133,7 +133,8 @@ impl Search {
         requires few { length ways.now < 2 ^ 32 }
         requires inside { IsInside ways.now }
         requires search { IsSearch ways.now self.old.marks.items self.old.path.items self.old.count }
-        ensures { IfOk result (λ more. Finished ways.now self.old.marks.items self.new.marks.items self.new.path.items self.new.count more) }
+        ensures { IfOk result (λ more. Finished ways.now self.old.marks.items self.new.marks.items self.new.path.items self.new.count
+            more) }
     {
         while let Some(a) = top(&self.path) {
             if !self.turn(ways, a)? {
@@ -150,7 +151,8 @@ impl Search {
         requires search { IsSearch ways.now self.old.marks.items self.old.path.items self.old.count }
         requires empty { self.old.path.items ≡ [] }
         requires root { root < length self.old.marks.items }
-        ensures { IfOk result (λ more. Rooted ways.now self.old.marks.items self.new.marks.items self.new.path.items self.new.count root more) }
+        ensures { IfOk result (λ more. Rooted ways.now self.old.marks.items self.new.marks.items self.new.path.items self.new.count root
+            more) }
     {
         match self.marks[root as usize] {
             Mark::New => {

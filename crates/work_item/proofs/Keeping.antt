@@ -1,9 +1,11 @@
 -- Which frames are kept: all, where each whose end has come has a child; and a frame without one is
 -- taken away first.
-use Rattle.std.proofs.Common.{◌≡◌, ℕ, zero, suc, ◌+◌, ◌-◌, ◌<◌, List, [], ◌∷◌, Option, Some, None, Bool, true, false, not, ◌&&◌, ◌||◌, if◌then◌else◌, refl, ap, ◌∙◌, subst, arith, drop, set, get_or-drop}
+use Rattle.std.proofs.Common.{◌≡◌, ℕ, zero, suc, ◌+◌, ◌-◌, ◌<◌, List, [], ◌∷◌, Option, Some, None, Bool, true, false}
+use Rattle.std.proofs.Common.{not, ◌&&◌, ◌||◌, if◌then◌else◌, refl, ap, ◌∙◌, subst, arith, drop, set, get_or-drop}
 use Rattle.std.proofs.lemmas.Bool.{or_right}
 use Rattle.work_item.specs.Store.{Frame, is_parent, any_in, kept_one, kept}
-use Rattle.work_item.specs.Table.{at, children_of, IsRooted, IsSettled}
+use Rattle.work_item.specs.Table.{at, children_of, IsSettled}
+use Rattle.work_item.specs.inner.Kept.{IsRooted}
 use Rattle.work_item.proofs.Children.{parent_told, one_if, children-cons, a_child}
 
 abbrev kept_if : Bool → Option Frame → Option Frame

@@ -21,7 +21,8 @@ level_up s f level n h l = (subst (HasLevel s f) (one_up level n h) l).1
 above_up : (s : Store) (f : FrameId) (level n : ℕ) → n < level → above s f (level - n) ≡ above s (parent_or f (frame_at s f)) (level - (n + 1))
 above_up s f level n h = ap (above s f) (one_up level n h)
 
-pub goes_up : (s : Store) (f g first : FrameId) (level n : ℕ) → n < level → HasLevel s f (level - n) → above s f (level - n) ≡ above s first level → g ≡ parent_or f (frame_at s f) → HasLevel s g (level - (n + 1)) × (above s g (level - (n + 1)) ≡ above s first level)
+pub goes_up : (s : Store) (f g first : FrameId) (level n : ℕ) → n < level → HasLevel s f (level - n) → above s f (level - n) ≡ above s first level → g ≡ parent_or f (frame_at s f)
+    → HasLevel s g (level - (n + 1)) × (above s g (level - (n + 1)) ≡ above s first level)
 goes_up s f g first level n h l a is =
     (subst (λ x. HasLevel s x (level - (n + 1))) (sym is) (level_up s f level n h l), ap (λ x. above s x (level - (n + 1))) is ∙ sym (above_up s f level n h) ∙ a)
 

@@ -6,3 +6,4 @@ pub mod Levels
 pub mod Whole
 pub mod Keeping
 pub mod Unwinding
+pub mod Examples

@@ -1,5 +1,6 @@
 -- The table keeps its counts.
-use Rattle.std.proofs.Common.{◌≡◌, ℕ, ◌+◌, ◌-◌, ◌<◌, ◌≤◌, ◌^◌, List, [], ◌∷◌, ◌++◌, length, Option, Some, None, IsSome, IsSomeAnd, IfSome, ◌&&◌, inl, inr, refl, sym, ap, ◌∙◌, subst, arith, set, nat_eq, get_or-set_same, eq-eqb, ne_eqb}
+use Rattle.std.proofs.Common.{◌≡◌, ℕ, ◌+◌, ◌-◌, ◌<◌, ◌≤◌, ◌^◌, List, [], ◌∷◌, ◌++◌, length, Option, Some, None, IsSome, IsSomeAnd}
+use Rattle.std.proofs.Common.{IfSome, ◌&&◌, inl, inr, refl, sym, ap, ◌∙◌, subst, arith, set, nat_eq, get_or-set_same, eq-eqb, ne_eqb}
 use Rattle.std.proofs.lemmas.Bool.{cases_eq}
 use Rattle.std.proofs.lemmas.List.{map-set, map-append, length-map}
 use Rattle.std.proofs.lemmas.List.Sums.{count_by-le-length}
@@ -8,8 +9,11 @@ use Rattle.std.proofs.Math.Seq.{map-set_same}
 use Rattle.work_item.specs.declared.ids.FrameId.{FrameId}
 use Rattle.work_item.specs.declared.table.Live.{Live}
 use Rattle.work_item.specs.Store.{Frame, is_number, is_parent, all_words}
-use Rattle.work_item.specs.Table.{at, children_of, IsRooted, LivesIn, frame_of, frames_of, live_at, Counts, IsSound, one_more, one_less, with_more, with_less, CanCountMore, CanCountLess, is_over, is_done}
-use Rattle.work_item.proofs.Children.{within, some_of, is_there, other, pushed, one_if, is_its_parent, parent_is_at, children-set, children-push, children_same, one_at_least, unborn, words-push, words_same, words_gone, rooted_same, rooted_gone, rooted_made}
+use Rattle.work_item.specs.Table.{at, children_of}
+use Rattle.work_item.specs.inner.Kept.{IsRooted, LivesIn, frame_of, frames_of, live_at, Counts, IsSound}
+use Rattle.work_item.specs.inner.Kept.{one_more, one_less, with_more, with_less, CanCountMore, CanCountLess, is_over, is_done}
+use Rattle.work_item.proofs.Children.{within, some_of, is_there, other, pushed, one_if, is_its_parent, parent_is_at, children-set, children-push}
+use Rattle.work_item.proofs.Children.{children_same, one_at_least, unborn, words-push, words_same, words_gone, rooted_same, rooted_gone, rooted_made}
 
 pub frames_at : (lives : List (Option Live)) (n : ℕ) → at (frames_of lives) n ≡ frame_of (live_at lives n)
 frames_at lives n = get_or-map frame_of lives n None
@@ -33,7 +37,8 @@ live_there lives n l = go (live_at lives n) refl
 abbrev LivesAt : List (Option Live) → Option FrameId → Type 0
 LivesAt lives parent = IfSome parent (λ f. IsSome (live_at lives f.number))
 
-pub counts_at : (lives : List (Option Live)) (t u : List (Option Frame)) (n : ℕ) (x y : Live) → Counts lives t → live_at lives n ≡ Some x → y.children ≡ children_of u n → ((m : ℕ) → (n ≡ m → ⊥) → children_of u m ≡ children_of t m) → Counts (set lives n (Some y)) u
+pub counts_at : (lives : List (Option Live)) (t u : List (Option Frame)) (n : ℕ) (x y : Live) → Counts lives t → live_at lives n ≡ Some x → y.children ≡ children_of u n
+    → ((m : ℕ) → (n ≡ m → ⊥) → children_of u m ≡ children_of t m) → Counts (set lives n (Some y)) u
 counts_at lives t u n x y c e k h m z ez =
     elim (cases_eq n m) as (λ _. z.children ≡ children_of u m) [
       | inl q ↦
@@ -49,7 +54,8 @@ apart m k ne = ap one_if (ne_eqb m k (λ e. ne (sym e)))
 alike : (m : ℕ) → one_if (nat_eq m m) ≡ 1
 alike m = ap one_if (eq-eqb m m refl)
 
-pub counts_more : (lives : List (Option Live)) (t u : List (Option Frame)) (p : Option FrameId) → Counts lives t → LivesAt lives p → ((m : ℕ) → children_of u m ≡ children_of t m + one_if (is_number m p)) → Counts (with_more lives p) u
+pub counts_more : (lives : List (Option Live)) (t u : List (Option Frame)) (p : Option FrameId) → Counts lives t → LivesAt lives p
+    → ((m : ℕ) → children_of u m ≡ children_of t m + one_if (is_number m p)) → Counts (with_more lives p) u
 counts_more lives t u None c l h = λ m z e. omega (arith, c m z e, h m)
 counts_more lives t u (Some f) c l h =
     let x = some_of (live_at lives f.number) l in
@@ -58,7 +64,8 @@ counts_more lives t u (Some f) c l h =
     let rest = (λ (m : ℕ) (ne : f.number ≡ m → ⊥). let a : children_of u m ≡ children_of t m = omega (arith, h m, apart m f.number ne) in a) in
     subst (λ o. Counts (set lives f.number (one_more o)) u) (sym x.1) (counts_at lives t u f.number x.0 (record x.0 { children = x.0.children + 1 }) c x.1 here rest)
 
-pub counts_less : (lives : List (Option Live)) (t u : List (Option Frame)) (p : Option FrameId) → Counts lives t → LivesAt lives p → ((m : ℕ) → children_of u m + one_if (is_number m p) ≡ children_of t m) → Counts (with_less lives p) u
+pub counts_less : (lives : List (Option Live)) (t u : List (Option Frame)) (p : Option FrameId) → Counts lives t → LivesAt lives p
+    → ((m : ℕ) → children_of u m + one_if (is_number m p) ≡ children_of t m) → Counts (with_less lives p) u
 counts_less lives t u None c l h = λ m z e. omega (arith, c m z e, h m)
 counts_less lives t u (Some f) c l h =
     let x = some_of (live_at lives f.number) l in
@@ -85,7 +92,8 @@ same_less lives (Some f) = map-set_same frame_of lives f.number (one_less (live_
 
 -- ---- a frame whose parent and number of cells stay
 
-pub sound_same : (lives : List (Option Live)) (words n : ℕ) (x y : Live) → IsSound lives words → live_at lives n ≡ Some x → y.parent ≡ x.parent → y.children ≡ x.children → length y.cells.items ≡ length x.cells.items → IsSound (set lives n (Some y)) words
+pub sound_same : (lives : List (Option Live)) (words n : ℕ) (x y : Live) → IsSound lives words → live_at lives n ≡ Some x → y.parent ≡ x.parent → y.children ≡ x.children
+    → length y.cells.items ≡ length x.cells.items → IsSound (set lives n (Some y)) words
 sound_same lives words n x y s e parent children cells = record {
   rooted = subst IsRooted (sym frames) (rooted_same t n fx fy s.rooted here parent);
   counts = subst (λ u. Counts (set lives n (Some y)) u) (sym frames) (counts_at lives t (set t n (Some fy)) n x y s.counts e (children ∙ s.counts n x e ∙ sym (as_many n)) (λ m ne. as_many m));
@@ -108,7 +116,8 @@ sound_same lives words n x y s e parent children cells = record {
     frames = map-set frame_of lives n (Some y)
 
     as_many : (m : ℕ) → children_of (set (frames_of lives) n (Some (record { parent = y.parent; cells = y.cells.items; over = y.over }))) m ≡ children_of (frames_of lives) m
-    as_many m = children_same (frames_of lives) n (record { parent = x.parent; cells = x.cells.items; over = x.over }) (record { parent = y.parent; cells = y.cells.items; over = y.over }) m here parent
+    as_many m = children_same (frames_of lives) n (record { parent = x.parent; cells = x.cells.items; over = x.over })
+        (record { parent = y.parent; cells = y.cells.items; over = y.over }) m here parent
 
 -- ---- a new frame
 
@@ -127,7 +136,8 @@ lives_on lives (Some f) new l =
     let x = live_there lives f.number l in
     is_there (live_at (lives ++ Some new ∷ []) f.number) x.0 (get_or-append lives (Some new ∷ []) None f.number (within lives f.number x.0 x.1) ∙ x.1)
 
-pub sound_made : (lives : List (Option Live)) (words : ℕ) (new : Live) → IsSound lives words → LivesIn (frames_of lives) new.parent → new.children ≡ 0 → IsSound (with_more (lives ++ Some new ∷ []) new.parent) (words + (length new.cells.items + 4))
+pub sound_made : (lives : List (Option Live)) (words : ℕ) (new : Live) → IsSound lives words → LivesIn (frames_of lives) new.parent → new.children ≡ 0
+    → IsSound (with_more (lives ++ Some new ∷ []) new.parent) (words + (length new.cells.items + 4))
 sound_made lives words new s alive none =
     let fnew : Frame = record { parent = new.parent; cells = new.cells.items; over = new.over } in
     let t = frames_of lives in
@@ -135,11 +145,13 @@ sound_made lives words new s alive none =
     let counted = counts_pushed lives t new s.counts s.rooted (length-map lives frame_of) none in
     record {
       rooted = subst IsRooted (sym frames) (rooted_made t fnew s.rooted alive);
-      counts = subst (λ u. Counts (with_more (lives ++ Some new ∷ []) new.parent) u) (sym frames) (counts_more (lives ++ Some new ∷ []) t (t ++ Some fnew ∷ []) new.parent counted (lives_on lives new.parent new alive) (λ m. children-push t (Some fnew) m));
+      counts = subst (λ u. Counts (with_more (lives ++ Some new ∷ []) new.parent) u) (sym frames)
+          (counts_more (lives ++ Some new ∷ []) t (t ++ Some fnew ∷ []) new.parent counted (lives_on lives new.parent new alive) (λ m. children-push t (Some fnew) m));
       words_are = ap (λ k. k + (length new.cells.items + 4)) s.words_are ∙ sym (words-push t (Some fnew)) ∙ ap all_words (sym frames);
     }
 
-pub can_more : (lives : List (Option Live)) (words : ℕ) (p : Option FrameId) (new : Live) → IsSound lives words → LivesIn (frames_of lives) p → length lives + 1 < 2 ^ 64 → CanCountMore (lives ++ Some new ∷ []) p
+pub can_more : (lives : List (Option Live)) (words : ℕ) (p : Option FrameId) (new : Live) → IsSound lives words → LivesIn (frames_of lives) p → length lives + 1 < 2 ^ 64
+    → CanCountMore (lives ++ Some new ∷ []) p
 can_more lives words None new s alive few = tt
 can_more lives words (Some f) new s alive few =
     let x = live_there lives f.number alive in
@@ -166,7 +178,8 @@ counts_gone lives t n x c e m z ez =
     ]
 
 -- the parent stays, and counts the frame that goes
-parent_stays : (lives : List (Option Live)) (words n : ℕ) (x : Live) (p : Option FrameId) → IsSound lives words → live_at lives n ≡ Some x → x.parent ≡ p → IfSome p (λ f. IsSomeAnd (live_at (set lives n None) f.number) (λ y. 0 < y.children))
+parent_stays : (lives : List (Option Live)) (words n : ℕ) (x : Live) (p : Option FrameId) → IsSound lives words → live_at lives n ≡ Some x → x.parent ≡ p
+    → IfSome p (λ f. IsSomeAnd (live_at (set lives n None) f.number) (λ y. 0 < y.children))
 parent_stays lives words n x None s e q = tt
 parent_stays lives words n x (Some f) s e q =
     let t = frames_of lives in
@@ -190,16 +203,19 @@ some_at lives (Some f) h = go (live_at lives f.number) h
     go None k = absurd k
     go (Some y) k = refl
 
-pub sound_gone : (lives : List (Option Live)) (words n : ℕ) (x : Live) → IsSound lives words → live_at lives n ≡ Some x → children_of (frames_of lives) n ≡ 0 → IsSound (with_less (set lives n None) x.parent) (words - (length x.cells.items + 4))
+pub sound_gone : (lives : List (Option Live)) (words n : ℕ) (x : Live) → IsSound lives words → live_at lives n ≡ Some x → children_of (frames_of lives) n ≡ 0
+    → IsSound (with_less (set lives n None) x.parent) (words - (length x.cells.items + 4))
 sound_gone lives words n x s e none =
     let fx : Frame = record { parent = x.parent; cells = x.cells.items; over = x.over } in
     let t = frames_of lives in
     let here : at t n ≡ Some fx = frame_is lives n x e in
     let frames : frames_of (with_less (set lives n None) x.parent) ≡ set t n None = same_less (set lives n None) x.parent ∙ map-set frame_of lives n None in
-    let fewer = (λ (m : ℕ). let a : children_of (set t n None) m + one_if (is_number m x.parent) ≡ children_of t m = omega (arith, children-set t n None m (within t n fx here), ap one_if (parent_is_at m (at t n) fx here)) in a) in
+    let fewer = (λ (m : ℕ). let a : children_of (set t n None) m + one_if (is_number m x.parent)
+    ≡ children_of t m = omega (arith, children-set t n None m (within t n fx here), ap one_if (parent_is_at m (at t n) fx here)) in a) in
     record {
       rooted = subst IsRooted (sym frames) (rooted_gone t n fx s.rooted here none);
-      counts = subst (λ u. Counts (with_less (set lives n None) x.parent) u) (sym frames) (counts_less (set lives n None) t (set t n None) x.parent (counts_gone lives t n x s.counts e) (some_at (set lives n None) x.parent (can_less lives words n x s e)) fewer);
+      counts = subst (λ u. Counts (with_less (set lives n None) x.parent) u) (sym frames)
+          (counts_less (set lives n None) t (set t n None) x.parent (counts_gone lives t n x s.counts e) (some_at (set lives n None) x.parent (can_less lives words n x s e)) fewer);
       words_are = (let a : words - (length x.cells.items + 4) ≡ all_words (set t n None) = omega (arith, words_gone t n fx here, s.words_are) in a) ∙ ap all_words (sym frames);
     }
 

@@ -1,10 +1,12 @@
 -- Taking frames away, one after another, up to the first that stays.
-use Rattle.std.proofs.Common.{◌≡◌, ℕ, zero, suc, ◌+◌, ◌<◌, ◌≤◌, List, Option, Some, None, IsSome, IsSomeAnd, Bool, true, false, ◌&&◌, ℤ, inl, inr, refl, sym, ap, ◌∙◌, subst, arith, set, nat_eq, eqb-true, eq-eqb, ne_eqb, get_or-set_same}
+use Rattle.std.proofs.Common.{◌≡◌, ℕ, zero, suc, ◌+◌, ◌<◌, ◌≤◌, List, Option, Some, None, IsSome, IsSomeAnd, Bool, true, false, ◌&&◌, ℤ}
+use Rattle.std.proofs.Common.{inl, inr, refl, sym, ap, ◌∙◌, subst, arith, set, nat_eq, eqb-true, eq-eqb, ne_eqb, get_or-set_same}
 use Rattle.std.proofs.lemmas.Bool.{cases_eq}
 use Rattle.work_item.specs.declared.ids.FrameId.{FrameId}
 use Rattle.work_item.specs.Conditions.{IsGoing}
 use Rattle.work_item.specs.Store.{Store, Frame, is_number, is_parent, some_over, frame_words, all_words, kept, released}
-use Rattle.work_item.specs.Table.{at, parent_at, is_over, children_of, is_done, IsRooted, IsSettled, IsWhole}
+use Rattle.work_item.specs.Table.{at, children_of, IsSettled, IsWhole}
+use Rattle.work_item.specs.inner.Kept.{parent_at, is_over, is_done, IsRooted}
 use Rattle.work_item.proofs.Children.{within, some_of, other, one_if, children-set, words-set, words_gone, rooted_gone}
 use Rattle.work_item.proofs.Keeping.{all_kept, gone_kept}
 
@@ -143,13 +145,15 @@ pub record Ends (globals : List ℤ) (start frames : List (Option Frame)) : Type
   pub whole : IsWhole globals frames
   pub is : frames ≡ kept 0 start
 
-pub ends_there : (globals : List ℤ) (before start t : List (Option Frame)) (n : ℕ) → IsWhole globals before → all_words start ≡ all_words before → Unwinds start t n → is_done t n ≡ false → Ends globals start t
+pub ends_there : (globals : List ℤ) (before start t : List (Option Frame)) (n : ℕ) → IsWhole globals before → all_words start ≡ all_words before → Unwinds start t n → is_done t n ≡ false
+    → Ends globals start t
 ends_there globals before start t n w same u h = record {
   whole = record { settled = settled_there start t n u h; fits = omega (arith, w.fits, u.fewer, same) };
   is = sym (all_kept t u.rooted (settled_there start t n u h)) ∙ u.same;
 }
 
-pub ends_above : (globals : List ℤ) (before start t : List (Option Frame)) (n : ℕ) → IsWhole globals before → all_words start ≡ all_words before → Unwinds start t n → is_done t n ≡ true → parent_at (at t n) ≡ None → Ends globals start (set t n None)
+pub ends_above : (globals : List ℤ) (before start t : List (Option Frame)) (n : ℕ) → IsWhole globals before → all_words start ≡ all_words before → Unwinds start t n → is_done t n ≡ true
+    → parent_at (at t n) ≡ None → Ends globals start (set t n None)
 ends_above globals before start t n w same u done up =
     let x = done_told t n done in
     let settled = settled_above start t n u done up in
@@ -178,6 +182,7 @@ store globals frames = record { globals = globals; frames = frames }
 pub lives_before : (s : Store) (f : FrameId) (globals : List ℤ) (t : List (Option Frame)) → store globals t ≡ s → IsGoing s f → IsSome (at t f.number)
 lives_before s f globals t view going = going_lives (at t f.number) (subst (λ q. IsGoing q f) (sym view) going)
 
-pub is_released : (s : Store) (f : FrameId) (first globals : List ℤ) (t start now : List (Option Frame)) → store first t ≡ s → globals ≡ first → start ≡ set t f.number (some_over (at t f.number)) → now ≡ kept 0 start → store globals now ≡ released s f
+pub is_released : (s : Store) (f : FrameId) (first globals : List ℤ) (t start now : List (Option Frame)) → store first t ≡ s → globals ≡ first → start ≡ set t f.number (some_over (at t f.number))
+    → now ≡ kept 0 start → store globals now ≡ released s f
 is_released s f first globals t start now view same ended is =
     ap (λ g. store g now) same ∙ ap (store first) (is ∙ ap (kept 0) ended) ∙ ap (λ q. released q f) view

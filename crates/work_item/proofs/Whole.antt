@@ -1,5 +1,6 @@
 -- What always holds of the globals and the frames holds after each call.
-use Rattle.std.proofs.Common.{◌≡◌, ℕ, ◌+◌, ◌<◌, ◌^◌, List, [], ◌∷◌, ◌++◌, length, Option, Some, None, Result, Ok, Err, OnOk, OnErr, true, false, ℤ, inl, inr, refl, sym, ap, ◌∙◌, subst, arith, set, get_or-set_same}
+use Rattle.std.proofs.Common.{◌≡◌, ℕ, ◌+◌, ◌<◌, ◌^◌, List, [], ◌∷◌, ◌++◌, length, Option, Some, None, Result, Ok, Err, OnOk}
+use Rattle.std.proofs.Common.{OnErr, true, false, ℤ, inl, inr, refl, sym, ap, ◌∙◌, subst, arith, set, get_or-set_same}
 use Rattle.std.proofs.lemmas.Bool.{cases_eq}
 use Rattle.std.proofs.lemmas.List.{set-get_or}
 use Rattle.ac_base.specs.declared.memory.NoMemory.{NoMemory}
@@ -23,7 +24,8 @@ settled_same t n x y s e parent over m z ez o =
           omega (arith, k, as_many)
     ]
 
-pub whole_with : (globals : List ℤ) (t : List (Option Frame)) (n : ℕ) (cells : List Cell) → IsWhole globals t → length cells ≡ length (no_cells (at t n)) → IsWhole globals (set t n (some_with cells (at t n)))
+pub whole_with : (globals : List ℤ) (t : List (Option Frame)) (n : ℕ) (cells : List Cell) → IsWhole globals t → length cells ≡ length (no_cells (at t n))
+    → IsWhole globals (set t n (some_with cells (at t n)))
 whole_with globals t n cells w l = go (at t n) refl l
   where
     go : (o : Option Frame) → at t n ≡ o → length cells ≡ length (no_cells o) → IsWhole globals (set t n (some_with cells o))
@@ -33,7 +35,8 @@ whole_with globals t n cells w l = go (at t n) refl l
       fits = omega (arith, w.fits, words_same t n x (record x { cells = cells }) e k);
     }
 
-whole_made : (globals : List ℤ) (t : List (Option Frame)) (new : Frame) → IsWhole globals t → new.over ≡ false → length globals + all_words t + (length new.cells + 4) < 2 ^ 64 → IsWhole globals (t ++ Some new ∷ [])
+whole_made : (globals : List ℤ) (t : List (Option Frame)) (new : Frame) → IsWhole globals t → new.over ≡ false → length globals + all_words t + (length new.cells + 4) < 2 ^ 64
+    → IsWhole globals (t ++ Some new ∷ [])
 whole_made globals t new w going few = record {
   settled = λ m z ez o.
       elim (pushed t new m z ez) as (λ _. 0 < children_of (t ++ Some new ∷ []) m) [
@@ -43,9 +46,7 @@ whole_made globals t new w going few = record {
   fits = omega (arith, few, words-push t (Some new));
 }
 
-pub whole_globals : (globals next : List ℤ) (t : List (Option Frame)) → IsWhole globals t → length next ≡ length globals → IsWhole next t
-whole_globals globals next t w l = record { settled = w.settled; fits = omega (arith, w.fits, l) }
-
-pub whole_pushed : (globals : List ℤ) (t u : List (Option Frame)) (new : Frame) (r : Result FrameId NoMemory) → IsWhole globals t → OnOk r (u ≡ t ++ Some new ∷ []) → OnErr r (u ≡ t) → new.over ≡ false → length globals + all_words t + (length new.cells + 4) < 2 ^ 64 → IsWhole globals u
+pub whole_pushed : (globals : List ℤ) (t u : List (Option Frame)) (new : Frame) (r : Result FrameId NoMemory) → IsWhole globals t → OnOk r (u ≡ t ++ Some new ∷ []) → OnErr r (u ≡ t) → new.over ≡ false
+    → length globals + all_words t + (length new.cells + 4) < 2 ^ 64 → IsWhole globals u
 whole_pushed globals t u new (Ok f) w ok err going few = subst (IsWhole globals) (sym ok) (whole_made globals t new w going few)
 whole_pushed globals t u new (Err e) w ok err going few = subst (IsWhole globals) (sym err) w

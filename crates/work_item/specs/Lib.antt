@@ -1,3 +1,4 @@
 pub mod Store
 pub mod Table
 pub mod Conditions
+pub mod inner

@@ -1,5 +1,6 @@
 -- What the globals and the frames of a core hold. Past its end a list of cells reads as 0.
-use Rattle.std.specs.Prelude.{ℕ, zero, suc, ◌+◌, ℤ, pos, List, [], ◌∷◌, ◌++◌, length, replicate, Option, Some, None, Bool, true, false, not, ◌&&◌, ◌||◌, slice_index_or, slice_set, nat_eq, if◌then◌else◌}
+use Rattle.std.specs.Prelude.{ℕ, zero, suc, ◌+◌, ℤ, pos, List, [], ◌∷◌, ◌++◌, length, replicate, Option, Some, None}
+use Rattle.std.specs.Prelude.{Bool, true, false, not, ◌&&◌, ◌||◌, slice_index_or, slice_set, nat_eq, if◌then◌else◌}
 use Rattle.work_item.specs.declared.ids.FrameId.{FrameId}
 use Rattle.work_item.specs.declared.cell.Place.{Place}
 use Rattle.work_item.specs.declared.cell.Cell.{Cell}

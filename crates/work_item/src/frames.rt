@@ -1,7 +1,8 @@
 //! The globals of a core and its frames.
 
 ghost use Rattle.std.specs.Prelude.{◌≡◌, ◌+◌, ◌^◌, ◌<◌, ◌≤◌, length, replicate, IfOk, OnOk, OnErr};
-ghost use Rattle.work_item.specs.Store.{above, cell_at, with_cell_at, with_cleared, cells_of, int_at, with_int_at, global_at, with_global, no_int, no_frames, next_frame, made, released, live_words, int_in};
+ghost use Rattle.work_item.specs.Store.{above, cell_at, with_cell_at, with_cleared, cells_of, int_at, with_int_at, global_at};
+ghost use Rattle.work_item.specs.Store.{with_global, no_int, no_frames, next_frame, made, released, live_words, int_in};
 ghost use Rattle.work_item.specs.Conditions.{Lives, ParentLives, HasLevel, HasSlot, HasGlobal, LiesIn, IsGoing};
 
 use crate::cell::{Cell, Place};

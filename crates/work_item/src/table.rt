@@ -1,8 +1,11 @@
 //! The frames that live, each with the count of those that live in it.
 
-ghost use Rattle.std.specs.Prelude.{◌≡◌, ◌+◌, ◌^◌, ◌<◌, ◌≤◌, [], ◌∷◌, ◌++◌, length, slice_index_or, slice_set, IsSome, IfOk, OnOk, OnErr, Some, None};
+ghost use Rattle.std.specs.Prelude.{◌≡◌, ◌+◌, ◌^◌, ◌<◌, ◌≤◌, [], ◌∷◌, ◌++◌, length};
+ghost use Rattle.std.specs.Prelude.{slice_index_or, slice_set, IsSome, IfOk, OnOk, OnErr, Some, None};
 ghost use Rattle.work_item.specs.Store.{all_words, no_cells, no_int, some_with, some_over, cleared, parent_or};
-ghost use Rattle.work_item.specs.Table.{at, parent_at, new_frame, children_of, is_done, LivesIn, IsRooted, CanCountMore, CanCountLess, with_more, with_less};
+ghost use Rattle.work_item.specs.Table.{at, children_of};
+ghost use Rattle.work_item.specs.inner.Kept.{parent_at, new_frame, is_done, LivesIn};
+ghost use Rattle.work_item.specs.inner.Kept.{IsRooted, CanCountMore, CanCountLess, with_more, with_less};
 
 use crate::cell::Cell;
 use crate::ids::FrameId;
@@ -39,7 +42,7 @@ impl Model for Table {
 
     ghost Value = { List (Option Frame) };
 
-    ghost use Rattle.work_item.specs.Table.{frames_of, IsSound};
+    ghost use Rattle.work_item.specs.inner.Kept.{frames_of, IsSound};
 
     ghost view = { λ s. frames_of s.frames.items };
 

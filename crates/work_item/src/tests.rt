@@ -10,7 +10,8 @@ use std::test::Fail;
 
 // Two globals, a frame of 2 cells, one of 1 cell in it, and one of 3 cells in that.
 fn three_frames(alloc: Global) -> Result<(Frames, FrameId, FrameId, FrameId), NoMemory>
-    ensures frames { IfOk result (λ r. r.0 ≡ made (made (made (no_frames 2) None (replicate 2 no_int)) (Some (record { number = 0 })) (replicate 1 no_int)) (Some (record { number = 1 })) (replicate 3 no_int)) }
+    ensures frames { IfOk result (λ r. r.0 ≡ made (made (made (no_frames 2) None (replicate 2 no_int)) (Some (record { number = 0 }))
+        (replicate 1 no_int)) (Some (record { number = 1 })) (replicate 3 no_int)) }
     ensures numbers { IfOk result (λ r. (r.1.number ≡ 0) × (r.2.number ≡ 1) × (r.3.number ≡ 2)) }
 {
     let mut frames = Frames::new(alloc, 2)?;

@@ -4,7 +4,7 @@ ghost use Rattle.std.specs.Prelude.{◌≡◌, ◌+◌, ◌<◌, ◌^◌, length
 ghost use Rattle.std.specs.Option.{option_map};
 ghost use Rattle.ac_translation.specs.Pieces.{one, ◌⨾◌, over, no_code, loop};
 ghost use Rattle.ac_translation.specs.Translation.{value_code, if_code, test_code, at_loop, at_next, command_code, body_code};
-ghost use Rattle.ac_compile.specs.Emission.{with_code, HasRoom, enclosed};
+ghost use Rattle.ac_compile.specs.inner.Emission.{with_code, HasRoom, enclosed};
 
 use crate::emit::emitter::{Emitter, Outs};
 use crate::emit::steps::{
@@ -78,7 +78,8 @@ fn emit_if(
     other: &Option<List<Command>>,
 ) -> Result<(), NoMemory>
     requires { HasRoom (if_code (value_code test.now) (body_code body.now) (option_map (map command_code) other.now)) emitter.old }
-    ensures { OnOk result (emitter.new ≡ with_code (if_code (value_code test.now) (body_code body.now) (option_map (map command_code) other.now)) emitter.old) }
+    ensures { OnOk result (emitter.new ≡ with_code (if_code (value_code test.now) (body_code body.now)
+        (option_map (map command_code) other.now)) emitter.old) }
 {
     match other {
         None => emit_then(alloc, emitter, test, body),
@@ -114,7 +115,8 @@ fn emit_else(
     other: &[Command],
 ) -> Result<(), NoMemory>
     requires { HasRoom (if_code (value_code test.now) (body_code body.now) (Some (map command_code other.now))) emitter.old }
-    ensures { OnOk result (emitter.new ≡ with_code (if_code (value_code test.now) (body_code body.now) (Some (map command_code other.now))) emitter.old) }
+    ensures { OnOk result (emitter.new ≡ with_code (if_code (value_code test.now) (body_code body.now) (Some (map command_code other.now)))
+        emitter.old) }
 {
     let jump = emit_test(emitter, test)?;
     emit_body(alloc, emitter, body)?;
@@ -148,7 +150,8 @@ fn emit_while(
     body: &[Command],
 ) -> Result<(), NoMemory>
     requires { HasRoom (loop at_loop (test_code (Some test.now) ((body_code body.now).size + 1)) (body_code body.now) no_code) emitter.old }
-    ensures { OnOk result (emitter.new ≡ with_code (loop at_loop (test_code (Some test.now) ((body_code body.now).size + 1)) (body_code body.now) no_code) emitter.old) }
+    ensures { OnOk result (emitter.new ≡ with_code (loop at_loop (test_code (Some test.now) ((body_code body.now).size + 1))
+        (body_code body.now) no_code) emitter.old) }
 {
     let place = emitter.len();
     let jump = emit_test(emitter, test)?;
@@ -168,8 +171,11 @@ fn emit_for(
     next: &[Command],
     body: &[Command],
 ) -> Result<(), NoMemory>
-    requires { HasRoom (loop at_next (test_code test.now ((body_code body.now).size + ((body_code next.now).size + 1))) (body_code body.now) (body_code next.now)) emitter.old }
-    ensures { OnOk result (emitter.new ≡ with_code (loop at_next (test_code test.now ((body_code body.now).size + ((body_code next.now).size + 1))) (body_code body.now) (body_code next.now)) emitter.old) }
+    requires { HasRoom (loop at_next (test_code test.now ((body_code body.now).size + ((body_code next.now).size + 1))) (body_code body.now)
+        (body_code next.now)) emitter.old }
+    ensures { OnOk result (emitter.new ≡ with_code (loop at_next
+        (test_code test.now ((body_code body.now).size + ((body_code next.now).size + 1))) (body_code body.now) (body_code next.now))
+        emitter.old) }
 {
     let place = emitter.len();
     let jump = emit_open_test(emitter, test)?;
@@ -190,8 +196,10 @@ fn emit_do(
     slot: u32,
     body: &[Command],
 ) -> Result<(), NoMemory>
-    requires { HasRoom (one Instr.Step ⨾ one (Instr.Enter slot) ⨾ body_code body.now ⨾ one Instr.Step ⨾ one (Instr.Finish slot)) emitter.old }
-    ensures { OnOk result (emitter.new ≡ with_code (one Instr.Step ⨾ one (Instr.Enter slot) ⨾ body_code body.now ⨾ one Instr.Step ⨾ one (Instr.Finish slot)) emitter.old) }
+    requires { HasRoom (one Instr.Step ⨾ one (Instr.Enter slot) ⨾ body_code body.now ⨾ one Instr.Step ⨾ one (Instr.Finish slot))
+        emitter.old }
+    ensures { OnOk result (emitter.new ≡ with_code (one Instr.Step ⨾ one (Instr.Enter slot) ⨾ body_code body.now ⨾ one Instr.Step
+        ⨾ one (Instr.Finish slot)) emitter.old) }
 {
     emit_stepped(emitter, Instr::Enter { slot })?;
     emit_body(alloc, emitter, body)?;
@@ -206,8 +214,10 @@ fn emit_async(
     slots: u32,
     body: &[Command],
 ) -> Result<(), NoMemory>
-    requires { HasRoom (one Instr.Step ⨾ over (λ to. Instr.Async slots to) ((body_code body.now).size + 1) ⨾ body_code body.now ⨾ one Instr.End) emitter.old }
-    ensures { OnOk result (emitter.new ≡ with_code (one Instr.Step ⨾ over (λ to. Instr.Async slots to) ((body_code body.now).size + 1) ⨾ body_code body.now ⨾ one Instr.End) emitter.old) }
+    requires { HasRoom (one Instr.Step ⨾ over (λ to. Instr.Async slots to) ((body_code body.now).size + 1) ⨾ body_code body.now
+        ⨾ one Instr.End) emitter.old }
+    ensures { OnOk result (emitter.new ≡ with_code (one Instr.Step ⨾ over (λ to. Instr.Async slots to) ((body_code body.now).size + 1)
+        ⨾ body_code body.now ⨾ one Instr.End) emitter.old) }
 {
     emitter.put(Instr::Step)?;
     let jump = emitter.jump(Instr::Async { slots, to: 0 })?;

@@ -2,8 +2,9 @@
 
 ghost use Rattle.std.specs.Prelude.{◌≡◌, ◌+◌, ◌<◌, ◌^◌, length, map, OnOk};
 ghost use Rattle.ac_translation.specs.Pieces.{all, one, ◌⨾◌};
-ghost use Rattle.ac_translation.specs.Translation.{array_code, value_code, argument_code, place_code, effect_code, target_code, operand_code};
-ghost use Rattle.ac_compile.specs.Emission.{with_code, HasRoom};
+ghost use Rattle.ac_translation.specs.Translation.{array_code, value_code, argument_code};
+ghost use Rattle.ac_translation.specs.Translation.{place_code, effect_code, target_code, operand_code};
+ghost use Rattle.ac_compile.specs.inner.Emission.{with_code, HasRoom};
 
 use crate::emit::emitter::Emitter;
 use crate::emit::values::{array_code, emit_value};
@@ -33,7 +34,8 @@ fn emit_arguments(emitter: &mut Emitter, args: &[Argument]) -> Result<(), NoMemo
 
 fn emit_call(emitter: &mut Emitter, function: u32, args: &List<Argument>) -> Result<(), NoMemory>
     requires { HasRoom (all (map argument_code args.now) ⨾ one (Instr.Call function (length args.now))) emitter.old }
-    ensures { OnOk result (emitter.new ≡ with_code (all (map argument_code args.now) ⨾ one (Instr.Call function (length args.now))) emitter.old) }
+    ensures { OnOk result (emitter.new ≡ with_code (all (map argument_code args.now) ⨾ one (Instr.Call function (length args.now)))
+        emitter.old) }
 {
     let count = args.len() as u32;
     emit_arguments(emitter, args.as_slice())?;
@@ -103,7 +105,8 @@ fn emit_transfer(
     instr: Instr,
 ) -> Result<(), NoMemory>
     requires { HasRoom (value_code from.now ⨾ value_code len.now ⨾ one (array_code array) ⨾ one instr) emitter.old }
-    ensures { OnOk result (emitter.new ≡ with_code (value_code from.now ⨾ value_code len.now ⨾ one (array_code array) ⨾ one instr) emitter.old) }
+    ensures { OnOk result (emitter.new ≡ with_code (value_code from.now ⨾ value_code len.now ⨾ one (array_code array) ⨾ one instr)
+        emitter.old) }
 {
     emit_value(emitter, from)?;
     emit_value(emitter, len)?;

@@ -3,7 +3,7 @@
 
 ghost use Rattle.std.specs.Prelude.{◌≡◌, ◌+◌, ◌<◌, ◌^◌, [], length, OnOk, IfOk};
 ghost use Rattle.ac_translation.specs.Pieces.{one, out_past, out_turn};
-ghost use Rattle.ac_compile.specs.Emission.{nothing_yet, with_code, with_instr, with_outs, with_jumps, AreBelow};
+ghost use Rattle.ac_compile.specs.inner.Emission.{nothing_yet, with_code, with_instr, with_outs, with_jumps, AreBelow};
 
 use ac_base::NoMemory;
 use stack_code::Instr;
@@ -41,7 +41,7 @@ pub struct Emitter {
 }
 
 impl Model for Emitter {
-    ghost use Rattle.ac_compile.specs.Emission.{Emitted};
+    ghost use Rattle.ac_compile.specs.inner.Emission.{Emitted};
 
     ghost Value = { Emitted };
 

@@ -3,7 +3,7 @@
 ghost use Rattle.std.specs.Prelude.{◌≡◌, ◌+◌, ◌<◌, ◌^◌, length, OnOk, IfOk, IfSome};
 ghost use Rattle.ac_translation.specs.Pieces.{one, ◌⨾◌, out_past, out_turn};
 ghost use Rattle.ac_translation.specs.Translation.{value_code, values_code, effect_code, target_code, operand_code};
-ghost use Rattle.ac_compile.specs.Emission.{with_code, HasRoom, decided, open_test, test_jump, with_test};
+ghost use Rattle.ac_compile.specs.inner.Emission.{with_code, HasRoom, decided, open_test, test_jump, with_test};
 
 use crate::emit::effects::{emit_effect, emit_operand, emit_target};
 use crate::emit::emitter::Emitter;
@@ -46,7 +46,8 @@ pub fn emit_run(emitter: &mut Emitter, effect: &Effect) -> Result<(), NoMemory>
 /// Prints a text with its arguments, of which there are fewer than 2 ^ 32 where there is room for them.
 pub fn emit_print(emitter: &mut Emitter, text: u32, args: &List<Value>) -> Result<(), NoMemory>
     requires { HasRoom (one Instr.Step ⨾ values_code args.now ⨾ one (Instr.Print text (length args.now))) emitter.old }
-    ensures { OnOk result (emitter.new ≡ with_code (one Instr.Step ⨾ values_code args.now ⨾ one (Instr.Print text (length args.now))) emitter.old) }
+    ensures { OnOk result (emitter.new ≡ with_code (one Instr.Step ⨾ values_code args.now ⨾ one (Instr.Print text (length args.now)))
+        emitter.old) }
 {
     let count = args.len() as u32;
     emitter.put(Instr::Step)?;

@@ -2,8 +2,9 @@
 
 ghost use Rattle.std.specs.Prelude.{◌≡◌, ◌+◌, ◌<◌, ◌^◌, length, map, pos, OnOk};
 ghost use Rattle.ac_translation.specs.Pieces.{one, ◌⨾◌, over};
-ghost use Rattle.ac_translation.specs.Translation.{unary_code, operator_code, variable_code, array_code, lazily, joined_code, chained_code, value_code, link_code, values_code};
-ghost use Rattle.ac_compile.specs.Emission.{with_code, HasRoom};
+ghost use Rattle.ac_translation.specs.Translation.{unary_code, operator_code, variable_code, array_code, lazily};
+ghost use Rattle.ac_translation.specs.Translation.{joined_code, chained_code, value_code, link_code, values_code};
+ghost use Rattle.ac_compile.specs.inner.Emission.{with_code, HasRoom};
 
 use crate::emit::emitter::Emitter;
 use ac_base::NoMemory;

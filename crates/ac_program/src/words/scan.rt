@@ -2,7 +2,7 @@
 
 ghost use Rattle.std.specs.Prelude.{◌≡◌, ◌↔◌, ℕ, List, [], ◌∷◌, map, string_bytes, IfSome, IsNone, None};
 ghost use Rattle.std.specs.Option.{option_copied};
-ghost use Rattle.ac_program.specs.Scanning.{Completes, CompletesAny, IsKind};
+ghost use Rattle.ac_program.specs.inner.Scanning.{Completes, CompletesAny, IsKind};
 
 use super::bound::read_bound;
 use super::{Call, USUAL_STEPS};
@@ -42,7 +42,8 @@ pub struct Scan<'a> {
 pub fn read_arguments(words: &[String]) -> Option<Call<'_>>
     ensures usage { IsNone result → (file : List ℕ) (steps : ℕ) → CompletesAny None None (map string_bytes words.now) file steps → ⊥ }
     ensures call { IfSome result (λ call. CompletesAny None None (map string_bytes words.now) call.file.now call.steps) }
-    ensures only { IfSome result (λ call. (file : List ℕ) (steps : ℕ) → CompletesAny None None (map string_bytes words.now) file steps → (file ≡ call.file.now) × (steps ≡ call.steps)) }
+    ensures only { IfSome result (λ call. (file : List ℕ) (steps : ℕ) → CompletesAny None None (map string_bytes words.now) file steps
+        → (file ≡ call.file.now) × (steps ≡ call.steps)) }
 {
     let mut scan = Scan {
         next: Next::Any,
@@ -56,8 +57,10 @@ pub fn read_arguments(words: &[String]) -> Option<Call<'_>>
 }
 
 fn take_word<'a>(scan: Scan<'a>, word: &'a str) -> Option<Scan<'a>>
-    ensures refused { IsNone result → (words : List (List ℕ)) (file : List ℕ) (steps : ℕ) → Completes scan.entry (word.now ∷ words) file steps → ⊥ }
-    ensures taken { IfSome result (λ after. (words : List (List ℕ)) (file : List ℕ) (steps : ℕ) → Completes scan.entry (word.now ∷ words) file steps ↔ Completes after words file steps) }
+    ensures refused { IsNone result → (words : List (List ℕ)) (file : List ℕ) (steps : ℕ)
+        → Completes scan.entry (word.now ∷ words) file steps → ⊥ }
+    ensures taken { IfSome result (λ after. (words : List (List ℕ)) (file : List ℕ) (steps : ℕ)
+        → Completes scan.entry (word.now ∷ words) file steps ↔ Completes after words file steps) }
 {
     match scan.next {
         Next::Any => take_any(scan, word),
@@ -83,8 +86,10 @@ fn take_word<'a>(scan: Scan<'a>, word: &'a str) -> Option<Scan<'a>>
 }
 
 fn take_any<'a>(scan: Scan<'a>, word: &'a str) -> Option<Scan<'a>>
-    ensures refused { IsNone result → (words : List (List ℕ)) (file : List ℕ) (steps : ℕ) → CompletesAny (option_copied scan.entry.file) scan.entry.steps (word.now ∷ words) file steps → ⊥ }
-    ensures taken { IfSome result (λ after. (words : List (List ℕ)) (file : List ℕ) (steps : ℕ) → CompletesAny (option_copied scan.entry.file) scan.entry.steps (word.now ∷ words) file steps ↔ Completes after words file steps) }
+    ensures refused { IsNone result → (words : List (List ℕ)) (file : List ℕ) (steps : ℕ)
+        → CompletesAny (option_copied scan.entry.file) scan.entry.steps (word.now ∷ words) file steps → ⊥ }
+    ensures taken { IfSome result (λ after. (words : List (List ℕ)) (file : List ℕ) (steps : ℕ)
+        → CompletesAny (option_copied scan.entry.file) scan.entry.steps (word.now ∷ words) file steps ↔ Completes after words file steps) }
 {
     match kind_of(word) {
         Kind::Plain if scan.file.is_none() => Some(Scan {
@@ -133,7 +138,8 @@ fn kind_of(word: &str) -> Kind<'_>
 fn finish(scan: Scan<'_>) -> Option<Call<'_>>
     ensures refused { IsNone result → (file : List ℕ) (steps : ℕ) → Completes scan.entry [] file steps → ⊥ }
     ensures call { IfSome result (λ call. Completes scan.entry [] call.file.now call.steps) }
-    ensures only { IfSome result (λ call. (file : List ℕ) (steps : ℕ) → Completes scan.entry [] file steps → (file ≡ call.file.now) × (steps ≡ call.steps)) }
+    ensures only { IfSome result (λ call. (file : List ℕ) (steps : ℕ) → Completes scan.entry [] file steps
+        → (file ≡ call.file.now) × (steps ≡ call.steps)) }
 {
     match (scan.next, scan.file) {
         (Next::Value, _) => None,

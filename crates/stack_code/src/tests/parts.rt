@@ -97,36 +97,55 @@ pub fn code_with(
     )
 }
 
-/// Whether the first function may have this body, which begins at address 2. The second returns its
-/// int.
-pub fn is_body(alloc: Global, body: &[Instr]) -> Result<bool, NoMemory> {
-    let mut instrs = Vec::new(alloc);
-    instrs.push(Instr::Load { level: 0, slot: 0 })?;
-    instrs.push(Instr::Ret)?;
-    for instr in body {
-        instrs.push(*instr)?;
-    }
-    let code = code_with(alloc, &USUAL, instrs.as_slice(), 2, 0)?;
-    Ok(code.is_some())
+/// A function of a small code, which may have one body or another.
+#[derive(Clone, Copy)]
+pub enum Whose {
+    /// The first, whose body begins at address 2. The second returns its int.
+    First,
+    /// The second, whose body begins at address 4. The first calls it.
+    Second,
 }
 
-/// Whether the second function may have this body, which begins at address 4. The first calls it.
-pub fn is_called_body(alloc: Global, body: &[Instr]) -> Result<bool, NoMemory> {
-    let mut instrs = Vec::new(alloc);
-    instrs.push(Instr::Push(1))?;
-    instrs.push(Instr::Arr {
+const RETURNS_ITS_INT: [Instr; 2] = [Instr::Load { level: 0, slot: 0 }, Instr::Ret];
+
+const CALLS_THE_SECOND: [Instr; 4] = [
+    Instr::Push(1),
+    Instr::Arr {
         level: 0,
         slot: 0,
         len: 2,
-    })?;
-    instrs.push(Instr::Call {
+    },
+    Instr::Call {
         function: 1,
         count: 2,
-    })?;
-    instrs.push(Instr::Ret)?;
+    },
+    Instr::Ret,
+];
+
+fn may_have(alloc: Global, whose: Whose, body: &[Instr]) -> Result<bool, NoMemory> {
+    let (other, first, second) = match whose {
+        Whose::First => (RETURNS_ITS_INT.as_slice(), 2, 0),
+        Whose::Second => (CALLS_THE_SECOND.as_slice(), 0, 4),
+    };
+    let mut instrs = Vec::from_slice(alloc, other)?;
     for instr in body {
         instrs.push(*instr)?;
     }
-    let code = code_with(alloc, &USUAL, instrs.as_slice(), 0, 4)?;
+    let code = code_with(alloc, &USUAL, instrs.as_slice(), first, second)?;
     Ok(code.is_some())
+}
+
+/// The first of these cases in which that function may have the body and is said not to, or the
+/// other way round. One place calls for all tables, since each place is proved on its own.
+pub fn first_wrong(
+    alloc: Global,
+    whose: Whose,
+    cases: &[(&[Instr], bool)],
+) -> Result<Option<usize>, NoMemory> {
+    for (at, (body, valid)) in cases.iter().enumerate() {
+        if may_have(alloc, whose, body)? != *valid {
+            return Ok(Some(at));
+        }
+    }
+    Ok(None)
 }

@@ -1,6 +1,6 @@
 //! Operands, blocks and bodies.
 
-use super::parts::is_body;
+use super::parts::{Whose, first_wrong};
 use crate::Instr;
 use crate::Instr::{
     Add, Arr, ArrG, Async, Call, Cancel, Drop, Elem, End, Enter, Finish, Place, Print, Push, Read,
@@ -47,13 +47,8 @@ static OPERANDS: [(&[Instr], bool); 22] = [
 
 #[test]
 fn operands_are_of_the_kinds_that_are_asked_for(rt: HostRuntime) -> Result<(), Fail> {
-    for (at, (body, valid)) in OPERANDS.iter().enumerate() {
-        assert_eq!(rt;
-            is_body(rt.alloc(), body).ok().ok_or("memory")?,
-            *valid,
-            "case {at}"
-        );
-    }
+    let wrong = first_wrong(rt.alloc(), Whose::First, OPERANDS.as_slice());
+    assert_eq!(rt; wrong.ok().ok_or("memory")?, None);
     Ok(())
 }
 
@@ -130,13 +125,8 @@ static RANGES: [(&[Instr], bool); 12] = [
 
 #[test]
 fn what_is_named_is_in_range(rt: HostRuntime) -> Result<(), Fail> {
-    for (at, (body, valid)) in RANGES.iter().enumerate() {
-        assert_eq!(rt;
-            is_body(rt.alloc(), body).ok().ok_or("memory")?,
-            *valid,
-            "case {at}"
-        );
-    }
+    let wrong = first_wrong(rt.alloc(), Whose::First, RANGES.as_slice());
+    assert_eq!(rt; wrong.ok().ok_or("memory")?, None);
     Ok(())
 }
 
@@ -180,13 +170,8 @@ static BLOCKS: [(&[Instr], bool); 8] = [
 
 #[test]
 fn blocks_lie_in_one_another(rt: HostRuntime) -> Result<(), Fail> {
-    for (at, (body, valid)) in BLOCKS.iter().enumerate() {
-        assert_eq!(rt;
-            is_body(rt.alloc(), body).ok().ok_or("memory")?,
-            *valid,
-            "case {at}"
-        );
-    }
+    let wrong = first_wrong(rt.alloc(), Whose::First, BLOCKS.as_slice());
+    assert_eq!(rt; wrong.ok().ok_or("memory")?, None);
     Ok(())
 }
 
@@ -283,12 +268,7 @@ static BODIES: [(&[Instr], bool); 11] = [
 
 #[test]
 fn bodies_begin_in_a_block_and_end_as_they_began(rt: HostRuntime) -> Result<(), Fail> {
-    for (at, (body, valid)) in BODIES.iter().enumerate() {
-        assert_eq!(rt;
-            is_body(rt.alloc(), body).ok().ok_or("memory")?,
-            *valid,
-            "case {at}"
-        );
-    }
+    let wrong = first_wrong(rt.alloc(), Whose::First, BODIES.as_slice());
+    assert_eq!(rt; wrong.ok().ok_or("memory")?, None);
     Ok(())
 }

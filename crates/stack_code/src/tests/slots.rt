@@ -1,6 +1,6 @@
 //! Slots of frames and of the globals.
 
-use super::parts::{is_body, is_called_body};
+use super::parts::{Whose, first_wrong};
 use crate::Instr;
 use crate::Instr::{
     Arr, ArrG, Async, Call, Clear, Drop, Elem, End, Enter, Finish, Load, LoadG, Push, Recv, Ret,
@@ -57,13 +57,8 @@ static IN_FRAME: [(&[Instr], bool); 17] = [
 
 #[test]
 fn slots_lie_in_their_frame(rt: HostRuntime) -> Result<(), Fail> {
-    for (at, (body, valid)) in IN_FRAME.iter().enumerate() {
-        assert_eq!(rt;
-            is_body(rt.alloc(), body).ok().ok_or("memory")?,
-            *valid,
-            "case {at}"
-        );
-    }
+    let wrong = first_wrong(rt.alloc(), Whose::First, IN_FRAME.as_slice());
+    assert_eq!(rt; wrong.ok().ok_or("memory")?, None);
     Ok(())
 }
 
@@ -133,13 +128,8 @@ static BLOCKS_AND_INTS: [(&[Instr], bool); 8] = [
 
 #[test]
 fn a_block_is_no_int(rt: HostRuntime) -> Result<(), Fail> {
-    for (at, (body, valid)) in BLOCKS_AND_INTS.iter().enumerate() {
-        assert_eq!(rt;
-            is_body(rt.alloc(), body).ok().ok_or("memory")?,
-            *valid,
-            "case {at}"
-        );
-    }
+    let wrong = first_wrong(rt.alloc(), Whose::First, BLOCKS_AND_INTS.as_slice());
+    assert_eq!(rt; wrong.ok().ok_or("memory")?, None);
     Ok(())
 }
 
@@ -208,12 +198,7 @@ static PARAMETERS: [(&[Instr], bool); 14] = [
 
 #[test]
 fn parameters_are_ints_and_references(rt: HostRuntime) -> Result<(), Fail> {
-    for (at, (body, valid)) in PARAMETERS.iter().enumerate() {
-        assert_eq!(rt;
-            is_called_body(rt.alloc(), body).ok().ok_or("memory")?,
-            *valid,
-            "case {at}"
-        );
-    }
+    let wrong = first_wrong(rt.alloc(), Whose::Second, PARAMETERS.as_slice());
+    assert_eq!(rt; wrong.ok().ok_or("memory")?, None);
     Ok(())
 }

@@ -1,6 +1,6 @@
 //! Ways through a code.
 
-use super::parts::{is_body, is_called_body};
+use super::parts::{Whose, first_wrong};
 use crate::Instr;
 use crate::Instr::{
     Arr, Async, Call, Drop, End, Enter, Finish, Jnz, Jump, Jz, Load, Push, Ret, Step,
@@ -83,13 +83,8 @@ static WAYS: [(&[Instr], bool); 10] = [
 
 #[test]
 fn an_address_lies_in_the_code_and_has_one_shape(rt: HostRuntime) -> Result<(), Fail> {
-    for (at, (body, valid)) in WAYS.iter().enumerate() {
-        assert_eq!(rt;
-            is_body(rt.alloc(), body).ok().ok_or("memory")?,
-            *valid,
-            "case {at}"
-        );
-    }
+    let wrong = first_wrong(rt.alloc(), Whose::First, WAYS.as_slice());
+    assert_eq!(rt; wrong.ok().ok_or("memory")?, None);
     Ok(())
 }
 
@@ -160,19 +155,9 @@ static CALLS_BACK: [(&[Instr], bool); 2] = [
 
 #[test]
 fn each_way_back_takes_a_step(rt: HostRuntime) -> Result<(), Fail> {
-    for (at, (body, valid)) in WAYS_BACK.iter().enumerate() {
-        assert_eq!(rt;
-            is_body(rt.alloc(), body).ok().ok_or("memory")?,
-            *valid,
-            "case {at}"
-        );
-    }
-    for (at, (body, valid)) in CALLS_BACK.iter().enumerate() {
-        assert_eq!(rt;
-            is_called_body(rt.alloc(), body).ok().ok_or("memory")?,
-            *valid,
-            "case {at}"
-        );
-    }
+    let wrong = first_wrong(rt.alloc(), Whose::First, WAYS_BACK.as_slice());
+    assert_eq!(rt; wrong.ok().ok_or("memory")?, None);
+    let wrong = first_wrong(rt.alloc(), Whose::Second, CALLS_BACK.as_slice());
+    assert_eq!(rt; wrong.ok().ok_or("memory")?, None);
     Ok(())
 }

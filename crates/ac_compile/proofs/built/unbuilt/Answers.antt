@@ -6,9 +6,11 @@ use Rattle.ac_compile.proofs.built.unbuilt.Goals as goal
 
 pub returns-clause-first : goal.returns-clause-first
 returns-clause-first c =
-    first_is c.as_slice-items.result.now c.args.checked.now.items (option_map (λ w. w.now) c.first_entry.result) c.in_items.result (c.as_slice-items.ensures ∙ ap (λ (p : Program). p.items) c.tree.ensures.tree) c.first_entry.ensures c.in_items.ensures
+    first_is c.as_slice-items.result.now c.args.checked.now.items (option_map (λ w. w.now) c.first_entry.result) c.in_items.result
+    (c.as_slice-items.ensures ∙ ap (λ (p : Program). p.items) c.tree.ensures.tree) c.first_entry.ensures c.in_items.ensures
 
 pub returns-clause-none : goal.returns-clause-none
 returns-clause-none c =
     none_told c.args.checked.now.items c.in_items.result
-    (first_is c.as_slice-items.result.now c.args.checked.now.items (option_map (λ w. w.now) c.first_entry.result) c.in_items.result (c.as_slice-items.ensures ∙ ap (λ (p : Program). p.items) c.tree.ensures.tree) c.first_entry.ensures c.in_items.ensures)
+    (first_is c.as_slice-items.result.now c.args.checked.now.items (option_map (λ w. w.now) c.first_entry.result) c.in_items.result
+    (c.as_slice-items.ensures ∙ ap (λ (p : Program). p.items) c.tree.ensures.tree) c.first_entry.ensures c.in_items.ensures)

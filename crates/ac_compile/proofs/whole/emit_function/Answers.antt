@@ -3,7 +3,7 @@ use Rattle.std.specs.Prelude.{pos}
 use Rattle.stack_code.specs.declared.instr.Instr.TheVariants as i
 use Rattle.ac_translation.specs.Pieces.{one}
 use Rattle.ac_translation.specs.Translation.{body_code}
-use Rattle.ac_compile.specs.Emission.{with_code}
+use Rattle.ac_compile.specs.inner.Emission.{with_code}
 use Rattle.ac_translation.proofs.Sized.{one_sized, body_sized}
 use Rattle.ac_compile.proofs.Emissions.{three_are}
 use Rattle.ac_compile.proofs.whole.emit_function.Goals as goal

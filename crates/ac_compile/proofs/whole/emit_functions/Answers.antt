@@ -13,12 +13,16 @@ loop-function-preserved c =
     let fs = c.args.functions.now in
     let at = c.loop-function.function-index in
     record {
-      code = turn functions_code function_code (λ x xs. refl) refl function_sized fs at f old c.loop-function-test.true c.function-item.is new _ c.in_ok-emit_function.ensures c.loop-function.invariant.code;
-      room = rest_room functions_code function_code (λ x xs. refl) refl function_sized fs at f old c.loop-function-test.true c.function-item.is new c.in_ok-emit_function.ensures c.loop-function.invariant.room;
+      code = turn functions_code function_code (λ x xs. refl) refl function_sized fs at f old c.loop-function-test.true c.function-item.is new _ c.in_ok-emit_function.ensures
+          c.loop-function.invariant.code;
+      room = rest_room functions_code function_code (λ x xs. refl) refl function_sized fs at f old c.loop-function-test.true c.function-item.is new c.in_ok-emit_function.ensures
+          c.loop-function.invariant.room;
       list =
-          one_more fs at f c.loop-function.list c.push.new.self c.in_ok-entered_at.field-0 c.len-at.result (length old.instrs) (length new.instrs) _ c.loop-function-test.true c.function-item.is c.in_ok-entered_at.ensures c.len-at.ensures
+          one_more fs at f c.loop-function.list c.push.new.self c.in_ok-entered_at.field-0 c.len-at.result (length old.instrs)
+          (length new.instrs) _ c.loop-function-test.true c.function-item.is c.in_ok-entered_at.ensures c.len-at.ensures
           c.in_ok-push.ensures.ok (grown_to (function_code f) old new (function_sized f) c.in_ok-emit_function.ensures) c.loop-function.invariant.list;
     }
 
 pub returns-clause-code : goal.returns-clause-code
-returns-clause-code c = done functions_code function_code (λ x xs. refl) refl function_sized c.args.functions.now c.loop-function.function-index c.loop-function.emitter _ c.loop-function-test.false c.loop-function.invariant.code
+returns-clause-code c = done functions_code function_code (λ x xs. refl) refl function_sized c.args.functions.now c.loop-function.function-index c.loop-function.emitter _ c.loop-function-test.false
+    c.loop-function.invariant.code

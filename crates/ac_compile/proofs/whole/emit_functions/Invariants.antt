@@ -1,6 +1,6 @@
 use Rattle.std.proofs.Common.{◌≡◌, ◌++◌, drop, length}
 use Rattle.ac_translation.specs.Translation.{functions_code, functions_from}
-use Rattle.ac_compile.specs.Emission.{with_code, HasRoom}
+use Rattle.ac_compile.specs.inner.Emission.{with_code, HasRoom}
 use Rattle.ac_compile.proofs.whole.emit_functions.Given as goal
 
 abbrev pub invariant-loop-function : goal.invariant-loop-function

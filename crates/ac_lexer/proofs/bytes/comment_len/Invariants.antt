@@ -1,6 +1,6 @@
 use Rattle.std.proofs.Common.{◌≡◌, ◌+◌, drop, false}
 use Rattle.std.specs.Prelude.{option_map}
-use Rattle.ac_lexer.specs.Reading.{block_end}
+use Rattle.ac_lexer.specs.inner.Reading.{block_end}
 use Rattle.ac_lexer.proofs.bytes.comment_len.Given as goal
 
 abbrev pub invariant-loop-i : goal.invariant-loop-i

@@ -1,5 +1,5 @@
 use Rattle.std.proofs.Common.{◌≡◌, ◌+◌, drop}
-use Rattle.ac_lexer.specs.Reading.{run}
+use Rattle.ac_lexer.specs.inner.Reading.{run}
 use Rattle.ac_lexer.specs.Spelling.{is_digit}
 use Rattle.ac_lexer.proofs.bytes.digit_run.Given as goal
 

@@ -1,5 +1,5 @@
 use Rattle.std.proofs.Common.{◌≡◌, drop, false, [], None}
-use Rattle.ac_lexer.specs.Reading.{text_from}
+use Rattle.ac_lexer.specs.inner.Reading.{text_from}
 use Rattle.ac_lexer.proofs.text.text_piece.Given as goal
 
 abbrev pub invariant-bytes : goal.invariant-bytes

@@ -1,6 +1,7 @@
 use Rattle.std.proofs.Common.{◌≡◌, ◌-◌, length}
-use Rattle.ac_parser.specs.Reads.{has_token, many_at, with_front}
-use Rattle.ac_parser.specs.ReadsItems.{item_at}
+use Rattle.reading_laws.specs.inner.Tokens.{has_token}
+use Rattle.reading_laws.specs.Readers.{many_at, with_front}
+use Rattle.ac_parser.specs.inner.ReadsItems.{item_at}
 use Rattle.ac_parser.proofs.items.items.Given as goal
 
 abbrev pub invariant-items : goal.invariant-items

@@ -1,7 +1,7 @@
 use Rattle.std.proofs.Common.{subst}
-use Rattle.ac_parser.specs.declared.cursor.Halt.{Halt}
-use Rattle.ac_parser.specs.Reads.{Fails}
-use Rattle.ac_parser.specs.ReadsItems.{program_at}
+use Rattle.ac_expressions.specs.declared.cursor.Halt.{Halt}
+use Rattle.ac_expressions.specs.Returned.{Fails}
+use Rattle.ac_parser.specs.inner.ReadsItems.{program_at}
 use Rattle.ac_parser.proofs.Answered.{parsed_tree, parsed_unexpected, parsed_too_deep}
 use Rattle.ac_parser.proofs.parser.parse.Goals as goal
 
@@ -16,4 +16,5 @@ returns-in-Err-Unexpected c =
 pub returns-in-Err-TooDeep : goal.returns-in-Err-TooDeep
 returns-in-Err-TooDeep c =
     parsed_too_deep c.args.len c.args.tokens.now c.program.new.c.rest.now c.place_next-in-Err-TooDeep.result
-    (subst (λ (e : Halt). Fails c.program.new.c.rest.now e (program_at c.args.tokens.now)) c.in-Err-TooDeep.field-0-is (rw c.as_slice.ensures at c.in-Err-TooDeep.ensures)) c.place_next-in-Err-TooDeep.ensures
+    (subst (λ (e : Halt). Fails c.program.new.c.rest.now e (program_at c.args.tokens.now)) c.in-Err-TooDeep.field-0-is (rw c.as_slice.ensures at c.in-Err-TooDeep.ensures))
+    c.place_next-in-Err-TooDeep.ensures

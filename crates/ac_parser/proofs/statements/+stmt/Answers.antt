@@ -1,31 +1,35 @@
 use Rattle.std.proofs.Common.{◌≡◌, length, true, false, refl}
 use Rattle.std.proofs.lemmas.Result.{err_from_is_err_and}
 use Rattle.ac_lexer.specs.declared.token.Mark.TheVariants as m
-use Rattle.ac_parser.specs.Reads.{sign, has_other}
+use Rattle.reading_laws.specs.Letters.{sign, has_other}
 use Rattle.ac_parser.specs.declared.forms.Opening.TheVariants as f
-use Rattle.ac_parser.specs.ReadsStatements.{opening_of, entry_at, stmt_at}
-use Rattle.ac_parser.proofs.RowLoop.{goes_on, ends, is_over, is_done}
+use Rattle.ac_parser.specs.inner.ReadsStatements.{opening_of, entry_at, stmt_at}
+use Rattle.ac_expressions.proofs.RowLoop.{goes_on, ends, is_over, is_done}
 use Rattle.ac_parser.proofs.Turns.{as_statement}
 use Rattle.ac_parser.proofs.statements.+stmt.Goals as goal
 
 pub entries-returns-then-not-is_other : goal.entries-returns-then-not-is_other
 entries-returns-then-not-is_other t c =
     let h : has_other (sign m.CloseBrace) c.body.c.rest.now ≡ false = cc in
-    is_over (has_other (sign m.CloseBrace)) (entry_at (stmt_at c.args.room) c.args.room) c.body.body (length c.args.c.now.rest.now) c.body.counter c.body.c.rest.now _ c.body-test.true h c.body.invariant
+    is_over (has_other (sign m.CloseBrace)) (entry_at (stmt_at c.args.room) c.args.room) c.body.body
+    (length c.args.c.now.rest.now) c.body.counter c.body.c.rest.now _ c.body-test.true h c.body.invariant
 
 pub entries-returns-in_err-next : goal.entries-returns-in_err-next
 entries-returns-in_err-next t c =
     let h : has_other (sign m.CloseBrace) c.body.c.rest.now ≡ true = cc in
     let p = err_from_is_err_and c.from_residual.result c.from_residual.ensures.1 in
-    rw (p.1, p.2) (ends (has_other (sign m.CloseBrace)) (entry_at (stmt_at c.args.room) c.args.room) c.entry.new.c.rest.now c.in_err-next.field-0.0 c.body.body (length c.args.c.now.rest.now) c.body.counter c.body.c.rest.now _ c.body-test.true h c.in_err-next.ensures c.body.invariant)
+    rw (p.1, p.2) (ends (has_other (sign m.CloseBrace)) (entry_at (stmt_at c.args.room) c.args.room) c.entry.new.c.rest.now c.in_err-next.field-0.0 c.body.body
+    (length c.args.c.now.rest.now) c.body.counter c.body.c.rest.now _ c.body-test.true h c.in_err-next.ensures c.body.invariant)
 
 pub entries-body-preserved : goal.entries-body-preserved
 entries-body-preserved t c =
     let h : has_other (sign m.CloseBrace) c.body.c.rest.now ≡ true = cc in
-    rw c.in_ok-push.ensures.ok (goes_on (has_other (sign m.CloseBrace)) (entry_at (stmt_at c.args.room) c.args.room) c.body.body (length c.args.c.now.rest.now) c.body.counter c.body.c.rest.now c.in_ok-next.next c.entry.new.c.rest.now _ c.body-test.true h c.in_ok-next.ensures c.body.invariant)
+    rw c.in_ok-push.ensures.ok (goes_on (has_other (sign m.CloseBrace)) (entry_at (stmt_at c.args.room) c.args.room) c.body.body
+    (length c.args.c.now.rest.now) c.body.counter c.body.c.rest.now c.in_ok-next.next c.entry.new.c.rest.now _ c.body-test.true h c.in_ok-next.ensures c.body.invariant)
 
 pub entries-returns : goal.entries-returns
-entries-returns t c = is_done (has_other (sign m.CloseBrace)) (entry_at (stmt_at c.args.room) c.args.room) c.body.body (length c.args.c.now.rest.now) c.body.counter c.body.c.rest.now _ c.body-test.false c.body.invariant
+entries-returns t c = is_done (has_other (sign m.CloseBrace)) (entry_at (stmt_at c.args.room) c.args.room) c.body.body
+    (length c.args.c.now.rest.now) c.body.counter c.body.c.rest.now _ c.body-test.false c.body.invariant
 
 pub form-returns-in-Block : goal.form-returns-in-Block
 form-returns-in-Block t c =

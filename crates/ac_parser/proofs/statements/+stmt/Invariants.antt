@@ -1,6 +1,7 @@
 use Rattle.std.proofs.Common.{◌≡◌, ◌-◌, ◌+◌, ◌*◌, length}
-use Rattle.ac_parser.specs.Reads.{sign, has_other, many_at, with_front}
-use Rattle.ac_parser.specs.ReadsStatements.{entry_at, stmt_at}
+use Rattle.reading_laws.specs.Letters.{sign, has_other}
+use Rattle.reading_laws.specs.Readers.{many_at, with_front}
+use Rattle.ac_parser.specs.inner.ReadsStatements.{entry_at, stmt_at}
 use Rattle.ac_lexer.specs.declared.token.Mark.TheVariants as m
 use Rattle.ac_parser.proofs.statements.+stmt.Given as goal
 

@@ -1,7 +1,7 @@
 use Rattle.std.proofs.Common.{sym, subst}
 use Rattle.std.proofs.lemmas.Result.{err_from_is_err_and}
-use Rattle.ac_types.specs.Verdicts.{IsFault}
 use Rattle.ac_program.specs.Source.{IsAccepted}
+use Rattle.ac_program.proofs.Stopping.{check_stops}
 use Rattle.ac_program.proofs.front.accept.Goals as goal
 
 pub returns-in_err-program : goal.returns-in_err-program
@@ -12,8 +12,11 @@ returns-in_err-program c =
 pub check-requires : goal.check-requires
 check-requires c = (c.in_ok-program.ensures 0).1
 
-pub returns-in-Ok : goal.returns-in-Ok
-returns-in-Ok c = λ bound. subst (IsAccepted c.args.source.now) (sym c.in-Ok.ensures.tree) (record { spelled = (c.in_ok-program.ensures bound).0; clean = c.in-Ok.ensures.clean })
+pub returns-in_err-checked : goal.returns-in_err-checked
+returns-in_err-checked c =
+    let p = err_from_is_err_and c.from_residual-in_err-checked.result c.from_residual-in_err-checked.ensures.1 in
+    λ bound. rw (p.1, p.2) (check_stops c.args.source.now bound c.in_ok-program.program (c.in_ok-program.ensures bound).0 _ c.in_err-checked.ensures.broken)
 
-pub returns-in-Err-Broken : goal.returns-in-Err-Broken
-returns-in-Err-Broken c = λ bound. record { program = c.in_ok-program.program; spelled = (c.in_ok-program.ensures bound).0; least = subst (IsFault c.in_ok-program.program) c.in-Err-Broken.field-0-is c.in-Err-Broken.ensures.broken }
+pub returns : goal.returns
+returns c = λ bound. subst (IsAccepted c.args.source.now) (sym c.in_ok-checked.ensures.tree)
+    (record { spelled = (c.in_ok-program.ensures bound).0; clean = c.in_ok-checked.ensures.clean })

@@ -1,8 +1,7 @@
-use Rattle.std.proofs.Common.{length, Err, subst, arith}
+use Rattle.std.proofs.Common.{arith}
 use Rattle.std.proofs.lemmas.Result.{err_from_is_err_and}
-use Rattle.ac_parser.specs.declared.faults.SyntaxFault.{SyntaxFault}
-use Rattle.ac_parser.specs.Places.{Parses}
 use Rattle.ac_parser.proofs.Weights.{is_small}
+use Rattle.ac_program.proofs.Stopping.{syntax_stops}
 use Rattle.ac_program.proofs.front.program_of.Goals as goal
 
 pub returns-in_err-tokens : goal.returns-in_err-tokens
@@ -10,13 +9,14 @@ returns-in_err-tokens c =
     let p = err_from_is_err_and c.from_residual.result c.from_residual.ensures.1 in
     λ bound. rw (p.1, p.2) (c.in_err-tokens.ensures bound)
 
-pub returns-in-Ok : goal.returns-in-Ok
-returns-in-Ok c = λ bound.
-    let t = c.in_ok-tokens.ensures bound in
-    (record { tokens = c.in_ok-tokens.tokens; lexed = t.0; tree = c.in-Ok.ensures }, is_small c.in_ok-tokens.tokens c.in-Ok.program c.in-Ok.ensures (omega (arith, t.1, c.requires)))
+pub returns-in_err-program : goal.returns-in_err-program
+returns-in_err-program c =
+    let p = err_from_is_err_and c.from_residual-in_err-program.result c.from_residual-in_err-program.ensures.1 in
+    λ bound. rw (p.1, p.2) (syntax_stops c.args.source.now bound c.in_ok-tokens.tokens (c.in_ok-tokens.ensures bound).0 _ c.in_err-program.ensures)
 
-pub returns-in-Err-Unexpected : goal.returns-in-Err-Unexpected
-returns-in-Err-Unexpected c = λ bound. record { tokens = c.in_ok-tokens.tokens; lexed = (c.in_ok-tokens.ensures bound).0; unexpected = subst (λ (f : SyntaxFault). Parses (length c.args.source.now) c.in_ok-tokens.tokens (Err f)) c.in-Err-Unexpected.field-0-is c.in-Err-Unexpected.ensures }
-
-pub returns-in-Err-TooDeep : goal.returns-in-Err-TooDeep
-returns-in-Err-TooDeep c = λ bound. record { tokens = c.in_ok-tokens.tokens; lexed = (c.in_ok-tokens.ensures bound).0; deep = subst (λ (f : SyntaxFault). Parses (length c.args.source.now) c.in_ok-tokens.tokens (Err f)) c.in-Err-TooDeep.field-0-is c.in-Err-TooDeep.ensures }
+pub returns : goal.returns
+returns c = λ bound.
+    let t = c.in_ok-tokens.ensures bound in (
+      record { tokens = c.in_ok-tokens.tokens; lexed = t.0; tree = c.in_ok-program.ensures },
+      is_small c.in_ok-tokens.tokens c.in_ok-program.program c.in_ok-program.ensures (omega (arith, t.1, c.requires)),
+    )

@@ -1,15 +1,16 @@
 use Rattle.std.proofs.Common.{◌≡◌, ◌-◌, ◌≤◌, IsTrue, vec_len}
 use Rattle.std.specs.Io.KnownBytes.{Consumes}
-use Rattle.ac_outside.specs.Told.{CountsOne}
+use Rattle.ac_outside.specs.Told.{CountsOne, AddsName}
 use Rattle.ac_program.proofs.reading.read_text.Given as goal
 
 abbrev pub invariant-reading : goal.invariant-reading
 invariant-reading g l = record {
-  open_ : IsTrue (g.L.Library.is_open l.library);
-  same : g.L.Library.text_at l.library ≡ g.L.Library.text_at l.fn.library;
-  count : CountsOne (g.L.Library.opens l.fn.library) (g.L.Library.opens l.library);
-  well : g.L.Library.faults l.library ≡ g.L.Library.faults l.fn.library;
-  consumed : Consumes (g.L.Library.text_at l.fn.library l.name) (g.L.Library.left l.library) l.text.items;
+  open_ : IsTrue (g.L.Library.told l.library).is_open;
+  same : (g.L.Library.told l.library).text_at ≡ (g.L.Library.told l.fn.library).text_at;
+  once : CountsOne (g.L.Library.told l.fn.library).opens (g.L.Library.told l.library).opens;
+  named : AddsName (g.L.Library.told l.fn.library).names (g.L.Library.told l.library).names l.name;
+  well : (g.L.Library.told l.library).faults ≡ (g.L.Library.told l.fn.library).faults;
+  consumed : Consumes ((g.L.Library.told l.fn.library).text_at l.name) (g.L.Library.told l.library).left l.text.items;
   within : vec_len l.text ≤ 1048577;
 }
 

@@ -5,8 +5,8 @@ use Rattle.ac_program.proofs.writing.write_all.Given as goal
 abbrev pub invariant-writing : goal.invariant-writing
 invariant-writing g l = record {
   within : l.at ≤ length l.text;
-  taken : GrewBy (g.K.Sink.held l.initial.sink) (g.K.Sink.held l.sink) (take l.at l.text);
-  well : g.K.Sink.faults l.sink ≡ g.K.Sink.faults l.initial.sink;
+  taken : GrewBy (g.K.Sink.told l.initial.sink).held (g.K.Sink.told l.sink).held (take l.at l.text);
+  well : (g.K.Sink.told l.sink).faults ≡ (g.K.Sink.told l.initial.sink).faults;
 }
 
 abbrev pub decreases-writing : goal.decreases-writing

@@ -1,5 +1,5 @@
 use Rattle.std.proofs.Common.{◌≡◌, ◌++◌, drop}
-use Rattle.ac_types.specs.Verdicts.{file_paths}
+use Rattle.ac_names.specs.Numbered.{file_paths}
 use Rattle.ac_resolve.proofs.items.files_in.Given as goal
 
 abbrev pub invariant-loop-item : goal.invariant-loop-item

@@ -1,7 +1,7 @@
 use Rattle.std.proofs.Common.{◌≡◌, ◌++◌, ◌≤◌, drop}
 use Rattle.ac_tree.specs.Weight.{items_weight}
 use Rattle.ac_resolve.specs.Resolution.{functions_in, items_texts}
-use Rattle.ac_resolve.specs.Walks.{HasTexts}
+use Rattle.ac_resolve.specs.inner.Walks.{HasTexts}
 use Rattle.ac_resolve.proofs.items.functions_in.Given as goal
 
 abbrev pub invariant-loop-item : goal.invariant-loop-item

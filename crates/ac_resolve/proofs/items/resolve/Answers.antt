@@ -3,7 +3,9 @@ use Rattle.ac_resolve.proofs.items.resolve.Goals as goal
 
 pub returns : goal.returns
 returns c =
-    resolved_is c.args.checked.now c.tree.result.now c.as_slice-items.result.now c.in_ok-scopes.scopes c.new-2.result c.in_ok-cores.cores c.in_ok-functions.functions c.in_ok-channels.channels c.in_ok-files.files
-    c.in_ok-globals.globals.counts c.in_ok-globals.globals.starts c.new.result c.functions_in.new.walk
-    c.tree.ensures.tree c.as_slice-items.ensures c.in_ok-scopes.ensures c.new-2.ensures c.in_ok-cores.ensures c.in_ok-functions.ensures.functions c.in_ok-channels.ensures c.in_ok-files.ensures
-    c.in_ok-globals.ensures.counts c.in_ok-globals.ensures.starts c.in_ok-functions.ensures.walk
+    resolved_is c.args.checked.now c.tree.result.now c.as_slice-items.result.now c.in_ok-globals.globals.past c.in_ok-outermost.field-0.scopes c.new.result c.in_ok-cores.cores
+    c.in_ok-functions.functions c.in_ok-channels.channels
+    c.in_ok-files.files c.in_ok-globals.globals.starts c.in_ok-outermost.field-0.labels c.in_ok-outermost.field-0.slot c.functions_in.new.walk
+    c.tree.ensures.tree c.as_slice-items.ensures c.in_ok-globals.ensures.past c.in_ok-outermost.ensures.scopes c.new.ensures c.in_ok-cores.ensures c.in_ok-functions.ensures.functions
+    c.in_ok-channels.ensures c.in_ok-files.ensures
+    c.in_ok-globals.ensures.starts c.in_ok-functions.ensures.walk

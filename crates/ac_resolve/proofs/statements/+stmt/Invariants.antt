@@ -1,8 +1,8 @@
 use Rattle.std.proofs.Common.{◌≡◌, ◌++◌, ◌+◌, ◌*◌, ◌≤◌, drop}
 use Rattle.ac_tree.specs.Weight.{stmt_weight, some_weight, body_weight}
-use Rattle.ac_types.specs.Room.{HasSlots, HasDepths}
+use Rattle.ac_names.specs.Room.{HasSlots, HasDepths}
 use Rattle.ac_resolve.specs.Commands.{body_told}
-use Rattle.ac_resolve.specs.Walks.{HasTexts, after_body, body_does}
+use Rattle.ac_resolve.specs.inner.Walks.{HasTexts, after_body, body_does}
 use Rattle.ac_resolve.proofs.statements.+stmt.Given as goal
 
 abbrev pub decreases-resolve_stmt : goal.decreases-resolve_stmt

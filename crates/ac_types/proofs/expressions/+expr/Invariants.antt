@@ -1,5 +1,5 @@
 use Rattle.std.proofs.Common.{◌≡◌, drop}
-use Rattle.ac_types.specs.Expressions.{links_seen, args_seen}
+use Rattle.ac_types.specs.inner.Seen.{links_seen, args_seen}
 use Rattle.ac_types.proofs.expressions.+expr.Given as goal
 
 abbrev pub invariant-see_links-loop-link : goal.invariant-see_links-loop-link

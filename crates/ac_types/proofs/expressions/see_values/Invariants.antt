@@ -1,5 +1,5 @@
 use Rattle.std.proofs.Common.{◌≡◌, drop}
-use Rattle.ac_types.specs.Expressions.{values_seen}
+use Rattle.ac_types.specs.inner.Seen.{values_seen}
 use Rattle.ac_types.proofs.expressions.see_values.Given as goal
 
 abbrev pub invariant-loop-value : goal.invariant-loop-value

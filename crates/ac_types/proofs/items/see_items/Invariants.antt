@@ -1,8 +1,8 @@
 use Rattle.std.proofs.Common.{◌≡◌, ◌≤◌, drop}
 use Rattle.ac_tree.specs.Weight.{items_weight}
-use Rattle.ac_types.specs.Items.{no_past}
-use Rattle.ac_types.specs.Room.{HasCounts}
-use Rattle.ac_types.specs.Seeing.{after_items}
+use Rattle.ac_names.specs.Items.{no_past}
+use Rattle.ac_names.specs.Room.{HasCounts}
+use Rattle.ac_types.specs.inner.Items.{after_items}
 use Rattle.ac_types.proofs.items.see_items.Given as goal
 
 abbrev pub invariant-loop-item : goal.invariant-loop-item

@@ -1,5 +1,5 @@
 use Rattle.std.proofs.Common.{◌≡◌, ◌+◌, ◌<◌, length, drop}
-use Rattle.ac_types.specs.Seeing.{after_params}
+use Rattle.ac_types.specs.inner.Items.{after_params}
 use Rattle.ac_types.proofs.items.see_params.Given as goal
 
 abbrev pub invariant-loop-param : goal.invariant-loop-param

@@ -1,7 +1,7 @@
 use Rattle.std.proofs.Common.{◌≡◌, ◌+◌, ◌*◌, ◌≤◌, drop}
 use Rattle.ac_tree.specs.Weight.{stmt_weight, some_weight, body_weight}
-use Rattle.ac_types.specs.Room.{HasSlots, HasDepths}
-use Rattle.ac_types.specs.Statements.{after_body, body_seen}
+use Rattle.ac_names.specs.Room.{HasSlots, HasDepths}
+use Rattle.ac_types.specs.inner.Statements.{after_body, body_seen}
 use Rattle.ac_types.proofs.statements.+stmt.Given as goal
 
 abbrev pub decreases-see_stmt : goal.decreases-see_stmt

@@ -1,5 +1,5 @@
 use Rattle.std.proofs.Common.{◌≡◌, drop}
-use Rattle.stack_code.specs.Rises.{rising_from}
+use Rattle.stack_code.specs.inner.Rises.{rising_from}
 use Rattle.stack_code.proofs.lists.rise.Given as goal
 
 abbrev pub invariant-loop-start : goal.invariant-loop-start

@@ -7,7 +7,8 @@ use Rattle.stack_code.specs.Shapes.{taken}
 use Rattle.stack_code.proofs.operands.take_ints.Goals as goal
 
 -- one int less to take
-one_less : (count k : ℕ) (old new : List Kind) (b : Bool) → k < count → b ≡ true → ((wants : List Want) → taken (want.Int ∷ wants) old ≡ (if b then taken wants new else None)) → taken (replicate (count - k) want.Int) old ≡ taken (replicate (count - (k + 1)) want.Int) new
+one_less : (count k : ℕ) (old new : List Kind) (b : Bool) → k < count → b ≡ true → ((wants : List Want) → taken (want.Int ∷ wants) old ≡ (if b then taken wants new else None))
+    → taken (replicate (count - k) want.Int) old ≡ taken (replicate (count - (k + 1)) want.Int) new
 one_less count k old new b lt e h =
     let n : count - k ≡ suc (count - (k + 1)) = omega arith in
     ap (λ m. taken (replicate m want.Int) old) n ∙ h (replicate (count - (k + 1)) want.Int) ∙ ap (λ (x : Bool). if x then taken (replicate (count - (k + 1)) want.Int) new else None) e

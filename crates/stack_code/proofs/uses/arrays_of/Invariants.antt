@@ -1,5 +1,5 @@
 use Rattle.std.proofs.Common.{◌≡◌, ◌++◌, drop}
-use Rattle.stack_code.specs.Reserve.{arrays_from}
+use Rattle.stack_code.specs.inner.Reserve.{arrays_from}
 use Rattle.stack_code.proofs.uses.arrays_of.Given as goal
 
 abbrev pub invariant-loop-at : goal.invariant-loop-at

@@ -1,5 +1,5 @@
 use Rattle.std.proofs.Common.{below_more, arith}
-use Rattle.stack_code.specs.Reserve.{IsFree}
+use Rattle.stack_code.specs.inner.Reserve.{IsFree}
 use Rattle.stack_code.proofs.Apart.{one_use}
 use Rattle.stack_code.proofs.uses.has_one_use.Goals as goal
 

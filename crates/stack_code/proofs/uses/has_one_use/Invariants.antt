@@ -1,5 +1,5 @@
 use Rattle.std.proofs.Common.{ℕ, ◌<◌}
-use Rattle.stack_code.specs.Reserve.{IsFree}
+use Rattle.stack_code.specs.inner.Reserve.{IsFree}
 use Rattle.stack_code.proofs.uses.has_one_use.Given as goal
 
 abbrev pub invariant-loop-at : goal.invariant-loop-at

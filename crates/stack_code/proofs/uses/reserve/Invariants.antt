@@ -1,4 +1,4 @@
-use Rattle.stack_code.specs.Reserve.{Reserves}
+use Rattle.stack_code.specs.inner.Reserve.{Reserves}
 use Rattle.stack_code.proofs.uses.reserve.Given as goal
 
 abbrev pub invariant-loop-at : goal.invariant-loop-at

@@ -1,4 +1,4 @@
-use Rattle.stack_code.specs.Reserve.{SortedTo}
+use Rattle.stack_code.specs.inner.Reserve.{SortedTo}
 use Rattle.stack_code.proofs.uses.sort_rows.Given as goal
 
 abbrev pub invariant-loop-at : goal.invariant-loop-at

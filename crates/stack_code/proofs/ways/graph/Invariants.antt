@@ -1,7 +1,7 @@
 use Rattle.std.proofs.Common.{◌≡◌, ℕ, Some, length}
 use Rattle.std.specs.Prelude.{slice_get}
 use Rattle.way_order.specs.declared.graph.Ways.{Ways}
-use Rattle.stack_code.specs.Quiet.{IsWays}
+use Rattle.stack_code.specs.inner.Quiet.{IsWays}
 use Rattle.stack_code.proofs.ways.graph.Given as goal
 
 abbrev pub invariant-loop-at : goal.invariant-loop-at

@@ -1,5 +1,5 @@
 use Rattle.std.proofs.Common.{sym, subst}
-use Rattle.stack_code.specs.Quiet.{IsGraph}
+use Rattle.stack_code.specs.inner.Quiet.{IsGraph}
 use Rattle.stack_code.proofs.Steadiness.{graph_inside, ranked_by}
 use Rattle.stack_code.proofs.ways.quiet_ranks.Goals as goal
 
@@ -9,4 +9,5 @@ ranks-requires-clause-inside c =
 
 pub returns : goal.returns
 returns c =
-    ranked_by c.args.code.now c.args.table.now c.as_slice.result.now c.requires.tabled (subst (IsGraph c.args.code.now) (sym c.as_slice.ensures.value) c.in_ok-graph.ensures) c.ranks.result c.ranks.ensures.ranking c.ranks.ensures.cycle
+    ranked_by c.args.code.now c.args.table.now c.as_slice.result.now c.requires.tabled
+    (subst (IsGraph c.args.code.now) (sym c.as_slice.ensures.value) c.in_ok-graph.ensures) c.ranks.result c.ranks.ensures.ranking c.ranks.ensures.cycle

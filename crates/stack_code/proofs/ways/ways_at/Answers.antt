@@ -9,4 +9,5 @@ returns-in-Some-2 c =
     let long : length table ≡ length c.args.code.now.instrs = c.requires.tabled.long in
     let inside : c.args.at < length table = omega arith in
     let has = some_at table c.args.at (length table) c.index-table-at.result c.in_ok-shape.shape refl inside c.index-table-at.is (c.in-Some.is ∙ ap Some (sym c.in_ok-shape.ensures)) in
-    ways_led c.args.code.now table c.args.at c.in_ok-shape.shape c.in-Some-instr.instr c.requires.tabled has (sym c.in-Some-instr.ensures) c.in_ok-leads.field-0 c.in-Some-2.to c.ways_of.result c.in_ok-leads.ensures c.in-Some-2.is c.in_default-instr-2.not-Step c.ways_of.ensures
+    ways_led c.args.code.now table c.args.at c.in_ok-shape.shape c.in-Some-instr.instr c.requires.tabled has
+    (sym c.in-Some-instr.ensures) c.in_ok-leads.field-0 c.in-Some-2.to c.ways_of.result c.in_ok-leads.ensures c.in-Some-2.is c.in_default-instr-2.not-Step c.ways_of.ensures

@@ -1,5 +1,5 @@
 use Rattle.std.proofs.Common.{◌≡◌, ◌+◌, ◌≤◌, length, vec_len, sym, subst, arith}
-use Rattle.stack_code.specs.Work.{IsBegun}
+use Rattle.stack_code.specs.inner.Work.{IsBegun}
 use Rattle.stack_code.proofs.Rounds.{first_work, turned_true, entries_kept, found_is}
 use Rattle.stack_code.proofs.work.shapes.Goals as goal
 

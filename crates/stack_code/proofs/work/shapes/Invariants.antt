@@ -1,5 +1,5 @@
 use Rattle.std.proofs.Common.{◌≡◌, None, replicate, length, ◌-◌}
-use Rattle.stack_code.specs.Work.{IsBegun}
+use Rattle.stack_code.specs.inner.Work.{IsBegun}
 use Rattle.stack_code.proofs.work.shapes.Given as goal
 
 abbrev pub invariant-loop : goal.invariant-loop

@@ -11,7 +11,8 @@ loop-root-init c = record {
 
 pub loop-root-preserved : goal.loop-root-preserved
 loop-root-preserved c =
-    let r = rooted_true c.args.ways.now c.loop-root.search.marks.items c.search_from.new.self.marks.items c.search_from.new.self.path.items c.search_from.new.self.count c.loop-root.root c.in_ok-search_from.field-0 c.if-not-branch.false c.in_ok-search_from.ensures in
+    let r = rooted_true c.args.ways.now c.loop-root.search.marks.items c.search_from.new.self.marks.items c.search_from.new.self.path.items c.search_from.new.self.count c.loop-root.root
+    c.in_ok-search_from.field-0 c.if-not-branch.false c.in_ok-search_from.ensures in
     record {
       search = r.search;
       empty = r.empty;
@@ -19,4 +20,5 @@ loop-root-preserved c =
     }
 
 pub returns-clause-ranking : goal.returns-clause-ranking
-returns-clause-ranking c = is_ranking c.args.ways.now c.loop-root.search.marks.items c.loop-root.search.path.items c.loop-root.search.count c.loop-root.root c.loop-root.invariant.search c.loop-root.invariant.empty c.loop-root-test.false c.loop-root.invariant.none _ _ c.as_slice.ensures.value c.in_ok-ranks.ensures
+returns-clause-ranking c = is_ranking c.args.ways.now c.loop-root.search.marks.items c.loop-root.search.path.items c.loop-root.search.count c.loop-root.root c.loop-root.invariant.search
+    c.loop-root.invariant.empty c.loop-root-test.false c.loop-root.invariant.none _ _ c.as_slice.ensures.value c.in_ok-ranks.ensures

@@ -1,7 +1,7 @@
 use Rattle.std.proofs.Common.{◌≡◌, ℕ, ◌<◌, [], Some, replicate}
 use Rattle.std.specs.Prelude.{slice_get}
 use Rattle.way_order.specs.declared.search.Mark.TheVariants.{New}
-use Rattle.way_order.specs.Search.{IsSearch}
+use Rattle.way_order.specs.inner.Search.{IsSearch}
 use Rattle.way_order.proofs.ranking.ranks.Given as goal
 
 abbrev pub invariant-loop : goal.invariant-loop

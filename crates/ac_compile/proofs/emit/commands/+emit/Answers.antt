@@ -18,8 +18,10 @@ emit_body-loop-command-preserved t c =
     let new = c.emit_command.new.emitter in
     let x = c.command-item.result in
     record {
-      code = turn body_code command_code (λ x xs. refl) refl command_sized c.args.body.now c.loop-command.command-index x old c.loop-command-test.true c.command-item.is new _ c.in_ok-emit_command.ensures c.loop-command.invariant.code;
-      room = rest_room body_code command_code (λ x xs. refl) refl command_sized c.args.body.now c.loop-command.command-index x old c.loop-command-test.true c.command-item.is new c.in_ok-emit_command.ensures c.loop-command.invariant.room;
+      code = turn body_code command_code (λ x xs. refl) refl command_sized c.args.body.now c.loop-command.command-index x old c.loop-command-test.true c.command-item.is new _
+          c.in_ok-emit_command.ensures c.loop-command.invariant.code;
+      room = rest_room body_code command_code (λ x xs. refl) refl command_sized c.args.body.now c.loop-command.command-index x old c.loop-command-test.true c.command-item.is new
+          c.in_ok-emit_command.ensures c.loop-command.invariant.room;
       rest =
           let m = sizes body_code command_code (λ x xs. refl) refl command_sized c.args.body.now c.loop-command.command-index x old c.loop-command-test.true c.command-item.is in
           omega (arith, m, c.loop-command.invariant.rest);
@@ -27,11 +29,13 @@ emit_body-loop-command-preserved t c =
 
 pub emit_body-emit_command-requires : goal.emit_body-emit_command-requires
 emit_body-emit_command-requires t c =
-    let m = sizes body_code command_code (λ x xs. refl) refl command_sized c.args.body.now c.loop-command.command-index c.command-item.result c.loop-command.emitter c.loop-command-test.true c.command-item.is in
+    let m = sizes body_code command_code (λ x xs. refl) refl command_sized c.args.body.now c.loop-command.command-index c.command-item.result c.loop-command.emitter c.loop-command-test.true
+    c.command-item.is in
     (omega (arith, m, c.decreases, c.loop-command.invariant.rest), omega (arith, m, c.loop-command.invariant.room))
 
 pub emit_body-returns : goal.emit_body-returns
-emit_body-returns t c = done body_code command_code (λ x xs. refl) refl command_sized c.args.body.now c.loop-command.command-index c.loop-command.emitter _ c.loop-command-test.false c.loop-command.invariant.code
+emit_body-returns t c = done body_code command_code (λ x xs. refl) refl command_sized c.args.body.now c.loop-command.command-index c.loop-command.emitter _ c.loop-command-test.false
+    c.loop-command.invariant.code
 
 -- ---- statements
 
@@ -65,7 +69,8 @@ emit_then-set-requires t c =
 
 pub emit_then-returns : goal.emit_then-returns
 emit_then-returns t c =
-    then_emitted c.args.test.now (body_code c.args.body.now) (body_sized c.args.body.now) c.args.emitter.now c.emit_test.new.emitter c.in_ok-jump.jump c.in_ok-jump.ensures.code c.in_ok-jump.ensures.jump c.emit_body.new.emitter
+    then_emitted c.args.test.now (body_code c.args.body.now) (body_sized c.args.body.now) c.args.emitter.now c.emit_test.new.emitter c.in_ok-jump.jump c.in_ok-jump.ensures.code
+    c.in_ok-jump.ensures.jump c.emit_body.new.emitter
     c.set.new.self c.len-to.result c.in_ok-emit_body.ensures c.len-to.ensures c.set.ensures
 
 -- ---- `if` with `else`
@@ -122,20 +127,24 @@ emit_else-set-requires-2 t c =
 
 pub emit_else-returns : goal.emit_else-returns
 emit_else-returns t c =
-    else_emitted c.args.test.now (body_code c.args.body.now) (body_sized c.args.body.now) c.args.emitter.now c.emit_test.new.emitter c.in_ok-jump.jump c.in_ok-jump.ensures.code c.in_ok-jump.ensures.jump
-    (body_code c.args.other.now) (body_sized c.args.other.now) c.emit_body.new.emitter c.jump.new.self c.set.new.self c.emit_body-2.new.emitter c.set-2.new.self c.in_ok-end.end c.len-to.result c.len-past.result
+    else_emitted c.args.test.now (body_code c.args.body.now) (body_sized c.args.body.now) c.args.emitter.now c.emit_test.new.emitter c.in_ok-jump.jump c.in_ok-jump.ensures.code
+    c.in_ok-jump.ensures.jump
+    (body_code c.args.other.now) (body_sized c.args.other.now) c.emit_body.new.emitter c.jump.new.self c.set.new.self c.emit_body-2.new.emitter c.set-2.new.self c.in_ok-end.end c.len-to.result
+    c.len-past.result
     c.in_ok-emit_body.ensures c.in_ok-end.ensures.at c.in_ok-end.ensures.code c.len-to.ensures c.set.ensures c.in_ok-emit_body-2.ensures c.len-past.ensures c.set-2.ensures
 
 -- ---- `do` and `async`
 
 pub emit_do-emit_body-requires : goal.emit_do-emit_body-requires
 emit_do-emit_body-requires t c =
-    let n = grown_to (one i.Step ⨾ one (i.Enter c.args.slot)) c.args.emitter.now c.emit_stepped.new.emitter (both_sized (one i.Step) (one (i.Enter c.args.slot)) (one_sized i.Step) (one_sized (i.Enter c.args.slot))) c.in_ok-emit_stepped.ensures in
+    let n = grown_to (one i.Step ⨾ one (i.Enter c.args.slot)) c.args.emitter.now c.emit_stepped.new.emitter
+    (both_sized (one i.Step) (one (i.Enter c.args.slot)) (one_sized i.Step) (one_sized (i.Enter c.args.slot))) c.in_ok-emit_stepped.ensures in
     (omega (arith, c.decreases), omega (arith, n, c.requires))
 
 pub emit_do-returns : goal.emit_do-returns
 emit_do-returns t c =
-    do_emitted (body_code c.args.body.now) (body_sized c.args.body.now) c.args.slot c.args.emitter.now c.emit_stepped.new.emitter c.emit_body.new.emitter c.emit_stepped-2.new.emitter c.in_ok-emit_stepped.ensures c.in_ok-emit_body.ensures
+    do_emitted (body_code c.args.body.now) (body_sized c.args.body.now) c.args.slot c.args.emitter.now c.emit_stepped.new.emitter c.emit_body.new.emitter c.emit_stepped-2.new.emitter
+    c.in_ok-emit_stepped.ensures c.in_ok-emit_body.ensures
     c.in_ok-emit_stepped-2.ensures
 
 pub emit_async-jump-requires : goal.emit_async-jump-requires
@@ -166,7 +175,8 @@ emit_async-set-requires t c =
 
 pub emit_async-returns : goal.emit_async-returns
 emit_async-returns t c =
-    async_emitted (body_code c.args.body.now) (body_sized c.args.body.now) c.args.slots c.args.emitter.now c.put.new.self c.jump.new.self c.emit_body.new.emitter c.put-2.new.self c.set.new.self c.in_ok-jump.jump c.len-to.result
+    async_emitted (body_code c.args.body.now) (body_sized c.args.body.now) c.args.slots c.args.emitter.now c.put.new.self c.jump.new.self c.emit_body.new.emitter c.put-2.new.self c.set.new.self
+    c.in_ok-jump.jump c.len-to.result
     c.in_ok-put.ensures c.in_ok-jump.ensures.at c.in_ok-jump.ensures.code c.in_ok-emit_body.ensures c.in_ok-put-2.ensures c.len-to.ensures c.set.ensures
 
 -- ---- the body of a loop
@@ -178,19 +188,23 @@ emit_inside-emit_body-requires t c =
 
 pub emit_inside-returns-clause-code : goal.emit_inside-returns-clause-code
 emit_inside-returns-clause-code t c =
-    inside_emitted (body_code c.args.body.now) c.new.result.pasts.items c.new.result.turns.items c.args.emitter.now c.exchange-outer.new.self c.emit_body.new.emitter c.new.ensures.pasts c.new.ensures.turns c.exchange-outer.ensures.after
-    c.in_ok-emit_body.ensures c.exchange-outer.result.pasts.items c.exchange-outer.result.turns.items c.exchange.new.self c.exchange-outer.ensures.pasts c.exchange-outer.ensures.turns c.exchange.ensures.after
+    inside_emitted (body_code c.args.body.now) c.new.result.pasts.items c.new.result.turns.items c.args.emitter.now c.exchange-outer.new.self c.emit_body.new.emitter c.new.ensures.pasts
+    c.new.ensures.turns c.exchange-outer.ensures.after
+    c.in_ok-emit_body.ensures c.exchange-outer.result.pasts.items c.exchange-outer.result.turns.items c.exchange.new.self c.exchange-outer.ensures.pasts c.exchange-outer.ensures.turns
+    c.exchange.ensures.after
 
 pub emit_inside-returns-clause-pasts : goal.emit_inside-returns-clause-pasts
 emit_inside-returns-clause-pasts t c =
     c.exchange.ensures.pasts
-    ∙ inside_pasts (body_code c.args.body.now) c.new.result.pasts.items c.new.result.turns.items c.args.emitter.now c.exchange-outer.new.self c.emit_body.new.emitter c.new.ensures.pasts c.new.ensures.turns c.exchange-outer.ensures.after
+    ∙ inside_pasts (body_code c.args.body.now) c.new.result.pasts.items c.new.result.turns.items c.args.emitter.now c.exchange-outer.new.self c.emit_body.new.emitter c.new.ensures.pasts
+    c.new.ensures.turns c.exchange-outer.ensures.after
     c.in_ok-emit_body.ensures
 
 pub emit_inside-returns-clause-turns : goal.emit_inside-returns-clause-turns
 emit_inside-returns-clause-turns t c =
     c.exchange.ensures.turns
-    ∙ inside_turns (body_code c.args.body.now) c.new.result.pasts.items c.new.result.turns.items c.args.emitter.now c.exchange-outer.new.self c.emit_body.new.emitter c.new.ensures.pasts c.new.ensures.turns c.exchange-outer.ensures.after
+    ∙ inside_turns (body_code c.args.body.now) c.new.result.pasts.items c.new.result.turns.items c.args.emitter.now c.exchange-outer.new.self c.emit_body.new.emitter c.new.ensures.pasts
+    c.new.ensures.turns c.exchange-outer.ensures.after
     c.in_ok-emit_body.ensures
 
 -- ---- `while`
@@ -235,9 +249,12 @@ pub emit_while-returns : goal.emit_while-returns
 emit_while-returns t c =
     let d2 = c.emit_inside.new.emitter in
     let test = c.args.test.now in
-    loop_emitted at_loop (body_code c.args.body.now) no_code (body_filled c.args.body.now) no_sized c.args.emitter.now (Some test) c.emit_test.new.emitter d2 d2 c.put.new.self c.set.new.self c.fill_outs.new.self (Some c.in_ok-jump.jump)
-    c.len-place.result c.len-past.result c.len-place.result c.in_ok-outs.outs.pasts.items c.in_ok-outs.outs.turns.items (tested (Some test) test c.args.emitter.now c.emit_test.new.emitter refl c.in_ok-jump.ensures.code)
-    (ap (λ (n : ℕ). Some n) c.in_ok-jump.ensures.jump) c.in_ok-outs.ensures.code c.in_ok-outs.ensures.pasts c.in_ok-outs.ensures.turns (sym (none_is d2)) c.in_ok-put.ensures c.len-place.ensures c.len-past.ensures c.set.ensures refl
+    loop_emitted at_loop (body_code c.args.body.now) no_code (body_filled c.args.body.now) no_sized c.args.emitter.now
+    (Some test) c.emit_test.new.emitter d2 d2 c.put.new.self c.set.new.self c.fill_outs.new.self (Some c.in_ok-jump.jump)
+    c.len-place.result c.len-past.result c.len-place.result c.in_ok-outs.outs.pasts.items c.in_ok-outs.outs.turns.items
+    (tested (Some test) test c.args.emitter.now c.emit_test.new.emitter refl c.in_ok-jump.ensures.code)
+    (ap (λ (n : ℕ). Some n) c.in_ok-jump.ensures.jump) c.in_ok-outs.ensures.code c.in_ok-outs.ensures.pasts c.in_ok-outs.ensures.turns
+    (sym (none_is d2)) c.in_ok-put.ensures c.len-place.ensures c.len-past.ensures c.set.ensures refl
     c.fill_outs.ensures
 
 -- ---- `for`
@@ -298,7 +315,10 @@ emit_for-fill_outs-requires-clause-turns t c =
 
 pub emit_for-returns : goal.emit_for-returns
 emit_for-returns t c =
-    loop_emitted at_next (body_code c.args.body.now) (body_code c.args.next.now) (body_filled c.args.body.now) (body_sized c.args.next.now) c.args.emitter.now c.args.test.now c.emit_open_test.new.emitter c.emit_inside.new.emitter
-    c.emit_body.new.emitter c.put.new.self c.set_test.new.emitter c.fill_outs.new.self c.in_ok-jump.jump c.len-place.result c.len-past.result c.len-turn.result c.in_ok-outs.outs.pasts.items c.in_ok-outs.outs.turns.items
-    c.in_ok-jump.ensures.code c.in_ok-jump.ensures.jump c.in_ok-outs.ensures.code c.in_ok-outs.ensures.pasts c.in_ok-outs.ensures.turns c.in_ok-emit_body.ensures c.in_ok-put.ensures c.len-place.ensures c.len-past.ensures
+    loop_emitted at_next (body_code c.args.body.now) (body_code c.args.next.now) (body_filled c.args.body.now)
+    (body_sized c.args.next.now) c.args.emitter.now c.args.test.now c.emit_open_test.new.emitter c.emit_inside.new.emitter
+    c.emit_body.new.emitter c.put.new.self c.set_test.new.emitter c.fill_outs.new.self c.in_ok-jump.jump c.len-place.result c.len-past.result c.len-turn.result c.in_ok-outs.outs.pasts.items
+    c.in_ok-outs.outs.turns.items
+    c.in_ok-jump.ensures.code c.in_ok-jump.ensures.jump c.in_ok-outs.ensures.code c.in_ok-outs.ensures.pasts c.in_ok-outs.ensures.turns c.in_ok-emit_body.ensures c.in_ok-put.ensures
+    c.len-place.ensures c.len-past.ensures
     c.set_test.ensures c.len-turn.ensures c.fill_outs.ensures

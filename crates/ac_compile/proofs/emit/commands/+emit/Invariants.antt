@@ -1,6 +1,6 @@
 use Rattle.std.proofs.Common.{◌≡◌, ◌+◌, ◌*◌, ◌≤◌, drop}
 use Rattle.ac_translation.specs.Translation.{command_code, body_code}
-use Rattle.ac_compile.specs.Emission.{with_code, HasRoom}
+use Rattle.ac_compile.specs.inner.Emission.{with_code, HasRoom}
 use Rattle.ac_compile.proofs.CommandForms.{other_code}
 use Rattle.ac_compile.proofs.emit.commands.+emit.Given as goal
 

@@ -3,7 +3,7 @@ use Rattle.ac_commands.specs.declared.effect.Argument.{Argument}
 use Rattle.stack_code.specs.declared.instr.Instr.TheVariants as i
 use Rattle.ac_translation.specs.Pieces.{all, one}
 use Rattle.ac_translation.specs.Translation.{argument_code}
-use Rattle.ac_compile.specs.Emission.{with_code}
+use Rattle.ac_compile.specs.inner.Emission.{with_code}
 use Rattle.ac_translation.proofs.Sized.{arguments_sized}
 use Rattle.ac_compile.proofs.Counts.{few_arguments}
 use Rattle.ac_compile.proofs.Emissions.{two_are}

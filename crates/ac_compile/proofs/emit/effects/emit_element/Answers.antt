@@ -1,7 +1,7 @@
 use Rattle.std.proofs.Common.{ap, ◌∙◌, arith}
 use Rattle.ac_translation.specs.Pieces.{one}
 use Rattle.ac_translation.specs.Translation.{array_code, value_code}
-use Rattle.ac_compile.specs.Emission.{with_code}
+use Rattle.ac_compile.specs.inner.Emission.{with_code}
 use Rattle.ac_translation.proofs.Sized.{one_sized, value_sized}
 use Rattle.ac_compile.proofs.Emissions.{grown_to, three_are}
 use Rattle.ac_compile.proofs.emit.effects.emit_element.Goals as goal
@@ -14,5 +14,6 @@ emit_value-requires c =
 pub returns : goal.returns
 returns c =
     let e = c.args.emitter.now in
-    three_are (one (array_code c.args.array)) (value_code c.args.index.now) (one c.args.instr) (one_sized (array_code c.args.array)) (value_sized c.args.index.now) e c.put.new.self c.emit_value.new.emitter c.put-2.new.self
+    three_are (one (array_code c.args.array)) (value_code c.args.index.now) (one c.args.instr) (one_sized (array_code c.args.array))
+    (value_sized c.args.index.now) e c.put.new.self c.emit_value.new.emitter c.put-2.new.self
     (c.in_ok-put.ensures ∙ ap (λ k. with_code (one k) e) c.array_code.ensures) c.in_ok-emit_value.ensures c.in_ok-put-2.ensures

@@ -7,4 +7,5 @@ use Rattle.ac_compile.proofs.emit.effects.emit_recv.Goals as goal
 
 pub returns : goal.returns
 returns c =
-    two_are (place_code c.args.target.now) (one (i.Recv c.args.channel)) (place_sized c.args.target.now) c.args.emitter.now c.emit_place.new.emitter c.put.new.self c.in_ok-emit_place.ensures c.in_ok-put.ensures
+    two_are (place_code c.args.target.now) (one (i.Recv c.args.channel)) (place_sized c.args.target.now) c.args.emitter.now c.emit_place.new.emitter c.put.new.self c.in_ok-emit_place.ensures
+    c.in_ok-put.ensures

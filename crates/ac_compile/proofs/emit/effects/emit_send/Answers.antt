@@ -7,4 +7,5 @@ use Rattle.ac_compile.proofs.emit.effects.emit_send.Goals as goal
 
 pub returns : goal.returns
 returns c =
-    two_are (value_code c.args.value.now) (one (i.Send c.args.channel)) (value_sized c.args.value.now) c.args.emitter.now c.emit_value.new.emitter c.put.new.self c.in_ok-emit_value.ensures c.in_ok-put.ensures
+    two_are (value_code c.args.value.now) (one (i.Send c.args.channel)) (value_sized c.args.value.now) c.args.emitter.now c.emit_value.new.emitter c.put.new.self c.in_ok-emit_value.ensures
+    c.in_ok-put.ensures

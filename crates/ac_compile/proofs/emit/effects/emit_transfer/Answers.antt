@@ -1,7 +1,7 @@
 use Rattle.std.proofs.Common.{ap, ◌∙◌, arith}
 use Rattle.ac_translation.specs.Pieces.{one}
 use Rattle.ac_translation.specs.Translation.{array_code, value_code}
-use Rattle.ac_compile.specs.Emission.{with_code}
+use Rattle.ac_compile.specs.inner.Emission.{with_code}
 use Rattle.ac_translation.proofs.Sized.{one_sized, value_sized}
 use Rattle.ac_compile.proofs.Emissions.{grown_to, four_are}
 use Rattle.ac_compile.proofs.emit.effects.emit_transfer.Goals as goal
@@ -17,5 +17,6 @@ returns c =
     let len = c.args.len.now in
     let array = array_code c.args.array in
     let d = c.emit_value-2.new.emitter in
-    four_are (value_code from) (value_code len) (one array) (one c.args.instr) (value_sized from) (value_sized len) (one_sized array) c.args.emitter.now c.emit_value.new.emitter d c.put.new.self c.put-2.new.self
+    four_are (value_code from) (value_code len) (one array) (one c.args.instr) (value_sized from) (value_sized len)
+    (one_sized array) c.args.emitter.now c.emit_value.new.emitter d c.put.new.self c.put-2.new.self
     c.in_ok-emit_value.ensures c.in_ok-emit_value-2.ensures (c.in_ok-put.ensures ∙ ap (λ k. with_code (one k) d) c.array_code.ensures) c.in_ok-put-2.ensures

@@ -3,7 +3,7 @@ use Rattle.ac_commands.specs.declared.value.Value.{Value}
 use Rattle.stack_code.specs.declared.instr.Instr.TheVariants as i
 use Rattle.ac_translation.specs.Pieces.{one}
 use Rattle.ac_translation.specs.Translation.{values_code}
-use Rattle.ac_compile.specs.Emission.{with_code}
+use Rattle.ac_compile.specs.inner.Emission.{with_code}
 use Rattle.ac_translation.proofs.Sized.{one_sized, values_sized}
 use Rattle.ac_compile.proofs.Counts.{few_values}
 use Rattle.ac_compile.proofs.Emissions.{grown_to, three_are}
@@ -24,4 +24,5 @@ returns c =
     let d1 = c.put.new.self in
     let d2 = c.emit_values.new.emitter in
     three_are (one i.Step) (values_code xs) (one (i.Print c.args.text (length xs))) (one_sized i.Step) (values_sized xs) c.args.emitter.now d1 d2 c.put-2.new.self c.in_ok-put.ensures
-    (c.in_ok-emit_values.ensures ∙ ap (λ (ys : List Value). with_code (values_code ys) d1) c.as_slice.ensures) (c.in_ok-put-2.ensures ∙ ap (λ n. with_code (one (i.Print c.args.text n)) d2) c.len-count.ensures)
+    (c.in_ok-emit_values.ensures ∙ ap (λ (ys : List Value). with_code (values_code ys) d1) c.as_slice.ensures)
+    (c.in_ok-put-2.ensures ∙ ap (λ n. with_code (one (i.Print c.args.text n)) d2) c.len-count.ensures)

@@ -14,4 +14,5 @@ emit_effect-requires c =
 pub returns : goal.returns
 returns c =
     let x = c.args.effect.now in
-    three_are (one i.Step) (effect_code x) (one i.Drop) (one_sized i.Step) (effect_sized x) c.args.emitter.now c.put.new.self c.emit_effect.new.emitter c.put-2.new.self c.in_ok-put.ensures c.in_ok-emit_effect.ensures c.in_ok-put-2.ensures
+    three_are (one i.Step) (effect_code x) (one i.Drop) (one_sized i.Step)
+    (effect_sized x) c.args.emitter.now c.put.new.self c.emit_effect.new.emitter c.put-2.new.self c.in_ok-put.ensures c.in_ok-emit_effect.ensures c.in_ok-put-2.ensures

@@ -21,5 +21,6 @@ emit_target-requires c =
 pub returns : goal.returns
 returns c =
     let x = c.args.effect.now in
-    three_are (one i.Step) (effect_code x) (target_code c.args.target.now) (one_sized i.Step) (effect_sized x) c.args.emitter.now c.put.new.self c.emit_effect.new.emitter c.emit_target.new.emitter c.in_ok-put.ensures
+    three_are (one i.Step) (effect_code x) (target_code c.args.target.now) (one_sized i.Step)
+    (effect_sized x) c.args.emitter.now c.put.new.self c.emit_effect.new.emitter c.emit_target.new.emitter c.in_ok-put.ensures
     c.in_ok-emit_effect.ensures c.in_ok-emit_target.ensures

@@ -2,7 +2,7 @@ use Rattle.std.proofs.Common.{length, ap, ◌∙◌, arith}
 use Rattle.stack_code.specs.declared.instr.Instr.TheVariants as i
 use Rattle.ac_translation.specs.Pieces.{one}
 use Rattle.ac_translation.specs.Translation.{value_code}
-use Rattle.ac_compile.specs.Emission.{Emitted, with_code}
+use Rattle.ac_compile.specs.inner.Emission.{Emitted, with_code}
 use Rattle.ac_translation.proofs.Sized.{one_sized, value_sized}
 use Rattle.ac_compile.proofs.Emissions.{grown_to, two_are}
 use Rattle.ac_compile.proofs.emit.steps.emit_test.Goals as goal

@@ -6,7 +6,8 @@ use Rattle.ac_translation.specs.Translation.{value_code}
 use Rattle.ac_translation.specs.Pieces.{one}
 use Rattle.ac_translation.proofs.Sized.{one_sized, value_sized}
 use Rattle.ac_compile.proofs.Emissions.{done, turn, rest_room, grown_to}
-use Rattle.ac_compile.proofs.ValueForms.{element_room, element_emitted, unary_emitted, chain_room, chain_emitted, links_code, one_link, first_link, one_link_sized, joined_emitted, part_far, part_emitted, lazily_far, lazily_emitted}
+use Rattle.ac_compile.proofs.ValueForms.{element_room, element_emitted, unary_emitted, chain_room, chain_emitted, links_code, one_link}
+use Rattle.ac_compile.proofs.ValueForms.{first_link, one_link_sized, joined_emitted, part_far, part_emitted, lazily_far, lazily_emitted}
 use Rattle.ac_compile.proofs.emit.values.+value.Goals as goal
 
 -- ---- values
@@ -14,29 +15,34 @@ use Rattle.ac_compile.proofs.emit.values.+value.Goals as goal
 pub emit_value-emit_value-requires : goal.emit_value-emit_value-requires
 emit_value-emit_value-requires t c = (
   search (rules, the_lemmas),
-  element_room c.args.value.now c.get.result.now c.in-Element.index c.in-Element.array c.args.emitter.now c.in-Element.is c.get.ensures c.array_code.result c.put-in-Element.new.self c.in_ok-put-in-Element.ensures c.requires,
+  element_room c.args.value.now c.get.result.now c.in-Element.index c.in-Element.array c.args.emitter.now c.in-Element.is c.get.ensures c.array_code.result c.put-in-Element.new.self
+      c.in_ok-put-in-Element.ensures c.requires,
 )
 
 pub emit_value-emit_links-requires : goal.emit_value-emit_links-requires
 emit_value-emit_links-requires t c = (
   search (rules, the_lemmas),
-  chain_room c.args.value.now c.get-in-Chain.result.now c.in-Chain.first c.as_slice.result.now c.in-Chain.rest c.args.emitter.now c.in-Chain.is c.get-in-Chain.ensures c.as_slice.ensures c.emit_value-in-Chain.new.emitter
+  chain_room c.args.value.now c.get-in-Chain.result.now c.in-Chain.first c.as_slice.result.now c.in-Chain.rest c.args.emitter.now c.in-Chain.is c.get-in-Chain.ensures c.as_slice.ensures
+      c.emit_value-in-Chain.new.emitter
       c.in_ok-emit_value-in-Chain.ensures c.requires,
 )
 
 pub emit_value-returns-in_ok-put-in-Element-2 : goal.emit_value-returns-in_ok-put-in-Element-2
 emit_value-returns-in_ok-put-in-Element-2 t c =
-    element_emitted c.args.value.now c.get.result.now c.in-Element.index c.in-Element.array c.args.emitter.now c.in-Element.is c.get.ensures c.array_code.result c.put-in-Element.new.self c.emit_value.new.emitter
+    element_emitted c.args.value.now c.get.result.now c.in-Element.index c.in-Element.array c.args.emitter.now c.in-Element.is c.get.ensures c.array_code.result c.put-in-Element.new.self
+    c.emit_value.new.emitter
     c.put-in-Element-2.new.self c.array_code.ensures c.in_ok-put-in-Element.ensures c.in_ok-emit_value-in-Element.ensures c.in_ok-put-in-Element-2.ensures
 
 pub emit_value-returns-in_ok-put-in-Unary : goal.emit_value-returns-in_ok-put-in-Unary
 emit_value-returns-in_ok-put-in-Unary t c =
-    unary_emitted c.args.value.now c.get-in-Unary.result.now c.in-Unary.operand c.in-Unary.op c.unary_code.result c.args.emitter.now c.emit_value-in-Unary.new.emitter c.put-in-Unary.new.self c.in-Unary.is c.get-in-Unary.ensures
+    unary_emitted c.args.value.now c.get-in-Unary.result.now c.in-Unary.operand c.in-Unary.op c.unary_code.result c.args.emitter.now c.emit_value-in-Unary.new.emitter c.put-in-Unary.new.self
+    c.in-Unary.is c.get-in-Unary.ensures
     c.unary_code.ensures c.in_ok-emit_value-in-Unary.ensures c.in_ok-put-in-Unary.ensures
 
 pub emit_value-returns-in_ok-emit_links-in-Chain : goal.emit_value-returns-in_ok-emit_links-in-Chain
 emit_value-returns-in_ok-emit_links-in-Chain t c =
-    chain_emitted c.args.value.now c.get-in-Chain.result.now c.in-Chain.first c.as_slice.result.now c.in-Chain.rest c.args.emitter.now c.in-Chain.is c.get-in-Chain.ensures c.as_slice.ensures c.emit_value-in-Chain.new.emitter
+    chain_emitted c.args.value.now c.get-in-Chain.result.now c.in-Chain.first c.as_slice.result.now c.in-Chain.rest c.args.emitter.now c.in-Chain.is c.get-in-Chain.ensures c.as_slice.ensures
+    c.emit_value-in-Chain.new.emitter
     c.emit_links.new.emitter c.in_ok-emit_value-in-Chain.ensures c.in_ok-emit_links-in-Chain.ensures
 
 -- ---- links
@@ -48,8 +54,10 @@ emit_links-loop-link-preserved t c =
     let links = c.args.links.now in
     let l = c.link-item.result in
     record {
-      code = turn links_code one_link first_link refl one_link_sized links c.loop-link.link-index l old c.loop-link-test.true c.link-item.is new _ c.in_ok-emit_joined.ensures c.loop-link.invariant.code;
-      room = rest_room links_code one_link first_link refl one_link_sized links c.loop-link.link-index l old c.loop-link-test.true c.link-item.is new c.in_ok-emit_joined.ensures c.loop-link.invariant.room;
+      code = turn links_code one_link first_link refl one_link_sized links c.loop-link.link-index l old c.loop-link-test.true c.link-item.is new _ c.in_ok-emit_joined.ensures
+          c.loop-link.invariant.code;
+      room = rest_room links_code one_link first_link refl one_link_sized links c.loop-link.link-index l old c.loop-link-test.true c.link-item.is new c.in_ok-emit_joined.ensures
+          c.loop-link.invariant.room;
     }
 
 pub emit_links-returns : goal.emit_links-returns
@@ -74,7 +82,8 @@ emit_right-overflow_add-to t c =
 
 pub emit_right-returns : goal.emit_right-returns
 emit_right-returns t c =
-    part_emitted (value_code c.args.right.now) (value_sized c.args.right.now) c.args.emitter.now c.emit_value.new.emitter c.put.new.self c.put-2.new.self c.len-to.result (c.len-to.result + 2) c.in_ok-emit_value.ensures
+    part_emitted (value_code c.args.right.now) (value_sized c.args.right.now) c.args.emitter.now c.emit_value.new.emitter c.put.new.self c.put-2.new.self c.len-to.result
+    (c.len-to.result + 2) c.in_ok-emit_value.ensures
     c.in_ok-put.ensures c.len-to.ensures refl c.in_ok-put-2.ensures
 
 -- ---- `||`
@@ -88,17 +97,20 @@ emit_or-emit_right-requires t c = (
 
 pub emit_or-len-to-requires : goal.emit_or-len-to-requires
 emit_or-len-to-requires t c =
-    let n = lazily_far (i.Jnz 0) (value_code c.args.right.now) (value_sized c.args.right.now) c.args.emitter.now c.jump.new.self c.emit_right.new.emitter c.in_ok-jump.ensures.code c.in_ok-emit_right.ensures in
+    let n = lazily_far (i.Jnz 0) (value_code c.args.right.now) (value_sized c.args.right.now) c.args.emitter.now c.jump.new.self c.emit_right.new.emitter c.in_ok-jump.ensures.code
+    c.in_ok-emit_right.ensures in
     omega (arith, n, c.requires)
 
 pub emit_or-set-requires : goal.emit_or-set-requires
 emit_or-set-requires t c =
-    let n = lazily_far (i.Jnz 0) (value_code c.args.right.now) (value_sized c.args.right.now) c.args.emitter.now c.jump.new.self c.emit_right.new.emitter c.in_ok-jump.ensures.code c.in_ok-emit_right.ensures in
+    let n = lazily_far (i.Jnz 0) (value_code c.args.right.now) (value_sized c.args.right.now) c.args.emitter.now c.jump.new.self c.emit_right.new.emitter c.in_ok-jump.ensures.code
+    c.in_ok-emit_right.ensures in
     omega (arith, n, c.in_ok-jump.ensures.at)
 
 pub emit_or-returns : goal.emit_or-returns
 emit_or-returns t c =
-    lazily_emitted (i.Jnz 0) (value_code c.args.right.now) (value_sized c.args.right.now) c.args.emitter.now c.jump.new.self c.emit_right.new.emitter c.in_ok-jump.ensures.code c.in_ok-emit_right.ensures i.Jnz (i.Push (pos 1))
+    lazily_emitted (i.Jnz 0) (value_code c.args.right.now) (value_sized c.args.right.now) c.args.emitter.now c.jump.new.self c.emit_right.new.emitter c.in_ok-jump.ensures.code
+    c.in_ok-emit_right.ensures i.Jnz (i.Push (pos 1))
     c.set.new.self c.put.new.self c.in_ok-jump.jump c.len-to.result c.in_ok-jump.ensures.at c.len-to.ensures c.set.ensures c.in_ok-put.ensures
 
 -- ---- `&&`
@@ -112,15 +124,18 @@ emit_and-emit_right-requires t c = (
 
 pub emit_and-len-to-requires : goal.emit_and-len-to-requires
 emit_and-len-to-requires t c =
-    let n = lazily_far (i.Jz 0) (value_code c.args.right.now) (value_sized c.args.right.now) c.args.emitter.now c.jump.new.self c.emit_right.new.emitter c.in_ok-jump.ensures.code c.in_ok-emit_right.ensures in
+    let n = lazily_far (i.Jz 0) (value_code c.args.right.now) (value_sized c.args.right.now) c.args.emitter.now c.jump.new.self c.emit_right.new.emitter c.in_ok-jump.ensures.code
+    c.in_ok-emit_right.ensures in
     omega (arith, n, c.requires)
 
 pub emit_and-set-requires : goal.emit_and-set-requires
 emit_and-set-requires t c =
-    let n = lazily_far (i.Jz 0) (value_code c.args.right.now) (value_sized c.args.right.now) c.args.emitter.now c.jump.new.self c.emit_right.new.emitter c.in_ok-jump.ensures.code c.in_ok-emit_right.ensures in
+    let n = lazily_far (i.Jz 0) (value_code c.args.right.now) (value_sized c.args.right.now) c.args.emitter.now c.jump.new.self c.emit_right.new.emitter c.in_ok-jump.ensures.code
+    c.in_ok-emit_right.ensures in
     omega (arith, n, c.in_ok-jump.ensures.at)
 
 pub emit_and-returns : goal.emit_and-returns
 emit_and-returns t c =
-    lazily_emitted (i.Jz 0) (value_code c.args.right.now) (value_sized c.args.right.now) c.args.emitter.now c.jump.new.self c.emit_right.new.emitter c.in_ok-jump.ensures.code c.in_ok-emit_right.ensures i.Jz (i.Push (pos 0))
+    lazily_emitted (i.Jz 0) (value_code c.args.right.now) (value_sized c.args.right.now) c.args.emitter.now c.jump.new.self c.emit_right.new.emitter c.in_ok-jump.ensures.code
+    c.in_ok-emit_right.ensures i.Jz (i.Push (pos 0))
     c.set.new.self c.put.new.self c.in_ok-jump.jump c.len-to.result c.in_ok-jump.ensures.at c.len-to.ensures c.set.ensures c.in_ok-put.ensures

@@ -1,6 +1,6 @@
 use Rattle.std.proofs.Common.{◌≡◌, drop, map}
 use Rattle.ac_translation.specs.Translation.{chained_code, link_code}
-use Rattle.ac_compile.specs.Emission.{with_code, HasRoom}
+use Rattle.ac_compile.specs.inner.Emission.{with_code, HasRoom}
 use Rattle.ac_compile.proofs.emit.values.+value.Given as goal
 
 abbrev pub invariant-emit_links-loop-link : goal.invariant-emit_links-loop-link

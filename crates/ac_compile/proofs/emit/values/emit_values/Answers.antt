@@ -10,8 +10,10 @@ loop-value-preserved c =
     let new = c.emit_value.new.emitter in
     let x = c.value-item.result in
     record {
-      code = turn values_code value_code (λ x xs. refl) refl value_sized c.args.values.now c.loop-value.value-index x old c.loop-value-test.true c.value-item.is new _ c.in_ok-emit_value.ensures c.loop-value.invariant.code;
-      room = rest_room values_code value_code (λ x xs. refl) refl value_sized c.args.values.now c.loop-value.value-index x old c.loop-value-test.true c.value-item.is new c.in_ok-emit_value.ensures c.loop-value.invariant.room;
+      code = turn values_code value_code (λ x xs. refl) refl value_sized c.args.values.now c.loop-value.value-index x old c.loop-value-test.true c.value-item.is new _ c.in_ok-emit_value.ensures
+          c.loop-value.invariant.code;
+      room = rest_room values_code value_code (λ x xs. refl) refl value_sized c.args.values.now c.loop-value.value-index x old c.loop-value-test.true c.value-item.is new c.in_ok-emit_value.ensures
+          c.loop-value.invariant.room;
     }
 
 pub returns : goal.returns

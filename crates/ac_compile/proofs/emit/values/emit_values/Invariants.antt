@@ -1,6 +1,6 @@
 use Rattle.std.proofs.Common.{◌≡◌, drop}
 use Rattle.ac_translation.specs.Translation.{values_code}
-use Rattle.ac_compile.specs.Emission.{with_code, HasRoom}
+use Rattle.ac_compile.specs.inner.Emission.{with_code, HasRoom}
 use Rattle.ac_compile.proofs.emit.values.emit_values.Given as goal
 
 abbrev pub invariant-loop-value : goal.invariant-loop-value

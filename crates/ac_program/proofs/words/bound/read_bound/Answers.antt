@@ -20,7 +20,8 @@ overflow_add-value c =
 pub loop-digit-preserved : goal.loop-digit-preserved
 loop-digit-preserved c =
     let i = c.loop-digit.digit-index in
-    let is : digit_value (get_or c.args.word.now c.loop-digit.digit-index 0) + 48 ≡ get_or c.args.word.now c.loop-digit.digit-index 0 = digit_value_digit (get_or c.args.word.now i 0) (omega arith, omega arith) in
+    let is : digit_value (get_or c.args.word.now c.loop-digit.digit-index 0) + 48
+    ≡ get_or c.args.word.now c.loop-digit.digit-index 0 = digit_value_digit (get_or c.args.word.now i 0) (omega arith, omega arith) in
     let digit : c.from.result ≡ digit_value (get_or c.args.word.now c.loop-digit.digit-index 0) = omega (arith, is, c.from.ensures) in
     let low : digit_value (get_or c.args.word.now c.loop-digit.digit-index 0) < 10 = omega (arith, is) in
     let within : c.loop-digit.digit-index < length c.args.word.now = omega arith in

@@ -1,12 +1,13 @@
 use Rattle.std.proofs.Common.{◌≡◌, ◌+◌, ◌∷◌, [], map, drop, string_bytes, subst, sym, refl, Global}
 use Rattle.std.proofs.lemmas.Option.{IfSome_then}
-use Rattle.ac_program.specs.Scanning.{Completes}
+use Rattle.ac_program.specs.inner.Scanning.{Completes}
 use Rattle.ac_program.proofs.Scans.{words_from, words_end}
 use Rattle.ac_program.proofs.words.scan.read_arguments.Goals as goal
 
 pub loop-word-preserved : goal.loop-word-preserved
 loop-word-preserved c = λ file steps.
-    let e : map (string_bytes {Z = Global}) (drop c.loop-word.word-index c.args.words.now) ≡ c.as_str.result.now ∷ map (string_bytes {Z = Global}) (drop (c.loop-word.word-index + 1) c.args.words.now) =
+    let e : map (string_bytes {Z = Global}) (drop c.loop-word.word-index c.args.words.now)
+    ≡ c.as_str.result.now ∷ map (string_bytes {Z = Global}) (drop (c.loop-word.word-index + 1) c.args.words.now) =
     words_from (string_bytes {Z = Global}) c.args.words.now c.loop-word.word-index c.word-item.result c.as_str.result.now c.loop-word-test.true c.word-item.is c.as_str.ensures.value in
     let inv = c.loop-word.invariant file steps in
     let taken = c.in_ok-scan.ensures.taken (map (string_bytes {Z = Global}) (drop (c.loop-word.word-index + 1) c.args.words.now)) file steps in
@@ -14,18 +15,22 @@ loop-word-preserved c = λ file steps.
 
 pub returns-in_err-scan-clause-usage : goal.returns-in_err-scan-clause-usage
 returns-in_err-scan-clause-usage c = λ none file steps g.
-    let e : map (string_bytes {Z = Global}) (drop c.loop-word.word-index c.args.words.now) ≡ c.as_str.result.now ∷ map (string_bytes {Z = Global}) (drop (c.loop-word.word-index + 1) c.args.words.now) =
+    let e : map (string_bytes {Z = Global}) (drop c.loop-word.word-index c.args.words.now)
+    ≡ c.as_str.result.now ∷ map (string_bytes {Z = Global}) (drop (c.loop-word.word-index + 1) c.args.words.now) =
     words_from (string_bytes {Z = Global}) c.args.words.now c.loop-word.word-index c.word-item.result c.as_str.result.now c.loop-word-test.true c.word-item.is c.as_str.ensures.value in
     let inv = c.loop-word.invariant file steps in
-    c.in_err-scan.ensures.refused refl (map (string_bytes {Z = Global}) (drop (c.loop-word.word-index + 1) c.args.words.now)) file steps (subst (λ ws. Completes c.loop-word.scan ws file steps) e (inv.0 g))
+    c.in_err-scan.ensures.refused refl (map (string_bytes {Z = Global}) (drop (c.loop-word.word-index + 1) c.args.words.now)) file steps
+    (subst (λ ws. Completes c.loop-word.scan ws file steps) e (inv.0 g))
 
 pub returns-clause-usage : goal.returns-clause-usage
 returns-clause-usage c = λ none file steps g.
     let inv = c.loop-word.invariant file steps in
-    let e : map (string_bytes {Z = Global}) (drop c.loop-word.word-index c.args.words.now) ≡ [] = words_end (string_bytes {Z = Global}) c.args.words.now c.loop-word.word-index c.loop-word-test.false in
+    let e : map (string_bytes {Z = Global}) (drop c.loop-word.word-index c.args.words.now)
+    ≡ [] = words_end (string_bytes {Z = Global}) c.args.words.now c.loop-word.word-index c.loop-word-test.false in
     c.finish.ensures.refused none file steps (subst (λ ws. Completes c.loop-word.scan ws file steps) e (inv.0 g))
 
 pub returns-clause-only : goal.returns-clause-only
 returns-clause-only c =
-    let e : map (string_bytes {Z = Global}) (drop c.loop-word.word-index c.args.words.now) ≡ [] = words_end (string_bytes {Z = Global}) c.args.words.now c.loop-word.word-index c.loop-word-test.false in
+    let e : map (string_bytes {Z = Global}) (drop c.loop-word.word-index c.args.words.now)
+    ≡ [] = words_end (string_bytes {Z = Global}) c.args.words.now c.loop-word.word-index c.loop-word-test.false in
     IfSome_then c.finish.result c.finish.ensures.only (λ call one file steps g. one file steps (subst (λ ws. Completes c.loop-word.scan ws file steps) e ((c.loop-word.invariant file steps).0 g)))

@@ -1,5 +1,5 @@
 use Rattle.std.proofs.Common.{◌↔◌, ℕ, List, map, drop, string_bytes, None}
-use Rattle.ac_program.specs.Scanning.{CompletesAny, Completes}
+use Rattle.ac_program.specs.inner.Scanning.{CompletesAny, Completes}
 use Rattle.ac_program.proofs.words.scan.read_arguments.Given as goal
 
 -- the words that are left decide

@@ -13,4 +13,5 @@ pub returns-in-Steps-clause-taken : goal.returns-in-Steps-clause-taken
 returns-in-Steps-clause-taken c = at_steps (option_copied c.args.scan.file) c.args.scan.steps c.args.word.now c.in-Steps.ensures (search rules)
 
 pub returns-in_ok-number-in-StepsAre-clause-taken : goal.returns-in_ok-number-in-StepsAre-clause-taken
-returns-in_ok-number-in-StepsAre-clause-taken c = at_joined (option_copied c.args.scan.file) c.args.scan.steps c.args.word.now c.in-StepsAre.value.now c.in_ok-number-in-StepsAre.number c.in-StepsAre.ensures c.in_ok-number-in-StepsAre.ensures.some (search rules)
+returns-in_ok-number-in-StepsAre-clause-taken c = at_joined (option_copied c.args.scan.file) c.args.scan.steps c.args.word.now c.in-StepsAre.value.now c.in_ok-number-in-StepsAre.number
+    c.in-StepsAre.ensures c.in_ok-number-in-StepsAre.ensures.some (search rules)

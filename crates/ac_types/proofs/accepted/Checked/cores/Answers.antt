@@ -1,5 +1,5 @@
-use Rattle.ac_types.proofs.Numbers.{few_slice}
+use Rattle.ac_types.proofs.Numbers.{cores_are}
 use Rattle.ac_types.proofs.accepted.Checked.cores.Goals as goal
 
-pub count_cores-requires : goal.count_cores-requires
-count_cores-requires c = few_slice c.as_slice.result.now c.self.inside.program c.as_slice.ensures c.self.invariant.0.1
+pub returns : goal.returns
+returns c = cores_are c.self.inside.program c.args.self.now c.self.inside.counts c.self.view_is c.self.invariant.1

@@ -1,5 +1,5 @@
-use Rattle.ac_types.proofs.Numbers.{few_slice}
+use Rattle.ac_types.proofs.Numbers.{functions_are}
 use Rattle.ac_types.proofs.accepted.Checked.functions.Goals as goal
 
-pub count_functions-requires : goal.count_functions-requires
-count_functions-requires c = few_slice c.as_slice.result.now c.self.inside.program c.as_slice.ensures c.self.invariant.0.1
+pub returns : goal.returns
+returns c = functions_are c.self.inside.program c.args.self.now c.self.inside.counts c.self.view_is c.self.invariant.1

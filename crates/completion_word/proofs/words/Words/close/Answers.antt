@@ -1,6 +1,6 @@
 use Rattle.std.proofs.Common.{rules, ℕ, ap, ◌∙◌, subst}
 use Rattle.completion_word.specs.Link.{Agreed}
-use Rattle.completion_word.specs.Steps.{both_parts}
+use Rattle.completion_word.specs.inner.Parts.{both_parts}
 use Rattle.completion_word.specs.Seats.{owner_of, peer_of}
 use Rattle.completion_word.proofs.Sides.{joins, ends}
 use Rattle.completion_word.proofs.words.Words.close.Goals as goal

@@ -14,5 +14,6 @@ compare_exchange-found-requires c =
     let seen = offer_seen _ c.args.stamp c.requires.look in (
       search rules,
       search rules,
-      rw c.args.self.now.key (take_allowed places _ _ _ _ _ _ c.args.stamp _ _ peer.decides (c.place-word.ensures ∙ ap (λ (k : ℕ). k % places) peer.count) (c.word-offered.ensures ∙ ap (λ (t : ℕ). code (Offered t)) peer.showed) c.word-taken.ensures seen.0 seen.1),
+      rw c.args.self.now.key (take_allowed places _ _ _ _ _ _ c.args.stamp _ _ peer.decides (c.place-word.ensures ∙ ap (λ (k : ℕ). k % places) peer.count)
+          (c.word-offered.ensures ∙ ap (λ (t : ℕ). code (Offered t)) peer.showed) c.word-taken.ensures seen.0 seen.1),
     )

@@ -11,5 +11,6 @@ compare_exchange_with-found-requires c =
     let stamp = owner.stamps_kept c.args.number c.requires.number.1 (omega arith) in (
       search rules,
       search rules,
-      rw c.args.self.now.key (withdraw_allowed c.args.self.now.places _ _ _ _ c.args.number _ _ c.args.stamp _ _ owner.owns c.place-word.ensures c.word-offered.ensures c.word-withdrawn.ensures c.requires.number.0 c.requires.number.1 c.requires.open.0 stamp.0 c.requires.stamp.0 c.requires.stamp.1),
+      rw c.args.self.now.key (withdraw_allowed c.args.self.now.places _ _ _ _ c.args.number _ _ c.args.stamp _ _ owner.owns c.place-word.ensures c.word-offered.ensures c.word-withdrawn.ensures
+          c.requires.number.0 c.requires.number.1 c.requires.open.0 stamp.0 c.requires.stamp.0 c.requires.stamp.1),
     )

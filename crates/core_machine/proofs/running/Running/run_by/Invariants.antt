@@ -1,7 +1,8 @@
 use Rattle.core_state.specs.Moves.{GoesOn}
 use Rattle.stack_code.specs.Machine.{exec}
-use Rattle.core_machine.specs.State.{state_of, left_of, IsSound}
-use Rattle.core_machine.specs.Changes.{Keeps}
+use Rattle.core_machine.specs.State.{state_of, IsSound}
+use Rattle.core_machine.specs.inner.Left.{left_of}
+use Rattle.core_machine.specs.inner.Changes.{Keeps}
 use Rattle.core_machine.proofs.running.Running.run_by.Given as goal
 
 abbrev pub invariant-turns : goal.invariant-turns

@@ -1,5 +1,5 @@
 use Rattle.std.proofs.Common.{◌≡◌, [], map, take, replicate}
-use Rattle.stack_code.specs.Reserve.{arrays_in}
+use Rattle.stack_code.specs.inner.Reserve.{arrays_in}
 use Rattle.stack_code.proofs.uses.Reserved.new.Given as goal
 
 abbrev pub invariant-loop-function : goal.invariant-loop-function

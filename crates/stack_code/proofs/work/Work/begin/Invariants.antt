@@ -1,5 +1,5 @@
 use Rattle.std.proofs.Common.{◌≡◌}
-use Rattle.stack_code.specs.Work.{IsWork, HasEntries}
+use Rattle.stack_code.specs.inner.Work.{IsWork, HasEntries}
 use Rattle.stack_code.proofs.work.Work.begin.Given as goal
 
 abbrev pub invariant-loop-number : goal.invariant-loop-number

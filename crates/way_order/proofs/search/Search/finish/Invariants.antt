@@ -1,4 +1,4 @@
-use Rattle.way_order.specs.Search.{IsSearch, Keeps, left}
+use Rattle.way_order.specs.inner.Search.{IsSearch, Keeps, left}
 use Rattle.way_order.proofs.search.Search.finish.Given as goal
 
 abbrev pub invariant-loop-a : goal.invariant-loop-a

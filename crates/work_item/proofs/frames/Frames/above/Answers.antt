@@ -10,7 +10,8 @@ parent_or_self-current-requires c =
 
 pub loop-preserved : goal.loop-preserved
 loop-preserved c =
-    goes_up c.args.self.now c.loop.current c.parent_or_self-current.result c.args.frame c.args.level c.loop.counter c.loop-test.true c.loop.invariant.0 c.loop.invariant.1 (c.parent_or_self-current.ensures ∙ ap (λ s. parent_or c.loop.current (frame_at s c.loop.current)) c.self.view_is)
+    goes_up c.args.self.now c.loop.current c.parent_or_self-current.result c.args.frame c.args.level c.loop.counter c.loop-test.true c.loop.invariant.0 c.loop.invariant.1
+    (c.parent_or_self-current.ensures ∙ ap (λ s. parent_or c.loop.current (frame_at s c.loop.current)) c.self.view_is)
 
 pub returns : goal.returns
 returns c =

@@ -2,7 +2,7 @@ use Rattle.std.proofs.Common.{length, Some, refl, sym, ap, ◌∙◌}
 use Rattle.std.proofs.lemmas.List.{with_items_is}
 use Rattle.std.specs.Vec.{with_items}
 use Rattle.work_item.specs.Store.{no_cells, some_with, cleared}
-use Rattle.work_item.specs.Table.{frame_of}
+use Rattle.work_item.specs.inner.Kept.{frame_of}
 use Rattle.work_item.proofs.Clearing.{length-cleared}
 use Rattle.work_item.proofs.Sound.{sound_same}
 use Rattle.work_item.proofs.Stands.{stands, seen}

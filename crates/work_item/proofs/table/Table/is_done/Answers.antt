@@ -1,5 +1,5 @@
 use Rattle.std.proofs.Common.{sym, ap, ◌∙◌, ◌&&◌, nat_eq}
-use Rattle.work_item.specs.Table.{is_done}
+use Rattle.work_item.specs.inner.Kept.{is_done}
 use Rattle.work_item.proofs.Sound.{done_is}
 use Rattle.work_item.proofs.Stands.{stands}
 use Rattle.work_item.proofs.table.Table.is_done.Goals as goal

@@ -1,6 +1,6 @@
 use Rattle.std.proofs.Common.{◌+◌, ◌<◌, ◌^◌, ◌++◌, ◌∷◌, [], length, Some, refl, sym, ap, ◌∙◌, subst, arith, false}
 use Rattle.work_item.specs.declared.table.Live.{Live}
-use Rattle.work_item.specs.Table.{LivesIn, CanCountMore, with_more, frames_of, frame_of}
+use Rattle.work_item.specs.inner.Kept.{LivesIn, CanCountMore, with_more, frames_of, frame_of}
 use Rattle.work_item.proofs.Sound.{can_more, same_pushed}
 use Rattle.work_item.proofs.Stands.{sound_pushed}
 use Rattle.work_item.proofs.table.Table.push.Goals as goal

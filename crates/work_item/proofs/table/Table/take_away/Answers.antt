@@ -1,5 +1,6 @@
 use Rattle.std.proofs.Common.{◌≡◌, ◌+◌, sym, ap, ◌∙◌, subst, arith, set, None}
-use Rattle.work_item.specs.Table.{children_of, CanCountLess, with_less, frames_of}
+use Rattle.work_item.specs.Table.{children_of}
+use Rattle.work_item.specs.inner.Kept.{CanCountLess, with_less, frames_of}
 use Rattle.work_item.proofs.Sound.{can_less, words_within, same_gone}
 use Rattle.work_item.proofs.Stands.{stands, sound_taken}
 use Rattle.work_item.proofs.table.Table.take_away.Goals as goal

@@ -1,5 +1,5 @@
 use Rattle.std.proofs.Common.{◌≡◌, drop, length}
-use Rattle.ac_compile.specs.Emission.{jumps_set, AreBelow}
+use Rattle.ac_compile.specs.inner.Emission.{jumps_set, AreBelow}
 use Rattle.ac_compile.proofs.emit.emitter.Emitter.fill.Given as goal
 
 abbrev pub invariant-loop-at : goal.invariant-loop-at

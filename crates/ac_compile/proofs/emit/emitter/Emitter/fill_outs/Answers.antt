@@ -1,5 +1,5 @@
 use Rattle.std.proofs.Common.{sym, subst}
-use Rattle.ac_compile.specs.Emission.{AreBelow}
+use Rattle.ac_compile.specs.inner.Emission.{AreBelow}
 use Rattle.ac_compile.proofs.Emissions.{filled_length}
 use Rattle.ac_compile.proofs.emit.emitter.Emitter.fill_outs.Goals as goal
 

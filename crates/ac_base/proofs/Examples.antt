@@ -1,0 +1,103 @@
+-- What the definitions of Report say of small runs.
+use Rattle.std.proofs.Common.{◌≡◌, refl, ℕ, pos, List, false, [], ◌∷◌, ◌++◌, codes, ap, ◌∙◌, arith}
+use Rattle.std.specs.Prelude.{negsuc}
+use Rattle.std.specs.Fmt.{decimal, signed_decimal}
+use Rattle.std.proofs.lemmas.Fmt.{decimal_digit, decimal_step}
+use Rattle.ac_base.specs.declared.ends.Trap.TheVariants.{ZeroDivisor, Index, StackFull, OutputFull, FileRange}
+use Rattle.ac_base.specs.declared.ends.EndWord.{EndWord}
+use Rattle.ac_base.specs.declared.ends.EndWord.TheVariants.{Finished, Trapped, OutOfSteps, Stalled}
+use Rattle.ac_base.specs.declared.ends.MachineEnd.{MachineEnd}
+use Rattle.ac_base.specs.Report.{word_text, closed, report_of, status_of}
+
+-- what is seen of a core that ended with this word after so many steps and instructions, and printed this
+abbrev pub ended : EndWord → ℕ → ℕ → List ℕ → MachineEnd
+ended word steps instructions output = record { core = record { word = word; steps = steps; output = output; globals = []; waiting = []; idle = false }; instructions = instructions }
+
+-- the decimal texts in the examples, which do not compute
+one : decimal 1 ≡ codes "1"
+one = decimal_digit 1 (omega arith)
+
+two : decimal 2 ≡ codes "2"
+two = decimal_digit 2 (omega arith)
+
+nine : decimal 9 ≡ codes "9"
+nine = decimal_digit 9 (omega arith)
+
+fifteen : decimal 15 ≡ codes "15"
+fifteen = decimal_step 15 (omega arith) (omega arith) ∙ ap (λ ds. ds ++ codes "5") (decimal_digit 1 (omega arith))
+
+-- ---- decimals
+
+pub a_decimal_of_two_digits : signed_decimal (pos 15) ≡ codes "15"
+a_decimal_of_two_digits = fifteen
+
+pub a_decimal_below_nought : signed_decimal (negsuc 14) ≡ codes "-15"
+a_decimal_below_nought = rw fifteen refl
+
+-- ---- the words for how a core ended
+
+pub the_words : word_text Finished ∷ word_text OutOfSteps ∷ word_text Stalled ∷ [] ≡ codes "finished" ∷ codes "out-of-steps" ∷ codes "stalled" ∷ []
+the_words = refl
+
+pub the_words_of_traps :
+    word_text (Trapped ZeroDivisor) ∷ word_text (Trapped Index) ∷ word_text (Trapped StackFull) ∷ word_text (Trapped OutputFull) ∷ word_text (Trapped FileRange) ∷ []
+    ≡ codes "zero-divisor" ∷ codes "index" ∷ codes "stack-full" ∷ codes "output-full" ∷ codes "file-range" ∷ []
+the_words_of_traps = refl
+
+-- ---- the end of an output
+
+pub an_open_output_is_closed : closed (codes "a\nb") ≡ codes "a\nb\n"
+an_open_output_is_closed = refl
+
+pub a_closed_output_stays : closed (codes "a\n\n") ≡ codes "a\n\n"
+a_closed_output_stays = refl
+
+pub an_empty_output_stays : closed [] ≡ []
+an_empty_output_stays = refl
+
+-- a carriage return ends no line
+pub a_line_feed_alone_closes : closed (codes "a\r") ≡ codes "a\r\n"
+a_line_feed_alone_closes = refl
+
+-- ---- the report
+
+pub no_core_no_report : report_of [] [] ≡ []
+no_core_no_report = refl
+
+pub an_open_line_is_ended : report_of (codes "a" ∷ []) (ended Finished 2 9 (codes "7") ∷ []) ≡ codes "a: finished after 2 steps, 9 instructions\n7\n"
+an_open_line_is_ended = rw (two, nine) refl
+
+pub an_ended_line_stays : report_of (codes "a" ∷ []) (ended Finished 2 9 (codes "7\n") ∷ []) ≡ codes "a: finished after 2 steps, 9 instructions\n7\n"
+an_ended_line_stays = rw (two, nine) refl
+
+-- the word `steps` stays so where there is one
+pub one_step : report_of (codes "a" ∷ []) (ended Stalled 1 2 [] ∷ []) ≡ codes "a: stalled after 1 steps, 2 instructions\n"
+one_step = rw (one, two) refl
+
+-- each core has its line and then its output, and what the first printed comes before the line of the second
+pub two_cores : report_of (codes "a" ∷ codes "b" ∷ []) (ended OutOfSteps 9 15 (codes "y") ∷ ended (Trapped ZeroDivisor) 2 9 (codes "x") ∷ [])
+    ≡ codes "a: out-of-steps after 9 steps, 15 instructions\ny\nb: zero-divisor after 2 steps, 9 instructions\nx\n"
+two_cores = rw (two, nine, fifteen) refl
+
+-- ---- the status
+
+pub all_finished : status_of (ended Finished 2 9 [] ∷ ended Finished 2 9 [] ∷ []) ≡ 0
+all_finished = refl
+
+pub one_trapped : status_of (ended Finished 2 9 [] ∷ ended (Trapped Index) 2 9 [] ∷ []) ≡ 4
+one_trapped = refl
+
+pub one_stalled : status_of (ended Finished 2 9 [] ∷ ended Stalled 2 9 [] ∷ []) ≡ 5
+one_stalled = refl
+
+pub one_out_of_steps : status_of (ended OutOfSteps 2 9 [] ∷ ended Finished 2 9 [] ∷ []) ≡ 6
+one_out_of_steps = refl
+
+pub a_trap_counts_before_want_of_steps : status_of (ended OutOfSteps 2 9 [] ∷ ended (Trapped ZeroDivisor) 2 9 [] ∷ []) ≡ 4
+a_trap_counts_before_want_of_steps = refl
+
+pub a_trap_counts_before_a_stall : status_of (ended Stalled 2 9 [] ∷ ended (Trapped ZeroDivisor) 2 9 [] ∷ []) ≡ 4
+a_trap_counts_before_a_stall = refl
+
+pub want_of_steps_counts_before_a_stall : status_of (ended Stalled 2 9 [] ∷ ended OutOfSteps 2 9 [] ∷ []) ≡ 6
+want_of_steps_counts_before_a_stall = refl

@@ -1,0 +1,10 @@
+pub mod Operators
+pub mod ExpressionHeads
+pub mod ChainLaws
+pub mod Openings
+pub mod CallLaws
+pub mod PrimaryLaws
+pub mod UnaryLaws
+pub mod RowLoop
+pub mod Turns
+pub mod Examples

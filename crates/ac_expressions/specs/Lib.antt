@@ -1,0 +1,4 @@
+pub mod Spelling
+pub mod Operators
+pub mod Reads
+pub mod Returned

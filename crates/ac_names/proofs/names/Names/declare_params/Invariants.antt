@@ -1,0 +1,6 @@
+use Rattle.std.proofs.Common.{◌≡◌, ◌+◌, ◌<◌, length, drop}
+use Rattle.ac_names.specs.Items.{params_named}
+use Rattle.ac_names.proofs.names.Names.declare_params.Given as goal
+
+abbrev pub invariant-loop-param : goal.invariant-loop-param
+invariant-loop-param l = (params_named (drop l.param-index l.params) l.self ≡ params_named l.params l.fn.self) × (l.self.slot + length (drop l.param-index l.params) < 4294967296)

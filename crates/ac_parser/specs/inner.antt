@@ -1,0 +1,2 @@
+pub mod ReadsStatements
+pub mod ReadsItems

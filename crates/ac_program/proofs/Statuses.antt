@@ -1,0 +1,134 @@
+-- Statuses of cores and of refusals.
+use Rattle.std.proofs.Common.{◌≢◌, ◌≡◌, ℕ, suc, ◌≤◌, ◌⊎◌, inl, inr, Bool, true, false, List, [], ◌∷◌, refl, sym, ◌∙◌, subst, arith, if◌then◌else◌}
+use Rattle.std.proofs.lemmas.Bool.{cases_lt}
+use Rattle.ac_base.specs.Report.{any_ends, is_trapped, is_out_of_steps, is_stalled, status_of}
+use Rattle.ac_base.specs.declared.ends.EndWord.{EndWord}
+use Rattle.ac_base.specs.declared.ends.EndWord.TheVariants.{Finished, Trapped, OutOfSteps, Stalled}
+use Rattle.ac_base.specs.declared.ends.MachineEnd.{MachineEnd}
+use Rattle.ac_program.specs.declared.refusal.Refusal.{Refusal}
+use Rattle.ac_program.specs.declared.refusal.Refusal.TheVariants as r
+use Rattle.ac_program.specs.declared.execute.Done.{Done}
+use Rattle.ac_program.specs.Lines.{refusal_status}
+use Rattle.ac_program.specs.Run.{HasEnded, HaveEnded}
+use Rattle.ac_program.specs.Making.{IsDone}
+
+-- ---- statuses of cores
+
+-- a status of cores that have ended
+abbrev pub IsOfCores : ℕ → Type 0
+IsOfCores status = (status ≡ 0) ⊎ (status ≡ 4) ⊎ (status ≡ 5) ⊎ (status ≡ 6)
+
+pub chosen : (trapped out stalled : Bool) → IsOfCores (if trapped then 4 else (if out then 6 else (if stalled then 5 else 0)))
+chosen true out stalled = inr (inl refl)
+chosen false true stalled = inr (inr (inr refl))
+chosen false false true = inr (inr (inl refl))
+chosen false false false = inl refl
+
+pub of_cores : (ends : List MachineEnd) → IsOfCores (status_of ends)
+of_cores ends = chosen (any_ends is_trapped ends) (any_ends is_out_of_steps ends) (any_ends is_stalled ends)
+
+pub done_status : (bytes : List ℕ) (bound status : ℕ) (done : Done) → status ≡ done.status.number → IsDone bytes bound done → IsOfCores status
+done_status bytes bound status done e d = subst IsOfCores (sym (e ∙ d.status)) (of_cores done.ended.cores)
+
+-- no core waits for ever
+not_stalled : (word : EndWord) → HasEnded word → is_stalled word ≡ false
+not_stalled Finished h = refl
+not_stalled (Trapped trap) h = refl
+not_stalled OutOfSteps h = refl
+not_stalled Stalled h = absurd h
+
+none_stalled : (ends : List MachineEnd) → HaveEnded ends → any_ends is_stalled ends ≡ false
+none_stalled [] h = refl
+none_stalled (x ∷ xs) h = rw (not_stalled x.core.word (h 0 x (omega arith)), none_stalled xs (λ k d lt. h (suc k) d (omega (arith, lt))))
+
+five : (status : ℕ) (trapped out stalled : Bool) → stalled ≡ false → status ≡ (if trapped then 4 else (if out then 6 else (if stalled then 5 else 0))) → status ≢ 5
+five status true out stalled e h is = omega (arith, h, is)
+five status false true stalled e h is = omega (arith, h, is)
+five status false false true e h is = cc
+five status false false false e h is = omega (arith, h, is)
+
+pub done_not_stalled : (bytes : List ℕ) (bound status : ℕ) (done : Done) → status ≡ done.status.number → IsDone bytes bound done → status ≢ 5
+done_not_stalled bytes bound status done e d =
+    let ends = done.ended.cores in
+    five status (any_ends is_trapped ends) (any_ends is_out_of_steps ends) (any_ends is_stalled ends) (none_stalled ends d.ends) (e ∙ d.status)
+
+pub small : (status : ℕ) → IsOfCores status → status ≤ 6
+small status (inl e) = omega (arith, e)
+small status (inr (inl e)) = omega (arith, e)
+small status (inr (inr (inl e))) = omega (arith, e)
+small status (inr (inr (inr e))) = omega (arith, e)
+
+pub not_above : (status other : ℕ) → IsOfCores status → status ≡ other → 7 ≤ other → ⊥
+not_above status other h e l = omega (arith, small status h, e, l)
+
+pub not_one : (status : ℕ) → IsOfCores status → status ≡ 1 → ⊥
+not_one status (inl e) h = omega (arith, e, h)
+not_one status (inr (inl e)) h = omega (arith, e, h)
+not_one status (inr (inr (inl e))) h = omega (arith, e, h)
+not_one status (inr (inr (inr e))) h = omega (arith, e, h)
+
+-- ---- statuses of refusals
+
+abbrev pub IsOfRefusal : ℕ → Type 0
+IsOfRefusal status = (status ≡ 2) ⊎ (status ≡ 3) ⊎ (status ≡ 10) ⊎ (status ≡ 15)
+
+pub of_refusal : (refusal : Refusal) → IsOfRefusal (refusal_status refusal)
+of_refusal r.TooLong = inr (inr (inl refl))
+of_refusal (r.BadByte at) = inl refl
+of_refusal (r.NumberTooLarge at) = inl refl
+of_refusal (r.OpenComment at) = inl refl
+of_refusal (r.OpenText at) = inl refl
+of_refusal (r.Unexpected at) = inl refl
+of_refusal (r.TooDeep at) = inr (inr (inl refl))
+of_refusal (r.Broken rule) = inr (inl refl)
+of_refusal r.TooManySteps = inr (inr (inl refl))
+of_refusal (r.NotBuilt at) = inr (inr (inr refl))
+
+pub other_cores : (status : ℕ) → IsOfCores status → (status ≡ 2 → ⊥) × ((status ≡ 3 → ⊥) × (status ≤ 6))
+other_cores status (inl e) = ((λ h. omega (arith, e, h)), ((λ h. omega (arith, e, h)), omega (arith, e)))
+other_cores status (inr (inl e)) = ((λ h. omega (arith, e, h)), ((λ h. omega (arith, e, h)), omega (arith, e)))
+other_cores status (inr (inr (inl e))) = ((λ h. omega (arith, e, h)), ((λ h. omega (arith, e, h)), omega (arith, e)))
+other_cores status (inr (inr (inr e))) = ((λ h. omega (arith, e, h)), ((λ h. omega (arith, e, h)), omega (arith, e)))
+
+-- no status is of both
+pub apart : (status : ℕ) → IsOfRefusal status → IsOfCores status → ⊥
+apart status (inl e) h = (other_cores status h).0 e
+apart status (inr (inl e)) h = (other_cores status h).1.0 e
+apart status (inr (inr (inl e))) h = omega (arith, (other_cores status h).1.1, e)
+apart status (inr (inr (inr e))) h = omega (arith, (other_cores status h).1.1, e)
+
+-- and none is that of the usage line, or of a failure
+pub one : (status : ℕ) → IsOfRefusal status → status ≡ 1 → ⊥
+one status (inl e) h = omega (arith, e, h)
+one status (inr (inl e)) h = omega (arith, e, h)
+one status (inr (inr (inl e))) h = omega (arith, e, h)
+one status (inr (inr (inr e))) h = omega (arith, e, h)
+
+pub seven : (status : ℕ) → IsOfRefusal status → status ≡ 7 → ⊥
+seven status (inl e) h = omega (arith, e, h)
+seven status (inr (inl e)) h = omega (arith, e, h)
+seven status (inr (inr (inl e))) h = omega (arith, e, h)
+seven status (inr (inr (inr e))) h = omega (arith, e, h)
+
+pub eight : (status : ℕ) → IsOfRefusal status → status ≡ 8 → ⊥
+eight status (inl e) h = omega (arith, e, h)
+eight status (inr (inl e)) h = omega (arith, e, h)
+eight status (inr (inr (inl e))) h = omega (arith, e, h)
+eight status (inr (inr (inr e))) h = omega (arith, e, h)
+
+pub eleven : (status : ℕ) → IsOfRefusal status → status ≡ 11 → ⊥
+eleven status (inl e) h = omega (arith, e, h)
+eleven status (inr (inl e)) h = omega (arith, e, h)
+eleven status (inr (inr (inl e))) h = omega (arith, e, h)
+eleven status (inr (inr (inr e))) h = omega (arith, e, h)
+
+-- a status that is 1 unless it is 8
+pub one_or_eight : (status : ℕ) → (status ≢ 8 → status ≡ 1) → (status ≡ 1) ⊎ (status ≡ 8)
+one_or_eight status is =
+    elim (cases_lt status 8) [
+      | inl below ↦ inl (is (λ e. omega (arith, e, below)))
+      | inr from ↦ elim (cases_lt 8 status) [
+        | inl above ↦ inl (is (λ e. omega (arith, e, above)))
+        | inr to ↦ inr (omega (arith, from, to))
+      ]
+    ]

@@ -1,0 +1,3 @@
+pub mod Scanning
+pub mod Journals
+pub mod Parts

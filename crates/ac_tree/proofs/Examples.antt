@@ -1,0 +1,178 @@
+-- What small programs weigh: the tokens that each text of them has, but for those that the weight leaves out.
+use Rattle.std.proofs.Common.{◌≡◌, refl, ℕ, zero, suc, ◌<◌, ◌≤◌, pos, List, [], ◌∷◌, map, codes, None, Some, Bool, true, false, arith}
+use Rattle.std.specs.Prelude.{replicate}
+use Rattle.ac_tree.specs.declared.expr.Expr.{Expr}
+use Rattle.ac_tree.specs.declared.expr.Expr.TheVariants as e
+use Rattle.ac_tree.specs.declared.expr.Constant.TheVariants as c
+use Rattle.ac_tree.specs.declared.expr.Link.{Link}
+use Rattle.ac_tree.specs.declared.expr.BinaryOp.{BinaryOp}
+use Rattle.ac_tree.specs.declared.expr.BinaryOp.TheVariants as b
+use Rattle.ac_tree.specs.declared.expr.UnaryOp.TheVariants as u
+use Rattle.ac_tree.specs.declared.stmt.Stmt.{Stmt}
+use Rattle.ac_tree.specs.declared.stmt.Stmt.TheVariants as s
+use Rattle.ac_tree.specs.declared.item.Item.{Item}
+use Rattle.ac_tree.specs.declared.item.Item.TheVariants as i
+use Rattle.ac_tree.specs.declared.item.Param.{Param}
+use Rattle.ac_tree.specs.declared.item.Program.{Program}
+use Rattle.ac_tree.specs.Weight.{total, expr_weight, stmt_weight, params_weight, items_weight, IsSmall}
+use Rattle.ac_tree.proofs.WeightForms.{number_weighs, const_weighs, name_weighs, index_weighs, group_weighs, unary_weighs, send_weighs, recv_weighs, read_weighs, write_weighs, call_weighs}
+use Rattle.ac_tree.proofs.WeightForms.{chain_weighs}
+use Rattle.ac_tree.proofs.WeightForms.{empty_weighs, int_weighs, array_weighs, assign_weighs, call_stmt_weighs, print_weighs, while_weighs, break_weighs, continue_weighs, return_weighs}
+use Rattle.ac_tree.proofs.WeightForms.{async_weighs, cancel_weighs, yield_weighs, block_weighs, do_weighs, if_weighs, for_weighs}
+
+-- ---- expressions
+
+abbrev pub x : Expr
+x = e.Name 0 (codes "x")
+
+abbrev pub one : Expr
+one = e.Number 0 (pos 1)
+
+abbrev pub link : BinaryOp → Expr → Link
+link op operand = record { op = op; operand = operand }
+
+-- 1
+pub a_number : expr_weight one ≡ 1
+a_number = number_weighs 0 (pos 1)
+
+-- OK
+pub a_constant : expr_weight (e.Const 0 c.Ok) ≡ 1
+a_constant = const_weighs 0 c.Ok
+
+-- x [ 1 ]
+pub an_element : expr_weight (e.Index 0 (codes "x") one) ≡ 4
+an_element = simp (index_weighs, number_weighs)
+
+-- - ( 1 )
+pub a_sign_and_parentheses : expr_weight (e.Unary 0 u.Neg (e.Group 1 one)) ≡ 4
+a_sign_and_parentheses = simp (unary_weighs, group_weighs, number_weighs)
+
+-- 1 + x * 1
+pub a_chain : expr_weight (e.Chain 0 9 one (link b.Add (e.Chain 0 10 x (link b.Mul one ∷ [])) ∷ [])) ≡ 5
+a_chain = simp (chain_weighs, number_weighs, name_weighs)
+
+-- f ( 1 , x ), of which the comma does not count
+pub a_call : expr_weight (e.Call 0 (codes "f") (one ∷ x ∷ [])) ≡ 5
+a_call = simp (call_weighs, number_weighs, name_weighs)
+
+-- send ( c , 1 )
+pub a_send : expr_weight (e.Send 0 (codes "c") one) ≡ 6
+a_send = simp (send_weighs, number_weighs)
+
+-- recv ( c , & x )
+pub a_recv : expr_weight (e.Recv 0 (codes "c") x) ≡ 7
+a_recv = simp (recv_weighs, name_weighs)
+
+-- read ( f , 1 , x , h )
+pub a_read : expr_weight (e.Read 0 (codes "f") one x (codes "h")) ≡ 10
+a_read = simp (read_weighs, number_weighs, name_weighs)
+
+pub a_write : expr_weight (e.Write 0 (codes "f") one x (codes "h")) ≡ 10
+a_write = simp (write_weighs, number_weighs, name_weighs)
+
+-- ---- statements
+
+abbrev pub empty : Stmt
+empty = s.Empty 0
+
+-- { ; }
+pub a_block : stmt_weight (s.Block 0 (empty ∷ [])) ≡ 3
+a_block = simp (block_weighs, empty_weighs)
+
+-- int x ; and int x = 1 ; of which the `=` does not count
+pub an_int : stmt_weight (s.Int 0 (codes "x") None) ≡ 3
+an_int = simp (int_weighs)
+
+pub an_int_with_a_value : stmt_weight (s.Int 0 (codes "x") (Some one)) ≡ 4
+an_int_with_a_value = simp (int_weighs, number_weighs)
+
+-- int x [ 3 ] ;
+pub an_array : stmt_weight (s.Array 0 (codes "x") (pos 3)) ≡ 6
+an_array = array_weighs 0 (codes "x") (pos 3)
+
+-- x = 1, of which the semicolon does not count
+pub an_assignment : stmt_weight (s.Assign 0 x one) ≡ 3
+an_assignment = simp (assign_weighs, name_weighs, number_weighs)
+
+-- f ( ) ;
+pub a_called_function : stmt_weight (s.Call 0 (e.Call 0 (codes "f") [])) ≡ 4
+a_called_function = simp (call_stmt_weighs, call_weighs)
+
+-- printf ( "%d" , 1 ) ; of which the comma does not count
+pub a_print : stmt_weight (s.Print 0 (codes "%d") (one ∷ [])) ≡ 6
+a_print = simp (print_weighs, number_weighs)
+
+-- if ( x ) ; and if ( x ) ; else ; of which the `else` does not count
+pub an_if : stmt_weight (s.If 0 x empty None) ≡ 5
+an_if = simp (if_weighs, name_weighs, empty_weighs)
+
+pub an_if_with_an_else : stmt_weight (s.If 0 x empty (Some empty)) ≡ 6
+an_if_with_an_else = simp (if_weighs, name_weighs, empty_weighs)
+
+-- while ( x ) ;
+pub a_while : stmt_weight (s.While 0 x empty) ≡ 5
+a_while = simp (while_weighs, name_weighs, empty_weighs)
+
+-- for ( ; ; ) ; and for ( x = 1 ; x ; x = 1 ) ;
+pub a_for_without_parts : stmt_weight (s.For 0 None None None empty) ≡ 6
+a_for_without_parts = simp (for_weighs, empty_weighs)
+
+pub a_for : stmt_weight (s.For 0 (Some (s.Assign 0 x one)) (Some x) (Some (s.Assign 0 x one)) empty) ≡ 13
+a_for = simp (for_weighs, assign_weighs, name_weighs, number_weighs, empty_weighs)
+
+-- break ; continue ; yield ; return ; return 1 ; cancel l ;
+pub two_tokens : stmt_weight (s.Break 0) ∷ stmt_weight (s.Continue 0) ∷ stmt_weight (s.Yield 0) ∷ stmt_weight (s.Return 0 None) ∷ [] ≡ 2 ∷ 2 ∷ 2 ∷ 2 ∷ []
+two_tokens = simp (break_weighs, continue_weighs, yield_weighs, return_weighs)
+
+pub three_tokens : stmt_weight (s.Return 0 (Some one)) ∷ stmt_weight (s.Cancel 0 (codes "l")) ∷ [] ≡ 3 ∷ 3 ∷ []
+three_tokens = simp (return_weighs, number_weighs, cancel_weighs)
+
+-- do { async ; } finish ; and do : l { } finish ;
+pub a_do : stmt_weight (s.Do 0 None (s.Async 0 empty ∷ [])) ≡ 7
+a_do = simp (do_weighs, async_weighs, empty_weighs)
+
+pub a_do_with_a_label : stmt_weight (s.Do 0 (Some (codes "l")) []) ≡ 7
+a_do_with_a_label = simp (do_weighs)
+
+-- ---- items
+
+-- int x , int x [ ] as parameters
+abbrev pub param : Bool → Param
+param is_array = record { at = 0; name = codes "x"; is_array = is_array }
+
+pub two_params : params_weight (param false ∷ param true ∷ []) ≡ 6
+two_params = refl
+
+-- int x ; and int x [ 3 ] ;
+pub two_globals : items_weight (i.Global 0 (codes "x") None (pos 0) ∷ i.Global 0 (codes "h") (Some (pos 3)) (pos 0) ∷ []) ≡ 9
+two_globals = refl
+
+-- channel c ( a , b , 1 ) ; and file f = "f" ; and core a ( f ) ;
+pub declared : items_weight (i.Channel 0 (codes "c") (codes "a") (codes "b") (pos 1) ∷ i.File 0 (codes "f") (codes "f") ∷ i.Core 0 (codes "a") (codes "f") ∷ []) ≡ 22
+declared = refl
+
+-- core a ( f ) ; async void f ( ) { ; } of which the `async` does not count
+abbrev pub function : List Stmt → Item
+function body = i.Function (record { at = 0; is_async = true; gives_int = false; name = codes "f"; params = []; body = body })
+
+pub a_program : items_weight (i.Core 0 (codes "a") (codes "f") ∷ function (empty ∷ []) ∷ []) ≡ 13
+a_program = simp (empty_weighs)
+
+-- ---- small programs
+
+abbrev pub program : List Item → Program
+program items = record { items = items }
+
+pub the_empty_program_is_small : IsSmall (program [])
+the_empty_program_is_small = omega arith
+
+-- a function weighs 6 and its body: 1,048,570 empty statements are small, and more are not
+weight_of : (n : ℕ) → total (map stmt_weight (replicate n empty)) ≡ n
+weight_of zero = refl
+weight_of (suc n) = rw (empty_weighs 0) (let h : total (map stmt_weight (replicate n empty)) ≡ n = weight_of n in omega arith)
+
+pub as_many_are_small : (n : ℕ) → n ≤ 1048570 → IsSmall (program (function (replicate n empty) ∷ []))
+as_many_are_small n le = let h : total (map stmt_weight (replicate n empty)) ≡ n = weight_of n in omega arith
+
+pub one_more_is_not : (n : ℕ) → 1048570 < n → IsSmall (program (function (replicate n empty) ∷ [])) → ⊥
+one_more_is_not n lt small = let h : total (map stmt_weight (replicate n empty)) ≡ n = weight_of n in omega arith

@@ -1,0 +1,551 @@
+-- Small programs and the rules that they break.
+use Rattle.std.proofs.Common.{◌≡◌, refl, sym, ap, subst, ℕ, zero, suc, ℤ, pos, List, [], ◌∷◌, ◌++◌, map, codes, slice_get, Bool, true, false, Option, Some, None, inl, inr, arith}
+use Rattle.std.specs.Prelude.{negsuc, if◌then◌else◌}
+use Rattle.ac_tree.specs.declared.expr.Expr.{Expr}
+use Rattle.ac_tree.specs.declared.expr.Expr.TheVariants as e
+use Rattle.ac_tree.specs.declared.expr.BinaryOp.TheVariants as b
+use Rattle.ac_tree.specs.declared.expr.UnaryOp.TheVariants as u
+use Rattle.ac_tree.specs.declared.stmt.Stmt.{Stmt}
+use Rattle.ac_tree.specs.declared.stmt.Stmt.TheVariants as s
+use Rattle.ac_tree.specs.declared.item.Item.{Item}
+use Rattle.ac_tree.specs.declared.item.Item.TheVariants as i
+use Rattle.ac_tree.specs.declared.item.Param.{Param}
+use Rattle.ac_names.specs.declared.meaning.Meaning.{Meaning}
+use Rattle.ac_names.specs.declared.meaning.Meaning.TheVariants as m
+use Rattle.ac_reach.specs.declared.reached.Reached.{Reached}
+use Rattle.ac_reach.specs.declared.reached.Reached.TheVariants as r
+use Rattle.ac_reach.specs.Reached.{ReachedFrom, is_entry, is_called, AreRows, IsReachedBy, here_is}
+use Rattle.ac_reach.specs.Reached as reach
+use Rattle.ac_types.specs.declared.around.Around.{Around}
+use Rattle.ac_types.specs.declared.around.Position.{Position}
+use Rattle.ac_types.specs.declared.around.Position.TheVariants as p
+use Rattle.ac_types.specs.declared.fault.CheckFault.TheVariants as f
+use Rattle.ac_types.specs.declared.numbered.Callee.{Callee}
+use Rattle.ac_types.specs.declared.rule.Rule.TheVariants as rule
+use Rattle.ac_types.specs.Rules.{rule_number, IsUpTo}
+use Rattle.ac_types.specs.Tables.{callee, takes_array, ends_named}
+use Rattle.ac_types.specs.Nodes.{Node, calls_of}
+use Rattle.ac_types.specs.Around.{is_array_position, is_used, is_partial, position_of, inside_do, inside_async, inside_loop, is_closed, is_reached_by_another}
+use Rattle.ac_types.specs.Formats.{HasHoles, no_more, a_byte, a_percent_sign, a_number, a_letter}
+use Rattle.ac_types.specs.Judged.{Tests, value_tests, name_tests, index_tests, call_tests, sends_away, takes_away, channel_tests, file_tests, array_tests, holes}
+use Rattle.ac_types.specs.Judged.{return_tests}
+use Rattle.ac_types.specs.Expressions.{plain}
+use Rattle.ac_types.specs.Items.{tables_of, signatures, core_number, link_tests, path_tests, core_tests, program_tests, reached_in, program_nodes}
+use Rattle.ac_types.specs.Reached.{entries_of, all_calls, Reaches, AreReached, IsReachedByAnother, IsBrokenRule, BreaksIn, Breaks, IsLeastBroken, BreaksNone}
+use Rattle.ac_types.specs.Verdicts.{IsFault}
+use Rattle.ac_types.specs.inner.Seen.{first_of}
+use Rattle.ac_types.proofs.Formats.{formats_are_printed}
+use Rattle.ac_types.proofs.Forms.{number_is, name_is, index_is, unary_is, chain_is, link_is, call_is, send_is, read_is, block_is, empty_is, int_is, array_is, assign_is}
+use Rattle.ac_types.proofs.Forms.{call_made, print_is, if_else, while_is, for_all, break_is, return_is, do_is, async_is, cancel_is, yield_is}
+use Rattle.ac_types.proofs.Judging.{program_told}
+
+-- ---- numbers and their order
+
+pub eighteen_rules : map rule_number (rule.DeclaredOnce ∷ rule.NameIsDeclared ∷ rule.ArgumentsMatchParameters ∷ rule.NameFitsItsPlace ∷ rule.AsyncIsCalledInAsync ∷ rule.StandsInAsyncFunction
+    ∷ rule.AsyncStandsInDo ∷ rule.CancelStandsInItsDo ∷ rule.JumpStaysInside ∷ rule.EntryIsAsyncWithoutParameters ∷ rule.OnlyItsEndUsesChannel ∷ rule.ValueFitsFunction ∷ rule.ArraySizeIsAllowed
+    ∷ rule.ChannelIsAllowed ∷ rule.NumberOfCoresIsAllowed ∷ rule.FormatFitsArguments ∷ rule.FileIsAllowed ∷ rule.CallStandsAlone ∷ [])
+    ≡ 1 ∷ 2 ∷ 3 ∷ 4 ∷ 5 ∷ 6 ∷ 7 ∷ 8 ∷ 9 ∷ 10 ∷ 11 ∷ 12 ∷ 13 ∷ 14 ∷ 15 ∷ 16 ∷ 17 ∷ 18 ∷ []
+eighteen_rules = refl
+
+-- a node comes before a rule, and a pair is up to itself
+pub by_node_first : IsUpTo 2 18 3 1
+by_node_first = inl (omega arith)
+
+pub up_to_itself : IsUpTo 3 2 3 2
+up_to_itself = inr (refl, omega arith)
+
+pub not_the_greater_rule : IsUpTo 3 4 3 2 → ⊥
+not_the_greater_rule (inl h) = omega (arith, h)
+not_the_greater_rule (inr h) = let le = h.1 in omega (arith, le)
+
+-- ---- where an expression stands, and what is around it
+
+abbrev positions : List Position
+positions = p.Statement ∷ p.Whole ∷ p.Value ∷ p.Array ∷ []
+
+pub positions_for_arrays : map is_array_position positions ≡ false ∷ false ∷ false ∷ true ∷ []
+positions_for_arrays = refl
+
+pub positions_whose_value_is_used : map is_used positions ≡ false ∷ true ∷ true ∷ true ∷ []
+positions_whose_value_is_used = refl
+
+pub positions_for_no_call : map is_partial positions ≡ false ∷ false ∷ true ∷ true ∷ []
+positions_for_no_call = refl
+
+pub positions_of_arguments : map position_of (true ∷ false ∷ []) ≡ p.Array ∷ p.Value ∷ []
+positions_of_arguments = refl
+
+abbrev in_loop : Around
+in_loop = record { is_async = true; gives_int = false; depth = 0; in_do = false; in_loop = true; reached = r.ByNone }
+
+pub a_do_hides_the_loop : inside_do in_loop ≡ record { is_async = true; gives_int = false; depth = 0; in_do = true; in_loop = false; reached = r.ByNone }
+a_do_hides_the_loop = refl
+
+pub a_body_hides_the_loop : inside_async in_loop ≡ record { is_async = true; gives_int = false; depth = 1; in_do = false; in_loop = false; reached = r.ByNone }
+a_body_hides_the_loop = refl
+
+pub no_return_from_a_do_or_a_body : map is_closed (in_loop ∷ inside_do in_loop ∷ inside_async in_loop ∷ inside_loop (inside_do in_loop) ∷ []) ≡ false ∷ true ∷ true ∷ true ∷ []
+no_return_from_a_do_or_a_body = refl
+
+-- the core 1, and no core
+pub reached_by_others : map (λ (row : Reached). is_reached_by_another row (Some 1)) (r.ByNone ∷ r.ByOne 0 ∷ r.ByOne 1 ∷ r.BySeveral ∷ []) ≡ false ∷ true ∷ false ∷ true ∷ []
+reached_by_others = refl
+
+pub another_than_no_core : map (λ (row : Reached). is_reached_by_another row None) (r.ByNone ∷ r.ByOne 0 ∷ r.BySeveral ∷ []) ≡ false ∷ true ∷ true ∷ []
+another_than_no_core = refl
+
+-- ---- formats
+
+pub two_holes : HasHoles (codes "a%d%c%%") 2
+two_holes = a_byte _ _ _ (λ h. omega (arith, h)) (a_number _ _ (a_letter _ _ (a_percent_sign _ _ no_more)))
+
+pub no_hole_after_a_percent_sign : HasHoles (codes "%%d") 0
+no_hole_after_a_percent_sign = a_percent_sign _ _ (a_byte _ _ _ (λ h. omega (arith, h)) no_more)
+
+pub no_format : HasHoles (codes "%x") 0 → ⊥
+no_format h = let e = (formats_are_printed (codes "%x") 0).1 h in cc e
+
+pub no_format_ends_in_a_percent : HasHoles (codes "%d%") 1 → ⊥
+no_format_ends_in_a_percent h = let e = (formats_are_printed (codes "%d%") 1).1 h in cc e
+
+pub no_three_holes : HasHoles (codes "%d%c%%") 3 → ⊥
+no_three_holes h = let e = (formats_are_printed (codes "%d%c%%") 3).1 h in cc e
+
+pub formats_are_counted : map (λ (text : List ℕ). holes false 0 text) (codes "%d%c%%" ∷ codes "" ∷ codes "%x" ∷ codes "%d%" ∷ []) ≡ Some 2 ∷ Some 0 ∷ None ∷ None ∷ []
+formats_are_counted = refl
+
+-- ---- the rules on single forms: the numbers of those that are broken
+
+abbrev broken : Tests → List ℕ
+broken [] = []
+broken (t ∷ ts) = if t.1 then rule_number t.0 ∷ broken ts else broken ts
+
+abbrev an_int : Option Meaning
+an_int = Some (m.Local 0 0)
+
+abbrev an_array : Option Meaning
+an_array = Some (m.ArrayParam 0)
+
+pub a_value_is_no_array : map (λ (w : Position). broken (value_tests w)) positions ≡ [] ∷ [] ∷ [] ∷ (4 ∷ []) ∷ []
+a_value_is_no_array = refl
+
+pub names_as_values : map (λ (o : Option Meaning). broken (name_tests o p.Value)) (None ∷ an_int ∷ Some (m.Global 0) ∷ an_array ∷ Some (m.Function 0) ∷ [])
+    ≡ (2 ∷ []) ∷ [] ∷ [] ∷ (4 ∷ []) ∷ (4 ∷ []) ∷ []
+names_as_values = refl
+
+pub names_for_array_parameters : map (λ (o : Option Meaning). broken (name_tests o p.Array)) (None ∷ an_int ∷ an_array ∷ Some (m.GlobalArray 0 4) ∷ Some (m.LocalArray 0 0 4) ∷ [])
+    ≡ (2 ∷ []) ∷ (4 ∷ []) ∷ [] ∷ [] ∷ [] ∷ []
+names_for_array_parameters = refl
+
+pub elements_of_arrays : map (λ (o : Option Meaning). broken (index_tests o p.Value)) (None ∷ an_int ∷ an_array ∷ []) ≡ (2 ∷ []) ∷ (4 ∷ []) ∷ [] ∷ []
+elements_of_arrays = refl
+
+pub no_element_for_an_array : broken (index_tests an_array p.Array) ≡ 4 ∷ []
+no_element_for_an_array = refl
+
+abbrev with : Bool → Bool → ℕ → Option Callee
+with is_async gives_int params = Some (record { number = 0; is_async = is_async; gives_int = gives_int; params = params })
+
+abbrev in_plain : Around
+in_plain = record { is_async = false; gives_int = false; depth = 0; in_do = false; in_loop = false; reached = r.ByNone }
+
+abbrev call : Option Callee → ℕ → Around → Position → List ℕ
+call callee args a w = broken (call_tests (Some (m.Function 0)) callee args a w)
+
+pub calls_by_their_callee : call (with false true 1) 1 in_plain p.Whole ∷ call (with false true 1) 0 in_plain p.Whole ∷ call (with false true 1) 1 in_plain p.Value
+    ∷ call (with false false 1) 1 in_plain p.Statement
+    ∷ call (with false false 1) 1 in_plain p.Whole ∷ call (with true false 0) 0 in_plain p.Statement ∷ call (with true false 0) 0 in_loop p.Statement ∷ call (with true false 1) 0 in_plain p.Array ∷ []
+    ≡ [] ∷ (3 ∷ []) ∷ (18 ∷ []) ∷ [] ∷ (12 ∷ []) ∷ (5 ∷ []) ∷ [] ∷ (3 ∷ 4 ∷ 5 ∷ 12 ∷ 18 ∷ []) ∷ []
+calls_by_their_callee = refl
+
+-- what is no function has no parameters to be counted
+pub calls_of_what_is_none : map (λ (o : Option Meaning). broken (call_tests o None 7 in_plain p.Statement)) (None ∷ an_int ∷ []) ≡ (2 ∷ []) ∷ (4 ∷ []) ∷ []
+calls_of_what_is_none = refl
+
+abbrev of_core : ℕ → Around
+of_core core = record { is_async = true; gives_int = false; depth = 0; in_do = false; in_loop = false; reached = r.ByOne core }
+
+-- from the core 0 to the core 1
+abbrev away : Around → Bool × Bool
+away a = (sends_away a.reached (Some (record { from = Some 0; to = Some 1 })), takes_away a.reached (Some (record { from = Some 0; to = Some 1 })))
+
+pub away_from_the_ends : map away (of_core 0 ∷ of_core 1 ∷ in_loop ∷ []) ≡ (false, true) ∷ (true, false) ∷ (false, false) ∷ []
+away_from_the_ends = refl
+
+pub operations_on_channels : map (λ (o : Option Meaning). broken (channel_tests o false in_loop p.Whole)) (None ∷ an_int ∷ Some (m.Channel 0) ∷ []) ≡ (2 ∷ []) ∷ (4 ∷ []) ∷ [] ∷ []
+operations_on_channels = refl
+
+pub an_operation_that_breaks_more : broken (channel_tests (Some (m.Channel 0)) true in_plain p.Array) ≡ 4 ∷ 6 ∷ 11 ∷ 18 ∷ []
+an_operation_that_breaks_more = refl
+
+pub operations_on_files : map (λ (o : Option Meaning). broken (file_tests (Some (m.File 0)) o in_loop p.Whole)) (None ∷ an_int ∷ an_array ∷ []) ≡ (2 ∷ []) ∷ (4 ∷ []) ∷ [] ∷ []
+operations_on_files = refl
+
+pub a_file_that_is_none : map (λ (o : Option Meaning). broken (file_tests o an_array in_plain p.Value)) (None ∷ an_int ∷ Some (m.File 0) ∷ [])
+    ≡ (2 ∷ 6 ∷ 18 ∷ []) ∷ (4 ∷ 6 ∷ 18 ∷ []) ∷ (6 ∷ 18 ∷ []) ∷ []
+a_file_that_is_none = refl
+
+pub sizes_of_arrays : map (λ (size : ℤ). broken (array_tests None size)) (negsuc 0 ∷ pos 0 ∷ pos 1 ∷ pos 4096 ∷ pos 4097 ∷ []) ≡ (13 ∷ []) ∷ (13 ∷ []) ∷ [] ∷ [] ∷ (13 ∷ []) ∷ []
+sizes_of_arrays = refl
+
+pub capacities_of_channels : map (λ (cap : ℤ). broken (link_tests None (Some (m.Core 0)) (Some (m.Core 1)) cap 63)) (negsuc 0 ∷ pos 0 ∷ pos 1 ∷ pos 64 ∷ pos 65 ∷ [])
+    ≡ (14 ∷ []) ∷ (14 ∷ []) ∷ [] ∷ [] ∷ (14 ∷ []) ∷ []
+capacities_of_channels = refl
+
+pub channel_65 : broken (link_tests None (Some (m.Core 0)) (Some (m.Core 1)) (pos 1) 64) ≡ 14 ∷ []
+channel_65 = refl
+
+pub ends_of_channels : map (λ (o : Option Meaning). broken (link_tests (Some (m.Global 0)) (Some (m.Core 0)) o (pos 1) 0)) (None ∷ an_int ∷ Some (m.Core 0) ∷ Some (m.Core 1) ∷ [])
+    ≡ (1 ∷ 2 ∷ []) ∷ (1 ∷ 4 ∷ []) ∷ (1 ∷ 14 ∷ []) ∷ (1 ∷ []) ∷ []
+ends_of_channels = refl
+
+pub sixteen_files : broken (path_tests None 15 None) ∷ broken (path_tests None 16 None) ∷ broken (path_tests None 1 (Some (m.File 0))) ∷ broken (path_tests (Some (m.File 0)) 1 None) ∷ []
+    ≡ [] ∷ (17 ∷ []) ∷ (17 ∷ []) ∷ (1 ∷ []) ∷ []
+sixteen_files = refl
+
+pub entries_of_cores : map (λ (callee : Option Callee). broken (core_tests None (Some (m.Function 0)) callee)) (with true false 0 ∷ with true true 0 ∷ with true false 1 ∷ with false false 0 ∷ [])
+    ≡ [] ∷ [] ∷ (10 ∷ []) ∷ (10 ∷ []) ∷ []
+entries_of_cores = refl
+
+pub entries_that_are_none : map (λ (o : Option Meaning). broken (core_tests an_int o None)) (None ∷ an_int ∷ []) ≡ (1 ∷ 2 ∷ []) ∷ (1 ∷ 4 ∷ []) ∷ []
+entries_that_are_none = refl
+
+pub numbers_of_cores : map (λ (n : ℕ). broken (program_tests n)) (0 ∷ 1 ∷ 16 ∷ 17 ∷ []) ≡ (15 ∷ []) ∷ [] ∷ [] ∷ (15 ∷ []) ∷ []
+numbers_of_cores = refl
+
+pub returns_of_a_function : map (λ (gives : Bool). broken (return_tests (record in_plain { gives_int = true }) gives)) (true ∷ false ∷ []) ≡ [] ∷ (12 ∷ []) ∷ []
+returns_of_a_function = refl
+
+pub returns_in_a_body : map (λ (gives : Bool). broken (return_tests (inside_async in_loop) gives)) (true ∷ false ∷ []) ≡ (9 ∷ 12 ∷ []) ∷ (9 ∷ []) ∷ []
+returns_in_a_body = refl
+
+-- ---- small programs: the first bytes of the nodes that break rules, with the numbers of those rules
+
+abbrev with_fault : ℕ → List ℕ → List (ℕ × List ℕ) → List (ℕ × List ℕ)
+with_fault at [] rest = rest
+with_fault at (r ∷ rs) rest = (at, r ∷ rs) ∷ rest
+
+abbrev faults : List Node → List (ℕ × List ℕ)
+faults [] = []
+faults (n ∷ ns) = with_fault n.at (broken n.tests) (faults ns)
+
+abbrev a_function : ℕ → Bool → Bool → List ℕ → List Param → List Stmt → Item
+a_function at is_async gives_int name params body = i.Function (record { at = at; is_async = is_async; gives_int = gives_int; name = name; params = params; body = body })
+
+-- core a(f); async void f() { .. }
+abbrev one_core : List Stmt → List Item
+one_core body = i.Core 0 (codes "a") (codes "f") ∷ a_function 11 true false (codes "f") [] body ∷ []
+
+abbrev in_one_core : List Stmt → List (ℕ × List ℕ)
+in_one_core body = faults (program_nodes (one_core body) (r.ByOne 0 ∷ []))
+
+abbrev a_number_at : ℕ → Expr
+a_number_at at = e.Number at (pos 1)
+
+pub the_empty_program : faults (program_nodes [] []) ≡ (0, 15 ∷ []) ∷ []
+the_empty_program = refl
+
+-- int x; int x;
+pub declared_twice : in_one_core (s.Int 28 (codes "x") None ∷ s.Int 35 (codes "x") None ∷ []) ≡ (35, 1 ∷ []) ∷ []
+declared_twice = rw (int_is 28 (codes "x") None, int_is 35 (codes "x") None) refl
+
+-- int x; { int x; }
+pub declared_in_two_scopes : in_one_core (s.Int 28 (codes "x") None ∷ s.Block 35 (s.Int 37 (codes "x") None ∷ []) ∷ []) ≡ []
+declared_in_two_scopes = rw (int_is 28 (codes "x") None, block_is 35 (s.Int 37 (codes "x") None ∷ []), int_is 37 (codes "x") None) refl
+
+-- x = 1;
+abbrev undeclared : List Stmt
+undeclared = s.Assign 28 (e.Name 28 (codes "x")) (a_number_at 32) ∷ []
+
+pub not_declared : in_one_core undeclared ≡ (28, 2 ∷ []) ∷ []
+not_declared = rw (assign_is 28 (e.Name 28 (codes "x")) (a_number_at 32), name_is 28 (codes "x"), number_is 32 (pos 1)) refl
+
+-- int x = x;
+pub not_declared_before_its_end : in_one_core (s.Int 28 (codes "x") (Some (e.Name 36 (codes "x"))) ∷ []) ≡ (36, 2 ∷ []) ∷ []
+not_declared_before_its_end = rw (int_is 28 (codes "x") (Some (e.Name 36 (codes "x"))), name_is 36 (codes "x")) refl
+
+-- f = 1;
+pub a_function_is_no_variable : in_one_core (s.Assign 28 (e.Name 28 (codes "f")) (a_number_at 32) ∷ []) ≡ (28, 4 ∷ []) ∷ []
+a_function_is_no_variable = rw (assign_is 28 (e.Name 28 (codes "f")) (a_number_at 32), name_is 28 (codes "f"), number_is 32 (pos 1)) refl
+
+-- f(1);
+pub an_argument_too_many : in_one_core (s.Call 28 (e.Call 28 (codes "f") (a_number_at 30 ∷ [])) ∷ []) ≡ (28, 3 ∷ []) ∷ []
+an_argument_too_many = rw (call_made 28 (e.Call 28 (codes "f") (a_number_at 30 ∷ [])), call_is 28 (codes "f") (a_number_at 30 ∷ []), number_is 30 (pos 1)) refl
+
+-- core a(f); async void f() {} void g() { f(); yield; }
+pub in_a_plain_function : faults (program_nodes (one_core [] ++ a_function 30 false false (codes "g") [] (s.Call 41 (e.Call 41 (codes "f") []) ∷ s.Yield 46 ∷ []) ∷ []) (r.ByOne 0 ∷ r.ByNone ∷ []))
+    ≡ (41, 5 ∷ []) ∷ (46, 6 ∷ []) ∷ []
+in_a_plain_function = rw (call_made 41 (e.Call 41 (codes "f") []), call_is 41 (codes "f") [], yield_is 46) refl
+
+-- async ;
+pub a_body_in_no_do : in_one_core (s.Async 28 (s.Empty 34) ∷ []) ≡ (28, 7 ∷ []) ∷ []
+a_body_in_no_do = rw (async_is 28 (s.Empty 34), empty_is 34) refl
+
+-- k: do { async cancel k; cancel m; return; } finish
+abbrev body_of_a_do : List Stmt
+body_of_a_do = s.Async 36 (s.Cancel 42 (codes "k")) ∷ s.Cancel 52 (codes "m") ∷ s.Return 62 None ∷ []
+
+pub in_a_do : in_one_core (s.Do 31 (Some (codes "k")) body_of_a_do ∷ []) ≡ (52, 8 ∷ []) ∷ (62, 9 ∷ []) ∷ []
+in_a_do = rw (do_is 31 (Some (codes "k")) body_of_a_do, async_is 36 (s.Cancel 42 (codes "k")), cancel_is 42 (codes "k"), cancel_is 52 (codes "m"), return_is 62 None) refl
+
+-- while (1) break; break;
+pub in_no_loop : in_one_core (s.While 28 (a_number_at 35) (s.Break 38) ∷ s.Break 45 ∷ []) ≡ (45, 9 ∷ []) ∷ []
+in_no_loop = rw (while_is 28 (a_number_at 35) (s.Break 38), number_is 35 (pos 1), break_is 38, break_is 45) refl
+
+-- for (int i; i; i = 1) i = 1; i = 1; where the first part has a scope of its own
+abbrev set_i : ℕ → ℕ → Stmt
+set_i at right = s.Assign at (e.Name at (codes "i")) (a_number_at right)
+
+pub a_scope_of_its_own : in_one_core (s.For 28 (Some (s.Int 33 (codes "i") None)) (Some (e.Name 40 (codes "i"))) (Some (set_i 43 47)) (set_i 50 54) ∷ set_i 57 61 ∷ []) ≡ (57, 2 ∷ []) ∷ []
+a_scope_of_its_own = rw (
+  for_all 28 (s.Int 33 (codes "i") None) (e.Name 40 (codes "i")) (set_i 43 47) (set_i 50 54),
+  int_is 33 (codes "i") None,
+  assign_is 43 (e.Name 43 (codes "i")) (a_number_at 47),
+  assign_is 50 (e.Name 50 (codes "i")) (a_number_at 54),
+  assign_is 57 (e.Name 57 (codes "i")) (a_number_at 61),
+  name_is 40 (codes "i"),
+  name_is 43 (codes "i"),
+  name_is 50 (codes "i"),
+  name_is 57 (codes "i"),
+  number_is 47 (pos 1),
+  number_is 54 (pos 1),
+  number_is 61 (pos 1),
+) refl
+
+-- int x[4097];
+pub an_array_too_large : in_one_core (s.Array 28 (codes "x") (pos 4097) ∷ []) ≡ (28, 13 ∷ []) ∷ []
+an_array_too_large = rw (array_is 28 (codes "x") (pos 4097)) refl
+
+-- printf("%d%d", 1);
+pub an_argument_too_few : in_one_core (s.Print 28 (codes "%d%d") (a_number_at 43 ∷ []) ∷ []) ≡ (28, 16 ∷ []) ∷ []
+an_argument_too_few = rw (print_is 28 (codes "%d%d") (a_number_at 43 ∷ []), number_is 43 (pos 1)) refl
+
+-- core a(f); void f() {}
+pub a_plain_entry : faults (program_nodes (i.Core 0 (codes "a") (codes "f") ∷ a_function 11 false false (codes "f") [] [] ∷ []) (r.ByOne 0 ∷ [])) ≡ (0, 10 ∷ []) ∷ []
+a_plain_entry = refl
+
+-- core a(f); core a(f); int f; file g("d"); file h("d");
+pub items_again : faults (program_nodes (i.Core 0 (codes "a") (codes "f") ∷ i.Core 11 (codes "a") (codes "f") ∷ i.Global 22 (codes "f") None (pos 0) ∷ i.File 29 (codes "g") (codes "d")
+    ∷ i.File 42 (codes "h") (codes "d") ∷ []) [])
+    ≡ (0, 4 ∷ []) ∷ (11, 1 ∷ 4 ∷ []) ∷ (42, 17 ∷ []) ∷ []
+items_again = refl
+
+-- core a(f); async void f() { int h[3]; g(h, h); } void g(int x[], int y) {}
+abbrev array_at : ℕ → Expr
+array_at at = e.Name at (codes "h")
+
+abbrev with_arrays : List Item
+with_arrays = one_core (s.Array 28 (codes "h") (pos 3) ∷ s.Call 38 (e.Call 38 (codes "g") (array_at 40 ∷ array_at 43 ∷ [])) ∷ [])
+    ++ a_function 49 false false (codes "g") (record { at = 56; name = codes "x"; is_array = true } ∷ record { at = 65; name = codes "y"; is_array = false } ∷ []) [] ∷ []
+
+pub an_array_for_an_int : faults (program_nodes with_arrays (r.ByOne 0 ∷ r.ByOne 0 ∷ [])) ≡ (43, 4 ∷ []) ∷ []
+an_array_for_an_int = rw (
+  array_is 28 (codes "h") (pos 3),
+  call_made 38 (e.Call 38 (codes "g") (array_at 40 ∷ array_at 43 ∷ [])),
+  call_is 38 (codes "g") (array_at 40 ∷ array_at 43 ∷ []),
+  name_is 40 (codes "h"),
+  name_is 43 (codes "h"),
+) refl
+
+pub the_first_calls_the_second : all_calls with_arrays ≡ (1 ∷ []) ∷ [] ∷ []
+the_first_calls_the_second = rw (
+  array_is 28 (codes "h") (pos 3),
+  call_made 38 (e.Call 38 (codes "g") (array_at 40 ∷ array_at 43 ∷ [])),
+  call_is 38 (codes "g") (array_at 40 ∷ array_at 43 ∷ []),
+  name_is 40 (codes "h"),
+  name_is 43 (codes "h"),
+) refl
+
+-- core a(f); void f(int x, int x[]) {}
+pub a_parameter_again : faults (program_nodes (i.Core 0 (codes "a") (codes "f") ∷ a_function 11 true false (codes "f")
+    (record { at = 24; name = codes "x"; is_array = false } ∷ record { at = 31; name = codes "x"; is_array = true } ∷ []) [] ∷ []) (r.ByOne 0 ∷ []))
+    ≡ (0, 10 ∷ []) ∷ (31, 1 ∷ []) ∷ []
+a_parameter_again = refl
+
+-- core a(f); core b(f); channel c(a, b, 1); async void f() { Send(c, 1); }
+abbrev with_a_channel : List Item
+with_a_channel = i.Core 0 (codes "a") (codes "f") ∷ i.Core 11 (codes "b") (codes "f") ∷ i.Channel 22 (codes "c") (codes "a") (codes "b") (pos 1)
+    ∷ a_function 42 true false (codes "f") [] (s.Call 59 (e.Send 59 (codes "c") (a_number_at 67)) ∷ []) ∷ []
+
+pub another_core_sends : faults (program_nodes with_a_channel (r.BySeveral ∷ [])) ≡ (59, 11 ∷ []) ∷ []
+another_core_sends = rw (call_made 59 (e.Send 59 (codes "c") (a_number_at 67)), send_is 59 (codes "c") (a_number_at 67), number_is 67 (pos 1)) refl
+
+pub its_core_sends : faults (program_nodes with_a_channel (r.ByOne 0 ∷ [])) ≡ []
+its_core_sends = rw (call_made 59 (e.Send 59 (codes "c") (a_number_at 67)), send_is 59 (codes "c") (a_number_at 67), number_is 67 (pos 1)) refl
+
+-- core a(f); async int f() { if (1+f()) h[1] = f(); else h[-f()] = 1; return Read(g, 1, 1, h); } int h[3]; file g("d");
+abbrev call_at : ℕ → Expr
+call_at at = e.Call at (codes "f") []
+
+abbrev sum : Expr
+sum = e.Chain 31 9 (a_number_at 31) (record { op = b.Add; operand = call_at 33 } ∷ [])
+
+abbrev element : ℕ → Expr → Expr
+element at index = e.Index at (codes "h") index
+
+abbrev with_values : List Item
+with_values = i.Core 0 (codes "a") (codes "f")
+    ∷ a_function 11 true true (codes "f") []
+    (s.If 27 sum (s.Assign 38 (element 38 (a_number_at 40)) (call_at 45)) (Some (s.Assign 55 (element 55 (e.Unary 57 u.Neg (call_at 58))) (a_number_at 65)))
+    ∷ s.Return 68 (Some (e.Read 75 (codes "g") (a_number_at 83) (a_number_at 86) (codes "h"))) ∷ [])
+    ∷ i.Global 95 (codes "h") (Some (pos 3)) (pos 0) ∷ i.File 105 (codes "g") (codes "d") ∷ []
+
+pub calls_in_values : faults (program_nodes with_values (r.ByOne 0 ∷ [])) ≡ (33, 18 ∷ []) ∷ (58, 18 ∷ []) ∷ []
+calls_in_values = rw (
+  if_else 27 sum (s.Assign 38 (element 38 (a_number_at 40)) (call_at 45)) (s.Assign 55 (element 55 (e.Unary 57 u.Neg (call_at 58))) (a_number_at 65)),
+  chain_is 31 9 (a_number_at 31) (record { op = b.Add; operand = call_at 33 } ∷ []),
+  link_is (record { op = b.Add; operand = call_at 33 }),
+  assign_is 38 (element 38 (a_number_at 40)) (call_at 45),
+  assign_is 55 (element 55 (e.Unary 57 u.Neg (call_at 58))) (a_number_at 65),
+  index_is 38 (codes "h") (a_number_at 40),
+  index_is 55 (codes "h") (e.Unary 57 u.Neg (call_at 58)),
+  unary_is 57 u.Neg (call_at 58),
+  call_is 33 (codes "f") [],
+  call_is 45 (codes "f") [],
+  call_is 58 (codes "f") [],
+  return_is 68 (Some (e.Read 75 (codes "g") (a_number_at 83) (a_number_at 86) (codes "h"))),
+  read_is 75 (codes "g") (a_number_at 83) (a_number_at 86) (codes "h"),
+  number_is 31 (pos 1),
+  number_is 40 (pos 1),
+  number_is 65 (pos 1),
+  number_is 83 (pos 1),
+  number_is 86 (pos 1),
+) refl
+
+-- ---- tables
+
+pub tables_of_two_cores : tables_of with_a_channel (r.BySeveral ∷ [])
+    ≡ record { functions = record { is_async = true; gives_int = false; params = [] } ∷ []; channels = record { from = Some 0; to = Some 1 } ∷ []; reached = r.BySeveral ∷ [] }
+tables_of_two_cores = refl
+
+pub kinds_of_parameters : signatures with_arrays ≡ record { is_async = true; gives_int = false; params = [] } ∷ record { is_async = false; gives_int = false; params = true ∷ false ∷ [] } ∷ []
+kinds_of_parameters = refl
+
+pub a_callee : callee (tables_of with_arrays []) (Some (m.Function 1)) ≡ Some (record { number = 1; is_async = false; gives_int = false; params = 2 })
+a_callee = refl
+
+pub no_callee : map (callee (tables_of with_arrays [])) (None ∷ Some (m.Core 0) ∷ Some (m.Function 2) ∷ []) ≡ None ∷ None ∷ None ∷ []
+no_callee = refl
+
+pub array_parameters : map (takes_array (tables_of with_arrays []) (Some (m.Function 1))) (0 ∷ 1 ∷ 2 ∷ []) ≡ true ∷ false ∷ false ∷ []
+array_parameters = refl
+
+pub ends_of_a_channel : map (ends_named (tables_of with_a_channel [])) (Some (m.Channel 0) ∷ Some (m.Channel 1) ∷ Some (m.File 0) ∷ [])
+    ≡ Some (record { from = Some 0; to = Some 1 }) ∷ None ∷ None ∷ []
+ends_of_a_channel = refl
+
+pub numbers_of_cores_meant : map core_number (Some (m.Core 2) ∷ Some (m.File 2) ∷ None ∷ []) ≡ Some 2 ∷ None ∷ None ∷ []
+numbers_of_cores_meant = refl
+
+-- the second enters what is no function
+pub the_second_enters_none : entries_of (i.Core 0 (codes "a") (codes "f") ∷ i.Core 11 (codes "b") (codes "a") ∷ a_function 22 true false (codes "f") [] [] ∷ []) ≡ Some 0 ∷ None ∷ []
+the_second_enters_none = refl
+
+pub called_in_order : calls_of (record { at = 0; tests = []; calls = Some 3 } ∷ plain 4 [] ∷ record { at = 6; tests = []; calls = Some 1 } ∷ []) ≡ 3 ∷ 1 ∷ []
+called_in_order = refl
+
+pub without_a_row : map reached_in (None ∷ Some (r.ByOne 1) ∷ []) ≡ r.ByNone ∷ r.ByOne 1 ∷ []
+without_a_row = refl
+
+-- ---- what is reached in `core a(f); async void f() {}`
+
+none_reached : (calls : List (List ℕ)) (entry : Option ℕ) (function : ℕ) → entry ≡ None → ReachedFrom calls entry function → ⊥
+none_reached calls entry function e (is_entry _ h) = cc
+none_reached calls entry function e (is_called caller _ h c) = none_reached calls entry caller e h
+
+only_core : (core : ℕ) → reach.Reaches ([] ∷ []) (Some 0 ∷ []) core 0 → core ≡ 0
+only_core zero h = refl
+only_core (suc core) h = absurd (none_reached ([] ∷ []) _ 0 refl h)
+
+same_core : (a b : ℕ) → Some (r.ByOne a) ≡ Some (r.ByOne b) → a ≡ b
+same_core a b e = cc
+
+one_row : AreRows ([] ∷ []) (Some 0 ∷ []) (r.ByOne 0 ∷ [])
+one_row = record { count = refl; each = each } where
+  each : (function : ℕ) (row : Reached) → slice_get (r.ByOne 0 ∷ []) function ≡ Some row → IsReachedBy ([] ∷ []) (Some 0 ∷ []) function row
+  each zero r.ByNone e = cc
+  each zero r.BySeveral e = cc
+  each zero (r.ByOne k) e =
+      subst (λ (k : ℕ). reach.Reaches ([] ∷ []) (Some 0 ∷ []) k 0 × ((core : ℕ) → reach.Reaches ([] ∷ []) (Some 0 ∷ []) core 0 → core ≡ k)) (same_core 0 k e) (is_entry 0 refl, only_core)
+  each (suc function) row e = cc
+
+pub reached_by_its_core : AreReached (one_core []) (r.ByOne 0 ∷ [])
+reached_by_its_core = one_row
+
+pub not_reached_by_none : AreReached (one_core []) (r.ByNone ∷ []) → ⊥
+not_reached_by_none h = h.each 0 r.ByNone refl 0 (is_entry 0 refl)
+
+pub a_core_reaches_its_entry : Reaches (one_core []) 0 0
+a_core_reaches_its_entry = is_entry 0 refl
+
+pub no_other_core_does : Reaches (one_core []) 1 0 → ⊥
+no_other_core_does h = none_reached ([] ∷ []) _ 0 refl h
+
+pub a_core_reaches_what_its_entry_calls : Reaches with_arrays 0 1
+a_core_reaches_what_its_entry_calls =
+    subst (λ calls. reach.Reaches calls (Some 0 ∷ []) 0 1) (sym the_first_calls_the_second) (is_called 0 1 (is_entry 0 refl) (record { row = 1 ∷ []; stands = refl; among = here_is [] }))
+
+some_core : (core : ℕ) → Some core ≡ None → ⊥
+some_core core e = cc
+
+pub another_than_none : IsReachedByAnother (one_core []) 0 None
+another_than_none = record { other = 0; reaches = is_entry 0 refl; differs = some_core 0 }
+
+pub no_other_than_its_core : IsReachedByAnother (one_core []) 0 (Some 0) → ⊥
+no_other_than_its_core h = h.differs (ap (λ (k : ℕ). Some k) (only_core h.other h.reaches))
+
+-- ---- broken rules
+
+pub the_fourth_is_broken : IsBrokenRule 4 (name_tests (Some (m.Function 0)) p.Value)
+the_fourth_is_broken = inr (inl (refl, refl))
+
+pub the_second_is_not : IsBrokenRule 2 (name_tests (Some (m.Function 0)) p.Value) → ⊥
+the_second_is_not (inl h) = let e = h.1 in cc e
+the_second_is_not (inr (inl h)) = let e = h.0 in omega (arith, e)
+the_second_is_not (inr (inr h)) = h
+
+abbrev two_nodes : List Node
+two_nodes = plain 0 [] ∷ plain 5 (name_tests None p.Value) ∷ []
+
+pub the_second_node_breaks_it : BreaksIn two_nodes 1 2
+the_second_node_breaks_it = record { node = plain 5 (name_tests None p.Value); stands = refl; breaks = inl (refl, refl) }
+
+pub the_first_node_does_not : BreaksIn two_nodes 0 2 → ⊥
+the_first_node_does_not h = let same : h.node ≡ plain 0 [] = cc h.stands in subst (λ (n : Node). IsBrokenRule 2 n.tests) same h.breaks
+
+-- core a(f); async void f() {}
+pub it_breaks_none : BreaksNone (one_core [])
+it_breaks_none = program_told (one_core []) (r.ByOne 0 ∷ []) one_row None refl
+
+-- core a(f); async void f() { x = 1; }
+calls_nothing : all_calls (one_core undeclared) ≡ [] ∷ []
+calls_nothing = rw (assign_is 28 (e.Name 28 (codes "x")) (a_number_at 32), name_is 28 (codes "x"), number_is 32 (pos 1)) refl
+
+its_row : AreReached (one_core undeclared) (r.ByOne 0 ∷ [])
+its_row = subst (λ calls. AreRows calls (Some 0 ∷ []) (r.ByOne 0 ∷ [])) (sym calls_nothing) one_row
+
+its_first : Some (record { rule = rule.NameIsDeclared; at = 28 }) ≡ first_of (program_nodes (one_core undeclared) (r.ByOne 0 ∷ []))
+its_first = rw (assign_is 28 (e.Name 28 (codes "x")) (a_number_at 32), name_is 28 (codes "x")) refl
+
+pub its_least : IsLeastBroken (one_core undeclared) 2 28
+its_least = program_told (one_core undeclared) (r.ByOne 0 ∷ []) its_row (Some (record { rule = rule.NameIsDeclared; at = 28 })) its_first
+
+pub it_breaks_one : BreaksNone (one_core undeclared) → ⊥
+it_breaks_one h = h its_least.number 2 its_least.is
+
+pub the_other_breaks_none : (number : ℕ) → Breaks (one_core []) number 2 → ⊥
+the_other_breaks_none number h = it_breaks_none number 2 h
+
+pub its_fault : IsFault (record { items = one_core undeclared }) (f.Broken 2 28)
+its_fault = its_least
+
+pub not_another_rule : IsFault (record { items = one_core undeclared }) (f.Broken 4 28) → ⊥
+not_another_rule h = by (its_least.least h.number 4 h.is) (h.least its_least.number 2 its_least.is) where
+  by : IsUpTo its_least.number 2 h.number 4 → IsUpTo h.number 4 its_least.number 2 → ⊥
+  by (inl x) (inl y) = omega (arith, x, y)
+  by (inl x) (inr y) = let e = y.0 in omega (arith, x, e)
+  by (inr x) (inl y) = let e = x.0 in omega (arith, e, y)
+  by (inr x) (inr y) = let le = y.1 in omega (arith, le)
+
+pub no_fault_of_the_other : (number at : ℕ) → IsFault (record { items = one_core [] }) (f.Broken number at) → ⊥
+no_fault_of_the_other number at h = it_breaks_none h.number number h.is

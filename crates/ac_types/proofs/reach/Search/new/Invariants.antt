@@ -1,6 +1,0 @@
-use Rattle.std.proofs.Common.{◌≡◌, ◌++◌, drop}
-use Rattle.ac_types.specs.Search.{no_flags}
-use Rattle.ac_types.proofs.reach.Search.new.Given as goal
-
-abbrev pub invariant-loop-row : goal.invariant-loop-row
-invariant-loop-row l = l.flags.items ++ no_flags (drop l._row-index l.calls) ≡ no_flags l.calls

@@ -1,0 +1,4 @@
+pub mod Seen
+pub mod Statements
+pub mod Items
+pub mod Verdicts

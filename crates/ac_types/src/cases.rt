@@ -1,5 +1,0 @@
-//! Small programs and the rules that they break.
-
-mod forms;
-mod functions;
-mod names;

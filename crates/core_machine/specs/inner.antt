@@ -1,0 +1,6 @@
+pub mod Operands
+pub mod Operators
+pub mod Needs
+pub mod Beginning
+pub mod Left
+pub mod Changes

@@ -1,0 +1,5 @@
+pub mod Bodies
+pub mod Work
+pub mod Reserve
+pub mod Quiet
+pub mod Rises
