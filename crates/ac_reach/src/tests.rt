@@ -1,5 +1,7 @@
 //! What is reached in a long chain of calls.
 
+ghost use Rattle.std.specs.Prelude.{◌<◌};
+
 use crate::{Reach, Reached, find_reach};
 use ac_base::List;
 use std::alloc::Global;
