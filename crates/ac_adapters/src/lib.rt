@@ -6,6 +6,3 @@ mod output;
 
 pub use files::FileLibrary;
 pub use output::StandardSink;
-
-#[cfg(test)]
-mod tests;

@@ -28,6 +28,7 @@ use Rattle.ac_types.proofs.Cleans.{AllClean, clean_sooner, clean_later}
 use Rattle.ac_commands.specs.declared.program.Start.{Start}
 use Rattle.ac_resolve.specs.Places.{function_of}
 use Rattle.ac_resolve.specs.Commands.{Texts}
+use Rattle.ac_resolve.proofs.ItemsInPlace.{EachMeans, slots_more}
 use Rattle.ac_resolve.specs.Resolution.{cores_in, functions_in, function_in, function_texts, items_texts, channels_in, start_at, starts_in}
 use Rattle.ac_compile.specs.inner.Built.{AreStarts}
 use Rattle.ac_compile.specs.Unbuilt.{as_list, params_nodes, body_nodes, first_entry, is_entry, item_nodes, is_late, items_nodes}
@@ -36,29 +37,11 @@ use Rattle.ac_compile.proofs.Readings.{AreClean, no_node, neither, node_built}
 
 -- ---- what all items of a list mean, by the numbers that are given before them
 
-abbrev pub EachMeans : (Meaning → Type 0) → Counts → List Item → Type 0
-EachMeans P c [] = Unit {0}
-EachMeans P c (x ∷ xs) = P (item_meaning c x) × EachMeans P (counted c x) xs
-
 pub each_more : (P Q : Meaning → Type 0) → ((what : Meaning) → P what → Q what) → (c : Counts) (xs : List Item) → EachMeans P c xs → EachMeans Q c xs
 each_more P Q f c [] h = tt
 each_more P Q f c (x ∷ xs) h = (f (item_meaning c x) h.0, each_more P Q f (counted c x) xs h.1)
 
-pub names_mean : (P : Meaning → Type 0) (q : Past) (xs : List Item) → AllMean P q.names → EachMeans P q.counts xs → AllMean P (past_all q xs).names
-names_mean P q [] h e = h
-names_mean P q (x ∷ xs) h e = names_mean P (past_after q x) xs (added_mean P (item_name x) (item_meaning q.counts x) q.names e.0 h) e.1
-
 -- ---- globals
-
-pub slots_more : (q : Past) (xs : List Item) → q.counts.slots ≤ (past_all q xs).counts.slots
-slots_more q [] = omega arith
-slots_more q (x ∷ xs) = let h = slots_more (past_after q x) xs in let k = one_more q.counts x in omega (arith, h, k) where
-  one_more : (c : Counts) (y : Item) → c.slots ≤ (counted c y).slots
-  one_more c (i.Global at name size value) = omega arith
-  one_more c (i.Function f) = omega arith
-  one_more c (i.Channel at name from to cap) = omega arith
-  one_more c (i.File at name path) = omega arith
-  one_more c (i.Core at name entry) = omega arith
 
 pub globals_within : (slots globals : ℕ) (q : Past) (xs : List Item) → (past_all q xs).counts.slots ≤ globals → EachMeans (IsWithin slots globals) q.counts xs
 globals_within slots globals q [] le = tt

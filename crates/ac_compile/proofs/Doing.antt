@@ -29,7 +29,7 @@ use Rattle.ac_compile.proofs.Directives.{directives_are}
 use Rattle.ac_compile.proofs.Within.{within_declared}
 use Rattle.ac_compile.proofs.Readings.{no_node, neither, node_built, AllIn, value_read, effect_read, target_read, values_read, test_read, initial_read, operand_read, values_length}
 use Rattle.ac_compile.proofs.Smalls.{few_exprs}
-use Rattle.ac_compile.proofs.Tellings.{NodesPart, Kept, kept_same, kept_further, last_there, Takes, IsTold, is_told, body_kept}
+use Rattle.ac_resolve.proofs.Tellings.{NodesPart, Kept, kept_same, kept_further, last_there, Takes, IsTold, is_told, body_kept}
 
 -- ---- lists of commands
 

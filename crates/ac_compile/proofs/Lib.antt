@@ -15,7 +15,6 @@ pub mod Loops
 pub mod Directives
 pub mod Within
 pub mod Readings
-pub mod Tellings
 pub mod Smalls
 pub mod Doing
 pub mod Counting

@@ -32,9 +32,10 @@ use Rattle.ac_compile.specs.inner.Built.{Round, AreCommands, IsOne}
 use Rattle.ac_compile.specs.Unbuilt.{as_list, body_nodes, first_entry, unbuilt_nodes}
 use Rattle.ac_compile.proofs.Within.{IsWithin}
 use Rattle.ac_compile.proofs.Readings.{AreClean}
-use Rattle.ac_compile.proofs.Tellings.{Kept}
+use Rattle.ac_resolve.proofs.Tellings.{Kept}
 use Rattle.ac_compile.proofs.Doing.{bodies_nodes, body_done}
-use Rattle.ac_compile.proofs.Counting.{EachMeans, names_mean, globals_within, starts_are, AreFine, no_channels, HasCore, none_there, one_there}
+use Rattle.ac_resolve.proofs.ItemsInPlace.{EachMeans, names_mean}
+use Rattle.ac_compile.proofs.Counting.{globals_within, starts_are, AreFine, no_channels, HasCore, none_there, one_there}
 use Rattle.ac_compile.proofs.Counting.{core_of_all, IsNoFunction, IsFirst, HasFunction, no_function_there, function_there, function_of_all}
 
 -- ---- the entry of a core

@@ -37,6 +37,3 @@ pub fn compile(alloc: Global, checked: &Checked) -> Result<Code, NoMemory>
     let program = resolve(alloc, checked)?;
     program_code(alloc, &program)
 }
-
-#[cfg(test)]
-mod tests;

@@ -13,6 +13,3 @@ mod words;
 pub use fault::LexFault;
 pub use lexer::lex;
 pub use token::{Kind, Mark, Token, Word};
-
-#[cfg(test)]
-mod tests;

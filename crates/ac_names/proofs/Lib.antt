@@ -5,3 +5,4 @@ pub mod Numbers
 pub mod Statements
 pub mod Slots
 pub mod Parameters
+pub mod Examples

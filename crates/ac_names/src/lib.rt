@@ -18,6 +18,3 @@ pub use params::kinds_of;
 pub use past::{Counts, Past, whole};
 pub use scopes::Scopes;
 pub use table::Table;
-
-#[cfg(test)]
-mod tests;

@@ -16,6 +16,3 @@ pub use memory::{MemoryLibrary, MemorySink};
 pub use safe::{KEPT, SafeLibrary, SafeSink};
 pub use shelf::NamedBytes;
 pub use sink::Sink;
-
-#[cfg(test)]
-mod tests;

@@ -13,4 +13,5 @@ pub mod Programs
 pub mod Answered
 pub mod Turns
 pub mod Weights
+pub mod Shaped
 pub mod Examples

@@ -9,6 +9,3 @@ mod statements;
 
 pub use faults::SyntaxFault;
 pub use parser::parse;
-
-#[cfg(test)]
-mod tests;

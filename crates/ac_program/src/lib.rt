@@ -5,21 +5,13 @@ ghost use Rattle.std.specs.Prelude.{◌≡◌, ◌≢◌, map, string_bytes};
 ghost use Rattle.ac_program.specs.Headline.{IsDue, TookWhole, TookPart, GaveUp, TellsUsage, TellsLibrary, TellsSink, IsOfText, IsDecided};
 
 mod answering;
-#[cfg(test)]
-mod base_tests;
 mod building;
 mod execute;
 mod front;
 mod outcome;
 mod reading;
 mod refusal;
-#[cfg(test)]
-mod resolved_tests;
 mod running;
-#[cfg(test)]
-mod shown;
-#[cfg(test)]
-mod tests;
 mod words;
 mod writing;
 

@@ -5,6 +5,3 @@ mod reached;
 mod search;
 
 pub use reached::{Reach, Reached, find_reach};
-
-#[cfg(test)]
-mod tests;

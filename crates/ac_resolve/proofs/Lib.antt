@@ -3,3 +3,10 @@ pub mod Rooms
 pub mod Scoped
 pub mod Functions
 pub mod Examples
+pub mod Forms
+pub mod Within
+pub mod ValuesInPlace
+pub mod Tellings
+pub mod BodiesInPlace
+pub mod ItemsInPlace
+pub mod ProgramInPlace

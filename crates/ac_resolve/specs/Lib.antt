@@ -2,4 +2,5 @@ pub mod Places
 pub mod Computed
 pub mod Commands
 pub mod Resolution
+pub mod InPlace
 pub mod inner

@@ -6,6 +6,7 @@ ghost use Rattle.ac_names.specs.Items.{no_past, past_all};
 ghost use Rattle.ac_names.specs.Room.{HasCounts};
 ghost use Rattle.ac_names.specs.Numbered.{file_paths};
 ghost use Rattle.ac_resolve.specs.Resolution.{function_in, functions_in, cores_in, channels_in, starts_in, resolved};
+ghost use Rattle.ac_resolve.specs.InPlace.{IsInPlace};
 ghost use Rattle.ac_resolve.specs.inner.Walks.{HasTexts, after_function, after_functions, after_global};
 
 use crate::names::{core_of, function_of};
@@ -163,9 +164,10 @@ fn globals_in(alloc: Global, items: &[Item]) -> Result<Globals, NoMemory>
     Ok(globals)
 }
 
-/// The program without its names.
+/// The program without its names. Each slot, function, channel, file, text and label that it names is there.
 pub fn resolve(alloc: Global, checked: &Checked) -> Result<Resolved, NoMemory>
-    ensures { IfOk result (λ r. r ≡ resolved checked.now) }
+    ensures same { IfOk result (λ r. r ≡ resolved checked.now) }
+    ensures in_place { IfOk result IsInPlace }
 {
     let items = checked.tree().items.as_slice();
     let globals = globals_in(alloc, items)?;

@@ -8,6 +8,3 @@ mod statements;
 mod walk;
 
 pub use items::resolve;
-
-#[cfg(test)]
-mod tests;

@@ -22,3 +22,4 @@ pub mod Finishing
 pub mod Ending
 pub mod Cores
 pub mod Agrees
+pub mod Examples

@@ -1,7 +1,8 @@
 -- What small programs weigh: the tokens that each text of them has, but for those that the weight leaves out.
-use Rattle.std.proofs.Common.{◌≡◌, refl, ℕ, zero, suc, ◌<◌, ◌≤◌, pos, List, [], ◌∷◌, map, codes, None, Some, Bool, true, false, arith}
+use Rattle.std.proofs.Common.{◌≡◌, refl, sym, ap, ◌∙◌, ℕ, zero, suc, ◌<◌, ◌≤◌, pos, List, [], ◌∷◌, map, codes, None, Some, Bool, true, false, arith}
 use Rattle.std.specs.Prelude.{replicate}
-use Rattle.ac_tree.specs.declared.expr.Expr.{Expr}
+use Rattle.ac_tree.specs.declared.expr.Expr.{Expr, fold-Expr, fold-roll-Expr}
+use Rattle.ac_tree.specs.declared.expr.Expr.TheOpen.{Expr-F, Link-F}
 use Rattle.ac_tree.specs.declared.expr.Expr.TheVariants as e
 use Rattle.ac_tree.specs.declared.expr.Constant.TheVariants as c
 use Rattle.ac_tree.specs.declared.expr.Link.{Link}
@@ -14,6 +15,8 @@ use Rattle.ac_tree.specs.declared.item.Item.{Item}
 use Rattle.ac_tree.specs.declared.item.Item.TheVariants as i
 use Rattle.ac_tree.specs.declared.item.Param.{Param}
 use Rattle.ac_tree.specs.declared.item.Program.{Program}
+use Rattle.ac_tree.specs.Shape.{IsExpr, number, place, chain, AreLinks, no_link, one_link, IsPlace, variable, element, function_call, no_expr, one_expr, some_value, int}
+use Rattle.ac_tree.specs.Shape.{IsAssignment, assign, IsFirst, first_declares, IsNext, next_assigns, IsStmt, assignment, call_stmt, AreEntries, no_entry, declares, does}
 use Rattle.ac_tree.specs.Weight.{total, expr_weight, stmt_weight, params_weight, items_weight, IsSmall}
 use Rattle.ac_tree.proofs.WeightForms.{number_weighs, const_weighs, name_weighs, index_weighs, group_weighs, unary_weighs, send_weighs, recv_weighs, read_weighs, write_weighs, call_weighs}
 use Rattle.ac_tree.proofs.WeightForms.{chain_weighs}
@@ -176,3 +179,59 @@ as_many_are_small n le = let h : total (map stmt_weight (replicate n empty)) ≡
 
 pub one_more_is_not : (n : ℕ) → 1048570 < n → IsSmall (program (function (replicate n empty) ∷ [])) → ⊥
 one_more_is_not n lt small = let h : total (map stmt_weight (replicate n empty)) ≡ n = weight_of n in omega arith
+
+-- ---- shapes
+
+-- whether an expression is a name or an element, by its form
+abbrev place_step : Expr-F Bool (Unit {0}) → Bool
+place_step (Expr-F.Name at name) = true
+place_step (Expr-F.Index at name index) = true
+place_step _ = false
+
+abbrev no_step : Link-F Bool (Unit {0}) → Unit {0}
+no_step link = tt
+
+abbrev is_place : Expr → Bool
+is_place = fold-Expr Bool (Unit {0}) place_step no_step
+
+place_told : (y : Expr) → IsPlace y → is_place y ≡ true
+place_told _ (variable at name) = ap is_place (sym (e.rolls-Name at name)) ∙ fold-roll-Expr Bool (Unit {0}) place_step no_step (Expr-F.Name at name)
+place_told _ (element at name index h) =
+    ap is_place (sym (e.rolls-Index at name index)) ∙ fold-roll-Expr Bool (Unit {0}) place_step no_step (Expr-F.Index at name index)
+
+number_told : is_place one ≡ false
+number_told = ap is_place (sym (e.rolls-Number 0 (pos 1))) ∙ fold-roll-Expr Bool (Unit {0}) place_step no_step (Expr-F.Number 0 (pos 1))
+
+pub a_name_is_a_place : IsPlace x
+a_name_is_a_place = variable 0 (codes "x")
+
+pub a_number_is_none : IsPlace one → ⊥
+a_number_is_none h = let a = place_told one h in let b = number_told in cc (a, b)
+
+-- x = 1;
+pub its_shape : IsAssignment (s.Assign 0 x one)
+its_shape = assign 0 x one a_name_is_a_place (number 0 (pos 1))
+
+-- f(1);
+pub a_call_stands_alone : IsStmt (s.Call 0 (e.Call 0 (codes "f") (one ∷ [])))
+a_call_stands_alone = call_stmt 0 _ (function_call 0 (codes "f") (one ∷ []) (one_expr one [] (number 0 (pos 1)) no_expr))
+
+-- int x = 1; x = 1;
+pub a_declaration_stands_in_a_body : AreEntries (s.Int 0 (codes "x") (Some one) ∷ s.Assign 11 x one ∷ [])
+a_declaration_stands_in_a_body =
+    declares _ _ (int 0 (codes "x") (Some one) (some_value one (number 0 (pos 1))))
+    (does _ [] (assignment _ (assign 11 x one a_name_is_a_place (number 0 (pos 1)))) no_entry)
+
+-- the first part of a `for` may declare an int with its value, and the third part is an assignment
+pub a_first_part : IsFirst (Some (s.Int 0 (codes "x") (Some one)))
+a_first_part = first_declares 0 (codes "x") one (number 0 (pos 1))
+
+pub a_third_part : IsNext (Some (s.Assign 0 x one))
+a_third_part = next_assigns _ its_shape
+
+-- a chain has a link
+pub a_link : AreLinks (link b.Add x ∷ [])
+a_link = one_link _ [] (place x a_name_is_a_place) no_link
+
+pub a_sum_has_one : IsExpr (e.Chain 0 9 one (link b.Add x ∷ []))
+a_sum_has_one = chain 0 9 one _ [] (number 0 (pos 1)) a_link

@@ -10,7 +10,7 @@ use Rattle.ac_types.specs.declared.around.Position.TheVariants as p
 use Rattle.ac_types.specs.declared.numbered.Tables.{Tables}
 use Rattle.ac_types.specs.declared.seen.Seen.{Seen}
 use Rattle.ac_names.specs.declared.names.Names.{Names}
-use Rattle.ac_types.specs.declared.walk.Walk.{Walk}
+use Rattle.ac_types.specs.declared.statements.Walk.{Walk}
 use Rattle.ac_names.specs.Scopes.{Declaration, closed}
 use Rattle.ac_types.specs.Around.{inside_loop}
 use Rattle.ac_types.specs.inner.Seen.{noted, unseen, join_seen}

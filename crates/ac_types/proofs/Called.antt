@@ -4,7 +4,7 @@ use Rattle.ac_tree.specs.declared.item.Function.{Function}
 use Rattle.ac_reach.specs.declared.reached.Reached.{Reached}
 use Rattle.ac_types.specs.declared.numbered.Tables.{Tables}
 use Rattle.ac_types.specs.declared.seen.Seen.{Seen}
-use Rattle.ac_types.specs.declared.walk.Walk.{Walk}
+use Rattle.ac_types.specs.declared.statements.Walk.{Walk}
 use Rattle.ac_types.specs.Nodes.{calls_of}
 use Rattle.ac_types.specs.Items.{function_nodes}
 use Rattle.ac_types.specs.inner.Items.{after_function}

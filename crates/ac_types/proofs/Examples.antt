@@ -36,7 +36,7 @@ use Rattle.ac_types.specs.Verdicts.{IsFault}
 use Rattle.ac_types.specs.inner.Seen.{first_of}
 use Rattle.ac_types.proofs.Formats.{formats_are_printed}
 use Rattle.ac_types.proofs.Forms.{number_is, name_is, index_is, unary_is, chain_is, link_is, call_is, send_is, read_is, block_is, empty_is, int_is, array_is, assign_is}
-use Rattle.ac_types.proofs.Forms.{call_made, print_is, if_else, while_is, for_all, break_is, return_is, do_is, async_is, cancel_is, yield_is}
+use Rattle.ac_types.proofs.Forms.{call_made, print_is, if_is, while_is, for_is, break_is, return_is, do_is, async_is, cancel_is, yield_is}
 use Rattle.ac_types.proofs.Judging.{program_told}
 
 -- ---- numbers and their order
@@ -298,7 +298,7 @@ set_i at right = s.Assign at (e.Name at (codes "i")) (a_number_at right)
 
 pub a_scope_of_its_own : in_one_core (s.For 28 (Some (s.Int 33 (codes "i") None)) (Some (e.Name 40 (codes "i"))) (Some (set_i 43 47)) (set_i 50 54) ∷ set_i 57 61 ∷ []) ≡ (57, 2 ∷ []) ∷ []
 a_scope_of_its_own = rw (
-  for_all 28 (s.Int 33 (codes "i") None) (e.Name 40 (codes "i")) (set_i 43 47) (set_i 50 54),
+  for_is 28 (Some (s.Int 33 (codes "i") None)) (Some (e.Name 40 (codes "i"))) (Some (set_i 43 47)) (set_i 50 54),
   int_is 33 (codes "i") None,
   assign_is 43 (e.Name 43 (codes "i")) (a_number_at 47),
   assign_is 50 (e.Name 50 (codes "i")) (a_number_at 54),
@@ -392,7 +392,7 @@ with_values = i.Core 0 (codes "a") (codes "f")
 
 pub calls_in_values : faults (program_nodes with_values (r.ByOne 0 ∷ [])) ≡ (33, 18 ∷ []) ∷ (58, 18 ∷ []) ∷ []
 calls_in_values = rw (
-  if_else 27 sum (s.Assign 38 (element 38 (a_number_at 40)) (call_at 45)) (s.Assign 55 (element 55 (e.Unary 57 u.Neg (call_at 58))) (a_number_at 65)),
+  if_is 27 sum (s.Assign 38 (element 38 (a_number_at 40)) (call_at 45)) (Some (s.Assign 55 (element 55 (e.Unary 57 u.Neg (call_at 58))) (a_number_at 65))),
   chain_is 31 9 (a_number_at 31) (record { op = b.Add; operand = call_at 33 } ∷ []),
   link_is (record { op = b.Add; operand = call_at 33 }),
   assign_is 38 (element 38 (a_number_at 40)) (call_at 45),

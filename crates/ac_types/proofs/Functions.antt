@@ -6,7 +6,7 @@ use Rattle.ac_tree.specs.declared.item.Param.{Param}
 use Rattle.ac_types.specs.declared.around.Around.{Around}
 use Rattle.ac_reach.specs.declared.reached.Reached.{Reached}
 use Rattle.ac_types.specs.declared.numbered.Tables.{Tables}
-use Rattle.ac_types.specs.declared.walk.Walk.{Walk}
+use Rattle.ac_types.specs.declared.statements.Walk.{Walk}
 use Rattle.ac_names.specs.Scopes.{Declaration, closed}
 use Rattle.ac_types.specs.inner.Statements.{body_seen, after_body}
 use Rattle.ac_names.specs.Statements.{names_after}

@@ -10,7 +10,7 @@ use Rattle.ac_types.specs.declared.numbered.Signature.{Signature}
 use Rattle.ac_types.specs.declared.numbered.Tables.{Tables}
 use Rattle.ac_types.specs.declared.rule.Rule.TheVariants as rule
 use Rattle.ac_types.specs.declared.seen.Seen.{Seen}
-use Rattle.ac_types.specs.declared.walk.Walk.{Walk}
+use Rattle.ac_types.specs.declared.statements.Walk.{Walk}
 use Rattle.ac_names.specs.Scopes.{Declaration, or_else}
 use Rattle.ac_names.specs.Kinds.{either}
 use Rattle.ac_types.specs.Nodes.{Node}

@@ -11,7 +11,7 @@ use Rattle.ac_types.specs.declared.around.Around.{Around}
 use Rattle.ac_types.specs.declared.around.Position.TheVariants as p
 use Rattle.ac_types.specs.declared.numbered.Tables.{Tables}
 use Rattle.ac_types.specs.declared.seen.Seen.{Seen}
-use Rattle.ac_types.specs.declared.walk.Walk.{Walk}
+use Rattle.ac_types.specs.declared.statements.Walk.{Walk}
 use Rattle.ac_names.specs.Scopes.{Declaration}
 use Rattle.ac_types.specs.inner.Items.{after_params}
 use Rattle.ac_types.specs.Around.{inside_loop}

@@ -1,6 +1,7 @@
 //! Checked programs.
 
 ghost use Rattle.std.specs.Prelude.{◌≡◌, ◌<◌, length, slice_get, pos, Some, IfOk, IfErr, true};
+ghost use Rattle.ac_tree.specs.Shape.{HasShape};
 ghost use Rattle.ac_tree.specs.Weight.{IsSmall};
 ghost use Rattle.ac_types.specs.Reached.{BreaksNone, Reaches, all_calls};
 ghost use Rattle.ac_types.specs.Verdicts.{IsFault};
@@ -31,6 +32,7 @@ impl Model for Checked {
     ghost use Rattle.ac_tree.specs.contracts.expr.Expr as e;
     ghost use Rattle.ac_tree.specs.contracts.stmt.Stmt as s;
     ghost use Rattle.ac_tree.specs.declared.item.Program.{Program};
+    ghost use Rattle.ac_tree.specs.Shape.{HasShape};
     ghost use Rattle.ac_tree.specs.Weight.{IsSmall};
     ghost use Rattle.ac_names.specs.Items.{whole};
     ghost use Rattle.ac_types.specs.Reached.{BreaksNone, entries_of, all_calls};
@@ -42,15 +44,16 @@ impl Model for Checked {
 
     ghost view = { λ c. c.program };
 
-    ghost invariant = { λ c. (BreaksNone c.program.items × IsSmall c.program) × (c.counts ≡ (whole c.program.items).counts)
+    ghost invariant = { λ c. (BreaksNone c.program.items × IsSmall c.program × HasShape c.program)
+        × (c.counts ≡ (whole c.program.items).counts)
         × AreAll (all_calls c.program.items) (entries_of c.program.items) c.reach };
 }
 
 /// Checks the rules of a program. It is accepted exactly where it breaks none; else the fault is the least pair of a node, by
-/// its number in preorder, and a rule that it breaks, with the node's first byte. The program is small, as each is that at most
-/// 1,048,576 tokens spell.
+/// its number in preorder, and a rule that it breaks, with the node's first byte. The program is small and has the shape of a
+/// program, as each is and has that at most 1,048,576 tokens spell.
 pub fn check(alloc: Global, program: Program) -> Result<Checked, CheckFault>
-    requires { IsSmall program }
+    requires { IsSmall program × HasShape program }
     ensures tree { IfOk result (λ checked. checked ≡ program) }
     ensures clean { IfOk result (λ checked. BreaksNone program.items) }
     ensures broken { IfErr result (λ fault. IsFault program fault) }
@@ -69,11 +72,12 @@ pub fn check(alloc: Global, program: Program) -> Result<Checked, CheckFault>
 }
 
 impl Checked {
-    /// The tree, which breaks no rule and is small.
+    /// The tree, which breaks no rule, is small and has the shape of a program.
     pub fn tree(&self) -> &Program
         ensures tree { result.now ≡ self.now }
         ensures clean { BreaksNone self.now.items }
         ensures small { IsSmall self.now }
+        ensures shaped { HasShape self.now }
     {
         &self.program
     }

@@ -12,7 +12,7 @@ ghost use Rattle.ac_reach.specs.declared.reached.Reached.TheVariants as r;
 use crate::items::see_function;
 use crate::numbered::{Ends, Signature, Tables};
 use crate::seen::Seen;
-use crate::walk::Walk;
+use crate::statements::Walk;
 use ac_base::{List, Name, NoMemory};
 use ac_names::{Meaning, Scopes, kinds_of};
 use ac_reach::{Reach, Reached, find_reach};

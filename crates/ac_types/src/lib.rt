@@ -13,11 +13,7 @@ mod rule;
 mod seen;
 mod statements;
 mod verdict;
-mod walk;
 
 pub use accepted::{Checked, check};
 pub use fault::CheckFault;
 pub use rule::Rule;
-
-#[cfg(test)]
-mod tests;

@@ -18,10 +18,17 @@ use crate::judged::{
 };
 use crate::numbered::Tables;
 use crate::rule::Rule;
-use crate::walk::Walk;
+use crate::seen::Seen;
 use ac_base::{Boxed, Bytes, List, Name, NoMemory};
-use ac_names::array_len;
+use ac_names::{Names, array_len};
 use ac_tree::{Expr, Stmt};
+
+/// A walk over the tree: the names round the place where it is, and what it has seen.
+#[derive(Drop)]
+pub struct Walk {
+    pub names: Names,
+    pub seen: Seen,
+}
 
 impl Walk {
     /// Notes a node that calls nothing.

@@ -11,7 +11,7 @@ use crate::gathered::{Gathered, gather};
 use crate::items::{judge_program, see_items};
 use crate::rule::BrokenRule;
 use crate::seen::Seen;
-use crate::walk::Walk;
+use crate::statements::Walk;
 use ac_base::{List, NoMemory};
 use ac_names::{Counts, Names, Past, whole};
 use ac_tree::Item;

@@ -15,6 +15,3 @@ pub use seats::{OwnerSeat, PeerSeat};
 pub use standing::Standing;
 pub use views::{Decision, Offer, Outcome, Owner, OwnerNote, Peer, PeerNote, Sighting, View};
 pub use words::Words;
-
-#[cfg(test)]
-mod tests;

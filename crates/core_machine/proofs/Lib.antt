@@ -6,3 +6,4 @@ pub mod Found
 pub mod Onward
 pub mod Sound
 pub mod Begun
+pub mod Examples

@@ -9,10 +9,7 @@ mod machine;
 mod operands;
 mod operate;
 mod pause;
-mod print;
 mod running;
-mod slots;
-mod turns;
 
 pub use machine::CoreMachine;
 pub use pause::Pause;

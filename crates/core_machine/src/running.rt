@@ -2,12 +2,15 @@
 
 ghost use Rattle.std.specs.Prelude.{◌≡◌};
 
+use crate::elements::within;
+use crate::format::add_formatted;
 use crate::operands::Operands;
+use crate::operate::{binary, unary};
 use crate::pause::Pause;
 use ac_base::{Journal, NoMemory, Trap};
-use stack_code::Code;
+use stack_code::{Code, Instr};
 use std::alloc::Global;
-use work_item::{FrameId, Frames};
+use work_item::{Cell, FrameId, Frames, Place};
 
 /// The fields of a core that runs: its globals and frames, the frame, the address and the operands
 /// of its thread, the steps that it has used, the bytes that it has printed, the instructions
@@ -136,5 +139,412 @@ impl Running<'_> {
     {
         let _ = self.operands.pop();
         self.end(Pause::Finished);
+    }
+}
+
+// ---- slots and globals
+
+impl Running<'_> {
+    ghost use Rattle.std.specs.Prelude.{◌≡◌, true, None, Some, ◌+◌, ◌-◌, ◌≤◌, ◌<◌, ◌^◌, length, OnOk, OnErr};
+    ghost use Rattle.work_item.specs.Store.{above, cells_of};
+    ghost use Rattle.work_item.specs.Conditions.{Lives, HasLevel, HasSlot, HasGlobal};
+    ghost use Rattle.stack_code.specs.declared.instr.Instr.{Instr};
+    ghost use Rattle.core_machine.specs.Kinds.{is_int};
+    ghost use Rattle.core_machine.specs.inner.Operands.{on_top};
+    ghost use Rattle.core_machine.specs.State.{flat_of, state_of};
+    ghost use Rattle.core_machine.specs.inner.Changes.{Keeps, Does, Stays};
+
+    /// Pushes an int.
+    pub fn push(&mut self, value: i64) -> Result<(), NoMemory>
+        requires running { self.old.ended ≡ None }
+        requires inside { self.old.place < 2 ^ 32 }
+        ensures ok { OnOk result (Does self.old (Instr.Push value) self.new) }
+        ensures err { OnErr result (Stays self.old self.new) }
+        ensures keeps { Keeps self.old self.new }
+    {
+        self.operands.push(Cell::Int(value))?;
+        self.go_on();
+        Ok(())
+    }
+
+    /// Pushes what a slot holds.
+    pub fn load(&mut self, level: u32, slot: u32) -> Result<(), NoMemory>
+        requires running { self.old.ended ≡ None }
+        requires inside { self.old.place < 2 ^ 32 }
+        requires level { HasLevel self.old.frames self.old.frame level }
+        requires slot { HasSlot self.old.frames (above self.old.frames self.old.frame level) slot }
+        ensures ok { OnOk result (Does self.old (Instr.Load level slot) self.new) }
+        ensures err { OnErr result (Stays self.old self.new) }
+        ensures keeps { Keeps self.old self.new }
+    {
+        let cell = self.frames.read(self.frame, level, slot);
+        self.operands.push(cell)?;
+        self.go_on();
+        Ok(())
+    }
+
+    /// Pushes what a global holds.
+    pub fn load_global(&mut self, slot: u32) -> Result<(), NoMemory>
+        requires running { self.old.ended ≡ None }
+        requires inside { self.old.place < 2 ^ 32 }
+        requires slot { HasGlobal self.old.frames slot }
+        ensures ok { OnOk result (Does self.old (Instr.LoadG slot) self.new) }
+        ensures err { OnErr result (Stays self.old self.new) }
+        ensures keeps { Keeps self.old self.new }
+    {
+        let value = self.frames.read_global(slot);
+        self.operands.push(Cell::Int(value))?;
+        self.go_on();
+        Ok(())
+    }
+
+    /// Pops an int into a slot.
+    pub fn store(&mut self, level: u32, slot: u32)
+        requires running { self.old.ended ≡ None }
+        requires inside { self.old.place < 2 ^ 32 }
+        requires level { HasLevel self.old.frames self.old.frame level }
+        requires slot { HasSlot self.old.frames (above self.old.frames self.old.frame level) slot }
+        requires int { on_top is_int self.old.operands ≡ true }
+        ensures does { Does self.old (Instr.Store level slot) self.new }
+        ensures keeps { Keeps self.old self.new }
+    {
+        let value = self.operands.pop_int();
+        self.frames.write(self.frame, level, slot, Cell::Int(value));
+        self.go_on();
+    }
+
+    /// Pops an int into a global.
+    pub fn store_global(&mut self, slot: u32)
+        requires running { self.old.ended ≡ None }
+        requires inside { self.old.place < 2 ^ 32 }
+        requires slot { HasGlobal self.old.frames slot }
+        requires int { on_top is_int self.old.operands ≡ true }
+        ensures does { Does self.old (Instr.StoreG slot) self.new }
+        ensures keeps { Keeps self.old self.new }
+    {
+        let value = self.operands.pop_int();
+        self.frames.write_global(slot, value);
+        self.go_on();
+    }
+
+    /// Pushes the reference to an array in a frame.
+    pub fn array(&mut self, level: u32, slot: u32, len: u32) -> Result<(), NoMemory>
+        requires running { self.old.ended ≡ None }
+        requires inside { self.old.place < 2 ^ 32 }
+        requires level { HasLevel self.old.frames self.old.frame level }
+        ensures ok { OnOk result (Does self.old (Instr.Arr level slot len) self.new) }
+        ensures err { OnErr result (Stays self.old self.new) }
+        ensures keeps { Keeps self.old self.new }
+    {
+        let home = self.frames.above(self.frame, level);
+        self.operands.push(Cell::Array(Place {
+            home: Some(home),
+            start: slot,
+            len,
+        }))?;
+        self.go_on();
+        Ok(())
+    }
+
+    /// Pushes the reference to an array in the globals.
+    pub fn global_array(&mut self, slot: u32, len: u32) -> Result<(), NoMemory>
+        requires running { self.old.ended ≡ None }
+        requires inside { self.old.place < 2 ^ 32 }
+        ensures ok { OnOk result (Does self.old (Instr.ArrG slot len) self.new) }
+        ensures err { OnErr result (Stays self.old self.new) }
+        ensures keeps { Keeps self.old self.new }
+    {
+        self.operands.push(Cell::Array(Place {
+            home: None,
+            start: slot,
+            len,
+        }))?;
+        self.go_on();
+        Ok(())
+    }
+
+    /// Sets so many slots of the own frame to 0.
+    pub fn clear(&mut self, slot: u32, len: u32)
+        requires running { self.old.ended ≡ None }
+        requires inside { self.old.place < 2 ^ 32 }
+        requires frame { Lives self.old.frames self.old.frame }
+        requires slots { slot + len ≤ length (cells_of self.old.frames self.old.frame) }
+        ensures does { Does self.old (Instr.Clear slot len) self.new }
+        ensures keeps { Keeps self.old self.new }
+    {
+        self.frames.clear(self.frame, slot, len);
+        self.go_on();
+    }
+}
+
+// ---- elements of arrays
+
+impl Running<'_> {
+    ghost use Rattle.std.specs.Prelude.{◌≡◌, true, None, Some, ◌+◌, ◌-◌, ◌≤◌, ◌<◌, ◌^◌, [], ◌∷◌, length};
+    ghost use Rattle.work_item.specs.Conditions.{LiesIn};
+    ghost use Rattle.stack_code.specs.declared.instr.Instr.{Instr};
+    ghost use Rattle.core_machine.specs.Kinds.{is_int};
+    ghost use Rattle.core_machine.specs.inner.Operands.{is_reference, Stand, second_place};
+    ghost use Rattle.core_machine.specs.inner.Changes.{Keeps, Does};
+
+    /// Pops an index, then a reference, and pushes that element.
+    pub fn element(&mut self)
+        requires running { self.old.ended ≡ None }
+        requires inside { self.old.place < 2 ^ 32 }
+        requires operands { Stand (is_int ∷ is_reference ∷ []) self.old.operands }
+        requires place { LiesIn self.old.frames (second_place self.old.operands) }
+        ensures does { Does self.old Instr.Elem self.new }
+        ensures keeps { Keeps self.old self.new }
+    {
+        let index = self.operands.pop_int();
+        let place = self.operands.top_place();
+        match within(place, index) {
+            Ok(index) => {
+                let value = self.frames.read_at(place, index);
+                self.operands.replace(Cell::Int(value));
+                self.go_on();
+            }
+            Err(trap) => self.end(Pause::Trapped(trap)),
+        }
+    }
+
+    /// Pops an index, a reference and an int, and puts the int into that element.
+    pub fn set_element(&mut self)
+        requires running { self.old.ended ≡ None }
+        requires inside { self.old.place < 2 ^ 32 }
+        requires operands { Stand (is_int ∷ is_reference ∷ is_int ∷ []) self.old.operands }
+        requires place { LiesIn self.old.frames (second_place self.old.operands) }
+        ensures does { Does self.old Instr.SetElem self.new }
+        ensures keeps { Keeps self.old self.new }
+    {
+        let index = self.operands.pop_int();
+        let place = self.operands.pop_place();
+        let value = self.operands.pop_int();
+        match within(place, index) {
+            Ok(index) => {
+                self.frames.write_at(place, index, value);
+                self.go_on();
+            }
+            Err(trap) => self.end(Pause::Trapped(trap)),
+        }
+    }
+
+    /// Pops an index, then a reference, and pushes the reference to just that element.
+    pub fn element_place(&mut self)
+        requires running { self.old.ended ≡ None }
+        requires inside { self.old.place < 2 ^ 32 }
+        requires operands { Stand (is_int ∷ is_reference ∷ []) self.old.operands }
+        requires place { (second_place self.old.operands).start + (second_place self.old.operands).len < 2 ^ 32 }
+        ensures does { Does self.old Instr.Place self.new }
+        ensures keeps { Keeps self.old self.new }
+    {
+        let index = self.operands.pop_int();
+        let place = self.operands.top_place();
+        match within(place, index) {
+            Ok(index) => {
+                self.operands.replace(Cell::Array(Place {
+                    home: place.home,
+                    start: place.start + index,
+                    len: 1,
+                }));
+                self.go_on();
+            }
+            Err(trap) => self.end(Pause::Trapped(trap)),
+        }
+    }
+}
+
+// ---- operators
+
+impl Running<'_> {
+    ghost use Rattle.std.specs.Prelude.{◌≡◌, true, None, Some, IsSome, ◌+◌, ◌-◌, ◌≤◌, ◌<◌, ◌^◌, [], ◌∷◌, length};
+    ghost use Rattle.stack_code.specs.declared.instr.Instr.{Instr};
+    ghost use Rattle.core_machine.specs.Kinds.{is_int};
+    ghost use Rattle.core_machine.specs.inner.Operands.{on_top, Stand};
+    ghost use Rattle.core_machine.specs.inner.Operators.{unary, binary};
+    ghost use Rattle.core_machine.specs.inner.Changes.{Keeps, Does};
+
+    /// Applies an operator to one int.
+    pub fn apply_unary(&mut self, instr: Instr)
+        requires running { self.old.ended ≡ None }
+        requires inside { self.old.place < 2 ^ 32 }
+        requires operator { IsSome (unary instr) }
+        requires int { on_top is_int self.old.operands ≡ true }
+        ensures does { Does self.old instr self.new }
+        ensures keeps { Keeps self.old self.new }
+    {
+        let x = self.operands.top_int();
+        self.operands.replace(Cell::Int(unary(instr, x)));
+        self.go_on();
+    }
+
+    /// Applies an operator to two ints.
+    pub fn apply_binary(&mut self, instr: Instr)
+        requires running { self.old.ended ≡ None }
+        requires inside { self.old.place < 2 ^ 32 }
+        requires operator { IsSome (binary instr) }
+        requires ints { Stand (is_int ∷ is_int ∷ []) self.old.operands }
+        ensures does { Does self.old instr self.new }
+        ensures keeps { Keeps self.old self.new }
+    {
+        let y = self.operands.pop_int();
+        let x = self.operands.top_int();
+        match binary(instr, x, y) {
+            Ok(value) => {
+                self.operands.replace(Cell::Int(value));
+                self.go_on();
+            }
+            Err(trap) => self.end(Pause::Trapped(trap)),
+        }
+    }
+}
+
+// ---- printing
+
+impl Running<'_> {
+    ghost use Rattle.std.specs.Prelude.{◌≡◌, None, Some, ◌+◌, ◌-◌, ◌≤◌, ◌<◌, ◌^◌, length, OnOk, OnErr};
+    ghost use Rattle.stack_code.specs.declared.instr.Instr.{Instr};
+    ghost use Rattle.core_machine.specs.State.{flat_of, state_of};
+    ghost use Rattle.core_machine.specs.inner.Changes.{Keeps, Does, Stays};
+
+    /// Pops so many ints, and prints a text with them.
+    pub fn print(&mut self, text: u32, count: u32) -> Result<(), NoMemory>
+        requires running { self.old.ended ≡ None }
+        requires inside { self.old.place < 2 ^ 32 }
+        requires text { text < length self.old.code.now.texts }
+        requires many { count ≤ length self.old.operands }
+        ensures ok { OnOk result (Does self.old (Instr.Print text count) self.new) }
+        ensures err { OnErr result (Stays self.old self.new) }
+        ensures keeps { Keeps self.old self.new }
+    {
+        let text = self.code.texts()[text as usize].as_slice();
+        let values = self.operands.top(count);
+        if add_formatted(self.alloc, &mut self.output, text, values)? {
+            self.operands.discard(count);
+            self.go_on();
+        } else {
+            self.end(Pause::Trapped(Trap::OutputFull));
+        }
+        Ok(())
+    }
+}
+
+// ---- one instruction after another
+
+impl Running<'_> {
+    ghost use Rattle.std.specs.Prelude.{◌≡◌, ℕ, List, None, Some, ◌<◌, ◌^◌, OnOk, OnErr, IfOk, slice_get};
+    ghost use Rattle.core_state.specs.Moves.{GoesOn};
+    ghost use Rattle.stack_code.specs.Kept.{IsRanked};
+    ghost use Rattle.stack_code.specs.Valid.{IsValid};
+    ghost use Rattle.stack_code.specs.Machine.{exec};
+    ghost use Rattle.core_machine.specs.State.{flat_of, state_of, IsSound};
+    ghost use Rattle.core_machine.specs.inner.Left.{left_of};
+    ghost use Rattle.core_machine.specs.inner.Needs.{Finds};
+    ghost use Rattle.core_machine.specs.inner.Changes.{Keeps, Does, Stays};
+
+    // One instruction, which finds what it needs.
+    fn execute(&mut self, instr: Instr) -> Result<(), NoMemory>
+        requires running { self.old.ended ≡ None }
+        requires inside { self.old.place < 2 ^ 32 }
+        requires finds { Finds self.old.code.now (flat_of self.old) instr }
+        ensures ok { OnOk result (Does self.old instr self.new) }
+        ensures err { OnErr result (Stays self.old self.new) }
+        ensures keeps { Keeps self.old self.new }
+    {
+        match instr {
+            Instr::Step => self.step(),
+            Instr::Push(value) => return self.push(value),
+            Instr::Load { level, slot } => return self.load(level, slot),
+            Instr::LoadG { slot } => return self.load_global(slot),
+            Instr::Store { level, slot } => self.store(level, slot),
+            Instr::StoreG { slot } => self.store_global(slot),
+            Instr::Arr { level, slot, len } => return self.array(level, slot, len),
+            Instr::ArrG { slot, len } => return self.global_array(slot, len),
+            Instr::Elem => self.element(),
+            Instr::SetElem => self.set_element(),
+            Instr::Place => self.element_place(),
+            Instr::Clear { slot, len } => self.clear(slot, len),
+            Instr::Neg | Instr::Not | Instr::Flip | Instr::Bool => self.apply_unary(instr),
+            Instr::Drop => self.drop_one(),
+            Instr::Jump { to } => self.jump(to),
+            Instr::Jz { to } => self.jump_if_zero(to),
+            Instr::Jnz { to } => self.jump_if_not_zero(to),
+            Instr::Print { text, count } => return self.print(text, count),
+            Instr::Ret => self.ret(),
+            Instr::BitOr
+            | Instr::BitXor
+            | Instr::BitAnd
+            | Instr::Eq
+            | Instr::Ne
+            | Instr::Less
+            | Instr::LessEq
+            | Instr::More
+            | Instr::MoreEq
+            | Instr::Shl
+            | Instr::Shr
+            | Instr::Add
+            | Instr::Sub
+            | Instr::Mul
+            | Instr::Div
+            | Instr::Rem => self.apply_binary(instr),
+            _ => unreachable!(),
+        }
+        Ok(())
+    }
+
+    fn next_instr(&self) -> Instr
+        requires running { self.now.ended ≡ None }
+        requires sound { IsSound self.now }
+        ensures here { slice_get self.now.code.now.instrs self.now.place ≡ Some result }
+        ensures valid { IsValid self.now.code.now }
+        ensures inside { self.now.place < 2 ^ 32 }
+        ensures finds { Finds self.now.code.now (flat_of self.now) result }
+    {
+        self.code.instrs()[self.place]
+    }
+
+    // The next instruction of a core that has not ended.
+    fn turn(&mut self) -> Result<(), NoMemory>
+        requires running { self.old.ended ≡ None }
+        requires sound { IsSound self.old }
+        ensures ok { OnOk result (state_of self.new ≡ exec self.old.code.now self.old.bound (flat_of self.old)) }
+        ensures err { OnErr result (state_of self.new ≡ state_of self.old) }
+        ensures keeps { Keeps self.old self.new }
+        ensures sound { IsSound self.new }
+        ensures less { OnOk result ((ranks : List ℕ) → IsRanked self.old.code.now ranks → left_of ranks self.new < left_of ranks self.old) }
+    {
+        let instr = self.next_instr();
+        self.execute(instr)?;
+        Ok(())
+    }
+
+    // The ranks are there for the proof alone that the core comes to its end.
+    fn run_by(&mut self, _ranks: &[u64]) -> Result<Pause, NoMemory>
+        requires sound { IsSound self.old }
+        requires ranked { IsRanked self.old.code.now _ranks.now }
+        ensures goes { GoesOn (exec self.old.code.now self.old.bound) (state_of self.old) (state_of self.new) }
+        ensures over { IfOk result (λ pause. self.new.ended ≡ Some pause) }
+        ensures keeps { Keeps self.old self.new }
+        ensures sound { IsSound self.new }
+    {
+        'turns: while self.ended.is_none() {
+            self.turn()?;
+        }
+        match self.ended {
+            Some(pause) => Ok(pause),
+            None => unreachable!(),
+        }
+    }
+
+    /// Runs the core until it has ended.
+    pub fn run(&mut self) -> Result<Pause, NoMemory>
+        requires { IsSound self.old }
+        ensures goes { GoesOn (exec self.old.code.now self.old.bound) (state_of self.old) (state_of self.new) }
+        ensures over { IfOk result (λ pause. self.new.ended ≡ Some pause) }
+        ensures keeps { Keeps self.old self.new }
+        ensures sound { IsSound self.new }
+    {
+        let ranks = self.code.ranks();
+        self.run_by(ranks)
     }
 }

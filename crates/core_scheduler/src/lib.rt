@@ -4,6 +4,3 @@
 mod scheduler;
 
 pub use scheduler::Scheduler;
-
-#[cfg(test)]
-mod tests;

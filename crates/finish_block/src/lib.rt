@@ -6,6 +6,3 @@ mod blocks;
 
 pub use block::Block;
 pub use blocks::{Arrival, Blocks};
-
-#[cfg(test)]
-mod tests;

@@ -5,3 +5,4 @@ pub mod Parts
 pub mod Rows
 pub mod Letters
 pub mod Openings
+pub mod Examples

@@ -20,6 +20,3 @@ pub use instr::Instr;
 pub use parts::{ChannelEnds, Entered, Start};
 pub use shape::{Body, Home, Kind, OpenBlock, Shape};
 pub use stack::Stack;
-
-#[cfg(test)]
-mod tests;

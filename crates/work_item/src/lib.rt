@@ -9,6 +9,3 @@ mod table;
 pub use cell::{Cell, Place};
 pub use frames::Frames;
 pub use ids::{BlockId, FrameId, Item};
-
-#[cfg(test)]
-mod tests;

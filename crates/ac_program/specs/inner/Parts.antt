@@ -8,6 +8,7 @@ use Rattle.ac_parser.specs.declared.faults.SyntaxFault.TheVariants as p
 use Rattle.ac_types.specs.declared.fault.CheckFault.{CheckFault}
 use Rattle.ac_types.specs.declared.fault.CheckFault.TheVariants as c
 use Rattle.ac_tree.specs.declared.item.Program.{Program}
+use Rattle.ac_tree.specs.Shape.{HasShape}
 use Rattle.ac_tree.specs.Weight.{IsSmall}
 use Rattle.stack_code.specs.Parts.{Parts}
 use Rattle.ac_program.specs.declared.execute.Done.{Done}
@@ -48,7 +49,7 @@ GivesTokens source bound (Ok tokens) = HasTokens source tokens × (length tokens
 GivesTokens source bound (Err stop) = Stops source bound stop
 
 abbrev pub GivesProgram : List ℕ → ℕ → Result Program Stop → Type 0
-GivesProgram source bound (Ok program) = IsSpelled source program × IsSmall program
+GivesProgram source bound (Ok program) = IsSpelled source program × IsSmall program × HasShape program
 GivesProgram source bound (Err stop) = Stops source bound stop
 
 abbrev pub GivesChecked : List ℕ → ℕ → Result Program Stop → Type 0

@@ -10,7 +10,7 @@ use Rattle.ac_names.specs.Scopes.{Declaration, in_inner}
 use Rattle.ac_reach.specs.declared.reached.Reached.{Reached}
 use Rattle.ac_types.specs.declared.numbered.Tables.{Tables}
 use Rattle.ac_types.specs.declared.seen.Seen.{Seen}
-use Rattle.ac_types.specs.declared.walk.Walk.{Walk}
+use Rattle.ac_types.specs.declared.statements.Walk.{Walk}
 use Rattle.ac_types.specs.Items.{params_give, function_gives, item_gives, items_give}
 use Rattle.ac_types.specs.Judged.{once_tests}
 use Rattle.ac_types.specs.Expressions.{plain}

@@ -11,7 +11,7 @@ use Rattle.ac_types.specs.declared.around.Position.TheVariants as p
 use Rattle.ac_types.specs.declared.numbered.Tables.{Tables}
 use Rattle.ac_types.specs.declared.rule.Rule.{Rule}
 use Rattle.ac_types.specs.declared.seen.Seen.{Seen}
-use Rattle.ac_types.specs.declared.walk.Walk.{Walk}
+use Rattle.ac_types.specs.declared.statements.Walk.{Walk}
 use Rattle.ac_types.specs.Statements.{StmtPart, stmt_step, stmt_all, body_gives}
 use Rattle.ac_types.specs.inner.Seen.{noted, noted_by, unseen, join_seen, expr_seen, value_seen}
 

@@ -10,7 +10,7 @@ returns-in_err-program c =
     λ bound. rw (p.1, p.2) (c.in_err-program.ensures bound)
 
 pub check-requires : goal.check-requires
-check-requires c = (c.in_ok-program.ensures 0).1
+check-requires c = let p = c.in_ok-program.ensures 0 in (p.1, p.2)
 
 pub returns-in_err-checked : goal.returns-in_err-checked
 returns-in_err-checked c =

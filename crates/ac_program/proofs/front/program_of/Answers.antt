@@ -1,5 +1,6 @@
 use Rattle.std.proofs.Common.{arith}
 use Rattle.std.proofs.lemmas.Result.{err_from_is_err_and}
+use Rattle.ac_parser.proofs.Shaped.{spelled_shape}
 use Rattle.ac_parser.proofs.Weights.{is_small}
 use Rattle.ac_program.proofs.Stopping.{syntax_stops}
 use Rattle.ac_program.proofs.front.program_of.Goals as goal
@@ -19,4 +20,5 @@ returns c = λ bound.
     let t = c.in_ok-tokens.ensures bound in (
       record { tokens = c.in_ok-tokens.tokens; lexed = t.0; tree = c.in_ok-program.ensures },
       is_small c.in_ok-tokens.tokens c.in_ok-program.program c.in_ok-program.ensures (omega (arith, t.1, c.requires)),
+      spelled_shape c.in_ok-program.program c.in_ok-program.ensures.marks c.in_ok-program.ensures.spells,
     )

@@ -1,0 +1,424 @@
+-- Expressions that break no rule name only what is there.
+use Rattle.std.proofs.Common.{◌≡◌, ℕ, zero, suc, ◌+◌, ◌-◌, ◌<◌, ◌≤◌, ℤ, pos, List, [], ◌∷◌, ◌++◌, length, map, Option}
+use Rattle.std.proofs.Common.{Some, None, Bool, true, false, inl, inr, refl, sym, ap, ◌∙◌, subst, length-append, arith}
+use Rattle.std.specs.Prelude.{nat_eq, not, slice_get}
+use Rattle.std.proofs.lemmas.Bool.Decides.{nat_tests}
+use Rattle.ac_tree.specs.declared.expr.Expr.{Expr}
+use Rattle.ac_tree.specs.declared.expr.Expr.TheVariants as e
+use Rattle.ac_tree.specs.declared.expr.Expr.TheOpen.{Expr-F}
+use Rattle.ac_tree.specs.declared.expr.Link.{Link}
+use Rattle.ac_tree.specs.Shape as shape
+use Rattle.ac_tree.specs.Shape.{IsExpr, AreLinks as LinksShaped, IsPlace as PlaceShaped, IsCall, AreExprs}
+use Rattle.ac_names.specs.declared.meaning.Meaning.{Meaning}
+use Rattle.ac_names.specs.declared.meaning.Meaning.TheVariants as m
+use Rattle.ac_names.specs.declared.kind.Kind.TheVariants as ki
+use Rattle.ac_names.specs.Kinds.{is_other, is_undeclared, either}
+use Rattle.ac_names.specs.Scopes.{Declaration, visible}
+use Rattle.ac_types.specs.declared.around.Around.{Around}
+use Rattle.ac_types.specs.declared.around.Position.{Position}
+use Rattle.ac_types.specs.declared.around.Position.TheVariants as po
+use Rattle.ac_types.specs.declared.numbered.Callee.{Callee}
+use Rattle.ac_types.specs.declared.numbered.Signature.{Signature}
+use Rattle.ac_types.specs.declared.numbered.Tables.{Tables}
+use Rattle.ac_types.specs.Around.{is_array_position, position_of}
+use Rattle.ac_types.specs.Tables.{callee, callee_of, takes_array, is_array_in, ends_named}
+use Rattle.ac_types.specs.Nodes.{Node}
+use Rattle.ac_types.specs.Judged.{Tests, is_misplaced, is_miscounted, value_tests, name_tests, index_tests, call_tests, channel_tests, file_tests, sends_away, takes_away}
+use Rattle.ac_types.specs.Expressions.{one_node, join_nodes, expr_nodes, links_step, args_step, args_all, values_all, value_all}
+use Rattle.ac_types.specs.Reached.{IsBrokenRule}
+use Rattle.ac_types.proofs.Cleans.{AllClean, clean_sooner, clean_later, not_false}
+use Rattle.ac_types.proofs.Forms.{ExprNodes, link_nodes}
+use Rattle.ac_commands.specs.declared.value.Place.TheVariants as pl
+use Rattle.ac_commands.specs.declared.value.Array.TheVariants as ar
+use Rattle.ac_commands.specs.declared.value.Value.{Value}
+use Rattle.ac_commands.specs.declared.value.ValueLink.{ValueLink}
+use Rattle.ac_commands.specs.declared.effect.Argument.{Argument}
+use Rattle.ac_commands.specs.declared.effect.Argument.TheVariants as g
+use Rattle.ac_commands.specs.declared.effect.Effect.{Effect}
+use Rattle.ac_commands.specs.declared.effect.Effect.TheVariants as f
+use Rattle.ac_commands.specs.declared.effect.Target.{Target}
+use Rattle.ac_commands.specs.declared.program.Resolved.{Resolved}
+use Rattle.ac_resolve.specs.Places.{constant_value, place_of, array_of, name_argument, function_of, channel_of, file_of}
+use Rattle.ac_resolve.specs.Computed.{Reading, InScopes, read, link_in, links_step as reading_links, arguments_step}
+use Rattle.ac_resolve.specs.Computed.{value_in, argument_in, target_in, effect_in, values_in, test_in, initial_in, operand_in}
+use Rattle.ac_resolve.proofs.Forms as reads
+use Rattle.ac_types.proofs.Forms as nodes
+use Rattle.ac_resolve.specs.InPlace.{Round, IsPlace, global, local, IsArray, global_array, local_array, parameter, IsValue}
+use Rattle.ac_resolve.specs.InPlace.{number, variable, element, unary, chain, AreLinks, no_link, one_link, AreValues}
+use Rattle.ac_resolve.specs.InPlace.{IsTest, no_test, some_test, IsArgument, by_value, by_reference, AreArguments, no_argument}
+use Rattle.ac_resolve.specs.InPlace.{one_argument, IsTarget, to_variable, to_element, IsEffect, only_value, call, send, recv}
+use Rattle.ac_resolve.specs.InPlace.{read as reads_file, write as writes_file, IsOperand, no_operand, some_operand}
+use Rattle.ac_resolve.proofs.Within.{IsSigned, IsReached, IsWithin, AllWithin}
+
+abbrev pub AreClean : Tests → Type 0
+AreClean tests = (q : ℕ) → IsBrokenRule q tests → ⊥
+
+-- no argument for an array parameter
+abbrev pub IsPlain : Position → Type 0
+IsPlain w = is_array_position w ≡ false
+
+misplaced : (o : Option Meaning) (w : Position) → IsPlain w → is_misplaced o w ≡ is_other ki.Int o
+misplaced o po.Statement h = refl
+misplaced o po.Whole h = refl
+misplaced o po.Value h = refl
+misplaced o po.Array h = cc
+
+second_true : (a b : Bool) → b ≡ true → either a b ≡ true
+second_true true b h = refl
+second_true false b h = h
+
+-- ---- what a name means where it stands
+
+module _ (program : Resolved) (t : Tables) (r : Round) (depth : ℕ) (outermost : depth + 1 ≡ length r.frames) where
+  abbrev AllOf : Option Meaning → Type 0
+  AllOf o = (what : Meaning) → o ≡ Some what → IsWithin program t r.params r.frames depth what
+
+  local_there : (there slot : ℕ) → IsReached r.frames depth there (slot + 1) → IsPlace program r (pl.Local (depth - there) slot)
+  local_there there slot h = let le = h.within in local (depth - there) slot (omega (arith, le))
+
+  pub place_there : (o : Option Meaning) (w : Position) → IsPlain w → AllOf o → AreClean (name_tests o w) → IsPlace program r (place_of o depth)
+  place_there None w plain h c = absurd (c 2 (inl (refl, refl)))
+  place_there (Some (m.Global slot)) w plain h c = global slot (h (m.Global slot) refl)
+  place_there (Some (m.Local there slot)) w plain h c = local_there there slot (h (m.Local there slot) refl)
+  place_there (Some what) w plain h c = absurd (c 4 (inr (inl (refl, misplaced (Some what) w plain))))
+
+  pub array_there : (o : Option Meaning) → AllOf o → (is_other ki.Array o ≡ true → ⊥) → (o ≡ None → ⊥) → IsArray program r (array_of o depth)
+  array_there None h c n = absurd (n refl)
+  array_there (Some (m.GlobalArray slot len)) h c n = global_array slot len (h (m.GlobalArray slot len) refl)
+  array_there (Some (m.LocalArray there slot len)) h c n = local_array (depth - there) slot len (h (m.LocalArray there slot len) refl).within
+  array_there (Some (m.ArrayParam slot)) h c n = parameter depth slot outermost (h (m.ArrayParam slot) refl)
+  array_there (Some what) h c n = absurd (c refl)
+
+  pub index_there : (o : Option Meaning) (w : Position) → AllOf o → AreClean (index_tests o w) → IsArray program r (array_of o depth)
+  index_there None w h c = absurd (c 2 (inl (refl, refl)))
+  index_there (Some what) w h c = array_there (Some what) h (λ e. c 4 (inr (inl (refl, by (is_other ki.Array (Some what)) e)))) (λ e. cc) where
+    by : (b : Bool) → b ≡ true → either b (is_array_position w) ≡ true
+    by true e = refl
+    by false e = cc
+
+  -- a name as an argument
+  value_argument : (o : Option Meaning) → AllOf o → AreClean (name_tests o po.Value) → IsArgument program r false (name_argument o depth)
+  value_argument None h c = absurd (c 2 (inl (refl, refl)))
+  value_argument (Some (m.Global slot)) h c = by_value _ (variable _ (global slot (h (m.Global slot) refl)))
+  value_argument (Some (m.Local there slot)) h c = by_value _ (variable _ (local_there there slot (h (m.Local there slot) refl)))
+  value_argument (Some what) h c = absurd (c 4 (inr (inl (refl, refl))))
+
+  array_argument : (o : Option Meaning) → AllOf o → AreClean (name_tests o po.Array) → IsArgument program r true (name_argument o depth)
+  array_argument None h c = absurd (c 2 (inl (refl, refl)))
+  array_argument (Some (m.GlobalArray slot len)) h c = by_reference _ (global_array slot len (h (m.GlobalArray slot len) refl))
+  array_argument (Some (m.LocalArray there slot len)) h c = by_reference _ (local_array (depth - there) slot len (h (m.LocalArray there slot len) refl).within)
+  array_argument (Some (m.ArrayParam slot)) h c = by_reference _ (parameter depth slot outermost (h (m.ArrayParam slot) refl))
+  array_argument (Some what) h c = absurd (c 4 (inr (inl (refl, refl))))
+
+  pub argument_there : (b : Bool) (o : Option Meaning) → AllOf o → AreClean (name_tests o (position_of b)) → IsArgument program r b (name_argument o depth)
+  argument_there true = array_argument
+  argument_there false = value_argument
+
+  -- what is called, sent through and read from
+  pub data IsCalled : Option Meaning → Type 0 where
+    is_called : (k : ℕ) → IsSigned program t k → IsCalled (Some (m.Function k))
+
+  pub function_there : (o : Option Meaning) → AllOf o → (is_other ki.Function o ≡ true → ⊥) → (o ≡ None → ⊥) → IsCalled o
+  function_there None h c n = absurd (n refl)
+  function_there (Some (m.Function k)) h c n = is_called k (h (m.Function k) refl)
+  function_there (Some what) h c n = absurd (c refl)
+
+  pub channel_there : (o : Option Meaning) → AllOf o → (is_other ki.Channel o ≡ true → ⊥) → (o ≡ None → ⊥) → channel_of o < length program.channels
+  channel_there None h c n = absurd (n refl)
+  channel_there (Some (m.Channel k)) h c n = h (m.Channel k) refl
+  channel_there (Some what) h c n = absurd (c refl)
+
+  pub file_there : (o : Option Meaning) → AllOf o → (is_other ki.File o ≡ true → ⊥) → (o ≡ None → ⊥) → file_of o < length program.files
+  file_there None h c n = absurd (n refl)
+  file_there (Some (m.File k)) h c n = h (m.File k) refl
+  file_there (Some what) h c n = absurd (c refl)
+
+-- ---- which parameters are arrays
+
+abbrev SeesAt : Option Signature → ℕ → List Bool → Type 0
+SeesAt s n [] = Unit {0}
+SeesAt s n (b ∷ bs) = (is_array_in n s ≡ b) × SeesAt s (n + 1) bs
+
+at_end : (done : List Bool) (b : Bool) (bs : List Bool) → slice_get (done ++ b ∷ bs) (length done) ≡ Some b
+at_end [] b bs = refl
+at_end (x ∷ done) b bs = at_end done b bs
+
+after_one : (done : List Bool) (b : Bool) (bs : List Bool) → done ++ b ∷ bs ≡ (done ++ b ∷ []) ++ bs
+after_one [] b bs = refl
+after_one (x ∷ done) b bs = ap (λ xs. x ∷ xs) (after_one done b bs)
+
+one_longer : (done : List Bool) (b : Bool) (n : ℕ) → length done ≡ n → length (done ++ b ∷ []) ≡ n + 1
+one_longer done b n e = omega (arith, e, length-append done (b ∷ []))
+
+sees : (s : Signature) (done bs : List Bool) (n : ℕ) → s.params ≡ done ++ bs → length done ≡ n → SeesAt (Some s) n bs
+sees s done [] n e l = tt
+sees s done (b ∷ bs) n e l =
+    let there : slice_get s.params n ≡ Some b = ap (λ ps. slice_get ps n) e ∙ ap (slice_get (done ++ b ∷ bs)) (sym l) ∙ at_end done b bs in
+    (rw (there) refl, sees s (done ++ b ∷ []) bs (n + 1) (e ∙ after_one done b bs) (one_longer done b n l))
+
+as_many : {X Y : Type 0} (h : X → Y) (xs : List X) → length (map h xs) ≡ length xs
+as_many h [] = refl
+as_many h (x ∷ xs) = let more = as_many h xs in omega (arith, more)
+
+-- ---- expressions
+
+module _ (program : Resolved) (t : Tables) (r : Round) (a : Around) (outermost : a.depth + 1 ≡ length r.frames) (scopes : List (List Declaration))
+    (within : AllWithin program t r.params r.frames a.depth scopes) where
+  clean_as : {x y : ExprNodes} (w : Position) → x ≡ y → AllClean (x t scopes a w) → AllClean (y t scopes a w)
+  clean_as {x} {y} w e c = subst (λ (g : ExprNodes). AllClean (g t scopes a w)) e c
+
+  value_as : {q q2 : Reading} → q ≡ q2 → IsValue program r (q2.value scopes a.depth) → IsValue program r (q.value scopes a.depth)
+  value_as e h = subst (λ (z : Reading). IsValue program r (z.value scopes a.depth)) (sym e) h
+
+  abbrev links_nodes : List Link → List Node
+  links_nodes ls = links_step (List Node) one_node [] join_nodes (map link_nodes ls) t scopes a
+
+  mutual
+    pub value_at : (w : Position) → IsPlain w → (x : Expr) → IsExpr x → AllClean (expr_nodes x t scopes a w) → IsValue program r (value_in x scopes a.depth)
+    value_at w plain _ (shape.number at value) c = value_as (reads.number_reads at value) (number value)
+    value_at w plain _ (shape.constant at which) c = value_as (reads.constant_reads at which) (number (constant_value which))
+    value_at w plain _ (shape.place x g) c = place_value w plain x g c
+    value_at w plain _ (shape.call x g) c = call_value x g
+    value_at w plain _ (shape.group at inner g) c =
+        let k = clean_as w (nodes.group_is at inner) c in
+        value_as (reads.group_reads at inner) (value_at po.Value refl inner g k.1)
+    value_at w plain _ (shape.unary at op inner g) c =
+        let k = clean_as w (nodes.unary_is at op inner) c in
+        value_as (reads.unary_reads at op inner) (unary op _ (value_at po.Value refl inner g k.1))
+    value_at w plain _ (shape.chain at level first link rest g gs) c =
+        let k = clean_as w (nodes.chain_is at level first (link ∷ rest)) c in
+        let left = expr_nodes first t scopes a po.Value in
+        let right = links_nodes (link ∷ rest) in
+        value_as (reads.chain_reads at level first (link ∷ rest))
+        (chain _ _ (value_at po.Value refl first g (clean_sooner left right k.1)) (links_at (link ∷ rest) gs (clean_later left right k.1)))
+
+    links_at : (ls : List Link) → LinksShaped ls → AllClean (links_nodes ls) → AreLinks program r (reading_links (map link_in ls) scopes a.depth)
+    links_at _ shape.no_link c = no_link
+    links_at _ (shape.one_link link rest g gs) c =
+        let left = link_nodes link t scopes a po.Value in
+        let right = links_nodes rest in
+        one_link (link_in link scopes a.depth) _
+        (subst (λ (z : InScopes ValueLink). IsValue program r (z scopes a.depth).operand) (sym (reads.link_reads link))
+        (value_at po.Value refl link.operand g (clean_as po.Value (nodes.link_is link) (clean_sooner left right c))))
+        (links_at rest gs (clean_later left right c))
+
+    place_value : (w : Position) → IsPlain w → (x : Expr) → PlaceShaped x → AllClean (expr_nodes x t scopes a w) → IsValue program r (value_in x scopes a.depth)
+    place_value w plain _ (shape.variable at name) c =
+        let k = clean_as w (nodes.name_is at name) c in
+        value_as (reads.name_reads at name) (variable _ (place_there program t r a.depth outermost (visible name scopes) w plain (within name) k.0))
+    place_value w plain _ (shape.element at name index g) c =
+        let k = clean_as w (nodes.index_is at name index) c in
+        value_as (reads.index_reads at name index)
+        (element _ _ (index_there program t r a.depth outermost (visible name scopes) w (within name) k.0) (value_at po.Value refl index g k.1))
+
+    -- a call has no value where it does not stand whole
+    call_value : (x : Expr) → IsCall x → IsValue program r (value_in x scopes a.depth)
+    call_value _ (shape.function_call at name args gs) = value_as (reads.call_reads at name args) (number (pos 0))
+    call_value _ (shape.send at channel value g) = value_as (reads.send_reads at channel value) (number (pos 0))
+    call_value _ (shape.recv at channel place g) = value_as (reads.recv_reads at channel place) (number (pos 0))
+    call_value _ (shape.read at file from len array g h) = value_as (reads.read_reads at file from len array) (number (pos 0))
+    call_value _ (shape.write at file from len array g h) = value_as (reads.write_reads at file from len array) (number (pos 0))
+
+  target_as : {q q2 : Reading} → q ≡ q2 → IsTarget program r (q2.target scopes a.depth) → IsTarget program r (q.target scopes a.depth)
+  target_as e h = subst (λ (z : Reading). IsTarget program r (z.target scopes a.depth)) (sym e) h
+
+  pub target_at : (x : Expr) → PlaceShaped x → AllClean (expr_nodes x t scopes a po.Value) → IsTarget program r (target_in x scopes a.depth)
+  target_at _ (shape.variable at name) c =
+      let k = clean_as po.Value (nodes.name_is at name) c in
+      target_as (reads.name_reads at name) (to_variable _ (place_there program t r a.depth outermost (visible name scopes) po.Value refl (within name) k.0))
+  target_at _ (shape.element at name index g) c =
+      let k = clean_as po.Value (nodes.index_is at name index) c in
+      target_as (reads.index_reads at name index)
+      (to_element _ _ (index_there program t r a.depth outermost (visible name scopes) po.Value (within name) k.0) (value_at po.Value refl index g k.1))
+
+  -- ---- arguments
+
+  argument_as : {q q2 : Reading} {b : Bool} → q ≡ q2 → IsArgument program r b (q2.argument scopes a.depth) → IsArgument program r b (q.argument scopes a.depth)
+  argument_as {q} {q2} {b} e h = subst (λ (z : Reading). IsArgument program r b (z.argument scopes a.depth)) (sym e) h
+
+  value_given : {q q2 : Reading} → q ≡ q2 → q2.argument scopes a.depth ≡ g.Value (q2.value scopes a.depth) → IsValue program r (q.value scopes a.depth)
+      → IsArgument program r false (q.argument scopes a.depth)
+  value_given {q} {q2} e same h =
+      subst (λ (z : Reading). IsValue program r (z.value scopes a.depth) → IsArgument program r false (z.argument scopes a.depth)) (sym e)
+      (λ v. subst (IsArgument program r false) (sym same) (by_value _ v)) h
+
+  -- what is no name is no argument for an array parameter
+  no_array : (b : Bool) → position_of b ≡ po.Array → b ≡ true
+  no_array true e = refl
+  no_array false e = cc
+
+  plain_argument : (b : Bool) (x : Expr) {q2 : Reading} → IsExpr x → read x ≡ q2 → q2.argument scopes a.depth ≡ g.Value (q2.value scopes a.depth)
+      → (b ≡ true → ⊥) → AllClean (expr_nodes x t scopes a (position_of b)) → IsArgument program r b (argument_in x scopes a.depth)
+  plain_argument true x g e same n c = absurd (n refl)
+  plain_argument false x g e same n c = value_given e same (value_at po.Value refl x g c)
+
+  argument_at : (b : Bool) (x : Expr) → IsExpr x → AllClean (expr_nodes x t scopes a (position_of b)) → IsArgument program r b (argument_in x scopes a.depth)
+  argument_at b _ (shape.number at value) c =
+      plain_argument b _ (shape.number at value) (reads.number_reads at value) refl
+      (λ e. (clean_as (position_of b) (nodes.number_is at value) c).0 4 (inl (refl, ap (λ z. is_array_position (position_of z)) e))) c
+  argument_at b _ (shape.constant at which) c =
+      plain_argument b _ (shape.constant at which) (reads.constant_reads at which) refl
+      (λ e. (clean_as (position_of b) (nodes.const_is at which) c).0 4 (inl (refl, ap (λ z. is_array_position (position_of z)) e))) c
+  argument_at b _ (shape.place _ (shape.variable at name)) c =
+      let k = clean_as (position_of b) (nodes.name_is at name) c in
+      argument_as (reads.name_reads at name) (argument_there program t r a.depth outermost b (visible name scopes) (within name) k.0)
+  argument_at b _ (shape.place _ (shape.element at name index g)) c =
+      plain_argument b _ (shape.place _ (shape.element at name index g)) (reads.index_reads at name index) refl
+      (λ e. (clean_as (position_of b) (nodes.index_is at name index) c).0 4
+      (inr (inl (refl, second_true (is_other ki.Array (visible name scopes)) _ (ap (λ z. is_array_position (position_of z)) e))))) c
+  argument_at b _ (shape.call _ g) c = call_argument b _ g c where
+    call_argument : (b : Bool) (x : Expr) → IsCall x → AllClean (expr_nodes x t scopes a (position_of b)) → IsArgument program r b (argument_in x scopes a.depth)
+    call_argument b _ (shape.function_call at name args gs) c =
+        plain_argument b _ (shape.call _ (shape.function_call at name args gs)) (reads.call_reads at name args) refl
+        (λ e. (clean_as (position_of b) (nodes.call_is at name args) c).0 4
+        (inr (inr (inl (refl, second_true (is_other ki.Function (visible name scopes)) _ (ap (λ z. is_array_position (position_of z)) e)))))) c
+    call_argument b _ (shape.send at channel value g) c =
+        plain_argument b _ (shape.call _ (shape.send at channel value g)) (reads.send_reads at channel value) refl
+        (λ e. (clean_as (position_of b) (nodes.send_is at channel value) c).0 4
+        (inr (inl (refl, second_true (is_other ki.Channel (visible channel scopes)) _ (ap (λ z. is_array_position (position_of z)) e))))) c
+    call_argument b _ (shape.recv at channel place g) c =
+        plain_argument b _ (shape.call _ (shape.recv at channel place g)) (reads.recv_reads at channel place) refl
+        (λ e. (clean_as (position_of b) (nodes.recv_is at channel place) c).0 4
+        (inr (inl (refl, second_true (is_other ki.Channel (visible channel scopes)) _ (ap (λ z. is_array_position (position_of z)) e))))) c
+    call_argument b _ (shape.read at file from len array g h) c =
+        plain_argument b _ (shape.call _ (shape.read at file from len array g h)) (reads.read_reads at file from len array) refl
+        (λ e. (clean_as (position_of b) (nodes.read_is at file from len array) c).0 4
+        (inr (inl (refl, second_true (is_other ki.File (visible file scopes)) _ (second_true (is_other ki.Array (visible array scopes)) _ (ap (λ z. is_array_position (position_of z)) e)))))) c
+    call_argument b _ (shape.write at file from len array g h) c =
+        plain_argument b _ (shape.call _ (shape.write at file from len array g h)) (reads.write_reads at file from len array) refl
+        (λ e. (clean_as (position_of b) (nodes.write_is at file from len array) c).0 4
+        (inr (inl (refl, second_true (is_other ki.File (visible file scopes)) _ (second_true (is_other ki.Array (visible array scopes)) _ (ap (λ z. is_array_position (position_of z)) e)))))) c
+  argument_at b _ (shape.group at inner g) c =
+      plain_argument b _ (shape.group at inner g) (reads.group_reads at inner) refl
+      (λ e. (clean_as (position_of b) (nodes.group_is at inner) c).0 4 (inl (refl, ap (λ z. is_array_position (position_of z)) e))) c
+  argument_at b _ (shape.unary at op inner g) c =
+      plain_argument b _ (shape.unary at op inner g) (reads.unary_reads at op inner) refl
+      (λ e. (clean_as (position_of b) (nodes.unary_is at op inner) c).0 4 (inl (refl, ap (λ z. is_array_position (position_of z)) e))) c
+  argument_at b _ (shape.chain at level first link rest g gs) c =
+      plain_argument b _ (shape.chain at level first link rest g gs) (reads.chain_reads at level first (link ∷ rest)) refl
+      (λ e. (clean_as (position_of b) (nodes.chain_is at level first (link ∷ rest)) c).0 4 (inl (refl, ap (λ z. is_array_position (position_of z)) e))) c
+
+  abbrev args_nodes : ℕ → ℕ → List Expr → List Node
+  args_nodes function n xs = args_step (List Node) one_node [] join_nodes (Some (m.Function function)) n (map expr_nodes xs) t scopes a
+
+  arguments_at : (function : ℕ) (xs : List Expr) → AreExprs xs → (n : ℕ) (bs : List Bool) → SeesAt (slice_get t.functions function) n bs → length xs ≡ length bs
+      → AllClean (args_nodes function n xs) → AreArguments program r bs (arguments_step (map read xs) scopes a.depth)
+  arguments_at function _ shape.no_expr n [] s e c = no_argument
+  arguments_at function _ shape.no_expr n (b ∷ bs) s e c = absurd (omega (arith, e))
+  arguments_at function _ (shape.one_expr x xs g gs) n [] s e c = absurd (omega (arith, e))
+  arguments_at function _ (shape.one_expr x xs g gs) n (b ∷ bs) s e c =
+      let left = expr_nodes x t scopes a (position_of (takes_array t (Some (m.Function function)) n)) in
+      let right = args_nodes function (n + 1) xs in
+      one_argument b bs _ _ (argument_at b x g (subst (λ z. AllClean (expr_nodes x t scopes a (position_of z))) s.0 (clean_sooner left right c)))
+      (arguments_at function xs gs (n + 1) bs s.1 (omega (arith, e)) (clean_later left right c))
+
+  -- ---- what stands whole
+
+  counted_right : (o : Option Signature) (s : Signature) (function args : ℕ) → o ≡ Some s → (is_miscounted (callee_of function o) args ≡ true → ⊥) → args ≡ length s.params
+  counted_right o s function args e n =
+      let right = not_false (nat_eq (length s.params) args) (λ k. n (ap (λ z. is_miscounted (callee_of function z) args) e ∙ k)) in
+      grind (arith, nat_tests, right)
+
+  called_at : (o : Option Meaning) (args : List Expr) (w : Position) → AreExprs args → IsCalled program t r a.depth outermost o
+      → AreClean (call_tests o (callee t o) (length (map expr_nodes args)) a w)
+      → AllClean (args_step (List Node) one_node [] join_nodes o 0 (map expr_nodes args) t scopes a)
+      → IsEffect program r (f.Call (function_of o) (arguments_step (map read args) scopes a.depth))
+  called_at _ args w gs (is_called k s) c cs =
+      let count = counted_right (slice_get t.functions k) s.signature k (length (map expr_nodes args)) s.told (λ e. c 3 (inr (inl (refl, e)))) in
+      let seen = subst (λ o. SeesAt o 0 s.signature.params) (sym s.told) (sees s.signature [] s.signature.params 0 refl refl) in
+      call k s.function _ s.there
+      (subst (λ ps. AreArguments program r ps (arguments_step (map read args) scopes a.depth)) (sym s.params)
+      (arguments_at k args gs 0 s.signature.params seen (sym (as_many expr_nodes args) ∙ count) cs))
+
+  effect_as : {q q2 : Reading} → q ≡ q2 → IsEffect program r (q2.effect scopes a.depth) → IsEffect program r (q.effect scopes a.depth)
+  effect_as e h = subst (λ (z : Reading). IsEffect program r (z.effect scopes a.depth)) (sym e) h
+
+  declared : {o : Option Meaning} → o ≡ None → is_undeclared o ≡ true
+  declared e = ap is_undeclared e
+
+  first_true : (x y : Bool) → x ≡ true → either x y ≡ true
+  first_true true y h = refl
+  first_true false y h = cc
+
+  pub call_at : (w : Position) (x : Expr) → IsCall x → AllClean (expr_nodes x t scopes a w) → IsEffect program r (effect_in x scopes a.depth)
+  call_at w _ (shape.function_call at name args gs) c =
+      let k = clean_as w (nodes.call_is at name args) c in
+      let o = visible name scopes in
+      effect_as (reads.call_reads at name args)
+      (called_at o args w gs
+      (function_there program t r a.depth outermost o (within name) (λ e. k.0 4 (inr (inr (inl (refl, first_true _ _ e))))) (λ e. k.0 2 (inl (refl, declared e)))) k.0 k.1)
+  call_at w _ (shape.send at channel value g) c =
+      let k = clean_as w (nodes.send_is at channel value) c in
+      let o = visible channel scopes in
+      effect_as (reads.send_reads at channel value)
+      (send _ _ (channel_there program t r a.depth outermost o (within channel) (λ e. k.0 4 (inr (inl (refl, first_true _ _ e)))) (λ e. k.0 2 (inl (refl, declared e))))
+      (value_at po.Value refl value g k.1))
+  call_at w _ (shape.recv at channel place g) c =
+      let k = clean_as w (nodes.recv_is at channel place) c in
+      let o = visible channel scopes in
+      effect_as (reads.recv_reads at channel place)
+      (recv _ _ (channel_there program t r a.depth outermost o (within channel) (λ e. k.0 4 (inr (inl (refl, first_true _ _ e)))) (λ e. k.0 2 (inl (refl, declared e))))
+      (target_at place g k.1))
+  call_at w _ (shape.read at file from len array g h) c =
+      let k = clean_as w (nodes.read_is at file from len array) c in
+      let left = expr_nodes from t scopes a po.Value in
+      let right = expr_nodes len t scopes a po.Value in
+      effect_as (reads.read_reads at file from len array)
+      (reads_file _ _ _ _
+      (file_there program t r a.depth outermost (visible file scopes) (within file) (λ e. k.0 4 (inr (inl (refl, first_true _ _ e)))) (λ e. k.0 2 (inl (refl, first_true _ _ (declared e)))))
+      (value_at po.Value refl from g (clean_sooner left right k.1)) (value_at po.Value refl len h (clean_later left right k.1))
+      (array_there program t r a.depth outermost (visible array scopes) (within array)
+      (λ e. k.0 4 (inr (inl (refl, second_true (is_other ki.File (visible file scopes)) _ (first_true _ _ e)))))
+      (λ e. k.0 2 (inl (refl, second_true (is_undeclared (visible file scopes)) _ (declared e))))))
+  call_at w _ (shape.write at file from len array g h) c =
+      let k = clean_as w (nodes.write_is at file from len array) c in
+      let left = expr_nodes from t scopes a po.Value in
+      let right = expr_nodes len t scopes a po.Value in
+      effect_as (reads.write_reads at file from len array)
+      (writes_file _ _ _ _
+      (file_there program t r a.depth outermost (visible file scopes) (within file) (λ e. k.0 4 (inr (inl (refl, first_true _ _ e)))) (λ e. k.0 2 (inl (refl, first_true _ _ (declared e)))))
+      (value_at po.Value refl from g (clean_sooner left right k.1)) (value_at po.Value refl len h (clean_later left right k.1))
+      (array_there program t r a.depth outermost (visible array scopes) (within array)
+      (λ e. k.0 4 (inr (inl (refl, second_true (is_other ki.File (visible file scopes)) _ (first_true _ _ e)))))
+      (λ e. k.0 2 (inl (refl, second_true (is_undeclared (visible file scopes)) _ (declared e))))))
+
+  value_alone : {q q2 : Reading} → q ≡ q2 → q2.effect scopes a.depth ≡ f.Value (q2.value scopes a.depth) → IsValue program r (q.value scopes a.depth)
+      → IsEffect program r (q.effect scopes a.depth)
+  value_alone {q} {q2} e same h =
+      subst (λ (z : Reading). IsValue program r (z.value scopes a.depth) → IsEffect program r (z.effect scopes a.depth)) (sym e)
+      (λ v. subst (IsEffect program r) (sym same) (only_value _ v)) h
+
+  -- the whole right side of an assignment, an initialiser or the operand of a `return`
+  pub effect_at : (x : Expr) → IsExpr x → AllClean (expr_nodes x t scopes a po.Whole) → IsEffect program r (effect_in x scopes a.depth)
+  effect_at _ (shape.call x g) c = call_at po.Whole x g c
+  effect_at _ (shape.number at value) c = value_alone (reads.number_reads at value) refl (value_at po.Whole refl _ (shape.number at value) c)
+  effect_at _ (shape.constant at which) c = value_alone (reads.constant_reads at which) refl (value_at po.Whole refl _ (shape.constant at which) c)
+  effect_at _ (shape.place _ (shape.variable at name)) c =
+      value_alone (reads.name_reads at name) refl (value_at po.Whole refl _ (shape.place _ (shape.variable at name)) c)
+  effect_at _ (shape.place _ (shape.element at name index g)) c =
+      value_alone (reads.index_reads at name index) refl (value_at po.Whole refl _ (shape.place _ (shape.element at name index g)) c)
+  effect_at _ (shape.group at inner g) c = value_alone (reads.group_reads at inner) refl (value_at po.Whole refl _ (shape.group at inner g) c)
+  effect_at _ (shape.unary at op inner g) c = value_alone (reads.unary_reads at op inner) refl (value_at po.Whole refl _ (shape.unary at op inner g) c)
+  effect_at _ (shape.chain at level first link rest g gs) c =
+      value_alone (reads.chain_reads at level first (link ∷ rest)) refl (value_at po.Whole refl _ (shape.chain at level first link rest g gs) c)
+
+  -- ---- parts of statements
+
+  pub values_at : (xs : List Expr) → AreExprs xs → AllClean (values_all (List Node) one_node [] join_nodes xs t scopes a) → AreValues program r (values_in xs scopes a.depth)
+  values_at _ shape.no_expr c = tt
+  values_at _ (shape.one_expr x xs g gs) c =
+      let left = expr_nodes x t scopes a po.Value in
+      let right = values_all (List Node) one_node [] join_nodes xs t scopes a in
+      (value_at po.Value refl x g (clean_sooner left right c), values_at xs gs (clean_later left right c))
+
+  pub test_at : (x : Option Expr) → shape.IsValue x → AllClean (value_all (List Node) one_node [] join_nodes po.Value x t scopes a) → IsTest program r (test_in x scopes a.depth)
+  test_at _ shape.no_value c = no_test
+  test_at _ (shape.some_value x g) c = some_test _ (value_at po.Value refl x g c)
+
+  pub initial_at : (x : Option Expr) → shape.IsValue x → AllClean (value_all (List Node) one_node [] join_nodes po.Whole x t scopes a) → IsEffect program r (initial_in x scopes a.depth)
+  initial_at _ shape.no_value c = only_value _ (number (pos 0))
+  initial_at _ (shape.some_value x g) c = effect_at x g c
+
+  pub operand_at : (x : Option Expr) → shape.IsValue x → AllClean (value_all (List Node) one_node [] join_nodes po.Whole x t scopes a) → IsOperand program r (operand_in x scopes a.depth)
+  operand_at _ shape.no_value c = no_operand
+  operand_at _ (shape.some_value x g) c = some_operand _ (effect_at x g c)

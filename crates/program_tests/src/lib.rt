@@ -1,0 +1,15 @@
+//! Calls from the text of a program to its run of which no text in `tests/` can show what they give.
+#![tactic(auto)]
+
+#[cfg(test)]
+mod compiled;
+#[cfg(test)]
+mod main_calls;
+#[cfg(test)]
+mod resolved;
+#[cfg(test)]
+mod rules;
+#[cfg(test)]
+mod shown;
+#[cfg(test)]
+mod trees;

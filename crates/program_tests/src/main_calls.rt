@@ -1,0 +1,338 @@
+//! The top call over objects in memory, with objects that fail or go byte by byte.
+
+ghost use Rattle.std.specs.Prelude.{None, is_some};
+
+use ac_base::List;
+use ac_outside::{
+    Failed, Library, MemoryLibrary, MemorySink, NamedBytes, SafeLibrary, SafeSink, Sink,
+};
+use ac_program::ac_main;
+use std::alloc::{AllocError, Global};
+use std::test::Fail;
+
+// The words of a command line.
+fn words_of(alloc: Global, words: &[&str]) -> Result<Vec<String>, AllocError> {
+    let mut owned = Vec::new(alloc);
+    for word in words {
+        owned.push(String::from_str(alloc, word)?)?;
+    }
+    Ok(owned)
+}
+
+// Sources, and what is written.
+const USAGE: &str =
+    "usage: ac run|trace FILE [--steps N], ac code|check FILE, ac audit FILE TRACE, ac load N [--steps N]\n";
+
+const SEVEN: &str = "core a(f); async void f() { printf(\"%d\\n\", 1+2*3); }";
+
+const REPORT: &str = "a: finished after 1 steps, 9 instructions\n7\n";
+
+const NONE: &str = "core a(f); async void f() { }";
+
+const EMPTY: &str = "a: finished after 0 steps, 2 instructions\n";
+
+const TWO: &str = "core a(f); async void f() { printf(\"%d\\n\", 1); printf(\"%d\\n\", 2); }";
+
+const ONE_STEP: &str = "a: out-of-steps after 1 steps, 3 instructions\n1\n";
+
+const TWO_STEPS: &str = "a: finished after 2 steps, 8 instructions\n1\n2\n";
+
+const UNDECLARED: &str = "core a(f); async void f() { x = 1; }";
+
+const ENDLESS: &str = "core a(f); async void f() { while (1) ; }";
+
+const LEAST: &str =
+    "core a(f); async void f() { int m = -9223372036854775807 - 1; printf(\"%d\\n\", m / -1); printf(\"%d\\n\", m / 0); }";
+
+// A library of the one text `x.ac`.
+fn one_text(alloc: Global, text: &[u8]) -> Result<List<NamedBytes>, AllocError> {
+    let mut texts = Vec::new(alloc);
+    texts.push(NamedBytes {
+        name: List::from_vec(Vec::from_slice(alloc, b"x.ac")?),
+        bytes: List::from_vec(Vec::from_slice(alloc, text)?),
+    })?;
+    Ok(List::from_vec(texts))
+}
+
+// The status of a call, and whether it keeps a run.
+#[derive(Clone, Copy)]
+struct Seen {
+    status: u8,
+    ran: bool,
+}
+
+// The one call of `ac_main`: each such call is proved through all its clauses.
+fn called<L: Library, K: Sink>(
+    alloc: Global,
+    words: &[&str],
+    library: &mut L,
+    sink: &mut K,
+) -> Result<Seen, AllocError> {
+    let owned = words_of(alloc, words)?;
+    let outcome = ac_main(alloc, owned.as_slice(), library, sink);
+    Ok(Seen {
+        status: outcome.status.number,
+        ran: outcome.run.is_some(),
+    })
+}
+
+// What a call on one text with a sink of some room came to: its status, what the sink took, and whether a run is kept.
+#[derive(Drop)]
+struct Taken {
+    status: u8,
+    taken: Vec<u8>,
+    ran: bool,
+}
+
+fn called_on(alloc: Global, words: &[&str], source: &[u8], room: u64) -> Result<Taken, Fail> {
+    let mut library = MemoryLibrary::new(one_text(alloc, source)?, List::new(alloc))?;
+    let mut sink = MemorySink::new(alloc, room)?;
+    let seen = called(alloc, words, &mut library, &mut sink)?;
+    Ok(Taken {
+        status: seen.status,
+        taken: Vec::from_slice(alloc, sink.taken())?,
+        ran: seen.ran,
+    })
+}
+
+// A library that gives one byte at a time.
+#[derive(Drop)]
+struct Drops {
+    inner: SafeLibrary,
+}
+
+impl Library for Drops {
+    ghost told = { λ s.
+        record { text_at = λ _. None; is_open = is_some s.inner.left; left = None; opens = None; names = None; faults = 0 } };
+
+    ghost tells_opens = { λ _ _ told. told };
+
+    fn open_text(&mut self, name: &str) -> Result<(), Failed> {
+        self.inner.open_text(name)
+    }
+
+    fn read(&mut self, into: &mut [u8]) -> Result<usize, Failed> {
+        let size = into.len().min(1);
+        self.inner.read(&mut into[..size])
+    }
+}
+
+// A sink that takes one byte at a time.
+#[derive(Drop)]
+struct Sips {
+    inner: SafeSink,
+}
+
+impl Sink for Sips {
+    ghost told = { λ _. record { held = None; faults = 0 } };
+
+    fn write(&mut self, piece: &[u8]) -> Result<usize, Failed> {
+        let size = piece.len().min(1);
+        self.inner.write(&piece[..size])
+    }
+}
+
+// Calls that run a program, with sinks that take all of the report or a front of it.
+#[test]
+fn reports_are_written_as_far_as_there_is_room(rt: HostRuntime) -> Result<(), Fail> {
+    let alloc = rt.alloc();
+    let rows: [(&'static [&'static str], &'static str, u64, u8, &'static str); 11] = [
+        (&["run", "x.ac"], SEVEN, 999, 0, REPORT),
+        (&["run", "x.ac"], SEVEN, 44, 0, REPORT),
+        (
+            &["run", "x.ac"],
+            SEVEN,
+            43,
+            8,
+            "a: finished after 1 steps, 9 instructions\n7",
+        ),
+        (&["run", "x.ac"], SEVEN, 10, 8, "a: finishe"),
+        (&["run", "x.ac"], NONE, 999, 0, EMPTY),
+        (&["run", "x.ac", "--steps", "1"], TWO, 999, 6, ONE_STEP),
+        (&["run", "--steps=2", "--", "x.ac"], TWO, 999, 0, TWO_STEPS),
+        (&["run", "x.ac"], TWO, 999, 0, TWO_STEPS),
+        (&["run", "x.ac", "--steps=1"], TWO, 4, 8, "a: o"),
+        (
+            &["run", "x.ac", "--steps", "1000"],
+            ENDLESS,
+            999,
+            6,
+            "a: out-of-steps after 1000 steps, 2500 instructions\n",
+        ),
+        (
+            &["run", "x.ac"],
+            LEAST,
+            999,
+            4,
+            "a: zero-divisor after 3 steps, 16 instructions\n-9223372036854775808\n",
+        ),
+    ];
+    for (words, source, room, status, taken) in rows {
+        let seen = called_on(alloc, words, source.as_bytes(), room)?;
+        assert_eq!(rt; seen.status, status, "of {source} at room {room}");
+        assert_eq!(rt;
+            seen.taken.as_slice(),
+            taken.as_bytes(),
+            "of {source} at room {room}"
+        );
+        assert!(rt; seen.ran, "{source} is run");
+    }
+    Ok(())
+}
+
+// Calls that are refused, the first refusal in the order of work.
+#[test]
+fn refusals_are_told_and_no_run_is_kept(rt: HostRuntime) -> Result<(), Fail> {
+    let alloc = rt.alloc();
+    let rows: [(&'static [&'static str], &'static str, u64, u8, &'static str); 16] = [
+        (&["run", "y.ac"], SEVEN, 999, 7, "library fault\n"),
+        (&["run", "x.ac", "y.ac"], SEVEN, 999, 1, USAGE),
+        (&["run", "x.ac", "--steps", "0"], SEVEN, 999, 1, USAGE),
+        (&["run"], SEVEN, 999, 1, USAGE),
+        (&[], SEVEN, 999, 1, USAGE),
+        (&[], SEVEN, 10, 8, "usage: ac "),
+        (&["run", "x.ac"], "core a(f); @", 999, 2, "bad byte at 11\n"),
+        (
+            &["run", "x.ac"],
+            "core a(f)",
+            999,
+            2,
+            "unexpected token at 9\n",
+        ),
+        (&["run", "x.ac"], "", 999, 3, "rule C15 at 0\n"),
+        (&["run", "x.ac"], UNDECLARED, 999, 3, "rule C2 at 28\n"),
+        (&["run", "x.ac"], UNDECLARED, 8, 8, "rule C2 "),
+        (
+            &["run", "x.ac"],
+            "core a(g); async void f() { }",
+            999,
+            3,
+            "rule C2 at 0\n",
+        ),
+        (
+            &["run", "x.ac"],
+            "core a(f); async void f() {} void g() { f(); async ; }",
+            999,
+            3,
+            "rule C5 at 40\n",
+        ),
+        (
+            &["run", "x.ac"],
+            "core a(f); async void f() { async ; }",
+            999,
+            3,
+            "rule C7 at 28\n",
+        ),
+        (
+            &["run", "x.ac"],
+            "core a(f); async void f() { yield; }",
+            999,
+            15,
+            "not built at 28\n",
+        ),
+        (
+            &["run", "x.ac"],
+            "core a(f); async void f() { } async void g() { }",
+            999,
+            15,
+            "not built at 30\n",
+        ),
+    ];
+    for (words, source, room, status, taken) in rows {
+        let seen = called_on(alloc, words, source.as_bytes(), room)?;
+        assert_eq!(rt; seen.status, status, "of {source} at room {room}");
+        assert_eq!(rt;
+            seen.taken.as_slice(),
+            taken.as_bytes(),
+            "of {source} at room {room}"
+        );
+        assert!(rt; !seen.ran, "{source} is refused");
+    }
+    Ok(())
+}
+
+// A source and blanks up to a size: the greatest that a source may have, and one more.
+#[test]
+fn a_source_has_at_most_1048576_bytes(rt: HostRuntime) -> Result<(), Fail> {
+    let alloc = rt.alloc();
+    for (source, size, status, line) in [
+        (NONE, 1_048_576, 0, EMPTY),
+        (NONE, 1_048_577, 10, "limit: source\n"),
+        ("", 1_048_576, 3, "rule C15 at 0\n"),
+        ("", 1_048_577, 10, "limit: source\n"),
+    ] {
+        let blanks = vec![in alloc; b' '; size - source.len()]?;
+        let mut text = Vec::from_slice(alloc, source.as_bytes())?;
+        text.extend_from_slice(blanks.as_slice())?;
+        let seen = called_on(alloc, &["run", "x.ac"], text.as_slice(), 999)?;
+        assert_eq!(rt; seen.status, status, "of {size} bytes");
+        assert_eq!(rt; seen.taken.as_slice(), line.as_bytes(), "of {size} bytes");
+    }
+    Ok(())
+}
+
+// A function whose body is so many blocks, each in the one before.
+fn blocks(alloc: Global, count: usize) -> Result<String, AllocError> {
+    let mut source = String::from_str(alloc, "core a(f); async void f()")?;
+    for _ in 0..count {
+        source.push('{')?;
+    }
+    for _ in 0..count {
+        source.push('}')?;
+    }
+    Ok(source)
+}
+
+#[test]
+fn blocks_are_nested_256_deep_at_most(rt: HostRuntime) -> Result<(), Fail> {
+    let alloc = rt.alloc();
+    for (count, status, line) in [
+        (1, 0, EMPTY),
+        (256, 0, EMPTY),
+        (257, 10, "limit: nesting at 281\n"),
+    ] {
+        let source = blocks(alloc, count)?;
+        let seen = called_on(alloc, &["run", "x.ac"], source.as_bytes(), 999)?;
+        assert_eq!(rt; seen.status, status, "of {count} blocks");
+        assert_eq!(rt; seen.taken.as_slice(), line.as_bytes(), "of {count} blocks");
+    }
+    Ok(())
+}
+
+// A library of which the call of that number fails, opening being call 0.
+#[test]
+fn a_library_that_fails_is_told_and_opened_once(rt: HostRuntime) -> Result<(), Fail> {
+    let alloc = rt.alloc();
+    for (fails, status, line) in [
+        (0, 7, "library fault\n"),
+        (1, 7, "library fault\n"),
+        (2, 7, "library fault\n"),
+        (3, 0, EMPTY),
+        (999, 0, EMPTY),
+    ] {
+        let fails = List::from_vec(vec![in alloc; fails]?);
+        let mut library = MemoryLibrary::new(one_text(alloc, NONE.as_bytes())?, fails)?;
+        let mut sink = MemorySink::new(alloc, 999)?;
+        let seen = called(alloc, &["run", "x.ac"], &mut library, &mut sink)?;
+        assert_eq!(rt; seen.status, status);
+        assert_eq!(rt; sink.taken(), line.as_bytes());
+        assert_eq!(rt; library.opens(), 1);
+    }
+    Ok(())
+}
+
+#[test]
+fn a_text_that_comes_and_goes_byte_by_byte_is_whole(rt: HostRuntime) -> Result<(), Fail> {
+    let alloc = rt.alloc();
+    let mut library = Drops {
+        inner: SafeLibrary::new(one_text(alloc, SEVEN.as_bytes())?)?,
+    };
+    let mut sink = Sips {
+        inner: SafeSink::new(alloc)?,
+    };
+    let seen = called(alloc, &["run", "x.ac"], &mut library, &mut sink)?;
+    assert_eq!(rt; seen.status, 0);
+    assert!(rt; seen.ran, "it is run");
+    assert_eq!(rt; sink.inner.taken(), REPORT.as_bytes());
+    Ok(())
+}

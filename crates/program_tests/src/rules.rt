@@ -1,0 +1,69 @@
+//! What a checked tree says by number.
+
+use crate::resolved::program;
+use ac_base::List;
+use ac_tree::Program;
+use ac_types::{CheckFault, Checked, check};
+use std::alloc::Global;
+use std::test::Fail;
+
+const SOURCE: &str =
+    "core a(f); core b(f); channel c(a, b, 5); file p(\"x\"); async void f() { } void h() { }";
+
+fn accepted(alloc: Global) -> Result<Checked, Fail> {
+    match check(alloc, program(alloc, SOURCE.as_bytes())?) {
+        Ok(checked) => Ok(checked),
+        Err(_) => Err(Fail::from("the program is refused")),
+    }
+}
+
+#[test]
+fn counts_of_a_checked_tree(rt: HostRuntime) -> Result<(), Fail> {
+    let checked = accepted(rt.alloc())?;
+    assert_eq!(rt; checked.tree().items.len(), 6);
+    assert_eq!(rt; checked.cores(), 2);
+    assert_eq!(rt; checked.functions(), 2);
+    assert_eq!(rt; checked.channels(), 1);
+    assert_eq!(rt; checked.files(), 1);
+    Ok(())
+}
+
+#[test]
+fn parts_of_a_checked_tree(rt: HostRuntime) -> Result<(), Fail> {
+    let checked = accepted(rt.alloc())?;
+    if checked.cores() < 2 || checked.channels() < 1 || checked.files() < 1 {
+        return Err(Fail::from("a part is not there"));
+    }
+    assert!(rt; checked.core_name(1).as_slice() == b"b".as_slice());
+    assert_eq!(rt; checked.capacity(0), 5);
+    assert!(rt; checked.path(0).as_slice() == b"x".as_slice());
+    Ok(())
+}
+
+#[test]
+fn functions_that_cores_reach(rt: HostRuntime) -> Result<(), Fail> {
+    let checked = accepted(rt.alloc())?;
+    if checked.cores() < 2 || checked.functions() < 2 {
+        return Err(Fail::from("a core or a function is not there"));
+    }
+    assert!(rt; checked.reaches(0, 0));
+    assert!(rt; checked.reaches(1, 0));
+    assert!(rt; !checked.reaches(0, 1));
+    assert!(rt; !checked.reaches(1, 1));
+    Ok(())
+}
+
+#[test]
+fn the_empty_program_is_refused(rt: HostRuntime) -> Result<(), Fail> {
+    let alloc = rt.alloc();
+    let program = Program {
+        items: List::new(alloc),
+    };
+    match check(alloc, program) {
+        Ok(_) => Err(Fail::from("the empty program is accepted")),
+        Err(fault) => {
+            assert_eq!(rt; fault, CheckFault::Broken { rule: 15, at: 0 });
+            Ok(())
+        }
+    }
+}

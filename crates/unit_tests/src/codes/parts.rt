@@ -1,0 +1,151 @@
+//! Small codes.
+
+use ac_base::{Bytes, List, Name, NoMemory};
+use stack_code::{ChannelEnds, Code, Entered, Instr, Start};
+use std::alloc::Global;
+
+/// Lists of a code, beside its instructions.
+#[derive(Clone, Copy)]
+pub struct Lists<'a> {
+    pub entries: &'a [u32],
+    /// How many names there are.
+    pub names: u32,
+    pub capacities: &'a [u32],
+    pub ends: &'a [ChannelEnds],
+    pub starts: &'a [Start],
+    /// The slots of the second function, whose parameters are an int and an array.
+    pub words: u32,
+}
+
+/// Two cores that enter the first function, one channel from the first to the second, and three
+/// globals of which the second starts with 5.
+pub const USUAL: Lists<'static> = Lists {
+    entries: &[0, 0],
+    names: 2,
+    capacities: &[4, 1, 1],
+    ends: &[ChannelEnds { from: 0, to: 1 }],
+    starts: &[Start { slot: 1, value: 5 }],
+    words: 3,
+};
+
+fn list<T: Copy>(alloc: Global, items: &[T]) -> Result<List<T>, NoMemory> {
+    Ok(List::from_vec(Vec::from_slice(alloc, items)?))
+}
+
+fn function(
+    alloc: Global,
+    name: &[u8],
+    at: u32,
+    params: &[bool],
+    words: u32,
+) -> Result<Entered, NoMemory> {
+    let name = list(alloc, name)?;
+    let params = list(alloc, params)?;
+    Ok(Entered {
+        name,
+        at,
+        params,
+        words,
+    })
+}
+
+fn functions(
+    alloc: Global,
+    first: u32,
+    second: u32,
+    words: u32,
+) -> Result<List<Entered>, NoMemory> {
+    let mut functions = List::new(alloc);
+    functions.push(function(alloc, b"f", first, &[], 4)?)?;
+    functions.push(function(alloc, b"g", second, &[false, true], words)?)?;
+    Ok(functions)
+}
+
+fn texts(alloc: Global) -> Result<List<Bytes>, NoMemory> {
+    let mut texts = List::new(alloc);
+    texts.push(list(alloc, b"%d, %%d %c")?)?;
+    texts.push(List::new(alloc))?;
+    Ok(texts)
+}
+
+fn names(alloc: Global, count: u32) -> Result<List<Name>, NoMemory> {
+    let mut names = List::new(alloc);
+    for _ in 0..count {
+        names.push(list(alloc, b"a")?)?;
+    }
+    Ok(names)
+}
+
+/// The code with these lists, whose functions begin there. The first has 4 slots and no parameter.
+pub fn code_with(
+    alloc: Global,
+    lists: &Lists,
+    instrs: &[Instr],
+    first: u32,
+    second: u32,
+) -> Result<Option<Code>, NoMemory> {
+    let instrs = list(alloc, instrs)?;
+    let functions = functions(alloc, first, second, lists.words)?;
+    let texts = texts(alloc)?;
+    let entries = list(alloc, lists.entries)?;
+    let names = names(alloc, lists.names)?;
+    let capacities = list(alloc, lists.capacities)?;
+    let ends = list(alloc, lists.ends)?;
+    let starts = list(alloc, lists.starts)?;
+    Code::make(
+        alloc, instrs, functions, texts, entries, names, 3, capacities, ends, starts,
+    )
+}
+
+/// A function of a small code, which may have one body or another.
+#[derive(Clone, Copy)]
+pub enum Whose {
+    /// The first, whose body begins at address 2. The second returns its int.
+    First,
+    /// The second, whose body begins at address 4. The first calls it.
+    Second,
+}
+
+const RETURNS_ITS_INT: [Instr; 2] = [Instr::Load { level: 0, slot: 0 }, Instr::Ret];
+
+const CALLS_THE_SECOND: [Instr; 4] = [
+    Instr::Push(1),
+    Instr::Arr {
+        level: 0,
+        slot: 0,
+        len: 2,
+    },
+    Instr::Call {
+        function: 1,
+        count: 2,
+    },
+    Instr::Ret,
+];
+
+fn may_have(alloc: Global, whose: Whose, body: &[Instr]) -> Result<bool, NoMemory> {
+    let (other, first, second) = match whose {
+        Whose::First => (RETURNS_ITS_INT.as_slice(), 2, 0),
+        Whose::Second => (CALLS_THE_SECOND.as_slice(), 0, 4),
+    };
+    let mut instrs = Vec::from_slice(alloc, other)?;
+    for instr in body {
+        instrs.push(*instr)?;
+    }
+    let code = code_with(alloc, &USUAL, instrs.as_slice(), first, second)?;
+    Ok(code.is_some())
+}
+
+/// The first of these cases in which that function may have the body and is said not to, or the
+/// other way round. One place calls for all tables, since each place is proved on its own.
+pub fn first_wrong(
+    alloc: Global,
+    whose: Whose,
+    cases: &[(&[Instr], bool)],
+) -> Result<Option<usize>, NoMemory> {
+    for (at, (body, valid)) in cases.iter().enumerate() {
+        if may_have(alloc, whose, body)? != *valid {
+            return Ok(Some(at));
+        }
+    }
+    Ok(None)
+}

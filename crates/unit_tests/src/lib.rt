@@ -1,0 +1,25 @@
+//! Calls of the crates that know no program, with values that were worked out by hand.
+#![tactic(auto)]
+
+#[cfg(test)]
+mod adapters;
+#[cfg(test)]
+mod base;
+#[cfg(test)]
+mod blocks;
+#[cfg(test)]
+mod codes;
+#[cfg(test)]
+mod frames;
+#[cfg(test)]
+mod lexing;
+#[cfg(test)]
+mod links;
+#[cfg(test)]
+mod outside;
+#[cfg(test)]
+mod reach;
+#[cfg(test)]
+mod ready_list;
+#[cfg(test)]
+mod scopes;
