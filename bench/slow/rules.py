@@ -252,10 +252,9 @@ class Unbuilt(Exception):
 
 def unbuilt(program):
     """The place of the first node that is not built, or None."""
-    entry = next(i.entry for i in program.items if i.kind == "Core")
 
     def expr(e):
-        if e.kind in ("Call", "Send", "Recv", "Read", "Write"):
+        if e.kind in ("Send", "Recv", "Read", "Write"):
             raise Unbuilt(e.at)
         if e.kind == "Index":
             expr(e.index)
@@ -265,12 +264,17 @@ def unbuilt(program):
             expr(e.first)
             for _, x in e.rest:
                 expr(x)
+        elif e.kind == "Call":
+            for a in e.args:
+                expr(a)
 
     def stmt(s):
-        if s.kind in ("CallStmt", "Do", "Async", "Cancel", "Yield"):
+        if s.kind == "Cancel":
             raise Unbuilt(s.at)
         if s.kind == "Assign":
             expr(s.place)
+        if s.kind == "CallStmt":
+            expr(s.call)
         for part in ("init", "test", "value", "next"):
             x = getattr(s, part, None)
             if x is not None:
@@ -294,10 +298,6 @@ def unbuilt(program):
             elif i.kind in ("Channel", "File"):
                 raise Unbuilt(i.at)
             elif i.kind == "Function":
-                if i.name != entry:
-                    raise Unbuilt(i.at)
-                for p in i.params:
-                    raise Unbuilt(p.at)
                 for s in i.body:
                     stmt(s)
     except Unbuilt as u:

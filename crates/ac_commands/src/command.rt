@@ -1,8 +1,16 @@
 //! What a statement does.
 
-use crate::effect::{Effect, Target};
-use crate::value::Value;
+use crate::value::{Array, Place, Value};
 use ac_base::List;
+
+/// Where an int is put.
+#[derive(Drop)]
+pub enum Target {
+    /// An int variable.
+    Variable(Place),
+    /// An element of an array.
+    Element { array: Array, index: Value },
+}
 
 /// A statement. Slots are those of the frame in which it runs, unless a level is given.
 ///
@@ -14,7 +22,7 @@ pub enum Command {
     /// Puts an int into a target: an assignment, or the declaration of an int.
     Set {
         target: Target,
-        value: Effect,
+        value: Value,
     },
     /// Sets so many slots to 0: the declaration of an array.
     Clear {
@@ -22,7 +30,7 @@ pub enum Command {
         len: u32,
     },
     /// A call or an operation, whose value is dropped.
-    Run(Effect),
+    Run(Value),
     /// Prints the text of that number with its arguments.
     Print {
         text: u32,
@@ -50,7 +58,7 @@ pub enum Command {
     /// Goes on with the innermost loop.
     Continue,
     /// Ends the function with a value, or with 0.
-    Return(Option<Effect>),
+    Return(Option<Value>),
     /// A `do`, whose block is kept in that slot.
     Do {
         slot: u32,

@@ -2,11 +2,9 @@
 #![tactic(auto)]
 
 mod command;
-mod effect;
 mod program;
 mod value;
 
-pub use command::Command;
-pub use effect::{Argument, Effect, Target};
+pub use command::{Command, Target};
 pub use program::{Channel, Core, Function, Resolved, Start};
-pub use value::{Array, Place, Value, ValueLink};
+pub use value::{Action, Array, Place, Value, ValueLink};

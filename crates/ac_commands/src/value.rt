@@ -1,4 +1,4 @@
-//! What is computed without waiting.
+//! Expressions.
 
 use ac_base::{Boxed, List};
 use ac_tree::{BinaryOp, UnaryOp};
@@ -23,7 +23,22 @@ pub enum Array {
     Param { level: u32, slot: u32 },
 }
 
-/// An expression that calls nothing and waits for nothing.
+/// What is done with operands, so that the thread may have to wait for the value.
+#[derive(Clone, Copy, Debug, PartialEq, Eq)]
+pub enum Action {
+    /// Calls a function with its arguments.
+    Call { function: u32 },
+    /// Sends a value on a channel.
+    Send { channel: u32 },
+    /// Receives from a channel into the int that is referred to.
+    Recv { channel: u32 },
+    /// Reads from a place of a file on, so many bytes, into an array.
+    Read { file: u32 },
+    /// Writes to a file from a place on, so many elements, of an array.
+    Write { file: u32 },
+}
+
+/// An expression: an int, or a reference to an array or to a part of one.
 #[cycle(value)]
 #[derive(Drop)]
 pub enum Value {
@@ -31,8 +46,15 @@ pub enum Value {
     Number(i64),
     /// The int at a place.
     Variable(Place),
+    /// A reference to an array.
+    Reference(Array),
     /// An element of an array.
     Element {
+        array: Array,
+        index: Boxed<Value>,
+    },
+    /// A reference to the one element of an array that has this index.
+    Part {
         array: Array,
         index: Boxed<Value>,
     },
@@ -45,6 +67,11 @@ pub enum Value {
     Chain {
         first: Boxed<Value>,
         rest: List<ValueLink>,
+    },
+    /// A call or an operation, and its operands from left to right.
+    Act {
+        action: Action,
+        operands: List<Value>,
     },
 }
 

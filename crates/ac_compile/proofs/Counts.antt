@@ -1,13 +1,11 @@
 -- Each value has an instruction at least, so that numbers of 32 bits count the arguments of what has room.
-use Rattle.std.proofs.Common.{◌≤◌, List, [], ◌∷◌, length, map, sym, subst, arith}
+use Rattle.std.proofs.Common.{◌≤◌, List, [], ◌∷◌, length, sym, subst, arith}
 use Rattle.ac_tree.specs.declared.expr.BinaryOp.{BinaryOp}
 use Rattle.ac_commands.specs.declared.value.Value.{Value, map-Value, ind-Value, fold-roll-Value}
 use Rattle.ac_commands.specs.declared.value.ValueLink.{ValueLink}
 use Rattle.ac_commands.specs.declared.value.Value.TheOpen.{Value-F}
-use Rattle.ac_commands.specs.declared.effect.Argument.{Argument}
-use Rattle.ac_commands.specs.declared.effect.Argument.TheVariants as g
-use Rattle.ac_translation.specs.Pieces.{Piece, all}
-use Rattle.ac_translation.specs.Translation.{value_step, link_step, value_code, link_code, values_code, argument_code}
+use Rattle.ac_translation.specs.Pieces.{Piece}
+use Rattle.ac_translation.specs.Translation.{value_step, link_step, value_code, link_code, values_code}
 
 abbrev IsSome : Piece → Type 0
 IsSome p = 1 ≤ p.size
@@ -21,9 +19,12 @@ Link_ = (l : ValueLink) × Unit {0}
 layer : (y : Value-F Value_ Link_) → IsSome (value_step (map-Value Value ValueLink Piece (BinaryOp × Piece) value_code link_code (map-Value Value_ Link_ Value ValueLink (λ x. x.0) (λ l. l.0) y)))
 layer (Value-F.Number value) = omega arith
 layer (Value-F.Variable place) = omega arith
+layer (Value-F.Reference array) = omega arith
 layer (Value-F.Element array index) = omega arith
+layer (Value-F.Part array index) = omega arith
 layer (Value-F.Unary op operand) = omega arith
 layer (Value-F.Chain first rest) = let some = first.1 in omega (arith, some)
+layer (Value-F.Act action operands) = omega arith
 
 value_some : (x : Value) → IsSome (value_code x)
 value_some =
@@ -35,11 +36,3 @@ value_some =
 pub few_values : (xs : List Value) → length xs ≤ (values_code xs).size
 few_values [] = omega arith
 few_values (x ∷ xs) = let more = few_values xs in let some = value_some x in omega (arith, more, some)
-
-argument_some : (x : Argument) → IsSome (argument_code x)
-argument_some (g.Value x) = value_some x
-argument_some (g.Array x) = omega arith
-
-pub few_arguments : (xs : List Argument) → length xs ≤ (all (map argument_code xs)).size
-few_arguments [] = omega arith
-few_arguments (x ∷ xs) = let more = few_arguments xs in let some = argument_some x in omega (arith, more, some)

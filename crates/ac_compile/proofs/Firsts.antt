@@ -9,10 +9,9 @@ use Rattle.ac_tree.specs.declared.stmt.Stmt.TheFolds.{fold-roll-Stmt, ind-Stmt, 
 use Rattle.ac_tree.specs.declared.stmt.Stmt.TheOpen.{Stmt-F}
 use Rattle.ac_tree.specs.declared.item.Item.{Item}
 use Rattle.ac_tree.specs.declared.item.Item.TheVariants as i
-use Rattle.ac_tree.specs.declared.item.Param.{Param}
 use Rattle.ac_names.specs.Scopes.{or_else}
-use Rattle.ac_compile.specs.Unbuilt.{as_list, as_first, node_by, all_of, expr_step, link_step, expr_nodes, link_nodes, exprs_nodes, some_expr, is_place}
-use Rattle.ac_compile.specs.Unbuilt.{stmt_step, stmt_nodes, body_nodes, params_nodes, is_entry, item_nodes, is_late, items_nodes, first_entry, unbuilt_nodes}
+use Rattle.ac_compile.specs.Unbuilt.{as_list, as_first, node_by, all_of, expr_step, link_step, expr_nodes, link_nodes, exprs_nodes, some_expr}
+use Rattle.ac_compile.specs.Unbuilt.{stmt_step, stmt_nodes, body_nodes, item_nodes, is_late, items_nodes, unbuilt_nodes}
 
 abbrev pub head : List ℕ → Option ℕ
 head xs = slice_get xs 0
@@ -48,6 +47,10 @@ links_are : (ls : List Link_) → head (all_of as_list (map (link_nodes as_list)
 links_are [] = refl
 links_are (l ∷ ls) = two (link_nodes as_list l.0) (all_of as_list (map (link_nodes as_list) (map (λ l. l.0) ls))) _ _ l.1 (links_are ls)
 
+args_are : (xs : List Expr_) → head (all_of as_list (map (expr_nodes as_list) (map (λ x. x.0) xs))) ≡ all_of as_first (map (expr_nodes as_first) (map (λ x. x.0) xs))
+args_are [] = refl
+args_are (x ∷ xs) = two (expr_nodes as_list x.0) (all_of as_list (map (expr_nodes as_list) (map (λ x. x.0) xs))) _ _ x.1 (args_are xs)
+
 abbrev list_layer : Expr-F Expr_ Link_ → List ℕ
 list_layer y = expr_step as_list (map-Expr Expr Link (List ℕ) (List ℕ) (expr_nodes as_list) (link_nodes as_list) (map-Expr Expr_ Link_ Expr Link (λ x. x.0) (λ l. l.0) y))
 
@@ -62,7 +65,7 @@ layer (Expr-F.Index at name index) = index.1
 layer (Expr-F.Group at inner) = inner.1
 layer (Expr-F.Unary at op inner) = inner.1
 layer (Expr-F.Chain at level first rest) = two (expr_nodes as_list first.0) (all_of as_list (map (link_nodes as_list) (map (λ l. l.0) rest))) _ _ first.1 (links_are rest)
-layer (Expr-F.Call at name args) = refl
+layer (Expr-F.Call at name args) = args_are args
 layer (Expr-F.Send at channel value) = refl
 layer (Expr-F.Recv at channel place) = refl
 layer (Expr-F.Read at file from len array) = refl
@@ -130,9 +133,8 @@ stmt_layer (Stmt-F.Block at body) = stmts_are body
 stmt_layer (Stmt-F.Empty at) = refl
 stmt_layer (Stmt-F.Int at name value) = some_is value
 stmt_layer (Stmt-F.Array at name size) = refl
-stmt_layer (Stmt-F.Assign at place value) =
-    node_is (is_place place) at (expr_nodes as_list place ++ expr_nodes as_list value) _ (two (expr_nodes as_list place) (expr_nodes as_list value) _ _ (expr_is place) (expr_is value))
-stmt_layer (Stmt-F.Call at call) = refl
+stmt_layer (Stmt-F.Assign at place value) = two (expr_nodes as_list place) (expr_nodes as_list value) _ _ (expr_is place) (expr_is value)
+stmt_layer (Stmt-F.Call at call) = expr_is call
 stmt_layer (Stmt-F.Print at format args) = exprs_are args
 stmt_layer (Stmt-F.If at test body other) = if_is test body other
 stmt_layer (Stmt-F.While at test body) = two (expr_nodes as_list test) (stmt_nodes as_list body.0) _ _ (expr_is test) body.1
@@ -140,8 +142,8 @@ stmt_layer (Stmt-F.For at init test next body) = for_is init test next body
 stmt_layer (Stmt-F.Break at) = refl
 stmt_layer (Stmt-F.Continue at) = refl
 stmt_layer (Stmt-F.Return at value) = some_is value
-stmt_layer (Stmt-F.Do at label body) = refl
-stmt_layer (Stmt-F.Async at body) = refl
+stmt_layer (Stmt-F.Do at label body) = stmts_are body
+stmt_layer (Stmt-F.Async at body) = body.1
 stmt_layer (Stmt-F.Cancel at label) = refl
 stmt_layer (Stmt-F.Yield at) = refl
 
@@ -160,28 +162,21 @@ body_is (x ∷ xs) = two (stmt_nodes as_list x) (body_nodes as_list xs) _ _ (stm
 
 -- ---- items
 
-params_are : (xs : List Param) → head (params_nodes as_list xs) ≡ params_nodes as_first xs
-params_are [] = refl
-params_are (x ∷ xs) = refl
+item_is : (late : Bool) (x : Item) → head (item_nodes as_list late x) ≡ item_nodes as_first late x
+item_is late (i.Core at name entry) = node_is (not late) at [] None refl
+item_is late (i.Function f) = body_is f.body
+item_is late (i.Global at name size value) = refl
+item_is late (i.Channel at name from to cap) = refl
+item_is late (i.File at name path) = refl
 
-item_is : (entry : Option (List ℕ)) (late : Bool) (x : Item) → head (item_nodes as_list entry late x) ≡ item_nodes as_first entry late x
-item_is entry late (i.Core at name own) = node_is (not late) at [] None refl
-item_is entry late (i.Function f) =
-    node_is (is_entry entry f.name) f.at (params_nodes as_list f.params ++ body_nodes as_list f.body) _
-    (two (params_nodes as_list f.params) (body_nodes as_list f.body) _ _ (params_are f.params) (body_is f.body))
-item_is entry late (i.Global at name size value) = refl
-item_is entry late (i.Channel at name from to cap) = refl
-item_is entry late (i.File at name path) = refl
-
-items_are : (entry : Option (List ℕ)) (late : Bool) (xs : List Item) → head (items_nodes as_list entry late xs) ≡ items_nodes as_first entry late xs
-items_are entry late [] = refl
-items_are entry late (x ∷ xs) = two (item_nodes as_list entry late x) (items_nodes as_list entry (is_late late x) xs) _ _ (item_is entry late x) (items_are entry (is_late late x) xs)
+items_are : (late : Bool) (xs : List Item) → head (items_nodes as_list late xs) ≡ items_nodes as_first late xs
+items_are late [] = refl
+items_are late (x ∷ xs) = two (item_nodes as_list late x) (items_nodes as_list (is_late late x) xs) _ _ (item_is late x) (items_are (is_late late x) xs)
 
 -- ---- the program
 
-pub first_is : (items all : List Item) (entry : Option (List ℕ)) (o : Option ℕ) → items ≡ all → entry ≡ first_entry items → o ≡ items_nodes as_first entry false items → o ≡ head (unbuilt_nodes all)
-first_is items all entry o e f g =
-    g ∙ ap (λ k. items_nodes as_first k false items) f ∙ sym (items_are (first_entry items) false items) ∙ ap (λ xs. head (unbuilt_nodes xs)) e
+pub first_is : (items all : List Item) (o : Option ℕ) → items ≡ all → o ≡ items_nodes as_first false items → o ≡ head (unbuilt_nodes all)
+first_is items all o e g = g ∙ sym (items_are false items) ∙ ap (λ xs. head (unbuilt_nodes xs)) e
 
 no_head : (ns : List ℕ) → head ns ≡ None → ns ≡ []
 no_head [] e = refl

@@ -1,23 +1,24 @@
 -- The code of each form of a value and of a statement.
 use Rattle.std.proofs.Common.{◌≡◌, ℕ, ◌+◌, List, map, length, Option, Some, None, sym, ap, ◌∙◌}
 use Rattle.std.specs.Prelude.{ℤ}
+use Rattle.std.proofs.lemmas.List.{length-map}
 use Rattle.ac_tree.specs.declared.expr.UnaryOp.{UnaryOp}
 use Rattle.ac_tree.specs.declared.expr.BinaryOp.{BinaryOp}
+use Rattle.ac_commands.specs.declared.value.Action.{Action}
 use Rattle.ac_commands.specs.declared.value.Place.{Place}
 use Rattle.ac_commands.specs.declared.value.Array.{Array}
 use Rattle.ac_commands.specs.declared.value.Value.{Value, fold-roll-Value}
 use Rattle.ac_commands.specs.declared.value.Value.TheVariants as v
 use Rattle.ac_commands.specs.declared.value.ValueLink.{ValueLink, fold-roll-ValueLink}
 use Rattle.ac_commands.specs.declared.value.Value.TheOpen.{Value-F}
-use Rattle.ac_commands.specs.declared.effect.Target.{Target}
-use Rattle.ac_commands.specs.declared.effect.Effect.{Effect}
+use Rattle.ac_commands.specs.declared.command.Target.{Target}
 use Rattle.ac_commands.specs.declared.command.Command.{Command, fold-roll-Command}
 use Rattle.ac_commands.specs.declared.command.Command.TheVariants as c
 use Rattle.ac_commands.specs.declared.command.Command.TheOpen.{Command-F}
 use Rattle.stack_code.specs.declared.instr.Instr.TheVariants as i
-use Rattle.ac_translation.specs.Pieces.{Piece, no_code, one, ◌⨾◌, loop, out_past, out_turn}
-use Rattle.ac_translation.specs.Translation.{unary_code, chained_code, variable_code, array_code, value_step, link_step, value_code, link_code, values_code}
-use Rattle.ac_translation.specs.Translation.{effect_code, target_code, if_code, test_code, at_loop, at_next, operand_code, command_step, command_code, body_code}
+use Rattle.ac_translation.specs.Pieces.{Piece, no_code, one, ◌⨾◌, over, loop, out_past, out_turn}
+use Rattle.ac_translation.specs.Translation.{unary_code, chained_code, variable_code, array_code, action_code, value_step, link_step, value_code, link_code, values_code}
+use Rattle.ac_translation.specs.Translation.{target_code, if_code, test_code, at_loop, at_next, operand_code, command_step, command_code, body_code}
 
 -- ---- values
 
@@ -29,6 +30,18 @@ variable_form place = ap value_code (sym (v.rolls-Variable place)) ∙ fold-roll
 
 pub element_form : (array : Array) (index : Value) → value_code (v.Element array index) ≡ one (array_code array) ⨾ value_code index ⨾ one i.Elem
 element_form array index = ap value_code (sym (v.rolls-Element array index)) ∙ fold-roll-Value Piece (BinaryOp × Piece) value_step link_step (Value-F.Element array index)
+
+pub reference_form : (array : Array) → value_code (v.Reference array) ≡ one (array_code array)
+reference_form array = ap value_code (sym (v.rolls-Reference array)) ∙ fold-roll-Value Piece (BinaryOp × Piece) value_step link_step (Value-F.Reference array)
+
+pub part_form : (array : Array) (index : Value) → value_code (v.Part array index) ≡ one (array_code array) ⨾ value_code index ⨾ one i.Place
+part_form array index = ap value_code (sym (v.rolls-Part array index)) ∙ fold-roll-Value Piece (BinaryOp × Piece) value_step link_step (Value-F.Part array index)
+
+pub act_form : (action : Action) (operands : List Value) → value_code (v.Act action operands) ≡ values_code operands ⨾ one (action_code action (length operands))
+act_form action operands =
+    ap value_code (sym (v.rolls-Act action operands))
+    ∙ fold-roll-Value Piece (BinaryOp × Piece) value_step link_step (Value-F.Act action operands)
+    ∙ ap (λ n. values_code operands ⨾ one (action_code action n)) (length-map operands value_code)
 
 pub unary_form : (op : UnaryOp) (operand : Value) → value_code (v.Unary op operand) ≡ value_code operand ⨾ one (unary_code op)
 unary_form op operand = ap value_code (sym (v.rolls-Unary op operand)) ∙ fold-roll-Value Piece (BinaryOp × Piece) value_step link_step (Value-F.Unary op operand)
@@ -44,7 +57,7 @@ link_form l = fold-roll-ValueLink Piece (BinaryOp × Piece) value_step link_step
 pub nothing_form : command_code c.Nothing ≡ one i.Step
 nothing_form = ap command_code (sym c.rolls-Nothing) ∙ fold-roll-Command Piece command_step Command-F.Nothing
 
-pub set_form : (target : Target) (value : Effect) → command_code (c.Set target value) ≡ one i.Step ⨾ effect_code value ⨾ target_code target
+pub set_form : (target : Target) (value : Value) → command_code (c.Set target value) ≡ one i.Step ⨾ value_code value ⨾ target_code target
 set_form target value = ap command_code (sym (c.rolls-Set target value)) ∙ fold-roll-Command Piece command_step (Command-F.Set target value)
 
 pub clear_form : (slot len : ℕ) → command_code (c.Clear slot len) ≡ one i.Step ⨾ one (i.Clear slot len)
@@ -72,5 +85,20 @@ break_form = ap command_code (sym c.rolls-Break) ∙ fold-roll-Command Piece com
 pub continue_form : command_code c.Continue ≡ one i.Step ⨾ out_turn
 continue_form = ap command_code (sym c.rolls-Continue) ∙ fold-roll-Command Piece command_step Command-F.Continue
 
-pub return_form : (effect : Option Effect) → command_code (c.Return effect) ≡ one i.Step ⨾ operand_code effect ⨾ one i.Ret
-return_form effect = ap command_code (sym (c.rolls-Return effect)) ∙ fold-roll-Command Piece command_step (Command-F.Return effect)
+pub return_form : (value : Option Value) → command_code (c.Return value) ≡ one i.Step ⨾ operand_code value ⨾ one i.Ret
+return_form value = ap command_code (sym (c.rolls-Return value)) ∙ fold-roll-Command Piece command_step (Command-F.Return value)
+
+pub run_form : (value : Value) → command_code (c.Run value) ≡ one i.Step ⨾ value_code value ⨾ one i.Drop
+run_form value = ap command_code (sym (c.rolls-Run value)) ∙ fold-roll-Command Piece command_step (Command-F.Run value)
+
+pub do_form : (slot : ℕ) (body : List Command) → command_code (c.Do slot body) ≡ one i.Step ⨾ one (i.Enter slot) ⨾ body_code body ⨾ one i.Step ⨾ one (i.Finish slot)
+do_form slot body = ap command_code (sym (c.rolls-Do slot body)) ∙ fold-roll-Command Piece command_step (Command-F.Do slot body)
+
+pub async_form : (slots : ℕ) (body : List Command) → command_code (c.Async slots body) ≡ one i.Step ⨾ over (i.Async slots) ((body_code body).size + 1) ⨾ body_code body ⨾ one i.End
+async_form slots body = ap command_code (sym (c.rolls-Async slots body)) ∙ fold-roll-Command Piece command_step (Command-F.Async slots body)
+
+pub cancel_form : (level slot : ℕ) → command_code (c.Cancel level slot) ≡ one i.Step ⨾ one (i.Cancel level slot)
+cancel_form level slot = ap command_code (sym (c.rolls-Cancel level slot)) ∙ fold-roll-Command Piece command_step (Command-F.Cancel level slot)
+
+pub yield_form : command_code c.Yield ≡ one i.Step ⨾ one i.Yield
+yield_form = ap command_code (sym c.rolls-Yield) ∙ fold-roll-Command Piece command_step Command-F.Yield

@@ -1,41 +1,32 @@
--- The code of a program of one core and one function is valid.
-use Rattle.std.proofs.Common.{◌≡◌, ℕ, zero, suc, ◌+◌, ◌<◌, ◌^◌, ◌⊎◌, List, [], ◌∷◌, length, map, get_or, true, false, Some, refl, sym, ap, ◌∙◌, subst, subst₂, arith, add-one, All}
-use Rattle.std.specs.Prelude.{slice_get, pos}
-use Rattle.std.proofs.lemmas.Option.{same_Some}
+-- The code of a program in which everything is in its place is valid.
+use Rattle.std.proofs.Common.{◌≡◌, ℕ, zero, suc, ◌+◌, ◌<◌, ◌^◌, List, [], ◌∷◌, ◌++◌, length, map, get_or, Bool, true, false, Option, Some, None, refl, sym, ap, ◌∙◌, subst, arith, add-one}
+use Rattle.std.proofs.Common.{length-append, All}
+use Rattle.std.specs.Prelude.{slice_get, replicate}
+use Rattle.std.proofs.lemmas.List.{length-map, length-replicate, get_or-replicate}
+use Rattle.std.proofs.lemmas.List.Elements.{All-append}
+use Rattle.ac_commands.specs.declared.program.Channel.{Channel}
 use Rattle.ac_commands.specs.declared.program.Core.{Core}
 use Rattle.ac_commands.specs.declared.program.Function.{Function}
 use Rattle.ac_commands.specs.declared.program.Start as program
 use Rattle.ac_commands.specs.declared.program.Resolved.{Resolved}
-use Rattle.stack_code.specs.declared.instr.Instr.{Instr}
-use Rattle.stack_code.specs.declared.instr.Instr.TheVariants as i
 use Rattle.stack_code.specs.declared.parts.Entered.{Entered}
 use Rattle.stack_code.specs.declared.parts.Start.{Start}
-use Rattle.stack_code.specs.declared.shape.Kind.{Kind}
-use Rattle.stack_code.specs.declared.shape.Kind.TheVariants as kind
 use Rattle.stack_code.specs.declared.shape.Home.{Home}
 use Rattle.stack_code.specs.declared.shape.Home.TheVariants as home
-use Rattle.stack_code.specs.declared.shape.Shape.{Shape}
-use Rattle.stack_code.specs.Parts.{Parts, Begins}
-use Rattle.stack_code.specs.Shapes.{first, params_of}
-use Rattle.stack_code.specs.Valid.{Reaches, Quiet, HasCores, HasLinks, IsCapacity, IsStart, HasStarts, HasRoom, IsValid, IsEntry}
-use Rattle.stack_code.proofs.Shaped.{IsKept, IsClosed, leads_as, kept, shaped}
-use Rattle.stack_code.proofs.Ahead.{IsStep, no_quiet_circle}
-use Rattle.stack_code.proofs.Ints.{one_use}
-use Rattle.stack_code.proofs.Behind.{shape_first}
-use Rattle.ac_compile.specs.inner.Built.{round_of, AreCommands, AreStarts, IsOne}
-use Rattle.ac_translation.specs.Pieces.{Piece, no_code, one, ◌⨾◌}
-use Rattle.ac_translation.specs.Translation.{body_code, last_code, functions_code, no_exits, start_of, code_of}
-use Rattle.ac_translation.proofs.Sized.{body_sized, functions_sized}
-use Rattle.ac_translation.proofs.Placed.{Placed, has_all, first_part, other_part}
-use Rattle.ac_compile.proofs.Fine.{enters, shape, table, IsFine, ret_fine, Range, one_range, both_ranges, IsFit, one_fit}
-use Rattle.ac_compile.proofs.Fitting.{commands_fit}
+use Rattle.stack_code.specs.Parts.{Parts}
+use Rattle.stack_code.specs.Shapes.{params_in, params_of}
+use Rattle.stack_code.specs.Valid as valid
+use Rattle.stack_code.specs.Valid.{HasCores, HasLinks, IsCapacity, IsStart, HasStarts, HasRoom, IsValid, IsEntry}
+use Rattle.ac_resolve.specs.InPlace.{Use, use_of, IsFunction, AreStarts, IsInPlace}
+use Rattle.ac_translation.specs.Translation.{function_code, functions_code, functions_from, start_of, ends_of, request_capacity, no_exits, code_of}
+use Rattle.ac_translation.proofs.Sized.{functions_sized}
+use Rattle.ac_translation.proofs.Placed.{Placed, has_all}
+use Rattle.ac_compile.proofs.Points.{Table, uses_in, HasUse, stack_use}
+use Rattle.ac_compile.proofs.Known.{Belongs, entered_as}
+use Rattle.ac_compile.proofs.Entries.{AreFunctions, all_uses, table, table_long, table_called, table_fine}
+use Rattle.ac_compile.proofs.Reached.{shaped, takes_steps, one_use}
 
 -- ---- lists
-
--- the only one of a list
-only_of : {A : Type 0} (n : ℕ) (x y : A) → slice_get (x ∷ []) n ≡ Some y → (n ≡ 0) × (y ≡ x)
-only_of zero x y e = (refl, cc)
-only_of (suc n) x y e = absurd cc
 
 abbrev slots_of : List program.Start → List ℕ
 slots_of xs = map (λ (start : Start). start.slot) (map start_of xs)
@@ -57,156 +48,154 @@ has_starts code xs e a = record {
   starts = λ k d lt. rw e (each_start code 0 xs a k d (rw e at lt));
 }
 
-not_entered : (instr : Instr) (slot : ℕ) → enters instr ≡ false → instr ≡ i.Enter slot → ⊥
-not_entered instr slot e h = let no_bool : true ≡ false = sym (ap enters h) ∙ e in cc
+-- what holds of each element of the one list holds of what is made of it
+each_made : {A B : Type 0} (P : B → Type 0) (make : A → B) (xs : List A) → ((n : ℕ) (x : A) → slice_get xs n ≡ Some x → P (make x)) → All P (map make xs)
+each_made P make [] h k d lt = absurd (omega arith)
+each_made P make (x ∷ xs) h zero d lt = h 0 x refl
+each_made P make (x ∷ xs) h (suc k) d lt = each_made P make xs (λ n y e. h (suc n) y e) k d (omega arith)
 
-one_capacity : All IsCapacity (16 ∷ [])
-one_capacity zero d lt = (omega arith, omega arith)
-one_capacity (suc k) d lt = absurd (omega arith)
+-- ---- functions
+
+there_from : (fs : List Function) (at number : ℕ) (f : Function) → slice_get fs number ≡ Some f → (place : ℕ) × (slice_get (functions_from at fs) number ≡ Some (entered_as f place))
+there_from [] at number f e = let no : ◌≡◌ {A = Option Function} None (Some f) = e in cc
+there_from (g ∷ fs) at zero f e = let same : g ≡ f = cc in (at, ap (λ h. Some (entered_as h at)) same)
+there_from (g ∷ fs) at (suc number) f e = there_from fs (at + (function_code g).size) number f e
+
+functions_are : (program : Resolved) (fs : List Function) → ((number : ℕ) (f : Function) → slice_get fs number ≡ Some f → IsFunction program f) → AreFunctions program fs
+functions_are program [] h = tt
+functions_are program (f ∷ fs) h = (h 0 f refl, functions_are program fs (λ number g e. h (suc number) g e))
+
+-- what the slots of a function's frame hold: first its parameters
+uses_from : (program : Resolved) (fs : List Function) (d : AreFunctions program fs) (at number : ℕ) (e : Entered) → slice_get (functions_from at fs) number ≡ Some e
+    → (others : List Use) × (slice_get (all_uses program fs d) number ≡ Some (map use_of e.params ++ others))
+unfolding all_uses
+uses_from program [] d at number e h = let no : ◌≡◌ {A = Option Entered} None (Some e) = h in cc
+uses_from program (f ∷ fs) d at zero e h =
+    let same : entered_as f at ≡ e = cc in
+    (d.0.others, ap (λ (x : Entered). Some (map use_of x.params ++ d.0.others)) same)
+uses_from program (f ∷ fs) d at (suc number) e h = uses_from program fs d.1 (at + (function_code f).size) number e h
+
+stack_use_of : (array : Bool) → valid.use_of array ≡ stack_use (use_of array)
+stack_use_of true = refl
+stack_use_of false = refl
+
+param_use : (params : List Bool) (others : List Use) (slot : ℕ) (array : Bool) → slice_get params slot ≡ Some array → slice_get (map use_of params ++ others) slot ≡ Some (use_of array)
+param_use [] others slot array e = let no : ◌≡◌ {A = Option Bool} None (Some array) = e in cc
+param_use (p ∷ params) others zero array e = let same : p ≡ array = cc in ap (λ x. Some (use_of x)) same
+param_use (p ∷ params) others (suc slot) array e = param_use params others slot array e
 
 -- ---- the program
 
-module _ (program : Resolved) (core : Core) (function : Function) where
-  -- with only that core and that function, which has no parameters
-  abbrev alone : Resolved
-  alone = record program { cores = (record core { entry = 0 }) ∷ []; functions = (record function { params = [] }) ∷ []; channels = [] }
-
+module _ (program : Resolved) (p : IsInPlace program) where
   abbrev code : Parts
-  code = code_of alone
+  code = code_of program
 
-  abbrev slots : ℕ
-  slots = function.slots
+  size_is : length code.instrs ≡ (functions_code program.functions).size
+  size_is = (functions_sized program.functions).sized no_exits 0
 
-  abbrev entered : Entered
-  entered = record { name = function.name; at = 0; params = []; words = slots }
+  links_are : length code.capacities ≡ length program.channels + length program.cores
+  links_are =
+      length-append (map (λ (channel : Channel). channel.capacity) program.channels) (replicate (length program.cores) request_capacity)
+      ∙ ap (λ n. n + length (replicate (length program.cores) request_capacity)) (length-map program.channels (λ (channel : Channel). channel.capacity))
+      ∙ ap (λ n. length program.channels + n) (length-replicate (length program.cores) request_capacity)
 
-  abbrev body : Piece
-  body = body_code function.body
+  entries_are : length code.entries ≡ length program.cores
+  entries_are = length-map program.cores (λ (core : Core). core.entry)
 
-  size_is : length code.instrs ≡ body.size + 2
-  size_is = let sized = (functions_sized alone.functions).sized no_exits 0 in omega (arith, sized)
+  belongs : Belongs code program
+  belongs = record {
+    globals = refl;
+    texts = refl;
+    channels = omega (arith, links_are, entries_are);
+    files = p.few_files;
+    functions = λ number f e. there_from program.functions 0 number f e;
+  }
 
-  begins_only : (core : ℕ) (f : Entered) (entry : Begins code core f) → (entry.entry ≡ 0) × (f ≡ entered)
-  begins_only core f entry =
-      let number = (only_of core 0 entry.entry entry.entry_is).1 in
-      (number, (only_of entry.entry entered f entry.function_is).1)
+  functions : AreFunctions program program.functions
+  functions = functions_are program program.functions p.functions
 
-  no_params : (h : Home) → params_of code h ≡ []
-  no_params (home.Function zero) = refl
-  no_params (home.Function (suc n)) = refl
-  no_params (home.Async at) = refl
+  placed : Placed code.instrs (functions_code program.functions) no_exits 0 (length code.instrs)
+  placed = record { has = has_all code.instrs []; ends = omega (arith, size_is) }
 
-  -- ---- the instructions
+  abbrev points : Table
+  points = table code program belongs program.functions functions
 
-  abbrev function_alone : Piece
-  function_alone = body ⨾ last_code
+  long : length points.points ≡ length code.instrs
+  long = table_long code program belongs program.functions functions placed refl ∙ sym size_is
 
-  whole : Placed code.instrs function_alone no_exits 0 (body.size + 2)
-  whole =
-      let all : Placed code.instrs (function_alone ⨾ no_code) no_exits 0 (body.size + 2) = record { has = has_all code.instrs []; ends = omega arith } in
-      let part = first_part code.instrs function_alone no_code all in
-      record { has = part.has; ends = omega arith }
+  -- ---- slots
 
-  body_at : Placed code.instrs body no_exits 0 body.size
-  body_at = let part = first_part code.instrs body last_code whole in record { has = part.has; ends = omega arith }
+  params_in_place : (slot number : ℕ) (o : Option Entered) (array : Bool) → slice_get code.functions number ≡ o → slice_get (params_in o) slot ≡ Some array
+      → (held : Use) × HasUse points (home.Function number) slot held × (valid.use_of array ≡ stack_use held)
+  params_in_place slot number None array h e = let no : ◌≡◌ {A = Option Bool} None (Some array) = e in cc
+  params_in_place slot number (Some f) array h e =
+      let u = uses_from program program.functions functions 0 number f h in
+      (use_of array, ap (λ o. slice_get (uses_in o) slot) u.1 ∙ param_use f.params u.0 slot array e, stack_use_of array)
 
-  last_at : Placed code.instrs last_code no_exits body.size (body.size + 2)
-  last_at =
-      let part = other_part code.instrs body last_code (body_sized function.body) whole in
-      let e : 0 + body.size ≡ body.size = omega arith in
-      subst (λ n. Placed code.instrs last_code no_exits n (body.size + 2)) e part
+  params_well : (h : Home) (slot : ℕ) (array : Bool) → slice_get (params_of code h) slot ≡ Some array → (held : Use) × HasUse points h slot held × (valid.use_of array ≡ stack_use held)
+  params_well (home.Function number) slot array e = params_in_place slot number (slice_get code.functions number) array refl e
+  params_well (home.Async at) slot array e = let no : ◌≡◌ {A = Option Bool} None (Some array) = e in cc
 
-  push_at : Placed code.instrs (one (i.Push (pos 0))) no_exits body.size (body.size + 1)
-  push_at = first_part code.instrs (one (i.Push (pos 0))) (one i.Ret) last_at
+  -- ---- lists
 
-  abbrev Is : ℕ → List Kind → Type 0
-  Is at kinds = table code slots at ≡ shape code slots kinds
+  entry_is : (number : ℕ) (core : Core) → slice_get program.cores number ≡ Some core → IsEntry code core.entry
+  entry_is number core e =
+      let c = p.cores number core e in
+      let there = there_from program.functions 0 core.entry c.function c.there in
+      record { function = entered_as c.function there.0; is = there.1; plain = c.params }
 
-  module _ (commands : AreCommands (round_of program function) false function.body) where
-    push_fit : IsFit code slots false [] (kind.Int ∷ []) (one (i.Push (pos 0)))
-    push_fit = one_fit code slots false (i.Push (pos 0)) [] (kind.Int ∷ []) (record { finds = λ at. refl; falls = refl; plain = refl })
+  cores : HasCores code
+  cores = record {
+    some = let n = p.some_core in omega (arith, n, entries_are);
+    few = let n = p.few_cores in omega (arith, n, entries_are);
+    named = length-map program.cores (λ (core : Core). core.name) ∙ sym entries_are;
+    enters = each_made (IsEntry code) (λ (core : Core). core.entry) program.cores entry_is;
+  }
 
-    body_fit : IsFit code slots false [] [] body
-    body_fit = commands_fit code slots (no_params (home.Function 0)) false function.body commands
+  channel_is : (number : ℕ) (channel : Channel) → slice_get program.channels number ≡ Some channel → valid.IsChannel code (ends_of channel)
+  channel_is number channel e =
+      let c = p.channels number channel e in
+      let from = c.from in
+      let to = c.to in
+      (omega (arith, from, entries_are), omega (arith, to, entries_are), c.other)
 
-    at_first : Is 0 []
-    at_first = shape_first code (shape code slots [])
+  ends_are : length code.ends ≡ length program.channels
+  ends_are = length-map program.channels ends_of
 
-    at_last : Is body.size []
-    at_last = body_fit.passes no_exits 0 body.size body_at at_first
+  request_is : IsCapacity request_capacity
+  request_is = (omega arith, omega arith)
 
-    at_ret : Is (body.size + 1) (kind.Int ∷ [])
-    at_ret = push_fit.passes no_exits body.size (body.size + 1) push_at at_last
+  links : length program.channels + length program.cores < 2 ^ 32 → HasLinks code
+  links few = record {
+    few = omega (arith, few, links_are);
+    each = omega (arith, links_are, ends_are, entries_are);
+    capacities =
+        All-append IsCapacity (map (λ (channel : Channel). channel.capacity) program.channels) (replicate (length program.cores) request_capacity)
+        (each_made IsCapacity (λ (channel : Channel). channel.capacity) program.channels (λ number channel e. let c = p.channels number channel e in (c.some, c.few)))
+        (λ k d lt. subst IsCapacity (sym (get_or-replicate (length program.cores) k request_capacity d
+        (let n = length-replicate (length program.cores) request_capacity in omega (arith, n, lt)))) request_is);
+    channels = each_made (valid.IsChannel code) ends_of program.channels channel_is;
+  }
 
-    all_fine : Range code slots 0 (body.size + 2)
-    all_fine =
-        both_ranges code slots 0 body.size (body.size + 2)
-        (body_fit.fine no_exits 0 body.size body_at at_first (omega (arith, size_is)) tt)
-        (both_ranges code slots body.size (body.size + 1) (body.size + 2)
-        (push_fit.fine no_exits body.size (body.size + 1) push_at at_last (omega (arith, size_is)) tt)
-        (one_range code slots (body.size + 1) (body.size + 2) (omega arith) (ret_fine code slots (body.size + 1) last_at.has.1.0 at_ret)))
+  rooms_from : (fs : List Function) → AreFunctions program fs → (at : ℕ) → All HasRoom (functions_from at fs)
+  rooms_from [] d at k e lt = absurd (omega arith)
+  rooms_from (f ∷ fs) d at zero e lt = let n = d.0.slots in omega (arith, n)
+  rooms_from (f ∷ fs) d at (suc k) e lt = rooms_from fs d.1 (at + (function_code f).size) k e (omega (arith, lt))
 
-    fine_at : (at : ℕ) → at < length code.instrs → IsFine code slots at
-    fine_at at lt = all_fine at (omega arith) (omega (arith, size_is))
-
-    closed : (at : ℕ) → at < length code.instrs → IsClosed code (table code slots) at
-    closed at lt = let f = fine_at at lt in record { fits = f.fits; keeps = λ to t l. (f.leads to t l).kept }
-
-    start : (core : ℕ) (f : Entered) (entry : Begins code core f) → IsKept code (table code slots) f.at (first entry.entry f)
-    start core f entry =
-        let only = begins_only core f entry in
-        let here : IsKept code (table code slots) entered.at (first 0 entered) = record { within = omega (arith, size_is); same = at_first } in
-        subst₂ (λ (n : ℕ) (g : Entered). IsKept code (table code slots) g.at (first n g)) (sym only.0) (sym only.1) here
-
-    reached : (at : ℕ) (s : Shape) → Reaches code at s → IsKept code (table code slots) at s
-    reached = kept code (table code slots) start closed
-
-    ahead : (at to : ℕ) → Quiet code at to → (at < to) ⊎ IsStep code to
-    ahead at to q =
-        let here = reached at q.shape q.reached in
-        let f = fine_at at here.within in
-        (f.leads to q.next (leads_as code at q.shape (table code slots at) (sym here.same) q.goes.fits f.fits to q.next q.goes.leads)).ahead
-
-    no_blocks : (at : ℕ) (s : Shape) (slot : ℕ) → Reaches code at s → slice_get code.instrs at ≡ Some (i.Enter slot) → ⊥
-    no_blocks at s slot r e =
-        let f = fine_at at (reached at s r).within in
-        not_entered f.fits.instr slot f.enters_none (same_Some f.fits.instr (i.Enter slot) (sym f.fits.here ∙ e))
-
-    each_entry : All (IsEntry code) code.entries
-    each_entry zero d lt = record { function = entered; is = refl; plain = refl }
-    each_entry (suc k) d lt = absurd (omega arith)
-
-    cores : HasCores code
-    cores = record {
-      some = omega arith;
-      few = omega arith;
-      named = refl;
-      enters = each_entry;
-    }
-
-    links : HasLinks code
-    links = record {
-      few = omega arith;
-      each = refl;
-      capacities = one_capacity;
-      channels = λ k d lt. absurd (omega arith);
-    }
-
-    rooms : All HasRoom code.functions
-    rooms zero d lt = omega arith
-    rooms (suc k) d lt = absurd (omega arith)
-
-    valid : AreStarts 0 program.slots program.starts → (functions_code alone.functions).size < 2 ^ 32 → IsValid code
-    valid starts short = record {
-      lists = record { few = omega (arith, size_is); cores = cores; links = links; starts = has_starts code program.starts refl starts; functions = rooms };
-      shaped = shaped code (table code slots) start closed;
-      one_use = one_use code no_params no_blocks;
-      steps = no_quiet_circle code ahead;
-    }
-
-pub code_valid : (program : Resolved) → IsOne program → (functions_code program.functions).size < 2 ^ 32 → IsValid (code_of program)
-code_valid program only short =
-    let cores_are : program.cores ≡ (record only.core { entry = 0 }) ∷ [] = only.cores ∙ ap (λ n. (record only.core { entry = n }) ∷ []) only.entry in
-    let functions_are : program.functions ≡ (record only.function { params = [] }) ∷ [] = only.functions ∙ ap (λ ps. (record only.function { params = ps }) ∷ []) only.params in
-    let same : program ≡ alone program only.core only.function = λ j. record program { cores = cores_are j; functions = functions_are j; channels = only.channels j } in
-    subst (λ p. IsValid (code_of p)) (sym same) (valid program only.core only.function only.body only.starts (subst (λ fs. (functions_code fs).size < 2 ^ 32) functions_are short))
+  -- its addresses, and its links, are numbers of 32 bits
+  pub code_valid : (functions_code program.functions).size < 2 ^ 32 → length program.channels + length program.cores < 2 ^ 32 → IsValid code
+  code_valid short few =
+      let called = table_called code program belongs program.functions functions placed refl in
+      let fine = table_fine code program belongs program.functions functions placed refl in
+      record {
+        lists = record {
+          few = omega (arith, short, size_is);
+          cores = cores;
+          links = links few;
+          starts = has_starts code program.starts refl p.starts;
+          functions = rooms_from program.functions functions 0;
+        };
+        shaped = shaped code points long called fine;
+        one_use = one_use code points long called fine params_well;
+        steps = takes_steps code points long called fine;
+      }

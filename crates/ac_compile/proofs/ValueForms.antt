@@ -1,50 +1,55 @@
--- The code of each form of a value, and what emits it.
-use Rattle.std.proofs.Common.{◌≡◌, ℕ, ◌+◌, List, ◌∷◌, length, map, refl, sym, ap, ◌∙◌, arith}
+-- What emits each form of a value.
+use Rattle.std.proofs.Common.{◌≡◌, ℕ, ◌+◌, ◌^◌, ◌<◌, List, ◌∷◌, length, map, refl, sym, ap, ◌∙◌, arith}
 use Rattle.ac_tree.specs.declared.expr.BinaryOp.{BinaryOp}
 use Rattle.ac_tree.specs.declared.expr.BinaryOp.TheVariants as b
 use Rattle.ac_tree.specs.declared.expr.UnaryOp.{UnaryOp}
+use Rattle.ac_commands.specs.declared.value.Action.{Action}
 use Rattle.ac_commands.specs.declared.value.Array.{Array}
-use Rattle.ac_commands.specs.declared.value.Value.{Value, fold-roll-Value}
+use Rattle.ac_commands.specs.declared.value.Value.{Value}
 use Rattle.ac_commands.specs.declared.value.Value.TheVariants as v
-use Rattle.ac_commands.specs.declared.value.ValueLink.{ValueLink, fold-roll-ValueLink}
-use Rattle.ac_commands.specs.declared.value.Value.TheOpen.{Value-F}
+use Rattle.ac_commands.specs.declared.value.ValueLink.{ValueLink}
 use Rattle.stack_code.specs.declared.instr.Instr.{Instr}
 use Rattle.stack_code.specs.declared.instr.Instr.TheVariants as i
 use Rattle.ac_translation.specs.Pieces.{Piece, one, ◌⨾◌, over}
-use Rattle.ac_translation.specs.Translation.{unary_code, operator_code, array_code, lazily, joined_code, chained_code, value_step, link_step, value_code, link_code}
+use Rattle.ac_translation.specs.Translation.{unary_code, operator_code, array_code, action_code, values_code, lazily, joined_code, chained_code, value_code, link_code}
 use Rattle.ac_compile.specs.inner.Emission.{Emitted, with_code, with_instr, HasRoom}
-use Rattle.ac_translation.proofs.Sized.{IsSized, one_sized, over_sized, both_sized, joined_sized, value_sized}
+use Rattle.ac_translation.proofs.Sized.{IsSized, one_sized, over_sized, both_sized, joined_sized, value_sized, values_sized}
+use Rattle.ac_compile.proofs.Counts.{few_values}
+use Rattle.ac_compile.proofs.Forms.{unary_form, chain_form, link_form, act_form}
 use Rattle.ac_compile.proofs.Emissions.{both_are, over_then, over_as, grown_to, two_are, three_are, four_are}
-
-abbrev pub Step : Type 0
-Step = BinaryOp × Piece
-
-pub element_code : (array : Array) (index : Value) → value_code (v.Element array index) ≡ one (array_code array) ⨾ value_code index ⨾ one i.Elem
-element_code array index = ap value_code (sym (v.rolls-Element array index)) ∙ fold-roll-Value Piece Step value_step link_step (Value-F.Element array index)
-
-pub unary_is : (op : UnaryOp) (operand : Value) → value_code (v.Unary op operand) ≡ value_code operand ⨾ one (unary_code op)
-unary_is op operand = ap value_code (sym (v.rolls-Unary op operand)) ∙ fold-roll-Value Piece Step value_step link_step (Value-F.Unary op operand)
-
-pub chain_is : (first : Value) (rest : List ValueLink) → value_code (v.Chain first rest) ≡ value_code first ⨾ chained_code (map link_code rest)
-chain_is first rest = ap value_code (sym (v.rolls-Chain first rest)) ∙ fold-roll-Value Piece Step value_step link_step (Value-F.Chain first rest)
-
-pub link_is : (l : ValueLink) → link_code l ≡ (l.op, value_code l.operand)
-link_is l = fold-roll-ValueLink Piece Step value_step link_step (record { op = l.op; operand = l.operand })
 
 -- ---- elements
 
-module _ (x y index : Value) (array : Array) (e : Emitted) (is : x ≡ v.Element array index) (same : y ≡ index) where
-  element_as : value_code x ≡ one (array_code array) ⨾ value_code y ⨾ one i.Elem
-  element_as = ap value_code is ∙ element_code array index ∙ ap (λ z. one (array_code array) ⨾ value_code z ⨾ one i.Elem) (sym same)
+-- an array and an index, and then an instruction
+module _ (x y index : Value) (array : Array) (last : Instr) (e : Emitted) (code : value_code x ≡ one (array_code array) ⨾ value_code index ⨾ one last) (same : y ≡ index) where
+  indexed_as : value_code x ≡ one (array_code array) ⨾ value_code y ⨾ one last
+  indexed_as = code ∙ ap (λ z. one (array_code array) ⨾ value_code z ⨾ one last) (sym same)
 
-  pub element_room : (instr : Instr) (d : Emitted) → d ≡ with_code (one instr) e → HasRoom (value_code x) e → HasRoom (value_code y) d
-  element_room instr d h room = let n = grown_to (one instr) e d (one_sized instr) h in let m = ap (λ (p : Piece). p.size) element_as in omega (arith, n, m, room)
+  pub indexed_room : (instr : Instr) (d : Emitted) → d ≡ with_code (one instr) e → HasRoom (value_code x) e → HasRoom (value_code y) d
+  indexed_room instr d h room = let n = grown_to (one instr) e d (one_sized instr) h in let m = ap (λ (p : Piece). p.size) indexed_as in omega (arith, n, m, room)
 
-  pub element_emitted : (instr : Instr) (d1 d2 d3 : Emitted) → instr ≡ array_code array → d1 ≡ with_code (one instr) e → d2 ≡ with_code (value_code y) d1 → d3 ≡ with_code (one i.Elem) d2
+  pub indexed_emitted : (instr : Instr) (d1 d2 d3 : Emitted) → instr ≡ array_code array → d1 ≡ with_code (one instr) e → d2 ≡ with_code (value_code y) d1 → d3 ≡ with_code (one last) d2
       → d3 ≡ with_code (value_code x) e
-  element_emitted instr d1 d2 d3 c f g h =
-      three_are (one (array_code array)) (value_code y) (one i.Elem) (one_sized _) (value_sized y) e d1 d2 d3 (f ∙ ap (λ k. with_code (one k) e) c) g h
-      ∙ ap (λ p. with_code p e) (sym element_as)
+  indexed_emitted instr d1 d2 d3 c f g h =
+      three_are (one (array_code array)) (value_code y) (one last) (one_sized _) (value_sized y) e d1 d2 d3 (f ∙ ap (λ k. with_code (one k) e) c) g h
+      ∙ ap (λ p. with_code p e) (sym indexed_as)
+
+-- ---- calls and operations
+
+module _ (x : Value) (action : Action) (operands : List Value) (e : Emitted) (is : x ≡ v.Act action operands) where
+  act_as : value_code x ≡ values_code operands ⨾ one (action_code action (length operands))
+  act_as = ap value_code is ∙ act_form action operands
+
+  pub act_few : (count : ℕ) → count ≡ length operands → HasRoom (value_code x) e → count < 2 ^ 32
+  act_few count n room = let m = ap (λ (p : Piece). p.size) act_as in let few = few_values operands in omega (arith, n, m, few, room)
+
+  pub act_emitted : (given : List Value) → given ≡ operands → (count : ℕ) (instr : Instr) (d1 d2 : Emitted) → count ≡ length operands → instr ≡ action_code action count
+      → d1 ≡ with_code (values_code given) e → d2 ≡ with_code (one instr) d1 →
+      d2 ≡ with_code (value_code x) e
+  act_emitted given same count instr d1 d2 n c f g =
+      two_are (values_code operands) (one (action_code action (length operands))) (values_sized operands) e d1 d2 (f ∙ ap (λ (xs : List Value). with_code (values_code xs) e) same)
+      (g ∙ ap (λ k. with_code (one k) d1) (c ∙ ap (action_code action) n))
+      ∙ ap (λ p. with_code p e) (sym act_as)
 
 -- ---- one operand
 
@@ -54,7 +59,7 @@ pub unary_emitted : (x y operand : Value) (op : UnaryOp) (instr : Instr) (e d1 d
 unary_emitted x y operand op instr e d1 d2 is same c f g =
     two_are (value_code y) (one (unary_code op)) (value_sized y) e d1 d2 f (g ∙ ap (λ k. with_code (one k) d1) c)
     ∙ ap (λ z. with_code (value_code z ⨾ one (unary_code op)) e) same
-    ∙ ap (λ p. with_code p e) (sym (ap value_code is ∙ unary_is op operand))
+    ∙ ap (λ p. with_code p e) (sym (ap value_code is ∙ unary_form op operand))
 
 -- ---- chains
 
@@ -62,7 +67,7 @@ module _ (x y first : Value) (links rest : List ValueLink) (e : Emitted) (is : x
   chain_as : value_code x ≡ value_code y ⨾ chained_code (map link_code links)
   chain_as =
       ap value_code is
-      ∙ chain_is first rest
+      ∙ chain_form first rest
       ∙ ap (λ z. value_code z ⨾ chained_code (map link_code rest)) (sym same)
       ∙ ap (λ zs. value_code y ⨾ chained_code (map link_code zs)) (sym all)
 
@@ -81,7 +86,7 @@ abbrev pub one_link : ValueLink → Piece
 one_link l = joined_code l.op (value_code l.operand)
 
 pub first_link : (l : ValueLink) (links : List ValueLink) → links_code (l ∷ links) ≡ one_link l ⨾ links_code links
-first_link l links = ap (λ (s : Step). joined_code s.0 s.1 ⨾ links_code links) (link_is l)
+first_link l links = ap (λ (s : BinaryOp × Piece). joined_code s.0 s.1 ⨾ links_code links) (link_form l)
 
 pub one_link_sized : (l : ValueLink) → IsSized (one_link l)
 one_link_sized l = joined_sized l.op (value_code l.operand) (value_sized l.operand)

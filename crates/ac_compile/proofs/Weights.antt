@@ -22,46 +22,57 @@ use Rattle.ac_names.specs.Scopes.{Declaration, visible}
 use Rattle.ac_names.specs.Statements.{part_words, listed, some_words, opened, moved, in_do, in_async, array_len}
 use Rattle.ac_commands.specs.declared.value.Place.{Place}
 use Rattle.ac_commands.specs.declared.value.Place.TheVariants as p
+use Rattle.ac_commands.specs.declared.value.Action.{Action}
+use Rattle.ac_commands.specs.declared.value.Action.TheVariants as act
 use Rattle.ac_commands.specs.declared.value.Array.{Array}
-use Rattle.ac_commands.specs.declared.value.Value.{Value, fold-roll-Value}
+use Rattle.ac_commands.specs.declared.value.Value.{Value}
 use Rattle.ac_commands.specs.declared.value.Value.TheVariants as v
-use Rattle.ac_commands.specs.declared.value.Value.TheOpen.{Value-F}
-use Rattle.ac_commands.specs.declared.value.ValueLink.{ValueLink, fold-roll-ValueLink}
-use Rattle.ac_commands.specs.declared.effect.Target.TheVariants as tg
+use Rattle.ac_commands.specs.declared.value.ValueLink.{ValueLink}
+use Rattle.ac_commands.specs.declared.command.Target.{Target}
+use Rattle.ac_commands.specs.declared.command.Target.TheVariants as tg
 use Rattle.ac_commands.specs.declared.command.Command.{Command, roll-Command, map-Command, fold-roll-Command}
 use Rattle.ac_commands.specs.declared.command.Command.TheOpen.{Command-F}
 use Rattle.ac_commands.specs.declared.command.Command.TheVariants as cm
-use Rattle.ac_resolve.specs.Places.{constant_value, place_of, array_of, name_argument, cancel_of}
-use Rattle.ac_resolve.specs.Computed.{InScopes, Reading, read_step, read, link_in, arguments_step, value_in, values_in, test_in, target_in, effect_in, initial_in, operand_in}
+use Rattle.ac_resolve.specs.Places.{constant_value, place_of, array_of, name_argument, array_at, reference_to, function_of, channel_of, file_of, cancel_of}
+use Rattle.ac_resolve.specs.Computed.{InScopes, Reading, read_step, read, link_in, arguments_step, value_in, values_in, some_in, target_in, initial_in}
 use Rattle.ac_resolve.specs.Computed.{link_step as reading_link, links_step as reading_links}
 use Rattle.ac_resolve.specs.Commands.{Texts, Told, told_step, told, body_told, some_shape, commands, some_texts, some_commands, for_names}
-use Rattle.ac_resolve.specs.Resolution.{body_names, function_texts, functions_in, resolved}
-use Rattle.ac_translation.specs.Pieces.{Piece, all}
-use Rattle.ac_translation.specs.Translation.{joined_code, chained_code, value_step, link_step, value_code, link_code, values_code, argument_code, place_code}
-use Rattle.ac_translation.specs.Translation.{effect_code, target_code, operand_code, test_code, command_step, command_code, body_code, functions_code}
+use Rattle.ac_resolve.specs.Resolution.{body_names, function_texts, functions_in, cores_in, channels_in, resolved}
+use Rattle.ac_translation.specs.Pieces.{Piece}
+use Rattle.ac_translation.specs.Translation.{joined_code, chained_code, value_code, link_code, values_code, target_code, operand_code, test_code, command_step, command_code, body_code, functions_code}
+use Rattle.ac_compile.proofs.Forms.{number_form, variable_form, reference_form, element_form, part_form, unary_form, chain_form, act_form, link_form}
 
 -- ---- values by their forms
 
-pub number_size : (n : ℤ) → (value_code (v.Number n)).size ≡ 1
-number_size n = ap (λ x. (value_code x).size) (sym (v.rolls-Number n)) ∙ ap (λ (x : Piece). x.size) (fold-roll-Value Piece (BinaryOp × Piece) value_step link_step (Value-F.Number n))
+abbrev size_in : Value → ℕ
+size_in x = (value_code x).size
 
-variable_size : (place : Place) → (value_code (v.Variable place)).size ≡ 1
-variable_size place = ap (λ x. (value_code x).size) (sym (v.rolls-Variable place)) ∙ ap (λ (x : Piece). x.size) (fold-roll-Value Piece (BinaryOp × Piece) value_step link_step (Value-F.Variable place))
+abbrev piece_size : Piece → ℕ
+piece_size p = p.size
 
-element_size : (array : Array) (index : Value) → (value_code (v.Element array index)).size ≡ 1 + ((value_code index).size + 1)
-element_size array index = ap (λ x. (value_code x).size) (sym (v.rolls-Element array index))
-    ∙ ap (λ (x : Piece). x.size) (fold-roll-Value Piece (BinaryOp × Piece) value_step link_step (Value-F.Element array index))
+number_size : (n : ℤ) → size_in (v.Number n) ≡ 1
+number_size n = ap piece_size (number_form n)
 
-unary_size : (op : UnaryOp) (operand : Value) → (value_code (v.Unary op operand)).size ≡ (value_code operand).size + 1
-unary_size op operand = ap (λ x. (value_code x).size) (sym (v.rolls-Unary op operand))
-    ∙ ap (λ (x : Piece). x.size) (fold-roll-Value Piece (BinaryOp × Piece) value_step link_step (Value-F.Unary op operand))
+variable_size : (place : Place) → size_in (v.Variable place) ≡ 1
+variable_size place = ap piece_size (variable_form place)
 
-chain_size : (first : Value) (rest : List ValueLink) → (value_code (v.Chain first rest)).size ≡ (value_code first).size + (chained_code (map link_code rest)).size
-chain_size first rest = ap (λ x. (value_code x).size) (sym (v.rolls-Chain first rest))
-    ∙ ap (λ (x : Piece). x.size) (fold-roll-Value Piece (BinaryOp × Piece) value_step link_step (Value-F.Chain first rest))
+reference_size : (array : Array) → size_in (v.Reference array) ≡ 1
+reference_size array = ap piece_size (reference_form array)
 
-link_is : (op : BinaryOp) (operand : Value) → link_code (record { op = op; operand = operand }) ≡ (op, value_code operand)
-link_is op operand = fold-roll-ValueLink Piece (BinaryOp × Piece) value_step link_step (record { op = op; operand = operand })
+element_size : (array : Array) (index : Value) → size_in (v.Element array index) ≡ 1 + (size_in index + 1)
+element_size array index = ap piece_size (element_form array index)
+
+part_size : (array : Array) (index : Value) → size_in (v.Part array index) ≡ 1 + (size_in index + 1)
+part_size array index = ap piece_size (part_form array index)
+
+unary_size : (op : UnaryOp) (operand : Value) → size_in (v.Unary op operand) ≡ size_in operand + 1
+unary_size op operand = ap piece_size (unary_form op operand)
+
+chain_size : (first : Value) (rest : List ValueLink) → size_in (v.Chain first rest) ≡ size_in first + (chained_code (map link_code rest)).size
+chain_size first rest = ap piece_size (chain_form first rest)
+
+act_size : (action : Action) (operands : List Value) → size_in (v.Act action operands) ≡ (values_code operands).size + 1
+act_size action operands = ap piece_size (act_form action operands)
 
 joined_size : (op : BinaryOp) (right : Piece) → (joined_code op right).size ≤ right.size + 4
 joined_size b.Or right = omega arith
@@ -70,10 +81,10 @@ joined_size op right = omega arith
 
 -- ---- expressions
 
-argument_size : (o : Option Meaning) (depth : ℕ) → (argument_code (name_argument o depth)).size ≡ 1
-argument_size (Some (m.GlobalArray slot len)) depth = refl
-argument_size (Some (m.LocalArray there slot len)) depth = refl
-argument_size (Some (m.ArrayParam slot)) depth = refl
+argument_size : (o : Option Meaning) (depth : ℕ) → size_in (name_argument o depth) ≡ 1
+argument_size (Some (m.GlobalArray slot len)) depth = reference_size _
+argument_size (Some (m.LocalArray there slot len)) depth = reference_size _
+argument_size (Some (m.ArrayParam slot)) depth = reference_size _
 argument_size (Some what) depth = variable_size (place_of (Some what) depth)
 argument_size None depth = variable_size (place_of None depth)
 
@@ -81,18 +92,16 @@ target_size : (place : Place) → (target_code (tg.Variable place)).size ≡ 1
 target_size (p.Global slot) = refl
 target_size (p.Local level slot) = refl
 
-place_size : (place : Place) → (place_code (tg.Variable place)).size ≡ 1
-place_size (p.Global slot) = refl
-place_size (p.Local level slot) = refl
+referred_size : (target : Target) → size_in (reference_to target) ≡ (target_code target).size
+referred_size (tg.Variable place) = reference_size (array_at place) ∙ sym (target_size place)
+referred_size (tg.Element array index) = part_size array index
 
 -- what an expression of that weight gives, wherever it stands
-pub record IsLight (q : Reading) (weight : ℕ) : Type 0 where
-  pub some : 1 ≤ weight
-  pub value : (scopes : List (List Declaration)) (depth : ℕ) → (value_code (q.value scopes depth)).size ≤ 4 * weight
-  pub argument : (scopes : List (List Declaration)) (depth : ℕ) → (argument_code (q.argument scopes depth)).size ≤ 4 * weight
-  pub target : (scopes : List (List Declaration)) (depth : ℕ) → (target_code (q.target scopes depth)).size ≤ 4 * weight
-  pub place : (scopes : List (List Declaration)) (depth : ℕ) → (place_code (q.target scopes depth)).size ≤ 4 * weight
-  pub effect : (scopes : List (List Declaration)) (depth : ℕ) → (effect_code (q.effect scopes depth)).size ≤ 4 * weight
+record IsLight (q : Reading) (weight : ℕ) : Type 0 where
+  some : 1 ≤ weight
+  value : (scopes : List (List Declaration)) (depth : ℕ) → size_in (q.value scopes depth) ≤ 4 * weight
+  argument : (scopes : List (List Declaration)) (depth : ℕ) → size_in (q.argument scopes depth) ≤ 4 * weight
+  target : (scopes : List (List Declaration)) (depth : ℕ) → (target_code (q.target scopes depth)).size ≤ 4 * weight
 
 abbrev Claim : Expr → Type 0
 Claim x = IsLight (read x) (expr_weight x)
@@ -121,7 +130,7 @@ links_light [] scopes depth = omega arith
 links_light (l ∷ ls) scopes depth = let h = l.1 scopes depth in let k = links_light ls scopes depth in omega (arith, h, k)
 
 arguments_light : (xs : List Expr_) (scopes : List (List Declaration)) (depth : ℕ)
-    → (all (map argument_code (arguments_step (map read (exprs_of xs)) scopes depth))).size ≤ 4 * total (map expr_weight (exprs_of xs))
+    → (values_code (arguments_step (map read (exprs_of xs)) scopes depth)).size ≤ 4 * total (map expr_weight (exprs_of xs))
 arguments_light [] scopes depth = omega arith
 arguments_light (x ∷ xs) scopes depth = let h = x.1.argument scopes depth in let k = arguments_light xs scopes depth in omega (arith, h, k)
 
@@ -131,81 +140,95 @@ read_layer y = read_step (map-Expr Expr Link Reading (InScopes ValueLink) read l
 abbrev weight_layer : Expr-F Expr_ Link_ → ℕ
 weight_layer y = expr_weigh (map-Expr Expr Link ℕ ℕ expr_weight link_weight (map-Expr Expr_ Link_ Expr Link (λ x. x.0) (λ l. l.0) y))
 
--- what is no name and no place, and stands whole as its value
-only_value : (q : Reading) (weight : ℕ) → 1 ≤ weight → ((scopes : List (List Declaration)) (depth : ℕ) → (value_code (q.value scopes depth)).size ≤ 4 * weight) →
-    ((scopes : List (List Declaration)) (depth : ℕ) → (argument_code (q.argument scopes depth)).size ≡ (value_code (q.value scopes depth)).size) →
-    ((scopes : List (List Declaration)) (depth : ℕ) → q.target scopes depth ≡ tg.Variable (p.Global 0)) →
-    ((scopes : List (List Declaration)) (depth : ℕ) → (effect_code (q.effect scopes depth)).size ≤ 4 * weight) → IsLight q weight
-only_value q weight some value argument target effect = record {
+-- what is no name and no place
+only_value : (q : Reading) (weight : ℕ) → 1 ≤ weight → ((scopes : List (List Declaration)) (depth : ℕ) → size_in (q.value scopes depth) ≤ 4 * weight) →
+    ((scopes : List (List Declaration)) (depth : ℕ) → q.argument scopes depth ≡ q.value scopes depth) →
+    ((scopes : List (List Declaration)) (depth : ℕ) → q.target scopes depth ≡ tg.Variable (p.Global 0)) → IsLight q weight
+only_value q weight some value argument target = record {
   some = some;
   value = value;
-  argument = λ scopes depth. let e = argument scopes depth in let h = value scopes depth in omega (arith, e, h);
+  argument = λ scopes depth. subst (λ x. size_in x ≤ 4 * weight) (sym (argument scopes depth)) (value scopes depth);
   target = λ scopes depth. subst (λ x. (target_code x).size ≤ 4 * weight) (sym (target scopes depth)) (omega (arith, some));
-  place = λ scopes depth. subst (λ x. (place_code x).size ≤ 4 * weight) (sym (target scopes depth)) (omega (arith, some));
-  effect = effect;
 }
+
+abbrev Light : InScopes Value → ℕ → Type 0
+Light x weight = (scopes : List (List Declaration)) (depth : ℕ) → size_in (x scopes depth) ≤ 4 * weight
+
+-- where an operation takes its operands
+moves_light : (action : InScopes Action) (from len : Expr_) (array : InScopes Array)
+    → Light (λ scopes depth. v.Act (action scopes depth) (value_in from.0 scopes depth ∷ value_in len.0 scopes depth ∷ v.Reference (array scopes depth) ∷ []))
+    (8 + (expr_weight from.0 + expr_weight len.0))
+moves_light action from len array scopes depth =
+    let e = act_size (action scopes depth) (value_in from.0 scopes depth ∷ value_in len.0 scopes depth ∷ v.Reference (array scopes depth) ∷ []) in
+    let g = reference_size (array scopes depth) in
+    let h = from.1.value scopes depth in
+    let k = len.1.value scopes depth in
+    omega (arith, e, g, h, k)
 
 layer : (y : Expr-F Expr_ Link_) → IsLight (read_layer y) (weight_layer y)
 layer (Expr-F.Number at n) =
-    let light : (scopes : List (List Declaration)) (depth : ℕ) → (value_code (v.Number n)).size ≤ 4 * 1 = λ scopes depth. let e = number_size n in omega (arith, e) in
-    only_value _ _ (omega arith) light (λ scopes depth. refl) (λ scopes depth. refl) light
+    let light : Light (λ scopes depth. v.Number n) 1 = λ scopes depth. let e = number_size n in omega (arith, e) in
+    only_value _ _ (omega arith) light (λ scopes depth. refl) (λ scopes depth. refl)
 layer (Expr-F.Const at which) =
-    let light : (scopes : List (List Declaration)) (depth : ℕ) → (value_code (v.Number (constant_value which))).size ≤ 4 * 1 = λ scopes depth. let e = number_size (constant_value which) in
-    omega (arith, e) in
-    only_value _ _ (omega arith) light (λ scopes depth. refl) (λ scopes depth. refl) light
+    let light : Light (λ scopes depth. v.Number (constant_value which)) 1 = λ scopes depth. let e = number_size (constant_value which) in omega (arith, e) in
+    only_value _ _ (omega arith) light (λ scopes depth. refl) (λ scopes depth. refl)
 layer (Expr-F.Name at name) = record {
   some = omega arith;
   value = λ scopes depth. let e = variable_size (place_of (visible name scopes) depth) in omega (arith, e);
   argument = λ scopes depth. let e = argument_size (visible name scopes) depth in omega (arith, e);
   target = λ scopes depth. let e = target_size (place_of (visible name scopes) depth) in omega (arith, e);
-  place = λ scopes depth. let e = place_size (place_of (visible name scopes) depth) in omega (arith, e);
-  effect = λ scopes depth. let e = variable_size (place_of (visible name scopes) depth) in omega (arith, e);
 }
 layer (Expr-F.Index at name index) =
-    let light : (scopes : List (List Declaration)) (depth : ℕ) → (value_code (v.Element (array_of (visible name scopes) depth) ((read index.0).value scopes depth))).size
-    ≤ 4 * (3 + expr_weight index.0)
-    = λ scopes depth. let e = element_size (array_of (visible name scopes) depth) ((read index.0).value scopes depth) in let h = index.1.value scopes depth in omega (arith, e, h) in
+    let light : Light (λ scopes depth. v.Element (array_of (visible name scopes) depth) (value_in index.0 scopes depth)) (3 + expr_weight index.0)
+    = λ scopes depth. let e = element_size (array_of (visible name scopes) depth) (value_in index.0 scopes depth) in let h = index.1.value scopes depth in omega (arith, e, h) in
     record {
       some = omega arith;
       value = light;
       argument = light;
       target = λ scopes depth. let h = index.1.value scopes depth in omega (arith, h);
-      place = λ scopes depth. let h = index.1.value scopes depth in omega (arith, h);
-      effect = light;
     }
 layer (Expr-F.Group at inner) =
-    let light : (scopes : List (List Declaration)) (depth : ℕ) → (value_code ((read inner.0).value scopes depth)).size
-    ≤ 4 * (2 + expr_weight inner.0) = λ scopes depth. let h = inner.1.value scopes depth in omega (arith, h) in
-    only_value _ _ (omega arith) light (λ scopes depth. refl) (λ scopes depth. refl) light
+    let light : Light (value_in inner.0) (2 + expr_weight inner.0) = λ scopes depth. let h = inner.1.value scopes depth in omega (arith, h) in
+    only_value _ _ (omega arith) light (λ scopes depth. refl) (λ scopes depth. refl)
 layer (Expr-F.Unary at op inner) =
-    let light : (scopes : List (List Declaration)) (depth : ℕ) → (value_code (v.Unary op ((read inner.0).value scopes depth))).size ≤ 4 * (1 + expr_weight inner.0)
-    = λ scopes depth. let e = unary_size op ((read inner.0).value scopes depth) in let h = inner.1.value scopes depth in omega (arith, e, h) in
-    only_value _ _ (omega arith) light (λ scopes depth. refl) (λ scopes depth. refl) light
+    let light : Light (λ scopes depth. v.Unary op (value_in inner.0 scopes depth)) (1 + expr_weight inner.0)
+    = λ scopes depth. let e = unary_size op (value_in inner.0 scopes depth) in let h = inner.1.value scopes depth in omega (arith, e, h) in
+    only_value _ _ (omega arith) light (λ scopes depth. refl) (λ scopes depth. refl)
 layer (Expr-F.Chain at level first rest) =
     let some = first.1.some in
-    let light : (scopes : List (List Declaration)) (depth : ℕ) →
-    (value_code (v.Chain ((read first.0).value scopes depth) (reading_links (map link_in (links_of rest)) scopes depth))).size ≤ 4 * (expr_weight first.0 + total (map link_weight (links_of rest)))
+    let light : Light (λ scopes depth. v.Chain (value_in first.0 scopes depth) (reading_links (map link_in (links_of rest)) scopes depth))
+    (expr_weight first.0 + total (map link_weight (links_of rest)))
     = λ scopes depth.
-    let e = chain_size ((read first.0).value scopes depth) (reading_links (map link_in (links_of rest)) scopes depth) in
+    let e = chain_size (value_in first.0 scopes depth) (reading_links (map link_in (links_of rest)) scopes depth) in
     let h = first.1.value scopes depth in
     let k = links_light rest scopes depth in
     omega (arith, e, h, k) in
-    only_value _ _ (omega (arith, some)) light (λ scopes depth. refl) (λ scopes depth. refl) light
+    only_value _ _ (omega (arith, some)) light (λ scopes depth. refl) (λ scopes depth. refl)
 layer (Expr-F.Call at name args) =
-    only_value _ _ (omega arith) (λ scopes depth. let e = number_size (pos 0) in omega (arith, e)) (λ scopes depth. refl) (λ scopes depth. refl)
-    (λ scopes depth. let h = arguments_light args scopes depth in omega (arith, h))
+    let light : Light (λ scopes depth. v.Act (act.Call (function_of (visible name scopes))) (arguments_step (map read (exprs_of args)) scopes depth)) (3 + total (map expr_weight (exprs_of args)))
+    = λ scopes depth.
+    let e = act_size (act.Call (function_of (visible name scopes))) (arguments_step (map read (exprs_of args)) scopes depth) in
+    let h = arguments_light args scopes depth in
+    omega (arith, e, h) in
+    only_value _ _ (omega arith) light (λ scopes depth. refl) (λ scopes depth. refl)
 layer (Expr-F.Send at channel value) =
-    only_value _ _ (omega arith) (λ scopes depth. let e = number_size (pos 0) in omega (arith, e)) (λ scopes depth. refl) (λ scopes depth. refl)
-    (λ scopes depth. let h = value.1.value scopes depth in omega (arith, h))
+    let light : Light (λ scopes depth. v.Act (act.Send (channel_of (visible channel scopes))) (value_in value.0 scopes depth ∷ [])) (5 + expr_weight value.0)
+    = λ scopes depth. let e = act_size (act.Send (channel_of (visible channel scopes))) (value_in value.0 scopes depth ∷ []) in let h = value.1.value scopes depth in omega (arith, e, h) in
+    only_value _ _ (omega arith) light (λ scopes depth. refl) (λ scopes depth. refl)
 layer (Expr-F.Recv at channel place) =
-    only_value _ _ (omega arith) (λ scopes depth. let e = number_size (pos 0) in omega (arith, e)) (λ scopes depth. refl) (λ scopes depth. refl)
-    (λ scopes depth. let h = place.1.place scopes depth in omega (arith, h))
+    let light : Light (λ scopes depth. v.Act (act.Recv (channel_of (visible channel scopes))) (reference_to (target_in place.0 scopes depth) ∷ [])) (6 + expr_weight place.0)
+    = λ scopes depth.
+    let e = act_size (act.Recv (channel_of (visible channel scopes))) (reference_to (target_in place.0 scopes depth) ∷ []) in
+    let same = referred_size (target_in place.0 scopes depth) in
+    let h = place.1.target scopes depth in
+    omega (arith, e, same, h) in
+    only_value _ _ (omega arith) light (λ scopes depth. refl) (λ scopes depth. refl)
 layer (Expr-F.Read at file from len array) =
-    only_value _ _ (omega arith) (λ scopes depth. let e = number_size (pos 0) in omega (arith, e)) (λ scopes depth. refl) (λ scopes depth. refl)
-    (λ scopes depth. let h = from.1.value scopes depth in let k = len.1.value scopes depth in omega (arith, h, k))
+    only_value _ _ (omega arith) (moves_light (λ scopes depth. act.Read (file_of (visible file scopes))) from len (λ scopes depth. array_of (visible array scopes) depth))
+    (λ scopes depth. refl) (λ scopes depth. refl)
 layer (Expr-F.Write at file from len array) =
-    only_value _ _ (omega arith) (λ scopes depth. let e = number_size (pos 0) in omega (arith, e)) (λ scopes depth. refl) (λ scopes depth. refl)
-    (λ scopes depth. let h = from.1.value scopes depth in let k = len.1.value scopes depth in omega (arith, h, k))
+    only_value _ _ (omega arith) (moves_light (λ scopes depth. act.Write (file_of (visible file scopes))) from len (λ scopes depth. array_of (visible array scopes) depth))
+    (λ scopes depth. refl) (λ scopes depth. refl)
 
 same_light : (q q2 : Reading) (n n2 : ℕ) → q ≡ q2 → n ≡ n2 → IsLight q2 n2 → IsLight q n
 same_light q q2 n n2 e g h = subst (λ k. IsLight k n) (sym e) (subst (IsLight q2) (sym g) h)
@@ -216,7 +239,7 @@ link_layer op x h scopes depth =
     let right = value_code ((read x).value scopes depth) in
     let j = joined_size op right in
     let k = h.value scopes depth in
-    subst (λ (z : BinaryOp × Piece). (joined_code z.0 z.1).size ≤ 4 * (1 + expr_weight x)) (sym (link_is op ((read x).value scopes depth))) (omega (arith, j, k))
+    subst (λ (z : BinaryOp × Piece). (joined_code z.0 z.1).size ≤ 4 * (1 + expr_weight x)) (sym (link_form (record { op = op; operand = (read x).value scopes depth }))) (omega (arith, j, k))
 
 abbrev light_at : ValueLink → ℕ → Type 0
 light_at l n = (joined_code (link_code l).0 (link_code l).1).size ≤ 4 * n
@@ -224,7 +247,7 @@ light_at l n = (joined_code (link_code l).0 (link_code l).1).size ≤ 4 * n
 light_link : (l l2 : ValueLink) (n n2 : ℕ) → l ≡ l2 → n ≡ n2 → light_at l2 n2 → light_at l n
 light_link l l2 n n2 e g h = subst (λ k. light_at k n) (sym e) (subst (light_at l2) (sym g) h)
 
-pub expr_light : (x : Expr) → Claim x
+expr_light : (x : Expr) → Claim x
 expr_light = ind-Expr Claim LinkClaim
     (λ x y is.
     same_light _ (read_layer y) _ (weight_layer y)
@@ -264,15 +287,15 @@ append_size (x ∷ xs) ys = let h = append_size xs ys in omega (arith, h)
 
 -- ---- parts of statements
 
-initial_light : (x : Option Expr) (scopes : List (List Declaration)) (depth : ℕ) → (effect_code (initial_in x scopes depth)).size ≤ 1 + 4 * value_weight x
+initial_light : (x : Option Expr) (scopes : List (List Declaration)) (depth : ℕ) → size_in (initial_in x scopes depth) ≤ 1 + 4 * value_weight x
 initial_light None scopes depth = let e = number_size (pos 0) in omega (arith, e)
-initial_light (Some x) scopes depth = let h = (expr_light x).effect scopes depth in omega (arith, h)
+initial_light (Some x) scopes depth = let h = (expr_light x).value scopes depth in omega (arith, h)
 
-operand_light : (x : Option Expr) (scopes : List (List Declaration)) (depth : ℕ) → (operand_code (operand_in x scopes depth)).size ≤ 1 + 4 * value_weight x
+operand_light : (x : Option Expr) (scopes : List (List Declaration)) (depth : ℕ) → (operand_code (some_in x scopes depth)).size ≤ 1 + 4 * value_weight x
 operand_light None scopes depth = omega arith
-operand_light (Some x) scopes depth = let h = (expr_light x).effect scopes depth in omega (arith, h)
+operand_light (Some x) scopes depth = let h = (expr_light x).value scopes depth in omega (arith, h)
 
-test_light : (x : Option Expr) (scopes : List (List Declaration)) (depth count : ℕ) → (test_code (test_in x scopes depth) count).size ≤ 2 + 4 * value_weight x
+test_light : (x : Option Expr) (scopes : List (List Declaration)) (depth count : ℕ) → (test_code (some_in x scopes depth) count).size ≤ 2 + 4 * value_weight x
 test_light None scopes depth count = omega arith
 test_light (Some x) scopes depth count = let h = (expr_light x).value scopes depth in omega (arith, h)
 
@@ -317,7 +340,7 @@ some_short (Some x) n depth texts = x.1 n depth texts
 
 for_short : (init : Option Stmt_) (test : Option Expr) (next : Option Stmt_) (body : Stmt_) (n : Names) (depth : ℕ) (texts : Texts) →
     body_size (some_commands (told_of init) (opened n) depth texts
-    ++ cm.For (test_in test (for_names (told_of init) depth n).scopes depth)
+    ++ cm.For (some_in test (for_names (told_of init) depth n).scopes depth)
     (some_commands (told_of next) (for_names (told_of init) depth n) depth (some_texts (told_of init) texts))
     ((told body.0).commands (moved (for_names (told_of init) depth n) (some_words (some_shape (told_of next)))) depth (some_texts (told_of next) (some_texts (told_of init) texts)))
     ∷ []) ≤ 4 * (5 + (weight_of init + (value_weight test + (weight_of next + stmt_weight body.0))))
@@ -325,7 +348,7 @@ for_short init test next body n depth texts =
     let names = for_names (told_of init) depth n in
     let after = some_texts (told_of init) texts in
     let head = some_commands (told_of init) (opened n) depth texts in
-    let tested = test_in test names.scopes depth in
+    let tested = some_in test names.scopes depth in
     let nexts = some_commands (told_of next) names depth after in
     let inside = (told body.0).commands (moved names (some_words (some_shape (told_of next)))) depth (some_texts (told_of next) after) in
     let e = append_size head (cm.For tested nexts inside ∷ []) in
@@ -351,13 +374,13 @@ stmt_layer (Stmt-F.Int at name value) n depth texts =
     omega (arith, e, h)
 stmt_layer (Stmt-F.Array at name size) n depth texts = let e = single_size _ _ (sym (cm.rolls-Clear n.slot (array_len size))) in omega (arith, e)
 stmt_layer (Stmt-F.Assign at place value) n depth texts =
-    let e = single_size _ _ (sym (cm.rolls-Set (target_in place n.scopes depth) (effect_in value n.scopes depth))) in
+    let e = single_size _ _ (sym (cm.rolls-Set (target_in place n.scopes depth) (value_in value n.scopes depth))) in
     let h = (expr_light place).target n.scopes depth in
-    let k = (expr_light value).effect n.scopes depth in
+    let k = (expr_light value).value n.scopes depth in
     omega (arith, e, h, k)
 stmt_layer (Stmt-F.Call at call) n depth texts =
-    let e = single_size _ _ (sym (cm.rolls-Run (effect_in call n.scopes depth))) in
-    let h = (expr_light call).effect n.scopes depth in
+    let e = single_size _ _ (sym (cm.rolls-Run (value_in call n.scopes depth))) in
+    let h = (expr_light call).value n.scopes depth in
     omega (arith, e, h)
 stmt_layer (Stmt-F.Print at format args) n depth texts =
     let e = single_size _ _ (sym (cm.rolls-Print (length texts) (values_in args n.scopes depth))) in
@@ -391,7 +414,7 @@ stmt_layer (Stmt-F.For at (Some x) test (Some y) body) n depth texts = for_short
 stmt_layer (Stmt-F.Break at) n depth texts = let e = single_size Command-F.Break cm.Break (sym cm.rolls-Break) in omega (arith, e)
 stmt_layer (Stmt-F.Continue at) n depth texts = let e = single_size Command-F.Continue cm.Continue (sym cm.rolls-Continue) in omega (arith, e)
 stmt_layer (Stmt-F.Return at value) n depth texts =
-    let e = single_size _ _ (sym (cm.rolls-Return (operand_in value n.scopes depth))) in
+    let e = single_size _ _ (sym (cm.rolls-Return (some_in value n.scopes depth))) in
     let h = operand_light value n.scopes depth in
     omega (arith, e, h)
 stmt_layer (Stmt-F.Do at label body) n depth texts =
@@ -440,9 +463,22 @@ functions_short (i.Channel at name from to cap ∷ items) scopes texts = let k =
 functions_short (i.File at name path ∷ items) scopes texts = let k = functions_short items scopes texts in omega (arith, k)
 functions_short (i.Core at name entry ∷ items) scopes texts = let k = functions_short items scopes texts in omega (arith, k)
 
-pub code_short : (p : Program) → (functions_code (resolved p).functions).size ≤ 4 * items_weight p.items
+code_short : (p : Program) → (functions_code (resolved p).functions).size ≤ 4 * items_weight p.items
 code_short p = functions_short p.items (outermost p.items) []
 
 -- numbers of 32 bits suffice for its addresses
 pub code_small : (p : Program) → IsSmall p → (functions_code (resolved p).functions).size < 2 ^ 32
 code_small p small = let h = code_short p in omega (arith, h, small)
+
+-- each channel and each core weighs something
+links_few : (items : List Item) (scopes : List (List Declaration)) → length (channels_in items scopes) + length (cores_in items scopes) ≤ items_weight items
+links_few [] scopes = omega arith
+links_few (i.Function f ∷ items) scopes = let k = links_few items scopes in omega (arith, k)
+links_few (i.Global at name size value ∷ items) scopes = let k = links_few items scopes in omega (arith, k)
+links_few (i.Channel at name from to cap ∷ items) scopes = let k = links_few items scopes in omega (arith, k)
+links_few (i.File at name path ∷ items) scopes = let k = links_few items scopes in omega (arith, k)
+links_few (i.Core at name entry ∷ items) scopes = let k = links_few items scopes in omega (arith, k)
+
+-- and for its links
+pub links_small : (p : Program) → IsSmall p → length (resolved p).channels + length (resolved p).cores < 2 ^ 32
+links_small p small = let h = links_few p.items (outermost p.items) in omega (arith, h, small)

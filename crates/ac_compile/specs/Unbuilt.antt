@@ -1,7 +1,6 @@
 -- The nodes of a program that are not built, by their first bytes in preorder; and the first of them. Both are one definition, by what is
 -- made of a node, of none, and of two parts one after the other.
 use Rattle.std.specs.Prelude.{ℕ, List, [], ◌∷◌, ◌++◌, map, Option, Some, None, Bool, true, false, not}
-use Rattle.std.specs.Str.{bytes_eq}
 use Rattle.ac_tree.specs.declared.expr.Expr.{Expr, fold-Expr}
 use Rattle.ac_tree.specs.declared.expr.Link.{Link, fold-Link}
 use Rattle.ac_tree.specs.declared.expr.Expr.TheOpen.{Expr-F, Link-F}
@@ -10,7 +9,6 @@ use Rattle.ac_tree.specs.declared.stmt.Stmt.TheFolds.{fold-Stmt}
 use Rattle.ac_tree.specs.declared.stmt.Stmt.TheOpen.{Stmt-F}
 use Rattle.ac_tree.specs.declared.item.Item.{Item}
 use Rattle.ac_tree.specs.declared.item.Item.TheVariants as i
-use Rattle.ac_tree.specs.declared.item.Param.{Param}
 use Rattle.ac_names.specs.Scopes.{or_else}
 
 -- what is made of nodes
@@ -38,7 +36,7 @@ abbrev pub some_of : {A : Type 0} → Gathers A → Option A → A
 some_of g None = g.none
 some_of g (Some x) = x
 
--- ---- expressions: a call and an operation are not built
+-- ---- expressions: an operation is not built
 
 abbrev pub expr_step : {A : Type 0} → Gathers A → Expr-F A A → A
 expr_step g (Expr-F.Number at value) = g.none
@@ -48,7 +46,7 @@ expr_step g (Expr-F.Index at name index) = index
 expr_step g (Expr-F.Group at inner) = inner
 expr_step g (Expr-F.Unary at op inner) = inner
 expr_step g (Expr-F.Chain at level first rest) = g.both first (all_of g rest)
-expr_step g (Expr-F.Call at name args) = node_by g false at (all_of g args)
+expr_step g (Expr-F.Call at name args) = all_of g args
 expr_step g (Expr-F.Send at channel value) = node_by g false at value
 expr_step g (Expr-F.Recv at channel place) = node_by g false at place
 expr_step g (Expr-F.Read at file from len array) = node_by g false at (g.both from len)
@@ -70,27 +68,15 @@ abbrev pub some_expr : {A : Type 0} → Gathers A → Option Expr → A
 some_expr g None = g.none
 some_expr g (Some x) = expr_nodes g x
 
--- whether an int can be put into it: no other expression is a place
-abbrev pub place_step : Expr-F Bool (Unit {0}) → Bool
-place_step (Expr-F.Name at name) = true
-place_step (Expr-F.Index at name index) = true
-place_step _ = false
-
-abbrev pub no_step : Link-F Bool (Unit {0}) → Unit {0}
-no_step link = tt
-
-abbrev pub is_place : Expr → Bool
-is_place = fold-Expr Bool (Unit {0}) place_step no_step
-
--- ---- statements: threads and blocks are not built
+-- ---- statements: a cancel is not built
 
 abbrev pub stmt_step : {A : Type 0} → Gathers A → Stmt-F A → A
 stmt_step g (Stmt-F.Block at body) = all_of g body
 stmt_step g (Stmt-F.Empty at) = g.none
 stmt_step g (Stmt-F.Int at name value) = some_expr g value
 stmt_step g (Stmt-F.Array at name size) = g.none
-stmt_step g (Stmt-F.Assign at place value) = node_by g (is_place place) at (g.both (expr_nodes g place) (expr_nodes g value))
-stmt_step g (Stmt-F.Call at call) = node_by g false at (expr_nodes g call)
+stmt_step g (Stmt-F.Assign at place value) = g.both (expr_nodes g place) (expr_nodes g value)
+stmt_step g (Stmt-F.Call at call) = expr_nodes g call
 stmt_step g (Stmt-F.Print at format args) = exprs_nodes g args
 stmt_step g (Stmt-F.If at test body other) = g.both (expr_nodes g test) (g.both body (some_of g other))
 stmt_step g (Stmt-F.While at test body) = g.both (expr_nodes g test) body
@@ -98,10 +84,10 @@ stmt_step g (Stmt-F.For at init test next body) = g.both (some_of g init) (g.bot
 stmt_step g (Stmt-F.Break at) = g.none
 stmt_step g (Stmt-F.Continue at) = g.none
 stmt_step g (Stmt-F.Return at value) = some_expr g value
-stmt_step g (Stmt-F.Do at label body) = node_by g false at (all_of g body)
-stmt_step g (Stmt-F.Async at body) = node_by g false at body
+stmt_step g (Stmt-F.Do at label body) = all_of g body
+stmt_step g (Stmt-F.Async at body) = body
 stmt_step g (Stmt-F.Cancel at label) = node_by g false at g.none
-stmt_step g (Stmt-F.Yield at) = node_by g false at g.none
+stmt_step g (Stmt-F.Yield at) = g.none
 
 abbrev pub stmt_nodes : {A : Type 0} → Gathers A → Stmt → A
 stmt_nodes {A} g = fold-Stmt A (stmt_step g)
@@ -113,41 +99,27 @@ abbrev pub some_stmt : {A : Type 0} → Gathers A → Option Stmt → A
 some_stmt g None = g.none
 some_stmt g (Some x) = stmt_nodes g x
 
--- ---- items: the first core and the function that it enters are built
-
-abbrev pub params_nodes : {A : Type 0} → Gathers A → List Param → A
-params_nodes g [] = g.none
-params_nodes g (x ∷ xs) = node_by g false x.at (params_nodes g xs)
-
--- the entry of the first core
-abbrev pub first_entry : List Item → Option (List ℕ)
-first_entry [] = None
-first_entry (i.Core at name entry ∷ items) = Some entry
-first_entry (_ ∷ items) = first_entry items
-
-abbrev pub is_entry : Option (List ℕ) → List ℕ → Bool
-is_entry None name = false
-is_entry (Some entry) name = bytes_eq name entry
+-- ---- items: a second core, a channel and a file are not built
 
 -- an item, by whether a core stands before it
-abbrev pub item_nodes : {A : Type 0} → Gathers A → Option (List ℕ) → Bool → Item → A
-item_nodes g entry late (i.Core at name own) = node_by g (not late) at g.none
-item_nodes g entry late (i.Function f) = node_by g (is_entry entry f.name) f.at (g.both (params_nodes g f.params) (body_nodes g f.body))
-item_nodes g entry late (i.Global at name size value) = g.none
-item_nodes g entry late (i.Channel at name from to cap) = node_by g false at g.none
-item_nodes g entry late (i.File at name path) = node_by g false at g.none
+abbrev pub item_nodes : {A : Type 0} → Gathers A → Bool → Item → A
+item_nodes g late (i.Core at name entry) = node_by g (not late) at g.none
+item_nodes g late (i.Function f) = body_nodes g f.body
+item_nodes g late (i.Global at name size value) = g.none
+item_nodes g late (i.Channel at name from to cap) = node_by g false at g.none
+item_nodes g late (i.File at name path) = node_by g false at g.none
 
 abbrev pub is_late : Bool → Item → Bool
 is_late late (i.Core at name entry) = true
 is_late late _ = late
 
-abbrev pub items_nodes : {A : Type 0} → Gathers A → Option (List ℕ) → Bool → List Item → A
-items_nodes g entry late [] = g.none
-items_nodes g entry late (x ∷ xs) = g.both (item_nodes g entry late x) (items_nodes g entry (is_late late x) xs)
+abbrev pub items_nodes : {A : Type 0} → Gathers A → Bool → List Item → A
+items_nodes g late [] = g.none
+items_nodes g late (x ∷ xs) = g.both (item_nodes g late x) (items_nodes g (is_late late x) xs)
 
 -- the program's own node is built
 abbrev pub unbuilt_nodes : List Item → List ℕ
-unbuilt_nodes items = items_nodes as_list (first_entry items) false items
+unbuilt_nodes items = items_nodes as_list false items
 
 abbrev pub first_unbuilt : List Item → Option ℕ
-first_unbuilt items = items_nodes as_first (first_entry items) false items
+first_unbuilt items = items_nodes as_first false items

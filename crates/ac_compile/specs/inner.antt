@@ -1,3 +1,2 @@
 pub mod Emission
 pub mod Made
-pub mod Built

@@ -1,15 +1,12 @@
 //! What is built.
 
-ghost use Rattle.std.specs.Prelude.{◌≡◌, [], None, false, slice_get, IfNone};
-ghost use Rattle.std.specs.Option.{option_map};
-ghost use Rattle.ac_tree.specs.declared.item.Item.TheVariants as i;
-ghost use Rattle.ac_compile.specs.Unbuilt.{as_first, node_by, is_place, expr_nodes, exprs_nodes, some_expr};
-ghost use Rattle.ac_compile.specs.Unbuilt.{link_nodes, all_of, stmt_nodes, body_nodes, some_stmt, params_nodes};
-ghost use Rattle.ac_compile.specs.Unbuilt.{first_entry, is_entry, item_nodes, is_late, items_nodes, unbuilt_nodes};
-ghost use Rattle.std.specs.Prelude.{map};
+ghost use Rattle.std.specs.Prelude.{◌≡◌, [], map, None, false, slice_get, IfNone};
+ghost use Rattle.ac_compile.specs.Unbuilt.{as_first, expr_nodes, exprs_nodes, some_expr};
+ghost use Rattle.ac_compile.specs.Unbuilt.{link_nodes, all_of, stmt_nodes, body_nodes, some_stmt};
+ghost use Rattle.ac_compile.specs.Unbuilt.{item_nodes, is_late, items_nodes, unbuilt_nodes};
 
-use ac_base::{Boxed, Name};
-use ac_tree::{Expr, Function, Item, Link, Param, Stmt};
+use ac_base::Boxed;
+use ac_tree::{Expr, Item, Link, Stmt};
 use ac_types::Checked;
 
 // The first node of an expression that is not built.
@@ -39,7 +36,11 @@ fn in_expr(expr: &Expr) -> Option<u32>
             Some(at) => Some(at),
             None => in_links(rest.as_slice()),
         },
-        Expr::Call { at, .. } => Some(*at),
+        Expr::Call {
+            at: _,
+            name: _,
+            args,
+        } => in_exprs(args.as_slice()),
         Expr::Send { at, .. } => Some(*at),
         Expr::Recv { at, .. } => Some(*at),
         Expr::Read { at, .. } => Some(*at),
@@ -59,6 +60,7 @@ fn in_links(links: &[Link]) -> Option<u32>
     None
 }
 
+#[cycle(expr)]
 fn in_exprs(exprs: &[Expr]) -> Option<u32>
     ensures { result ≡ exprs_nodes as_first exprs.now }
 {
@@ -79,29 +81,6 @@ fn in_some_expr(value: &Option<Expr>) -> Option<u32>
     }
 }
 
-fn is_place(expr: &Expr) -> bool
-    ensures { result ≡ is_place expr.now }
-{
-    match expr {
-        Expr::Name { .. } | Expr::Index { .. } => true,
-        _ => false,
-    }
-}
-
-// An assignment from that byte on.
-fn in_assign(at: u32, place: &Expr, value: &Expr) -> Option<u32>
-    ensures { result ≡ node_by as_first (is_place place.now) at
-        (as_first.both (expr_nodes as_first place.now) (expr_nodes as_first value.now)) }
-{
-    if !is_place(place) {
-        return Some(at);
-    }
-    match in_expr(place) {
-        Some(at) => Some(at),
-        None => in_expr(value),
-    }
-}
-
 // The first node of a statement that is not built.
 #[cycle(stmt)]
 fn in_stmt(stmt: &Stmt) -> Option<u32>
@@ -110,13 +89,21 @@ fn in_stmt(stmt: &Stmt) -> Option<u32>
     match stmt {
         Stmt::Block { at: _, body } => in_body(body.as_slice()),
         Stmt::Empty { .. } | Stmt::Array { .. } => None,
-        Stmt::Break { .. } | Stmt::Continue { .. } => None,
+        Stmt::Break { .. } | Stmt::Continue { .. } | Stmt::Yield { .. } => None,
         Stmt::Int {
             at: _,
             name: _,
             value,
         } => in_some_expr(value),
-        Stmt::Assign { at, place, value } => in_assign(*at, place, value),
+        Stmt::Assign {
+            at: _,
+            place,
+            value,
+        } => match in_expr(place) {
+            Some(at) => Some(at),
+            None => in_expr(value),
+        },
+        Stmt::Call { at: _, call } => in_expr(call),
         Stmt::Print {
             at: _,
             format: _,
@@ -159,11 +146,13 @@ fn in_stmt(stmt: &Stmt) -> Option<u32>
             }
         }
         Stmt::Return { at: _, value } => in_some_expr(value),
-        Stmt::Call { at, .. } => Some(*at),
-        Stmt::Do { at, .. } => Some(*at),
-        Stmt::Async { at, .. } => Some(*at),
+        Stmt::Do {
+            at: _,
+            label: _,
+            body,
+        } => in_body(body.as_slice()),
+        Stmt::Async { at: _, body } => in_stmt(body.get()),
         Stmt::Cancel { at, .. } => Some(*at),
-        Stmt::Yield { at } => Some(*at),
     }
 }
 
@@ -189,43 +178,13 @@ fn in_body(body: &[Stmt]) -> Option<u32>
     None
 }
 
-fn in_params(params: &[Param]) -> Option<u32>
-    ensures { result ≡ params_nodes as_first params.now }
-{
-    match params {
-        [] => None,
-        [param, ..] => Some(param.at),
-    }
-}
-
-fn is_entry(wanted: Option<&Name>, name: &Name) -> bool
-    ensures { result ≡ is_entry (option_map (λ w. w.now) wanted.entry) name.now }
-{
-    match wanted {
-        None => false,
-        Some(wanted) => name.as_slice() == wanted.as_slice(),
-    }
-}
-
-fn in_function(wanted: Option<&Name>, function: &Function) -> Option<u32>
-    ensures { result ≡ item_nodes as_first (option_map (λ w. w.now) wanted.entry) false (i.Function function.now) }
-{
-    if !is_entry(wanted, &function.name) {
-        return Some(function.at);
-    }
-    match in_params(function.params.as_slice()) {
-        Some(at) => Some(at),
-        None => in_body(function.body.as_slice()),
-    }
-}
-
-// The first node of an item that is not built, by the entry of the first core and by whether a core stands before the item.
-fn in_item(wanted: Option<&Name>, late: bool, item: &Item) -> Option<u32>
-    ensures { result ≡ item_nodes as_first (option_map (λ w. w.now) wanted.entry) late item.now }
+// The first node of an item that is not built, by whether a core stands before the item.
+fn in_item(late: bool, item: &Item) -> Option<u32>
+    ensures { result ≡ item_nodes as_first late item.now }
 {
     match item {
         Item::Core { at, .. } => { if late { Some(*at) } else { None } }
-        Item::Function(function) => in_function(wanted, function),
+        Item::Function(function) => in_body(function.body.as_slice()),
         Item::Global { .. } => None,
         Item::Channel { at, .. } => Some(*at),
         Item::File { at, .. } => Some(*at),
@@ -241,32 +200,15 @@ fn is_late(late: bool, item: &Item) -> bool
     }
 }
 
-fn in_items(wanted: Option<&Name>, items: &[Item]) -> Option<u32>
-    ensures { result ≡ items_nodes as_first (option_map (λ w. w.now) wanted.entry) false items.now }
+fn in_items(items: &[Item]) -> Option<u32>
+    ensures { result ≡ items_nodes as_first false items.now }
 {
     let mut late = false;
     for item in items {
-        if let Some(at) = in_item(wanted, late, item) {
+        if let Some(at) = in_item(late, item) {
             return Some(at);
         }
         late = is_late(late, item);
-    }
-    None
-}
-
-// The entry of the first core.
-fn first_entry(items: &[Item]) -> Option<&Name>
-    ensures { option_map (λ e. e.now) result ≡ first_entry items.now }
-{
-    for item in items {
-        if let Item::Core {
-            at: _,
-            name: _,
-            entry,
-        } = item
-        {
-            return Some(entry);
-        }
     }
     None
 }
@@ -276,6 +218,5 @@ pub fn unbuilt(checked: &Checked) -> Option<u32>
     ensures first { result ≡ slice_get (unbuilt_nodes checked.now.items) 0 }
     ensures none { IfNone result (unbuilt_nodes checked.now.items ≡ []) }
 {
-    let items = checked.tree().items.as_slice();
-    in_items(first_entry(items), items)
+    in_items(checked.tree().items.as_slice())
 }

@@ -3,11 +3,11 @@
 
 ghost use Rattle.std.specs.Prelude.{◌≡◌, [], length, IfOk};
 ghost use Rattle.ac_resolve.specs.Resolution.{resolved};
-ghost use Rattle.stack_code.specs.Sequential.{IsSequential};
 ghost use Rattle.ac_compile.specs.Unbuilt.{unbuilt_nodes};
+ghost use Rattle.stack_code.specs.Alone.{IsAlone};
+ghost use Rattle.ac_translation.specs.Same.{IsSame};
 ghost use Rattle.ac_compile.specs.Compiled.{IsCodeOf};
 ghost use Rattle.ac_compile.specs.OneEnd.{HasOneEnd};
-ghost use Rattle.ac_translation.specs.Same.{IsSame};
 
 mod built;
 mod emit;
@@ -22,17 +22,18 @@ use stack_code::Code;
 use std::alloc::Global;
 
 /// The code of a program whose nodes are all built: that of its tree, whose cores come to just the ends to which they come in
-/// the source. Such a program has one core and one thread, and calls no function. Each of its cores comes to one end and to no
-/// other, in the source and in the code.
+/// the source. Such a program has one core, its code has no operation and no cancel, and each of its cores comes to one end and to no
+/// other, in the source
+/// and in the code.
 pub fn compile(alloc: Global, checked: &Checked) -> Result<Code, NoMemory>
     requires { unbuilt_nodes checked.now.items ≡ [] }
     ensures code { IfOk result (λ code. IsCodeOf checked.now code) }
     ensures same { IfOk result (λ code. IsSame code (resolved checked.now)) }
     ensures one_end { IfOk result (λ code. HasOneEnd code (resolved checked.now)) }
     ensures one { IfOk result (λ code. length code.entries ≡ 1) }
-    ensures sequential { IfOk result (λ code. IsSequential code) }
+    ensures alone { IfOk result IsAlone }
 {
-    // The tree breaks no rule and is small.
+    // The tree is small.
     let _ = checked.tree();
     let program = resolve(alloc, checked)?;
     program_code(alloc, &program)

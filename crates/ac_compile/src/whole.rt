@@ -4,8 +4,8 @@ ghost use Rattle.std.specs.Prelude.{◌≡◌, ◌+◌, ◌<◌, ◌^◌, [], �
 ghost use Rattle.ac_translation.specs.Translation.{function_code, functions_code, functions_from};
 ghost use Rattle.ac_translation.specs.Translation.{request_capacity, ends_of, start_of, code_of};
 ghost use Rattle.ac_compile.specs.inner.Emission.{with_code, HasRoom};
-ghost use Rattle.ac_compile.specs.inner.Made.{parts_of};
-ghost use Rattle.ac_compile.specs.inner.Built.{IsOne};
+ghost use Rattle.ac_compile.specs.inner.Made.{parts_of, HasRanks};
+ghost use Rattle.ac_resolve.specs.InPlace.{IsInPlace};
 
 use crate::emit::commands::emit_body;
 use crate::emit::emitter::Emitter;
@@ -189,11 +189,13 @@ pub fn whole_code(alloc: Global, program: &Resolved) -> Result<Whole, NoMemory>
     })
 }
 
-/// The code of a program that the compiler takes. Such a code is valid.
+/// The code of a program in which everything is in its place. Such a code is valid.
 pub fn program_code(alloc: Global, program: &Resolved) -> Result<Code, NoMemory>
-    requires one { IsOne program.now }
+    requires in_place { IsInPlace program.now }
     requires short { (functions_code program.now.functions).size < 2 ^ 32 }
-    ensures { IfOk result (λ code. code ≡ code_of program.now) }
+    requires few { length program.now.channels + length program.now.cores < 2 ^ 32 }
+    ensures same { IfOk result (λ code. code ≡ code_of program.now) }
+    ensures ranked { IfOk result HasRanks }
 {
     let whole = whole_code(alloc, program)?;
     let made = Code::make(
@@ -209,7 +211,11 @@ pub fn program_code(alloc: Global, program: &Resolved) -> Result<Code, NoMemory>
         whole.starts,
     )?;
     match made {
-        Some(code) => Ok(code),
+        Some(code) => {
+            // Its ranks show that it comes to an end.
+            let _ = code.ranks();
+            Ok(code)
+        }
         None => unreachable!(),
     }
 }

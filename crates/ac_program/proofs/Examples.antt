@@ -1,27 +1,61 @@
--- Words of a call, histories of small journals, lines, and two.ac from its text to its report.
-use Rattle.std.proofs.Common.{◌≡◌, refl, ap, ◌∙◌, ℕ, ◌<◌, ◌≤◌, pos, ◌⊎◌, Bool, List, [], ◌∷◌, ◌++◌, length, map, codes, Option, None, Some, true, false, subst, sym, inl, inr, arith}
+-- Words of a call, histories of small journals, lines, sources that are refused, and two.ac from its text to its report.
+use Rattle.std.proofs.Common.{◌≡◌, refl, ap, ◌∙◌, ℕ, zero, suc, ◌<◌, ◌≤◌, pos, ◌⊎◌, Bool, List, [], ◌∷◌, ◌++◌, length}
+use Rattle.std.proofs.Common.{map, codes, Option, None, Some, true, false, Result, Ok, Err, subst, sym, inl, inr, length-append, arith}
+use Rattle.std.specs.Prelude.{slice_get, unwrap_or}
 use Rattle.std.specs.Fmt.{signed_decimal}
 use Rattle.std.specs.Str.{bytes_eq}
-use Rattle.std.proofs.lemmas.List.Elements.{All-from_recursion}
+use Rattle.std.proofs.lemmas.List.Elements.{All-from_recursion, recursion_from_All}
 use Rattle.std.proofs.lemmas.Fmt.{decimal_digit, decimal_step}
 use Rattle.ac_base.specs.Log.{Log}
 use Rattle.ac_base.specs.Report.{report_of, status_of}
-use Rattle.ac_lexer.proofs.Examples.{two_text, two_tokens, two_ac_only, two_ac as two_ac_lexed}
-use Rattle.ac_parser.proofs.Examples.{two_ac as two_ac_parsed}
+use Rattle.ac_tree.specs.declared.expr.Expr.TheVariants as expr
+use Rattle.ac_tree.specs.declared.item.Item.{Item}
+use Rattle.ac_tree.specs.declared.item.Item.TheVariants as item
+use Rattle.ac_tree.specs.declared.item.Program.{Program}
+use Rattle.ac_lexer.specs.declared.fault.LexFault.{LexFault}
+use Rattle.ac_lexer.specs.declared.fault.LexFault.TheVariants as l
+use Rattle.ac_lexer.specs.declared.token.Token.{Token}
+use Rattle.ac_lexer.specs.inner.Reading.{piece_at, name_at, word_of, number_at, mark_of_one, mark_of_two}
+use Rattle.ac_lexer.proofs.Lexed.{lexes, lexes_only, tokens_in}
+use Rattle.ac_lexer.proofs.Examples.{two_text, two_tokens, two_ac_only, two_ac as two_ac_lexed, a_nought_in_front, no_tokens}
+use Rattle.reading_laws.specs.Letters.{same_word, same_mark}
+use Rattle.reading_laws.specs.Readers.{many_at}
+use Rattle.ac_expressions.specs.Reads.{chain_at, unary_at}
+use Rattle.ac_parser.specs.inner.ReadsStatements.{stmt_at}
+use Rattle.ac_parser.specs.inner.ReadsItems.{item_at, program_at}
+use Rattle.ac_parser.proofs.Answered.{parsed_tree}
+use Rattle.ac_parser.specs.Places.{IsTree, UnexpectedAt, TooDeepAt}
+use Rattle.ac_parser.proofs.Examples.{two_ac as two_ac_parsed, no_parenthesis}
+use Rattle.ac_parser.proofs.Shaped.{spelled_shape}
+use Rattle.ac_types.specs.Reached.{BreaksNone, IsLeastBroken}
+use Rattle.ac_types.specs.declared.rule.Rule.TheVariants as rule
+use Rattle.ac_types.specs.Reached.{entries_of, all_calls, AreReached}
+use Rattle.ac_types.proofs.Forms.{assign_is, name_is, number_is}
+use Rattle.ac_types.proofs.Judging.{program_told}
+use Rattle.ac_reach.specs.declared.reached.Reached.{Reached}
+use Rattle.ac_reach.specs.declared.reached.Reached.TheVariants as row
+use Rattle.ac_reach.specs.Reached as reach
+use Rattle.ac_reach.specs.Reached.{ReachedFrom, is_entry, is_called, AreRows, IsReachedBy}
+use Rattle.ac_compile.specs.Unbuilt.{unbuilt_nodes}
+use Rattle.ac_program.specs.declared.refusal.BrokenRule.{BrokenRule}
+use Rattle.ac_program.proofs.Answered.{not_unexpected, not_deep}
+use Rattle.ac_program.proofs.Calls.{calls_once}
 use Rattle.ac_base.specs.declared.entry.Entry.{Entry}
 use Rattle.ac_base.specs.declared.entry.Event.TheVariants as event
-use Rattle.ac_base.specs.declared.ends.EndWord.TheVariants.{Finished}
+use Rattle.ac_base.specs.declared.ends.EndWord.TheVariants.{Finished, Stalled}
 use Rattle.ac_base.specs.declared.ends.CoreEnd.{CoreEnd}
 use Rattle.ac_base.specs.declared.ends.MachineEnd.{MachineEnd}
-use Rattle.core_state.specs.Moves.{Over, moves, and_then}
+use Rattle.core_state.specs.Moves.{Move, On, Over, moves, and_then}
 use Rattle.core_state.specs.Shared.{core_end}
-use Rattle.ac_resolve.proofs.Examples.{sum_value, two_ac}
+use Rattle.ac_resolve.proofs.ProgramInPlace.{all_in_place}
+use Rattle.ac_resolve.proofs.Examples.{one_core, sum, sum_value, two_ac}
 use Rattle.ac_commands.specs.declared.program.Resolved.{Resolved}
+use Rattle.ac_commands.specs.declared.command.Command.{out-Command}
 use Rattle.ac_commands.specs.declared.command.Command.TheVariants as c
 use Rattle.ac_commands.specs.declared.command.Command.TheOpen.{Command-F}
 use Rattle.ac_commands.specs.declared.program.Function.{Function}
 use Rattle.ac_semantics.specs.Threads.{step, first_state}
-use Rattle.ac_semantics.proofs.Examples.{form, a_sum}
+use Rattle.ac_semantics.proofs.Examples.{form, finish_by, a_sum}
 use Rattle.ac_semantics.specs.Replay.{Replays}
 use Rattle.stack_code.specs.declared.parts.Entered.{Entered}
 use Rattle.stack_code.specs.Parts.{Parts}
@@ -32,14 +66,27 @@ use Rattle.ac_program.specs.declared.execute.Done.{Done}
 use Rattle.ac_program.specs.declared.running.Ended.{Ended}
 use Rattle.ac_program.specs.Words.{IsPlain, IsNumber, IsBound, IsArguments, IsRunCall, no_more, operand, bound_apart, bound_joined, only_operands}
 use Rattle.ac_program.specs.History.{Stamped, merged, IsLegal}
-use Rattle.ac_program.specs.Run.{HasEnded, IsRunOf}
-use Rattle.ac_program.specs.Source.{IsSpelled, IsRunnable, all_steps, most_steps, names_of}
+use Rattle.ac_program.specs.Run.{HasEnded, HaveEnded, IsQuiet, IsCoreRun, IsRunOf}
+use Rattle.ac_program.specs.Source.{HasTokens, HasFault, IsUnexpected, IsTooDeep, IsAccepted, IsBroken, IsTooMany, IsWithin, IsNotBuilt, Refuses}
+use Rattle.ac_program.specs.Source.{IsSpelled, IsRunnable, IsBuilt, all_steps, most_steps, names_of}
 use Rattle.ac_program.specs.Lines.{library_line, limit_source_line, refusal_line, refusal_status}
 use Rattle.ac_outside.specs.Told.{LibraryTold, SinkTold}
-use Rattle.ac_program.specs.Reading.{Gave}
+use Rattle.ac_program.specs.Reading.{Gave, TookBytes}
 use Rattle.ac_program.specs.Writing.{TookFront}
 use Rattle.ac_program.specs.Making.{IsDone, ran}
-use Rattle.ac_program.specs.Headline.{IsNoCall, IsRead, IsShort, IsDue, runs, source, TookWhole, TookPart, GaveUp, TellsUsage, TellsLibrary, TellsSink, IsOfText, CallsFor, has_run}
+use Rattle.ac_program.specs.Headline.{IsNoCall, IsRead, IsShort, IsDue, runs, source, TookWhole, TookPart, GaveUp}
+use Rattle.ac_program.specs.Headline.{TellsUsage, TellsLibrary, TellsSink, IsOfText, CallsFor, has_run, bad_token, unexpected, broken, over_long, too_many, not_built, IsDecided}
+use Rattle.std.specs.Str.Parse.{digits_value}
+use Rattle.ac_resolve.specs.Resolution.{resolved}
+use Rattle.ac_translation.specs.Same.{IsSame}
+use Rattle.ac_compile.proofs.Compiling.{is_same}
+use Rattle.stack_code.specs.declared.instr.Instr.{Instr}
+use Rattle.stack_code.specs.declared.instr.Instr.TheVariants as i
+use Rattle.stack_code.specs.Machine.{Flat, FlatEnd}
+use Rattle.stack_code.specs.Alone.{is_alone}
+use Rattle.core_machine.specs.Machine.{Machine, IsFirst, IsOnItsWay, IsSameCore}
+use Rattle.ac_tree.specs.declared.stmt.Stmt.TheVariants as s
+use Rattle.ac_program.proofs.Reasons.{is_decided}
 use Rattle.ac_program.proofs.TwoRules.{two_tree, two_is_clean, two_is_built}
 
 -- ---- words
@@ -106,6 +153,19 @@ a_file_behind_two_dashes = record {
   command = record { rest = _; form = refl; arguments = only_operands refl (All-from_recursion (λ (word : List ℕ). word ≡ codes "-" → ⊥) (codes "-x.ac" ∷ []) ((λ e. cc), tt)) };
   bound = refl;
 }
+
+pub a_word_with_a_dash_in_front : IsPlain (codes "-x.ac") → ⊥
+a_word_with_a_dash_in_front h = h refl
+
+-- there is no second bound
+pub no_second_bound : (operands : List (List ℕ)) (given : Option ℕ) → IsArguments (codes "--steps=1" ∷ codes "--steps=2" ∷ []) operands given → ⊥
+no_second_bound _ _ (operand plain more) = plain refl
+no_second_bound _ _ (bound_apart is bound more) = cc
+no_second_bound _ _ (bound_joined is bound more) = none_more more where
+  none_more : {operands : List (List ℕ)} → IsArguments (codes "--steps=2" ∷ []) operands None → ⊥
+  none_more (operand plain more) = plain refl
+  none_more (only_operands is all) = cc
+no_second_bound _ _ (only_operands is all) = cc
 
 -- run: no file, no call
 pub no_file : (file : List ℕ) (steps : ℕ) → IsRunCall (codes "run" ∷ []) file steps → ⊥
@@ -187,6 +247,23 @@ a_trap_is_for_the_text = record { usage = omega arith; library = omega arith; si
 pub a_sink_fault_is_not : IsOfText 8 → ⊥
 a_sink_fault_is_not h = h.sink refl
 
+-- run, without a file, is no call
+pub usage_is_told : TellsUsage (codes "run" ∷ []) 1
+usage_is_told = record { told = λ e. no_file; only = λ none. inl refl }
+
+pub no_other_status_tells_it : TellsUsage (codes "run" ∷ []) 0 → ⊥
+no_other_status_tells_it h = neither (h.only no_file) where
+  neither : (◌≡◌ {A = ℕ} 0 1) ⊎ (◌≡◌ {A = ℕ} 0 8) → ⊥
+  neither (inl e) = omega (arith, e)
+  neither (inr e) = omega (arith, e)
+
+-- run x.ac is one
+pub no_usage_of_a_call : TellsUsage (codes "run" ∷ codes "x.ac" ∷ []) 1 → ⊥
+no_usage_of_a_call h = h.told refl (codes "x.ac") 100000 run_a_file
+
+pub another_status_of_a_call : TellsUsage (codes "run" ∷ codes "x.ac" ∷ []) 4
+another_status_of_a_call = record { told = λ e. omega (arith, e); only = λ none. absurd (none (codes "x.ac") 100000 run_a_file) }
+
 -- ---- what was read and written
 
 pub the_text_that_is_told : Gave (Some (codes "ab")) (codes "ab")
@@ -205,7 +282,7 @@ a_front_is_taken = record { front = codes "a"; rest = codes "b"; cut = refl; sho
 
 -- the core printed 7, in one step and nine instructions
 abbrev pub its_end : CoreEnd
-its_end = core_end Finished false [] (record { steps = 1; turn = 1; output = codes "7\n"; journal = [] })
+its_end = core_end Finished false [] (record { steps = 1; turn = 1; output = codes "7\n"; past = []; todo = [] })
 
 abbrev pub its_run : Ended
 its_run = record { steps = 100; start = []; journals = journal [] ∷ journal [] ∷ []; cores = record { core = its_end; instructions = 9 } ∷ [] }
@@ -217,7 +294,9 @@ abbrev e : Entered
 e = record { name = codes "f"; at = 0; params = []; words = 0 }
 
 source_prints_seven : and_then (first_state two f []) (moves (step two 100) 3) ≡ Over (Some its_end)
-source_prints_seven = rw (form (c.Print 0 (sum_value ∷ [])) (Command-F.Print 0 (sum_value ∷ [])) (c.rolls-Print 0 (sum_value ∷ [])), a_sum, decimal_digit 7 (omega arith)) refl
+source_prints_seven = rw (prints, a_sum, finish_by two (c.Print 0 (sum_value ∷ [])) _ prints, decimal_digit 7 (omega arith)) refl where
+  prints : out-Command (c.Print 0 (sum_value ∷ [])) ≡ Command-F.Print 0 (sum_value ∷ [])
+  prints = form (c.Print 0 (sum_value ∷ [])) (Command-F.Print 0 (sum_value ∷ [])) (c.rolls-Print 0 (sum_value ∷ []))
 
 code_prints_seven : and_then (first_flat two_parts e []) (moves (exec two_parts 100) 10) ≡ Over (record { core = Some its_end; count = 9 })
 code_prints_seven = rw (decimal_digit 7 (omega arith)) refl
@@ -262,6 +341,201 @@ as_many_steps_as_there_may_be = omega arith
 
 pub one_step_too_many : most_steps < all_steps two_tree 4000001
 one_step_too_many = omega arith
+
+-- ---- sources that are refused
+
+-- 007 has a bad byte at its second digit, and no tokens
+pub it_has_a_fault : HasFault (codes "007") (l.BadByte 1)
+unfolding piece_at number_at
+it_has_a_fault = record { lexed = a_nought_in_front; only = λ other d. lexes_only 9 0 (codes "007") (Err (l.BadByte 1)) other refl d }
+
+abbrev fault_at : ℕ → Result (List Token) LexFault
+fault_at at = Err (l.BadByte at)
+
+same_fault : {a b : ℕ} → fault_at a ≡ fault_at b → a ≡ b
+same_fault e = cc
+
+pub it_has_no_other : HasFault (codes "007") (l.BadByte 0) → ⊥
+it_has_no_other h = let e : 0 ≡ 1 = same_fault (it_has_a_fault.only (fault_at 0) h.lexed) in omega (arith, e)
+
+pub its_fault_refuses_it : Refuses (codes "007") 100 (r.BadByte 1)
+its_fault_refuses_it = it_has_a_fault
+
+pub it_has_no_tokens : (tokens : List Token) → HasTokens (codes "007") tokens → ⊥
+it_has_no_tokens tokens h = no_tokens tokens h.lexed
+
+pub nothing_is_spelled : (program : Program) → IsSpelled (codes "007") program → ⊥
+nothing_is_spelled program h = it_has_no_tokens h.tokens h.lexed
+
+pub a_fault_calls_for_2 : CallsFor (codes "007") 100 2
+a_fault_calls_for_2 = bad_token (l.BadByte 1) refl (omega arith) it_has_a_fault
+
+-- core a f; lacks a parenthesis at its eighth byte
+pub it_is_unexpected : IsUnexpected (codes "core a f;") 7
+unfolding piece_at name_at word_of mark_of_one mark_of_two
+it_is_unexpected = record {
+  tokens = tokens_in (codes "core a f;");
+  lexed = record { lexed = lexes 9 0 _ _ refl; only = λ other d. lexes_only 9 0 (codes "core a f;") (Ok (tokens_in (codes "core a f;"))) other refl d };
+  unexpected = no_parenthesis;
+}
+
+pub an_unexpected_token_calls_for_2 : CallsFor (codes "core a f;") 100 2
+an_unexpected_token_calls_for_2 = unexpected 7 refl (omega arith) it_is_unexpected
+
+-- what a source spells is one program, whose tokens are neither unexpected nor too deep
+abbrev found : List Token → Result (List Token) LexFault
+found tokens = Ok tokens
+
+same_tokens : {ts us : List Token} → found ts ≡ found us → ts ≡ us
+same_tokens e = cc
+
+one_program : (bytes : List ℕ) (ts : List Token) (tree program : Program) → HasTokens bytes ts → IsTree ts tree → IsSpelled bytes program → tree ≡ program
+one_program bytes ts tree program lexed is s =
+    is.only program s.tree.marks s.tree.spells (sym s.tree.split ∙ same_tokens (lexed.only (found s.tokens) s.lexed.lexed))
+
+its_only_program : (program : Program) → IsSpelled two_text program → two_tree ≡ program
+its_only_program program s = one_program two_text two_tokens two_tree program (record { lexed = two_ac_lexed; only = two_ac_only }) two_ac_parsed s
+
+pub none_is_unexpected : (at : ℕ) → IsUnexpected two_text at → ⊥
+none_is_unexpected at h =
+    not_unexpected two_tokens two_tree (length two_text) at two_ac_parsed
+    (subst (λ (ts : List Token). UnexpectedAt (length two_text) ts at) (same_tokens (two_ac_only (found h.tokens) h.lexed.lexed)) h.unexpected)
+
+pub none_is_too_deep : (at : ℕ) → IsTooDeep two_text at → ⊥
+none_is_too_deep at h =
+    not_deep two_tokens two_tree at two_ac_parsed (subst (λ (ts : List Token). TooDeepAt ts at) (same_tokens (two_ac_only (found h.tokens) h.lexed.lexed)) h.deep)
+
+-- the core alone reaches a function that calls none
+none_reached : (calls : List (List ℕ)) (entry : Option ℕ) (function : ℕ) → entry ≡ None → ReachedFrom calls entry function → ⊥
+none_reached calls entry function e (is_entry _ h) = cc
+none_reached calls entry function e (is_called caller _ h c) = none_reached calls entry caller e h
+
+only_core : (core : ℕ) → reach.Reaches ([] ∷ []) (Some 0 ∷ []) core 0 → core ≡ 0
+only_core zero h = refl
+only_core (suc core) h = absurd (none_reached ([] ∷ []) _ 0 refl h)
+
+same_core : (a b : ℕ) → Some (row.ByOne a) ≡ Some (row.ByOne b) → a ≡ b
+same_core a b e = cc
+
+one_row : AreRows ([] ∷ []) (Some 0 ∷ []) (row.ByOne 0 ∷ [])
+one_row = record { count = refl; each = each } where
+  each : (function : ℕ) (found : Reached) → slice_get (row.ByOne 0 ∷ []) function ≡ Some found → IsReachedBy ([] ∷ []) (Some 0 ∷ []) function found
+  each zero row.ByNone e = cc
+  each zero row.BySeveral e = cc
+  each zero (row.ByOne k) e =
+      subst (λ (k : ℕ). reach.Reaches ([] ∷ []) (Some 0 ∷ []) k 0 × ((core : ℕ) → reach.Reaches ([] ∷ []) (Some 0 ∷ []) core 0 → core ≡ k)) (same_core 0 k e) (is_entry 0 refl, only_core)
+  each (suc function) found e = cc
+
+reached_in : (items : List Item) → entries_of items ≡ Some 0 ∷ [] → all_calls items ≡ [] ∷ [] → AreReached items (row.ByOne 0 ∷ [])
+reached_in items e c = subst (λ (z : List (List ℕ) × List (Option ℕ)). AreRows z.0 z.1 (row.ByOne 0 ∷ [])) (λ j. (sym c j, sym e j)) one_row
+
+-- core a(f); async void f() { x = 1; } breaks rule 2 at its `x`
+abbrev pub undeclared_text : List ℕ
+undeclared_text = codes "core a(f); async void f() { x = 1; }"
+
+abbrev pub undeclared_tree : Program
+undeclared_tree = one_core (s.Assign 28 (expr.Name 28 (codes "x")) (expr.Number 32 (pos 1)) ∷ [])
+
+undeclared_tokens : HasTokens undeclared_text (tokens_in undeclared_text)
+unfolding piece_at name_at word_of number_at mark_of_one mark_of_two
+undeclared_tokens = record { lexed = lexes 99 0 _ _ refl; only = λ other d. lexes_only 99 0 undeclared_text (Ok (tokens_in undeclared_text)) other refl d }
+
+its_least : IsLeastBroken undeclared_tree.items 2 28
+its_least = program_told undeclared_tree.items (row.ByOne 0 ∷ [])
+    (reached_in undeclared_tree.items refl (rw (assign_is 28 (expr.Name 28 (codes "x")) (expr.Number 32 (pos 1)), name_is 28 (codes "x"), number_is 32 (pos 1)) refl))
+    (Some (record { rule = rule.NameIsDeclared; at = 28 })) (rw (assign_is 28 (expr.Name 28 (codes "x")) (expr.Number 32 (pos 1)), name_is 28 (codes "x")) refl)
+
+abbrev pub its_rule : BrokenRule
+its_rule = record { rule = 2; at = 28 }
+
+one_assignment : IsTree (tokens_in undeclared_text) undeclared_tree
+unfolding piece_at name_at word_of number_at mark_of_one mark_of_two program_at item_at many_at stmt_at chain_at unary_at same_word same_mark
+one_assignment = parsed_tree _ _ [] refl
+
+pub it_breaks_a_rule : IsBroken undeclared_text its_rule
+it_breaks_a_rule = record { program = undeclared_tree; spelled = record { tokens = tokens_in undeclared_text; lexed = undeclared_tokens; tree = one_assignment }; least = its_least }
+
+pub a_broken_rule_calls_for_3 : CallsFor undeclared_text 100 3
+a_broken_rule_calls_for_3 = broken its_rule refl (omega arith) it_breaks_a_rule
+
+pub it_is_not_accepted : (program : Program) → IsAccepted undeclared_text program → ⊥
+it_is_not_accepted program h =
+    let clean : BreaksNone undeclared_tree.items =
+    subst (λ (p : Program). BreaksNone p.items) (sym (one_program undeclared_text _ undeclared_tree program undeclared_tokens one_assignment h.spelled)) h.clean in
+    clean its_least.number 2 its_least.is
+
+pub two_ac_breaks_no_rule : (broken_rule : BrokenRule) → IsBroken two_text broken_rule → ⊥
+two_ac_breaks_no_rule broken_rule h =
+    let least : IsLeastBroken two_tree.items broken_rule.rule broken_rule.at =
+    subst (λ (p : Program). IsLeastBroken p.items broken_rule.rule broken_rule.at) (sym (its_only_program h.program h.spelled)) h.least in
+    two_is_clean least.number broken_rule.rule least.is
+
+-- two.ac with a step too many for its core, and with as many as there may be
+pub too_many_steps : IsTooMany two_text 4000001
+too_many_steps = record { program = two_tree; is_accepted = record { spelled = it_is_spelled; clean = two_is_clean }; over = one_step_too_many }
+
+pub not_too_many_steps : IsTooMany two_text 4000000 → ⊥
+not_too_many_steps h =
+    let over : most_steps < all_steps two_tree 4000000 = subst (λ (p : Program). most_steps < all_steps p 4000000) (sym (its_only_program h.program h.is_accepted.spelled)) h.over in
+    omega (arith, over)
+
+pub too_many_steps_call_for_10 : CallsFor two_text 4000001 10
+too_many_steps_call_for_10 = too_many refl (omega arith) too_many_steps
+
+pub it_is_not_within : IsWithin two_text 4000001 two_tree → ⊥
+it_is_not_within h = let le = h.within in omega (arith, le)
+
+pub it_is_not_runnable : IsRunnable two_text 4000001 two_tree → ⊥
+it_is_not_runnable h = it_is_not_within h.is_within
+
+-- core a(f); async void f() { yield; } has a form that is not built
+abbrev pub filing_text : List ℕ
+filing_text = codes "core a(f); file p(\"x\"); async void f() {}"
+
+abbrev pub filing_tree : Program
+filing_tree = record {
+  items = item.Core 0 (codes "a") (codes "f") ∷ item.File 11 (codes "p") (codes "x")
+      ∷ item.Function (record { at = 24; is_async = true; gives_int = false; name = codes "f"; params = []; body = [] }) ∷ [];
+}
+
+a_file : IsTree (tokens_in filing_text) filing_tree
+unfolding piece_at name_at word_of number_at mark_of_one mark_of_two program_at item_at many_at stmt_at chain_at unary_at same_word same_mark
+a_file = parsed_tree _ _ [] refl
+
+filing_tokens : HasTokens filing_text (tokens_in filing_text)
+unfolding piece_at name_at word_of number_at mark_of_one mark_of_two
+filing_tokens = record { lexed = lexes 99 0 _ _ refl; only = λ other d. lexes_only 99 0 filing_text (Ok (tokens_in filing_text)) other refl d }
+
+a_file_breaks_none : BreaksNone filing_tree.items
+a_file_breaks_none = program_told filing_tree.items (row.ByOne 0 ∷ []) (reached_in filing_tree.items refl refl) None refl
+
+pub it_is_not_built : IsNotBuilt filing_text 100 11
+it_is_not_built = record {
+  program = filing_tree;
+  is_within = record {
+    is_accepted = record { spelled = record { tokens = tokens_in filing_text; lexed = filing_tokens; tree = a_file }; clean = a_file_breaks_none };
+    within = omega arith;
+  };
+  unbuilt = refl;
+}
+
+pub what_is_not_built_calls_for_15 : CallsFor filing_text 100 15
+what_is_not_built_calls_for_15 = not_built 11 refl (omega arith) it_is_not_built
+
+pub all_of_two_ac_is_built : (at : ℕ) → IsNotBuilt two_text 100 at → ⊥
+all_of_two_ac_is_built at h =
+    let none : unbuilt_nodes h.program.items ≡ [] = subst (λ (p : Program). unbuilt_nodes p.items ≡ []) (its_only_program h.program h.is_within.is_accepted.spelled) two_is_built in
+    let e : slice_get (unbuilt_nodes h.program.items) 0 ≡ None = ap (λ (places : List ℕ). slice_get places 0) none in
+    let some = h.unbuilt in cc (e, some)
+
+-- a source of one byte past the limit
+pub it_is_not_short : (bytes : List ℕ) → length bytes ≡ 1048577 → IsShort bytes → ⊥
+it_is_not_short bytes e le = omega (arith, e, le)
+
+pub it_calls_for_10 : (bytes : List ℕ) → length bytes ≡ 1048577 → CallsFor bytes 100 10
+it_calls_for_10 bytes e = over_long refl (omega (arith, e))
+
+-- ---- a report
 
 abbrev pub its_report : List ℕ
 its_report = codes "a: finished after 1 steps, 9 instructions\n7\n"
@@ -336,6 +610,16 @@ its_first_byte_is_taken = record {
   taken = record { front = codes "a"; rest = codes ": finished after 1 steps, 9 instructions\n7\n"; cut = refl; short = omega arith; taken = refl };
 }
 
+-- the status says so, and no other does
+pub a_fault_of_the_sink : TellsSink its_sink (sink_with (codes "a") 1) 8
+a_fault_of_the_sink = record { told = λ e. omega arith; only = λ n. absurd (n refl) }
+
+pub no_fault_of_the_sink : TellsSink its_sink (sink_with its_report 0) 8 → ⊥
+no_fault_of_the_sink h = let le = h.told refl in omega (arith, le)
+
+pub a_fault_that_is_not_told : TellsSink its_sink (sink_with (codes "a") 1) 0 → ⊥
+a_fault_that_is_not_told h = let e = h.only (omega arith) in omega (arith, e)
+
 -- memory was refused: two.ac was opened, nothing is written
 pub memory_is_refused : GaveUp its_words its_library its_library_after None its_sink its_sink
 memory_is_refused = record { file = codes "two.ac"; steps = 100; is_call = its_call; is_read = its_reading; no_run = refl; nothing = refl }
@@ -352,3 +636,179 @@ no_fault_of_the_library h = let e = h.only (omega arith) (omega arith) in omega 
 
 pub its_status_is_called_for : CallsFor two_text 100 0
 its_status_is_called_for = has_run two_tree its_run refl (omega arith) it_is_runnable it_is_a_run
+
+pub it_calls_for_no_other : CallsFor two_text 100 2 → ⊥
+it_calls_for_no_other h = let e : 0 ≡ 2 = calls_once two_text 100 0 2 its_status_is_called_for h in omega (arith, e)
+
+-- ---- what is none of these
+
+-- a run with another bound, and one whose core waits
+pub not_with_another_bound : IsRunOf two_tree 99 [] its_run → ⊥
+not_with_another_bound h = let e = h.steps in omega (arith, e)
+
+abbrev pub stalled : MachineEnd
+stalled = record { core = record its_end { word = Stalled }; instructions = 9 }
+
+pub its_core_has_ended : HaveEnded its_run.cores
+its_core_has_ended = All-from_recursion (λ (end : MachineEnd). HasEnded end.core.word) its_run.cores (tt, tt)
+
+pub a_stalled_core_has_not : HaveEnded (stalled ∷ []) → ⊥
+a_stalled_core_has_not h = (recursion_from_All (λ (end : MachineEnd). HasEnded end.core.word) (stalled ∷ []) h).0
+
+pub a_core_that_waits_is_not_quiet : IsQuiet (stalled ∷ []) [] → ⊥
+a_core_that_waits_is_not_quiet h = no (recursion_from_All (λ (end : MachineEnd). HasEnded end.core.word ⊎ (end.core.idle ≡ true)) (stalled ∷ []) h.cores).0 where
+  no : ⊥ ⊎ (false ≡ true) → ⊥
+  no (inl x) = x
+  no (inr e) = cc
+
+pub its_core_is_run : IsCoreRun two_tree 0 100 (journal []) (record { core = its_end; instructions = 9 })
+its_core_is_run = it_is_a_run.cores.0
+
+pub not_with_another_status : IsDone two_text 100 (record its_doing { status = record { number = 4 } }) → ⊥
+not_with_another_status h = let e : 4 ≡ 0 = h.status in omega (arith, e)
+
+pub no_run_is_kept_without_memory : GaveUp its_words its_library its_library_after (Some its_run) its_sink its_sink → ⊥
+no_run_is_kept_without_memory h = let e = h.no_run in cc
+
+pub a_call_is_one : IsNoCall its_words → ⊥
+a_call_is_one none = none (codes "two.ac") 100 its_call
+
+pub the_whole_is_no_front : TookFront (Some []) (Some (codes "ab")) (codes "ab") → ⊥
+the_whole_is_no_front h =
+    let all : 2 ≡ length (h.front ++ h.rest) = ap (λ (bytes : List ℕ). length bytes) h.cut in
+    let taken : 2 ≡ length h.front = ap (λ (bytes : List ℕ). length bytes) h.taken in
+    let some = h.short in omega (arith, all, taken, some, length-append h.front h.rest)
+
+pub two_bytes_are_taken : TookBytes (Some (codes "abc")) (Some (codes "c")) 2
+two_bytes_are_taken = record { taken = codes "ab"; count = refl; consumed = refl }
+
+pub three_bytes_are_not : TookBytes (Some (codes "abc")) (Some (codes "c")) 3 → ⊥
+three_bytes_are_not h =
+    let all : 3 ≡ length (h.taken ++ codes "c") = ap (λ (bytes : List ℕ). length bytes) h.consumed in
+    let count = h.count in omega (arith, all, count, length-append h.taken (codes "c"))
+
+-- ---- its text decides
+
+-- its words are one call alone
+first_word : {v w : List ℕ} {vs ws : List (List ℕ)} → v ∷ vs ≡ w ∷ ws → v ≡ w
+first_word e = cc
+
+other_words : {v w : List ℕ} {vs ws : List (List ℕ)} → v ∷ vs ≡ w ∷ ws → vs ≡ ws
+other_words e = cc
+
+its_last_word : {rest : List (List ℕ)} {given : Option ℕ} → codes "--steps=100" ∷ [] ≡ rest → IsArguments rest [] given → given ≡ Some 100
+its_last_word e no_more = cc
+its_last_word e (bound_apart is bound more) = cc
+its_last_word e (bound_joined {word} {value} {words} {operands} {steps} is bound more) =
+    let w : codes "--steps=100" ≡ word = first_word e in
+    let v : codes "100" ≡ value = same_value (w ∙ is) in
+    ap Some (bound.number.value ∙ ap (λ (ds : List ℕ). digits_value 10 ds) (sym v)) where
+      same_value : {v : List ℕ} → codes "--steps=100" ≡ codes "--steps=" ++ v → codes "100" ≡ v
+      same_value e = cc
+its_last_word {rest} e (only_operands {word} {words} is all) = absurd (no_dashes (first_word e ∙ is)) where
+  no_dashes : codes "--steps=100" ≡ codes "--" → ⊥
+  no_dashes e = cc
+
+its_arguments : {rest : List (List ℕ)} {given : Option ℕ} (name : List ℕ) → codes "two.ac" ∷ codes "--steps=100" ∷ [] ≡ rest → IsArguments rest (name ∷ []) given
+    → (name ≡ codes "two.ac") × (given ≡ Some 100)
+its_arguments name e (operand {word} {words} plain more) = (sym (first_word e), its_last_word (other_words e) more)
+its_arguments name e (bound_apart is bound more) = absurd (no_bound (first_word e ∙ is)) where
+  no_bound : codes "two.ac" ≡ codes "--steps" → ⊥
+  no_bound e = cc
+its_arguments name e (bound_joined {word} {value} is bound more) = absurd (no_bound (first_word e ∙ is)) where
+  no_bound : codes "two.ac" ≡ codes "--steps=" ++ value → ⊥
+  no_bound e = cc
+its_arguments name e (only_operands is all) = absurd (no_dashes (first_word e ∙ is)) where
+  no_dashes : codes "two.ac" ≡ codes "--" → ⊥
+  no_dashes e = cc
+
+its_only_call : (name : List ℕ) (bound : ℕ) → IsRunCall its_words name bound → (name ≡ codes "two.ac") × (bound ≡ 100)
+its_only_call name bound r =
+    let a = its_arguments name (other_words r.command.form) r.command.arguments in (a.0, r.bound ∙ ap (λ (given : Option ℕ). unwrap_or given 100000) a.1)
+
+pub it_is_decided : IsDecided its_words its_library its_library_after 0
+it_is_decided = is_decided its_words (codes "two.ac") 100 its_library its_library_after 0 (Some its_run) its_sink (sink_with its_report 0) its_call
+    (λ well kept. record { text = its_report; due = source two_text its_reading refl (omega arith) (ran its_doing refl refl refl it_is_done); taken = refl })
+    its_only_call (record { usage = omega arith; library = omega arith; sink = omega arith; memory = omega arith })
+
+-- no other status
+pub it_is_not_decided_otherwise : IsDecided its_words its_library its_library_after 4 → ⊥
+it_is_not_decided_otherwise h =
+    let e : 4 ≡ 0 = (h.only (codes "two.ac") two_text 100 its_call refl 0).1 its_status_is_called_for in omega (arith, e)
+
+-- ---- its code
+
+two_is_same : IsSame two_parts (resolved two_tree)
+two_is_same =
+    is_same two_tree (resolved two_tree) refl two_is_built (all_in_place two_tree two_is_clean (spelled_shape two_tree two_ac_parsed.marks two_ac_parsed.spells)) two_parts two_is_compiled
+
+pub it_is_built : IsBuilt two_text 100 two_parts
+it_is_built = record {
+  program = two_tree;
+  is_runnable = it_is_runnable;
+  is_code = two_is_compiled;
+  is_same = two_is_same;
+  one_core = refl;
+  alone = All-from_recursion (λ (instr : Instr). is_alone instr ≡ true) two_parts.instrs (refl, (refl, (refl, (refl, (refl, (refl, (refl, (refl, (refl, tt)))))))));
+}
+
+pub no_code_without_its_core : IsBuilt two_text 100 (record two_parts { entries = [] }) → ⊥
+no_code_without_its_core h = let e = h.one_core in omega (arith, e)
+
+-- a code that prints nothing comes to another end
+abbrev pub silent : Parts
+silent = record two_parts { instrs = i.Push (pos 0) ∷ i.Ret ∷ [] }
+
+-- how many bytes were printed
+abbrev printed_by : Option CoreEnd → ℕ
+printed_by None = 0
+printed_by (Some end) = length end.output
+
+abbrev printed : Move Flat FlatEnd → ℕ
+printed (On s) = 0
+printed (Over end) = printed_by end.core
+
+same_function : (entry : ℕ) (function : Entered) → slice_get (0 ∷ []) 0 ≡ Some entry → slice_get (e ∷ []) entry ≡ Some function → function ≡ e
+same_function zero function at_core at_entry = cc
+same_function (suc n) function at_core at_entry = cc
+
+silent_prints_nothing : (count k : ℕ) → Over (record { core = Some its_end; count = count }) ≡ and_then (first_flat silent e []) (moves (exec silent 100) k) → ⊥
+silent_prints_nothing count zero h = let n : 2 ≡ 0 = ap printed h in omega (arith, n)
+silent_prints_nothing count (suc zero) h = let n : 2 ≡ 0 = ap printed h in omega (arith, n)
+silent_prints_nothing count (suc (suc zero)) h = let n : 2 ≡ 0 = ap printed h in omega (arith, n)
+silent_prints_nothing count (suc (suc (suc k))) h = let n : 2 ≡ 0 = ap printed h in omega (arith, n)
+
+pub another_code_is_not_the_same : IsSame silent two → ⊥
+another_code_is_not_the_same h = let r = (h 0 100 [] (Some its_end)).0 it_replays in no_run r.0 r.1 where
+  no_run : (count : ℕ) → Runs silent 0 100 [] (record { core = Some its_end; count = count }) → ⊥
+  no_run count r = silent_prints_nothing count r.comes.0 (rw (same_function r.begins.entry r.function r.begins.entry_is r.begins.function_is) at r.comes.1)
+
+-- ---- its machine, before the first instruction and at its end
+
+abbrev pub machine : Parts → Move Flat FlatEnd → Machine
+machine code state = record { code = code; core = 0; bound = 100; journal = []; state = state }
+
+abbrev pub at_first : Move Flat FlatEnd
+at_first = first_flat two_parts e []
+
+abbrev pub at_last : Move Flat FlatEnd
+at_last = Over (record { core = Some its_end; count = 9 })
+
+pub it_begins : IsFirst (machine two_parts at_first)
+it_begins = record { function = e; begins = record { entry = 0; entry_is = refl; function_is = refl }; state = refl }
+
+pub it_does_not_begin_at_its_end : IsFirst (machine two_parts at_last) → ⊥
+it_does_not_begin_at_its_end m =
+    let h : at_last ≡ at_first = rw (same_function m.begins.entry m.function m.begins.entry_is m.begins.function_is) at m.state in let n : 2 ≡ 0 = ap printed h in omega (arith, n)
+
+pub it_comes_to_its_end : IsOnItsWay (machine two_parts at_last)
+it_comes_to_its_end = record { function = e; begins = record { entry = 0; entry_is = refl; function_is = refl }; goes = (10, sym code_prints_seven) }
+
+pub another_does_not_come_there : IsOnItsWay (machine silent at_last) → ⊥
+another_does_not_come_there m = silent_prints_nothing 9 m.goes.0 (rw (same_function m.begins.entry m.function m.begins.entry_is m.begins.function_is) at m.goes.1)
+
+pub it_is_the_same_core : IsSameCore (machine two_parts at_first) (machine two_parts at_last)
+it_is_the_same_core = record { code = refl; core = refl; bound = refl; journal = refl }
+
+pub it_is_not_with_another_bound : IsSameCore (machine two_parts at_first) (record (machine two_parts at_first) { bound = 99 }) → ⊥
+it_is_not_with_another_bound h = let e = h.bound in omega (arith, e)

@@ -17,7 +17,7 @@ use Rattle.ac_compile.specs.Unbuilt.{unbuilt_nodes}
 use Rattle.ac_program.specs.declared.refusal.Refusal.{Refusal}
 use Rattle.ac_program.specs.declared.refusal.Refusal.TheVariants as r
 use Rattle.stack_code.specs.Parts.{Parts}
-use Rattle.stack_code.specs.Sequential.{IsSequential}
+use Rattle.stack_code.specs.Alone.{IsAlone}
 
 -- ---- tokens
 
@@ -122,7 +122,7 @@ pub record IsBuilt (source : List ℕ) (bound : ℕ) (code : Parts) : Type 0 whe
   pub is_code : IsCodeOf program code
   pub is_same : IsSame code (resolved program)
   pub one_core : length code.entries ≡ 1
-  pub sequential : IsSequential code
+  pub alone : IsAlone code
 
 -- the names of the cores of a program
 abbrev pub names_of : Program → List (List ℕ)

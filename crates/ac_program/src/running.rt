@@ -4,7 +4,7 @@ ghost use Rattle.std.specs.Prelude.{◌≡◌, [], ◌∷◌, length, IfOk};
 ghost use Rattle.ac_tree.specs.declared.item.Program.{Program};
 ghost use Rattle.ac_resolve.specs.Resolution.{resolved};
 ghost use Rattle.ac_compile.specs.Compiled.{IsCodeOf};
-ghost use Rattle.stack_code.specs.Sequential.{IsSequential};
+ghost use Rattle.stack_code.specs.Alone.{IsAlone};
 ghost use Rattle.ac_translation.specs.Same.{IsSame};
 ghost use Rattle.ac_program.specs.Run.{HaveEnded, IsRunOf};
 ghost use Rattle.ac_program.specs.inner.Journals.{AreWithWorker};
@@ -45,7 +45,7 @@ fn only_end(alloc: Global, end: MachineEnd) -> Result<List<MachineEnd>, NoMemory
 /// Runs the only core of a code to its end, with a bound on its steps.
 pub fn run(alloc: Global, code: &Code, steps: u64) -> Result<Ended, NoMemory>
     requires one { length code.now.entries ≡ 1 }
-    requires sequential { IsSequential code.now }
+    requires alone { IsAlone code.now }
     ensures run { IfOk result (λ ended.
         (program : Program) → IsCodeOf program code.now → IsSame code.now (resolved program) → IsRunOf program steps [] ended) }
     ensures ends { IfOk result (λ ended. HaveEnded ended.cores) }

@@ -1,26 +1,22 @@
 -- What the items of a program mean is there, by its number.
-use Rattle.std.proofs.Common.{◌≡◌, ℕ, zero, suc, ◌+◌, ◌<◌, ◌≤◌, List, [], ◌∷◌, ◌++◌, length, Option, Some, None, Bool, true, false, inl, inr, refl, sym, ap, ◌∙◌, subst, length-append, arith}
-use Rattle.std.specs.Prelude.{ℤ, slice_get}
+use Rattle.std.proofs.Common.{◌≡◌, ℕ, ◌+◌, ◌<◌, ◌≤◌, List, [], ◌∷◌, ◌++◌, length, Some, None, refl, sym, ap, ◌∙◌, length-append, arith}
+use Rattle.std.specs.Prelude.{slice_get}
 use Rattle.ac_tree.specs.declared.item.Item.{Item}
 use Rattle.ac_tree.specs.declared.item.Item.TheVariants as i
-use Rattle.ac_tree.specs.declared.item.Function as tree
 use Rattle.ac_names.specs.declared.meaning.Meaning.{Meaning}
 use Rattle.ac_names.specs.declared.past.Counts.{Counts}
 use Rattle.ac_names.specs.declared.past.Past.{Past}
-use Rattle.ac_names.specs.Scopes.{Declaration, visible}
+use Rattle.ac_names.specs.Scopes.{Declaration}
 use Rattle.ac_names.specs.Items.{item_name, item_meaning, counted, past_after, past_all}
 use Rattle.ac_names.specs.Numbered.{file_paths}
 use Rattle.ac_names.proofs.Visible.{AllMean, added_mean}
-use Rattle.ac_types.specs.declared.numbered.Signature.{Signature}
 use Rattle.ac_types.specs.declared.numbered.Tables.{Tables}
 use Rattle.ac_types.specs.Items.{signatures}
-use Rattle.ac_commands.specs.declared.program.Function.{Function}
-use Rattle.ac_commands.specs.declared.program.Channel.{Channel}
-use Rattle.ac_commands.specs.declared.program.Core.{Core}
 use Rattle.ac_commands.specs.declared.program.Resolved.{Resolved}
 use Rattle.ac_resolve.specs.Commands.{Texts}
 use Rattle.ac_resolve.specs.Resolution.{cores_in, functions_in, function_in, function_texts, channels_in}
-use Rattle.ac_resolve.proofs.Within.{IsSigned, IsWithin}
+use Rattle.ac_resolve.specs.InPlace.{FrameRound}
+use Rattle.ac_resolve.proofs.Within.{IsWithin}
 
 -- ---- places in a list that is told from its front on
 
@@ -106,24 +102,24 @@ module _ (program : Resolved) (t : Tables) (s : List (List Declaration)) where
       record { signatures = h.signatures; functions = h.functions; channels = h.channels; files = h.files; cores = told_on _ _ _ _ h.cores }
 
   -- what an item means is there
-  item_there : (params : List Bool) (frames : List ℕ) (c : Counts) (x : Item) (xs : List Item) (ts : Texts) → AreTold c (x ∷ xs) ts → (counted c x).slots ≤ program.slots
-      → IsWithin program t params frames 0 (item_meaning c x)
-  item_there params frames c (i.Global at name None value) xs ts h le = omega (arith, le)
-  item_there params frames c (i.Global at name (Some size) value) xs ts h le = le
-  item_there params frames c (i.Function f) xs ts h le = record {
+  item_there : (frames : List FrameRound) (c : Counts) (x : Item) (xs : List Item) (ts : Texts) → AreTold c (x ∷ xs) ts → (counted c x).slots ≤ program.slots
+      → IsWithin program t frames 0 (item_meaning c x)
+  item_there frames c (i.Global at name None value) xs ts h le = omega (arith, le)
+  item_there frames c (i.Global at name (Some size) value) xs ts h le = le
+  item_there frames c (i.Function f) xs ts h le = record {
     signature = _;
     told = told_here _ _ _ _ h.signatures;
     function = function_in f s ts;
     there = told_here _ _ _ _ h.functions;
     params = refl;
   }
-  item_there params frames c (i.Channel at name from to cap) xs ts h le = told_below _ _ _ _ h.channels
-  item_there params frames c (i.File at name path) xs ts h le = told_below _ _ _ _ h.files
-  item_there params frames c (i.Core at name entry) xs ts h le = told_below _ _ _ _ h.cores
+  item_there frames c (i.Channel at name from to cap) xs ts h le = told_below _ _ _ _ h.channels
+  item_there frames c (i.File at name path) xs ts h le = told_below _ _ _ _ h.files
+  item_there frames c (i.Core at name entry) xs ts h le = told_below _ _ _ _ h.cores
 
-  pub items_there : (params : List Bool) (frames : List ℕ) (q : Past) (xs : List Item) (ts : Texts) → AreTold q.counts xs ts
-      → (past_all q xs).counts.slots ≤ program.slots → EachMeans (IsWithin program t params frames 0) q.counts xs
-  items_there params frames q [] ts h le = tt
-  items_there params frames q (x ∷ xs) ts h le =
+  pub items_there : (frames : List FrameRound) (q : Past) (xs : List Item) (ts : Texts) → AreTold q.counts xs ts
+      → (past_all q xs).counts.slots ≤ program.slots → EachMeans (IsWithin program t frames 0) q.counts xs
+  items_there frames q [] ts h le = tt
+  items_there frames q (x ∷ xs) ts h le =
       let more = slots_more (past_after q x) xs in
-      (item_there params frames q.counts x xs ts h (omega (arith, more, le)), items_there params frames (past_after q x) xs (texts_after x ts) (told_after q.counts x xs ts h) le)
+      (item_there frames q.counts x xs ts h (omega (arith, more, le)), items_there frames (past_after q x) xs (texts_after x ts) (told_after q.counts x xs ts h) le)

@@ -2,7 +2,8 @@ pub mod Shapes
 pub mod Rooms
 pub mod Scoped
 pub mod Functions
-pub mod Examples
+pub mod Uses
+pub mod Stretches
 pub mod Forms
 pub mod Within
 pub mod ValuesInPlace
@@ -10,3 +11,4 @@ pub mod Tellings
 pub mod BodiesInPlace
 pub mod ItemsInPlace
 pub mod ProgramInPlace
+pub mod Examples

@@ -1,11 +1,10 @@
 -- Expressions that break no rule name only what is there.
-use Rattle.std.proofs.Common.{◌≡◌, ℕ, zero, suc, ◌+◌, ◌-◌, ◌<◌, ◌≤◌, ℤ, pos, List, [], ◌∷◌, ◌++◌, length, map, Option}
+use Rattle.std.proofs.Common.{◌≡◌, ℕ, ◌+◌, ◌-◌, ◌<◌, ◌≤◌, pos, List, [], ◌∷◌, ◌++◌, length, map, Option}
 use Rattle.std.proofs.Common.{Some, None, Bool, true, false, inl, inr, refl, sym, ap, ◌∙◌, subst, length-append, arith}
-use Rattle.std.specs.Prelude.{nat_eq, not, slice_get}
+use Rattle.std.specs.Prelude.{nat_eq, slice_get}
 use Rattle.std.proofs.lemmas.Bool.Decides.{nat_tests}
+use Rattle.std.proofs.lemmas.Option.{slice_get_within}
 use Rattle.ac_tree.specs.declared.expr.Expr.{Expr}
-use Rattle.ac_tree.specs.declared.expr.Expr.TheVariants as e
-use Rattle.ac_tree.specs.declared.expr.Expr.TheOpen.{Expr-F}
 use Rattle.ac_tree.specs.declared.expr.Link.{Link}
 use Rattle.ac_tree.specs.Shape as shape
 use Rattle.ac_tree.specs.Shape.{IsExpr, AreLinks as LinksShaped, IsPlace as PlaceShaped, IsCall, AreExprs}
@@ -17,37 +16,35 @@ use Rattle.ac_names.specs.Scopes.{Declaration, visible}
 use Rattle.ac_types.specs.declared.around.Around.{Around}
 use Rattle.ac_types.specs.declared.around.Position.{Position}
 use Rattle.ac_types.specs.declared.around.Position.TheVariants as po
-use Rattle.ac_types.specs.declared.numbered.Callee.{Callee}
 use Rattle.ac_types.specs.declared.numbered.Signature.{Signature}
 use Rattle.ac_types.specs.declared.numbered.Tables.{Tables}
 use Rattle.ac_types.specs.Around.{is_array_position, position_of}
-use Rattle.ac_types.specs.Tables.{callee, callee_of, takes_array, is_array_in, ends_named}
+use Rattle.ac_types.specs.Tables.{callee, callee_of, takes_array, is_array_in}
 use Rattle.ac_types.specs.Nodes.{Node}
-use Rattle.ac_types.specs.Judged.{Tests, is_misplaced, is_miscounted, value_tests, name_tests, index_tests, call_tests, channel_tests, file_tests, sends_away, takes_away}
-use Rattle.ac_types.specs.Expressions.{one_node, join_nodes, expr_nodes, links_step, args_step, args_all, values_all, value_all}
+use Rattle.ac_types.specs.Judged.{Tests, is_misplaced, is_miscounted, name_tests, index_tests, call_tests, channel_tests, file_tests}
+use Rattle.ac_types.specs.Expressions.{one_node, join_nodes, expr_nodes, links_step, args_step, values_all, value_all}
 use Rattle.ac_types.specs.Reached.{IsBrokenRule}
 use Rattle.ac_types.proofs.Cleans.{AllClean, clean_sooner, clean_later, not_false}
 use Rattle.ac_types.proofs.Forms.{ExprNodes, link_nodes}
+use Rattle.ac_commands.specs.declared.value.Action.TheVariants as act
+use Rattle.ac_commands.specs.declared.value.Place.{Place}
 use Rattle.ac_commands.specs.declared.value.Place.TheVariants as pl
 use Rattle.ac_commands.specs.declared.value.Array.TheVariants as ar
 use Rattle.ac_commands.specs.declared.value.Value.{Value}
+use Rattle.ac_commands.specs.declared.value.Value.TheVariants as v
 use Rattle.ac_commands.specs.declared.value.ValueLink.{ValueLink}
-use Rattle.ac_commands.specs.declared.effect.Argument.{Argument}
-use Rattle.ac_commands.specs.declared.effect.Argument.TheVariants as g
-use Rattle.ac_commands.specs.declared.effect.Effect.{Effect}
-use Rattle.ac_commands.specs.declared.effect.Effect.TheVariants as f
-use Rattle.ac_commands.specs.declared.effect.Target.{Target}
+use Rattle.ac_commands.specs.declared.command.Target.{Target}
 use Rattle.ac_commands.specs.declared.program.Resolved.{Resolved}
-use Rattle.ac_resolve.specs.Places.{constant_value, place_of, array_of, name_argument, function_of, channel_of, file_of}
-use Rattle.ac_resolve.specs.Computed.{Reading, InScopes, read, link_in, links_step as reading_links, arguments_step}
-use Rattle.ac_resolve.specs.Computed.{value_in, argument_in, target_in, effect_in, values_in, test_in, initial_in, operand_in}
+use Rattle.ac_resolve.specs.Places.{constant_value, place_of, array_of, name_argument, array_at, reference_to, function_of, channel_of, file_of}
+use Rattle.ac_resolve.specs.Computed.{Reading, InScopes, read, link_in, links_step as reading_links, arguments_step, file_operands}
+use Rattle.ac_resolve.specs.Computed.{value_in, argument_in, target_in, values_in, some_in, initial_in}
 use Rattle.ac_resolve.proofs.Forms as reads
 use Rattle.ac_types.proofs.Forms as nodes
-use Rattle.ac_resolve.specs.InPlace.{Round, IsPlace, global, local, IsArray, global_array, local_array, parameter, IsValue}
-use Rattle.ac_resolve.specs.InPlace.{number, variable, element, unary, chain, AreLinks, no_link, one_link, AreValues}
-use Rattle.ac_resolve.specs.InPlace.{IsTest, no_test, some_test, IsArgument, by_value, by_reference, AreArguments, no_argument}
-use Rattle.ac_resolve.specs.InPlace.{one_argument, IsTarget, to_variable, to_element, IsEffect, only_value, call, send, recv}
-use Rattle.ac_resolve.specs.InPlace.{read as reads_file, write as writes_file, IsOperand, no_operand, some_operand}
+use Rattle.ac_resolve.specs.InPlace.{Round, AsInt, AsReference, Holds, IsPlace, global, local, IsArray, global_array, local_array, parameter}
+use Rattle.ac_resolve.specs.InPlace.{Want, AnInt, AnArray, OneInt, want_of, IsOne, call, send, recv, read as reads_file, write as writes_file}
+use Rattle.ac_resolve.specs.InPlace.{IsValue, number, variable, reference, one_int, element, part, unary, chain, acts, AreLinks, no_link, one_link}
+use Rattle.ac_resolve.specs.InPlace.{AreOperands, no_operand, one_operand, AreInts, IsTest, no_test, some_test, IsTarget, to_variable, to_element}
+use Rattle.ac_resolve.proofs.Stretches.{hold_first}
 use Rattle.ac_resolve.proofs.Within.{IsSigned, IsReached, IsWithin, AllWithin}
 
 abbrev pub AreClean : Tests → Type 0
@@ -69,12 +66,23 @@ second_true false b h = h
 
 -- ---- what a name means where it stands
 
-module _ (program : Resolved) (t : Tables) (r : Round) (depth : ℕ) (outermost : depth + 1 ≡ length r.frames) where
-  abbrev AllOf : Option Meaning → Type 0
-  AllOf o = (what : Meaning) → o ≡ Some what → IsWithin program t r.params r.frames depth what
+-- a parameter is declared in no async body
+no_less : (depth : ℕ) → depth - 0 ≡ depth
+no_less depth = omega arith
 
-  local_there : (there slot : ℕ) → IsReached r.frames depth there (slot + 1) → IsPlace program r (pl.Local (depth - there) slot)
-  local_there there slot h = let le = h.within in local (depth - there) slot (omega (arith, le))
+module _ (program : Resolved) (t : Tables) (r : Round) (depth : ℕ) where
+  abbrev AllOf : Option Meaning → Type 0
+  AllOf o = (what : Meaning) → o ≡ Some what → IsWithin program t r.frames depth what
+
+  local_there : (there slot : ℕ) → IsReached r.frames depth there slot 1 AsInt → IsPlace program r (pl.Local (depth - there) slot)
+  local_there there slot h = local (depth - there) slot h.level (hold_first _ slot AsInt h.hold)
+
+  array_reached : (there slot len : ℕ) → IsReached r.frames depth there slot len AsInt → IsArray program r (ar.Local (depth - there) slot len)
+  array_reached there slot len h = local_array (depth - there) slot len h.level h.hold.room h.hold.each
+
+  param_reached : (slot : ℕ) → IsReached r.frames depth 0 slot 1 AsReference → IsArray program r (ar.Param depth slot)
+  param_reached slot h =
+      subst (λ level. IsArray program r (ar.Param level slot)) (no_less depth) (parameter (depth - 0) slot h.level (hold_first _ slot AsReference h.hold))
 
   pub place_there : (o : Option Meaning) (w : Position) → IsPlain w → AllOf o → AreClean (name_tests o w) → IsPlace program r (place_of o depth)
   place_there None w plain h c = absurd (c 2 (inl (refl, refl)))
@@ -85,8 +93,8 @@ module _ (program : Resolved) (t : Tables) (r : Round) (depth : ℕ) (outermost 
   pub array_there : (o : Option Meaning) → AllOf o → (is_other ki.Array o ≡ true → ⊥) → (o ≡ None → ⊥) → IsArray program r (array_of o depth)
   array_there None h c n = absurd (n refl)
   array_there (Some (m.GlobalArray slot len)) h c n = global_array slot len (h (m.GlobalArray slot len) refl)
-  array_there (Some (m.LocalArray there slot len)) h c n = local_array (depth - there) slot len (h (m.LocalArray there slot len) refl).within
-  array_there (Some (m.ArrayParam slot)) h c n = parameter depth slot outermost (h (m.ArrayParam slot) refl)
+  array_there (Some (m.LocalArray there slot len)) h c n = array_reached there slot len (h (m.LocalArray there slot len) refl)
+  array_there (Some (m.ArrayParam slot)) h c n = param_reached slot (h (m.ArrayParam slot) refl)
   array_there (Some what) h c n = absurd (c refl)
 
   pub index_there : (o : Option Meaning) (w : Position) → AllOf o → AreClean (index_tests o w) → IsArray program r (array_of o depth)
@@ -97,22 +105,37 @@ module _ (program : Resolved) (t : Tables) (r : Round) (depth : ℕ) (outermost 
     by false e = cc
 
   -- a name as an argument
-  value_argument : (o : Option Meaning) → AllOf o → AreClean (name_tests o po.Value) → IsArgument program r false (name_argument o depth)
+  value_argument : (o : Option Meaning) → AllOf o → AreClean (name_tests o po.Value) → IsValue program r AnInt (name_argument o depth)
   value_argument None h c = absurd (c 2 (inl (refl, refl)))
-  value_argument (Some (m.Global slot)) h c = by_value _ (variable _ (global slot (h (m.Global slot) refl)))
-  value_argument (Some (m.Local there slot)) h c = by_value _ (variable _ (local_there there slot (h (m.Local there slot) refl)))
+  value_argument (Some (m.Global slot)) h c = variable _ (global slot (h (m.Global slot) refl))
+  value_argument (Some (m.Local there slot)) h c = variable _ (local_there there slot (h (m.Local there slot) refl))
   value_argument (Some what) h c = absurd (c 4 (inr (inl (refl, refl))))
 
-  array_argument : (o : Option Meaning) → AllOf o → AreClean (name_tests o po.Array) → IsArgument program r true (name_argument o depth)
+  array_argument : (o : Option Meaning) → AllOf o → AreClean (name_tests o po.Array) → IsValue program r AnArray (name_argument o depth)
   array_argument None h c = absurd (c 2 (inl (refl, refl)))
-  array_argument (Some (m.GlobalArray slot len)) h c = by_reference _ (global_array slot len (h (m.GlobalArray slot len) refl))
-  array_argument (Some (m.LocalArray there slot len)) h c = by_reference _ (local_array (depth - there) slot len (h (m.LocalArray there slot len) refl).within)
-  array_argument (Some (m.ArrayParam slot)) h c = by_reference _ (parameter depth slot outermost (h (m.ArrayParam slot) refl))
+  array_argument (Some (m.GlobalArray slot len)) h c = reference _ (global_array slot len (h (m.GlobalArray slot len) refl))
+  array_argument (Some (m.LocalArray there slot len)) h c = reference _ (array_reached there slot len (h (m.LocalArray there slot len) refl))
+  array_argument (Some (m.ArrayParam slot)) h c = reference _ (param_reached slot (h (m.ArrayParam slot) refl))
   array_argument (Some what) h c = absurd (c 4 (inr (inl (refl, refl))))
 
-  pub argument_there : (b : Bool) (o : Option Meaning) → AllOf o → AreClean (name_tests o (position_of b)) → IsArgument program r b (name_argument o depth)
+  pub argument_there : (b : Bool) (o : Option Meaning) → AllOf o → AreClean (name_tests o (position_of b)) → IsValue program r (want_of b) (name_argument o depth)
   argument_there true = array_argument
   argument_there false = value_argument
+
+  -- what an operation puts an int into
+  one_at : (level slot at : ℕ) → Holds r level slot AsInt → slot ≤ at → at < slot + 1 → Holds r level at AsInt
+  one_at level slot at h le lt = subst (λ k. Holds r level k AsInt) (only slot at le lt) h where
+    only : (slot at : ℕ) → slot ≤ at → at < slot + 1 → slot ≡ at
+    only slot at le lt = omega (arith, le, lt)
+
+  place_one : (place : Place) → IsPlace program r place → IsArray program r (array_at place) × IsOne (array_at place)
+  place_one _ (global slot lt) = (global_array slot 1 (omega (arith, lt)), refl)
+  place_one _ (local level slot lt h) =
+      let within = slice_get_within _ slot AsInt h in (local_array level slot 1 lt (omega (arith, within)) (λ at. one_at level slot at h), refl)
+
+  pub reference_there : (target : Target) → IsTarget program r target → IsValue program r OneInt (reference_to target)
+  reference_there _ (to_variable place h) = let one = place_one place h in one_int _ one.0 one.1
+  reference_there _ (to_element array index h k) = part array index h k
 
   -- what is called, sent through and read from
   pub data IsCalled : Option Meaning → Type 0 where
@@ -162,23 +185,148 @@ as_many h (x ∷ xs) = let more = as_many h xs in omega (arith, more)
 
 -- ---- expressions
 
-module _ (program : Resolved) (t : Tables) (r : Round) (a : Around) (outermost : a.depth + 1 ≡ length r.frames) (scopes : List (List Declaration))
-    (within : AllWithin program t r.params r.frames a.depth scopes) where
+module _ (program : Resolved) (t : Tables) (r : Round) (a : Around) (scopes : List (List Declaration)) (within : AllWithin program t r.frames a.depth scopes) where
   clean_as : {x y : ExprNodes} (w : Position) → x ≡ y → AllClean (x t scopes a w) → AllClean (y t scopes a w)
   clean_as {x} {y} w e c = subst (λ (g : ExprNodes). AllClean (g t scopes a w)) e c
 
-  value_as : {q q2 : Reading} → q ≡ q2 → IsValue program r (q2.value scopes a.depth) → IsValue program r (q.value scopes a.depth)
-  value_as e h = subst (λ (z : Reading). IsValue program r (z.value scopes a.depth)) (sym e) h
+  value_as : {q q2 : Reading} → q ≡ q2 → IsValue program r AnInt (q2.value scopes a.depth) → IsValue program r AnInt (q.value scopes a.depth)
+  value_as e h = subst (λ (z : Reading). IsValue program r AnInt (z.value scopes a.depth)) (sym e) h
+
+  target_as : {q q2 : Reading} → q ≡ q2 → IsTarget program r (q2.target scopes a.depth) → IsTarget program r (q.target scopes a.depth)
+  target_as e h = subst (λ (z : Reading). IsTarget program r (z.target scopes a.depth)) (sym e) h
 
   abbrev links_nodes : List Link → List Node
   links_nodes ls = links_step (List Node) one_node [] join_nodes (map link_nodes ls) t scopes a
 
+  abbrev args_nodes : ℕ → ℕ → List Expr → List Node
+  args_nodes function n xs = args_step (List Node) one_node [] join_nodes (Some (m.Function function)) n (map expr_nodes xs) t scopes a
+
+  -- ---- arguments
+
+  argument_as : {q q2 : Reading} (b : Bool) → q ≡ q2 → IsValue program r (want_of b) (q2.argument scopes a.depth) → IsValue program r (want_of b) (q.argument scopes a.depth)
+  argument_as {q} {q2} b e h = subst (λ (z : Reading). IsValue program r (want_of b) (z.argument scopes a.depth)) (sym e) h
+
+  value_given : {q q2 : Reading} → q ≡ q2 → q2.argument scopes a.depth ≡ q2.value scopes a.depth → IsValue program r AnInt (q.value scopes a.depth)
+      → IsValue program r AnInt (q.argument scopes a.depth)
+  value_given {q} {q2} e same h =
+      subst (λ (z : Reading). IsValue program r AnInt (z.value scopes a.depth) → IsValue program r AnInt (z.argument scopes a.depth)) (sym e)
+      (λ v. subst (IsValue program r AnInt) (sym same) v) h
+
+  -- the value of an expression, where it may stand as a value
+  abbrev AsValue : Expr → Type 0
+  AsValue x = AllClean (expr_nodes x t scopes a po.Value) → IsValue program r AnInt (value_in x scopes a.depth)
+
+  -- what is no name is no argument for an array parameter
+  plain_argument : (b : Bool) (x : Expr) {q2 : Reading} → AsValue x → read x ≡ q2 → q2.argument scopes a.depth ≡ q2.value scopes a.depth
+      → (b ≡ true → ⊥) → AllClean (expr_nodes x t scopes a (position_of b)) → IsValue program r (want_of b) (argument_in x scopes a.depth)
+  plain_argument true x v e same n c = absurd (n refl)
+  plain_argument false x v e same n c = value_given e same (v c)
+
+  array_place : {b : Bool} → b ≡ true → is_array_position (position_of b) ≡ true
+  array_place e = ap (λ z. is_array_position (position_of z)) e
+
+  call_argument : (b : Bool) (x : Expr) → IsCall x → AsValue x → AllClean (expr_nodes x t scopes a (position_of b)) → IsValue program r (want_of b) (argument_in x scopes a.depth)
+  call_argument b _ (shape.function_call at name args gs) v c =
+      plain_argument b _ v (reads.call_reads at name args) refl
+      (λ e. (clean_as (position_of b) (nodes.call_is at name args) c).0 4
+      (inr (inr (inl (refl, second_true (is_other ki.Function (visible name scopes)) _ (array_place e)))))) c
+  call_argument b _ (shape.send at channel value g) v c =
+      plain_argument b _ v (reads.send_reads at channel value) refl
+      (λ e. (clean_as (position_of b) (nodes.send_is at channel value) c).0 4
+      (inr (inl (refl, second_true (is_other ki.Channel (visible channel scopes)) _ (array_place e))))) c
+  call_argument b _ (shape.recv at channel place g) v c =
+      plain_argument b _ v (reads.recv_reads at channel place) refl
+      (λ e. (clean_as (position_of b) (nodes.recv_is at channel place) c).0 4
+      (inr (inl (refl, second_true (is_other ki.Channel (visible channel scopes)) _ (array_place e))))) c
+  call_argument b _ (shape.read at file from len array g h) v c =
+      plain_argument b _ v (reads.read_reads at file from len array) refl
+      (λ e. (clean_as (position_of b) (nodes.read_is at file from len array) c).0 4
+      (inr (inl (refl, second_true (is_other ki.File (visible file scopes)) _ (second_true (is_other ki.Array (visible array scopes)) _ (array_place e)))))) c
+  call_argument b _ (shape.write at file from len array g h) v c =
+      plain_argument b _ v (reads.write_reads at file from len array) refl
+      (λ e. (clean_as (position_of b) (nodes.write_is at file from len array) c).0 4
+      (inr (inl (refl, second_true (is_other ki.File (visible file scopes)) _ (second_true (is_other ki.Array (visible array scopes)) _ (array_place e)))))) c
+
+  argument_at : (b : Bool) (x : Expr) → IsExpr x → AsValue x → AllClean (expr_nodes x t scopes a (position_of b)) → IsValue program r (want_of b) (argument_in x scopes a.depth)
+  argument_at b _ (shape.number at value) v c =
+      plain_argument b _ v (reads.number_reads at value) refl (λ e. (clean_as (position_of b) (nodes.number_is at value) c).0 4 (inl (refl, array_place e))) c
+  argument_at b _ (shape.constant at which) v c =
+      plain_argument b _ v (reads.constant_reads at which) refl (λ e. (clean_as (position_of b) (nodes.const_is at which) c).0 4 (inl (refl, array_place e))) c
+  argument_at b _ (shape.place _ (shape.variable at name)) v c =
+      let k = clean_as (position_of b) (nodes.name_is at name) c in
+      argument_as b (reads.name_reads at name) (argument_there program t r a.depth b (visible name scopes) (within name) k.0)
+  argument_at b _ (shape.place _ (shape.element at name index g)) v c =
+      plain_argument b _ v (reads.index_reads at name index) refl
+      (λ e. (clean_as (position_of b) (nodes.index_is at name index) c).0 4
+      (inr (inl (refl, second_true (is_other ki.Array (visible name scopes)) _ (array_place e))))) c
+  argument_at b _ (shape.call _ g) v c = call_argument b _ g v c
+  argument_at b _ (shape.group at inner g) v c =
+      plain_argument b _ v (reads.group_reads at inner) refl (λ e. (clean_as (position_of b) (nodes.group_is at inner) c).0 4 (inl (refl, array_place e))) c
+  argument_at b _ (shape.unary at op inner g) v c =
+      plain_argument b _ v (reads.unary_reads at op inner) refl (λ e. (clean_as (position_of b) (nodes.unary_is at op inner) c).0 4 (inl (refl, array_place e))) c
+  argument_at b _ (shape.chain at level first link rest g gs) v c =
+      plain_argument b _ v (reads.chain_reads at level first (link ∷ rest)) refl
+      (λ e. (clean_as (position_of b) (nodes.chain_is at level first (link ∷ rest)) c).0 4 (inl (refl, array_place e))) c
+
+  counted_right : (o : Option Signature) (s : Signature) (function args : ℕ) → o ≡ Some s → (is_miscounted (callee_of function o) args ≡ true → ⊥) → args ≡ length s.params
+  counted_right o s function args e n =
+      let right = not_false (nat_eq (length s.params) args) (λ k. n (ap (λ z. is_miscounted (callee_of function z) args) e ∙ k)) in
+      grind (arith, nat_tests, right)
+
+  -- the operands of a call of that function with so many arguments
+  abbrev Called : List Expr → Type 0
+  Called args = (function : ℕ) (bs : List Bool) → SeesAt (slice_get t.functions function) 0 bs → length args ≡ length bs → AllClean (args_nodes function 0 args)
+      → AreOperands program r (map want_of bs) (arguments_step (map read args) scopes a.depth)
+
+  called_at : (o : Option Meaning) (args : List Expr) (w : Position) → Called args → IsCalled program t r a.depth o
+      → AreClean (call_tests o (callee t o) (length (map expr_nodes args)) a w)
+      → AllClean (args_step (List Node) one_node [] join_nodes o 0 (map expr_nodes args) t scopes a)
+      → IsValue program r AnInt (v.Act (act.Call (function_of o)) (arguments_step (map read args) scopes a.depth))
+  called_at _ args w gs (is_called k s) c cs =
+      let count = counted_right (slice_get t.functions k) s.signature k (length (map expr_nodes args)) s.told (λ e. c 3 (inr (inl (refl, e)))) in
+      let seen = subst (λ o. SeesAt o 0 s.signature.params) (sym s.told) (sees s.signature [] s.signature.params 0 refl refl) in
+      acts _ _ _ (call k s.function s.there)
+      (subst (λ ps. AreOperands program r (map want_of ps) (arguments_step (map read args) scopes a.depth)) (sym s.params)
+      (gs k s.signature.params seen (sym (as_many expr_nodes args) ∙ count) cs))
+
+  -- ---- operations
+
+  declared : {o : Option Meaning} → o ≡ None → is_undeclared o ≡ true
+  declared e = ap is_undeclared e
+
+  first_true : (x y : Bool) → x ≡ true → either x y ≡ true
+  first_true true y h = refl
+  first_true false y h = cc
+
+  channel_used : (o : Option Meaning) (away : Bool) (w : Position) → AllOf program t r a.depth o → AreClean (channel_tests o away a w) → channel_of o < length program.channels
+  channel_used o away w h c = channel_there program t r a.depth o h (λ e. c 4 (inr (inl (refl, first_true _ _ e)))) (λ e. c 2 (inl (refl, declared e)))
+
+  file_used : (o array : Option Meaning) (w : Position) → AllOf program t r a.depth o → AreClean (file_tests o array a w) → file_of o < length program.files
+  file_used o array w h c =
+      file_there program t r a.depth o h (λ e. c 4 (inr (inl (refl, first_true _ _ e)))) (λ e. c 2 (inl (refl, first_true _ _ (declared e))))
+
+  array_used : (file o : Option Meaning) (w : Position) → AllOf program t r a.depth o → AreClean (file_tests file o a w) → IsArray program r (array_of o a.depth)
+  array_used file o w h c =
+      array_there program t r a.depth o h
+      (λ e. c 4 (inr (inl (refl, second_true (is_other ki.File file) _ (first_true _ _ e)))))
+      (λ e. c 2 (inl (refl, second_true (is_undeclared file) _ (declared e))))
+
+  one : {want : Want} {x : Value} → IsValue program r want x → AreOperands program r (want ∷ []) (x ∷ [])
+  one {want} {x} h = one_operand want [] x [] h no_operand
+
+  in_file : (from len : Expr) (array : List ℕ) → IsValue program r AnInt (value_in from scopes a.depth) → IsValue program r AnInt (value_in len scopes a.depth)
+      → IsArray program r (array_of (visible array scopes) a.depth)
+      → AreOperands program r (AnInt ∷ AnInt ∷ AnArray ∷ []) (file_operands (read from) (read len) array scopes a.depth)
+  in_file from len array f l h = one_operand AnInt _ _ _ f (one_operand AnInt _ _ _ l (one (reference _ h)))
+
+  -- ---- all expressions
+
   mutual
-    pub value_at : (w : Position) → IsPlain w → (x : Expr) → IsExpr x → AllClean (expr_nodes x t scopes a w) → IsValue program r (value_in x scopes a.depth)
+    pub value_at : (w : Position) → IsPlain w → (x : Expr) → IsExpr x → AllClean (expr_nodes x t scopes a w) → IsValue program r AnInt (value_in x scopes a.depth)
     value_at w plain _ (shape.number at value) c = value_as (reads.number_reads at value) (number value)
     value_at w plain _ (shape.constant at which) c = value_as (reads.constant_reads at which) (number (constant_value which))
     value_at w plain _ (shape.place x g) c = place_value w plain x g c
-    value_at w plain _ (shape.call x g) c = call_value x g
+    value_at w plain _ (shape.call x g) c = call_at w x g c
     value_at w plain _ (shape.group at inner g) c =
         let k = clean_as w (nodes.group_is at inner) c in
         value_as (reads.group_reads at inner) (value_at po.Value refl inner g k.1)
@@ -198,227 +346,87 @@ module _ (program : Resolved) (t : Tables) (r : Round) (a : Around) (outermost :
         let left = link_nodes link t scopes a po.Value in
         let right = links_nodes rest in
         one_link (link_in link scopes a.depth) _
-        (subst (λ (z : InScopes ValueLink). IsValue program r (z scopes a.depth).operand) (sym (reads.link_reads link))
+        (subst (λ (z : InScopes ValueLink). IsValue program r AnInt (z scopes a.depth).operand) (sym (reads.link_reads link))
         (value_at po.Value refl link.operand g (clean_as po.Value (nodes.link_is link) (clean_sooner left right c))))
         (links_at rest gs (clean_later left right c))
 
-    place_value : (w : Position) → IsPlain w → (x : Expr) → PlaceShaped x → AllClean (expr_nodes x t scopes a w) → IsValue program r (value_in x scopes a.depth)
+    place_value : (w : Position) → IsPlain w → (x : Expr) → PlaceShaped x → AllClean (expr_nodes x t scopes a w) → IsValue program r AnInt (value_in x scopes a.depth)
     place_value w plain _ (shape.variable at name) c =
         let k = clean_as w (nodes.name_is at name) c in
-        value_as (reads.name_reads at name) (variable _ (place_there program t r a.depth outermost (visible name scopes) w plain (within name) k.0))
+        value_as (reads.name_reads at name) (variable _ (place_there program t r a.depth (visible name scopes) w plain (within name) k.0))
     place_value w plain _ (shape.element at name index g) c =
         let k = clean_as w (nodes.index_is at name index) c in
         value_as (reads.index_reads at name index)
-        (element _ _ (index_there program t r a.depth outermost (visible name scopes) w (within name) k.0) (value_at po.Value refl index g k.1))
+        (element _ _ (index_there program t r a.depth (visible name scopes) w (within name) k.0) (value_at po.Value refl index g k.1))
 
-    -- a call has no value where it does not stand whole
-    call_value : (x : Expr) → IsCall x → IsValue program r (value_in x scopes a.depth)
-    call_value _ (shape.function_call at name args gs) = value_as (reads.call_reads at name args) (number (pos 0))
-    call_value _ (shape.send at channel value g) = value_as (reads.send_reads at channel value) (number (pos 0))
-    call_value _ (shape.recv at channel place g) = value_as (reads.recv_reads at channel place) (number (pos 0))
-    call_value _ (shape.read at file from len array g h) = value_as (reads.read_reads at file from len array) (number (pos 0))
-    call_value _ (shape.write at file from len array g h) = value_as (reads.write_reads at file from len array) (number (pos 0))
+    pub target_at : (x : Expr) → PlaceShaped x → AllClean (expr_nodes x t scopes a po.Value) → IsTarget program r (target_in x scopes a.depth)
+    target_at _ (shape.variable at name) c =
+        let k = clean_as po.Value (nodes.name_is at name) c in
+        target_as (reads.name_reads at name) (to_variable _ (place_there program t r a.depth (visible name scopes) po.Value refl (within name) k.0))
+    target_at _ (shape.element at name index g) c =
+        let k = clean_as po.Value (nodes.index_is at name index) c in
+        target_as (reads.index_reads at name index)
+        (to_element _ _ (index_there program t r a.depth (visible name scopes) po.Value (within name) k.0) (value_at po.Value refl index g k.1))
 
-  target_as : {q q2 : Reading} → q ≡ q2 → IsTarget program r (q2.target scopes a.depth) → IsTarget program r (q.target scopes a.depth)
-  target_as e h = subst (λ (z : Reading). IsTarget program r (z.target scopes a.depth)) (sym e) h
+    arguments_at : (function : ℕ) (xs : List Expr) → AreExprs xs → (n : ℕ) (bs : List Bool) → SeesAt (slice_get t.functions function) n bs → length xs ≡ length bs
+        → AllClean (args_nodes function n xs) → AreOperands program r (map want_of bs) (arguments_step (map read xs) scopes a.depth)
+    arguments_at function _ shape.no_expr n [] s e c = no_operand
+    arguments_at function _ shape.no_expr n (b ∷ bs) s e c = absurd (omega (arith, e))
+    arguments_at function _ (shape.one_expr x xs g gs) n [] s e c = absurd (omega (arith, e))
+    arguments_at function _ (shape.one_expr x xs g gs) n (b ∷ bs) s e c =
+        let left = expr_nodes x t scopes a (position_of (takes_array t (Some (m.Function function)) n)) in
+        let right = args_nodes function (n + 1) xs in
+        one_operand (want_of b) (map want_of bs) _ _
+        (argument_at b x g (λ k. value_at po.Value refl x g k) (subst (λ z. AllClean (expr_nodes x t scopes a (position_of z))) s.0 (clean_sooner left right c)))
+        (arguments_at function xs gs (n + 1) bs s.1 (omega (arith, e)) (clean_later left right c))
 
-  pub target_at : (x : Expr) → PlaceShaped x → AllClean (expr_nodes x t scopes a po.Value) → IsTarget program r (target_in x scopes a.depth)
-  target_at _ (shape.variable at name) c =
-      let k = clean_as po.Value (nodes.name_is at name) c in
-      target_as (reads.name_reads at name) (to_variable _ (place_there program t r a.depth outermost (visible name scopes) po.Value refl (within name) k.0))
-  target_at _ (shape.element at name index g) c =
-      let k = clean_as po.Value (nodes.index_is at name index) c in
-      target_as (reads.index_reads at name index)
-      (to_element _ _ (index_there program t r a.depth outermost (visible name scopes) po.Value (within name) k.0) (value_at po.Value refl index g k.1))
-
-  -- ---- arguments
-
-  argument_as : {q q2 : Reading} {b : Bool} → q ≡ q2 → IsArgument program r b (q2.argument scopes a.depth) → IsArgument program r b (q.argument scopes a.depth)
-  argument_as {q} {q2} {b} e h = subst (λ (z : Reading). IsArgument program r b (z.argument scopes a.depth)) (sym e) h
-
-  value_given : {q q2 : Reading} → q ≡ q2 → q2.argument scopes a.depth ≡ g.Value (q2.value scopes a.depth) → IsValue program r (q.value scopes a.depth)
-      → IsArgument program r false (q.argument scopes a.depth)
-  value_given {q} {q2} e same h =
-      subst (λ (z : Reading). IsValue program r (z.value scopes a.depth) → IsArgument program r false (z.argument scopes a.depth)) (sym e)
-      (λ v. subst (IsArgument program r false) (sym same) (by_value _ v)) h
-
-  -- what is no name is no argument for an array parameter
-  no_array : (b : Bool) → position_of b ≡ po.Array → b ≡ true
-  no_array true e = refl
-  no_array false e = cc
-
-  plain_argument : (b : Bool) (x : Expr) {q2 : Reading} → IsExpr x → read x ≡ q2 → q2.argument scopes a.depth ≡ g.Value (q2.value scopes a.depth)
-      → (b ≡ true → ⊥) → AllClean (expr_nodes x t scopes a (position_of b)) → IsArgument program r b (argument_in x scopes a.depth)
-  plain_argument true x g e same n c = absurd (n refl)
-  plain_argument false x g e same n c = value_given e same (value_at po.Value refl x g c)
-
-  argument_at : (b : Bool) (x : Expr) → IsExpr x → AllClean (expr_nodes x t scopes a (position_of b)) → IsArgument program r b (argument_in x scopes a.depth)
-  argument_at b _ (shape.number at value) c =
-      plain_argument b _ (shape.number at value) (reads.number_reads at value) refl
-      (λ e. (clean_as (position_of b) (nodes.number_is at value) c).0 4 (inl (refl, ap (λ z. is_array_position (position_of z)) e))) c
-  argument_at b _ (shape.constant at which) c =
-      plain_argument b _ (shape.constant at which) (reads.constant_reads at which) refl
-      (λ e. (clean_as (position_of b) (nodes.const_is at which) c).0 4 (inl (refl, ap (λ z. is_array_position (position_of z)) e))) c
-  argument_at b _ (shape.place _ (shape.variable at name)) c =
-      let k = clean_as (position_of b) (nodes.name_is at name) c in
-      argument_as (reads.name_reads at name) (argument_there program t r a.depth outermost b (visible name scopes) (within name) k.0)
-  argument_at b _ (shape.place _ (shape.element at name index g)) c =
-      plain_argument b _ (shape.place _ (shape.element at name index g)) (reads.index_reads at name index) refl
-      (λ e. (clean_as (position_of b) (nodes.index_is at name index) c).0 4
-      (inr (inl (refl, second_true (is_other ki.Array (visible name scopes)) _ (ap (λ z. is_array_position (position_of z)) e))))) c
-  argument_at b _ (shape.call _ g) c = call_argument b _ g c where
-    call_argument : (b : Bool) (x : Expr) → IsCall x → AllClean (expr_nodes x t scopes a (position_of b)) → IsArgument program r b (argument_in x scopes a.depth)
-    call_argument b _ (shape.function_call at name args gs) c =
-        plain_argument b _ (shape.call _ (shape.function_call at name args gs)) (reads.call_reads at name args) refl
-        (λ e. (clean_as (position_of b) (nodes.call_is at name args) c).0 4
-        (inr (inr (inl (refl, second_true (is_other ki.Function (visible name scopes)) _ (ap (λ z. is_array_position (position_of z)) e)))))) c
-    call_argument b _ (shape.send at channel value g) c =
-        plain_argument b _ (shape.call _ (shape.send at channel value g)) (reads.send_reads at channel value) refl
-        (λ e. (clean_as (position_of b) (nodes.send_is at channel value) c).0 4
-        (inr (inl (refl, second_true (is_other ki.Channel (visible channel scopes)) _ (ap (λ z. is_array_position (position_of z)) e))))) c
-    call_argument b _ (shape.recv at channel place g) c =
-        plain_argument b _ (shape.call _ (shape.recv at channel place g)) (reads.recv_reads at channel place) refl
-        (λ e. (clean_as (position_of b) (nodes.recv_is at channel place) c).0 4
-        (inr (inl (refl, second_true (is_other ki.Channel (visible channel scopes)) _ (ap (λ z. is_array_position (position_of z)) e))))) c
-    call_argument b _ (shape.read at file from len array g h) c =
-        plain_argument b _ (shape.call _ (shape.read at file from len array g h)) (reads.read_reads at file from len array) refl
-        (λ e. (clean_as (position_of b) (nodes.read_is at file from len array) c).0 4
-        (inr (inl (refl, second_true (is_other ki.File (visible file scopes)) _ (second_true (is_other ki.Array (visible array scopes)) _ (ap (λ z. is_array_position (position_of z)) e)))))) c
-    call_argument b _ (shape.write at file from len array g h) c =
-        plain_argument b _ (shape.call _ (shape.write at file from len array g h)) (reads.write_reads at file from len array) refl
-        (λ e. (clean_as (position_of b) (nodes.write_is at file from len array) c).0 4
-        (inr (inl (refl, second_true (is_other ki.File (visible file scopes)) _ (second_true (is_other ki.Array (visible array scopes)) _ (ap (λ z. is_array_position (position_of z)) e)))))) c
-  argument_at b _ (shape.group at inner g) c =
-      plain_argument b _ (shape.group at inner g) (reads.group_reads at inner) refl
-      (λ e. (clean_as (position_of b) (nodes.group_is at inner) c).0 4 (inl (refl, ap (λ z. is_array_position (position_of z)) e))) c
-  argument_at b _ (shape.unary at op inner g) c =
-      plain_argument b _ (shape.unary at op inner g) (reads.unary_reads at op inner) refl
-      (λ e. (clean_as (position_of b) (nodes.unary_is at op inner) c).0 4 (inl (refl, ap (λ z. is_array_position (position_of z)) e))) c
-  argument_at b _ (shape.chain at level first link rest g gs) c =
-      plain_argument b _ (shape.chain at level first link rest g gs) (reads.chain_reads at level first (link ∷ rest)) refl
-      (λ e. (clean_as (position_of b) (nodes.chain_is at level first (link ∷ rest)) c).0 4 (inl (refl, ap (λ z. is_array_position (position_of z)) e))) c
-
-  abbrev args_nodes : ℕ → ℕ → List Expr → List Node
-  args_nodes function n xs = args_step (List Node) one_node [] join_nodes (Some (m.Function function)) n (map expr_nodes xs) t scopes a
-
-  arguments_at : (function : ℕ) (xs : List Expr) → AreExprs xs → (n : ℕ) (bs : List Bool) → SeesAt (slice_get t.functions function) n bs → length xs ≡ length bs
-      → AllClean (args_nodes function n xs) → AreArguments program r bs (arguments_step (map read xs) scopes a.depth)
-  arguments_at function _ shape.no_expr n [] s e c = no_argument
-  arguments_at function _ shape.no_expr n (b ∷ bs) s e c = absurd (omega (arith, e))
-  arguments_at function _ (shape.one_expr x xs g gs) n [] s e c = absurd (omega (arith, e))
-  arguments_at function _ (shape.one_expr x xs g gs) n (b ∷ bs) s e c =
-      let left = expr_nodes x t scopes a (position_of (takes_array t (Some (m.Function function)) n)) in
-      let right = args_nodes function (n + 1) xs in
-      one_argument b bs _ _ (argument_at b x g (subst (λ z. AllClean (expr_nodes x t scopes a (position_of z))) s.0 (clean_sooner left right c)))
-      (arguments_at function xs gs (n + 1) bs s.1 (omega (arith, e)) (clean_later left right c))
-
-  -- ---- what stands whole
-
-  counted_right : (o : Option Signature) (s : Signature) (function args : ℕ) → o ≡ Some s → (is_miscounted (callee_of function o) args ≡ true → ⊥) → args ≡ length s.params
-  counted_right o s function args e n =
-      let right = not_false (nat_eq (length s.params) args) (λ k. n (ap (λ z. is_miscounted (callee_of function z) args) e ∙ k)) in
-      grind (arith, nat_tests, right)
-
-  called_at : (o : Option Meaning) (args : List Expr) (w : Position) → AreExprs args → IsCalled program t r a.depth outermost o
-      → AreClean (call_tests o (callee t o) (length (map expr_nodes args)) a w)
-      → AllClean (args_step (List Node) one_node [] join_nodes o 0 (map expr_nodes args) t scopes a)
-      → IsEffect program r (f.Call (function_of o) (arguments_step (map read args) scopes a.depth))
-  called_at _ args w gs (is_called k s) c cs =
-      let count = counted_right (slice_get t.functions k) s.signature k (length (map expr_nodes args)) s.told (λ e. c 3 (inr (inl (refl, e)))) in
-      let seen = subst (λ o. SeesAt o 0 s.signature.params) (sym s.told) (sees s.signature [] s.signature.params 0 refl refl) in
-      call k s.function _ s.there
-      (subst (λ ps. AreArguments program r ps (arguments_step (map read args) scopes a.depth)) (sym s.params)
-      (arguments_at k args gs 0 s.signature.params seen (sym (as_many expr_nodes args) ∙ count) cs))
-
-  effect_as : {q q2 : Reading} → q ≡ q2 → IsEffect program r (q2.effect scopes a.depth) → IsEffect program r (q.effect scopes a.depth)
-  effect_as e h = subst (λ (z : Reading). IsEffect program r (z.effect scopes a.depth)) (sym e) h
-
-  declared : {o : Option Meaning} → o ≡ None → is_undeclared o ≡ true
-  declared e = ap is_undeclared e
-
-  first_true : (x y : Bool) → x ≡ true → either x y ≡ true
-  first_true true y h = refl
-  first_true false y h = cc
-
-  pub call_at : (w : Position) (x : Expr) → IsCall x → AllClean (expr_nodes x t scopes a w) → IsEffect program r (effect_in x scopes a.depth)
-  call_at w _ (shape.function_call at name args gs) c =
-      let k = clean_as w (nodes.call_is at name args) c in
-      let o = visible name scopes in
-      effect_as (reads.call_reads at name args)
-      (called_at o args w gs
-      (function_there program t r a.depth outermost o (within name) (λ e. k.0 4 (inr (inr (inl (refl, first_true _ _ e))))) (λ e. k.0 2 (inl (refl, declared e)))) k.0 k.1)
-  call_at w _ (shape.send at channel value g) c =
-      let k = clean_as w (nodes.send_is at channel value) c in
-      let o = visible channel scopes in
-      effect_as (reads.send_reads at channel value)
-      (send _ _ (channel_there program t r a.depth outermost o (within channel) (λ e. k.0 4 (inr (inl (refl, first_true _ _ e)))) (λ e. k.0 2 (inl (refl, declared e))))
-      (value_at po.Value refl value g k.1))
-  call_at w _ (shape.recv at channel place g) c =
-      let k = clean_as w (nodes.recv_is at channel place) c in
-      let o = visible channel scopes in
-      effect_as (reads.recv_reads at channel place)
-      (recv _ _ (channel_there program t r a.depth outermost o (within channel) (λ e. k.0 4 (inr (inl (refl, first_true _ _ e)))) (λ e. k.0 2 (inl (refl, declared e))))
-      (target_at place g k.1))
-  call_at w _ (shape.read at file from len array g h) c =
-      let k = clean_as w (nodes.read_is at file from len array) c in
-      let left = expr_nodes from t scopes a po.Value in
-      let right = expr_nodes len t scopes a po.Value in
-      effect_as (reads.read_reads at file from len array)
-      (reads_file _ _ _ _
-      (file_there program t r a.depth outermost (visible file scopes) (within file) (λ e. k.0 4 (inr (inl (refl, first_true _ _ e)))) (λ e. k.0 2 (inl (refl, first_true _ _ (declared e)))))
-      (value_at po.Value refl from g (clean_sooner left right k.1)) (value_at po.Value refl len h (clean_later left right k.1))
-      (array_there program t r a.depth outermost (visible array scopes) (within array)
-      (λ e. k.0 4 (inr (inl (refl, second_true (is_other ki.File (visible file scopes)) _ (first_true _ _ e)))))
-      (λ e. k.0 2 (inl (refl, second_true (is_undeclared (visible file scopes)) _ (declared e))))))
-  call_at w _ (shape.write at file from len array g h) c =
-      let k = clean_as w (nodes.write_is at file from len array) c in
-      let left = expr_nodes from t scopes a po.Value in
-      let right = expr_nodes len t scopes a po.Value in
-      effect_as (reads.write_reads at file from len array)
-      (writes_file _ _ _ _
-      (file_there program t r a.depth outermost (visible file scopes) (within file) (λ e. k.0 4 (inr (inl (refl, first_true _ _ e)))) (λ e. k.0 2 (inl (refl, first_true _ _ (declared e)))))
-      (value_at po.Value refl from g (clean_sooner left right k.1)) (value_at po.Value refl len h (clean_later left right k.1))
-      (array_there program t r a.depth outermost (visible array scopes) (within array)
-      (λ e. k.0 4 (inr (inl (refl, second_true (is_other ki.File (visible file scopes)) _ (first_true _ _ e)))))
-      (λ e. k.0 2 (inl (refl, second_true (is_undeclared (visible file scopes)) _ (declared e))))))
-
-  value_alone : {q q2 : Reading} → q ≡ q2 → q2.effect scopes a.depth ≡ f.Value (q2.value scopes a.depth) → IsValue program r (q.value scopes a.depth)
-      → IsEffect program r (q.effect scopes a.depth)
-  value_alone {q} {q2} e same h =
-      subst (λ (z : Reading). IsValue program r (z.value scopes a.depth) → IsEffect program r (z.effect scopes a.depth)) (sym e)
-      (λ v. subst (IsEffect program r) (sym same) (only_value _ v)) h
-
-  -- the whole right side of an assignment, an initialiser or the operand of a `return`
-  pub effect_at : (x : Expr) → IsExpr x → AllClean (expr_nodes x t scopes a po.Whole) → IsEffect program r (effect_in x scopes a.depth)
-  effect_at _ (shape.call x g) c = call_at po.Whole x g c
-  effect_at _ (shape.number at value) c = value_alone (reads.number_reads at value) refl (value_at po.Whole refl _ (shape.number at value) c)
-  effect_at _ (shape.constant at which) c = value_alone (reads.constant_reads at which) refl (value_at po.Whole refl _ (shape.constant at which) c)
-  effect_at _ (shape.place _ (shape.variable at name)) c =
-      value_alone (reads.name_reads at name) refl (value_at po.Whole refl _ (shape.place _ (shape.variable at name)) c)
-  effect_at _ (shape.place _ (shape.element at name index g)) c =
-      value_alone (reads.index_reads at name index) refl (value_at po.Whole refl _ (shape.place _ (shape.element at name index g)) c)
-  effect_at _ (shape.group at inner g) c = value_alone (reads.group_reads at inner) refl (value_at po.Whole refl _ (shape.group at inner g) c)
-  effect_at _ (shape.unary at op inner g) c = value_alone (reads.unary_reads at op inner) refl (value_at po.Whole refl _ (shape.unary at op inner g) c)
-  effect_at _ (shape.chain at level first link rest g gs) c =
-      value_alone (reads.chain_reads at level first (link ∷ rest)) refl (value_at po.Whole refl _ (shape.chain at level first link rest g gs) c)
+    call_at : (w : Position) (x : Expr) → IsCall x → AllClean (expr_nodes x t scopes a w) → IsValue program r AnInt (value_in x scopes a.depth)
+    call_at w _ (shape.function_call at name args gs) c =
+        let k = clean_as w (nodes.call_is at name args) c in
+        let o = visible name scopes in
+        value_as (reads.call_reads at name args)
+        (called_at o args w (λ function bs s e q. arguments_at function args gs 0 bs s e q)
+        (function_there program t r a.depth o (within name) (λ e. k.0 4 (inr (inr (inl (refl, first_true _ _ e))))) (λ e. k.0 2 (inl (refl, declared e)))) k.0 k.1)
+    call_at w _ (shape.send at channel value g) c =
+        let k = clean_as w (nodes.send_is at channel value) c in
+        value_as (reads.send_reads at channel value)
+        (acts _ _ _ (send _ (channel_used (visible channel scopes) _ w (within channel) k.0)) (one (value_at po.Value refl value g k.1)))
+    call_at w _ (shape.recv at channel place g) c =
+        let k = clean_as w (nodes.recv_is at channel place) c in
+        value_as (reads.recv_reads at channel place)
+        (acts _ _ _ (recv _ (channel_used (visible channel scopes) _ w (within channel) k.0)) (one (reference_there program t r a.depth _ (target_at place g k.1))))
+    call_at w _ (shape.read at file from len array g h) c =
+        let k = clean_as w (nodes.read_is at file from len array) c in
+        let left = expr_nodes from t scopes a po.Value in
+        let right = expr_nodes len t scopes a po.Value in
+        value_as (reads.read_reads at file from len array)
+        (acts _ _ _ (reads_file _ (file_used (visible file scopes) (visible array scopes) w (within file) k.0))
+        (in_file from len array (value_at po.Value refl from g (clean_sooner left right k.1)) (value_at po.Value refl len h (clean_later left right k.1))
+        (array_used (visible file scopes) (visible array scopes) w (within array) k.0)))
+    call_at w _ (shape.write at file from len array g h) c =
+        let k = clean_as w (nodes.write_is at file from len array) c in
+        let left = expr_nodes from t scopes a po.Value in
+        let right = expr_nodes len t scopes a po.Value in
+        value_as (reads.write_reads at file from len array)
+        (acts _ _ _ (writes_file _ (file_used (visible file scopes) (visible array scopes) w (within file) k.0))
+        (in_file from len array (value_at po.Value refl from g (clean_sooner left right k.1)) (value_at po.Value refl len h (clean_later left right k.1))
+        (array_used (visible file scopes) (visible array scopes) w (within array) k.0)))
 
   -- ---- parts of statements
 
-  pub values_at : (xs : List Expr) → AreExprs xs → AllClean (values_all (List Node) one_node [] join_nodes xs t scopes a) → AreValues program r (values_in xs scopes a.depth)
+  pub values_at : (xs : List Expr) → AreExprs xs → AllClean (values_all (List Node) one_node [] join_nodes xs t scopes a) → AreInts program r (values_in xs scopes a.depth)
   values_at _ shape.no_expr c = tt
   values_at _ (shape.one_expr x xs g gs) c =
       let left = expr_nodes x t scopes a po.Value in
       let right = values_all (List Node) one_node [] join_nodes xs t scopes a in
       (value_at po.Value refl x g (clean_sooner left right c), values_at xs gs (clean_later left right c))
 
-  pub test_at : (x : Option Expr) → shape.IsValue x → AllClean (value_all (List Node) one_node [] join_nodes po.Value x t scopes a) → IsTest program r (test_in x scopes a.depth)
-  test_at _ shape.no_value c = no_test
-  test_at _ (shape.some_value x g) c = some_test _ (value_at po.Value refl x g c)
+  pub test_at : (w : Position) → IsPlain w → (x : Option Expr) → shape.IsValue x → AllClean (value_all (List Node) one_node [] join_nodes w x t scopes a)
+      → IsTest program r (some_in x scopes a.depth)
+  test_at w plain _ shape.no_value c = no_test
+  test_at w plain _ (shape.some_value x g) c = some_test _ (value_at w plain x g c)
 
-  pub initial_at : (x : Option Expr) → shape.IsValue x → AllClean (value_all (List Node) one_node [] join_nodes po.Whole x t scopes a) → IsEffect program r (initial_in x scopes a.depth)
-  initial_at _ shape.no_value c = only_value _ (number (pos 0))
-  initial_at _ (shape.some_value x g) c = effect_at x g c
-
-  pub operand_at : (x : Option Expr) → shape.IsValue x → AllClean (value_all (List Node) one_node [] join_nodes po.Whole x t scopes a) → IsOperand program r (operand_in x scopes a.depth)
-  operand_at _ shape.no_value c = no_operand
-  operand_at _ (shape.some_value x g) c = some_operand _ (effect_at x g c)
+  pub initial_at : (x : Option Expr) → shape.IsValue x → AllClean (value_all (List Node) one_node [] join_nodes po.Whole x t scopes a)
+      → IsValue program r AnInt (initial_in x scopes a.depth)
+  initial_at _ shape.no_value c = number (pos 0)
+  initial_at _ (shape.some_value x g) c = value_at po.Whole refl x g c

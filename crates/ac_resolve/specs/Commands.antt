@@ -1,6 +1,5 @@
 -- Statements without their names. What a statement declares and the slots that it takes are those by which the rules are judged.
-use Rattle.std.specs.Prelude.{ℕ, ℤ, ◌+◌, List, [], ◌∷◌, ◌++◌, length, map, Option, None, Some}
-use Rattle.ac_tree.specs.declared.expr.Expr.{Expr}
+use Rattle.std.specs.Prelude.{ℕ, ◌+◌, List, [], ◌∷◌, ◌++◌, length, map, Option, None, Some}
 use Rattle.ac_tree.specs.declared.stmt.Stmt.{Stmt}
 use Rattle.ac_tree.specs.declared.stmt.Stmt.TheFolds.{fold-Stmt, map-Stmt}
 use Rattle.ac_tree.specs.declared.stmt.Stmt.TheOpen.{Stmt-F}
@@ -9,11 +8,11 @@ use Rattle.ac_names.specs.Scopes.{visible}
 use Rattle.ac_names.specs.Statements.{Shape, shape_step, part_words, array_len, listed}
 use Rattle.ac_names.specs.Statements.{some_words, some_listed, opened, moved, in_do, in_async}
 use Rattle.ac_commands.specs.declared.value.Place.TheVariants as p
-use Rattle.ac_commands.specs.declared.effect.Target.TheVariants as t
+use Rattle.ac_commands.specs.declared.command.Target.TheVariants as t
 use Rattle.ac_commands.specs.declared.command.Command.{Command}
 use Rattle.ac_commands.specs.declared.command.Command.TheVariants as c
 use Rattle.ac_resolve.specs.Places.{cancel_of}
-use Rattle.ac_resolve.specs.Computed.{value_in, values_in, test_in, target_in, effect_in, initial_in, operand_in}
+use Rattle.ac_resolve.specs.Computed.{value_in, values_in, some_in, target_in, initial_in}
 
 abbrev pub Texts : Type 0
 Texts = List (List ℕ)
@@ -78,8 +77,8 @@ commands_step (Stmt-F.Block at body) n depth texts = commands body (opened n) de
 commands_step (Stmt-F.Empty at) n depth texts = c.Nothing ∷ []
 commands_step (Stmt-F.Int at name value) n depth texts = c.Set (t.Variable (p.Local 0 n.slot)) (initial_in value n.scopes depth) ∷ []
 commands_step (Stmt-F.Array at name size) n depth texts = c.Clear n.slot (array_len size) ∷ []
-commands_step (Stmt-F.Assign at place value) n depth texts = c.Set (target_in place n.scopes depth) (effect_in value n.scopes depth) ∷ []
-commands_step (Stmt-F.Call at call) n depth texts = c.Run (effect_in call n.scopes depth) ∷ []
+commands_step (Stmt-F.Assign at place value) n depth texts = c.Set (target_in place n.scopes depth) (value_in value n.scopes depth) ∷ []
+commands_step (Stmt-F.Call at call) n depth texts = c.Run (value_in call n.scopes depth) ∷ []
 commands_step (Stmt-F.Print at format args) n depth texts = c.Print (length texts) (values_in args n.scopes depth) ∷ []
 commands_step (Stmt-F.If at test body other) n depth texts =
     c.If (value_in test n.scopes depth) (body.commands n depth texts)
@@ -87,13 +86,13 @@ commands_step (Stmt-F.If at test body other) n depth texts =
 commands_step (Stmt-F.While at test body) n depth texts = c.While (value_in test n.scopes depth) (body.commands n depth texts) ∷ []
 commands_step (Stmt-F.For at init test next body) n depth texts =
     some_commands init (opened n) depth texts
-    ++ c.For (test_in test (for_names init depth n).scopes depth)
+    ++ c.For (some_in test (for_names init depth n).scopes depth)
     (some_commands next (for_names init depth n) depth (some_texts init texts))
     (body.commands (moved (for_names init depth n) (some_words (some_shape next))) depth (some_texts next (some_texts init texts)))
     ∷ []
 commands_step (Stmt-F.Break at) n depth texts = c.Break ∷ []
 commands_step (Stmt-F.Continue at) n depth texts = c.Continue ∷ []
-commands_step (Stmt-F.Return at value) n depth texts = c.Return (operand_in value n.scopes depth) ∷ []
+commands_step (Stmt-F.Return at value) n depth texts = c.Return (some_in value n.scopes depth) ∷ []
 commands_step (Stmt-F.Do at label body) n depth texts = c.Do n.slot (commands body (opened (in_do label depth n)) depth texts) ∷ []
 commands_step (Stmt-F.Async at body) n depth texts = c.Async (part_words body.shape) (body.commands (in_async n) (depth + 1) texts) ∷ []
 commands_step (Stmt-F.Cancel at label) n depth texts = cancel_of (visible label n.labels) depth ∷ []

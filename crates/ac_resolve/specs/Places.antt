@@ -9,9 +9,10 @@ use Rattle.ac_commands.specs.declared.value.Place.{Place}
 use Rattle.ac_commands.specs.declared.value.Place.TheVariants as p
 use Rattle.ac_commands.specs.declared.value.Array.{Array}
 use Rattle.ac_commands.specs.declared.value.Array.TheVariants as a
+use Rattle.ac_commands.specs.declared.value.Value.{Value}
 use Rattle.ac_commands.specs.declared.value.Value.TheVariants as v
-use Rattle.ac_commands.specs.declared.effect.Argument.{Argument}
-use Rattle.ac_commands.specs.declared.effect.Argument.TheVariants as g
+use Rattle.ac_commands.specs.declared.command.Target.{Target}
+use Rattle.ac_commands.specs.declared.command.Target.TheVariants as t
 use Rattle.ac_commands.specs.declared.command.Command.{Command}
 use Rattle.ac_commands.specs.declared.command.Command.TheVariants as d
 
@@ -35,11 +36,21 @@ array_of (Some (m.ArrayParam slot)) depth = a.Param depth slot
 array_of _ depth = a.Global 0 0
 
 -- a name as an argument: a reference, where it is that of an array
-abbrev pub name_argument : Option Meaning → ℕ → Argument
-name_argument (Some (m.GlobalArray slot len)) depth = g.Array (a.Global slot len)
-name_argument (Some (m.LocalArray there slot len)) depth = g.Array (a.Local (depth - there) slot len)
-name_argument (Some (m.ArrayParam slot)) depth = g.Array (a.Param depth slot)
-name_argument meaning depth = g.Value (v.Variable (place_of meaning depth))
+abbrev pub name_argument : Option Meaning → ℕ → Value
+name_argument (Some (m.GlobalArray slot len)) depth = v.Reference (a.Global slot len)
+name_argument (Some (m.LocalArray there slot len)) depth = v.Reference (a.Local (depth - there) slot len)
+name_argument (Some (m.ArrayParam slot)) depth = v.Reference (a.Param depth slot)
+name_argument meaning depth = v.Variable (place_of meaning depth)
+
+-- an int variable as an array of one element
+abbrev pub array_at : Place → Array
+array_at (p.Global slot) = a.Global slot 1
+array_at (p.Local level slot) = a.Local level slot 1
+
+-- a reference to the one int that is a target
+abbrev pub reference_to : Target → Value
+reference_to (t.Variable place) = v.Reference (array_at place)
+reference_to (t.Element array index) = v.Part array index
 
 -- a label
 abbrev pub cancel_of : Option Meaning → ℕ → Command

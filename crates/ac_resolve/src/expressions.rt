@@ -1,18 +1,17 @@
 //! Expressions without their names.
 
-ghost use Rattle.std.specs.Prelude.{◌≡◌, IfOk};
-ghost use Rattle.ac_commands.specs.declared.effect.Argument.TheVariants as g;
-ghost use Rattle.ac_commands.specs.declared.effect.Effect.TheVariants as f;
-ghost use Rattle.ac_commands.specs.declared.effect.Target.TheVariants as t;
+ghost use Rattle.std.specs.Prelude.{◌≡◌, [], ◌∷◌, IfOk};
+ghost use Rattle.ac_commands.specs.declared.command.Target.TheVariants as t;
 ghost use Rattle.ac_commands.specs.declared.value.Place.TheVariants as p;
-ghost use Rattle.ac_resolve.specs.Computed.{value_in, links_in, values_in, test_in, argument_in};
-ghost use Rattle.ac_resolve.specs.Computed.{arguments_in, target_in, effect_in, initial_in, operand_in};
+ghost use Rattle.ac_commands.specs.declared.value.Value.TheVariants as v;
+ghost use Rattle.ac_resolve.specs.Places.{reference_to};
+ghost use Rattle.ac_resolve.specs.Computed.{value_in, links_in, values_in, some_in, argument_in, arguments_in, target_in, initial_in};
 
 use crate::names::{
-    array_of, channel_of, constant_value, file_of, function_of, name_argument, place_of,
+    array_at, array_of, channel_of, constant_value, file_of, function_of, name_argument, place_of,
 };
 use ac_base::{Boxed, List, NoMemory};
-use ac_commands::{Argument, Effect, Place, Target, Value, ValueLink};
+use ac_commands::{Action, Array, Place, Target, Value, ValueLink};
 use ac_names::Scopes;
 use ac_tree::{Expr, Link};
 use std::alloc::Global;
@@ -48,12 +47,140 @@ pub fn value_in(alloc: Global, scopes: &Scopes, depth: u32, expr: &Expr) -> Resu
             let rest = links_in(alloc, scopes, depth, rest.as_slice())?;
             Ok(Value::Chain { first, rest })
         }
-        Expr::Call { .. } => Ok(Value::Number(0)),
-        Expr::Send { .. } => Ok(Value::Number(0)),
-        Expr::Recv { .. } => Ok(Value::Number(0)),
-        Expr::Read { .. } => Ok(Value::Number(0)),
-        Expr::Write { .. } => Ok(Value::Number(0)),
+        Expr::Call { at: _, name, args } => {
+            let function = function_of(scopes.find(name));
+            let operands = arguments_in(alloc, scopes, depth, args.as_slice())?;
+            Ok(Value::Act {
+                action: Action::Call { function },
+                operands,
+            })
+        }
+        Expr::Send {
+            at: _,
+            channel,
+            value,
+        } => {
+            let channel = channel_of(scopes.find(channel));
+            let value = value_in(alloc, scopes, depth, value.get())?;
+            act_on(alloc, Action::Send { channel }, value)
+        }
+        Expr::Recv {
+            at: _,
+            channel,
+            place,
+        } => {
+            let channel = channel_of(scopes.find(channel));
+            let place = reference_in(alloc, scopes, depth, place.get())?;
+            act_on(alloc, Action::Recv { channel }, place)
+        }
+        Expr::Read {
+            at: _,
+            file,
+            from,
+            len,
+            array,
+        } => {
+            let action = Action::Read {
+                file: file_of(scopes.find(file)),
+            };
+            let array = array_of(scopes.find(array), depth);
+            let from = value_in(alloc, scopes, depth, from.get())?;
+            let len = value_in(alloc, scopes, depth, len.get())?;
+            act_in_file(alloc, action, from, len, array)
+        }
+        Expr::Write {
+            at: _,
+            file,
+            from,
+            len,
+            array,
+        } => {
+            let action = Action::Write {
+                file: file_of(scopes.find(file)),
+            };
+            let array = array_of(scopes.find(array), depth);
+            let from = value_in(alloc, scopes, depth, from.get())?;
+            let len = value_in(alloc, scopes, depth, len.get())?;
+            act_in_file(alloc, action, from, len, array)
+        }
     }
+}
+
+/// An operation with one operand.
+fn act_on(alloc: Global, action: Action, operand: Value) -> Result<Value, NoMemory>
+    ensures { IfOk result (λ value. value ≡ v.Act action (operand ∷ [])) }
+{
+    let mut operands = List::new(alloc);
+    operands.push(operand)?;
+    Ok(Value::Act { action, operands })
+}
+
+/// A Read or a Write, with the place in the file, the length and the array.
+fn act_in_file(
+    alloc: Global,
+    action: Action,
+    from: Value,
+    len: Value,
+    array: Array,
+) -> Result<Value, NoMemory>
+    ensures { IfOk result (λ value. value ≡ v.Act action (from ∷ len ∷ v.Reference array ∷ [])) }
+{
+    let mut operands = List::new(alloc);
+    operands.push(from)?;
+    operands.push(len)?;
+    operands.push(Value::Reference(array))?;
+    Ok(Value::Act { action, operands })
+}
+
+/// A reference to the one int that an expression is the place of.
+#[cycle(value)]
+fn reference_in(alloc: Global, scopes: &Scopes, depth: u32, expr: &Expr) -> Result<Value, NoMemory>
+    ensures { IfOk result (λ v. v ≡ reference_to (target_in expr.now scopes.now depth)) }
+{
+    match target_in(alloc, scopes, depth, expr)? {
+        Target::Variable(place) => Ok(Value::Reference(array_at(place))),
+        Target::Element { array, index } => {
+            let index = Boxed::new(alloc, index)?;
+            Ok(Value::Part { array, index })
+        }
+    }
+}
+
+/// An argument of a call: a reference, where it is the name of an array.
+#[cycle(value)]
+fn argument_in(alloc: Global, scopes: &Scopes, depth: u32, expr: &Expr) -> Result<Value, NoMemory>
+    ensures { IfOk result (λ a. a ≡ argument_in expr.now scopes.now depth) }
+{
+    match expr {
+        Expr::Name { at: _, name } => Ok(name_argument(scopes.find(name), depth)),
+        Expr::Number { .. } => value_in(alloc, scopes, depth, expr),
+        Expr::Const { .. } => value_in(alloc, scopes, depth, expr),
+        Expr::Index { .. } => value_in(alloc, scopes, depth, expr),
+        Expr::Group { .. } => value_in(alloc, scopes, depth, expr),
+        Expr::Unary { .. } => value_in(alloc, scopes, depth, expr),
+        Expr::Chain { .. } => value_in(alloc, scopes, depth, expr),
+        Expr::Call { .. } => value_in(alloc, scopes, depth, expr),
+        Expr::Send { .. } => value_in(alloc, scopes, depth, expr),
+        Expr::Recv { .. } => value_in(alloc, scopes, depth, expr),
+        Expr::Read { .. } => value_in(alloc, scopes, depth, expr),
+        Expr::Write { .. } => value_in(alloc, scopes, depth, expr),
+    }
+}
+
+#[cycle(value)]
+fn arguments_in(
+    alloc: Global,
+    scopes: &Scopes,
+    depth: u32,
+    exprs: &[Expr],
+) -> Result<List<Value>, NoMemory>
+    ensures { IfOk result (λ list. list ≡ arguments_in exprs.now scopes.now depth) }
+{
+    let mut list = List::new(alloc);
+    for expr in exprs {
+        list.push(argument_in(alloc, scopes, depth, expr)?)?;
+    }
+    Ok(list)
 }
 
 #[cycle(value)]
@@ -104,71 +231,6 @@ pub fn values_in(
     Ok(list)
 }
 
-/// The value of a test, where there is one.
-pub fn test_in(
-    alloc: Global,
-    scopes: &Scopes,
-    depth: u32,
-    test: &Option<Expr>,
-) -> Result<Option<Value>, NoMemory>
-    ensures { IfOk result (λ t. t ≡ test_in test.now scopes.now depth) }
-{
-    match test {
-        None => Ok(None),
-        Some(expr) => Ok(Some(value_in(alloc, scopes, depth, expr)?)),
-    }
-}
-
-fn plain_argument(
-    alloc: Global,
-    scopes: &Scopes,
-    depth: u32,
-    expr: &Expr,
-) -> Result<Argument, NoMemory>
-    ensures { IfOk result (λ a. a ≡ g.Value (value_in expr.now scopes.now depth)) }
-{
-    Ok(Argument::Value(value_in(alloc, scopes, depth, expr)?))
-}
-
-fn argument_in(
-    alloc: Global,
-    scopes: &Scopes,
-    depth: u32,
-    expr: &Expr,
-) -> Result<Argument, NoMemory>
-    ensures { IfOk result (λ a. a ≡ argument_in expr.now scopes.now depth) }
-{
-    match expr {
-        Expr::Name { at: _, name } => Ok(name_argument(scopes.find(name), depth)),
-        Expr::Number { .. } => plain_argument(alloc, scopes, depth, expr),
-        Expr::Const { .. } => plain_argument(alloc, scopes, depth, expr),
-        Expr::Index { .. } => plain_argument(alloc, scopes, depth, expr),
-        Expr::Group { .. } => plain_argument(alloc, scopes, depth, expr),
-        Expr::Unary { .. } => plain_argument(alloc, scopes, depth, expr),
-        Expr::Chain { .. } => plain_argument(alloc, scopes, depth, expr),
-        Expr::Call { .. } => plain_argument(alloc, scopes, depth, expr),
-        Expr::Send { .. } => plain_argument(alloc, scopes, depth, expr),
-        Expr::Recv { .. } => plain_argument(alloc, scopes, depth, expr),
-        Expr::Read { .. } => plain_argument(alloc, scopes, depth, expr),
-        Expr::Write { .. } => plain_argument(alloc, scopes, depth, expr),
-    }
-}
-
-fn arguments_in(
-    alloc: Global,
-    scopes: &Scopes,
-    depth: u32,
-    exprs: &[Expr],
-) -> Result<List<Argument>, NoMemory>
-    ensures { IfOk result (λ list. list ≡ arguments_in exprs.now scopes.now depth) }
-{
-    let mut list = List::new(alloc);
-    for expr in exprs {
-        list.push(argument_in(alloc, scopes, depth, expr)?)?;
-    }
-    Ok(list)
-}
-
 fn no_target() -> Target
     ensures { result ≡ t.Variable (p.Global 0) }
 {
@@ -176,6 +238,7 @@ fn no_target() -> Target
 }
 
 /// The target that an expression is.
+#[cycle(value)]
 pub fn target_in(
     alloc: Global,
     scopes: &Scopes,
@@ -206,117 +269,32 @@ pub fn target_in(
     }
 }
 
-fn plain_effect(alloc: Global, scopes: &Scopes, depth: u32, expr: &Expr) -> Result<Effect, NoMemory>
-    ensures { IfOk result (λ e. e ≡ f.Value (value_in expr.now scopes.now depth)) }
-{
-    Ok(Effect::Value(value_in(alloc, scopes, depth, expr)?))
-}
-
-/// The effect of an expression that stands whole.
-pub fn effect_in(
+/// The value of an expression that may be left out.
+pub fn some_in(
     alloc: Global,
     scopes: &Scopes,
     depth: u32,
-    expr: &Expr,
-) -> Result<Effect, NoMemory>
-    ensures { IfOk result (λ e. e ≡ effect_in expr.now scopes.now depth) }
+    expr: &Option<Expr>,
+) -> Result<Option<Value>, NoMemory>
+    ensures { IfOk result (λ v. v ≡ some_in expr.now scopes.now depth) }
 {
     match expr {
-        Expr::Call { at: _, name, args } => {
-            let function = function_of(scopes.find(name));
-            let args = arguments_in(alloc, scopes, depth, args.as_slice())?;
-            Ok(Effect::Call { function, args })
-        }
-        Expr::Send {
-            at: _,
-            channel,
-            value,
-        } => {
-            let channel = channel_of(scopes.find(channel));
-            let value = value_in(alloc, scopes, depth, value.get())?;
-            Ok(Effect::Send { channel, value })
-        }
-        Expr::Recv {
-            at: _,
-            channel,
-            place,
-        } => {
-            let channel = channel_of(scopes.find(channel));
-            let target = target_in(alloc, scopes, depth, place.get())?;
-            Ok(Effect::Recv { channel, target })
-        }
-        Expr::Read {
-            at: _,
-            file,
-            from,
-            len,
-            array,
-        } => {
-            let file = file_of(scopes.find(file));
-            let array = array_of(scopes.find(array), depth);
-            let from = value_in(alloc, scopes, depth, from.get())?;
-            let len = value_in(alloc, scopes, depth, len.get())?;
-            Ok(Effect::Read {
-                file,
-                from,
-                len,
-                array,
-            })
-        }
-        Expr::Write {
-            at: _,
-            file,
-            from,
-            len,
-            array,
-        } => {
-            let file = file_of(scopes.find(file));
-            let array = array_of(scopes.find(array), depth);
-            let from = value_in(alloc, scopes, depth, from.get())?;
-            let len = value_in(alloc, scopes, depth, len.get())?;
-            Ok(Effect::Write {
-                file,
-                from,
-                len,
-                array,
-            })
-        }
-        Expr::Number { .. } => plain_effect(alloc, scopes, depth, expr),
-        Expr::Const { .. } => plain_effect(alloc, scopes, depth, expr),
-        Expr::Name { .. } => plain_effect(alloc, scopes, depth, expr),
-        Expr::Index { .. } => plain_effect(alloc, scopes, depth, expr),
-        Expr::Group { .. } => plain_effect(alloc, scopes, depth, expr),
-        Expr::Unary { .. } => plain_effect(alloc, scopes, depth, expr),
-        Expr::Chain { .. } => plain_effect(alloc, scopes, depth, expr),
+        None => Ok(None),
+        Some(expr) => Ok(Some(value_in(alloc, scopes, depth, expr)?)),
     }
 }
 
-/// The effect with which a variable starts.
+/// The value with which a variable starts.
 pub fn initial_in(
     alloc: Global,
     scopes: &Scopes,
     depth: u32,
     value: &Option<Expr>,
-) -> Result<Effect, NoMemory>
-    ensures { IfOk result (λ e. e ≡ initial_in value.now scopes.now depth) }
+) -> Result<Value, NoMemory>
+    ensures { IfOk result (λ v. v ≡ initial_in value.now scopes.now depth) }
 {
     match value {
-        None => Ok(Effect::Value(Value::Number(0))),
-        Some(expr) => effect_in(alloc, scopes, depth, expr),
-    }
-}
-
-/// The effect of the operand of a `return`, where there is one.
-pub fn operand_in(
-    alloc: Global,
-    scopes: &Scopes,
-    depth: u32,
-    value: &Option<Expr>,
-) -> Result<Option<Effect>, NoMemory>
-    ensures { IfOk result (λ e. e ≡ operand_in value.now scopes.now depth) }
-{
-    match value {
-        None => Ok(None),
-        Some(expr) => Ok(Some(effect_in(alloc, scopes, depth, expr)?)),
+        None => Ok(Value::Number(0)),
+        Some(expr) => value_in(alloc, scopes, depth, expr),
     }
 }

@@ -5,6 +5,7 @@ ghost use Rattle.ac_tree.specs.Weight.{body_weight, params_weight, item_weight, 
 ghost use Rattle.ac_names.specs.Items.{no_past, past_all};
 ghost use Rattle.ac_names.specs.Room.{HasCounts};
 ghost use Rattle.ac_names.specs.Numbered.{file_paths};
+ghost use Rattle.ac_resolve.specs.InPlace.{IsInPlace};
 ghost use Rattle.ac_resolve.specs.Resolution.{function_in, functions_in, cores_in, channels_in, starts_in, resolved};
 ghost use Rattle.ac_resolve.specs.InPlace.{IsInPlace};
 ghost use Rattle.ac_resolve.specs.inner.Walks.{HasTexts, after_function, after_functions, after_global};

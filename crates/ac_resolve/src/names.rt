@@ -1,10 +1,10 @@
 //! What a name stands for, by what it means and by the number of async bodies round its use.
 
 ghost use Rattle.std.specs.Prelude.{◌≡◌, ◌-◌};
-ghost use Rattle.ac_resolve.specs.Places.{constant_value, place_of, array_of, name_argument};
+ghost use Rattle.ac_resolve.specs.Places.{constant_value, place_of, array_of, name_argument, array_at};
 ghost use Rattle.ac_resolve.specs.Places.{cancel_of, function_of, channel_of, file_of, core_of};
 
-use ac_commands::{Argument, Array, Command, Place, Value};
+use ac_commands::{Array, Command, Place, Value};
 use ac_names::Meaning;
 use ac_tree::Constant;
 
@@ -62,14 +62,28 @@ pub fn array_of(meaning: Option<Meaning>, depth: u32) -> Array
 }
 
 /// A name as an argument.
-pub fn name_argument(meaning: Option<Meaning>, depth: u32) -> Argument
+pub fn name_argument(meaning: Option<Meaning>, depth: u32) -> Value
     ensures { result ≡ name_argument meaning depth }
 {
     match meaning {
-        Some(Meaning::GlobalArray { .. }) => Argument::Array(array_of(meaning, depth)),
-        Some(Meaning::LocalArray { .. }) => Argument::Array(array_of(meaning, depth)),
-        Some(Meaning::ArrayParam(_)) => Argument::Array(array_of(meaning, depth)),
-        _ => Argument::Value(Value::Variable(place_of(meaning, depth))),
+        Some(Meaning::GlobalArray { .. }) => Value::Reference(array_of(meaning, depth)),
+        Some(Meaning::LocalArray { .. }) => Value::Reference(array_of(meaning, depth)),
+        Some(Meaning::ArrayParam(_)) => Value::Reference(array_of(meaning, depth)),
+        _ => Value::Variable(place_of(meaning, depth)),
+    }
+}
+
+/// An int variable as an array of one element.
+pub fn array_at(place: Place) -> Array
+    ensures { result ≡ array_at place }
+{
+    match place {
+        Place::Global { slot } => Array::Global { slot, len: 1 },
+        Place::Local { level, slot } => Array::Local {
+            level,
+            slot,
+            len: 1,
+        },
     }
 }
 

@@ -9,13 +9,11 @@ ghost use Rattle.ac_names.specs.Statements.{array_len};
 ghost use Rattle.ac_commands.specs.declared.command.Command.TheVariants as d;
 ghost use Rattle.ac_resolve.specs.Commands.{told, some_told, body_told};
 ghost use Rattle.ac_resolve.specs.inner.Forms.{print_told, int_told, array_told, if_told, while_told, for_told, do_told, async_told};
-ghost use Rattle.ac_resolve.specs.Computed.{target_in, effect_in, operand_in};
+ghost use Rattle.ac_resolve.specs.Computed.{value_in, target_in, some_in};
 ghost use Rattle.ac_resolve.specs.inner.Walks.{HasTexts, after, does, after_listed, after_some, some_does};
 ghost use Rattle.ac_resolve.specs.inner.Walks.{other_does, after_init, after_body, body_does, after_scope, scope_does};
 
-use crate::expressions::{
-    effect_in, initial_in, operand_in, target_in, test_in, value_in, values_in,
-};
+use crate::expressions::{initial_in, some_in, target_in, value_in, values_in};
 use crate::names::cancel_of;
 use crate::walk::Walk;
 use ac_base::{Boxed, Bytes, List, Name, NoMemory};
@@ -68,10 +66,10 @@ fn resolve_assign(
     place: &Expr,
     value: &Expr,
 ) -> Result<(), NoMemory>
-    ensures { OnOk result (out.new ≡ out.old ++ d.Set (target_in place.now scopes.now depth) (effect_in value.now scopes.now depth) ∷ []) }
+    ensures { OnOk result (out.new ≡ out.old ++ d.Set (target_in place.now scopes.now depth) (value_in value.now scopes.now depth) ∷ []) }
 {
     let target = target_in(alloc, scopes, depth, place)?;
-    let value = effect_in(alloc, scopes, depth, value)?;
+    let value = value_in(alloc, scopes, depth, value)?;
     out.push(Command::Set { target, value })
 }
 
@@ -82,9 +80,9 @@ fn resolve_call(
     out: &mut List<Command>,
     call: &Expr,
 ) -> Result<(), NoMemory>
-    ensures { OnOk result (out.new ≡ out.old ++ d.Run (effect_in call.now scopes.now depth) ∷ []) }
+    ensures { OnOk result (out.new ≡ out.old ++ d.Run (value_in call.now scopes.now depth) ∷ []) }
 {
-    out.push(Command::Run(effect_in(alloc, scopes, depth, call)?))
+    out.push(Command::Run(value_in(alloc, scopes, depth, call)?))
 }
 
 fn resolve_return(
@@ -94,9 +92,9 @@ fn resolve_return(
     out: &mut List<Command>,
     value: &Option<Expr>,
 ) -> Result<(), NoMemory>
-    ensures { OnOk result (out.new ≡ out.old ++ d.Return (operand_in value.now scopes.now depth) ∷ []) }
+    ensures { OnOk result (out.new ≡ out.old ++ d.Return (some_in value.now scopes.now depth) ∷ []) }
 {
-    out.push(Command::Return(operand_in(alloc, scopes, depth, value)?))
+    out.push(Command::Return(some_in(alloc, scopes, depth, value)?))
 }
 
 fn resolve_print(
@@ -241,7 +239,7 @@ fn resolve_for(
 {
     walk.names.scopes.open()?;
     resolve_init(alloc, walk, depth, out, init)?;
-    let test = test_in(alloc, &walk.names.scopes, depth, test)?;
+    let test = some_in(alloc, &walk.names.scopes, depth, test)?;
     let next = resolve_some(alloc, walk, depth, next)?;
     let body = resolve_part(alloc, walk, depth, body)?;
     walk.names.scopes.close();

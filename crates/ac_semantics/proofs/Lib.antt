@@ -1,1 +1,3 @@
+pub mod Forms
+pub mod Around
 pub mod Examples

@@ -1,5 +1,6 @@
--- What expressions are in a frame of a core: a value, an array, or the first trap from left to right.
-use Rattle.std.specs.Prelude.{ℤ, pos, List, [], ◌∷◌, Some, None, Result, Ok}
+-- What expressions come to in a frame of a core, from left to right: a cell, the first trap, or a stop, where something waits for a value.
+-- What is still to come of an expression that has stopped is the list of what is round its open place, from there outwards.
+use Rattle.std.specs.Prelude.{ℤ, pos, List, [], ◌∷◌, map, Some, None, Result, Ok, Err}
 use Rattle.ac_base.specs.declared.ends.Trap.{Trap}
 use Rattle.ac_tree.specs.declared.expr.UnaryOp.{UnaryOp}
 use Rattle.ac_tree.specs.declared.expr.UnaryOp.TheVariants as u
@@ -10,19 +11,18 @@ use Rattle.work_item.specs.declared.cell.Place as cells
 use Rattle.work_item.specs.declared.cell.Cell.{Cell}
 use Rattle.work_item.specs.declared.cell.Cell.TheVariants as c
 use Rattle.work_item.specs.Store.{Store, above, cell_at, int_in, place_in, global_at}
-use Rattle.core_state.specs.Arithmetic.{Computed, bind, at_zero, truth, negated, not_true, flipped, sum_of}
+use Rattle.core_state.specs.Arithmetic.{Computed, at_zero, truth, negated, not_true, flipped, sum_of}
 use Rattle.core_state.specs.Arithmetic.{difference_of, product_of, quotient, remainder, shifted_left, shifted_right}
 use Rattle.core_state.specs.Arithmetic.{is_equal, is_not_equal, is_less, is_at_most, both_bits, either_bits, differing_bits}
-use Rattle.core_state.specs.Frames.{element}
+use Rattle.core_state.specs.Frames.{element, part_at}
 use Rattle.ac_commands.specs.declared.value.Place.{Place}
 use Rattle.ac_commands.specs.declared.value.Place.TheVariants as p
 use Rattle.ac_commands.specs.declared.value.Array.{Array}
 use Rattle.ac_commands.specs.declared.value.Array.TheVariants as a
-use Rattle.ac_commands.specs.declared.value.Value.{Value, fold-Value}
+use Rattle.ac_commands.specs.declared.value.Action.{Action}
+use Rattle.ac_commands.specs.declared.value.Value.{Value, roll-Value, map-Value, fold-Value}
 use Rattle.ac_commands.specs.declared.value.ValueLink.{ValueLink, fold-ValueLink}
 use Rattle.ac_commands.specs.declared.value.Value.TheOpen.{Value-F, ValueLink-F}
-use Rattle.ac_commands.specs.declared.effect.Argument.{Argument}
-use Rattle.ac_commands.specs.declared.effect.Argument.TheVariants as g
 
 -- ---- operators
 
@@ -31,10 +31,10 @@ unary u.Neg x = negated x
 unary u.Not x = not_true x
 unary u.Flip x = flipped x
 
--- `||` and `&&` have a right side that is not always evaluated, and no case here
+-- after the left operand of `||` and `&&` has not decided alone, the truth of the right one is the value
 abbrev pub operate : BinaryOp → ℤ → ℤ → Computed
-operate b.Or x y = Ok (pos 0)
-operate b.And x y = Ok (pos 0)
+operate b.Or x y = Ok (truth y)
+operate b.And x y = Ok (truth y)
 operate b.BitOr x y = Ok (either_bits x y)
 operate b.BitXor x y = Ok (differing_bits x y)
 operate b.BitAnd x y = Ok (both_bits x y)
@@ -52,56 +52,143 @@ operate b.Mul x y = Ok (product_of x y)
 operate b.Div x y = quotient x y
 operate b.Rem x y = remainder x y
 
--- one operand more on the right
-abbrev pub joined : Computed → BinaryOp → Computed → Computed
-joined left b.Or right = bind left (λ x. at_zero x (bind right (λ y. Ok (truth y))) (Ok (pos 1)))
-joined left b.And right = bind left (λ x. at_zero x (Ok (pos 0)) (bind right (λ y. Ok (truth y))))
-joined left op right = bind left (λ x. bind right (operate op x))
-
--- a chain groups to the left
-abbrev pub chained : Computed → List (BinaryOp × Computed) → Computed
-chained left [] = left
-chained left (l ∷ links) = chained (joined left l.0 l.1) links
-
 -- ---- places
 
-abbrev pub variable : Store → FrameId → Place → ℤ
-variable s frame (p.Global slot) = global_at s slot
-variable s frame (p.Local level slot) = int_in (cell_at s frame level slot)
+-- what stands at a place, as it is
+abbrev pub variable : Store → FrameId → Place → Cell
+variable s frame (p.Global slot) = c.Int (global_at s slot)
+variable s frame (p.Local level slot) = cell_at s frame level slot
+
+-- a reference to an array; a parameter holds one
+abbrev pub reference : Store → FrameId → Array → Cell
+reference s frame (a.Global slot len) = c.Array (record { home = None; start = slot; len = len })
+reference s frame (a.Local level slot len) = c.Array (record { home = Some (above s frame level); start = slot; len = len })
+reference s frame (a.Param level slot) = cell_at s frame level slot
 
 abbrev pub array : Store → FrameId → Array → cells.Place
-array s frame (a.Global slot len) = record { home = None; start = slot; len = len }
-array s frame (a.Local level slot len) = record { home = Some (above s frame level); start = slot; len = len }
-array s frame (a.Param level slot) = place_in (cell_at s frame level slot)
+array s frame whole = place_in (reference s frame whole)
 
--- ---- values
+-- ---- what is round an open place
 
-abbrev pub value_step : Store → FrameId → Value-F Computed (BinaryOp × Computed) → Computed
-value_step s frame (Value-F.Number value) = Ok value
-value_step s frame (Value-F.Variable place) = Ok (variable s frame place)
-value_step s frame (Value-F.Element whole index) = bind index (element s (array s frame whole))
-value_step s frame (Value-F.Unary op operand) = bind operand (λ x. Ok (unary op x))
-value_step s frame (Value-F.Chain first rest) = chained first rest
+-- what takes operands: a call or an operation, or the statement itself
+pub data Head : Type 0 where
+  Acting : Action → Head
+  Ending : Head
 
-abbrev pub link_step : ValueLink-F Computed (BinaryOp × Computed) → BinaryOp × Computed
+-- A part of a statement with an open place in it. What was computed before stands in it as a cell or an int.
+pub data Context : Type 0 where
+  -- the index of an element, and of a reference to one
+  ElementAt : cells.Place → Context
+  PartAt : cells.Place → Context
+  Operand : UnaryOp → Context
+  -- the first operand of a chain, and a right one after the value on its left
+  First : List ValueLink → Context
+  Right : ℤ → BinaryOp → List ValueLink → Context
+  -- one of several operands; of those before it the last is the first
+  Operands : Head → List Cell → List Value → Context
+
+-- what an expression comes to, or a row of operands: a stop is at a head, with its operands, of which the last is the first
+pub data Outcome : Type 0 where
+  Comes : Cell → Outcome
+  Traps : Trap → Outcome
+  Stops : Head → List Cell → List Context → Outcome
+
+abbrev pub then_goes : Outcome → (Cell → Outcome) → Outcome
+then_goes (Comes x) f = f x
+then_goes (Traps trap) f = Traps trap
+then_goes (Stops head operands around) f = Stops head operands around
+
+abbrev pub then_int : Computed → (ℤ → Outcome) → Outcome
+then_int (Ok x) f = f x
+then_int (Err trap) f = Traps trap
+
+abbrev pub comes_int : ℤ → Outcome
+comes_int x = Comes (c.Int x)
+
+abbrev pub then_part : Result cells.Place Trap → Outcome
+then_part (Ok place) = Comes (c.Array place)
+then_part (Err trap) = Traps trap
+
+-- an expression in a state, by what is round it
+abbrev pub Goes : Type 0
+Goes = List Context → Outcome
+
+-- an expression or a right operand, beside what it comes to
+abbrev pub Told : Type 0
+Told = Value × Goes
+
+abbrev pub LinkTold : Type 0
+LinkTold = BinaryOp × Told
+
+abbrev pub link_in : LinkTold → ValueLink
+link_in l = record { op = l.0; operand = l.1.0 }
+
+-- the left operand of `||` and `&&` may decide alone
+abbrev pub unless_decided : BinaryOp → ℤ → (ℤ → Outcome) → Outcome → Outcome
+unless_decided b.Or x decided right = at_zero x right (decided (pos 1))
+unless_decided b.And x decided right = at_zero x (decided (pos 0)) right
+unless_decided op x decided right = right
+
+-- a chain groups to the left; without an operator it is its operand
+abbrev pub chained : Cell → List LinkTold → Goes
+chained x [] around = Comes x
+chained x (l ∷ links) around =
+    unless_decided l.0 (int_in x) (λ v. chained (c.Int v) links around)
+    (then_goes (l.1.1 (Right (int_in x) l.0 (map link_in links) ∷ around)) (λ y.
+    then_int (operate l.0 (int_in x) (int_in y)) (λ v. chained (c.Int v) links around)))
+
+-- operands from left to right, and then the stop at what takes them
+abbrev pub row : Head → List Cell → List Told → Goes
+row head operands [] around = Stops head operands around
+row head operands (x ∷ xs) around =
+    then_goes (x.1 (Operands head operands (map (λ t. t.0) xs) ∷ around)) (λ v. row head (v ∷ operands) xs around)
+
+abbrev pub goes_step : Store → FrameId → Value-F Told LinkTold → Goes
+goes_step s frame (Value-F.Number value) around = comes_int value
+goes_step s frame (Value-F.Variable place) around = Comes (variable s frame place)
+goes_step s frame (Value-F.Reference whole) around = Comes (reference s frame whole)
+goes_step s frame (Value-F.Element whole index) around =
+    then_goes (index.1 (ElementAt (array s frame whole) ∷ around)) (λ y. then_int (element s (array s frame whole) (int_in y)) comes_int)
+goes_step s frame (Value-F.Part whole index) around =
+    then_goes (index.1 (PartAt (array s frame whole) ∷ around)) (λ y. then_part (part_at (array s frame whole) (int_in y)))
+goes_step s frame (Value-F.Unary op operand) around = then_goes (operand.1 (Operand op ∷ around)) (λ x. comes_int (unary op (int_in x)))
+goes_step s frame (Value-F.Chain first rest) around =
+    then_goes (first.1 (First (map link_in rest) ∷ around)) (λ x. chained x rest around)
+goes_step s frame (Value-F.Act action operands) around = row (Acting action) [] operands around
+
+abbrev pub told_step : Store → FrameId → Value-F Told LinkTold → Told
+told_step s frame x = (roll-Value (map-Value Told LinkTold Value ValueLink (λ t. t.0) link_in x), goes_step s frame x)
+
+abbrev pub link_step : ValueLink-F Told LinkTold → LinkTold
 link_step link = (link.op, link.operand)
 
-abbrev pub value_of : Store → FrameId → Value → Computed
-value_of s frame = fold-Value Computed (BinaryOp × Computed) (value_step s frame) link_step
+abbrev pub told : Store → FrameId → Value → Told
+told s frame = fold-Value Told LinkTold (told_step s frame) link_step
 
-abbrev pub link_of : Store → FrameId → ValueLink → BinaryOp × Computed
-link_of s frame = fold-ValueLink Computed (BinaryOp × Computed) (value_step s frame) link_step
+abbrev pub link_told : Store → FrameId → ValueLink → LinkTold
+link_told s frame = fold-ValueLink Told LinkTold (told_step s frame) link_step
 
--- ---- several, from left to right
+abbrev pub goes : Store → FrameId → Value → Goes
+goes s frame x = (told s frame x).1
 
-abbrev pub values_of : Store → FrameId → List Value → Result (List ℤ) Trap
-values_of s frame [] = Ok []
-values_of s frame (x ∷ xs) = bind (value_of s frame x) (λ v. bind (values_of s frame xs) (λ vs. Ok (v ∷ vs)))
+abbrev pub chain_goes : Store → FrameId → Cell → List ValueLink → Goes
+chain_goes s frame x links = chained x (map (link_told s frame) links)
 
-abbrev pub argument_of : Store → FrameId → Argument → Result Cell Trap
-argument_of s frame (g.Value x) = bind (value_of s frame x) (λ v. Ok (c.Int v))
-argument_of s frame (g.Array x) = Ok (c.Array (array s frame x))
+abbrev pub row_goes : Store → FrameId → Head → List Cell → List Value → Goes
+row_goes s frame head operands xs = row head operands (map (told s frame) xs)
 
-abbrev pub arguments_of : Store → FrameId → List Argument → Result (List Cell) Trap
-arguments_of s frame [] = Ok []
-arguments_of s frame (x ∷ xs) = bind (argument_of s frame x) (λ v. bind (arguments_of s frame xs) (λ vs. Ok (v ∷ vs)))
+-- ---- going on
+
+-- a cell in the open place
+abbrev pub gives : Store → FrameId → Context → Cell → Goes
+gives s frame (ElementAt place) y around = then_int (element s place (int_in y)) comes_int
+gives s frame (PartAt place) y around = then_part (part_at place (int_in y))
+gives s frame (Operand op) x around = comes_int (unary op (int_in x))
+gives s frame (First rest) x around = chain_goes s frame x rest around
+gives s frame (Right x op rest) y around = then_int (operate op x (int_in y)) (λ v. chain_goes s frame (c.Int v) rest around)
+gives s frame (Operands head operands rest) v around = row_goes s frame head (v ∷ operands) rest around
+
+-- what has stopped, with a cell in its open place, in the state of this moment
+abbrev pub resumes : Store → FrameId → List Context → Cell → Outcome
+resumes s frame [] v = Comes v
+resumes s frame (x ∷ around) v = then_goes (gives s frame x v around) (λ w. resumes s frame around w)

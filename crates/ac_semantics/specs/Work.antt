@@ -1,28 +1,25 @@
 -- What a thread has still to do.
-use Rattle.std.specs.Prelude.{ℤ, List, [], ◌∷◌}
+use Rattle.std.specs.Prelude.{List, [], ◌∷◌}
 use Rattle.work_item.specs.declared.ids.FrameId.{FrameId}
 use Rattle.work_item.specs.declared.ids.BlockId.{BlockId}
-use Rattle.ac_commands.specs.declared.effect.Target.{Target}
+use Rattle.work_item.specs.declared.cell.Cell.{Cell}
 use Rattle.ac_commands.specs.declared.command.Command.{Command, out-Command}
 use Rattle.ac_commands.specs.declared.command.Command.TheOpen.{Command-F}
-
--- what is done with the value of a call
-pub data After : Type 0 where
-  Puts : Target → After
-  Drops : After
-  Gives : After
+use Rattle.ac_semantics.specs.Evaluation.{Context}
 
 -- statements, each with the frame in which it runs, and what is left of loops, calls and blocks
 pub data Work : Type 0 where
   Do : FrameId → Command → Work
+  -- a statement that waits for a value, and what is round the place where it will stand
+  Pend : FrameId → Command → List Context → Work
+  -- the same, where this value has come
+  Given : Cell → FrameId → Command → List Context → Work
   -- the end of a loop's body
   Turn : FrameId → Command → Work
   -- the finish of a block that was entered
   Close : BlockId → Work
-  -- the end of a called function that runs in the first frame; the second is its caller's
-  Back : FrameId → FrameId → After → Work
-  -- a call has given this value
-  Given : ℤ → FrameId → After → Work
+  -- the end of a called function that runs in this frame; a statement that waits comes next
+  Back : FrameId → Work
   -- the end of the core's entry
   Leave : Work
   -- the end of an async body that runs in this frame
@@ -62,3 +59,8 @@ abbrev pub closes : List Work → List BlockId
 closes [] = []
 closes (Close block ∷ ws) = block ∷ closes ws
 closes (_ ∷ ws) = closes ws
+
+-- the value for which the first statement waits has come
+abbrev pub given : Cell → List Work → List Work
+given value (Pend frame command around ∷ ws) = Given value frame command around ∷ ws
+given value ws = ws

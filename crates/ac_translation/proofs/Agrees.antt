@@ -25,8 +25,7 @@ use Rattle.ac_translation.proofs.Sized.{body_sized}
 use Rattle.ac_translation.proofs.Placed.{has_all, Placed, first_part, other_part, here}
 use Rattle.ac_translation.proofs.Functions.{EntersAt, Paired, functions_paired, entry_of, function_of, IsCodeOf}
 use Rattle.ac_translation.proofs.Works.{no_scope, Works, works, before_does}
-use Rattle.ac_translation.proofs.Standing.{Stands}
-use Rattle.ac_translation.proofs.Cores.{first_activation, core_follows, first_stands, cores_begin}
+use Rattle.ac_translation.proofs.Cores.{Accords, together, first_activation, core_follows, first_stands, cores_begin}
 
 -- ---- globals
 
@@ -67,35 +66,35 @@ module _ (program : Resolved) where
   is_code = record { texts = refl; functions = pairs }
 
   -- the thread of a core that is about to enter the function
-  first_works : (f : Function) (e : Entered) → EntersAt code.instrs f e → are_well_formed program.functions f.body in_function ≡ true
-      → Works code.instrs program.functions first_activation e.at [] (before first_frame f.body (Leave ∷ []))
+  first_works : (f : Function) (e : Entered) → EntersAt code.instrs f e → are_well_formed f.body in_function ≡ true
+      → Works code.instrs first_activation e.at [] (before first_frame f.body (Leave ∷ []))
   first_works f e h form =
       let body_at = first_part code.instrs (body_code f.body) last_code h.stands in
       let last_at = other_part code.instrs (body_code f.body) last_code (body_sized f.body) h.stands in
-      works no_scope (before_does code.instrs program.functions first_activation f.body (Leave ∷ []) no_scope form body_at (record {
+      works no_scope (before_does code.instrs first_activation f.body (Leave ∷ []) no_scope form body_at (record {
         last = record { at = e.at + (body_code f.body).size; to = h.to; jumps = here; stands = last_at; no_loop = refl; no_block = refl };
         alone = refl;
         entered = refl;
         nothing = refl;
       }))
 
-  both_begin : (f : Function) (e : Entered) → EntersAt code.instrs f e → are_well_formed program.functions f.body in_function ≡ true → (journal : List Entry)
-      → BothBegin (Stands code.instrs program.functions) (λ (x : FlatEnd). x.core) (first_state program f journal) (first_flat code e journal)
-  both_begin f e h form journal =
+  both_begin : (f : Function) (e : Entered) → EntersAt code.instrs f e → are_well_formed f.body in_function ≡ true → (bound : ℕ) (journal : List Entry)
+      → BothBegin (Accords code program bound) (λ (x : FlatEnd). x.core) (first_state program f journal) (first_flat code e journal)
+  both_begin f e h form bound journal =
       let globals = starts_are program.starts (replicate program.slots (pos 0)) in
       let s = first_shared journal in
       let start = λ (gs : List ℤ) (words : ℕ). begins (told 0) gs s words (λ store. On (first_machine e s store)) in
       let same : start (first_globals program) f.slots ≡ first_flat code e journal = ap (λ gs. start gs f.slots) (sym globals) ∙ ap (start (globals_made code)) (sym h.words) in
       let made = begun (first_store (first_globals program)) None (replicate f.slots no_int) in
-      subst (BothBegin (Stands code.instrs program.functions) (λ (x : FlatEnd). x.core) (first_state program f journal)) same
-      (cores_begin code program.functions (first_globals program) s made f e (λ store. first_stands code program.functions f e s store (first_works f e h form)))
+      subst (BothBegin (Accords code program bound) (λ (x : FlatEnd). x.core) (first_state program f journal)) same
+      (cores_begin (Accords code program bound) (first_globals program) s made f e (λ store. together (first_stands code f e s store (first_works f e h form))))
 
-  runs_same : IsWellFormed program → (f : Function) (e : Entered) → EntersAt code.instrs f e → are_well_formed program.functions f.body in_function ≡ true
+  runs_same : IsWellFormed program → (f : Function) (e : Entered) → EntersAt code.instrs f e → are_well_formed f.body in_function ≡ true
       → (bound : ℕ) (journal : List Entry) (end : Option CoreEnd) →
       ComesTo (step program bound) (first_state program f journal) end ↔ ((count : ℕ) × ComesTo (exec code bound) (first_flat code e journal) (record { core = end; count = count }))
   runs_same fine f e h form bound journal end =
-      let both = same_comes (step program bound) (exec code bound) (Stands code.instrs program.functions) (λ (x : FlatEnd). x.core) (core_follows code program is_code fine bound)
-      (first_state program f journal) (first_flat code e journal) (both_begin f e h form journal) end in (
+      let both = same_comes (step program bound) (exec code bound) (Accords code program bound) (λ (x : FlatEnd). x.core) (core_follows code program is_code fine bound)
+      (first_state program f journal) (first_flat code e journal) (both_begin f e h form bound journal) end in (
         λ x. let y = both.0 x in (y.0.count, subst (λ o. ComesTo (exec code bound) (first_flat code e journal) (record { core = o; count = y.0.count })) y.2 y.1),
         λ x. both.1 (record { core = end; count = x.0 }, x.1, refl),
       )

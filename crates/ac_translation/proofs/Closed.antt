@@ -4,23 +4,18 @@ use Rattle.std.specs.Prelude.{pos}
 use Rattle.ac_tree.specs.declared.expr.BinaryOp.{BinaryOp}
 use Rattle.ac_tree.specs.declared.expr.BinaryOp.TheVariants as b
 use Rattle.ac_commands.specs.declared.value.Place.TheVariants as p
-use Rattle.ac_commands.specs.declared.value.Array.{Array}
 use Rattle.ac_commands.specs.declared.value.Value.{Value, map-Value, ind-Value, fold-roll-Value}
 use Rattle.ac_commands.specs.declared.value.ValueLink.{ValueLink, fold-roll-ValueLink}
 use Rattle.ac_commands.specs.declared.value.Value.TheOpen.{Value-F, ValueLink-F}
-use Rattle.ac_commands.specs.declared.effect.Argument.{Argument}
-use Rattle.ac_commands.specs.declared.effect.Argument.TheVariants as g
-use Rattle.ac_commands.specs.declared.effect.Target.{Target}
-use Rattle.ac_commands.specs.declared.effect.Target.TheVariants as t
-use Rattle.ac_commands.specs.declared.effect.Effect.{Effect}
-use Rattle.ac_commands.specs.declared.effect.Effect.TheVariants as f
+use Rattle.ac_commands.specs.declared.command.Target.{Target}
+use Rattle.ac_commands.specs.declared.command.Target.TheVariants as t
 use Rattle.ac_commands.specs.declared.command.Command.{Command, map-Command, ind-Command, fold-roll-Command}
 use Rattle.ac_commands.specs.declared.command.Command.TheOpen.{Command-F}
 use Rattle.ac_commands.specs.declared.program.Function.{Function}
 use Rattle.stack_code.specs.declared.instr.Instr.{Instr}
 use Rattle.stack_code.specs.declared.instr.Instr.TheVariants as i
 use Rattle.ac_translation.specs.Pieces.{Piece, no_code, one, ◌⨾◌, all, over, out_past, out_turn, loop}
-use Rattle.ac_translation.specs.Translation.{lazily, joined_code, chained_code, array_code, value_step, link_step, value_code, link_code, values_code, argument_code, place_code, effect_code}
+use Rattle.ac_translation.specs.Translation.{lazily, joined_code, chained_code, value_step, link_step, value_code, link_code, values_code}
 use Rattle.ac_translation.specs.Translation.{target_code, test_code, at_loop, at_next, operand_code, command_step, command_code, body_code, last_code, function_code, functions_code}
 
 -- each way to make a piece keeps it
@@ -63,12 +58,19 @@ module _ (P : Piece → Type 0) (k : IsKept P) where
   chained [] = k.none
   chained (l ∷ links) = k.both _ _ (joined_has (link_code l.0).0 (link_code l.0).1 l.1) (chained links)
 
+  each : (xs : List Value_) → P (all (map value_code (map (λ (x : Value_). x.0) xs)))
+  each [] = k.none
+  each (x ∷ xs) = k.both _ _ x.1 (each xs)
+
   value_layer : (y : Value-F Value_ Link_) → P (value_step (map-Value Value ValueLink Piece (BinaryOp × Piece) value_code link_code (map-Value Value_ Link_ Value ValueLink (λ x. x.0) (λ l. l.0) y)))
   value_layer (Value-F.Number value) = k.single _
   value_layer (Value-F.Variable place) = k.single _
+  value_layer (Value-F.Reference array) = k.single _
   value_layer (Value-F.Element array index) = after_one _ _ (then_one _ i.Elem index.1)
+  value_layer (Value-F.Part array index) = after_one _ _ (then_one _ i.Place index.1)
   value_layer (Value-F.Unary op operand) = then_one _ _ operand.1
   value_layer (Value-F.Chain first rest) = k.both _ _ first.1 (chained rest)
+  value_layer (Value-F.Act action operands) = then_one _ _ (each operands)
 
   pub value_has : (x : Value) → P (value_code x)
   value_has =
@@ -88,32 +90,6 @@ module _ (P : Piece → Type 0) (k : IsKept P) where
   values_have [] = k.none
   values_have (x ∷ xs) = k.both _ _ (value_has x) (values_have xs)
 
-  -- ---- effects
-
-  pub argument_has : (x : Argument) → P (argument_code x)
-  argument_has (g.Value x) = value_has x
-  argument_has (g.Array x) = k.single _
-
-  pub arguments_have : (xs : List Argument) → P (all (map argument_code xs))
-  arguments_have [] = k.none
-  arguments_have (x ∷ xs) = k.both _ _ (argument_has x) (arguments_have xs)
-
-  pub place_has : (x : Target) → P (place_code x)
-  place_has (t.Variable (p.Global slot)) = k.single _
-  place_has (t.Variable (p.Local level slot)) = k.single _
-  place_has (t.Element array index) = after_one _ _ (then_one _ i.Place (value_has index))
-
-  transfer : (from len : Value) (array : Array) (instr : Instr) → P (value_code from ⨾ value_code len ⨾ one (array_code array) ⨾ one instr)
-  transfer from len array instr = k.both _ _ (value_has from) (k.both _ _ (value_has len) (after_one _ _ (k.single instr)))
-
-  pub effect_has : (x : Effect) → P (effect_code x)
-  effect_has (f.Value value) = value_has value
-  effect_has (f.Call function args) = then_one _ _ (arguments_have args)
-  effect_has (f.Send channel value) = then_one _ _ (value_has value)
-  effect_has (f.Recv channel target) = then_one _ _ (place_has target)
-  effect_has (f.Read file from len array) = transfer from len array _
-  effect_has (f.Write file from len array) = transfer from len array _
-
   -- ---- statements
 
   pub target_has : (x : Target) → P (target_code x)
@@ -121,9 +97,9 @@ module _ (P : Piece → Type 0) (k : IsKept P) where
   target_has (t.Variable (p.Local level slot)) = k.single _
   target_has (t.Element array index) = after_one _ _ (then_one _ i.SetElem (value_has index))
 
-  pub operand_has : (x : Option Effect) → P (operand_code x)
+  pub operand_has : (x : Option Value) → P (operand_code x)
   operand_has None = k.single _
-  operand_has (Some effect) = effect_has effect
+  operand_has (Some value) = value_has value
 
   pub test_has : (x : Option Value) (count : ℕ) → P (test_code x count)
   test_has None count = k.single i.Step
@@ -138,9 +114,9 @@ module _ (P : Piece → Type 0) (k : IsKept P) where
 
   command_layer : (y : Command-F Command_) → P (command_step (map-Command Command Piece command_code (map-Command Command_ Command (λ c. c.0) y)))
   command_layer Command-F.Nothing = k.single i.Step
-  command_layer (Command-F.Set target value) = after_one i.Step _ (k.both _ _ (effect_has value) (target_has target))
+  command_layer (Command-F.Set target value) = after_one i.Step _ (k.both _ _ (value_has value) (target_has target))
   command_layer (Command-F.Clear slot len) = after_one i.Step _ (k.single _)
-  command_layer (Command-F.Run effect) = after_one i.Step _ (then_one _ i.Drop (effect_has effect))
+  command_layer (Command-F.Run value) = after_one i.Step _ (then_one _ i.Drop (value_has value))
   command_layer (Command-F.Print text args) = after_one i.Step _ (then_one _ _ (values_have args))
   command_layer (Command-F.If test body None) = after_one i.Step _ (k.both _ _ (value_has test) (k.both _ _ (k.jump i.Jz _) (commands body)))
   command_layer (Command-F.If test body (Some other)) =
@@ -149,7 +125,7 @@ module _ (P : Piece → Type 0) (k : IsKept P) where
   command_layer (Command-F.For test next body) = k.round at_next _ _ _ (test_has test _) (commands body) (commands next)
   command_layer Command-F.Break = after_one i.Step _ k.past
   command_layer Command-F.Continue = after_one i.Step _ k.turn
-  command_layer (Command-F.Return effect) = after_one i.Step _ (then_one _ i.Ret (operand_has effect))
+  command_layer (Command-F.Return value) = after_one i.Step _ (then_one _ i.Ret (operand_has value))
   command_layer (Command-F.Do slot body) = after_one i.Step _ (after_one (i.Enter slot) _ (k.both _ _ (commands body) (after_one i.Step _ (k.single (i.Finish slot)))))
   command_layer (Command-F.Async slots body) = after_one i.Step _ (k.both _ _ (k.jump (i.Async slots) _) (then_one _ i.End (commands body)))
   command_layer (Command-F.Cancel level slot) = after_one i.Step _ (k.single _)

@@ -2,7 +2,7 @@
 use Rattle.std.proofs.Common.{◌≡◌, ◌≢◌, ℕ, zero, suc, ◌-◌, ◌^◌, List, [], ◌∷◌, set, Option, Some, None, Bool, true, false, refl, sym, ap, ◌∙◌, subst, arith}
 use Rattle.std.specs.Prelude.{ℤ, nat_lt, Result, Ok, Err, if◌then◌else◌}
 use Rattle.std.specs.List.{sum_by}
-use Rattle.std.proofs.lemmas.List.{set-get_or}
+use Rattle.std.proofs.lemmas.List.{set-get_or, get_or-set_other, length-set}
 use Rattle.ac_base.specs.declared.ends.Trap.{Trap}
 use Rattle.ac_base.specs.declared.ends.CoreEnd.{CoreEnd}
 use Rattle.ac_base.specs.declared.ends.EndWord.TheVariants.{OutOfSteps, Stalled}
@@ -18,7 +18,8 @@ use Rattle.ac_commands.specs.declared.program.Function.{Function}
 use Rattle.ac_commands.specs.declared.program.Resolved.{Resolved}
 use Rattle.ac_semantics.specs.Held.{Held, turned, seen_of}
 use Rattle.ac_semantics.specs.Work.{Work, Leave, before, closes}
-use Rattle.ac_semantics.specs.Threads.{Phase, Active, AtFinish, Ended, Thread, nobody, CoreState, thread_at, dispatched, step, first_item, first_core}
+use Rattle.ac_semantics.specs.Statements.{next_of}
+use Rattle.ac_semantics.specs.Threads.{applied, Phase, Active, AtFinish, Ended, Thread, nobody, CoreState, thread_at, dispatched, step, first_item, first_core}
 use Rattle.stack_code.specs.declared.parts.Entered.{Entered}
 use Rattle.stack_code.specs.Parts.{Parts}
 use Rattle.stack_code.specs.Machine.{Block, Flat, FlatEnd, Thread as Stack, nobody as no_stack, thread_at as stack_of, told, exec, first_core as first_machine}
@@ -28,82 +29,107 @@ use Rattle.ac_translation.proofs.Tables.{total_one, one_same, one_other}
 use Rattle.ac_translation.proofs.Blocks.{among, Lives, held, at, OwnerOf, Waits, held_at}
 use Rattle.ac_translation.proofs.Tracks.{Tracks}
 use Rattle.ac_translation.proofs.Wakes.{is_active, Listed}
-use Rattle.ac_translation.proofs.Keeps.{Activation}
+use Rattle.ac_translation.proofs.Keeps.{Activation, flat, Answers, moves, sticks}
 use Rattle.ac_translation.proofs.Works.{Works, works_closes}
 use Rattle.ac_translation.proofs.Turns.{Turns}
 use Rattle.ac_translation.proofs.Steps.{next_follows}
-use Rattle.ac_translation.proofs.Standing.{running, around_of, resting, halted, seated, Others, Together, Stands, rests, runs, Seat, seat_of, stands_on}
+use Rattle.ac_translation.proofs.Standing.{running, around_of, resting, halted, seated, Others, Parked, Together, Stands, rests, runs, Seat, seat_of, stands_on}
 use Rattle.ac_translation.proofs.Starting.{enters_follow, starts_follow, yields_follow}
 use Rattle.ac_translation.proofs.Finishing.{arrives_follow}
 use Rattle.ac_translation.proofs.Ending.{dies_follow}
 
+module _ (code : Parts) (program : Resolved) (bound : ℕ) where
+  -- the machine stands where the core stands, or neither ever comes to another state
+  pub data Accords : CoreState → Flat → Type 0 where
+    together : {c : CoreState} {m : Flat} → Stands code.instrs c m → Accords c m
+    stuck : {c : CoreState} {m : Flat} → step program bound c ≡ On c → exec code bound m ≡ On m → Accords c m
+
 module _ (code : Parts) (program : Resolved) (same : IsCodeOf code program) (fine : IsWellFormed program) (bound : ℕ) where
   abbrev R : CoreState → Flat → Type 0
-  R = Stands code.instrs program.functions
+  R = Stands code.instrs
 
   abbrev FollowsTo : Flat → Move CoreState (Option CoreEnd) → Type 0
-  FollowsTo m next = Follows (exec code bound) R (λ x. x.core) m next
+  FollowsTo m next = Follows (exec code bound) (Accords code program bound) (λ x. x.core) m next
+
+  accords : (m : Flat) (next : Move CoreState (Option CoreEnd)) → Follows (exec code bound) R (λ x. x.core) m next → FollowsTo m next
+  accords m _ (follows_on d l r) = follows_on d l (together r)
+  accords m _ (follows_over x h e) = follows_over x h e
 
   -- ---- a thread runs
 
   turns : (s : Held) (t : Item) (ws : List Work) (ready : List Item) (ts : List Thread) (activation : Activation) (stacks : List Stack) (bs : List (Option Block)) → Seat ts t ws activation →
-      Together code.instrs program.functions (seated ts t ws) s.blocks ready (Some t) stacks bs →
-      Turns code program.functions bound R (around_of t activation ready stacks bs) (running s t ws ready ts)
+      Together code.instrs (seated ts t ws) s.blocks ready (Some t) stacks bs →
+      Turns code bound R (around_of t activation ready stacks bs) (running s t ws ready ts)
   turns s t ws ready ts activation stacks bs x h = record {
-    enters = enters_follow code program.functions bound s t ws ready ts activation stacks bs x h;
-    arrives = arrives_follow code program.functions bound s t ws ready ts activation stacks bs x h;
-    starts = starts_follow code program.functions bound s t ws ready ts activation stacks bs x h;
-    yields = yields_follow code program.functions bound s t ws ready ts activation stacks bs x h;
-    dies = dies_follow code program.functions bound s t ws ready ts activation stacks bs x h;
+    enters = enters_follow code bound s t ws ready ts activation stacks bs x h;
+    arrives = arrives_follow code bound s t ws ready ts activation stacks bs x h;
+    starts = starts_follow code bound s t ws ready ts activation stacks bs x h;
+    yields = yields_follow code bound s t ws ready ts activation stacks bs x h;
+    dies = dies_follow code bound s t ws ready ts activation stacks bs x h;
   }
 
   -- ---- none runs
 
   -- the front of the ready list is dispatched
   dispatched_stands : (s : Held) (t : Item) (ready : List Item) (ts : List Thread) (stacks : List Stack) (bs : List (Option Block)) (count : ℕ) →
-      Together code.instrs program.functions ts s.blocks (t ∷ ready) None stacks bs →
-      R (running (turned s) t (thread_at ts t).work ready ts) (record (halted (turned s) ready stacks bs count) { running = Some t; current = stack_of stacks t })
+      Together code.instrs ts s.blocks (t ∷ ready) None stacks bs →
+      R (running (turned s) t (thread_at ts t).work ready ts) (record (halted (turned s) ready (set stacks t.number no_stack) bs count) { running = Some t; current = stack_of stacks t })
   dispatched_stands s t ready ts stacks bs count h =
       let active : (thread_at ts t).phase ≡ Active = is_active (thread_at ts t).phase (let k = h.listed t.number in let o = one_same t.number in omega (arith, k, o)) in
       let p = h.others t.number tt (subst Lives (sym active) tt) in
       let is : seated ts t (thread_at ts t).work ≡ ts = ap (λ (z : Phase). set ts t.number (record (thread_at ts t) { phase = z })) (sym active) ∙ set-get_or ts t.number _ in
-      let together : Together code.instrs program.functions ts s.blocks ready (Some t) stacks bs = record {
-        stacks_are = h.stacks_are;
+      let left = set stacks t.number no_stack in
+      let together : Together code.instrs ts s.blocks ready (Some t) left bs = record {
+        stacks_are = length-set stacks t.number no_stack ∙ h.stacks_are;
         blocks_are = h.blocks_are;
         good = h.good;
         waits = h.waits;
         listed = λ u. let k = h.listed u in omega (arith, k);
         tracks = h.tracks;
-        others = λ u ne l. h.others u tt l;
+        others = λ u ne l. subst (Parked code.instrs (at ts u)) (sym (get_or-set_other stacks t.number u no_stack no_stack (λ e. ne (sym e)))) (h.others u tt l);
       } in
-      subst (λ y. R (running (turned s) t (thread_at ts t).work ready ts) (record (halted (turned s) ready stacks bs count) { running = Some t; current = y })) (sym p.is)
-      (runs (turned s) t (thread_at ts t).work ready ts p.activation p.place p.operands stacks bs count active p.around
-      (subst (λ z. Together code.instrs program.functions z s.blocks ready (Some t) stacks bs) (sym is) together) p.works)
+      subst (λ y. R (running (turned s) t (thread_at ts t).work ready ts) (record (halted (turned s) ready left bs count) { running = Some t; current = y })) (sym p.is)
+      (runs (turned s) t (thread_at ts t).work ready ts p.activation p.place p.operands left bs count active p.around
+      (subst (λ z. Together code.instrs z s.blocks ready (Some t) left bs) (sym is) together) p.works)
 
   dispatch_follows : (s : Held) (ready : List Item) (ts : List Thread) (stacks : List Stack) (bs : List (Option Block)) (count : ℕ) →
-      Together code.instrs program.functions ts s.blocks ready None stacks bs → FollowsTo (halted s ready stacks bs count) (dispatched (resting s ready ts) ready)
+      Together code.instrs ts s.blocks ready None stacks bs → FollowsTo (halted s ready stacks bs count) (dispatched (resting s ready ts) ready)
   dispatch_follows s [] ts stacks bs count h = follows_over (told count (seen_of Stalled true s)) (over_at (exec code bound) _ _ refl) refl
   dispatch_follows s (t ∷ ready) ts stacks bs count h = turn (nat_lt s.shared.turn (2 ^ 64 - 1)) refl
     where
       turn : (b : Bool) → nat_lt s.shared.turn (2 ^ 64 - 1) ≡ b → FollowsTo (halted s (t ∷ ready) stacks bs count) (dispatched (resting s (t ∷ ready) ts) (t ∷ ready))
       turn true e =
           let d = running (turned s) t (thread_at ts t).work ready ts in
-          let m = record (halted (turned s) ready stacks bs count) { running = Some t; current = stack_of stacks t } in
+          let m = record (halted (turned s) ready (set stacks t.number no_stack) bs count) { running = Some t; current = stack_of stacks t } in
           subst (λ (b : Bool). FollowsTo (halted s (t ∷ ready) stacks bs count) (if b then On d else Over (seen_of OutOfSteps false s))) (sym e)
-          (follows_on m (one_move (exec code bound) (halted s (t ∷ ready) stacks bs count) m (rw e refl)) (dispatched_stands s t ready ts stacks bs count h))
+          (follows_on m (one_move (exec code bound) (halted s (t ∷ ready) stacks bs count) m (rw e refl)) (together (dispatched_stands s t ready ts stacks bs count h)))
       turn false e =
           let d = running (turned s) t (thread_at ts t).work ready ts in
           let end = told count (seen_of OutOfSteps false s) in
           subst (λ (b : Bool). FollowsTo (halted s (t ∷ ready) stacks bs count) (if b then On d else Over (seen_of OutOfSteps false s))) (sym e)
           (follows_over end (over_at (exec code bound) (halted s (t ∷ ready) stacks bs count) end (rw e refl)) refl)
 
-  pub core_follows : (c : CoreState) (m : Flat) → R c m → FollowsTo m (step program bound c)
-  core_follows _ _ (rests s ready ts stacks bs count h) = dispatch_follows s ready ts stacks bs count h
-  core_follows _ _ (runs s t ws ready ts activation place operands stacks bs count active round h w) =
-      let x = seat_of ts t ws activation active round (works_closes code.instrs program.functions activation place operands ws w) in
-      let stands = stands_on code.instrs program.functions s t ws ready ts activation place operands stacks bs active round h w in
-      (next_follows code program same fine bound R (around_of t activation ready stacks bs) (running s t ws ready ts) stands
-      (turns s t ws ready ts activation stacks bs x h) ws place operands s refl w).by count
+  -- the next step of the running thread
+  answered : (s : Held) (t : Item) (ws : List Work) (ready : List Item) (ts : List Thread) (activation : Activation) (stacks : List Stack) (bs : List (Option Block)) (m : Flat) →
+      Answers code bound R (around_of t activation ready stacks bs) (running s t ws ready ts) m (next_of program bound ws s) → FollowsTo m (step program bound (running s t ws ready ts))
+  answered s t ws ready ts activation stacks bs m (moves f) = accords m (step program bound (running s t ws ready ts)) f
+  answered s t ws ready ts activation stacks bs m (sticks e d l h) =
+      let core = running s t ws ready ts in
+      let stays : step program bound core ≡ On core = ap (applied core t) e in
+      subst (FollowsTo m) (sym stays) (follows_on d l (stuck stays h))
+
+  stands_follow : (c : CoreState) (m : Flat) → R c m → FollowsTo m (step program bound c)
+  stands_follow _ _ (rests s ready ts stacks bs count h) = dispatch_follows s ready ts stacks bs count h
+  stands_follow _ _ (runs s t ws ready ts activation place operands stacks bs count active round h w) =
+      let x = seat_of ts t ws activation active round (works_closes code.instrs activation place operands ws w) in
+      let stands = stands_on code.instrs s t ws ready ts activation place operands stacks bs active round h w in
+      answered s t ws ready ts activation stacks bs (flat (around_of t activation ready stacks bs) s place operands count)
+      ((next_follows code program same fine bound R (around_of t activation ready stacks bs) (running s t ws ready ts) stands
+      (turns s t ws ready ts activation stacks bs x h) ws place operands s refl w).by count)
+
+  pub core_follows : (c : CoreState) (m : Flat) → Accords code program bound c m → FollowsTo m (step program bound c)
+  core_follows c m (together r) = stands_follow c m r
+  core_follows c m (stuck e h) = subst (FollowsTo m) (sym e) (follows_on m (one_move (exec code bound) m m h) (stuck e h))
 
 -- ---- the beginning
 
@@ -140,13 +166,13 @@ module _ (work : List Work) (none : closes work ≡ []) where
 abbrev pub first_activation : Activation
 first_activation = record { frame = first_frame; callers = []; entered = []; around = [] }
 
-module _ (code : Parts) (functions : List Function) where
+module _ (code : Parts) where
   -- the core of a function, where the code does what the function is to do
-  pub first_stands : (f : Function) (e : Entered) (s : Shared) (store : Store) → Works code.instrs functions first_activation e.at [] (before first_frame f.body (Leave ∷ [])) →
-      Stands code.instrs functions (first_core f s store) (first_machine e s store)
+  pub first_stands : (f : Function) (e : Entered) (s : Shared) (store : Store) → Works code.instrs first_activation e.at [] (before first_frame f.body (Leave ∷ [])) →
+      Stands code.instrs (first_core f s store) (first_machine e s store)
   first_stands f e s store w =
       let work = before first_frame f.body (Leave ∷ []) in
-      let none = works_closes code.instrs functions first_activation e.at [] work w in
+      let none = works_closes code.instrs first_activation e.at [] work w in
       rests (record { shared = s; store = store; blocks = 0 }) (first_item ∷ []) (only work none) (record no_stack { place = e.at } ∷ []) [] 0 (record {
         stacks_are = refl;
         blocks_are = refl;
@@ -157,15 +183,15 @@ module _ (code : Parts) (functions : List Function) where
         others = first_others work none w;
       })
     where
-      first_others : (work : List Work) (none : closes work ≡ []) → Works code.instrs functions first_activation e.at [] work
-          → Others code.instrs functions (only work none) None (record no_stack { place = e.at } ∷ [])
+      first_others : (work : List Work) (none : closes work ≡ []) → Works code.instrs first_activation e.at [] work
+          → Others code.instrs (only work none) None (record no_stack { place = e.at } ∷ [])
       first_others work none w zero ne l = record { activation = first_activation; place = e.at; operands = []; is = refl; around = refl; works = w }
       first_others work none w (suc u) ne l = absurd l
 
-  -- both begin, or there is no room for the frame
-  pub cores_begin : (globals : List ℤ) (s : Shared) (r : Result Store Trap) (f : Function) (e : Entered) →
-      ((store : Store) → Stands code.instrs functions (first_core f s store) (first_machine e s store)) →
-      BothBegin (Stands code.instrs functions) (λ (x : FlatEnd). x.core) (begins_with (λ o. o) globals s r (λ store. On (first_core f s store)))
-      (begins_with (told 0) globals s r (λ store. On (first_machine e s store)))
-  cores_begin globals s (Ok store) f e h = begin_on (h store)
-  cores_begin globals s (Err trap) f e h = begin_over refl
+-- both begin, or there is no room for the frame
+pub cores_begin : (R : CoreState → Flat → Type 0) (globals : List ℤ) (s : Shared) (r : Result Store Trap) (f : Function) (e : Entered) →
+    ((store : Store) → R (first_core f s store) (first_machine e s store)) →
+    BothBegin R (λ (x : FlatEnd). x.core) (begins_with (λ o. o) globals s r (λ store. On (first_core f s store)))
+    (begins_with (told 0) globals s r (λ store. On (first_machine e s store)))
+cores_begin R globals s (Ok store) f e h = begin_on (h store)
+cores_begin R globals s (Err trap) f e h = begin_over refl

@@ -9,7 +9,6 @@ use Rattle.work_item.specs.declared.ids.Item.{Item}
 use Rattle.work_item.specs.declared.ids.BlockId.{BlockId}
 use Rattle.work_item.specs.Store.{released}
 use Rattle.core_state.specs.Moves.{Move, On}
-use Rattle.ac_commands.specs.declared.program.Function.{Function}
 use Rattle.ac_semantics.specs.Held.{Held, with_store}
 use Rattle.ac_semantics.specs.Work.{Work, closes}
 use Rattle.ac_semantics.specs.Statements.{Dies}
@@ -28,11 +27,11 @@ use Rattle.ac_translation.proofs.Keeps.{Activation, Around, flat, SameBirths, Fo
 use Rattle.ac_translation.proofs.Standing.{running, around_of, resting, halted, seated, stack_at, Parked, Others, Together}
 use Rattle.ac_translation.proofs.Standing.{Stands, rests, with_births, still_stacks, in_stacks, others_back, sitting, Seat}
 
-module _ (code : Parts) (functions : List Function) (bound : ℕ) (s0 : Held) (t : Item) (ws : List Work) (ready : List Item) (ts : List Thread) (activation : Activation) (stacks : List Stack)
+module _ (code : Parts) (bound : ℕ) (s0 : Held) (t : Item) (ws : List Work) (ready : List Item) (ts : List Thread) (activation : Activation) (stacks : List Stack)
     (bs : List (Option Block)) (x : Seat ts t ws activation)
-    (h0 : Together code.instrs functions (seated ts t ws) s0.blocks ready (Some t) stacks bs) where
+    (h0 : Together code.instrs (seated ts t ws) s0.blocks ready (Some t) stacks bs) where
   abbrev R : CoreState → Flat → Type 0
-  R = Stands code.instrs functions
+  R = Stands code.instrs
 
   abbrev a : Around
   a = around_of t activation ready stacks bs
@@ -56,7 +55,7 @@ module _ (code : Parts) (functions : List Function) (bound : ℕ) (s0 : Held) (t
   change : Changed nobody all dead t.number gone
   change = x.changed Ended []
 
-  module _ (s : Held) (h : Together code.instrs functions all s.blocks ready (Some t) stacks bs) (block : BlockId) (others : List BlockId) (e : activation.entered ≡ [])
+  module _ (s : Held) (h : Together code.instrs all s.blocks ready (Some t) stacks bs) (block : BlockId) (others : List BlockId) (e : activation.entered ≡ [])
       (r : activation.around ≡ block ∷ others) where
     empty : entered (at all t.number) ≡ []
     empty = x.has ∙ e
@@ -93,13 +92,13 @@ module _ (code : Parts) (functions : List Function) (bound : ℕ) (s0 : Held) (t
     tracks' = tracks_count all dead t.number gone change bs fewer s.blocks h.good h.tracks (λ l. absurd l)
         (λ b y count q. counted_out_tells bs block others here y b (sum_by (direct b) dead) here_is (count ∙ less b) q)
 
-    others' : Others code.instrs functions dead None stacks'
-    others' = others_back code.instrs functions all dead t gone change stacks h.others no_stack (in_stacks code.instrs functions ts t ws activation x h) (λ l. absurd l)
+    others' : Others code.instrs dead None stacks'
+    others' = others_back code.instrs all dead t gone change stacks h.others no_stack (in_stacks code.instrs ts t ws activation x h) (λ l. absurd l)
 
     -- nobody is woken
-    quiet : Waits dead → Together code.instrs functions dead s.blocks ready None stacks' fewer
+    quiet : Waits dead → Together code.instrs dead s.blocks ready None stacks' fewer
     quiet w = record {
-      stacks_are = length-set stacks t.number no_stack ∙ still_stacks code.instrs functions ts t ws activation x h Ended [];
+      stacks_are = length-set stacks t.number no_stack ∙ still_stacks code.instrs ts t ws activation x h Ended [];
       blocks_are = length-set bs block.number (Some (record here { count = here.count - 1 })) ∙ h.blocks_are;
       good = good';
       waits = w;
@@ -173,20 +172,20 @@ module _ (code : Parts) (functions : List Function) (bound : ℕ) (s0 : Held) (t
           tracks_leave dead next own.owner freed frees fewer left s.blocks good' tracks' block (closes (at dead own.owner).work) same owner_alive
           (λ b ne. ap (λ p. waits_at p b) arrived_is ∙ unequal block.number b.number (other_block block b ne)) refl refl holds refl
 
-      freed_others : Others code.instrs functions next None stacks'
+      freed_others : Others code.instrs next None stacks'
       freed_others u _ l =
-          elim (found nobody dead next own.owner freed frees u) as (λ _. Parked code.instrs functions (at next u) (stack_at stacks' u)) [
+          elim (found nobody dead next own.owner freed frees u) as (λ _. Parked code.instrs (at next u) (stack_at stacks' u)) [
             | inl q ↦
                 let p = others' own.owner tt owner_alive in
-                let now : Parked code.instrs functions freed (stack_at stacks' own.owner) =
+                let now : Parked code.instrs freed (stack_at stacks' own.owner) =
                 record { activation = p.activation; place = p.place; operands = p.operands; is = p.is; around = p.around; works = p.works } in
-                subst (λ y. Parked code.instrs functions y (stack_at stacks' u)) (sym q.1) (subst (λ z. Parked code.instrs functions freed (stack_at stacks' z)) q.0 now)
-            | inr q ↦ subst (λ y. Parked code.instrs functions y (stack_at stacks' u)) (sym q.1) (others' u tt (subst (λ (y : Thread). Lives y.phase) q.1 l))
+                subst (λ y. Parked code.instrs y (stack_at stacks' u)) (sym q.1) (subst (λ z. Parked code.instrs freed (stack_at stacks' z)) q.0 now)
+            | inr q ↦ subst (λ y. Parked code.instrs y (stack_at stacks' u)) (sym q.1) (others' u tt (subst (λ (y : Thread). Lives y.phase) q.1 l))
           ]
 
-      awake : Together code.instrs functions next s.blocks (item own.owner ∷ ready) None stacks' left
+      awake : Together code.instrs next s.blocks (item own.owner ∷ ready) None stacks' left
       awake = record {
-        stacks_are = length-set stacks t.number no_stack ∙ still_stacks code.instrs functions ts t ws activation x h Ended [] ∙ sym (length-set dead own.owner freed);
+        stacks_are = length-set stacks t.number no_stack ∙ still_stacks code.instrs ts t ws activation x h Ended [] ∙ sym (length-set dead own.owner freed);
         blocks_are = length-set bs block.number None ∙ h.blocks_are;
         good = freed_good all dead t.number gone change s.blocks h.good h.waits x.lives refl empty block others around own none arrived next frees;
         waits = freed_waits all dead t.number gone change s.blocks h.good h.waits x.lives refl empty block others around own none arrived next frees;
@@ -203,8 +202,8 @@ module _ (code : Parts) (functions : List Function) (bound : ℕ) (s0 : Held) (t
       activation.around ≡ block ∷ others → FollowsAt code bound R a c s place [] (Dies activation.frame s)
   dies_follow s place block others b is e r = go (nat_eq (here s h block others e r).count 1 && (here s h block others e r).waits) refl
     where
-      h : Together code.instrs functions all s.blocks ready (Some t) stacks bs
-      h = with_births code.instrs functions s0 s b h0
+      h : Together code.instrs all s.blocks ready (Some t) stacks bs
+      h = with_births code.instrs s0 s b h0
 
       ends : (k : ℕ) (q : Bool) → nat_eq (here s h block others e r).count 1 && (here s h block others e r).waits ≡ q →
           dies_there (flat a (given_back s) place [] k) t (first (activation.entered ++ activation.around)) ≡ counted_out q (flat a (given_back s) place [] k) t block (here s h block others e r)

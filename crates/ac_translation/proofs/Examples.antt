@@ -1,14 +1,17 @@
 -- Pieces of code where they stand, and the code of small forms.
-use Rattle.std.proofs.Common.{◌≡◌, refl, ℕ, pos, List, [], ◌∷◌, ◌++◌, Option, Some, None}
+use Rattle.std.proofs.Common.{◌≡◌, refl, ℕ, pos, List, [], ◌∷◌, Some, None}
 use Rattle.ac_tree.specs.declared.expr.BinaryOp.TheVariants as b
 use Rattle.ac_tree.specs.declared.expr.UnaryOp.TheVariants as u
 use Rattle.ac_commands.specs.declared.value.Place.TheVariants as p
 use Rattle.ac_commands.specs.declared.value.Array.TheVariants as a
-use Rattle.ac_commands.specs.declared.effect.Target.TheVariants as t
+use Rattle.ac_commands.specs.declared.value.Action.TheVariants.{Call, Recv}
+use Rattle.ac_commands.specs.declared.value.Value.TheVariants as v
+use Rattle.ac_commands.specs.declared.command.Target.TheVariants as t
 use Rattle.stack_code.specs.declared.instr.Instr.{Instr}
 use Rattle.stack_code.specs.declared.instr.Instr.TheVariants as i
 use Rattle.ac_translation.specs.Pieces.{Exits, Piece, no_code, one, ◌⨾◌, all, over, out_past, out_turn, loop_end, loop_exits, loop}
-use Rattle.ac_translation.specs.Translation.{unary_code, operator_code, lazily, joined_code, variable_code, array_code, place_code, target_code, if_code, test_code, at_loop, at_next, operand_code}
+use Rattle.ac_translation.specs.Translation.{unary_code, operator_code, joined_code, variable_code, array_code, value_code, target_code, if_code, test_code, at_loop, at_next, operand_code}
+use Rattle.ac_translation.proofs.Codes.{number_code, reference_code, chain_code, act_code, link_is}
 
 -- a loop that is left at 90 and goes on at 80
 abbrev pub exits : Exits
@@ -92,14 +95,24 @@ an_array = refl
 pub a_parameter : array_code (a.Param 1 3) ≡ i.Load 1 3
 a_parameter = refl
 
+-- 1+f(2): the left operand stays below while f is called
+pub a_call_in_a_sum : code_at 5 (value_code (v.Chain (v.Number (pos 1)) (record { op = b.Add; operand = v.Act (Call 0) (v.Number (pos 2) ∷ []) } ∷ [])))
+    ≡ i.Push (pos 1) ∷ i.Push (pos 2) ∷ i.Call 0 1 ∷ i.Add ∷ []
+a_call_in_a_sum = simp (chain_code, link_is, act_code, number_code)
+
+-- g(f(1), 2)
+pub a_call_in_a_call : code_at 5 (value_code (v.Act (Call 1) (v.Act (Call 0) (v.Number (pos 1) ∷ []) ∷ v.Number (pos 2) ∷ [])))
+    ≡ i.Push (pos 1) ∷ i.Call 0 1 ∷ i.Push (pos 2) ∷ i.Call 1 2 ∷ []
+a_call_in_a_call = simp (act_code, number_code)
+
+-- what is received is put through a reference
+pub a_variable_to_receive_into : code_at 5 (value_code (v.Act (Recv 2) (v.Reference (a.Local 0 3 1) ∷ []))) ≡ i.Arr 0 3 1 ∷ i.Recv 2 ∷ []
+a_variable_to_receive_into = simp (act_code, reference_code)
+
 -- ---- statements
 
 pub into_a_variable : code_at 5 (target_code (t.Variable (p.Local 0 3))) ≡ i.Store 0 3 ∷ []
 into_a_variable = refl
-
--- what is received is put through a reference
-pub a_place_to_receive_into : code_at 5 (place_code (t.Variable (p.Local 0 3))) ≡ i.Arr 0 3 1 ∷ []
-a_place_to_receive_into = refl
 
 pub without_an_else : code_at 0 (if_code (one (i.Push (pos 1))) (one i.Ret) None) ≡ i.Step ∷ i.Push (pos 1) ∷ i.Jz 4 ∷ i.Ret ∷ []
 without_an_else = refl

@@ -43,6 +43,10 @@ pub entry_of : (instrs : List Instr) (f : Function) (x : Option Function) (y : O
 entry_of instrs f _ _ neither e = cc
 entry_of instrs f _ _ (both {f = g} {e = y} h) e = let same : g ≡ f = cc in record { entered = y; is = refl; enters = subst (λ k. EntersAt instrs k y) same h }
 
+pub no_entry : (instrs : List Instr) (x : Option Function) (y : Option Entered) → Paired instrs x y → x ≡ None → y ≡ None
+no_entry instrs _ _ neither e = refl
+no_entry instrs _ _ (both h) e = cc
+
 pub function_of : (instrs : List Instr) (e : Entered) (x : Option Function) (y : Option Entered) → Paired instrs x y → y ≡ Some e → FunctionOf instrs e x
 function_of instrs e _ _ neither q = cc
 function_of instrs e _ _ (both {f = g} {e = y} h) q = let same : y ≡ e = cc in record { function = g; is = refl; enters = subst (EntersAt instrs g) same h }

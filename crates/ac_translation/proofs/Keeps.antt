@@ -8,10 +8,9 @@ use Rattle.work_item.specs.declared.ids.Item.{Item}
 use Rattle.work_item.specs.declared.ids.BlockId.{BlockId}
 use Rattle.work_item.specs.declared.cell.Cell.{Cell}
 use Rattle.core_state.specs.Moves.{On, Over}
-use Rattle.core_state.specs.Arithmetic.{bind}
-use Rattle.core_state.proofs.Simulation.{one, over_at, Follows, follows_on, follows_over, Reaches, follows, reaches_later}
+use Rattle.core_state.proofs.Simulation.{Leads, one, then_on, over_at, Follows, follows_on, follows_over, Reaches, follows, reaches_later}
 use Rattle.ac_semantics.specs.Held.{Held}
-use Rattle.ac_semantics.specs.Statements.{Next, or_trap}
+use Rattle.ac_semantics.specs.Statements.{Next, Stays, or_trap}
 use Rattle.ac_semantics.specs.Threads.{CoreState, applied}
 use Rattle.stack_code.specs.declared.instr.Instr.{Instr}
 use Rattle.stack_code.specs.declared.instr.Instr.TheVariants as i
@@ -71,28 +70,39 @@ flat a s place operands count =
 abbrev pub SameBirths : Held → Held → Type 0
 SameBirths s t = t.blocks ≡ s.blocks
 
-pub or_bind : {A B : Type 0} (s : Held) (r : Result A Trap) (f : A → Result B Trap) (go : B → Next) → or_trap s (bind r f) go ≡ or_trap s r (λ x. or_trap s (f x) go)
-or_bind s (Ok x) f go = refl
-or_bind s (Err trap) f go = refl
-
 -- Cores of the source and of the machine are related by R. The source is at this state, but for what it holds and its work.
 module _ (code : Parts) (bound : ℕ) (R : CoreState → Flat → Type 0) (a : Around) (c : CoreState) where
-  -- the machine follows what the source comes to, whatever its count
+  -- the machine follows what the source comes to, or neither ever comes to another state
+  pub data Answers (m : Flat) (next : Next) : Type 0 where
+    moves : Follows (exec code bound) R (λ x. x.core) m (applied c a.running next) → Answers m next
+    sticks : next ≡ Stays → (d : Flat) → Leads (exec code bound) m d → exec code bound d ≡ On d → Answers m next
+
+  -- the same where it may be there
+  pub data Meets (m : Flat) (next : Next) : Type 0 where
+    is_there : Reaches (exec code bound) R (λ x. x.core) m (applied c a.running next) → Meets m next
+    answers : Answers m next → Meets m next
+
+  meets_later : (m d : Flat) (next : Next) → Leads (exec code bound) m d → Meets d next → Answers m next
+  meets_later m d next l (is_there r) = moves (reaches_later (exec code bound) R (λ x. x.core) m d (applied c a.running next) l r)
+  meets_later m d next l (answers (moves f)) = moves (reaches_later (exec code bound) R (λ x. x.core) m d (applied c a.running next) l (follows f))
+  meets_later m d next l (answers (sticks e x h is)) = sticks e x (then_on (exec code bound) m d x l h) is
+
+  -- the machine answers what the source comes to, whatever its count
   pub record FollowsAt (s : Held) (place : ℕ) (operands : List Cell) (next : Next) : Type 0 where
-    pub by : (count : ℕ) → Follows (exec code bound) R (λ x. x.core) (flat a s place operands count) (applied c a.running next)
+    pub by : (count : ℕ) → Answers (flat a s place operands count) next
 
   -- the same where it may be there
   pub record KeepsAt (s : Held) (place : ℕ) (operands : List Cell) (next : Next) : Type 0 where
-    pub by : (count : ℕ) → Reaches (exec code bound) R (λ x. x.core) (flat a s place operands count) (applied c a.running next)
+    pub by : (count : ℕ) → Meets (flat a s place operands count) next
 
   pub keeps : {s : Held} {place : ℕ} {operands : List Cell} {next : Next} → FollowsAt s place operands next → KeepsAt s place operands next
-  keeps h = record { by = λ k. follows (h.by k) }
+  keeps h = record { by = λ k. answers (h.by k) }
 
   -- one instruction
   pub one_follows : {s s' : Held} {place to : ℕ} {operands operands' : List Cell} {next : Next} (instr : Instr) → slice_get code.instrs place ≡ Some instr → KeepsAt s' to operands' next →
       ((k : ℕ) → begin code bound (flat a s place operands k) a.running (Some instr) ≡ On (flat a s' to operands' (counted k))) → FollowsAt s place operands next
   one_follows {s} {s'} {place} {to} {operands} {operands'} {next} instr h f e = record {
-    by = λ k. reaches_later (exec code bound) R (λ x. x.core) (flat a s place operands k) (flat a s' to operands' (counted k)) (applied c a.running next)
+    by = λ k. meets_later (flat a s place operands k) (flat a s' to operands' (counted k)) next
         (one (exec code bound) _ _ (ap (begin code bound (flat a s place operands k) a.running) h ∙ e k)) (f.by (counted k));
   }
 
@@ -104,18 +114,22 @@ module _ (code : Parts) (bound : ℕ) (R : CoreState → Flat → Type 0) (a : A
       let near : KeepsAt s' (place + 1) operands' next = subst (λ n. KeepsAt s' n operands' next) (sym h.ends) f in
       one_follows instr h.has.0 near e
 
-  pub one_keeps : {s s' : Held} {place to : ℕ} {exits : Exits} {operands operands' : List Cell} {next : Next} (instr : Instr) → Placed code.instrs (one_code instr) exits place to →
-      KeepsAt s' to operands' next →
-      ((k : ℕ) → begin code bound (flat a s place operands k) a.running (Some instr) ≡ On (flat a s' (place + 1) operands' (counted k))) → KeepsAt s place operands next
-  one_keeps {exits = exits} instr h f e = keeps (piece_follows {exits = exits} instr h f e)
+  -- an instruction without a meaning here
+  pub stays_follow : {s : Held} {place : ℕ} {operands : List Cell} (instr : Instr) → slice_get code.instrs place ≡ Some instr →
+      ((k : ℕ) → begin code bound (flat a s place operands k) a.running (Some instr) ≡ On (flat a s place operands k)) → FollowsAt s place operands Stays
+  stays_follow {s} {place} {operands} instr h e = record {
+    by = λ k. let m = flat a s place operands k in
+        let is = ap (begin code bound m a.running) h ∙ e k in
+        sticks refl m (one (exec code bound) m m is) is;
+  }
 
   -- one instruction, and then the two stand in relation again, however the machine has changed
   pub turn_follows : {s : Held} {place : ℕ} {operands : List Cell} {next : Next} (instr : Instr) (d : CoreState) (m : ℕ → Flat) → slice_get code.instrs place ≡ Some instr →
       applied c a.running next ≡ On d →
       ((k : ℕ) → begin code bound (flat a s place operands k) a.running (Some instr) ≡ On (m k)) → ((k : ℕ) → R d (m k)) → FollowsAt s place operands next
   turn_follows {s} {place} {operands} {next} instr d m h o e r = record {
-    by = λ k. subst (Follows (exec code bound) R (λ x. x.core) (flat a s place operands k)) (sym o)
-        (follows_on (m k) (one (exec code bound) _ _ (ap (begin code bound (flat a s place operands k) a.running) h ∙ e k)) (r k));
+    by = λ k. moves (subst (Follows (exec code bound) R (λ x. x.core) (flat a s place operands k)) (sym o)
+        (follows_on (m k) (one (exec code bound) _ _ (ap (begin code bound (flat a s place operands k) a.running) h ∙ e k)) (r k)));
   }
 
   -- one instruction that ends the core
@@ -123,8 +137,8 @@ module _ (code : Parts) (bound : ℕ) (R : CoreState → Flat → Type 0) (a : A
       applied c a.running next ≡ Over end →
       ((k : ℕ) → begin code bound (flat a s place operands k) a.running (Some instr) ≡ ends end (count k)) → FollowsAt s place operands next
   ends_follows {s} {place} {operands} {next} instr end count h o e = record {
-    by = λ k. subst (Follows (exec code bound) R (λ x. x.core) (flat a s place operands k)) (sym o)
-        (follows_over (record { core = end; count = count k }) (over_at (exec code bound) _ _ (ap (begin code bound (flat a s place operands k) a.running) h ∙ e k)) refl);
+    by = λ k. moves (subst (Follows (exec code bound) R (λ x. x.core) (flat a s place operands k)) (sym o)
+        (follows_over (record { core = end; count = count k }) (over_at (exec code bound) _ _ (ap (begin code bound (flat a s place operands k) a.running) h ∙ e k)) refl));
   }
 
   -- one instruction that computes something and then changes the machine, or traps just as the source does
@@ -139,9 +153,9 @@ module _ (code : Parts) (bound : ℕ) (R : CoreState → Flat → Type 0) (a : A
   pub computes : {A : Type 0} {s : Held} {place to : ℕ} {exits : Exits} {operands : List Cell} (instr : Instr) (r : Result A Trap) (after : A → Held) (above : A → List Cell) (go : A → Next) →
       Placed code.instrs (one_code instr) exits place to →
       ((k : ℕ) → begin code bound (flat a s place operands k) a.running (Some instr) ≡ or_end (flat a s place operands k) r (λ x. On (flat a (after x) (place + 1) (above x) (counted k)))) →
-      ((x : A) → r ≡ Ok x → KeepsAt (after x) to (above x) (go x)) → KeepsAt s place operands (or_trap s r go)
-  computes {exits = exits} instr (Ok x) after above go h e f = one_keeps {exits = exits} instr h (f x refl) e
-  computes instr (Err trap) after above go h e f = keeps (ends_follows instr _ counted h.has.0 refl e)
+      ((x : A) → KeepsAt (after x) to (above x) (go x)) → FollowsAt s place operands (or_trap s r go)
+  computes {exits = exits} instr (Ok x) after above go h e f = piece_follows {exits = exits} instr h (f x) e
+  computes instr (Err trap) after above go h e f = ends_follows instr _ counted h.has.0 refl e
 
   -- ---- jumps
 

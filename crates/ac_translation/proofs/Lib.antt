@@ -9,12 +9,15 @@ pub mod Ends
 pub mod Closed
 pub mod Sized
 pub mod Placed
+pub mod Codes
 pub mod Functions
 pub mod Keeps
+pub mod Contexts
 pub mod Values
 pub mod Works
 pub mod Turns
-pub mod Effects
+pub mod Calls
+pub mod Statements
 pub mod Steps
 pub mod Standing
 pub mod Starting

@@ -1,5 +1,5 @@
 -- Code that stands at an address.
-use Rattle.std.proofs.Common.{◌≡◌, ℕ, ◌+◌, ◌<◌, List, [], ◌∷◌, ◌++◌, length, Some, refl, ap, ◌∙◌, subst, arith, append_assoc, length-append}
+use Rattle.std.proofs.Common.{◌≡◌, ℕ, ◌+◌, ◌<◌, List, [], ◌∷◌, ◌++◌, length, Some, refl, sym, ap, ◌∙◌, subst, arith, append_assoc, length-append}
 use Rattle.std.specs.Prelude.{slice_get}
 use Rattle.std.proofs.Math.Seq.{get_or-append_seam}
 use Rattle.std.proofs.lemmas.Option.{slice_get-get_or}
@@ -22,6 +22,12 @@ has_back code place [] b h = let e : place ≡ place + 0 = omega arith in subst 
 has_back code place (i ∷ a) b h =
     let e : place + 1 + length a ≡ place + length (i ∷ a) = omega arith in
     subst (λ n. HasAt code n b) e (has_back code (place + 1) a b h.1)
+
+pub has_both : (code : List Instr) (place : ℕ) (a b : List Instr) → HasAt code place a → HasAt code (place + length a) b → HasAt code place (a ++ b)
+has_both code place [] b h k = let e : place + 0 ≡ place = omega arith in subst (λ n. HasAt code n b) e k
+has_both code place (i ∷ a) b h k =
+    let e : place + length (i ∷ a) ≡ place + 1 + length a = omega arith in
+    (h.0, has_both code (place + 1) a b h.1 (subst (λ n. HasAt code n b) e k))
 
 pub has_all : (is pre : List Instr) → HasAt (pre ++ is) (length pre) is
 has_all [] pre = tt
@@ -49,6 +55,12 @@ module _ (code : List Instr) where
   other_part a b {exits} {place} {to} z h =
       let ends = h.ends in
       record { has = has_after a exits place (b.at exits (place + a.size)) z h.has; ends = omega (arith, ends) }
+
+  pub both_parts : (a b : Piece) {exits : Exits} {place to : ℕ} → IsSized a → Placed a exits place (place + a.size) → Placed b exits (place + a.size) to → Placed (a ⨾ b) exits place to
+  both_parts a b {exits} {place} {to} z h k =
+      let ends = k.ends in
+      let near = subst (λ n. HasAt code (place + n) (b.at exits (place + a.size))) (sym (z.sized exits place)) k.has in
+      record { has = has_both code place (a.at exits place) (b.at exits (place + a.size)) h.has near; ends = omega (arith, ends) }
 
   -- jumps alone lead from the one address to the other
   pub data Jumps : ℕ → ℕ → Type 0 where

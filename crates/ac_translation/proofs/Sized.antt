@@ -1,17 +1,14 @@
 -- A piece has as many instructions as its size says, in each loop and at each address.
-use Rattle.std.proofs.Common.{◌≡◌, ℕ, ◌+◌, ◌∷◌, ◌++◌, [], List, length, map, Option, refl, arith, length-append}
+use Rattle.std.proofs.Common.{◌≡◌, ℕ, ◌+◌, ◌∷◌, ◌++◌, [], List, length, Option, refl, arith, length-append}
 use Rattle.ac_tree.specs.declared.expr.BinaryOp.{BinaryOp}
 use Rattle.ac_commands.specs.declared.value.Value.{Value}
-use Rattle.ac_commands.specs.declared.effect.Argument.{Argument}
-use Rattle.ac_commands.specs.declared.effect.Target.{Target}
-use Rattle.ac_commands.specs.declared.effect.Effect.{Effect}
 use Rattle.ac_commands.specs.declared.command.Command.{Command}
 use Rattle.ac_commands.specs.declared.program.Function.{Function}
 use Rattle.stack_code.specs.declared.instr.Instr.{Instr}
 use Rattle.stack_code.specs.declared.instr.Instr.TheVariants as i
-use Rattle.ac_translation.specs.Pieces.{Exits, Piece, no_code, one, ◌⨾◌, all, over, out_past, out_turn, loop_exits, loop}
-use Rattle.ac_translation.specs.Translation.{joined_code, value_code, values_code, argument_code, place_code, effect_code, target_code}
-use Rattle.ac_translation.specs.Translation.{operand_code, test_code, command_code, body_code, last_code, function_code, functions_code}
+use Rattle.ac_translation.specs.Pieces.{Exits, Piece, no_code, one, ◌⨾◌, over, out_past, out_turn, loop_exits, loop}
+use Rattle.ac_translation.specs.Translation.{joined_code, value_code, values_code}
+use Rattle.ac_translation.specs.Translation.{operand_code, test_code, command_code, body_code, function_code, functions_code}
 use Rattle.ac_translation.proofs.Closed as closed
 
 pub record IsSized (p : Piece) : Type 0 where
@@ -75,19 +72,7 @@ value_sized = closed.value_has IsSized kept
 pub values_sized : (xs : List Value) → IsSized (values_code xs)
 values_sized = closed.values_have IsSized kept
 
-pub argument_sized : (x : Argument) → IsSized (argument_code x)
-argument_sized = closed.argument_has IsSized kept
-
-pub arguments_sized : (xs : List Argument) → IsSized (all (map argument_code xs))
-arguments_sized = closed.arguments_have IsSized kept
-
-pub place_sized : (x : Target) → IsSized (place_code x)
-place_sized = closed.place_has IsSized kept
-
-pub effect_sized : (x : Effect) → IsSized (effect_code x)
-effect_sized = closed.effect_has IsSized kept
-
-pub operand_sized : (x : Option Effect) → IsSized (operand_code x)
+pub operand_sized : (x : Option Value) → IsSized (operand_code x)
 operand_sized = closed.operand_has IsSized kept
 
 pub test_sized : (x : Option Value) (count : ℕ) → IsSized (test_code x count)

@@ -4,7 +4,6 @@ use Rattle.std.proofs.lemmas.List.{length-set}
 use Rattle.work_item.specs.declared.ids.Item.{Item}
 use Rattle.work_item.specs.declared.ids.BlockId.{BlockId}
 use Rattle.work_item.specs.declared.cell.Cell.{Cell}
-use Rattle.ac_commands.specs.declared.program.Function.{Function}
 use Rattle.ac_semantics.specs.Held.{Held}
 use Rattle.ac_semantics.specs.Work.{Work, closes}
 use Rattle.ac_semantics.specs.Threads.{Phase, Active, AtFinish, Thread, nobody, CoreState, thread_at, with_phase}
@@ -96,7 +95,7 @@ seat_of ts t ws activation active around has =
     never : nobody.phase ≡ Active → ⊥
     never e = cc
 
-module _ (code : List Instr) (functions : List Function) where
+module _ (code : List Instr) where
   -- a thread of the machine stands where one of the source stands
   pub record Parked (th : Thread) (stack : Stack) : Type 0 where
     pub activation : Activation
@@ -104,7 +103,7 @@ module _ (code : List Instr) (functions : List Function) where
     pub operands : List Cell
     pub is : stack ≡ thread_in activation place operands
     pub around : activation.around ≡ th.around
-    pub works : Works code functions activation place operands th.work
+    pub works : Works code activation place operands th.work
 
   abbrev pub Others : List Thread → Option Item → List Stack → Type 0
   Others ts running stacks = (u : ℕ) → NotRunning u running → Lives (at ts u).phase → Parked (at ts u) (stack_at stacks u)
@@ -126,7 +125,7 @@ module _ (code : List Instr) (functions : List Function) where
     runs : (s : Held) (t : Item) (ws : List Work) (ready : List Item) (ts : List Thread) (activation : Activation) (place : ℕ) (operands : List Cell) (stacks : List Stack) (bs : List (Option Block))
         (count : ℕ) →
         (thread_at ts t).phase ≡ Active → activation.around ≡ (thread_at ts t).around → Together (seated ts t ws) s.blocks ready (Some t) stacks bs →
-        Works code functions activation place operands ws →
+        Works code activation place operands ws →
         Stands (running s t ws ready ts) (flat (around_of t activation ready stacks bs) s place operands count)
 
   -- as many blocks were born
@@ -194,9 +193,9 @@ module _ (code : List Instr) (functions : List Function) where
   -- so the relation holds wherever the code stands that does the work
   pub stands_on : (s : Held) (t : Item) (ws : List Work) (ready : List Item) (ts : List Thread) (activation : Activation) (place : ℕ) (operands : List Cell) (stacks : List Stack)
       (bs : List (Option Block)) → (thread_at ts t).phase ≡ Active → activation.around ≡ (thread_at ts t).around →
-      Together (seated ts t ws) s.blocks ready (Some t) stacks bs → Works code functions activation place operands ws →
-      Relates code functions Stands (around_of t activation ready stacks bs) (running s t ws ready ts)
+      Together (seated ts t ws) s.blocks ready (Some t) stacks bs → Works code activation place operands ws →
+      Relates code Stands (around_of t activation ready stacks bs) (running s t ws ready ts)
   stands_on s t ws ready ts activation place operands stacks bs active round h w frame callers s' place' operands' ws' count b w' =
-      let x = seat_of ts t ws activation active round (works_closes code functions activation place operands ws w) in
-      let has = works_closes code functions (called activation frame callers) place' operands' ws' w' in
+      let x = seat_of ts t ws activation active round (works_closes code activation place operands ws w) in
+      let has = works_closes code (called activation frame callers) place' operands' ws' w' in
       runs s' t ws' ready ts (called activation frame callers) place' operands' stacks bs count active round (on_together ts t ws activation x ws' has (with_births s s' b h)) w'

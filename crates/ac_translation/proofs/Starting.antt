@@ -9,7 +9,6 @@ use Rattle.work_item.specs.declared.ids.Item.{Item}
 use Rattle.work_item.specs.declared.ids.BlockId.{BlockId}
 use Rattle.work_item.specs.Store.{no_int, next_frame}
 use Rattle.core_state.specs.Frames.{begun, with_entered}
-use Rattle.ac_commands.specs.declared.program.Function.{Function}
 use Rattle.ac_semantics.specs.Held.{Held, with_store, entered as enters}
 use Rattle.ac_semantics.specs.Work.{Work, closes}
 use Rattle.ac_semantics.specs.Statements.{Goes, Starts, Yields, or_trap}
@@ -29,11 +28,11 @@ use Rattle.ac_translation.proofs.Turns.{next_block}
 use Rattle.ac_translation.proofs.Standing.{running, around_of, resting, halted, seated, stack_at, Parked, Others, Together, Stands, rests, runs}
 use Rattle.ac_translation.proofs.Standing.{with_births, still_stacks, in_stacks, others_kept, others_back, sitting, never_waits, Seat, on_together}
 
-module _ (code : Parts) (functions : List Function) (bound : ℕ) (s0 : Held) (t : Item) (ws : List Work) (ready : List Item) (ts : List Thread) (activation : Activation) (stacks : List Stack)
+module _ (code : Parts) (bound : ℕ) (s0 : Held) (t : Item) (ws : List Work) (ready : List Item) (ts : List Thread) (activation : Activation) (stacks : List Stack)
     (bs : List (Option Block)) (x : Seat ts t ws activation)
-    (h0 : Together code.instrs functions (seated ts t ws) s0.blocks ready (Some t) stacks bs) where
+    (h0 : Together code.instrs (seated ts t ws) s0.blocks ready (Some t) stacks bs) where
   abbrev R : CoreState → Flat → Type 0
-  R = Stands code.instrs functions
+  R = Stands code.instrs
 
   abbrev a : Around
   a = around_of t activation ready stacks bs
@@ -49,17 +48,17 @@ module _ (code : Parts) (functions : List Function) (bound : ℕ) (s0 : Held) (t
 
   -- the new block has the next number of its table in the machine, and the same in the source
   pub enters_follow : (slot : ℕ) (s : Held) (place : ℕ) (work : List Work) → SameBirths s0 s → slice_get code.instrs place ≡ Some (i.Enter slot) →
-      Works code.instrs functions (within activation (next_block s ∷ activation.entered)) (place + 1) [] work →
+      Works code.instrs (within activation (next_block s ∷ activation.entered)) (place + 1) [] work →
       FollowsAt code bound R a c s place [] (Goes (enters s activation.frame slot) work)
   enters_follow slot s place work b is w =
-      let h = with_births code.instrs functions s0 s b h0 in
+      let h = with_births code.instrs s0 s b h0 in
       let block = next_block s in
       let inner = within activation (block ∷ activation.entered) in
       let s' = enters s activation.frame slot in
       let new = sitting ts t Active work in
       let change = x.changed Active work in
       let ts' = seated ts t work in
-      let opened : entered new ≡ block ∷ entered old = works_closes code.instrs functions inner (place + 1) [] work w ∙ ap (λ l. block ∷ l) (sym x.has) in
+      let opened : entered new ≡ block ∷ entered old = works_closes code.instrs inner (place + 1) [] work w ∙ ap (λ l. block ∷ l) (sym x.has) in
       let parent : first (activation.entered ++ activation.around) ≡ first (entered old ++ old.around) =
       ap (λ l. first (l ++ activation.around)) (sym x.has) ∙ ap (λ l. first (entered old ++ l)) x.round in
       let bs' = bs ++ Some (entry (first (activation.entered ++ activation.around)) t.number 0 false) ∷ [] in
@@ -67,14 +66,14 @@ module _ (code : Parts) (functions : List Function) (bound : ℕ) (s0 : Held) (t
       let made : Changed None bs bs' s.blocks (Some (entry (first (entered old ++ old.around)) t.number 0 false)) =
       subst (λ n. Changed None bs bs' n (Some (entry (first (entered old ++ old.around)) t.number 0 false))) h.blocks_are
       (subst (λ y. Changed None bs bs' (length bs) (Some (entry y t.number 0 false))) parent pushed) in
-      let together : Together code.instrs functions ts' s'.blocks ready (Some t) stacks bs' = record {
-        stacks_are = still_stacks code.instrs functions ts t ws activation x h Active work;
+      let together : Together code.instrs ts' s'.blocks ready (Some t) stacks bs' = record {
+        stacks_are = still_stacks code.instrs ts t ws activation x h Active work;
         blocks_are = let n = h.blocks_are in omega (arith, n, length-append bs (Some (entry (first (activation.entered ++ activation.around)) t.number 0 false) ∷ []));
         good = open_good all ts' t.number new change s.blocks h.good block refl x.lives tt x.around opened;
         waits = waits_change all ts' t.number new change h.waits (direct_change all ts' t.number new change x.lives tt x.around) (λ b e. absurd (never_waits b e));
         listed = listed_same all ts' t.number new change ready (Some t) (sym x.active) h.listed;
         tracks = tracks_open all ts' t.number new change bs bs' s.blocks h.good h.tracks block refl made x.active refl x.around opened;
-        others = others_kept code.instrs functions all ts' t new change stacks h.others;
+        others = others_kept code.instrs all ts' t new change stacks h.others;
       } in
       let in_block = λ (n : ℕ). around_of t (within activation (record { number = n } ∷ activation.entered)) ready stacks bs' in
       let numbered = λ (n k : ℕ). flat (in_block n) (with_store s (with_entered s.store activation.frame slot n)) (place + 1) [] (counted k) in
@@ -82,35 +81,35 @@ module _ (code : Parts) (functions : List Function) (bound : ℕ) (s0 : Held) (t
       (λ k. subst (λ n. R (running s' t work ready ts) (numbered n k)) (sym h.blocks_are) (runs s' t work ready ts inner (place + 1) [] stacks bs' (counted k) x.was_active x.was_around together w))
 
   -- a thread that rests stands where it goes on
-  stays : (work : List Work) (place : ℕ) → Works code.instrs functions activation place [] work
-      → Parked code.instrs functions (record (thread_at ts t) { phase = Active; work = work }) (thread_in activation place [])
+  stays : (work : List Work) (place : ℕ) → Works code.instrs activation place [] work
+      → Parked code.instrs (record (thread_at ts t) { phase = Active; work = work }) (thread_in activation place [])
   stays work place w = record { activation = activation; place = place; operands = []; is = refl; around = x.was_around; works = w }
 
-  pub yields_follow : (s : Held) (place : ℕ) (work : List Work) → SameBirths s0 s → slice_get code.instrs place ≡ Some i.Yield → Works code.instrs functions activation (place + 1) [] work →
+  pub yields_follow : (s : Held) (place : ℕ) (work : List Work) → SameBirths s0 s → slice_get code.instrs place ≡ Some i.Yield → Works code.instrs activation (place + 1) [] work →
       FollowsAt code bound R a c s place [] (Yields s work)
   yields_follow s place work b is w =
-      let h = with_births code.instrs functions s0 s b h0 in
+      let h = with_births code.instrs s0 s b h0 in
       let new = sitting ts t Active work in
       let change = x.changed Active work in
       let ts' = seated ts t work in
       let kept = thread_in activation (place + 1) [] in
-      let on = on_together code.instrs functions ts t ws activation x work (works_closes code.instrs functions activation (place + 1) [] work w) h in
-      let together : Together code.instrs functions ts' s.blocks (ready ++ t ∷ []) None (set stacks t.number kept) bs = record {
+      let on = on_together code.instrs ts t ws activation x work (works_closes code.instrs activation (place + 1) [] work w) h in
+      let together : Together code.instrs ts' s.blocks (ready ++ t ∷ []) None (set stacks t.number kept) bs = record {
         stacks_are = length-set stacks t.number kept ∙ on.stacks_are;
         blocks_are = on.blocks_are;
         good = on.good;
         waits = on.waits;
         listed = λ u. let k = on.listed u in let z = occ_append (λ (x : Item). x.number) u ready (t ∷ []) in omega (arith, k, z);
         tracks = on.tracks;
-        others = others_back code.instrs functions all ts' t new change stacks h.others kept (in_stacks code.instrs functions ts t ws activation x h) (λ l. stays work (place + 1) w);
+        others = others_back code.instrs all ts' t new change stacks h.others kept (in_stacks code.instrs ts t ws activation x h) (λ l. stays work (place + 1) w);
       } in
       turn_follows code bound R a c i.Yield (resting s (ready ++ t ∷ []) ts') (λ k. halted s (ready ++ t ∷ []) (set stacks t.number kept) bs (counted k)) is refl (λ k. refl)
       (λ k. rests s (ready ++ t ∷ []) ts' (set stacks t.number kept) bs (counted k) together)
 
   -- ---- a thread is started
 
-  module _ (u : Held) (h : Together code.instrs functions all u.blocks ready (Some t) stacks bs) (frame : FrameId) (to place : ℕ) (work own : List Work)
-      (w : Works code.instrs functions activation to [] work) (w' : Works code.instrs functions (started activation frame) place [] own) where
+  module _ (u : Held) (h : Together code.instrs all u.blocks ready (Some t) stacks bs) (frame : FrameId) (to place : ℕ) (work own : List Work)
+      (w : Works code.instrs activation to [] work) (w' : Works code.instrs (started activation frame) place [] own) where
     -- the thread that is born, as it is kept and in its place
     abbrev kept_born : Thread
     kept_born = record { around = closes work ++ (thread_at ts t).around; phase = Active; work = [] }
@@ -142,11 +141,11 @@ module _ (code : Parts) (functions : List Function) (bound : ℕ) (s0 : Held) (t
     abbrev bs' : List (Option Block)
     bs' = counted_in bs (first path)
 
-    on : Together code.instrs functions before_it u.blocks ready (Some t) stacks bs
-    on = on_together code.instrs functions ts t ws activation x work (works_closes code.instrs functions activation to [] work w) h
+    on : Together code.instrs before_it u.blocks ready (Some t) stacks bs
+    on = on_together code.instrs ts t ws activation x work (works_closes code.instrs activation to [] work w) h
 
     path_is : closes work ++ (thread_at ts t).around ≡ path
-    path_is = ap (λ l. l ++ (thread_at ts t).around) (works_closes code.instrs functions activation to [] work w) ∙ ap (λ l. activation.entered ++ l) (sym x.was_around)
+    path_is = ap (λ l. l ++ (thread_at ts t).around) (works_closes code.instrs activation to [] work w) ∙ ap (λ l. activation.entered ++ l) (sym x.was_around)
 
     grows : Changed nobody before_it with_it (length before_it) born
     grows = pushed_changed nobody before_it born
@@ -161,7 +160,7 @@ module _ (code : Parts) (functions : List Function) (bound : ℕ) (s0 : Held) (t
     gone = ap (λ (y : Thread). y.phase) (get_or_past before_it (length before_it) nobody (omega arith))
 
     empty : entered born ≡ []
-    empty = works_closes code.instrs functions (started activation frame) place [] own w'
+    empty = works_closes code.instrs (started activation frame) place [] own w'
 
     counts : (b : BlockId) (y : Block) → y.count ≡ sum_by (direct b) before_it → block_at bs b ≡ Some y → block_at bs' b ≡ Some (record y { count = sum_by (direct b) with_it })
     counts b y count q =
@@ -170,16 +169,16 @@ module _ (code : Parts) (functions : List Function) (bound : ℕ) (s0 : Held) (t
         let p : head_is b (closes work ++ (thread_at ts t).around) ≡ head_is b path = ap (head_is b) path_is in
         counted_in_tells bs path b (sum_by (direct b) with_it) y (omega (arith, k, z, p, count)) q
 
-    others_stay : Others code.instrs functions with_it (Some new_item) stacks'
+    others_stay : Others code.instrs with_it (Some new_item) stacks'
     others_stay v ne l =
         let here = grows.there v ne in
-        let back = others_back code.instrs functions all before_it t (sitting ts t Active work) (x.changed Active work) stacks h.others creator (in_stacks code.instrs functions ts t ws activation x h)
+        let back = others_back code.instrs all before_it t (sitting ts t Active work) (x.changed Active work) stacks h.others creator (in_stacks code.instrs ts t ws activation x h)
         (λ _. stays work to w) v tt (subst (λ (y : Thread). Lives y.phase) here l) in
         let n : length (set stacks t.number creator) ≡ length before_it = length-set stacks t.number creator ∙ on.stacks_are in
         let stack = (pushed_changed no_stack (set stacks t.number creator) no_stack).there v (λ e. ne (sym n ∙ e)) in
-        subst (Parked code.instrs functions (at with_it v)) (sym stack) (subst (λ y. Parked code.instrs functions y (stack_at (set stacks t.number creator) v)) (sym here) back)
+        subst (Parked code.instrs (at with_it v)) (sym stack) (subst (λ y. Parked code.instrs y (stack_at (set stacks t.number creator) v)) (sym here) back)
 
-    together : Together code.instrs functions with_it u.blocks (t ∷ ready) (Some new_item) stacks' bs'
+    together : Together code.instrs with_it u.blocks (t ∷ ready) (Some new_item) stacks' bs'
     together =
         let creator_is = (x.changed Active work).here in
         let lives = subst (λ (y : Thread). Lives y.phase) (sym creator_is) tt in
@@ -199,8 +198,8 @@ module _ (code : Parts) (functions : List Function) (bound : ℕ) (s0 : Held) (t
     started_stands : (k : ℕ) → R (starts c t u own work) (flat (around_of (record { number = length stacks }) (started activation frame) (t ∷ ready) stacks' bs') u place [] k)
     started_stands k =
         let there = λ (n : ℕ). flat (around_of (record { number = n }) (started activation frame) (t ∷ ready) stacks' bs') u place [] k in
-        let sits : Together code.instrs functions (seated kept_it new_item own) u.blocks (t ∷ ready) (Some new_item) stacks' bs' =
-        subst (λ ts'. Together code.instrs functions ts' u.blocks (t ∷ ready) (Some new_item) stacks' bs') (sym seat_is) together in
+        let sits : Together code.instrs (seated kept_it new_item own) u.blocks (t ∷ ready) (Some new_item) stacks' bs' =
+        subst (λ ts'. Together code.instrs ts' u.blocks (t ∷ ready) (Some new_item) stacks' bs') (sym seat_is) together in
         let active = ap (λ (y : Thread). y.phase) kept_is in
         let around = sym path_is ∙ ap (λ (y : Thread). y.around) (sym kept_is) in
         subst (λ n. R (running u (record { number = n }) own (t ∷ ready) kept_it) (there (length stacks))) (length-set ts t.number (sitting ts t Active work))
@@ -208,7 +207,7 @@ module _ (code : Parts) (functions : List Function) (bound : ℕ) (s0 : Held) (t
         (runs u new_item own (t ∷ ready) kept_it (started activation frame) place [] stacks' bs' k active around sits w'))
 
   pub starts_follow : (slots to : ℕ) (s : Held) (place : ℕ) (own work : List Work) → SameBirths s0 s → slice_get code.instrs place ≡ Some (i.Async slots to) →
-      Works code.instrs functions activation to [] work → Works code.instrs functions (started activation (next_frame s.store)) (place + 1) [] own →
+      Works code.instrs activation to [] work → Works code.instrs (started activation (next_frame s.store)) (place + 1) [] own →
       FollowsAt code bound R a c s place [] (or_trap s (begun s.store (Some activation.frame) (replicate slots no_int)) (λ u. Starts (with_store s u) (next_frame s.store) own work))
   starts_follow slots to s place own work b is w w' =
       let frame = next_frame s.store in
@@ -218,4 +217,4 @@ module _ (code : Parts) (functions : List Function) (bound : ℕ) (s0 : Held) (t
       turns_or_ends code bound R a c (i.Async slots to) made (λ u. Starts (with_store s u) frame own work) (λ u. starts c t (with_store s u) own work)
       (λ u k. flat (around_of (record { number = length stacks }) (started activation frame) (t ∷ ready) stacks'' (counted_in bs (first path))) (with_store s u) (place + 1) [] (counted k)) is
       (λ u. refl) (λ k. refl)
-      (λ u e k. started_stands (with_store s u) (with_births code.instrs functions s0 (with_store s u) b h0) frame to (place + 1) work own w w' (counted k))
+      (λ u e k. started_stands (with_store s u) (with_births code.instrs s0 (with_store s u) b h0) frame to (place + 1) work own w w' (counted k))

@@ -4,7 +4,6 @@ use Rattle.std.specs.Prelude.{slice_get}
 use Rattle.work_item.specs.declared.ids.BlockId.{BlockId}
 use Rattle.work_item.specs.Store.{no_int, next_frame}
 use Rattle.core_state.specs.Frames.{begun}
-use Rattle.ac_commands.specs.declared.program.Function.{Function}
 use Rattle.ac_semantics.specs.Held.{Held, with_store, entered}
 use Rattle.ac_semantics.specs.Work.{Work}
 use Rattle.ac_semantics.specs.Statements.{Goes, Starts, Yields, Arrives, Dies, or_trap}
@@ -20,16 +19,16 @@ abbrev pub next_block : Held → BlockId
 next_block s = record { number = s.blocks }
 
 -- one instruction does each of these, and then the two stand in relation again
-pub record Turns (code : Parts) (functions : List Function) (bound : ℕ) (R : CoreState → Flat → Type 0) (a : Around) (c : CoreState) : Type 0 where
+pub record Turns (code : Parts) (bound : ℕ) (R : CoreState → Flat → Type 0) (a : Around) (c : CoreState) : Type 0 where
   pub enters : (slot : ℕ) (s : Held) (place : ℕ) (ws : List Work) → SameBirths c.held s → slice_get code.instrs place ≡ Some (i.Enter slot) →
-      Works code.instrs functions (within a.activation (next_block s ∷ a.activation.entered)) (place + 1) [] ws → FollowsAt code bound R a c s place [] (Goes (entered s a.activation.frame slot) ws)
+      Works code.instrs (within a.activation (next_block s ∷ a.activation.entered)) (place + 1) [] ws → FollowsAt code bound R a c s place [] (Goes (entered s a.activation.frame slot) ws)
   pub arrives : (slot : ℕ) (s : Held) (place : ℕ) (block : BlockId) (below : List BlockId) (ws : List Work) → SameBirths c.held s → slice_get code.instrs place ≡ Some (i.Finish slot) →
       a.activation.entered ≡ block ∷ below →
-      Works code.instrs functions (within a.activation below) (place + 1) [] ws → FollowsAt code bound R a c s place [] (Arrives block s ws)
+      Works code.instrs (within a.activation below) (place + 1) [] ws → FollowsAt code bound R a c s place [] (Arrives block s ws)
   pub starts : (slots to : ℕ) (s : Held) (place : ℕ) (own ws : List Work) → SameBirths c.held s → slice_get code.instrs place ≡ Some (i.Async slots to) →
-      Works code.instrs functions a.activation to [] ws → Works code.instrs functions (started a.activation (next_frame s.store)) (place + 1) [] own →
+      Works code.instrs a.activation to [] ws → Works code.instrs (started a.activation (next_frame s.store)) (place + 1) [] own →
       FollowsAt code bound R a c s place [] (or_trap s (begun s.store (Some a.activation.frame) (replicate slots no_int)) (λ t. Starts (with_store s t) (next_frame s.store) own ws))
-  pub yields : (s : Held) (place : ℕ) (ws : List Work) → SameBirths c.held s → slice_get code.instrs place ≡ Some i.Yield → Works code.instrs functions a.activation (place + 1) [] ws →
+  pub yields : (s : Held) (place : ℕ) (ws : List Work) → SameBirths c.held s → slice_get code.instrs place ≡ Some i.Yield → Works code.instrs a.activation (place + 1) [] ws →
       FollowsAt code bound R a c s place [] (Yields s ws)
   pub dies : (s : Held) (place : ℕ) (block : BlockId) (others : List BlockId) → SameBirths c.held s → slice_get code.instrs place ≡ Some i.End → a.activation.entered ≡ [] →
       a.activation.around ≡ block ∷ others →

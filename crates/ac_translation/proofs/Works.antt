@@ -1,24 +1,25 @@
 -- Where the code stands that does what a thread has still to do.
-use Rattle.std.proofs.Common.{◌≡◌, ℕ, zero, suc, ◌+◌, List, [], ◌∷◌, ◌++◌, Some, Bool, true, false, refl, sym, ap, ◌∙◌, subst, arith}
+use Rattle.std.proofs.Common.{◌≡◌, ℕ, zero, suc, ◌+◌, List, [], ◌∷◌, ◌++◌, length, Some, Bool, true, false, refl, sym, ap, ◌∙◌, subst, arith}
 use Rattle.std.specs.Prelude.{slice_get, ◌&&◌, ℤ, pos, negsuc}
 use Rattle.work_item.specs.declared.ids.FrameId.{FrameId}
 use Rattle.work_item.specs.declared.ids.BlockId.{BlockId}
 use Rattle.work_item.specs.declared.cell.Cell.{Cell}
-use Rattle.work_item.specs.declared.cell.Cell.TheVariants as cell
 use Rattle.core_state.specs.Arithmetic.{at_zero}
 use Rattle.ac_commands.specs.declared.command.Command.{Command, map-Command, out-Command, fold_out-Command}
 use Rattle.ac_commands.specs.declared.command.Command.TheOpen.{Command-F}
-use Rattle.ac_commands.specs.declared.program.Function.{Function}
 use Rattle.ac_semantics.specs.Held.{Held}
-use Rattle.ac_semantics.specs.Work.{After, Puts, Drops, Gives, Work, Do, Turn, Close, Back, Given, Leave, End, before, next_in, next_part, past_loop, at_turn, closes}
+use Rattle.ac_semantics.specs.Evaluation.{Context}
+use Rattle.ac_semantics.specs.Work.{Work, Do, Pend, Given, Turn, Close, Back, Leave, End, before, next_in, next_part, past_loop, at_turn, closes}
+use Rattle.ac_semantics.specs.Statements.{operands_of}
 use Rattle.ac_semantics.specs.Threads.{CoreState, goes_on}
 use Rattle.stack_code.specs.declared.instr.Instr.{Instr}
 use Rattle.stack_code.specs.declared.instr.Instr.TheVariants as i
 use Rattle.stack_code.specs.Machine.{Caller, Flat}
 use Rattle.ac_translation.specs.Pieces.{Exits, Piece, no_code, one, ◌⨾◌, all, loop_exits}
-use Rattle.ac_translation.specs.Translation.{target_code, test_code, at_loop, at_next, command_step, command_code, body_code, last_code, no_exits}
+use Rattle.ac_translation.specs.Translation.{values_code, test_code, at_loop, at_next, command_step, command_code, body_code, last_code, no_exits}
 use Rattle.ac_translation.proofs.WellFormed.{Round, in_loop, well_formed_step, is_well_formed, are_well_formed}
 use Rattle.ac_translation.proofs.Sized.{test_sized, command_sized, body_sized}
+use Rattle.ac_translation.proofs.Contexts.{Waits, taken_at}
 use Rattle.ac_translation.proofs.Keeps.{Activation, called, within, Around, flat, SameBirths}
 use Rattle.ac_translation.proofs.Placed.{Placed, first_part, other_part, Jumps, here, jump, jumps_on, loop_at}
 
@@ -54,30 +55,18 @@ exits_in x place = record { past = place + (command_step x).size; turn = place }
 pub not_both : (b : Bool) → b ≡ false → b ≡ true → ⊥
 not_both b e f = cc
 
--- the instructions after the value of an effect
-abbrev pub after_code : After → Piece
-after_code (Puts target) = target_code target
-after_code Drops = one i.Drop
-after_code Gives = one i.Ret
-
--- a value is given up outside of each `do` alone
-abbrev pub IsOutside : After → Scope → Type 0
-IsOutside (Puts target) scope = Unit {0}
-IsOutside Drops scope = Unit {0}
-IsOutside Gives scope = scope.block ≡ false
-
 -- the pieces of a command, and whether they are well formed, by its form
 abbrev pub pieces_of : Command-F Command → Command-F Piece
 pieces_of x = map-Command Command Piece command_code x
 
-abbrev pub tests_of : List Function → Command-F Command → Command-F (Round → Bool)
-tests_of functions x = map-Command Command (Round → Bool) (is_well_formed functions) x
+abbrev pub tests_of : Command-F Command → Command-F (Round → Bool)
+tests_of x = map-Command Command (Round → Bool) is_well_formed x
 
 pub code_by_form : (c : Command) → command_code c ≡ command_step (pieces_of (out-Command c))
 code_by_form c = fold_out-Command Piece command_step c
 
-pub test_by_form : (functions : List Function) (c : Command) → is_well_formed functions c ≡ well_formed_step functions (tests_of functions (out-Command c))
-test_by_form functions c = fold_out-Command (Round → Bool) (well_formed_step functions) c
+pub test_by_form : (c : Command) → is_well_formed c ≡ well_formed_step (tests_of (out-Command c))
+test_by_form c = fold_out-Command (Round → Bool) well_formed_step c
 
 abbrev pub exits_of : Command → ℕ → Exits
 exits_of c place = exits_in (pieces_of (out-Command c)) place
@@ -86,14 +75,14 @@ past_in : (x : Command-F Piece) (place : ℕ) → (exits_in x place).past ≡ pl
 past_in (Command-F.While test body) place = refl
 past_in x place = refl
 
-module _ (code : List Instr) (functions : List Function) where
+module _ (code : List Instr) where
   -- a statement, and what comes after it
   pub record DoAt (scope : Scope) (frame own : FrameId) (c : Command) (place : ℕ) (Then : ℕ → Type 0) : Type 0 where
     pub at : ℕ
     pub to : ℕ
     pub jumps : Jumps code place at
     pub stands : Placed code (command_code c) scope.exits at to
-    pub form : is_well_formed functions c (round_of scope) ≡ true
+    pub form : is_well_formed c (round_of scope) ≡ true
     pub own_is : own ≡ frame
     pub rest : Then to
 
@@ -105,7 +94,7 @@ module _ (code : List Instr) (functions : List Function) where
     pub is : scope ≡ looped outer (exits_of c at)
     pub jumps : Jumps code place (exits_of c at).turn
     pub stands : Placed code (command_code c) outer.exits at to
-    pub form : is_well_formed functions c (round_of outer) ≡ true
+    pub form : is_well_formed c (round_of outer) ≡ true
     pub own_is : own ≡ frame
     pub rest : Then outer to
 
@@ -118,23 +107,30 @@ module _ (code : List Instr) (functions : List Function) where
     pub no_loop : scope.loop ≡ false
     pub no_block : scope.block ≡ false
 
-  -- the caller of an activation, which goes on there in this frame, and takes the value first
-  pub record TakesAt (callers : List Caller) (to : FrameId) (after : After) (Then : Scope → List Caller → ℕ → Type 0) : Type 0 where
-    pub back : ℕ
-    pub others : List Caller
-    pub is : callers ≡ record { place = back; frame = to; operands = [] } ∷ others
-    pub exits : Exits
-    pub next : ℕ
-    pub stands : Placed code (after_code after) exits back next
-    pub outer : Scope
-    pub outside : IsOutside after outer
-    pub rest : Then outer others next
-
-  -- the end of a called function
-  pub record BackAt (scope : Scope) (activation : Activation) (own to : FrameId) (after : After) (place : ℕ) (Then : Scope → Activation → ℕ → Type 0) : Type 0 where
+  -- the end of a called function, whose caller waits
+  pub record BackAt (scope : Scope) (activation : Activation) (own : FrameId) (place : ℕ) (Then : Activation → ℕ → List Cell → Type 0) : Type 0 where
     pub last : LastAt scope place
     pub own_is : own ≡ activation.frame
-    pub takes : TakesAt activation.callers to after (λ outer others next. Then outer (called activation to others) next)
+    pub caller : Caller
+    pub others : List Caller
+    pub is : activation.callers ≡ caller ∷ others
+    pub rest : Then (called activation caller.frame others) caller.place caller.operands
+
+  -- after so many operands of a statement, which are all, and before what is done with them
+  pub record TailAt (scope : Scope) (c : Command) (place count : ℕ) (Then : ℕ → Type 0) : Type 0 where
+    pub at : ℕ
+    pub to : ℕ
+    pub stands : Placed code (command_code c) scope.exits at to
+    pub form : is_well_formed c (round_of scope) ≡ true
+    pub is : place ≡ at + 1 + (values_code (operands_of (out-Command c))).size
+    pub all : count ≡ length (operands_of (out-Command c))
+    pub rest : Then to
+
+  -- a statement that waits for a value, above these operands
+  pub record PendAt (frame own : FrameId) (c : Command) (around : List Context) (place : ℕ) (operands : List Cell) (Then : Scope → ℕ → Type 0) : Type 0 where
+    pub own_is : own ≡ frame
+    pub scope : Scope
+    pub waits : Waits code around place operands (λ to count. TailAt scope c to count (λ past. Then scope past))
 
   -- the end of an activation without a caller
   pub record LeaveAt (scope : Scope) (activation : Activation) (place : ℕ) (ws : List Work) : Type 0 where
@@ -173,23 +169,29 @@ module _ (code : List Instr) (functions : List Function) where
     pub around : activation.around ≡ block ∷ others
     pub nothing : ws ≡ []
 
-  -- the code at this address does this work, in this scope and this activation
-  abbrev pub Does : Scope → Activation → ℕ → List Work → Type 0
-  Does scope activation place [] = ⊥
-  Does scope activation place (Do own c ∷ ws) = DoAt scope activation.frame own c place (λ to. Does scope activation to ws)
-  Does scope activation place (Turn own c ∷ ws) = TurnAt scope activation.frame own c place (λ outer to. Does outer activation to ws)
-  Does scope activation place (Close block ∷ ws) = CloseAt scope activation block place (λ outer left to. Does outer left to ws)
-  Does scope activation place (Back own to after ∷ ws) = BackAt scope activation own to after place (λ outer below next. Does outer below next ws)
-  Does scope activation place (Given value to after ∷ ws) = ⊥
-  Does scope activation place (Leave ∷ ws) = LeaveAt scope activation place ws
-  Does scope activation place (End own ∷ ws) = EndAt scope activation own place ws
+  abbrev mutual
+    -- the code at this address does this work, in this scope and this activation
+    pub Does : Scope → Activation → ℕ → List Work → Type 0
+    Does scope activation place [] = ⊥
+    Does scope activation place (Do own c ∷ ws) = DoAt scope activation.frame own c place (λ to. Does scope activation to ws)
+    Does scope activation place (Pend own c around ∷ ws) = ⊥
+    Does scope activation place (Given value own c around ∷ ws) = ⊥
+    Does scope activation place (Turn own c ∷ ws) = TurnAt scope activation.frame own c place (λ outer to. Does outer activation to ws)
+    Does scope activation place (Close block ∷ ws) = CloseAt scope activation block place (λ outer left to. Does outer left to ws)
+    Does scope activation place (Back own ∷ ws) = BackAt scope activation own place (λ below back operands. Sleeps below back operands ws)
+    Does scope activation place (Leave ∷ ws) = LeaveAt scope activation place ws
+    Does scope activation place (End own ∷ ws) = EndAt scope activation own place ws
 
-  -- the same in some scope, or where a call has just given its value, which is the one operand
+    -- with a value on top of these operands the code at this address does this work
+    pub Sleeps : Activation → ℕ → List Cell → List Work → Type 0
+    Sleeps activation place operands (Pend own c around ∷ ws) = PendAt activation.frame own c around place operands (λ scope to. Does scope activation to ws)
+    Sleeps activation place operands _ = ⊥
+
+  -- the same in some scope, or where the value has just come
   pub data Works (activation : Activation) (place : ℕ) : List Cell → List Work → Type 0 where
     works : {ws : List Work} (scope : Scope) → Does scope activation place ws → Works activation place [] ws
-    gives : {ws : List Work} (value : ℤ) (after : After) (exits : Exits) (next : ℕ) (scope : Scope) → IsOutside after scope → Placed code (after_code after) exits place next
-        → Does scope activation next ws →
-        Works activation place (cell.Int value ∷ []) (Given value activation.frame after ∷ ws)
+    wakes : {below : List Cell} {ws : List Work} (value : Cell) (own : FrameId) (c : Command) (around : List Context) → Sleeps activation place below (Pend own c around ∷ ws)
+        → Works activation place (value ∷ below) (Given value own c around ∷ ws)
 
   -- the relation holds wherever the code stands that does the work, in whichever activation of the thread
   abbrev pub Relates : (CoreState → Flat → Type 0) → Around → CoreState → Type 0
@@ -230,8 +232,9 @@ module _ (code : List Instr) (functions : List Function) where
       outer = d.outer;
       rest = d.rest;
     }
-    jumps_do scope (Back own to after ∷ ws) j d = record { last = last_later scope j d.last; own_is = d.own_is; takes = d.takes }
-    jumps_do scope (Given value to after ∷ ws) j d = d
+    jumps_do scope (Back own ∷ ws) j d = record { last = last_later scope j d.last; own_is = d.own_is; caller = d.caller; others = d.others; is = d.is; rest = d.rest }
+    jumps_do scope (Pend own c around ∷ ws) j d = d
+    jumps_do scope (Given value own c around ∷ ws) j d = d
     jumps_do scope (Leave ∷ ws) j d = record { last = last_later scope j d.last; alone = d.alone; entered = d.entered; nothing = d.nothing }
     jumps_do scope (End own ∷ ws) j d = record {
       at = d.at;
@@ -249,7 +252,7 @@ module _ (code : List Instr) (functions : List Function) where
     }
 
     -- a body, and what comes after it
-    pub before_does : (body : List Command) (ws : List Work) (scope : Scope) {place to : ℕ} → are_well_formed functions body (round_of scope) ≡ true → Placed code (body_code body) scope.exits place to
+    pub before_does : (body : List Command) (ws : List Work) (scope : Scope) {place to : ℕ} → are_well_formed body (round_of scope) ≡ true → Placed code (body_code body) scope.exits place to
         → Does scope activation to ws →
         Does scope activation place (before activation.frame body ws)
     before_does [] ws scope {place} {to} f h d =
@@ -257,7 +260,7 @@ module _ (code : List Instr) (functions : List Function) where
         let same : to ≡ place = omega (arith, ends) in
         subst (λ n. Does scope activation n ws) same d
     before_does (x ∷ xs) ws scope {place} {to} f h d =
-        let forms = both_true (is_well_formed functions x (round_of scope)) (are_well_formed functions xs (round_of scope)) f in
+        let forms = both_true (is_well_formed x (round_of scope)) (are_well_formed xs (round_of scope)) f in
         record {
           at = place;
           to = place + (command_code x).size;
@@ -288,8 +291,9 @@ module _ (code : List Instr) (functions : List Function) where
         let at_end : (exits_of c d.at).past ≡ d.to = past_is c d.stands in
         subst (λ (x : Scope). Works activation x.exits.past [] ws) (sym d.is) (works d.outer (subst (λ n. Does d.outer activation n ws) (sym at_end) d.rest))
     break_works (Close block ∷ ws) scope place e d = absurd (not_both scope.loop d.no_loop e)
-    break_works (Back own to after ∷ ws) scope place e d = absurd (not_both scope.loop d.last.no_loop e)
-    break_works (Given value to after ∷ ws) scope place e d = absurd d
+    break_works (Back own ∷ ws) scope place e d = absurd (not_both scope.loop d.last.no_loop e)
+    break_works (Pend own c around ∷ ws) scope place e d = absurd d
+    break_works (Given value own c around ∷ ws) scope place e d = absurd d
     break_works (Leave ∷ ws) scope place e d = absurd (not_both scope.loop d.last.no_loop e)
     break_works (End own ∷ ws) scope place e d = absurd (not_both scope.loop d.no_loop e)
 
@@ -310,21 +314,22 @@ module _ (code : List Instr) (functions : List Function) where
           rest = d.rest;
         })
     continue_works (Close block ∷ ws) scope place e d = absurd (not_both scope.loop d.no_loop e)
-    continue_works (Back own to after ∷ ws) scope place e d = absurd (not_both scope.loop d.last.no_loop e)
-    continue_works (Given value to after ∷ ws) scope place e d = absurd d
+    continue_works (Back own ∷ ws) scope place e d = absurd (not_both scope.loop d.last.no_loop e)
+    continue_works (Pend own c around ∷ ws) scope place e d = absurd d
+    continue_works (Given value own c around ∷ ws) scope place e d = absurd d
     continue_works (Leave ∷ ws) scope place e d = absurd (not_both scope.loop d.last.no_loop e)
     continue_works (End own ∷ ws) scope place e d = absurd (not_both scope.loop d.no_loop e)
 
     -- the next part of a loop, and then the loop again
     turn_does : (c : Command) (ws : List Work) (outer : Scope) (x : Command-F Command) {place at to : ℕ} → Placed code (command_step (pieces_of x)) outer.exits at to
-        → well_formed_step functions (tests_of functions x) (round_of outer) ≡ true →
+        → well_formed_step (tests_of x) (round_of outer) ≡ true →
         Jumps code place (exits_in (pieces_of x) at).turn → Does outer activation at (Do activation.frame c ∷ ws)
         → Does outer activation place (before activation.frame (next_in x) (Do activation.frame c ∷ ws))
     turn_does c ws outer (Command-F.For test next body) {at = at} h f j d =
         let head = test_code test ((body_code body).size + ((body_code next).size + 1)) in
         let parts = loop_at code at_next head (body_code body) (body_code next) (test_sized test ((body_code body).size + ((body_code next).size + 1))) (body_sized body) (body_sized next) h in
         let again = jumps_do outer (Do activation.frame c ∷ ws) (jump parts.back here) d in
-        let forms = both_true (are_well_formed functions body (in_loop (round_of outer))) (are_well_formed functions next (round_of outer)) f in
+        let forms = both_true (are_well_formed body (in_loop (round_of outer))) (are_well_formed next (round_of outer)) f in
         jumps_do outer (before activation.frame next (Do activation.frame c ∷ ws)) j (before_does next (Do activation.frame c ∷ ws) outer forms.1 parts.next_at again)
     turn_does c ws outer x h f j d = jumps_do outer (Do activation.frame c ∷ ws) j d
 
@@ -332,25 +337,33 @@ module _ (code : List Instr) (functions : List Function) where
         → Does d.outer activation place (before activation.frame (next_part c) (Do activation.frame c ∷ ws))
     ahead_does c ws d =
         turn_does c ws d.outer (out-Command c) (subst (λ p. Placed code p d.outer.exits d.at d.to) (code_by_form c) d.stands)
-        (subst (λ t. t (round_of d.outer) ≡ true) (test_by_form functions c) d.form) d.jumps
+        (subst (λ t. t (round_of d.outer) ≡ true) (test_by_form c) d.form) d.jumps
         (record { at = d.at; to = d.to; jumps = here; stands = d.stands; form = d.form; own_is = refl; rest = d.rest })
 
   -- ---- blocks
 
-  -- the work tells which blocks the thread has entered
-  does_closes : (scope : Scope) (activation : Activation) (place : ℕ) (ws : List Work) → Does scope activation place ws → closes ws ≡ activation.entered
-  does_closes scope activation place [] d = absurd d
-  does_closes scope activation place (Do own c ∷ ws) d = does_closes scope activation d.to ws d.rest
-  does_closes scope activation place (Turn own c ∷ ws) d = does_closes d.outer activation d.to ws d.rest
-  does_closes scope activation place (Close block ∷ ws) d = ap (λ bs. block ∷ bs) (does_closes d.outer (within activation d.below) d.to ws d.rest) ∙ sym d.entered
-  does_closes scope activation place (Back own to after ∷ ws) d = does_closes d.takes.outer (called activation to d.takes.others) d.takes.next ws d.takes.rest
-  does_closes scope activation place (Given value to after ∷ ws) d = absurd d
-  does_closes scope activation place (Leave ∷ ws) d = ap closes d.nothing ∙ sym d.entered
-  does_closes scope activation place (End own ∷ ws) d = ap closes d.nothing ∙ sym d.entered
+  mutual
+    -- the work tells which blocks the thread has entered
+    does_closes : (scope : Scope) (activation : Activation) (place : ℕ) (ws : List Work) → Does scope activation place ws → closes ws ≡ activation.entered
+    does_closes scope activation place [] d = absurd d
+    does_closes scope activation place (Do own c ∷ ws) d = does_closes scope activation d.to ws d.rest
+    does_closes scope activation place (Pend own c around ∷ ws) d = absurd d
+    does_closes scope activation place (Given value own c around ∷ ws) d = absurd d
+    does_closes scope activation place (Turn own c ∷ ws) d = does_closes d.outer activation d.to ws d.rest
+    does_closes scope activation place (Close block ∷ ws) d = ap (λ bs. block ∷ bs) (does_closes d.outer (within activation d.below) d.to ws d.rest) ∙ sym d.entered
+    does_closes scope activation place (Back own ∷ ws) d = sleeps_closes (called activation d.caller.frame d.others) d.caller.place d.caller.operands ws d.rest
+    does_closes scope activation place (Leave ∷ ws) d = ap closes d.nothing ∙ sym d.entered
+    does_closes scope activation place (End own ∷ ws) d = ap closes d.nothing ∙ sym d.entered
+
+    sleeps_closes : (activation : Activation) (place : ℕ) (operands : List Cell) (ws : List Work) → Sleeps activation place operands ws → closes ws ≡ activation.entered
+    sleeps_closes activation place operands (Pend own c around ∷ ws) d =
+        let tail = taken_at code around place operands (λ to count. TailAt d.scope c to count (λ past. Does d.scope activation past ws)) d.waits in
+        does_closes d.scope activation tail.2.to ws tail.2.rest
+    sleeps_closes activation place operands ws d = absurd d
 
   pub works_closes : (activation : Activation) (place : ℕ) (operands : List Cell) (ws : List Work) → Works activation place operands ws → closes ws ≡ activation.entered
   works_closes activation place _ ws (works scope d) = does_closes scope activation place ws d
-  works_closes activation place _ _ (gives {ws = ws} value after exits next scope outside h d) = does_closes scope activation next ws d
+  works_closes activation place _ _ (wakes {below} {ws} value own c around d) = sleeps_closes activation place below (Pend own c around ∷ ws) d
 
   -- the innermost block of a thread, and those round it
   pub record InBlock (activation : Activation) : Type 0 where
@@ -364,7 +377,8 @@ module _ (code : List Instr) (functions : List Function) where
   does_in_block scope activation place (Do own c ∷ ws) e d = does_in_block scope activation d.to ws e d.rest
   does_in_block scope activation place (Turn own c ∷ ws) e d = does_in_block d.outer activation d.to ws (ap (λ (x : Scope). x.block) (sym d.is) ∙ e) d.rest
   does_in_block scope activation place (Close block ∷ ws) e d = record { block = block; others = d.below ++ activation.around; is = ap (λ bs. bs ++ activation.around) d.entered }
-  does_in_block scope activation place (Back own to after ∷ ws) e d = absurd (not_both scope.block d.last.no_block e)
-  does_in_block scope activation place (Given value to after ∷ ws) e d = absurd d
+  does_in_block scope activation place (Back own ∷ ws) e d = absurd (not_both scope.block d.last.no_block e)
+  does_in_block scope activation place (Pend own c around ∷ ws) e d = absurd d
+  does_in_block scope activation place (Given value own c around ∷ ws) e d = absurd d
   does_in_block scope activation place (Leave ∷ ws) e d = absurd (not_both scope.block d.last.no_block e)
   does_in_block scope activation place (End own ∷ ws) e d = record { block = d.block; others = d.others; is = ap (λ bs. bs ++ activation.around) d.entered ∙ d.around }

@@ -8,15 +8,13 @@ use Rattle.ac_commands.specs.declared.value.Place.{Place}
 use Rattle.ac_commands.specs.declared.value.Place.TheVariants as p
 use Rattle.ac_commands.specs.declared.value.Array.{Array}
 use Rattle.ac_commands.specs.declared.value.Array.TheVariants as a
+use Rattle.ac_commands.specs.declared.value.Action.{Action}
+use Rattle.ac_commands.specs.declared.value.Action.TheVariants as c
 use Rattle.ac_commands.specs.declared.value.Value.{Value, fold-Value}
 use Rattle.ac_commands.specs.declared.value.ValueLink.{ValueLink, fold-ValueLink}
 use Rattle.ac_commands.specs.declared.value.Value.TheOpen.{Value-F, ValueLink-F}
-use Rattle.ac_commands.specs.declared.effect.Argument.{Argument}
-use Rattle.ac_commands.specs.declared.effect.Argument.TheVariants as g
-use Rattle.ac_commands.specs.declared.effect.Target.{Target}
-use Rattle.ac_commands.specs.declared.effect.Target.TheVariants as t
-use Rattle.ac_commands.specs.declared.effect.Effect.{Effect}
-use Rattle.ac_commands.specs.declared.effect.Effect.TheVariants as f
+use Rattle.ac_commands.specs.declared.command.Target.{Target}
+use Rattle.ac_commands.specs.declared.command.Target.TheVariants as t
 use Rattle.ac_commands.specs.declared.command.Command.{Command, fold-Command}
 use Rattle.ac_commands.specs.declared.command.Command.TheOpen.{Command-F}
 use Rattle.ac_commands.specs.declared.program.Function.{Function}
@@ -82,12 +80,23 @@ array_code (a.Global slot len) = i.ArrG slot len
 array_code (a.Local level slot len) = i.Arr level slot len
 array_code (a.Param level slot) = i.Load level slot
 
+-- after its operands, of which there are so many
+abbrev pub action_code : Action → ℕ → Instr
+action_code (c.Call function) count = i.Call function count
+action_code (c.Send channel) count = i.Send channel
+action_code (c.Recv channel) count = i.Recv channel
+action_code (c.Read file) count = i.Read file
+action_code (c.Write file) count = i.Write file
+
 abbrev pub value_step : Value-F Piece (BinaryOp × Piece) → Piece
 value_step (Value-F.Number value) = one (i.Push value)
 value_step (Value-F.Variable place) = one (variable_code place)
+value_step (Value-F.Reference array) = one (array_code array)
 value_step (Value-F.Element array index) = one (array_code array) ⨾ index ⨾ one i.Elem
+value_step (Value-F.Part array index) = one (array_code array) ⨾ index ⨾ one i.Place
 value_step (Value-F.Unary op operand) = operand ⨾ one (unary_code op)
 value_step (Value-F.Chain first rest) = first ⨾ chained_code rest
+value_step (Value-F.Act action operands) = all operands ⨾ one (action_code action (length operands))
 
 abbrev pub link_step : ValueLink-F Piece (BinaryOp × Piece) → BinaryOp × Piece
 link_step link = (link.op, link.operand)
@@ -100,26 +109,6 @@ link_code = fold-ValueLink Piece (BinaryOp × Piece) value_step link_step
 
 abbrev pub values_code : List Value → Piece
 values_code xs = all (map value_code xs)
-
--- ---- calls and operations
-
-abbrev pub argument_code : Argument → Piece
-argument_code (g.Value x) = value_code x
-argument_code (g.Array x) = one (array_code x)
-
--- a reference to what is received into
-abbrev pub place_code : Target → Piece
-place_code (t.Variable (p.Global slot)) = one (i.ArrG slot 1)
-place_code (t.Variable (p.Local level slot)) = one (i.Arr level slot 1)
-place_code (t.Element array index) = one (array_code array) ⨾ value_code index ⨾ one i.Place
-
-abbrev pub effect_code : Effect → Piece
-effect_code (f.Value value) = value_code value
-effect_code (f.Call function args) = all (map argument_code args) ⨾ one (i.Call function (length args))
-effect_code (f.Send channel value) = value_code value ⨾ one (i.Send channel)
-effect_code (f.Recv channel target) = place_code target ⨾ one (i.Recv channel)
-effect_code (f.Read file from len array) = value_code from ⨾ value_code len ⨾ one (array_code array) ⨾ one (i.Read file)
-effect_code (f.Write file from len array) = value_code from ⨾ value_code len ⨾ one (array_code array) ⨾ one (i.Write file)
 
 -- ---- statements
 
@@ -145,22 +134,22 @@ at_loop place next = place
 abbrev pub at_next : ℕ → ℕ → ℕ
 at_next place next = next
 
-abbrev pub operand_code : Option Effect → Piece
+abbrev pub operand_code : Option Value → Piece
 operand_code None = one (i.Push (pos 0))
-operand_code (Some effect) = effect_code effect
+operand_code (Some value) = value_code value
 
 abbrev pub command_step : Command-F Piece → Piece
 command_step Command-F.Nothing = one i.Step
-command_step (Command-F.Set target value) = one i.Step ⨾ effect_code value ⨾ target_code target
+command_step (Command-F.Set target value) = one i.Step ⨾ value_code value ⨾ target_code target
 command_step (Command-F.Clear slot len) = one i.Step ⨾ one (i.Clear slot len)
-command_step (Command-F.Run effect) = one i.Step ⨾ effect_code effect ⨾ one i.Drop
+command_step (Command-F.Run value) = one i.Step ⨾ value_code value ⨾ one i.Drop
 command_step (Command-F.Print text args) = one i.Step ⨾ values_code args ⨾ one (i.Print text (length args))
 command_step (Command-F.If test body other) = if_code (value_code test) (all body) other
 command_step (Command-F.While test body) = loop at_loop (test_code (Some test) ((all body).size + 1)) (all body) no_code
 command_step (Command-F.For test next body) = loop at_next (test_code test ((all body).size + ((all next).size + 1))) (all body) (all next)
 command_step Command-F.Break = one i.Step ⨾ out_past
 command_step Command-F.Continue = one i.Step ⨾ out_turn
-command_step (Command-F.Return effect) = one i.Step ⨾ operand_code effect ⨾ one i.Ret
+command_step (Command-F.Return value) = one i.Step ⨾ operand_code value ⨾ one i.Ret
 command_step (Command-F.Do slot body) = one i.Step ⨾ one (i.Enter slot) ⨾ all body ⨾ one i.Step ⨾ one (i.Finish slot)
 command_step (Command-F.Async slots body) = one i.Step ⨾ over (i.Async slots) ((all body).size + 1) ⨾ all body ⨾ one i.End
 command_step (Command-F.Cancel level slot) = one i.Step ⨾ one (i.Cancel level slot)

@@ -1,53 +1,27 @@
 -- A core that begins stands at the first address of its function, in the frame that was made for it.
-use Rattle.std.proofs.Common.{◌≡◌, ℕ, zero, suc, ◌<◌, ◌^◌, List, [], ◌∷◌, length, Option, Some, None, Ok, Err, Bool, true, false, refl, sym, ap, ◌∙◌, subst, arith}
-use Rattle.std.specs.Prelude.{ℤ, pos, replicate, slice_get, slice_set, slice_index_or, if◌then◌else◌}
-use Rattle.std.proofs.lemmas.Option.{get_or_from_slice_get}
-use Rattle.std.proofs.lemmas.List.{length-replicate, length-set}
-use Rattle.std.proofs.lemmas.List.Elements.{All-replicate}
+use Rattle.std.proofs.Common.{◌≡◌, ℕ, List, [], ◌∷◌, length, Option, Some, None, Ok, Err, Bool, true, false, refl, sym, ap, ◌∙◌, subst}
+use Rattle.std.specs.Prelude.{ℤ, pos, replicate, if◌then◌else◌}
+use Rattle.std.proofs.lemmas.List.{length-replicate}
 use Rattle.ac_base.specs.declared.ends.Trap.TheVariants.{StackFull}
-use Rattle.work_item.specs.declared.ids.FrameId.{FrameId}
-use Rattle.work_item.specs.Store.{Store, Frame, made, no_frames, no_int, cells_of}
-use Rattle.work_item.specs.Conditions.{slots_of}
-use Rattle.core_state.specs.Moves.{Move, On, Over, GoesOn, and_then}
-use Rattle.core_state.proofs.Runs.{GoesOn-none, GoesOn-more}
+use Rattle.work_item.specs.Store.{Store, Frame, made, no_frames, no_int}
+use Rattle.core_state.specs.Moves.{Move, On, GoesOn}
+use Rattle.core_state.proofs.Runs.{GoesOn-none}
 use Rattle.core_state.specs.Frames.{has_words, begun, first_frame}
+use Rattle.core_state.specs.Shared.{first_shared}
 use Rattle.stack_code.specs.declared.parts.Entered.{Entered}
 use Rattle.stack_code.specs.declared.parts.Start.{Start}
-use Rattle.stack_code.specs.declared.shape.Home.TheVariants as home
 use Rattle.stack_code.specs.Parts.{Parts, Begins}
-use Rattle.stack_code.specs.Shapes.{first, params_of, params_in}
-use Rattle.stack_code.specs.Valid.{IsValid, begins}
-use Rattle.stack_code.specs.Machine.{Flat, FlatEnd, exec, first_flat, with_starts, first_globals}
+use Rattle.stack_code.specs.Valid.{IsValid}
+use Rattle.stack_code.specs.Alone.{IsAlone}
+use Rattle.stack_code.specs.Machine.{Flat, FlatEnd, nobody, exec, first_flat, first_item, first_core, with_starts, first_globals}
+use Rattle.stack_code.specs.Fit.{IsFit}
+use Rattle.stack_code.proofs.Beginnings.{first_fit}
 use Rattle.core_machine.specs.declared.pause.Pause.{Pause}
 use Rattle.core_machine.specs.declared.pause.Pause.TheVariants.{Trapped}
 use Rattle.core_machine.specs.declared.running.Running.{Running}
-use Rattle.core_machine.specs.Kinds.{is_int}
-use Rattle.stack_code.specs.Sequential.{IsSequential}
 use Rattle.core_machine.specs.inner.Beginning.{HasBegun}
-use Rattle.core_machine.specs.Fit.{IsFit, IsFrameOf}
 use Rattle.core_machine.specs.Machine.{IsFirst, IsOnItsWay}
-use Rattle.core_machine.specs.State.{entry_of, flat_of, state_of, machine_of, IsSound}
-
--- ---- the globals
-
-pub length-starts : (starts : List Start) (globals : List ℤ) → length (with_starts starts globals) ≡ length globals
-length-starts [] globals = refl
-length-starts (x ∷ starts) globals = length-starts starts (slice_set globals x.slot x.value) ∙ length-set globals x.slot x.value
-
-length_first : (code : Parts) → length (first_globals code) ≡ code.globals
-length_first code = length-starts code.starts (replicate code.globals (pos 0)) ∙ length-replicate code.globals (pos 0)
-
--- ---- the function of a core
-
--- an entry has no parameters
-pub no_params : (code : Parts) (core : ℕ) (function : Entered) (b : Begins code core function) → IsValid code → core < length code.entries → params_of code (home.Function b.entry) ≡ []
-no_params code core function b v lt =
-    let e = v.lists.cores.enters core b.entry lt in
-    let is : slice_index_or code.entries core b.entry ≡ b.entry = get_or_from_slice_get code.entries core b.entry b.entry b.entry_is in
-    ap params_in (subst (λ n. slice_get code.functions n ≡ Some e.function) is e.is) ∙ e.plain
-
-entry_is : (code : Parts) (core : ℕ) (function : Entered) → Begins code core function → entry_of code core ≡ function.at
-entry_is code core function b = rw (b.entry_is, b.function_is) refl
+use Rattle.core_machine.specs.State.{flat_of, end_or, state_of, machine_of, IsSound}
 
 -- ---- the frame
 
@@ -67,32 +41,17 @@ is_bare code s t globals starts none many all set kept =
 abbrev framed : Parts → Entered → Store
 framed code function = made (bare code) None (replicate function.words no_int)
 
-few_slots : (code : Parts) (function : Entered) → code.globals < 2 ^ 32 → function.words < 2 ^ 32 → (h : Option FrameId) → slots_of (framed code function) h < 2 ^ 32
-few_slots code function g w None = omega (arith, g, length_first code)
-few_slots code function g w (Some f) = go f.number
-  where
-    go : (n : ℕ) → length (cells_of (framed code function) (record { number = n })) < 2 ^ 32
-    go zero = omega (arith, w, length-replicate function.words no_int)
-    go (suc n) = omega arith
-
-frame_there : (code : Parts) (function : Entered) (entry : ℕ) → params_of code (home.Function entry) ≡ []
-    → IsFrameOf code (framed code function) (record { home = home.Function entry; slots = function.words }) first_frame
-frame_there code function entry p = record {
-  lives = refl;
-  slots = length-replicate function.words no_int;
-  ints = All-replicate (λ x. is_int x ≡ true) function.words no_int refl;
-  params = p;
-}
-
 -- ---- the state
 
-one_move : (f : Flat → Move Flat FlatEnd) (x : Move Flat FlatEnd) → GoesOn f x (and_then x f)
-one_move f (On m) = GoesOn-more f (On m) m (GoesOn-none f (On m))
-one_move f (Over e) = GoesOn-none f (Over e)
+-- no thread runs, the first one is ready, and nothing has been done
+pub first_stands : (m : Running) (function : Entered) → m.schedule.running ≡ None → m.schedule.ready ≡ first_item ∷ [] → m.threads.items ≡ record nobody { place = function.at } ∷ []
+    → m.blocks.blocks ≡ []
+    → m.place ≡ 0 → m.frame ≡ first_frame → m.operands ≡ [] → m.callers ≡ [] → m.block ≡ None → m.journal.entries ≡ [] → m.output.items ≡ [] → m.steps ≡ 0 → m.turn ≡ 0 → m.count ≡ 0
+    → flat_of m ≡ first_core function (first_shared []) m.frames
+first_stands m function running ready threads blocks place frame operands callers block journal output steps turn count =
+    rw (running, ready, threads, blocks, place, frame, operands, callers, block, journal, output, steps, turn, count) refl
 
-module _ (m : Running) (function : Entered) (b : Begins m.code.now m.core function) (frame : m.frame ≡ first_frame) (place : m.place ≡ function.at) (journal : m.journal.entries ≡ [])
-    (operands : m.operands ≡ [])
-    (output : m.output.items ≡ []) (steps : m.steps ≡ 0) (count : m.count ≡ 0) where
+module _ (m : Running) (function : Entered) (b : Begins m.code.now m.core function) (journal : m.journal.entries ≡ []) (first : flat_of m ≡ first_core function (first_shared []) m.frames) where
   abbrev start : Move Flat FlatEnd
   start = first_flat m.code.now function m.journal.entries
 
@@ -102,17 +61,25 @@ module _ (m : Running) (function : Entered) (b : Begins m.code.now m.core functi
       ap (λ n. if has_words (bare m.code.now) n then Ok (framed m.code.now function) else Err StackFull) (length-replicate function.words no_int)
       ∙ ap (λ (b : Bool). if b then Ok (framed m.code.now function) else Err StackFull) e
 
-  stands_first : m.ended ≡ None → m.frames ≡ framed m.code.now function → has_words (bare m.code.now) function.words ≡ true → state_of m ≡ and_then start (exec m.code.now m.bound)
-  stands_first still store room = rw (first_begun true room, still, store, frame, place, operands, output, steps, count, entry_is m.code.now m.core function b, journal) refl
+  stands_first : m.ended ≡ None → m.frames ≡ framed m.code.now function → has_words (bare m.code.now) function.words ≡ true → state_of m ≡ start
+  stands_first still store room =
+      let stands : state_of m ≡ On (first_core function (first_shared []) (framed m.code.now function)) =
+      ap (end_or (flat_of m)) still ∙ ap (λ f. On f) (first ∙ ap (first_core function (first_shared [])) store) in
+      let begins : start ≡ On (first_core function (first_shared []) (framed m.code.now function)) = rw (first_begun true room, journal) refl in
+      stands ∙ sym begins
 
-  ends_first : m.ended ≡ Some (Trapped StackFull) → m.frames ≡ bare m.code.now → has_words (bare m.code.now) function.words ≡ false → state_of m ≡ and_then start (exec m.code.now m.bound)
-  ends_first over store room = rw (first_begun false room, over, store, output, steps, count, journal) refl
+  ends_first : m.ended ≡ Some (Trapped StackFull) → m.frames ≡ bare m.code.now → has_words (bare m.code.now) function.words ≡ false → state_of m ≡ start
+  ends_first over store room =
+      let ends : state_of m ≡ end_or (first_core function (first_shared []) (bare m.code.now)) (Some (Trapped StackFull)) =
+      ap (end_or (flat_of m)) over ∙ ap (λ f. end_or f (Some (Trapped StackFull))) (first ∙ ap (first_core function (first_shared [])) store) in
+      let begins : start ≡ end_or (first_core function (first_shared []) (bare m.code.now)) (Some (Trapped StackFull)) = rw (first_begun false room, journal) refl in
+      ends ∙ sym begins
 
   module _ (begun : HasBegun (bare m.code.now) m.frames function.words m.ended) where
-    pub state_first : state_of m ≡ and_then start (exec m.code.now m.bound)
+    state_first : state_of m ≡ start
     state_first = go m.ended refl begun
       where
-        go : (o : Option Pause) → m.ended ≡ o → HasBegun (bare m.code.now) m.frames function.words o → state_of m ≡ and_then start (exec m.code.now m.bound)
+        go : (o : Option Pause) → m.ended ≡ o → HasBegun (bare m.code.now) m.frames function.words o → state_of m ≡ start
         go None e h = stands_first e h.1 h.0
         go (Some pause) e h = ends_first (e ∙ ap (λ p. Some p) h.2) h.1 h.0
 
@@ -120,31 +87,22 @@ module _ (m : Running) (function : Entered) (b : Begins m.code.now m.core functi
     first_of = record { function = function; begins = b; state = state_first }
 
     pub run_of : IsOnItsWay (machine_of m)
-    run_of = record { function = function; begins = b; goes = subst (GoesOn (exec m.code.now m.bound) start) (sym state_first) (one_move (exec m.code.now m.bound) start) }
+    run_of = record { function = function; begins = b; goes = subst (GoesOn (exec m.code.now m.bound) start) (sym state_first) (GoesOn-none (exec m.code.now m.bound) start) }
 
-    pub sound_first : IsValid m.code.now → IsSequential m.code.now → m.core < length m.code.now.entries → m.code.now.globals < 2 ^ 32 → function.words < 2 ^ 32 → IsSound m
-    sound_first v q lt few_globals few_words = record {
+    pub sound_first : IsValid m.code.now → IsAlone m.code.now → IsSound m
+    sound_first v alone = record {
       fit = λ still. go m.ended still begun;
-      sequential = q;
+      valid = v;
+      alone = alone;
       quiet = journal;
       ran = run_of;
     }
       where
-        stands : m.frames ≡ framed m.code.now function → IsFit m.code.now (flat_of m)
-        stands store =
-            let params = no_params m.code.now m.core function b v lt in
-            record {
-              shape = first b.entry function;
-              body = record { home = home.Function b.entry; slots = function.words };
-              reached = rw place (begins m.core function b);
-              alone = refl;
-              operands = rw operands tt;
-              frame = rw (store, frame) (frame_there m.code.now function b.entry params);
-              globals = rw store (length_first m.code.now);
-              few = rw store (few_slots m.code.now function few_globals few_words);
-              callers = refl;
-            }
+        stands : m.frames ≡ framed m.code.now function → has_words (bare m.code.now) function.words ≡ true → IsFit m.code.now (flat_of m)
+        stands store room =
+            let long : has_words (bare m.code.now) (length (replicate function.words no_int)) ≡ true = ap (has_words (bare m.code.now)) (length-replicate function.words no_int) ∙ room in
+            subst (IsFit m.code.now) (sym (first ∙ ap (first_core function (first_shared [])) store)) (first_fit m.code.now v m.core function b (first_shared []) long)
 
         go : (o : Option Pause) → o ≡ None → HasBegun (bare m.code.now) m.frames function.words o → IsFit m.code.now (flat_of m)
-        go None e h = stands h.1
+        go None e h = stands h.1 h.0
         go (Some pause) e h = let no : Some pause ≡ None = e in absurd (cc)

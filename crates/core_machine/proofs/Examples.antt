@@ -1,21 +1,24 @@
--- A core that has printed nothing yet, and what callers see of it.
-use Rattle.std.proofs.Common.{◌≡◌, refl, ℕ, ℤ, pos, Bool, true, false, List, [], ◌∷◌, codes, Option, Some, None}
+-- What callers see of a core, and the activations, blocks and threads that stand for those of its code.
+use Rattle.std.proofs.Common.{◌≡◌, ℕ, refl, pos, true, false, List, [], ◌∷◌, Some, None}
 use Rattle.ac_base.specs.declared.ends.EndWord.TheVariants.{Finished, Trapped, OutOfSteps, Stalled}
 use Rattle.ac_base.specs.declared.ends.Trap.TheVariants.{ZeroDivisor}
 use Rattle.ac_base.specs.declared.ends.CoreEnd.{CoreEnd}
-use Rattle.ac_base.specs.declared.ends.MachineEnd.{MachineEnd}
+use Rattle.work_item.specs.declared.ids.FrameId.{FrameId}
+use Rattle.work_item.specs.declared.ids.Item.{Item}
+use Rattle.work_item.specs.declared.cell.Cell.{Cell}
 use Rattle.work_item.specs.declared.cell.Cell.TheVariants as cell
 use Rattle.work_item.specs.Store.{Store, no_frames}
-use Rattle.core_state.specs.Moves.{Move, On, Over}
+use Rattle.core_scheduler.specs.Schedule.{Schedule}
+use Rattle.core_state.specs.Moves.{On, Over}
 use Rattle.core_state.specs.Shared.{core_end, first_shared}
-use Rattle.stack_code.specs.declared.shape.Kind.TheVariants as kind
-use Rattle.stack_code.specs.Parts.{Parts}
-use Rattle.stack_code.specs.Machine.{Flat, FlatEnd, nobody}
+use Rattle.stack_code.specs.Machine.{Caller, Flat, nobody}
+use Rattle.core_machine.specs.declared.callers.Waiting.{Waiting}
 use Rattle.core_machine.specs.declared.pause.Pause.TheVariants as pause
 use Rattle.core_machine.specs.Words.{word_of}
-use Rattle.core_machine.specs.Kinds.{is_int}
-use Rattle.core_machine.specs.Fit.{HasKind, HaveKinds}
-use Rattle.core_machine.specs.Machine.{Machine, IsSameCore, IsSeen, IsPaused}
+use Rattle.core_machine.specs.Machine.{IsSeen, IsPaused}
+use Rattle.core_machine.specs.Callers.{callers_of, all_below, Popped}
+use Rattle.core_machine.specs.Blocks.{blocks_of}
+use Rattle.core_machine.specs.inner.Changes.{with_woken, item_of}
 
 -- ---- how a core has come back
 
@@ -28,29 +31,12 @@ it_trapped = refl
 pub it_is_out_of_steps : word_of pause.OutOfSteps ≡ OutOfSteps
 it_is_out_of_steps = refl
 
--- ---- operands
-
-abbrev pub store : Store
-store = no_frames 2
-
-pub an_int : HasKind store kind.Int (cell.Int (pos 7))
-an_int = tt
-
-pub an_array_is_no_int : HasKind store kind.Int (cell.Array (record { home = None; start = 0; len = 2 })) → ⊥
-an_array_is_no_int h = h
-
-pub two_ints : HaveKinds store (kind.Int ∷ kind.Int ∷ []) (cell.Int (pos 7) ∷ cell.Int (pos 8) ∷ [])
-two_ints = (tt, (tt, tt))
-
-pub one_too_few : HaveKinds store (kind.Int ∷ kind.Int ∷ []) (cell.Int (pos 7) ∷ []) → ⊥
-one_too_few h = h.1
-
-pub its_cell_is_an_int : is_int (cell.Int (pos 7)) ≡ true
-its_cell_is_an_int = refl
-
 -- ---- what callers see
 
 -- a core that has not ended: two globals of 0, one step, three instructions
+abbrev pub store : Store
+store = no_frames 2
+
 abbrev pub running : Flat
 running = record {
   shared = record (first_shared []) { steps = 1; turn = 1 };
@@ -86,3 +72,65 @@ not_out_of_steps e = cc
 
 pub it_has_not_come_back : IsPaused (On running) pause.Finished → ⊥
 it_has_not_come_back h = h
+
+-- ---- activations that wait
+
+abbrev pub frame : ℕ → FrameId
+frame n = record { number = n }
+
+abbrev pub inner : Waiting
+inner = record { place = 9; frame = frame 2; below = 1 }
+
+abbrev pub outer : Waiting
+outer = record { place = 5; frame = frame 1; below = 2 }
+
+abbrev pub int : ℕ → Cell
+int n = cell.Int (pos n)
+
+-- the operand on top of all is that of the innermost
+abbrev pub both : List Caller
+both =
+    (record { place = 9; frame = frame 2; operands = int 3 ∷ [] }) ∷ (record { place = 5; frame = frame 1; operands = int 2 ∷ int 1 ∷ [] }) ∷ []
+
+pub each_has_its_own : callers_of (inner ∷ outer ∷ []) (int 3 ∷ int 2 ∷ int 1 ∷ []) ≡ both
+each_has_its_own = refl
+
+pub all_of_them : all_below (inner ∷ outer ∷ []) ≡ 3
+all_of_them = refl
+
+pub innermost_goes_on : Popped both (callers_of (outer ∷ []) (int 2 ∷ int 1 ∷ [])) (int 7) (Some inner) (int 7 ∷ []) (int 7 ∷ int 3 ∷ [])
+innermost_goes_on = (refl, (refl, (refl, refl)))
+
+pub value_is_on_top : Popped both (callers_of (outer ∷ []) (int 2 ∷ int 1 ∷ [])) (int 7) (Some inner) (int 7 ∷ []) (int 3 ∷ int 7 ∷ []) → ⊥
+value_is_on_top h = let e = h.1.1.1 in cc
+
+pub none_waits : Popped [] [] (int 7) None (int 7 ∷ []) (int 7 ∷ [])
+none_waits = (refl, refl)
+
+pub none_is_passed_over : Popped both both (int 7) None (int 7 ∷ []) (int 7 ∷ []) → ⊥
+none_is_passed_over h = h
+
+-- ---- blocks and threads
+
+abbrev pub first : Item
+first = record { number = 0 }
+
+abbrev pub second : Item
+second = record { number = 1 }
+
+-- the mark is not seen
+pub block_is_seen : blocks_of (None ∷ Some (record { parent = None; owner = second; count = 2; waits = true; cancelled = true }) ∷ [])
+    ≡ None ∷ Some (record { parent = None; owner = second; count = 2; waits = true }) ∷ []
+block_is_seen = refl
+
+abbrev pub schedule : Schedule
+schedule = record { running = None; ready = second ∷ []; spare = 4 }
+
+pub owner_comes_first : (with_woken schedule (Some first)).ready ≡ first ∷ second ∷ []
+owner_comes_first = refl
+
+pub none_is_woken : with_woken schedule None ≡ schedule
+none_is_woken = refl
+
+pub second_runs : item_of (Some second) ≡ second
+second_runs = refl

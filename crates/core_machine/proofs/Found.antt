@@ -1,12 +1,17 @@
 -- What valid code finds where it stands.
-use Rattle.std.proofs.Common.{◌≡◌, ℕ, zero, suc, ◌+◌, ◌≤◌, ◌<◌, ◌^◌, List, [], ◌∷◌, length, Option, Some, None, true, false, refl, sym, ap, ◌∙◌, subst, arith}
-use Rattle.std.specs.Prelude.{if◌then◌else◌, slice_get, nat_le, nat_lt, nat_eq, replicate}
+use Rattle.std.proofs.Common.{◌≡◌, ℕ, zero, suc, ◌+◌, ◌≤◌, ◌<◌, ◌^◌, List, [], ◌∷◌, length, take, Bool, Option, Some, None, true, false, refl, sym, ap, ◌∙◌, subst, arith}
+use Rattle.std.specs.Prelude.{if◌then◌else◌, slice_get, nat_le, nat_lt, nat_eq, replicate, reverse}
 use Rattle.std.proofs.lemmas.Bool.Decides.{nat_tests}
 use Rattle.std.proofs.lemmas.Bool.{and_parts}
-use Rattle.std.proofs.lemmas.Option.{slice_get_within}
+use Rattle.std.proofs.lemmas.List.{length-replicate, length-reverse, length-take-le}
+use Rattle.std.proofs.lemmas.Option.{slice_get_within, get_or_from_slice_get}
+use Rattle.work_item.specs.declared.ids.Item.{Item}
+use Rattle.work_item.specs.declared.ids.FrameId.{FrameId}
 use Rattle.work_item.specs.declared.cell.Cell.{Cell}
-use Rattle.work_item.specs.Store.{Store, cells_of}
-use Rattle.work_item.specs.Conditions.{HasLevel, LiesIn, slots_of}
+use Rattle.work_item.specs.declared.cell.Cell.TheVariants as cell
+use Rattle.work_item.specs.Store.{Store, frame_at, no_cells, cells_of, above, place_in, parent_or, parent_is}
+use Rattle.work_item.specs.Conditions.{HasParent, HasLevel, IsGoing}
+use Rattle.core_state.specs.Frames.{argument, arguments}
 use Rattle.stack_code.specs.declared.instr.Instr.{Instr}
 use Rattle.stack_code.specs.declared.instr.Instr.TheVariants as i
 use Rattle.stack_code.specs.declared.shape.Kind.{Kind}
@@ -18,45 +23,55 @@ use Rattle.stack_code.specs.declared.shape.Want.TheVariants as want
 use Rattle.stack_code.specs.declared.shape.Leads.{Leads}
 use Rattle.stack_code.specs.declared.shape.Leads.TheVariants.{Two}
 use Rattle.stack_code.specs.Parts.{Parts}
-use Rattle.stack_code.specs.Shapes.{after, body_with, pushes, goes, effect, is_int_alone, can_return, directives_in}
+use Rattle.stack_code.specs.Shapes as shapes
+use Rattle.stack_code.specs.Shapes.{after, first, pushed, body_with, pushes, goes, effect, is_int_alone, can_return, directives_in, want_of}
+use Rattle.stack_code.specs.Valid.{IsValid, HasRoom}
+use Rattle.stack_code.specs.Alone.{is_alone}
 use Rattle.stack_code.specs.Machine.{Flat}
-use Rattle.core_machine.specs.Kinds.{is_int}
+use Rattle.stack_code.specs.Fit.{Birth, is_int, HasKind, HaveKinds, AreBodies, last, more, IsThread, IsFit, life_at}
+use Rattle.stack_code.proofs.Taken.{on_some_is, if_is, after_is, IsWanted, Top, top_of, many_of}
+use Rattle.stack_code.proofs.Arguments.{AreArguments, arguments_of}
+use Rattle.stack_code.proofs.Plain.{in_frame}
+use Rattle.stack_code.proofs.Own.{thread_of}
+use Rattle.stack_code.proofs.Calling.{call_enough}
 use Rattle.core_machine.specs.inner.Operands.{is_reference, on_top, Stand, second_place}
-use Rattle.stack_code.specs.Sequential.{is_sequential}
-use Rattle.core_machine.specs.Fit.{HaveKinds, IsFit}
-use Rattle.core_machine.specs.inner.Needs.{HasInt, HasInts, HasCell, HasArray, Finds}
-use Rattle.core_machine.proofs.Taken.{on_some_is, if_is, after_is, Top, top_of, ints_of}
+use Rattle.core_machine.specs.inner.Needs.{HasInt, HasInts, HasCell, HasArray, HasCall, Finds}
+use Rattle.core_machine.proofs.Lives.{round_lives, finish_there, start_there, end_there, is_listed}
 
-some_same : {A : Type 0} (x y : A) → Some x ≡ Some y → x ≡ y
-some_same x y e = cc
+-- the frames so many levels up live
+levels_there : (births : List Birth) (s : Store) (bodies : List Body) (f : FrameId) (level : ℕ) (body : Body) → AreBodies births s bodies f → slice_get bodies level ≡ Some body → HasLevel s f level
+levels_there births s _ _ zero body (last b f h) e = rw h.here refl
+levels_there births s _ _ (suc level) body (last b f h) e = let no : None ≡ Some body = e in absurd (cc)
+levels_there births s _ _ zero body (more b bodies f p h parent lt rest) e = rw h.here refl
+levels_there births s _ _ (suc level) body (more b bodies f p h parent lt rest) e =
+    let up : parent_or f (frame_at s f) ≡ p = ap (parent_or f) h.here ∙ ap (parent_is f) parent in
+    let has : HasParent s f = rw (h.here, parent) refl in
+    (has, subst (λ g. HasLevel s g level) (sym up) (levels_there births s bodies p level body rest e))
 
--- the one body and its slots
-pub record InFrame (m : Flat) (code : Parts) (fit : IsFit code m) (level slot len : ℕ) (body : Body) : Type 0 where
-  pub own : level ≡ zero
-  pub same : body ≡ fit.body
-  pub slots : slot + len ≤ length (cells_of m.store m.current.frame)
+-- an argument of the kind of its parameter stands in its slot as it is
+same_argument : (code : Parts) (births : List Birth) (array : Bool) (x : Cell) → IsWanted code births (want_of array) x → argument array x ≡ x
+same_argument code births true (cell.Int v) h = absurd h
+same_argument code births true (cell.Array place) h = refl
+same_argument code births true (cell.Block b) h = absurd h
+same_argument code births false (cell.Int v) h = refl
+same_argument code births false (cell.Array place) h = let no : false ≡ true = h in cc
+same_argument code births false (cell.Block b) h = let no : false ≡ true = h in cc
 
-one_body : (body b : Body) (level : ℕ) → slice_get (body ∷ []) level ≡ Some b → (level ≡ zero) × (b ≡ body)
-one_body body b zero e = (refl, sym (some_same body b e))
-one_body body b (suc level) e = let no : None ≡ Some b = e in cc
+same_arguments : (code : Parts) (births : List Birth) (params : List Bool) (xs : List Cell) → length xs ≡ length params → AreArguments code births params xs → arguments params xs ≡ xs
+same_arguments code births [] [] l h = refl
+same_arguments code births [] (x ∷ xs) l h = absurd (omega (arith, l))
+same_arguments code births (a ∷ params) [] l h = absurd h
+same_arguments code births (a ∷ params) (x ∷ xs) l h =
+    let first = same_argument code births a x h.0 in
+    let rest = same_arguments code births params xs (omega (arith, l)) h.1 in
+    ap (λ y. y ∷ arguments params xs) first ∙ ap (λ ys. x ∷ ys) rest
 
-pub in_frame : (code : Parts) (m : Flat) (fit : IsFit code m) (level slot len : ℕ) (body : Body) → body_with fit.shape level slot len ≡ Some body → InFrame m code fit level slot len body
-in_frame code m fit level slot len body e =
-    let found = on_some_is (slice_get fit.shape.bodies level) (λ (b : Body). if nat_le (slot + len) b.slots then Some b else None) body e in
-    let room = if_is (nat_le (slot + len) found.0.slots) (Some found.0) body found.1.1 in
-    let here : slice_get (fit.body ∷ []) level ≡ Some found.0 = ap (λ bodies. slice_get bodies level) (sym fit.alone) ∙ found.1.0 in
-    let one = one_body fit.body found.0 level here in
-    let is : found.0 ≡ body = some_same found.0 body room.1 in
-    let fits : slot + len ≤ found.0.slots = let t = room.0 in grind (arith, nat_tests) in
-    record {
-      own = one.0;
-      same = sym is ∙ one.1;
-      slots = subst (λ n. slot + len ≤ n) (ap (λ (b : Body). b.slots) one.1 ∙ sym fit.frame.slots) fits;
-    }
+module _ (code : Parts) (bound : ℕ) (m : Flat) (fit : IsFit code m) (t : Item) (run : m.running ≡ Some t) (v : IsValid code) where
+  abbrev pub own : IsThread code fit.births m.store m.blocks t (life_at fit.lives t).start m.current
+  own = thread_of code m fit t run
 
-module _ (code : Parts) (m : Flat) (fit : IsFit code m) where
   abbrev s : Shape
-  s = fit.shape
+  s = own.shape
 
   abbrev store : Store
   store = m.store
@@ -64,18 +79,26 @@ module _ (code : Parts) (m : Flat) (fit : IsFit code m) where
   abbrev ops : List Cell
   ops = m.current.operands
 
-  level_there : (level : ℕ) → level ≡ zero → HasLevel store m.current.frame level
-  level_there level e = subst (λ n. HasLevel store m.current.frame n) (sym e) fit.frame.lives
+  level_there : (level slot len : ℕ) (body : Body) → body_with s level slot len ≡ Some body → HasLevel store m.current.frame level
+  level_there level slot len body e =
+      let found = on_some_is (slice_get s.bodies level) (λ (b : Body). if nat_le (slot + len) b.slots then Some b else None) body e in
+      levels_there fit.births store s.bodies m.current.frame level found.0 own.top.bodies found.1.0
 
-  cell_there : (level slot : ℕ) (body : Body) → InFrame m code fit level slot 1 body → HasCell m level slot
-  cell_there level slot body there =
-      let h : HasCell m zero slot = (fit.frame.lives, omega (arith, there.slots)) in
-      subst (λ n. HasCell m n slot) (sym there.own) h
+  slots_there : (level slot len : ℕ) (body : Body) → body_with s level slot len ≡ Some body → slot + len ≤ length (cells_of store (above store m.current.frame level))
+  slots_there level slot len body e =
+      let there = in_frame fit.births store m.current.frame s level slot len body own.top.bodies e in
+      let up = there.up in
+      let long : length (cells_of store (above store m.current.frame level)) ≡ body.slots = ap (λ o. length (no_cells o)) up.here ∙ up.slots in
+      let room = there.slots in
+      omega (arith, long, room)
 
-  top_there : (w : Want) (wants : List Want) (go : Shape → Option Leads) (leads : Leads) → after (w ∷ wants) s go ≡ Some leads → (left : List Kind) × Top store w wants left ops
+  cell_there : (level slot : ℕ) (body : Body) → body_with s level slot 1 ≡ Some body → HasCell m level slot
+  cell_there level slot body e = let room = slots_there level slot 1 body e in (level_there level slot 1 body e, omega (arith, room))
+
+  top_there : (w : Want) (wants : List Want) (go : Shape → Option Leads) (leads : Leads) → after (w ∷ wants) s go ≡ Some leads → (left : List Kind) × Top code fit.births w wants left ops
   top_there w wants go leads e =
       let a = after_is (w ∷ wants) s go leads e in
-      (a.0, top_of store w wants s.operands a.0 ops a.1.0 fit.operands)
+      (a.0, top_of code fit.births w wants s.operands a.0 ops a.1.0 own.top.have)
 
   int_there : (wants : List Want) (go : Shape → Option Leads) (leads : Leads) → after (want.Int ∷ wants) s go ≡ Some leads → HasInt m
   int_there wants go leads e = let o = (top_there want.Int wants go leads e).1 in subst (λ l. on_top is_int l ≡ true) (sym o.is) o.wanted
@@ -87,104 +110,143 @@ module _ (code : Parts) (m : Flat) (fit : IsFit code m) where
   ints_there go leads e =
       let t = top_there want.Int (want.Int ∷ []) go leads e in
       let o = t.1 in
-      let p = top_of store want.Int [] o.kinds t.0 o.below o.taken o.have in
+      let p = top_of code fit.births want.Int [] o.kinds t.0 o.below o.taken o.have in
       let below : Stand (is_int ∷ []) o.below = subst (Stand (is_int ∷ [])) (sym p.is) (p.wanted, tt) in
       subst (Stand (is_int ∷ is_int ∷ [])) (sym o.is) (o.wanted, below)
 
-  small : (ops : List Cell) → LiesIn store (second_place ops) → (second_place ops).start + (second_place ops).len < 2 ^ 32
-  small ops l = let few : slots_of store (second_place ops).home < 2 ^ 32 = fit.few (second_place ops).home in omega (arith, l, few)
+  reference_there : (x : Cell) → HasKind code fit.births (kind.Reference false) x → (is_reference x ≡ true) × ((place_in x).start + (place_in x).len < 2 ^ 32)
+  reference_there (cell.Int value) h = absurd h
+  reference_there (cell.Array place) h = (refl, h.short)
+  reference_there (cell.Block b) h = absurd h
 
   array_there : (wants : List Want) (go : Shape → Option Leads) (leads : Leads) → after (want.Int ∷ want.Reference ∷ wants) s go ≡ Some leads → HasArray m
   array_there wants go leads e =
       let t = top_there want.Int (want.Reference ∷ wants) go leads e in
       let o = t.1 in
-      let p = top_of store want.Reference wants o.kinds t.0 o.below o.taken o.have in
+      let p = top_of code fit.births want.Reference wants o.kinds t.0 o.below o.taken o.have in
       let both : ops ≡ o.top ∷ p.top ∷ p.below = o.is ∙ ap (λ l. o.top ∷ l) p.is in
-      let stand : Stand (is_int ∷ is_reference ∷ []) ops = subst (Stand (is_int ∷ is_reference ∷ [])) (sym both) (o.wanted, (p.wanted.0, tt)) in
-      let lies : LiesIn store (second_place ops) = subst (λ l. LiesIn store (second_place l)) (sym both) p.wanted.1 in
-      (stand, lies, small ops lies)
+      let r = reference_there p.top p.wanted in
+      let stand : Stand (is_int ∷ is_reference ∷ []) ops = subst (Stand (is_int ∷ is_reference ∷ [])) (sym both) (o.wanted, (r.0, tt)) in
+      (stand, subst (λ l. (second_place l).start + (second_place l).len < 2 ^ 32) (sym both) r.1)
 
   three_there : (go : Shape → Option Leads) (leads : Leads) → after (want.Int ∷ want.Reference ∷ want.Int ∷ []) s go ≡ Some leads → Stand (is_int ∷ is_reference ∷ is_int ∷ []) ops
   three_there go leads e =
       let t = top_there want.Int (want.Reference ∷ want.Int ∷ []) go leads e in
       let o = t.1 in
-      let p = top_of store want.Reference (want.Int ∷ []) o.kinds t.0 o.below o.taken o.have in
-      let q = top_of store want.Int [] p.kinds t.0 p.below p.taken p.have in
+      let p = top_of code fit.births want.Reference (want.Int ∷ []) o.kinds t.0 o.below o.taken o.have in
+      let q = top_of code fit.births want.Int [] p.kinds t.0 p.below p.taken p.have in
       let all : ops ≡ o.top ∷ p.top ∷ q.top ∷ q.below = o.is ∙ ap (λ l. o.top ∷ l) (p.is ∙ ap (λ l. p.top ∷ l) q.is) in
-      subst (Stand (is_int ∷ is_reference ∷ is_int ∷ [])) (sym all) (o.wanted, (p.wanted.0, (q.wanted, tt)))
+      subst (Stand (is_int ∷ is_reference ∷ is_int ∷ [])) (sym all) (o.wanted, ((reference_there p.top p.wanted).0, (q.wanted, tt)))
 
-  last_there : (kinds : List Kind) → is_int_alone kinds ≡ true → HaveKinds store kinds ops → 1 ≤ length ops
-  last_there [] t h = let no : false ≡ true = t in cc
-  last_there (k ∷ kinds) t h = go ops h
-    where
-      go : (operands : List Cell) → HaveKinds store (k ∷ kinds) operands → 1 ≤ length operands
-      go [] h = absurd h
-      go (x ∷ below) h = omega arith
+  last_there : (kinds : List Kind) (operands : List Cell) → is_int_alone kinds ≡ true → HaveKinds code fit.births kinds operands → on_top is_int operands ≡ true
+  last_there [] operands e h = let no : false ≡ true = e in cc
+  last_there (kind.Int ∷ kinds) [] e h = absurd h
+  last_there (kind.Int ∷ kinds) (cell.Int v ∷ below) e h = refl
+  last_there (kind.Int ∷ kinds) (cell.Array place ∷ below) e h = absurd h.0
+  last_there (kind.Int ∷ kinds) (cell.Block b ∷ below) e h = absurd h.0
+  last_there (kind.Reference one ∷ kinds) operands e h = let no : false ≡ true = e in cc
 
-  pub ret_there : (leads : Leads) → effect code m.current.place i.Ret s ≡ Some leads → 1 ≤ length ops
+  ret_there : (leads : Leads) → effect code m.current.place i.Ret s ≡ Some leads → HasInt m × IsGoing store m.current.frame
   ret_there leads e =
       let c = if_is (can_return s) _ leads e in
       let last = (and_parts (nat_eq (length s.bodies) 1) _ c.0).1 in
-      last_there s.operands (and_parts (nat_eq (length s.blocks) 0) (is_int_alone s.operands) last).1 fit.operands
+      let going : IsGoing store m.current.frame = rw own.top.goes.here own.top.goes.going in
+      (last_there s.operands ops (and_parts (nat_eq (length s.blocks) 0) (is_int_alone s.operands) last).1 own.top.have, going)
 
   print_there : (text count : ℕ) (leads : Leads) → effect code m.current.place (i.Print text count) s ≡ Some leads → (text < length code.texts) × (count ≤ length ops)
   print_there text count leads e =
       let t = on_some_is (slice_get code.texts text) _ leads e in
       let c = if_is (nat_eq count (directives_in t.0)) _ leads t.1.1 in
       let a = after_is (replicate count want.Int) s (goes m.current.place) leads c.1 in
-      (slice_get_within code.texts text t.0 t.1.0, (ints_of store count s.operands a.0 ops a.1.0 fit.operands).0)
+      let o = many_of code fit.births (replicate count want.Int) s.operands a.0 ops a.1.0 own.top.have in
+      let long : length (replicate count want.Int) ≡ count = length-replicate count want.Int in
+      (slice_get_within code.texts text t.0 t.1.0, omega (arith, o.enough, long))
+
+  call_there : (number count : ℕ) (leads : Leads) → effect code m.current.place (i.Call number count) s ≡ Some leads → HasCall code ops number count
+  call_there number count leads e =
+      let f = on_some_is (slice_get code.functions number) (shapes.calls m.current.place number count s) leads e in
+      let c = if_is (nat_eq count (length f.0.params)) _ leads f.1.1 in
+      let many : length f.0.params ≡ count = let b = c.0 in grind (arith, nat_tests) in
+      let ways = (λ (x : Shape). Some (Two (m.current.place + 1) (pushed kind.Int x) f.0.at (first number f.0))) in
+      let a = after_is (shapes.arguments f.0.params) s ways leads c.1 in
+      let o = many_of code fit.births (shapes.arguments f.0.params) s.operands a.0 ops a.1.0 own.top.have in
+      let wanted = subst (λ n. AreArguments code fit.births f.0.params (reverse (take n ops))) many (arguments_of code fit.births f.0.params ops o.wanted) in
+      let each = v.lists.functions number f.0 (slice_get_within code.functions number f.0 f.1.0) in
+      let room : HasRoom f.0 = subst HasRoom (get_or_from_slice_get code.functions number f.0 f.0 f.1.0) each in
+      let enough = call_enough code bound m fit t run v number count leads e in
+      let long = length-reverse (take count ops) ∙ length-take-le count ops enough ∙ sym many in
+      record {
+        function = f.0;
+        is = f.1.0;
+        enough = enough;
+        room = omega (arith, room, many);
+        same = same_arguments code fit.births f.0.params (reverse (take count ops)) long wanted;
+      }
 
   global_there : (slot : ℕ) (o : Option Leads) (leads : Leads) → (if nat_lt slot code.globals then o else None) ≡ Some leads → slot < length store.globals
   global_there slot o leads e =
       let t = (if_is (nat_lt slot code.globals) o leads e).0 in
       let lt : slot < code.globals = grind (arith, nat_tests) in
-      omega (arith, lt, fit.globals)
+      omega (arith, lt, fit.store.globals)
 
-  pub finds : (instr : Instr) (leads : Leads) → effect code m.current.place instr s ≡ Some leads → is_sequential instr ≡ true → Finds code m instr
-  finds i.Step leads e q = tt
-  finds (i.Push value) leads e q = tt
-  finds (i.Load level slot) leads e q =
+  pub finds : (instr : Instr) (leads : Leads) → slice_get code.instrs m.current.place ≡ Some instr → effect code m.current.place instr s ≡ Some leads → is_alone instr ≡ true → Finds code m instr
+  finds i.Step leads here e q = tt
+  finds (i.Push value) leads here e q = tt
+  finds (i.Load level slot) leads here e q =
       let b = on_some_is (body_with s level slot 1) _ leads e in
-      cell_there level slot b.0 (in_frame code m fit level slot 1 b.0 b.1.0)
-  finds (i.LoadG slot) leads e q = global_there slot _ leads e
-  finds (i.Store level slot) leads e q =
+      cell_there level slot b.0 b.1.0
+  finds (i.LoadG slot) leads here e q = global_there slot _ leads e
+  finds (i.Store level slot) leads here e q =
       let b = on_some_is (body_with s level slot 1) _ leads e in
-      (cell_there level slot b.0 (in_frame code m fit level slot 1 b.0 b.1.0), int_there [] (goes m.current.place) leads b.1.1)
-  finds (i.StoreG slot) leads e q = (global_there slot _ leads e, int_there [] (goes m.current.place) leads (if_is (nat_lt slot code.globals) _ leads e).1)
-  finds (i.Arr level slot len) leads e q =
+      (cell_there level slot b.0 b.1.0, int_there [] (goes m.current.place) leads b.1.1)
+  finds (i.StoreG slot) leads here e q = (global_there slot _ leads e, int_there [] (goes m.current.place) leads (if_is (nat_lt slot code.globals) _ leads e).1)
+  finds (i.Arr level slot len) leads here e q =
       let b = on_some_is (body_with s level slot len) _ leads e in
-      level_there level (in_frame code m fit level slot len b.0 b.1.0).own
-  finds (i.ArrG slot len) leads e q = tt
-  finds i.Elem leads e q = array_there [] (pushes m.current.place kind.Int) leads e
-  finds i.SetElem leads e q = (array_there (want.Int ∷ []) (goes m.current.place) leads e, three_there (goes m.current.place) leads e)
-  finds i.Place leads e q = array_there [] (pushes m.current.place (kind.Reference true)) leads e
-  finds (i.Clear slot len) leads e q =
+      level_there level slot len b.0 b.1.0
+  finds (i.ArrG slot len) leads here e q = tt
+  finds i.Elem leads here e q = array_there [] (pushes m.current.place kind.Int) leads e
+  finds i.SetElem leads here e q = (array_there (want.Int ∷ []) (goes m.current.place) leads e, three_there (goes m.current.place) leads e)
+  finds i.Place leads here e q = array_there [] (pushes m.current.place (kind.Reference true)) leads e
+  finds (i.Clear slot len) leads here e q =
       let b = on_some_is (body_with s 0 slot len) _ leads e in
-      (fit.frame.lives, (in_frame code m fit 0 slot len b.0 b.1.0).slots)
-  finds i.Neg leads e q = int_there [] (pushes m.current.place kind.Int) leads e
-  finds i.Not leads e q = int_there [] (pushes m.current.place kind.Int) leads e
-  finds i.Flip leads e q = int_there [] (pushes m.current.place kind.Int) leads e
-  finds i.Bool leads e q = int_there [] (pushes m.current.place kind.Int) leads e
-  finds i.BitOr leads e q = ints_there (pushes m.current.place kind.Int) leads e
-  finds i.BitXor leads e q = ints_there (pushes m.current.place kind.Int) leads e
-  finds i.BitAnd leads e q = ints_there (pushes m.current.place kind.Int) leads e
-  finds i.Eq leads e q = ints_there (pushes m.current.place kind.Int) leads e
-  finds i.Ne leads e q = ints_there (pushes m.current.place kind.Int) leads e
-  finds i.Less leads e q = ints_there (pushes m.current.place kind.Int) leads e
-  finds i.LessEq leads e q = ints_there (pushes m.current.place kind.Int) leads e
-  finds i.More leads e q = ints_there (pushes m.current.place kind.Int) leads e
-  finds i.MoreEq leads e q = ints_there (pushes m.current.place kind.Int) leads e
-  finds i.Shl leads e q = ints_there (pushes m.current.place kind.Int) leads e
-  finds i.Shr leads e q = ints_there (pushes m.current.place kind.Int) leads e
-  finds i.Add leads e q = ints_there (pushes m.current.place kind.Int) leads e
-  finds i.Sub leads e q = ints_there (pushes m.current.place kind.Int) leads e
-  finds i.Mul leads e q = ints_there (pushes m.current.place kind.Int) leads e
-  finds i.Div leads e q = ints_there (pushes m.current.place kind.Int) leads e
-  finds i.Rem leads e q = ints_there (pushes m.current.place kind.Int) leads e
-  finds i.Drop leads e q = one_there want.Any [] (goes m.current.place) leads e
-  finds (i.Jump to) leads e q = tt
-  finds (i.Jz to) leads e q = int_there [] (λ t. Some (Two (m.current.place + 1) t to t)) leads e
-  finds (i.Jnz to) leads e q = int_there [] (λ t. Some (Two (m.current.place + 1) t to t)) leads e
-  finds (i.Print text count) leads e q = print_there text count leads e
-  finds i.Ret leads e q = ret_there leads e
-  finds _ leads e q = let no : false ≡ true = q in cc
+      (level_there 0 slot len b.0 b.1.0, slots_there 0 slot len b.0 b.1.0)
+  finds i.Neg leads here e q = int_there [] (pushes m.current.place kind.Int) leads e
+  finds i.Not leads here e q = int_there [] (pushes m.current.place kind.Int) leads e
+  finds i.Flip leads here e q = int_there [] (pushes m.current.place kind.Int) leads e
+  finds i.Bool leads here e q = int_there [] (pushes m.current.place kind.Int) leads e
+  finds i.BitOr leads here e q = ints_there (pushes m.current.place kind.Int) leads e
+  finds i.BitXor leads here e q = ints_there (pushes m.current.place kind.Int) leads e
+  finds i.BitAnd leads here e q = ints_there (pushes m.current.place kind.Int) leads e
+  finds i.Eq leads here e q = ints_there (pushes m.current.place kind.Int) leads e
+  finds i.Ne leads here e q = ints_there (pushes m.current.place kind.Int) leads e
+  finds i.Less leads here e q = ints_there (pushes m.current.place kind.Int) leads e
+  finds i.LessEq leads here e q = ints_there (pushes m.current.place kind.Int) leads e
+  finds i.More leads here e q = ints_there (pushes m.current.place kind.Int) leads e
+  finds i.MoreEq leads here e q = ints_there (pushes m.current.place kind.Int) leads e
+  finds i.Shl leads here e q = ints_there (pushes m.current.place kind.Int) leads e
+  finds i.Shr leads here e q = ints_there (pushes m.current.place kind.Int) leads e
+  finds i.Add leads here e q = ints_there (pushes m.current.place kind.Int) leads e
+  finds i.Sub leads here e q = ints_there (pushes m.current.place kind.Int) leads e
+  finds i.Mul leads here e q = ints_there (pushes m.current.place kind.Int) leads e
+  finds i.Div leads here e q = ints_there (pushes m.current.place kind.Int) leads e
+  finds i.Rem leads here e q = ints_there (pushes m.current.place kind.Int) leads e
+  finds i.Drop leads here e q = one_there want.Any [] (goes m.current.place) leads e
+  finds (i.Jump to) leads here e q = tt
+  finds (i.Jz to) leads here e q = int_there [] (λ t. Some (Two (m.current.place + 1) t to t)) leads e
+  finds (i.Jnz to) leads here e q = int_there [] (λ t. Some (Two (m.current.place + 1) t to t)) leads e
+  finds (i.Print text count) leads here e q = print_there text count leads e
+  finds (i.Call number count) leads here e q = call_there number count leads e
+  finds i.Ret leads here e q = ret_there leads e
+  finds (i.Enter slot) leads here e q =
+      let b = on_some_is (body_with s 0 slot 1) _ leads e in
+      let cell = cell_there 0 slot b.0 b.1.0 in
+      record { frame = cell.0; has = cell.1; round = round_lives code m fit t run }
+  finds (i.Finish slot) leads here e q = finish_there code bound m fit t run slot here leads e
+  finds (i.Async slots to) leads here e q = start_there code bound m fit t run v slots to here leads e
+  finds i.End leads here e q = end_there code bound m fit t run leads e
+  finds i.Yield leads here e q = is_listed code m fit t run
+  finds (i.Cancel level slot) leads here e q = let no : false ≡ true = q in cc
+  finds (i.Send channel) leads here e q = let no : false ≡ true = q in cc
+  finds (i.Recv channel) leads here e q = let no : false ≡ true = q in cc
+  finds (i.Read file) leads here e q = let no : false ≡ true = q in cc
+  finds (i.Write file) leads here e q = let no : false ≡ true = q in cc

@@ -1,9 +1,10 @@
 pub mod Tops
-pub mod Stores
-pub mod Taken
 pub mod Applied
+pub mod Blocks
+pub mod Waiting
+pub mod Does
+pub mod Lives
 pub mod Found
-pub mod Onward
 pub mod Sound
 pub mod Begun
 pub mod Examples

@@ -1,6 +1,6 @@
 pub mod Words
-pub mod Kinds
-pub mod Fit
+pub mod Callers
+pub mod Blocks
 pub mod Machine
 pub mod State
 pub mod inner

@@ -3,7 +3,7 @@ use Rattle.std.specs.Prelude.{◌≡◌, ℕ, false, List, Some, IfSome}
 use Rattle.ac_base.specs.declared.ends.EndWord.TheVariants.{Stalled}
 use Rattle.ac_base.specs.declared.ends.MachineEnd.{MachineEnd}
 use Rattle.ac_base.specs.declared.entry.Entry.{Entry}
-use Rattle.core_state.specs.Moves.{Move, On, Over, GoesOn, and_then}
+use Rattle.core_state.specs.Moves.{Move, On, Over, GoesOn}
 use Rattle.core_state.specs.Shared.{core_end}
 use Rattle.core_machine.specs.declared.pause.Pause.{Pause}
 use Rattle.core_machine.specs.Words.{word_of}
@@ -18,11 +18,11 @@ pub record Machine : Type 0 where
   pub journal : List Entry
   pub state : Move Flat FlatEnd
 
--- the core's thread runs, and stands before its first instruction; or there was no room for its frame
+-- the core's thread is ready to enter its function; or there was no room for its frame
 pub record IsFirst (m : Machine) : Type 0 where
   pub function : Entered
   pub begins : Begins m.code m.core function
-  pub state : m.state ≡ and_then (first_flat m.code function m.journal) (exec m.code m.bound)
+  pub state : m.state ≡ first_flat m.code function m.journal
 
 -- the machine has come to its state from the core's beginning, by moves of the code under its journal
 pub record IsOnItsWay (m : Machine) : Type 0 where

@@ -25,8 +25,8 @@ pub fn set_starts(frames: &mut Frames, starts: &[Start])
     }
 }
 
-// Whether a frame of so many slots keeps the words within their limit.
-fn has_room(frames: &Frames, slots: u32) -> bool
+/// Whether a frame of so many slots keeps the words within their limit.
+pub fn has_room(frames: &Frames, slots: u32) -> bool
     ensures { result ≡ has_words frames.now slots }
 {
     let words = frames.live_words();

@@ -3,13 +3,17 @@
 
 mod arithmetic;
 mod beginning;
+mod callers;
+mod calls;
 mod elements;
 mod format;
 mod machine;
 mod operands;
 mod operate;
+mod parked;
 mod pause;
 mod running;
+mod threads;
 
 pub use machine::CoreMachine;
 pub use pause::Pause;

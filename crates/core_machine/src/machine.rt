@@ -1,14 +1,18 @@
 //! The machine that callers see.
 
 use crate::beginning::{make_first, set_starts};
+use crate::callers::Callers;
 use crate::operands::Operands;
+use crate::parked::Parked;
 use crate::pause::{Pause, end_word};
 use crate::running::Running;
 use ac_base::{CoreEnd, EndWord, Journal, List, MachineEnd, NoMemory};
+use core_scheduler::Scheduler;
+use finish_block::Blocks;
 use stack_code::Code;
 use std::alloc::Global;
 use std::marker::Model;
-use work_item::{FrameId, Frames};
+use work_item::{FrameId, Frames, Item};
 
 /// A core that runs a code.
 ///
@@ -35,7 +39,7 @@ impl<'a> CoreMachine<'a> {
     ghost use Rattle.std.specs.Prelude.{◌≡◌, ◌<◌, [], length, IfOk};
     ghost use Rattle.core_state.specs.Moves.{On, GoesOn};
     ghost use Rattle.stack_code.specs.Machine.{exec};
-    ghost use Rattle.stack_code.specs.Sequential.{IsSequential};
+    ghost use Rattle.stack_code.specs.Alone.{IsAlone};
     ghost use Rattle.core_machine.specs.Machine.{IsFirst, IsOnItsWay, IsSameCore, IsSeen, IsPaused};
 
     /// A core of the code before its first instruction, with a bound on its steps. Where there is
@@ -43,8 +47,7 @@ impl<'a> CoreMachine<'a> {
     ///
     /// It takes the memory of its globals and its frame, and answers `NoMemory` where there is none.
     ///
-    /// Conditions: the code has so many cores, and it has one function, one thread and no
-    /// operations.
+    /// Conditions: the code has so many cores, and no cancel and no operation.
     pub fn new(
         alloc: Global,
         code: &'a Code,
@@ -52,7 +55,7 @@ impl<'a> CoreMachine<'a> {
         steps: u64,
     ) -> Result<CoreMachine<'a>, NoMemory>
         requires core { core < length code.now.entries }
-        requires sequential { IsSequential code.now }
+        requires alone { IsAlone code.now }
         ensures code { IfOk result (λ m. m.code ≡ code.now) }
         ensures core { IfOk result (λ m. m.core ≡ core) }
         ensures bound { IfOk result (λ m. m.bound ≡ steps) }
@@ -64,6 +67,12 @@ impl<'a> CoreMachine<'a> {
         let mut frames = Frames::new(alloc, code.globals())?;
         set_starts(&mut frames, code.starts());
         let ended = make_first(&mut frames, entered.words)?;
+        let mut schedule = Scheduler::new(alloc);
+        schedule.reserve(1)?;
+        schedule.schedule(Item { number: 0 });
+        let mut threads = Vec::new(alloc);
+        let first = Parked::new(alloc, entered.at as usize, FrameId { number: 0 }, None);
+        threads.push(first)?;
         Ok(CoreMachine {
             running: Running {
                 code,
@@ -72,9 +81,15 @@ impl<'a> CoreMachine<'a> {
                 journal: Journal::new(alloc),
                 frames,
                 frame: FrameId { number: 0 },
-                place: entered.at as usize,
+                place: 0,
                 operands: Operands::new(alloc),
+                callers: Callers::new(alloc),
+                block: None,
+                schedule,
+                threads,
+                blocks: Blocks::new(alloc),
                 steps: 0,
+                turn: 0,
                 output: Vec::new(alloc),
                 count: 0,
                 ended,

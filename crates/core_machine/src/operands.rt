@@ -2,7 +2,7 @@
 
 ghost use Rattle.std.specs.Prelude.{◌≡◌, ◌≤◌, true, [], ◌∷◌, OnOk, OnErr, length, reverse, take, drop};
 ghost use Rattle.work_item.specs.declared.cell.Cell.{Cell};
-ghost use Rattle.core_machine.specs.Kinds.{is_int};
+ghost use Rattle.stack_code.specs.Fit.{is_int};
 ghost use Rattle.core_machine.specs.inner.Operands.{is_reference, on_top};
 
 use ac_base::NoMemory;
@@ -118,6 +118,36 @@ impl Operands {
         ensures { result.now ≡ reverse (take count self.now) }
     {
         &self.cells[self.cells.len() - count as usize..]
+    }
+
+    /// Those below so many from the top, the topmost last.
+    pub fn below(&self, count: u32) -> &[Cell]
+        requires { count ≤ length self.now }
+        ensures { reverse result.now ≡ drop count self.now }
+    {
+        &self.cells[..self.cells.len() - count as usize]
+    }
+
+    /// Drops all.
+    pub fn clear(&mut self)
+        ensures { self.new ≡ [] }
+    {
+        self.cells.clear();
+    }
+
+    /// Puts others in their place, the topmost last, and then one on top. After want of memory they
+    /// are as before.
+    pub fn restore(&mut self, others: &[Cell], top: Cell) -> Result<(), NoMemory>
+        ensures ok { OnOk result (self.new ≡ top ∷ reverse others.now) }
+        ensures err { OnErr result (self.new ≡ self.old) }
+    {
+        self.cells.reserve(others.len() + 1)?;
+        self.cells.clear();
+        match self.cells.extend_from_slice(others) {
+            Ok(()) => self.cells.push_reserved(top),
+            Err(_) => unreachable!(),
+        }
+        Ok(())
     }
 
     /// Takes so many away.

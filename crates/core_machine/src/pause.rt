@@ -12,7 +12,7 @@ pub enum Pause {
     Finished,
     /// A step stopped the core for good.
     Trapped(Trap),
-    /// All steps are used, and the running thread has a next one.
+    /// All steps are used, and the running thread has a next one; or all turns are used.
     OutOfSteps,
 }
 

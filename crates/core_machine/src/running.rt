@@ -2,19 +2,24 @@
 
 ghost use Rattle.std.specs.Prelude.{◌≡◌};
 
+use crate::callers::Callers;
 use crate::elements::within;
 use crate::format::add_formatted;
 use crate::operands::Operands;
 use crate::operate::{binary, unary};
+use crate::parked::Parked;
 use crate::pause::Pause;
 use ac_base::{Journal, NoMemory, Trap};
+use core_scheduler::Scheduler;
+use finish_block::Blocks;
 use stack_code::{Code, Instr};
 use std::alloc::Global;
-use work_item::{Cell, FrameId, Frames, Place};
+use work_item::{BlockId, Cell, FrameId, Frames, Place};
 
-/// The fields of a core that runs: its globals and frames, the frame, the address and the operands
-/// of its thread, the steps that it has used, the bytes that it has printed, the instructions
-/// begun, and how it has ended.
+/// The fields of a core that runs: its globals and frames; the frame, the address, the operands,
+/// the callers and the innermost block of the running thread; which threads run and are ready, the
+/// others at their numbers, and the blocks; the steps and turns that it has used, the bytes that it
+/// has printed, the instructions begun, and how it has ended.
 #[derive(Drop)]
 pub struct Running<'a> {
     pub code: &'a Code,
@@ -25,7 +30,13 @@ pub struct Running<'a> {
     pub frame: FrameId,
     pub place: usize,
     pub operands: Operands,
+    pub callers: Callers,
+    pub block: Option<BlockId>,
+    pub schedule: Scheduler,
+    pub threads: Vec<Parked>,
+    pub blocks: Blocks,
     pub steps: u64,
+    pub turn: u64,
     pub output: Vec<u8>,
     pub count: u64,
     pub ended: Option<Pause>,
@@ -36,7 +47,7 @@ impl Running<'_> {
     ghost use Rattle.std.specs.Prelude.{◌≡◌, true, None, Some, ◌+◌, ◌-◌, ◌≤◌, ◌<◌, ◌^◌, min, length};
     ghost use Rattle.stack_code.specs.declared.instr.Instr.{Instr};
     ghost use Rattle.core_machine.specs.declared.pause.Pause.{Pause};
-    ghost use Rattle.core_machine.specs.Kinds.{is_int};
+    ghost use Rattle.stack_code.specs.Fit.{is_int};
     ghost use Rattle.core_machine.specs.inner.Operands.{on_top};
     ghost use Rattle.core_machine.specs.inner.Changes.{Keeps, Does};
 
@@ -129,17 +140,6 @@ impl Running<'_> {
             self.go_on();
         }
     }
-
-    /// Ends the thread, and with it the core, since no caller waits for its value.
-    pub fn ret(&mut self)
-        requires running { self.old.ended ≡ None }
-        requires one { 1 ≤ length self.old.operands }
-        ensures does { Does self.old Instr.Ret self.new }
-        ensures keeps { Keeps self.old self.new }
-    {
-        let _ = self.operands.pop();
-        self.end(Pause::Finished);
-    }
 }
 
 // ---- slots and globals
@@ -149,7 +149,7 @@ impl Running<'_> {
     ghost use Rattle.work_item.specs.Store.{above, cells_of};
     ghost use Rattle.work_item.specs.Conditions.{Lives, HasLevel, HasSlot, HasGlobal};
     ghost use Rattle.stack_code.specs.declared.instr.Instr.{Instr};
-    ghost use Rattle.core_machine.specs.Kinds.{is_int};
+    ghost use Rattle.stack_code.specs.Fit.{is_int};
     ghost use Rattle.core_machine.specs.inner.Operands.{on_top};
     ghost use Rattle.core_machine.specs.State.{flat_of, state_of};
     ghost use Rattle.core_machine.specs.inner.Changes.{Keeps, Does, Stays};
@@ -281,9 +281,8 @@ impl Running<'_> {
 
 impl Running<'_> {
     ghost use Rattle.std.specs.Prelude.{◌≡◌, true, None, Some, ◌+◌, ◌-◌, ◌≤◌, ◌<◌, ◌^◌, [], ◌∷◌, length};
-    ghost use Rattle.work_item.specs.Conditions.{LiesIn};
     ghost use Rattle.stack_code.specs.declared.instr.Instr.{Instr};
-    ghost use Rattle.core_machine.specs.Kinds.{is_int};
+    ghost use Rattle.stack_code.specs.Fit.{is_int};
     ghost use Rattle.core_machine.specs.inner.Operands.{is_reference, Stand, second_place};
     ghost use Rattle.core_machine.specs.inner.Changes.{Keeps, Does};
 
@@ -292,7 +291,6 @@ impl Running<'_> {
         requires running { self.old.ended ≡ None }
         requires inside { self.old.place < 2 ^ 32 }
         requires operands { Stand (is_int ∷ is_reference ∷ []) self.old.operands }
-        requires place { LiesIn self.old.frames (second_place self.old.operands) }
         ensures does { Does self.old Instr.Elem self.new }
         ensures keeps { Keeps self.old self.new }
     {
@@ -313,7 +311,6 @@ impl Running<'_> {
         requires running { self.old.ended ≡ None }
         requires inside { self.old.place < 2 ^ 32 }
         requires operands { Stand (is_int ∷ is_reference ∷ is_int ∷ []) self.old.operands }
-        requires place { LiesIn self.old.frames (second_place self.old.operands) }
         ensures does { Does self.old Instr.SetElem self.new }
         ensures keeps { Keeps self.old self.new }
     {
@@ -359,7 +356,7 @@ impl Running<'_> {
 impl Running<'_> {
     ghost use Rattle.std.specs.Prelude.{◌≡◌, true, None, Some, IsSome, ◌+◌, ◌-◌, ◌≤◌, ◌<◌, ◌^◌, [], ◌∷◌, length};
     ghost use Rattle.stack_code.specs.declared.instr.Instr.{Instr};
-    ghost use Rattle.core_machine.specs.Kinds.{is_int};
+    ghost use Rattle.stack_code.specs.Fit.{is_int};
     ghost use Rattle.core_machine.specs.inner.Operands.{on_top, Stand};
     ghost use Rattle.core_machine.specs.inner.Operators.{unary, binary};
     ghost use Rattle.core_machine.specs.inner.Changes.{Keeps, Does};
@@ -432,10 +429,9 @@ impl Running<'_> {
 // ---- one instruction after another
 
 impl Running<'_> {
-    ghost use Rattle.std.specs.Prelude.{◌≡◌, ℕ, List, None, Some, ◌<◌, ◌^◌, OnOk, OnErr, IfOk, slice_get};
+    ghost use Rattle.std.specs.Prelude.{◌≡◌, None, Some, IsSome, ◌<◌, ◌^◌, OnOk, OnErr, IfOk, slice_get};
     ghost use Rattle.core_state.specs.Moves.{GoesOn};
     ghost use Rattle.stack_code.specs.Kept.{IsRanked};
-    ghost use Rattle.stack_code.specs.Valid.{IsValid};
     ghost use Rattle.stack_code.specs.Machine.{exec};
     ghost use Rattle.core_machine.specs.State.{flat_of, state_of, IsSound};
     ghost use Rattle.core_machine.specs.inner.Left.{left_of};
@@ -445,6 +441,7 @@ impl Running<'_> {
     // One instruction, which finds what it needs.
     fn execute(&mut self, instr: Instr) -> Result<(), NoMemory>
         requires running { self.old.ended ≡ None }
+        requires runs { IsSome self.old.schedule.running }
         requires inside { self.old.place < 2 ^ 32 }
         requires finds { Finds self.old.code.now (flat_of self.old) instr }
         ensures ok { OnOk result (Does self.old instr self.new) }
@@ -470,7 +467,13 @@ impl Running<'_> {
             Instr::Jz { to } => self.jump_if_zero(to),
             Instr::Jnz { to } => self.jump_if_not_zero(to),
             Instr::Print { text, count } => return self.print(text, count),
-            Instr::Ret => self.ret(),
+            Instr::Call { function, count } => return self.call(function, count),
+            Instr::Ret => return self.ret(),
+            Instr::Enter { slot } => return self.enter(slot),
+            Instr::Finish { slot } => self.finish(slot),
+            Instr::Async { slots, to } => return self.start(slots, to),
+            Instr::End => return self.end_thread(),
+            Instr::Yield => return self.yield_now(),
             Instr::BitOr
             | Instr::BitXor
             | Instr::BitAnd
@@ -494,25 +497,31 @@ impl Running<'_> {
 
     fn next_instr(&self) -> Instr
         requires running { self.now.ended ≡ None }
+        requires runs { IsSome self.now.schedule.running }
         requires sound { IsSound self.now }
         ensures here { slice_get self.now.code.now.instrs self.now.place ≡ Some result }
-        ensures valid { IsValid self.now.code.now }
         ensures inside { self.now.place < 2 ^ 32 }
         ensures finds { Finds self.now.code.now (flat_of self.now) result }
     {
         self.code.instrs()[self.place]
     }
 
-    // The next instruction of a core that has not ended.
-    fn turn(&mut self) -> Result<(), NoMemory>
+    // The next instruction of a core that has not ended, or the next dispatch. The ranks are there
+    // for the proof alone that less is left to do.
+    fn turn(&mut self, _ranks: &[u64]) -> Result<(), NoMemory>
         requires running { self.old.ended ≡ None }
         requires sound { IsSound self.old }
+        requires ranked { IsRanked self.old.code.now _ranks.now }
         ensures ok { OnOk result (state_of self.new ≡ exec self.old.code.now self.old.bound (flat_of self.old)) }
         ensures err { OnErr result (state_of self.new ≡ state_of self.old) }
         ensures keeps { Keeps self.old self.new }
         ensures sound { IsSound self.new }
-        ensures less { OnOk result ((ranks : List ℕ) → IsRanked self.old.code.now ranks → left_of ranks self.new < left_of ranks self.old) }
+        ensures less { OnOk result (left_of _ranks.now self.new < left_of _ranks.now self.old) }
     {
+        if self.schedule.running().is_none() {
+            self.dispatch();
+            return Ok(());
+        }
         let instr = self.next_instr();
         self.execute(instr)?;
         Ok(())
@@ -528,7 +537,7 @@ impl Running<'_> {
         ensures sound { IsSound self.new }
     {
         'turns: while self.ended.is_none() {
-            self.turn()?;
+            self.turn(_ranks)?;
         }
         match self.ended {
             Some(pause) => Ok(pause),

@@ -42,6 +42,13 @@ impl Scheduler {
         }
     }
 
+    /// The running thread.
+    pub fn running(&self) -> Option<Item>
+        ensures { result ≡ self.now.running }
+    {
+        self.running
+    }
+
     /// Makes the spare at least n. After want of memory the running thread and the list are as
     /// before.
     pub fn reserve(&mut self, n: u32) -> Result<(), NoMemory>

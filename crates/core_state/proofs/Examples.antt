@@ -1,12 +1,15 @@
 -- What the definitions of Shared, Arithmetic and Moves say of small values.
-use Rattle.std.proofs.Common.{◌≡◌, refl, ℕ, ℤ, pos, [], ◌∷◌, ◌++◌, codes, arith, None}
+use Rattle.std.proofs.Common.{◌≡◌, refl, sym, ℕ, zero, suc, ◌≤◌, ℤ, pos, [], ◌∷◌, ◌++◌, codes, arith, None}
 use Rattle.std.specs.Prelude.{negsuc, Ok, Err, true, false}
 use Rattle.std.specs.Fmt.{decimal, signed_decimal}
 use Rattle.std.proofs.lemmas.Fmt.{decimal_digit}
 use Rattle.ac_base.specs.declared.ends.Trap.TheVariants.{ZeroDivisor, Index}
-use Rattle.core_state.specs.Moves.{Over, moves}
+use Rattle.work_item.specs.declared.cell.Place.{Place}
+use Rattle.work_item.specs.declared.cell.Cell.TheVariants as cell
+use Rattle.work_item.specs.Store.{no_place}
+use Rattle.core_state.specs.Moves.{Move, On, Over, moves, EndsAs, GoesOn, ComesTo}
 use Rattle.core_state.specs.Arithmetic.{sum_of, negated, quotient, remainder, shifted_left, shifted_right, is_less, truth}
-use Rattle.core_state.specs.Frames.{within, has_words, first_store}
+use Rattle.core_state.specs.Frames.{within, has_words, arguments, first_cells, first_store}
 use Rattle.core_state.specs.Shared.{formatted}
 
 -- the decimal texts of digits, which do not compute
@@ -100,7 +103,68 @@ no_larger_frame = refl
 pub globals_count_too : has_words (first_store (pos 1 ∷ pos 2 ∷ [])) 4194299 ≡ false
 globals_count_too = refl
 
+-- ---- calls
+
+abbrev pub three_slots : Place
+three_slots = record { home = None; start = 5; len = 3 }
+
+pub operands_by_their_parameters : arguments (true ∷ false ∷ []) (cell.Array three_slots ∷ cell.Int (pos 7) ∷ []) ≡ cell.Array three_slots ∷ cell.Int (pos 7) ∷ []
+operands_by_their_parameters = refl
+
+pub an_int_is_no_array : arguments (true ∷ []) (cell.Int (pos 7) ∷ []) ≡ cell.Array no_place ∷ []
+an_int_is_no_array = refl
+
+pub an_array_is_no_int : arguments (false ∷ []) (cell.Array three_slots ∷ []) ≡ cell.Int (pos 0) ∷ []
+an_array_is_no_int = refl
+
+pub the_other_slots_hold_nought : first_cells (cell.Int (pos 7) ∷ []) 3 ≡ cell.Int (pos 7) ∷ cell.Int (pos 0) ∷ cell.Int (pos 0) ∷ []
+the_other_slots_hold_nought = refl
+
 -- ---- moves
 
 pub it_stays_at_an_end : moves {S = ℕ} {E = ℕ} (λ s. Over s) 5 3 ≡ Over 3
 it_stays_at_an_end = refl
+
+-- it counts down, and ends with 7
+abbrev pub down : ℕ → Move ℕ ℕ
+down zero = Over 7
+down (suc n) = On n
+
+pub two_moves : moves down 2 5 ≡ On 3
+two_moves = refl
+
+pub it_ends_with_seven : EndsAs down 2 7
+it_ends_with_seven = (3, refl)
+
+pub it_goes_on : GoesOn down (On 5) (On 3)
+it_goes_on = (2, refl)
+
+pub it_comes_to_seven : ComesTo down (On 1) 7
+it_comes_to_seven = (2, refl)
+
+-- an end comes to itself alone
+same_end : {a b : ℕ} → ◌≡◌ {A = Move ℕ ℕ} (Over a) (Over b) → a ≡ b
+same_end e = cc
+
+pub no_end_comes_to_another : ComesTo down (Over 7) 8 → ⊥
+no_end_comes_to_another (n, e) = let s : 8 ≡ 7 = same_end e in omega (arith, s)
+
+-- and so no other end comes of the same state
+ends_so : (n s e : ℕ) → moves down n s ≡ Over e → e ≡ 7
+ends_so zero s e h = cc
+ends_so (suc n) zero e h = same_end (sym h)
+ends_so (suc n) (suc s) e h = ends_so n s e h
+
+pub it_ends_with_no_other : EndsAs down 2 8 → ⊥
+it_ends_with_no_other (n, h) = let e : 8 ≡ 7 = ends_so n 2 8 h in omega (arith, e)
+
+-- it does not go up
+no_higher : (k s t : ℕ) → On t ≡ moves down k s → t ≤ s
+no_higher zero s t h = let e = same_state h in omega (arith, e) where
+  same_state : {a b : ℕ} → ◌≡◌ {A = Move ℕ ℕ} (On a) (On b) → a ≡ b
+  same_state e = cc
+no_higher (suc k) zero t h = cc
+no_higher (suc k) (suc s) t h = let le = no_higher k s t h in omega (arith, le)
+
+pub it_does_not_go_up : GoesOn down (On 5) (On 6) → ⊥
+it_does_not_go_up (k, h) = let le = no_higher k 5 6 h in omega (arith, le)

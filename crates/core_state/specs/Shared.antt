@@ -14,12 +14,13 @@ use Rattle.core_state.specs.Moves.{Move, Over}
 use Rattle.core_state.specs.Arithmetic.{low_byte}
 use Rattle.core_state.specs.Frames.{begun, first_store}
 
--- the steps used, the turn, the bytes printed, and the entries of the journal that have not come in yet
+-- the steps used, the turn, the bytes printed, and the journal: the entries that have come in, and those still to come
 pub record Shared : Type 0 where
   pub steps : ℕ
   pub turn : ℕ
   pub output : List ℕ
-  pub journal : List Entry
+  pub past : List Entry
+  pub todo : List Entry
 
 abbrev pub with_step : Shared → Shared
 with_step s = record s { steps = s.steps + 1 }
@@ -28,7 +29,7 @@ abbrev pub with_turn : Shared → Shared
 with_turn s = record s { turn = s.turn + 1 }
 
 abbrev pub first_shared : List Entry → Shared
-first_shared journal = record { steps = 0; turn = 0; output = []; journal = journal }
+first_shared journal = record { steps = 0; turn = 0; output = []; past = []; todo = journal }
 
 -- ---- output
 
@@ -63,13 +64,13 @@ abbrev pub core_end : EndWord → Bool → List ℤ → Shared → CoreEnd
 core_end word idle globals s =
     record { word = word; steps = s.steps; output = s.output; globals = globals; waiting = []; idle = idle }
 
--- what is seen of an end: nothing where an entry of the journal is left over
+-- what is seen of an end: nothing where an entry of the journal is still to come
 abbrev pub seen_left : EndWord → Bool → List ℤ → Shared → List Entry → Option CoreEnd
 seen_left word idle globals s [] = Some (core_end word idle globals s)
 seen_left word idle globals s (_ ∷ _) = None
 
 abbrev pub seen : EndWord → Bool → List ℤ → Shared → Option CoreEnd
-seen word idle globals s = seen_left word idle globals s s.journal
+seen word idle globals s = seen_left word idle globals s s.todo
 
 -- ---- moves that end a core; each meaning tells an end in its own way
 

@@ -158,10 +158,10 @@ no_thread_lives h = omega arith
 abbrev pub counted : ℕ → Table
 counted count = with_blocks (Some (outer count false false)) None
 
-pub one_less_than_the_most : CanCountMore (counted 4294967294).blocks (block 0)
+pub one_less_than_the_most : CanCountMore (counted 18446744073709551614).blocks (block 0)
 one_less_than_the_most = omega arith
 
-pub the_most_threads : CanCountMore (counted 4294967295).blocks (block 0) → ⊥
+pub the_most_threads : CanCountMore (counted 18446744073709551615).blocks (block 0) → ⊥
 the_most_threads h = omega arith
 
 pub the_outer_has_a_child : Childless table.blocks (block 0) → ⊥

@@ -18,7 +18,7 @@ Childless blocks b = (c : BlockId) (x : Block) → block_at blocks c ≡ Some x 
 
 -- the block lives, and its count can rise
 abbrev pub CanCountMore : List (Option Block) → BlockId → Type 0
-CanCountMore blocks b = IsSomeAnd (block_at blocks b) (λ x. x.count + 1 < 2 ^ 32)
+CanCountMore blocks b = IsSomeAnd (block_at blocks b) (λ x. x.count + 1 < 2 ^ 64)
 
 -- the block lives, and so does a thread of it
 abbrev pub HasThread : List (Option Block) → BlockId → Type 0

@@ -10,7 +10,7 @@ pub struct Block {
     /// The thread that has entered it.
     pub owner: Item,
     /// How many threads live that were started directly in it.
-    pub count: u32,
+    pub count: u64,
     /// Whether the owner waits at its `finish`.
     pub waits: bool,
     /// Whether it was marked as cancelled. What lies in it then is so too, without a mark.

@@ -86,7 +86,7 @@ impl Blocks {
 
     /// Counts a thread in that is started directly in the block.
     ///
-    /// Condition: the block lives, and its count is below the greatest `u32`.
+    /// Condition: the block lives, and its count is below the greatest `u64`.
     pub fn begin(&mut self, block: BlockId)
         requires { CanCountMore self.old.blocks block }
         ensures { self.new ≡ begun self.old block }

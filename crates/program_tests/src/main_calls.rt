@@ -225,17 +225,17 @@ fn refusals_are_told_and_no_run_is_kept(rt: HostRuntime) -> Result<(), Fail> {
         ),
         (
             &["run", "x.ac"],
-            "core a(f); async void f() { yield; }",
+            "core a(f); file p(\"x\"); async void f() { }",
             999,
             15,
-            "not built at 28\n",
+            "not built at 11\n",
         ),
         (
             &["run", "x.ac"],
-            "core a(f); async void f() { } async void g() { }",
+            "core a(f); core b(g); async void f() { } async void g() { }",
             999,
             15,
-            "not built at 30\n",
+            "not built at 11\n",
         ),
     ];
     for (words, source, room, status, taken) in rows {

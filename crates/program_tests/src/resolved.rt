@@ -175,8 +175,8 @@ fn programs_are_resolved(rt: HostRuntime) -> Result<(), Fail> {
         (
             "int g(int n) { return n; } core b(h); channel c(b, a, 3); async void f() { int x; x = g(2); Recv(c, &x); Recv(c, \
             &p[x]); } int p[2]; core a(f); async void h() { Send(c, 1 + r); } int r = -7;",
-            "g int (i) 1 { (return l0.0) }; f async void () 1 { (set l0.0 0) (set l0.0 (call 0 2)) (run (recv 0 l0.0)) (run \
-            (recv 0 (at G0+2 l0.0))) }; h async void () 0 { (run (send 0 (1 + g2))) }; ",
+            "g int (i) 1 { (return l0.0) }; f async void () 1 { (set l0.0 0) (set l0.0 (call 0 2)) (run (recv 0 L0.0+1)) (run \
+            (recv 0 (part G0+2 l0.0))) }; h async void () 0 { (run (send 0 (1 + g2))) }; ",
             "core b 2; core a 1; channel 0.1+3; slots 3; start 2 -7; ",
         ),
         (

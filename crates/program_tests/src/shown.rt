@@ -1,9 +1,7 @@
 //! Resolved programs as texts, for tests.
 
 use ac_base::List;
-use ac_commands::{
-    Argument, Array, Command, Effect, Function, Place, Resolved, Target, Value, ValueLink,
-};
+use ac_commands::{Action, Array, Command, Function, Place, Resolved, Target, Value, ValueLink};
 use ac_tree::{BinaryOp, UnaryOp};
 use std::alloc::Global;
 use std::test::Fail;
@@ -119,13 +117,6 @@ impl Shown {
         }
     }
 
-    fn argument(&mut self, argument: &Argument) -> Result<(), Fail> {
-        match argument {
-            Argument::Value(value) => show_value(self, value),
-            Argument::Array(array) => self.array(*array),
-        }
-    }
-
     fn target(&mut self, target: &Target) -> Result<(), Fail> {
         match target {
             Target::Variable(place) => self.place(*place),
@@ -139,92 +130,52 @@ impl Shown {
         }
     }
 
-    fn file(
-        &mut self,
-        word: &str,
-        file: u32,
-        from: &Value,
-        len: &Value,
-        array: Array,
-    ) -> Result<(), Fail> {
-        self.add(word)?;
-        self.number(file)?;
-        self.add(" ")?;
-        show_value(self, from)?;
-        self.add(" ")?;
-        show_value(self, len)?;
-        self.add(" ")?;
-        self.array(array)?;
-        self.add(")")
-    }
-
-    fn call(&mut self, function: u32, args: &[Argument]) -> Result<(), Fail> {
-        self.add("(call ")?;
-        self.number(function)?;
-        for argument in args {
-            self.add(" ")?;
-            self.argument(argument)?;
-        }
-        self.add(")")
-    }
-
-    fn effect(&mut self, effect: &Effect) -> Result<(), Fail> {
-        match effect {
-            Effect::Value(value) => show_value(self, value),
-            Effect::Call { function, args } => self.call(*function, args.as_slice()),
-            Effect::Send { channel, value } => {
-                self.add("(send ")?;
-                self.number(*channel)?;
-                self.add(" ")?;
-                show_value(self, value)?;
-                self.add(")")
+    fn action(&mut self, action: Action) -> Result<(), Fail> {
+        match action {
+            Action::Call { function } => {
+                self.add("call ")?;
+                self.number(function)
             }
-            Effect::Recv { channel, target } => {
-                self.add("(recv ")?;
-                self.number(*channel)?;
-                self.add(" ")?;
-                self.target(target)?;
-                self.add(")")
+            Action::Send { channel } => {
+                self.add("send ")?;
+                self.number(channel)
             }
-            Effect::Read {
-                file,
-                from,
-                len,
-                array,
-            } => self.file("(read ", *file, from, len, *array),
-            Effect::Write {
-                file,
-                from,
-                len,
-                array,
-            } => self.file("(write ", *file, from, len, *array),
+            Action::Recv { channel } => {
+                self.add("recv ")?;
+                self.number(channel)
+            }
+            Action::Read { file } => {
+                self.add("read ")?;
+                self.number(file)
+            }
+            Action::Write { file } => {
+                self.add("write ")?;
+                self.number(file)
+            }
         }
     }
 
     fn print(&mut self, text: u32, args: &[Value]) -> Result<(), Fail> {
         self.add("(print ")?;
         self.number(text)?;
-        for value in args {
-            self.add(" ")?;
-            show_value(self, value)?;
-        }
+        show_values(self, args)?;
         self.add(")")
     }
 
-    fn set(&mut self, target: &Target, value: &Effect) -> Result<(), Fail> {
+    fn set(&mut self, target: &Target, value: &Value) -> Result<(), Fail> {
         self.add("(set ")?;
         self.target(target)?;
         self.add(" ")?;
-        self.effect(value)?;
+        show_value(self, value)?;
         self.add(")")
     }
 
-    fn give_back(&mut self, value: &Option<Effect>) -> Result<(), Fail> {
+    fn give_back(&mut self, value: &Option<Value>) -> Result<(), Fail> {
         match value {
             None => self.add("return"),
-            Some(effect) => {
+            Some(value) => {
                 self.add("(return ")?;
-                self.effect(effect)?;
+                show_value(self, value)?;
                 self.add(")")
             }
         }
@@ -306,8 +257,16 @@ fn show_value(shown: &mut Shown, value: &Value) -> Result<(), Fail> {
     match value {
         Value::Number(number) => shown.int(*number),
         Value::Variable(place) => shown.place(*place),
+        Value::Reference(array) => shown.array(*array),
         Value::Element { array, index } => {
             shown.add("(at ")?;
+            shown.array(*array)?;
+            shown.add(" ")?;
+            show_value(shown, index.get())?;
+            shown.add(")")
+        }
+        Value::Part { array, index } => {
+            shown.add("(part ")?;
             shown.array(*array)?;
             shown.add(" ")?;
             show_value(shown, index.get())?;
@@ -326,7 +285,22 @@ fn show_value(shown: &mut Shown, value: &Value) -> Result<(), Fail> {
             show_links(shown, rest.as_slice())?;
             shown.add(")")
         }
+        Value::Act { action, operands } => {
+            shown.add("(")?;
+            shown.action(*action)?;
+            show_values(shown, operands.as_slice())?;
+            shown.add(")")
+        }
     }
+}
+
+#[cycle(value)]
+fn show_values(shown: &mut Shown, values: &[Value]) -> Result<(), Fail> {
+    for value in values {
+        shown.add(" ")?;
+        show_value(shown, value)?;
+    }
+    Ok(())
 }
 
 #[cycle(value)]
@@ -351,9 +325,9 @@ fn show_command(shown: &mut Shown, command: &Command) -> Result<(), Fail> {
             shown.many(*len)?;
             shown.add(")")
         }
-        Command::Run(effect) => {
+        Command::Run(value) => {
             shown.add("(run ")?;
-            shown.effect(effect)?;
+            show_value(shown, value)?;
             shown.add(")")
         }
         Command::Print { text, args } => shown.print(*text, args.as_slice()),

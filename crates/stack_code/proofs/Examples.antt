@@ -1,24 +1,34 @@
--- What instructions do and ask for, the run of short codes, and codes that are not valid.
-use Rattle.std.proofs.Common.{◌≡◌, refl, ℕ, ℤ, pos, List, [], ◌∷◌, codes, Some, None, false, arith}
-use Rattle.std.specs.Prelude.{negsuc}
+-- What instructions do and ask for, the run of short codes, a code that is valid, and codes that are not.
+use Rattle.std.proofs.Common.{◌≡◌, refl, sym, ap, subst, ◌∙◌, ℕ, zero, suc, ◌<◌, ℤ, pos, List, [], ◌∷◌, codes, Option, Some, None, Bool, true, false, inl, inr, arith}
+use Rattle.std.specs.Prelude.{negsuc, slice_get, slice_index, unwrap_or}
+use Rattle.std.proofs.lemmas.List.Elements.{All-from_recursion, recursion_from_All}
 use Rattle.std.proofs.lemmas.Fmt.{decimal_digit}
 use Rattle.ac_base.specs.declared.ends.Trap.TheVariants.{ZeroDivisor, Index}
 use Rattle.ac_base.specs.declared.ends.EndWord.{EndWord}
+use Rattle.ac_base.specs.declared.ends.CoreEnd.{CoreEnd}
 use Rattle.ac_base.specs.declared.ends.EndWord.TheVariants.{Finished, Trapped, OutOfSteps}
-use Rattle.core_state.specs.Moves.{Move, Over, moves, and_then}
+use Rattle.core_state.specs.Moves.{Move, On, Over, moves, and_then}
 use Rattle.core_state.specs.Shared.{core_end}
 use Rattle.stack_code.specs.declared.instr.Instr.{Instr}
 use Rattle.stack_code.specs.declared.instr.Instr.TheVariants as i
 use Rattle.stack_code.specs.declared.parts.Entered.{Entered}
+use Rattle.stack_code.specs.declared.parts.Start.{Start}
+use Rattle.stack_code.specs.declared.parts.ChannelEnds.{ChannelEnds}
 use Rattle.stack_code.specs.declared.shape.Kind.{Kind}
 use Rattle.stack_code.specs.declared.shape.Kind.TheVariants as kind
+use Rattle.stack_code.specs.declared.shape.Home.{Home}
 use Rattle.stack_code.specs.declared.shape.Home.TheVariants as home
 use Rattle.stack_code.specs.declared.shape.Shape.{Shape}
+use Rattle.stack_code.specs.declared.shape.Leads.{Leads}
 use Rattle.stack_code.specs.declared.shape.Leads.TheVariants.{Stop, One, Two}
 use Rattle.stack_code.specs.Parts.{Parts, Begins}
-use Rattle.stack_code.specs.Shapes.{first, effect}
-use Rattle.stack_code.specs.Machine.{Flat, FlatEnd, exec, first_flat}
-use Rattle.stack_code.specs.Valid.{IsValid, Fits, begins, one}
+use Rattle.stack_code.specs.Shapes.{first, effect, LeadsTo, params_of}
+use Rattle.stack_code.specs.Machine.{Flat, FlatEnd, exec, first_flat, Runs}
+use Rattle.stack_code.specs.Valid.{IsValid, Fits, Goes, Reaches, begins, goes, IsShaped, Quiet, QuietWay, one, more, TakesSteps}
+use Rattle.stack_code.specs.Valid.{Use, AsInt, AsReference, AsBlock, use_of, ints_of, Uses, param, loads, sets, enters, HasOneUse}
+use Rattle.stack_code.specs.Valid.{IsEntry, HasCores, IsCapacity, IsChannel, HasLinks, IsStart, HasStarts, HasRoom, HasLists}
+use Rattle.stack_code.specs.Kept.{Has, IsTable, IsRanked, IsKept}
+use Rattle.stack_code.specs.Alone.{is_alone, IsAlone}
 
 -- a code of one function whose frame has so many slots, which the core `a` enters; it has two globals, of which the second starts with 5
 abbrev pub entered : ℕ → Entered
@@ -44,7 +54,7 @@ after words instrs bound count = and_then (first_flat (code_of words instrs) (en
 -- the core ended so, after so many steps, having printed this, with these globals and so many instructions
 abbrev pub ended : EndWord → ℕ → List ℕ → List ℤ → ℕ → Move Flat FlatEnd
 ended word steps output globals count =
-    Over (record { core = Some (core_end word false globals (record { steps = steps; turn = 1; output = output; journal = [] })); count = count })
+    Over (record { core = Some (core_end word false globals (record { steps = steps; turn = 1; output = output; past = []; todo = [] })); count = count })
 
 -- ---- runs
 
@@ -54,6 +64,37 @@ prints_seven = i.Step ∷ i.Push (pos 1) ∷ i.Push (pos 2) ∷ i.Push (pos 3) �
 
 pub it_prints_seven : after 0 prints_seven 100 10 ≡ ended Finished 1 (codes "7\n") (pos 0 ∷ pos 5 ∷ []) 9
 it_prints_seven = rw (decimal_digit 7 (omega arith)) refl
+
+-- the same as an end of the core
+abbrev begins_so : (words : ℕ) (instrs : List Instr) → Begins (code_of words instrs) 0 (entered words)
+begins_so words instrs = record { entry = 0; entry_is = refl; function_is = refl }
+
+pub it_is_an_end : Runs (code_of 0 prints_seven) 0 100 []
+    (record { core = Some (core_end Finished false (pos 0 ∷ pos 5 ∷ []) (record { steps = 1; turn = 1; output = codes "7\n"; past = []; todo = [] })); count = 9 })
+it_is_an_end = record { function = entered 0; begins = begins_so 0 prints_seven; comes = (10, sym it_prints_seven) }
+
+-- return 0; takes two instructions, and not three
+abbrev pub returns : List Instr
+returns = i.Push (pos 0) ∷ i.Ret ∷ []
+
+abbrev counted : Move Flat FlatEnd → ℕ
+counted (On s) = 0
+counted (Over end) = end.count
+
+pub no_end_with_another_count : (core : Option CoreEnd) → Runs (code_of 0 returns) 0 100 [] (record { core = core; count = 3 }) → ⊥
+no_end_with_another_count core r = no_end r.comes.0 (rw same at r.comes.1) where
+  no_end : (k : ℕ) → Over (record { core = core; count = 3 }) ≡ and_then (first_flat (code_of 0 returns) (entered 0) []) (moves (exec (code_of 0 returns) 100) k) → ⊥
+  no_end zero h = let n : 3 ≡ 0 = ap counted h in omega (arith, n)
+  no_end (suc zero) h = let n : 3 ≡ 0 = ap counted h in omega (arith, n)
+  no_end (suc (suc zero)) h = let n : 3 ≡ 0 = ap counted h in omega (arith, n)
+  no_end (suc (suc (suc k))) h = let n : 3 ≡ 2 = ap counted h in omega (arith, n)
+
+  same_function : (entry : ℕ) (function : Entered) → slice_get (0 ∷ []) 0 ≡ Some entry → slice_get (entered 0 ∷ []) entry ≡ Some function → function ≡ entered 0
+  same_function zero function at_core at_entry = cc
+  same_function (suc n) function at_core at_entry = cc
+
+  same : r.function ≡ entered 0
+  same = same_function r.begins.entry r.function r.begins.entry_is r.begins.function_is
 
 -- the `Step` that finds no step left is not counted
 pub it_is_out_of_steps : after 0 prints_seven 0 2 ≡ ended OutOfSteps 0 [] (pos 0 ∷ pos 5 ∷ []) 0
@@ -85,9 +126,6 @@ it_jumps = refl
 -- a slot of the frame, set and cleared
 pub it_clears_slots : after 2 (i.Push (pos 3) ∷ i.Store 0 1 ∷ i.Clear 0 2 ∷ i.Load 0 1 ∷ i.StoreG 1 ∷ i.Push (pos 0) ∷ i.Ret ∷ []) 0 8 ≡ ended Finished 0 [] (pos 0 ∷ pos 0 ∷ []) 7
 it_clears_slots = refl
-
-abbrev begins_so : (words : ℕ) (instrs : List Instr) → Begins (code_of words instrs) 0 (entered words)
-begins_so words instrs = record { entry = 0; entry_is = refl; function_is = refl }
 
 -- ---- what instructions ask for, at an address 4 in a function with two slots
 
@@ -176,13 +214,370 @@ no_such_slot v = no (fits_at_first 1 _ v) where
 abbrev pub circle : Parts
 circle = code_of 0 (i.Jump 0 ∷ [])
 
-pub goes_round : IsValid circle → ⊥
-goes_round v = v.steps 0 (one 0 0 (record {
+round_and_round : Quiet circle 0 0
+round_and_round = record {
   shape = first 0 (entered 0);
   next = first 0 (entered 0);
   reached = begins 0 (entered 0) (begins_so 0 (i.Jump 0 ∷ []));
   goes = record { fits = record { instr = i.Jump 0; leads = One 0 (first 0 (entered 0)); here = refl; finds = refl }; leads = (refl, refl) };
   no_step = no_step;
-})) where
+} where
   no_step : Some (i.Jump 0) ≡ Some i.Step → ⊥
   no_step e = cc
+
+pub a_way_back : QuietWay circle 0 0
+a_way_back = one 0 0 round_and_round
+
+pub takes_no_step : TakesSteps circle → ⊥
+takes_no_step h = h 0 a_way_back
+
+pub goes_round : IsValid circle → ⊥
+goes_round v = takes_no_step v.steps
+
+pub has_no_shape : IsShaped (code_of 0 (i.Add ∷ [])) → ⊥
+has_no_shape h = no (h.fits 0 (first 0 (entered 0)) (begins 0 (entered 0) (begins_so 0 (i.Add ∷ [])))) where
+  no : Fits (code_of 0 (i.Add ∷ [])) 0 (first 0 (entered 0)) → ⊥
+  no f = let h = f.here in let g = f.finds in cc
+
+-- ---- the lists of a code
+
+pub it_has_a_core : IsEntry (code_of 0 []) 0
+it_has_a_core = record { function = entered 0; is = refl; plain = refl }
+
+pub no_such_function : IsEntry (code_of 0 []) 1 → ⊥
+no_such_function h = let e = h.is in cc
+
+-- a core's function has no parameters
+abbrev pub with_a_parameter : Parts
+with_a_parameter = record (code_of 1 []) { functions = record { name = codes "f"; at = 0; params = false ∷ []; words = 1 } ∷ [] }
+
+same_some : {A : Type 0} {x y : A} → Some x ≡ Some y → x ≡ y
+same_some e = cc
+
+pub no_parameter_of_a_core : IsEntry with_a_parameter 0 → ⊥
+no_parameter_of_a_core h = let e = ap (λ (x : Entered). x.params) (same_some h.is) ∙ h.plain in cc
+
+pub no_code_without_a_core : HasCores (record (code_of 0 []) { entries = []; names = [] }) → ⊥
+no_code_without_a_core h = let le = h.some in omega (arith, le)
+
+pub the_largest_capacity : IsCapacity 64
+the_largest_capacity = (omega arith, omega arith)
+
+pub no_larger_capacity : IsCapacity 65 → ⊥
+no_larger_capacity h = let le = h.1 in omega (arith, le)
+
+pub no_capacity_of_none : IsCapacity 0 → ⊥
+no_capacity_of_none h = let le = h.0 in omega (arith, le)
+
+abbrev pub channel : ℕ → ℕ → ChannelEnds
+channel from to = record { from = from; to = to }
+
+abbrev pub two_cores : Parts
+two_cores = record (code_of 0 []) { entries = 0 ∷ 0 ∷ [] }
+
+pub two_cores_have_a_channel : IsChannel two_cores (channel 1 0)
+two_cores_have_a_channel = (omega arith, omega arith, omega arith)
+
+pub no_channel_to_itself : IsChannel two_cores (channel 1 1) → ⊥
+no_channel_to_itself h = h.2 refl
+
+pub no_channel_to_another : IsChannel two_cores (channel 1 2) → ⊥
+no_channel_to_another h = let lt = h.1 in omega (arith, lt)
+
+-- two globals
+abbrev pub start : ℕ → ℤ → Start
+start slot value = record { slot = slot; value = value }
+
+pub a_start : IsStart (code_of 0 []) (start 1 (negsuc 0))
+a_start = (omega arith, λ e. cc)
+
+pub no_start_with_nought : IsStart (code_of 0 []) (start 1 (pos 0)) → ⊥
+no_start_with_nought h = h.1 refl
+
+pub no_start_past_the_globals : IsStart (code_of 0 []) (start 2 (pos 5)) → ⊥
+no_start_past_the_globals h = let lt = h.0 in omega (arith, lt)
+
+pub a_slot_for_its_parameter : HasRoom (record { name = codes "f"; at = 0; params = false ∷ []; words = 1 })
+a_slot_for_its_parameter = omega arith
+
+pub no_slot_for_its_parameter : HasRoom (record { name = codes "f"; at = 0; params = false ∷ []; words = 0 }) → ⊥
+no_slot_for_its_parameter h = omega (arith, h)
+
+pub no_start_twice : HasStarts (record (code_of 0 []) { starts = start 1 (pos 5) ∷ start 1 (pos 6) ∷ [] }) → ⊥
+no_start_twice h = let lt : 1 < 1 = h.rising 0 (omega arith) in omega (arith, lt)
+
+pub no_link_too_many : HasLinks (record (code_of 0 []) { capacities = 16 ∷ 16 ∷ [] }) → ⊥
+no_link_too_many h = let e = h.each in omega (arith, e)
+
+-- ---- a code that is valid: int x = 3; return x;
+
+abbrev pub keeps_three : List Instr
+keeps_three = i.Push (pos 3) ∷ i.Store 0 0 ∷ i.Load 0 0 ∷ i.Ret ∷ []
+
+abbrev pub small : Parts
+small = code_of 1 keeps_three
+
+-- the shape of an address in it
+abbrev pub holding : List Kind → Shape
+holding kinds = record { bodies = record { home = home.Function 0; slots = 1 } ∷ []; blocks = []; operands = kinds }
+
+data At : ℕ → Shape → Type 0 where
+  at_push : At 0 (holding [])
+  at_store : At 1 (holding (kind.Int ∷ []))
+  at_load : At 2 (holding [])
+  at_return : At 3 (holding (kind.Int ∷ []))
+
+-- what stands at an address and what it makes of the shape decide where it goes
+leads_on : (code : Parts) (at to : ℕ) (s t : Shape) (instr : Instr) (leads : Leads) → slice_get code.instrs at ≡ Some instr
+    → effect code at instr s ≡ Some leads → Goes code at s to t → LeadsTo leads to t
+leads_on code at to s t instr leads here finds g =
+    let is : g.fits.instr ≡ instr = same_some (sym g.fits.here ∙ here) in
+    let same : g.fits.leads ≡ leads = same_some (sym g.fits.finds ∙ ap (λ (x : Instr). effect code at x s) is ∙ finds) in
+    subst (λ (l : Leads). LeadsTo l to t) same g.leads
+
+arrives : {next to : ℕ} {s t : Shape} → At next s → (next ≡ to) × (s ≡ t) → At to t × (next ≡ to)
+arrives x e = (subst (λ (z : ℕ × Shape). At z.0 z.1) (λ j. (e.0 j, e.1 j)) x, e.0)
+
+goes_on : (at to : ℕ) (s t : Shape) → At at s → Goes small at s to t → At to t × (suc at ≡ to)
+goes_on _ to _ t at_push g = arrives at_store (leads_on small 0 to _ t (i.Push (pos 3)) (One 1 (holding (kind.Int ∷ []))) refl refl g)
+goes_on _ to _ t at_store g = arrives at_load (leads_on small 1 to _ t (i.Store 0 0) (One 2 (holding [])) refl refl g)
+goes_on _ to _ t at_load g = arrives at_return (leads_on small 2 to _ t (i.Load 0 0) (One 3 (holding (kind.Int ∷ []))) refl refl g)
+goes_on _ to _ t at_return g = absurd (leads_on small 3 to _ t i.Ret Stop refl refl g)
+
+begins_at : (core : ℕ) (function : Entered) (entry : Begins small core function) → At function.at (first entry.entry function)
+begins_at zero function entry =
+    let e : 0 ≡ entry.entry = same_some entry.entry_is in
+    let f : entered 1 ≡ function = same_some (ap (λ (n : ℕ). slice_get (entered 1 ∷ []) n) e ∙ entry.function_is) in
+    subst (λ (z : ℕ × Entered). At z.1.at (first z.0 z.1)) (λ j. (e j, f j)) at_push
+begins_at (suc core) function entry = let e = entry.entry_is in cc
+
+reached_at : (at : ℕ) (s : Shape) → Reaches small at s → At at s
+reached_at _ _ (begins core function entry) = begins_at core function entry
+reached_at to t (goes at s _ _ r g) = (goes_on at to s t (reached_at at s r) g).0
+
+abbrev fits_at : (at : ℕ) (s : Shape) → At at s → Fits small at s
+fits_at _ _ at_push = record { instr = i.Push (pos 3); leads = One 1 (holding (kind.Int ∷ [])); here = refl; finds = refl }
+fits_at _ _ at_store = record { instr = i.Store 0 0; leads = One 2 (holding []); here = refl; finds = refl }
+fits_at _ _ at_load = record { instr = i.Load 0 0; leads = One 3 (holding (kind.Int ∷ [])); here = refl; finds = refl }
+fits_at _ _ at_return = record { instr = i.Ret; leads = Stop; here = refl; finds = refl }
+
+abbrev shape_at : ℕ → Shape
+shape_at zero = holding []
+shape_at (suc zero) = holding (kind.Int ∷ [])
+shape_at (suc (suc zero)) = holding []
+shape_at (suc (suc (suc at))) = holding (kind.Int ∷ [])
+
+has_it : (at : ℕ) (s : Shape) → At at s → shape_at at ≡ s
+has_it _ _ at_push = refl
+has_it _ _ at_store = refl
+has_it _ _ at_load = refl
+has_it _ _ at_return = refl
+
+pub it_is_shaped : IsShaped small
+it_is_shaped = record {
+  fits = λ at s r. fits_at at s (reached_at at s r);
+  same = λ at s t r q. sym (has_it at s (reached_at at s r)) ∙ has_it at t (reached_at at t q);
+}
+
+rises : (at to : ℕ) → Quiet small at to → suc at ≡ to
+rises at to q = (goes_on at to q.shape q.next (reached_at at q.shape q.reached) q.goes).1
+
+way_rises : (at to : ℕ) → QuietWay small at to → at < to
+way_rises _ _ (one at to q) = let e = rises at to q in omega (arith, e)
+way_rises _ _ (more at next to q way) = let e = rises at next q in let lt = way_rises next to way in omega (arith, e, lt)
+
+pub it_takes_steps : TakesSteps small
+it_takes_steps at way = let lt = way_rises at at way in omega (arith, lt)
+
+-- ---- ways that it has not
+
+pub no_second_core : Begins small 1 (entered 1) → ⊥
+no_second_core h = let e = h.entry_is in cc
+
+pub nothing_stands_past_it : Fits small 4 (holding []) → ⊥
+nothing_stands_past_it h = let e = h.here in cc
+
+pub no_instruction_is_passed_over : Goes small 0 (holding []) 2 (holding []) → ⊥
+no_instruction_is_passed_over h = let e = (goes_on 0 2 (holding []) (holding []) at_push h).1 in omega (arith, e)
+
+pub no_quiet_instruction_is_passed_over : Quiet small 0 2 → ⊥
+no_quiet_instruction_is_passed_over q = let e = rises 0 2 q in omega (arith, e)
+
+pub no_way_back : QuietWay small 1 1 → ⊥
+no_way_back way = it_takes_steps 1 way
+
+-- the value lies on the stack at the second address
+pub it_is_not_reached_without_its_value : Reaches small 1 (holding []) → ⊥
+it_is_not_reached_without_its_value r = let e = ap (λ (s : Shape). s.operands) (has_it 1 (holding []) (reached_at 1 (holding []) r)) in cc
+
+pub both_ways_of_a_jump : LeadsTo (Two 5 (holding []) 9 (holding [])) 5 (holding []) × LeadsTo (Two 5 (holding []) 9 (holding [])) 9 (holding [])
+both_ways_of_a_jump = (inl (refl, refl), inr (refl, refl))
+
+pub no_other_way_of_a_jump : LeadsTo (Two 5 (holding []) 9 (holding [])) 6 (holding []) → ⊥
+no_other_way_of_a_jump (inl h) = let e = h.0 in omega (arith, e)
+no_other_way_of_a_jump (inr h) = let e = h.0 in omega (arith, e)
+
+pub no_way_from_a_stop : LeadsTo Stop 5 (holding []) → ⊥
+no_way_from_a_stop h = h
+
+-- ---- the use of slots
+
+no_params : (in_body : Home) → params_of small in_body ≡ []
+no_params (home.Function zero) = refl
+no_params (home.Function (suc number)) = refl
+no_params (home.Async at) = refl
+
+as_int : (in_body : Home) (slot : ℕ) (use_so : Use) → Uses small in_body slot use_so → use_so ≡ AsInt
+as_int in_body slot _ (param array is) = let e = ap (λ (ps : List Bool). slice_get ps slot) (sym (no_params in_body)) ∙ is in cc
+as_int in_body slot _ (loads at level s r is body) = ap (λ (ps : List Bool). use_of (unwrap_or (slice_get ps slot) false)) (no_params in_body)
+as_int in_body slot _ (sets at s instr slots r is ints body low high) = refl
+as_int in_body slot _ (enters at s r is body) = no_block at s (reached_at at s r) is where
+  no_block : (at : ℕ) (s : Shape) → At at s → slice_get keeps_three at ≡ Some (i.Enter slot) → AsBlock ≡ AsInt
+  no_block _ _ at_push e = cc
+  no_block _ _ at_store e = cc
+  no_block _ _ at_load e = cc
+  no_block _ _ at_return e = cc
+
+pub its_slot_has_one_use : HasOneUse small
+its_slot_has_one_use in_body slot u v p q = as_int in_body slot u p ∙ sym (as_int in_body slot v q)
+
+reach_push : Reaches small 0 (holding [])
+reach_push = begins 0 (entered 1) (begins_so 1 keeps_three)
+
+reach_store : Reaches small 1 (holding (kind.Int ∷ []))
+reach_store = goes 0 (holding []) 1 (holding (kind.Int ∷ [])) reach_push (record { fits = fits_at 0 (holding []) at_push; leads = (refl, refl) })
+
+reach_load : Reaches small 2 (holding [])
+reach_load = goes 1 (holding (kind.Int ∷ [])) 2 (holding []) reach_store (record { fits = fits_at 1 (holding (kind.Int ∷ [])) at_store; leads = (refl, refl) })
+
+reach_return : Reaches small 3 (holding (kind.Int ∷ []))
+reach_return = goes 2 (holding []) 3 (holding (kind.Int ∷ [])) reach_load (record { fits = fits_at 2 (holding []) at_load; leads = (refl, refl) })
+
+pub it_is_set : Uses small (home.Function 0) 0 AsInt
+it_is_set = sets 1 (holding (kind.Int ∷ [])) (i.Store 0 0) (record { level = 0; slot = 0; len = 1 }) reach_store refl refl refl (omega arith) (omega arith)
+
+pub it_is_loaded : Uses small (home.Function 0) 0 AsInt
+it_is_loaded = loads 2 0 (holding []) reach_load refl refl
+
+pub it_is_no_block : Uses small (home.Function 0) 0 AsBlock → ⊥
+it_is_no_block u = let e = as_int (home.Function 0) 0 AsBlock u in cc
+
+-- an array parameter is a reference
+pub a_parameter_is_a_reference : Uses (record small { functions = record { name = codes "f"; at = 0; params = true ∷ []; words = 1 } ∷ [] }) (home.Function 0) 0 AsReference
+a_parameter_is_a_reference = param true refl
+
+pub an_array_of_three_slots : ints_of (i.Arr 1 2 3) ≡ Some (record { level = 1; slot = 2; len = 3 })
+an_array_of_three_slots = refl
+
+pub a_load_sets_none : ints_of (i.Load 0 0) ≡ None
+a_load_sets_none = refl
+
+-- a slot that is set and then has a block
+abbrev pub twofold : List Instr
+twofold = i.Push (pos 3) ∷ i.Store 0 0 ∷ i.Enter 0 ∷ []
+
+pub no_slot_has_two_uses : HasOneUse (code_of 1 twofold) → ⊥
+no_slot_has_two_uses h = differ (h (home.Function 0) 0 AsInt AsBlock as_int_here as_block_here) where
+  differ : AsInt ≡ AsBlock → ⊥
+  differ e = cc
+
+  at_first : Reaches (code_of 1 twofold) 0 (holding [])
+  at_first = begins 0 (entered 1) (begins_so 1 twofold)
+
+  then_at : Reaches (code_of 1 twofold) 1 (holding (kind.Int ∷ []))
+  then_at = goes 0 (holding []) 1 (holding (kind.Int ∷ [])) at_first
+      (record { fits = record { instr = i.Push (pos 3); leads = One 1 (holding (kind.Int ∷ [])); here = refl; finds = refl }; leads = (refl, refl) })
+
+  at_last : Reaches (code_of 1 twofold) 2 (holding [])
+  at_last = goes 1 (holding (kind.Int ∷ [])) 2 (holding []) then_at
+      (record { fits = record { instr = i.Store 0 0; leads = One 2 (holding []); here = refl; finds = refl }; leads = (refl, refl) })
+
+  as_int_here : Uses (code_of 1 twofold) (home.Function 0) 0 AsInt
+  as_int_here = sets 1 (holding (kind.Int ∷ [])) (i.Store 0 0) (record { level = 0; slot = 0; len = 1 }) then_at refl refl refl (omega arith) (omega arith)
+
+  as_block_here : Uses (code_of 1 twofold) (home.Function 0) 0 AsBlock
+  as_block_here = enters 2 (holding []) at_last refl refl
+
+-- ---- the whole, and what is kept of it
+
+pub its_cores : HasCores small
+its_cores = record { some = omega arith; few = omega arith; named = refl; enters = All-from_recursion (IsEntry small) (0 ∷ []) (record { function = entered 1; is = refl; plain = refl }, tt) }
+
+pub its_links : HasLinks small
+its_links = record { few = omega arith; each = refl; capacities = All-from_recursion IsCapacity (16 ∷ []) ((omega arith, omega arith), tt); channels = All-from_recursion (IsChannel small) [] tt }
+
+pub its_starts : HasStarts small
+its_starts = record { rising = λ k lt. absurd (omega (arith, lt)); starts = All-from_recursion (IsStart small) (start 1 (pos 5) ∷ []) ((omega arith, λ e. cc), tt) }
+
+pub its_lists : HasLists small
+its_lists = record { few = omega arith; cores = its_cores; links = its_links; starts = its_starts; functions = All-from_recursion HasRoom (entered 1 ∷ []) (omega arith, tt) }
+
+pub no_lists_without_a_core : HasLists (record small { entries = []; names = [] }) → ⊥
+no_lists_without_a_core h = no_code_without_a_core_in h.cores where
+  no_code_without_a_core_in : HasCores (record small { entries = []; names = [] }) → ⊥
+  no_code_without_a_core_in h = let le = h.some in omega (arith, le)
+
+pub it_is_valid : IsValid small
+it_is_valid = record { lists = its_lists; shaped = it_is_shaped; one_use = its_slot_has_one_use; steps = it_takes_steps }
+
+abbrev pub its_shapes : List (Option Shape)
+its_shapes = Some (holding []) ∷ Some (holding (kind.Int ∷ [])) ∷ Some (holding []) ∷ Some (holding (kind.Int ∷ [])) ∷ []
+
+pub its_table : IsTable small its_shapes
+its_table = record { long = refl; has = λ at s r. has at s (reached_at at s r); reached = reached } where
+  has : (at : ℕ) (s : Shape) → At at s → Has its_shapes at s
+  has _ _ at_push = refl
+  has _ _ at_store = refl
+  has _ _ at_load = refl
+  has _ _ at_return = refl
+
+  reached : (at : ℕ) (s : Shape) → Has its_shapes at s → Reaches small at s
+  reached zero s e = subst (λ (s : Shape). Reaches small 0 s) (same_some (same_some e)) reach_push
+  reached (suc zero) s e = subst (λ (s : Shape). Reaches small 1 s) (same_some (same_some e)) reach_store
+  reached (suc (suc zero)) s e = subst (λ (s : Shape). Reaches small 2 s) (same_some (same_some e)) reach_load
+  reached (suc (suc (suc zero))) s e = subst (λ (s : Shape). Reaches small 3 s) (same_some (same_some e)) reach_return
+  reached (suc (suc (suc (suc at)))) s e = cc
+
+pub a_shape_is_left_out : IsTable small (None ∷ Some (holding (kind.Int ∷ [])) ∷ Some (holding []) ∷ Some (holding (kind.Int ∷ [])) ∷ []) → ⊥
+a_shape_is_left_out h = let e = h.has 0 (holding []) reach_push in cc
+
+pub a_shape_is_another : IsTable small (Some (holding []) ∷ Some (holding []) ∷ Some (holding []) ∷ Some (holding (kind.Int ∷ [])) ∷ []) → ⊥
+a_shape_is_another h = let e = has_it 1 (holding []) (reached_at 1 (holding []) (h.reached 1 (holding []) refl)) in let k = ap (λ (s : Shape). s.operands) e in cc
+
+pub its_ranks : IsRanked small (3 ∷ 2 ∷ 1 ∷ 0 ∷ [])
+its_ranks = record { long = refl; falls = λ at to q. falls at to q.shape q.next (reached_at at q.shape q.reached) q.goes } where
+  falls_to : (at next to : ℕ) → next ≡ to → slice_index (3 ∷ 2 ∷ 1 ∷ 0 ∷ []) next < slice_index (3 ∷ 2 ∷ 1 ∷ 0 ∷ []) at → slice_index (3 ∷ 2 ∷ 1 ∷ 0 ∷ []) to < slice_index (3 ∷ 2 ∷ 1 ∷ 0 ∷ []) at
+  falls_to at next to e lt = subst (λ (n : ℕ). slice_index (3 ∷ 2 ∷ 1 ∷ 0 ∷ []) n < slice_index (3 ∷ 2 ∷ 1 ∷ 0 ∷ []) at) e lt
+
+  falls : (at to : ℕ) (s t : Shape) → At at s → Goes small at s to t → slice_index (3 ∷ 2 ∷ 1 ∷ 0 ∷ []) to < slice_index (3 ∷ 2 ∷ 1 ∷ 0 ∷ []) at
+  falls _ to _ t at_push g = falls_to 0 1 to (goes_on 0 to _ t at_push g).1 (omega arith)
+  falls _ to _ t at_store g = falls_to 1 2 to (goes_on 1 to _ t at_store g).1 (omega arith)
+  falls _ to _ t at_load g = falls_to 2 3 to (goes_on 2 to _ t at_load g).1 (omega arith)
+  falls _ to _ t at_return g = absurd (leads_on small 3 to _ t i.Ret Stop refl refl g)
+
+pub they_are_kept : IsKept small its_shapes (3 ∷ 2 ∷ 1 ∷ 0 ∷ [])
+they_are_kept = record { valid = it_is_valid; tabled = its_table; ranked = its_ranks }
+
+from_push : Quiet small 0 1
+from_push = record {
+  shape = holding [];
+  next = holding (kind.Int ∷ []);
+  reached = reach_push;
+  goes = record { fits = fits_at 0 (holding []) at_push; leads = (refl, refl) };
+  no_step = λ e. cc;
+}
+
+pub a_rank_does_not_fall : IsRanked small (3 ∷ 3 ∷ 1 ∷ 0 ∷ []) → ⊥
+a_rank_does_not_fall h = let lt = h.falls 0 1 from_push in omega (arith, lt)
+
+-- what has not all of it, as a table that leaves out a shape, is not kept
+pub not_these_shapes : IsKept small (None ∷ None ∷ None ∷ None ∷ []) (3 ∷ 2 ∷ 1 ∷ 0 ∷ []) → ⊥
+not_these_shapes h = let e = h.tabled.has 0 (holding []) reach_push in cc
+
+-- ---- code of a core alone
+
+pub it_is_alone : IsAlone small
+it_is_alone = All-from_recursion (λ (instr : Instr). is_alone instr ≡ true) keeps_three (refl, (refl, (refl, (refl, tt))))
+
+pub a_send_is_not : IsAlone (code_of 0 (i.Send 0 ∷ i.Ret ∷ [])) → ⊥
+a_send_is_not h = let e = (recursion_from_All (λ (instr : Instr). is_alone instr ≡ true) (i.Send 0 ∷ i.Ret ∷ []) h).0 in cc

@@ -3,5 +3,8 @@ pub mod Machine
 pub mod Shapes
 pub mod Valid
 pub mod Kept
-pub mod Sequential
 pub mod inner
+pub mod Alone
+pub mod Fit
+pub mod Left
+pub mod Ends

@@ -19,7 +19,7 @@ use Rattle.core_state.specs.Moves.{Move, On, Over, ComesTo}
 use Rattle.core_state.specs.Arithmetic.{Computed, at_zero, truth, negated, not_true, flipped, sum_of, difference_of}
 use Rattle.core_state.specs.Arithmetic.{product_of, quotient, remainder, shifted_left, shifted_right, is_equal}
 use Rattle.core_state.specs.Arithmetic.{is_not_equal, is_less, is_at_most, both_bits, either_bits, differing_bits}
-use Rattle.core_state.specs.Frames.{within, element, set_element, begun, first_frame, with_entered}
+use Rattle.core_state.specs.Frames.{element, set_element, part_at, begun, begun_with, first_frame, with_entered}
 use Rattle.core_state.specs.Shared.{Shared, with_step, with_turn, first_shared, printed, formatted, seen, if_turn, begins}
 use Rattle.stack_code.specs.declared.instr.Instr.{Instr}
 use Rattle.stack_code.specs.declared.instr.Instr.TheVariants as i
@@ -62,7 +62,7 @@ pub record Flat : Type 0 where
   pub blocks : List (Option Block)
   pub count : ℕ
 
--- how the machine is over: what is seen of the core, none where an entry of the journal is left over, and the count
+-- how the machine is over: what is seen of the core, none where an entry of the journal is still to come, and the count
 pub record FlatEnd : Type 0 where
   pub core : Option CoreEnd
   pub count : ℕ
@@ -216,24 +216,10 @@ dies m t (Some b) = dies_in m t b (block_at m.blocks b)
 
 -- ---- calls
 
--- what the slot of a parameter holds of an operand: a reference where the parameter is an array, and else an int
-abbrev pub argument : Bool → Cell → Cell
-argument true x = cell.Array (place_in x)
-argument false x = cell.Int (int_in x)
-
--- each operand in the slot of its parameter
-abbrev pub arguments : List Bool → List Cell → List Cell
-arguments [] args = []
-arguments (array ∷ params) [] = []
-arguments (array ∷ params) (x ∷ args) = argument array x ∷ arguments params args
-
-abbrev pub first_cells : List Cell → ℕ → List Cell
-first_cells args slots = args ++ replicate (slots - length args) no_int
-
 abbrev pub calls : Flat → Option Entered → List Cell → List Cell → Move Flat FlatEnd
 calls m None args below = On m
 calls m (Some f) args below =
-    or_trap m (begun m.store None (first_cells (arguments f.params args) f.words)) (λ store. On (record m {
+    or_trap m (begun_with m.store f.params f.words args) (λ store. On (record m {
       store = store;
       current = record {
         place = f.at;
@@ -260,9 +246,6 @@ returns m value (caller ∷ callers) =
 abbrev pub text_at : Parts → ℕ → List ℕ
 text_at code text = slice_index_or code.texts text []
 
-abbrev pub one_place : cells.Place → ℕ → cells.Place
-one_place p index = record { home = p.home; start = p.start + index; len = 1 }
-
 abbrev pub begin : Parts → ℕ → Flat → Item → Option Instr → Move Flat FlatEnd
 begin code bound m t None = On m
 begin code bound m t (Some i.Step) =
@@ -287,8 +270,7 @@ begin code bound m t (Some i.SetElem) =
     or_trap m (set_element m.store (place_in y) (int_in z) (int_in x)) (λ store. goes (with_store m store) below)) m.current.operands
 begin code bound m t (Some i.Place) =
     on_two m (λ x y below.
-    or_trap m (within (place_in x) (int_in y)) (λ index.
-    goes m (cell.Array (one_place (place_in x) index) ∷ below))) m.current.operands
+    or_trap m (part_at (place_in x) (int_in y)) (λ part. goes m (cell.Array part ∷ below))) m.current.operands
 begin code bound m t (Some (i.Clear slot len)) = goes (with_store m (with_cleared m.store m.current.frame slot len)) m.current.operands
 begin code bound m t (Some i.Neg) = one_operand m negated
 begin code bound m t (Some i.Not) = one_operand m not_true
@@ -346,7 +328,13 @@ abbrev pub dispatched : Flat → List Item → Move Flat FlatEnd
 dispatched m [] = ends (seen_of word.Stalled true m) m.count
 dispatched m (t ∷ ready) =
     if_turn (told m.count) m.store.globals m.shared
-    (On (record m { shared = with_turn m.shared; running = Some t; current = thread_at m.threads t; ready = ready }))
+    (On (record m {
+      shared = with_turn m.shared;
+      running = Some t;
+      current = thread_at m.threads t;
+      ready = ready;
+      threads = slice_set m.threads t.number nobody;
+    }))
 
 -- one instruction of the running thread, or a dispatch
 abbrev pub exec_of : Parts → ℕ → Flat → Option Item → Move Flat FlatEnd

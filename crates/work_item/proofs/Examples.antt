@@ -7,7 +7,7 @@ use Rattle.work_item.specs.declared.cell.Cell.{Cell}
 use Rattle.work_item.specs.declared.cell.Cell.TheVariants as c
 use Rattle.work_item.specs.Store.{Frame, Store, no_frames, next_frame, made, above, cell_at, with_cell_at, global_at, with_global, int_in, place_in, no_place, int_at, with_int_at}
 use Rattle.work_item.specs.Store.{with_cleared, released, live_words}
-use Rattle.work_item.specs.Conditions.{Lives, ParentLives, HasLevel, HasSlot, HasGlobal, LiesIn, IsGoing}
+use Rattle.work_item.specs.Conditions.{Lives, ParentLives, HasLevel, HasSlot, HasGlobal, IsGoing}
 use Rattle.work_item.specs.Table.{children_of, IsWhole}
 use Rattle.work_item.specs.inner.Kept.{is_done}
 
@@ -171,18 +171,6 @@ the_last_global = omega arith
 
 pub no_global_past_it : HasGlobal store 2 → ⊥
 no_global_past_it h = omega arith
-
-pub an_array_to_the_end_of_its_frame : LiesIn store (local 1 1)
-an_array_to_the_end_of_its_frame = omega arith
-
-pub no_array_past_it : LiesIn store (local 1 2) → ⊥
-no_array_past_it h = omega arith
-
-pub an_array_of_all_globals : LiesIn store (global 0 2)
-an_array_of_all_globals = omega arith
-
-pub no_array_past_the_globals : LiesIn store (global 1 2) → ⊥
-no_array_past_the_globals h = omega arith
 
 pub one_that_is_not_over_goes : IsGoing store (frame 0)
 one_that_is_not_over_goes = refl

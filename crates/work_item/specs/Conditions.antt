@@ -1,7 +1,6 @@
 -- What the calls on frames ask for.
 use Rattle.std.specs.Prelude.{◌≡◌, ℕ, zero, suc, ◌+◌, ◌<◌, ◌≤◌, length, Option, Some, None, IsSome, IsSomeAnd, false}
 use Rattle.work_item.specs.declared.ids.FrameId.{FrameId}
-use Rattle.work_item.specs.declared.cell.Place.{Place}
 use Rattle.work_item.specs.Store.{Store, frame_at, cells_of, parent_or}
 
 abbrev pub Lives : Store → FrameId → Type 0
@@ -26,14 +25,6 @@ HasSlot s f slot = slot < length (cells_of s f)
 
 abbrev pub HasGlobal : Store → ℕ → Type 0
 HasGlobal s slot = slot < length s.globals
-
-abbrev pub slots_of : Store → Option FrameId → ℕ
-slots_of s None = length s.globals
-slots_of s (Some f) = length (cells_of s f)
-
--- the array lies in its frame, which lives, or in the globals
-abbrev pub LiesIn : Store → Place → Type 0
-LiesIn s p = p.start + p.len ≤ slots_of s p.home
 
 -- the frame lives, and its activation or body has not ended
 abbrev pub IsGoing : Store → FrameId → Type 0

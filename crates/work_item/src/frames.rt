@@ -3,7 +3,7 @@
 ghost use Rattle.std.specs.Prelude.{◌≡◌, ◌+◌, ◌^◌, ◌<◌, ◌≤◌, length, replicate, IfOk, OnOk, OnErr};
 ghost use Rattle.work_item.specs.Store.{above, cell_at, with_cell_at, with_cleared, cells_of, int_at, with_int_at, global_at};
 ghost use Rattle.work_item.specs.Store.{with_global, no_int, no_frames, next_frame, made, released, live_words, int_in};
-ghost use Rattle.work_item.specs.Conditions.{Lives, ParentLives, HasLevel, HasSlot, HasGlobal, LiesIn, IsGoing};
+ghost use Rattle.work_item.specs.Conditions.{Lives, ParentLives, HasLevel, HasSlot, HasGlobal, IsGoing};
 
 use crate::cell::{Cell, Place};
 use crate::ids::FrameId;
@@ -143,33 +143,45 @@ impl Frames {
         self.table.clear(frame, slot, len);
     }
 
-    /// An element of an array. One that holds no int reads as 0.
+    /// An element of an array. One that holds no int, or is not there, reads as 0.
     ///
-    /// Condition: the array lies in its frame or in the globals, and the index is below its length.
+    /// Condition: the index is below its length.
     pub fn read_at(&self, place: Place, index: u32) -> i64
-        requires place { LiesIn self.now place }
-        requires index { index < place.len }
+        requires { index < place.len }
         ensures { result ≡ int_at self.now place index }
     {
         let slot = place.start as usize + index as usize;
         match place.home {
-            None => self.globals[slot],
-            Some(frame) => int_of(self.table.cell(frame, slot)),
+            None => {
+                if slot < self.globals.len() {
+                    self.globals[slot]
+                } else {
+                    0
+                }
+            }
+            Some(frame) => int_of(self.table.cell_or_zero(frame, slot)),
         }
     }
 
-    /// Sets an element of an array.
+    /// Sets an element of an array, where it is there.
     ///
     /// Condition: as that of `read_at`.
     pub fn write_at(&mut self, place: Place, index: u32, value: i64)
-        requires place { LiesIn self.old place }
-        requires index { index < place.len }
+        requires { index < place.len }
         ensures { self.new ≡ with_int_at self.old place index value }
     {
         let slot = place.start as usize + index as usize;
         match place.home {
-            None => self.globals[slot] = value,
-            Some(frame) => self.table.set_cell(frame, slot, Cell::Int(value)),
+            None => {
+                if slot < self.globals.len() {
+                    self.globals[slot] = value;
+                }
+            }
+            Some(frame) => {
+                if self.table.has_cell(frame, slot) {
+                    self.table.set_cell(frame, slot, Cell::Int(value));
+                }
+            }
         }
     }
 

@@ -1,7 +1,7 @@
 //! The frames that live, each with the count of those that live in it.
 
 ghost use Rattle.std.specs.Prelude.{◌≡◌, ◌+◌, ◌^◌, ◌<◌, ◌≤◌, [], ◌∷◌, ◌++◌, length};
-ghost use Rattle.std.specs.Prelude.{slice_index_or, slice_set, IsSome, IfOk, OnOk, OnErr, Some, None};
+ghost use Rattle.std.specs.Prelude.{nat_lt, slice_index_or, slice_set, IsSome, IfOk, OnOk, OnErr, Some, None};
 ghost use Rattle.work_item.specs.Store.{all_words, no_cells, no_int, some_with, some_over, cleared, parent_or};
 ghost use Rattle.work_item.specs.Table.{at, children_of};
 ghost use Rattle.work_item.specs.inner.Kept.{parent_at, new_frame, is_done, LivesIn};
@@ -144,6 +144,31 @@ impl Table {
         match &self.frames[frame.number as usize] {
             Some(live) => live.cells[slot],
             None => unreachable!(),
+        }
+    }
+
+    /// Whether a frame lives and has that cell.
+    pub fn has_cell(&self, frame: FrameId, slot: usize) -> bool
+        ensures { result ≡ nat_lt slot (length (no_cells (at self.now frame.number))) }
+    {
+        let number = frame.number as usize;
+        if number >= self.frames.len() {
+            return false;
+        }
+        match &self.frames[number] {
+            Some(live) => slot < live.cells.len(),
+            None => false,
+        }
+    }
+
+    /// A cell, and 0 where it is not there.
+    pub fn cell_or_zero(&self, frame: FrameId, slot: usize) -> Cell
+        ensures { result ≡ slice_index_or (no_cells (at self.now frame.number)) slot no_int }
+    {
+        if self.has_cell(frame, slot) {
+            self.cell(frame, slot)
+        } else {
+            Cell::Int(0)
         }
     }
 

@@ -1,31 +1,30 @@
 use Rattle.std.proofs.lemmas.Result.{IfOk-weaker}
-use Rattle.ac_compile.proofs.Compiling.{is_one, is_short, is_code, is_same, has_one_end, has_one, is_sequential}
+use Rattle.ac_compile.proofs.Compiling.{is_short, is_few, is_code, is_same, is_alone, is_one_end, if_both}
+use Rattle.ac_compile.proofs.OneCore.{has_one_core}
 use Rattle.ac_compile.proofs.compile.Goals as goal
 
-pub program_code-requires-clause-one : goal.program_code-requires-clause-one
-program_code-requires-clause-one c = is_one c.args.checked.now c.tree.ensures.clean c.tree.ensures.small c.requires c.in_ok-program.program c.in_ok-program.ensures.same
-
 pub program_code-requires-clause-short : goal.program_code-requires-clause-short
-program_code-requires-clause-short c = is_short c.args.checked.now c.tree.ensures.clean c.tree.ensures.small c.requires c.in_ok-program.program c.in_ok-program.ensures.same
+program_code-requires-clause-short c = is_short c.args.checked.now c.in_ok-program.program c.in_ok-program.ensures.same c.tree.ensures.small
+
+pub program_code-requires-clause-few : goal.program_code-requires-clause-few
+program_code-requires-clause-few c = is_few c.args.checked.now c.in_ok-program.program c.in_ok-program.ensures.same c.tree.ensures.small
 
 pub returns-clause-code : goal.returns-clause-code
-returns-clause-code c =
-    IfOk-weaker c.program_code.result _ _ (is_code c.args.checked.now c.tree.ensures.clean c.tree.ensures.small c.requires c.in_ok-program.program c.in_ok-program.ensures.same) c.program_code.ensures
+returns-clause-code c = IfOk-weaker c.program_code.result _ _ (is_code c.args.checked.now c.in_ok-program.program c.in_ok-program.ensures.same) c.program_code.ensures.same
 
 pub returns-clause-same : goal.returns-clause-same
 returns-clause-same c =
-    IfOk-weaker c.program_code.result _ _ (is_same c.args.checked.now c.tree.ensures.clean c.tree.ensures.small c.requires c.in_ok-program.program c.in_ok-program.ensures.same) c.program_code.ensures
+    IfOk-weaker c.program_code.result _ _ (is_same c.args.checked.now c.in_ok-program.program c.in_ok-program.ensures.same c.requires c.in_ok-program.ensures.in_place) c.program_code.ensures.same
+
+pub returns-clause-alone : goal.returns-clause-alone
+returns-clause-alone c = IfOk-weaker c.program_code.result _ _ (is_alone c.args.checked.now c.in_ok-program.program c.in_ok-program.ensures.same c.requires) c.program_code.ensures.same
 
 pub returns-clause-one_end : goal.returns-clause-one_end
 returns-clause-one_end c =
-    IfOk-weaker c.program_code.result _ _ (has_one_end c.args.checked.now c.tree.ensures.clean c.tree.ensures.small c.requires c.in_ok-program.program c.in_ok-program.ensures.same)
-    c.program_code.ensures
+    if_both c.program_code.result (is_one_end c.args.checked.now c.in_ok-program.program c.in_ok-program.ensures.same c.requires c.in_ok-program.ensures.in_place c.tree.ensures.small)
+    c.program_code.ensures.same c.program_code.ensures.ranked
 
 pub returns-clause-one : goal.returns-clause-one
 returns-clause-one c =
-    IfOk-weaker c.program_code.result _ _ (has_one c.args.checked.now c.tree.ensures.clean c.tree.ensures.small c.requires c.in_ok-program.program c.in_ok-program.ensures.same) c.program_code.ensures
-
-pub returns-clause-sequential : goal.returns-clause-sequential
-returns-clause-sequential c =
-    IfOk-weaker c.program_code.result _ _ (is_sequential c.args.checked.now c.tree.ensures.clean c.tree.ensures.small c.requires c.in_ok-program.program c.in_ok-program.ensures.same)
-    c.program_code.ensures
+    IfOk-weaker c.program_code.result _ _ (λ code e. has_one_core c.args.checked.now c.in_ok-program.program code c.in_ok-program.ensures.same c.requires c.in_ok-program.ensures.in_place e)
+    c.program_code.ensures.same

@@ -1,5 +1,7 @@
--- What contracts see of the parts of a code that is made.
+-- What contracts see of the parts of a code that is made, and of the code.
+use Rattle.std.specs.Prelude.{ℕ, List}
 use Rattle.stack_code.specs.Parts.{Parts}
+use Rattle.stack_code.specs.Kept.{IsRanked}
 use Rattle.ac_compile.specs.declared.whole.Whole.{Whole}
 
 abbrev pub parts_of : Whole → Parts
@@ -14,3 +16,8 @@ parts_of w = record {
   ends = w.ends;
   starts = w.starts;
 }
+
+-- some ranks fall along the ways of the code without a `Step`
+pub record HasRanks (code : Parts) : Type 0 where
+  pub ranks : List ℕ
+  pub ranked : IsRanked code ranks

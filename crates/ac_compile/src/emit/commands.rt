@@ -32,7 +32,7 @@ fn emit_command(alloc: Global, emitter: &mut Emitter, command: &Command) -> Resu
                 len: *len,
             },
         ),
-        Command::Run(effect) => emit_run(emitter, effect),
+        Command::Run(value) => emit_run(emitter, value),
         Command::Print { text, args } => emit_print(emitter, *text, args),
         Command::If { test, body, other } => {
             emit_if(alloc, emitter, test, body.as_slice(), other)
@@ -43,7 +43,7 @@ fn emit_command(alloc: Global, emitter: &mut Emitter, command: &Command) -> Resu
         }
         Command::Break => emit_break(emitter),
         Command::Continue => emit_continue(emitter),
-        Command::Return(effect) => emit_return(emitter, effect),
+        Command::Return(value) => emit_return(emitter, value),
         Command::Do { slot, body } => emit_do(alloc, emitter, *slot, body.as_slice()),
         Command::Async { slots, body } => emit_async(alloc, emitter, *slots, body.as_slice()),
         Command::Cancel { level, slot } => emit_stepped(

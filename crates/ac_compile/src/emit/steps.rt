@@ -1,15 +1,14 @@
-//! The code of statements that have no statements in them, and of tests.
+//! The code of statements that have no statements in them, of where ints are put, and of tests.
 
 ghost use Rattle.std.specs.Prelude.{◌≡◌, ◌+◌, ◌<◌, ◌^◌, length, OnOk, IfOk, IfSome};
 ghost use Rattle.ac_translation.specs.Pieces.{one, ◌⨾◌, out_past, out_turn};
-ghost use Rattle.ac_translation.specs.Translation.{value_code, values_code, effect_code, target_code, operand_code};
+ghost use Rattle.ac_translation.specs.Translation.{array_code, value_code, values_code, target_code, operand_code};
 ghost use Rattle.ac_compile.specs.inner.Emission.{with_code, HasRoom, decided, open_test, test_jump, with_test};
 
-use crate::emit::effects::{emit_effect, emit_operand, emit_target};
 use crate::emit::emitter::Emitter;
-use crate::emit::values::{emit_value, emit_values};
+use crate::emit::values::{array_code, emit_value, emit_values};
 use ac_base::{List, NoMemory};
-use ac_commands::{Effect, Target, Value};
+use ac_commands::{Array, Place, Target, Value};
 use stack_code::Instr;
 
 /// A step and one instruction.
@@ -21,24 +20,50 @@ pub fn emit_stepped(emitter: &mut Emitter, instr: Instr) -> Result<(), NoMemory>
     Ok(())
 }
 
+// What puts an int into an element of an array.
+fn emit_element(emitter: &mut Emitter, array: Array, index: &Value) -> Result<(), NoMemory>
+    requires { HasRoom (one (array_code array) ⨾ value_code index.now ⨾ one Instr.SetElem) emitter.old }
+    ensures { OnOk result (emitter.new ≡ with_code (one (array_code array) ⨾ value_code index.now ⨾ one Instr.SetElem) emitter.old) }
+{
+    emitter.put(array_code(array))?;
+    emit_value(emitter, index)?;
+    emitter.put(Instr::SetElem)?;
+    Ok(())
+}
+
+/// What puts an int into a target.
+pub fn emit_target(emitter: &mut Emitter, target: &Target) -> Result<(), NoMemory>
+    requires { HasRoom (target_code target.now) emitter.old }
+    ensures { OnOk result (emitter.new ≡ with_code (target_code target.now) emitter.old) }
+{
+    match target {
+        Target::Variable(Place::Global { slot }) => emitter.put(Instr::StoreG { slot: *slot }),
+        Target::Variable(Place::Local { level, slot }) => emitter.put(Instr::Store {
+            level: *level,
+            slot: *slot,
+        }),
+        Target::Element { array, index } => emit_element(emitter, *array, index),
+    }
+}
+
 /// Puts an int into a target.
-pub fn emit_set(emitter: &mut Emitter, target: &Target, effect: &Effect) -> Result<(), NoMemory>
-    requires { HasRoom (one Instr.Step ⨾ effect_code effect.now ⨾ target_code target.now) emitter.old }
-    ensures { OnOk result (emitter.new ≡ with_code (one Instr.Step ⨾ effect_code effect.now ⨾ target_code target.now) emitter.old) }
+pub fn emit_set(emitter: &mut Emitter, target: &Target, value: &Value) -> Result<(), NoMemory>
+    requires { HasRoom (one Instr.Step ⨾ value_code value.now ⨾ target_code target.now) emitter.old }
+    ensures { OnOk result (emitter.new ≡ with_code (one Instr.Step ⨾ value_code value.now ⨾ target_code target.now) emitter.old) }
 {
     emitter.put(Instr::Step)?;
-    emit_effect(emitter, effect)?;
+    emit_value(emitter, value)?;
     emit_target(emitter, target)?;
     Ok(())
 }
 
 /// A call or an operation whose value is dropped.
-pub fn emit_run(emitter: &mut Emitter, effect: &Effect) -> Result<(), NoMemory>
-    requires { HasRoom (one Instr.Step ⨾ effect_code effect.now ⨾ one Instr.Drop) emitter.old }
-    ensures { OnOk result (emitter.new ≡ with_code (one Instr.Step ⨾ effect_code effect.now ⨾ one Instr.Drop) emitter.old) }
+pub fn emit_run(emitter: &mut Emitter, value: &Value) -> Result<(), NoMemory>
+    requires { HasRoom (one Instr.Step ⨾ value_code value.now ⨾ one Instr.Drop) emitter.old }
+    ensures { OnOk result (emitter.new ≡ with_code (one Instr.Step ⨾ value_code value.now ⨾ one Instr.Drop) emitter.old) }
 {
     emitter.put(Instr::Step)?;
-    emit_effect(emitter, effect)?;
+    emit_value(emitter, value)?;
     emitter.put(Instr::Drop)?;
     Ok(())
 }
@@ -76,13 +101,24 @@ pub fn emit_continue(emitter: &mut Emitter) -> Result<(), NoMemory>
     Ok(())
 }
 
+// What a function gives, which is 0 where nothing is named.
+fn emit_operand(emitter: &mut Emitter, value: &Option<Value>) -> Result<(), NoMemory>
+    requires { HasRoom (operand_code value.now) emitter.old }
+    ensures { OnOk result (emitter.new ≡ with_code (operand_code value.now) emitter.old) }
+{
+    match value {
+        None => emitter.put(Instr::Push(0)),
+        Some(value) => emit_value(emitter, value),
+    }
+}
+
 /// Ends a function with a value.
-pub fn emit_return(emitter: &mut Emitter, effect: &Option<Effect>) -> Result<(), NoMemory>
-    requires { HasRoom (one Instr.Step ⨾ operand_code effect.now ⨾ one Instr.Ret) emitter.old }
-    ensures { OnOk result (emitter.new ≡ with_code (one Instr.Step ⨾ operand_code effect.now ⨾ one Instr.Ret) emitter.old) }
+pub fn emit_return(emitter: &mut Emitter, value: &Option<Value>) -> Result<(), NoMemory>
+    requires { HasRoom (one Instr.Step ⨾ operand_code value.now ⨾ one Instr.Ret) emitter.old }
+    ensures { OnOk result (emitter.new ≡ with_code (one Instr.Step ⨾ operand_code value.now ⨾ one Instr.Ret) emitter.old) }
 {
     emitter.put(Instr::Step)?;
-    emit_operand(emitter, effect)?;
+    emit_operand(emitter, value)?;
     emitter.put(Instr::Ret)?;
     Ok(())
 }

@@ -2,13 +2,13 @@
 
 ghost use Rattle.std.specs.Prelude.{◌≡◌, ◌+◌, ◌<◌, ◌^◌, length, map, pos, OnOk};
 ghost use Rattle.ac_translation.specs.Pieces.{one, ◌⨾◌, over};
-ghost use Rattle.ac_translation.specs.Translation.{unary_code, operator_code, variable_code, array_code, lazily};
+ghost use Rattle.ac_translation.specs.Translation.{unary_code, operator_code, variable_code, array_code, action_code, lazily};
 ghost use Rattle.ac_translation.specs.Translation.{joined_code, chained_code, value_code, link_code, values_code};
 ghost use Rattle.ac_compile.specs.inner.Emission.{with_code, HasRoom};
 
 use crate::emit::emitter::Emitter;
 use ac_base::NoMemory;
-use ac_commands::{Array, Place, Value, ValueLink};
+use ac_commands::{Action, Array, Place, Value, ValueLink};
 use ac_tree::{BinaryOp, UnaryOp};
 use stack_code::Instr;
 
@@ -66,6 +66,19 @@ pub fn array_code(array: Array) -> Instr
     }
 }
 
+// After its operands, of which there are so many.
+fn action_code(action: Action, count: u32) -> Instr
+    ensures { result ≡ action_code action count }
+{
+    match action {
+        Action::Call { function } => Instr::Call { function, count },
+        Action::Send { channel } => Instr::Send { channel },
+        Action::Recv { channel } => Instr::Recv { channel },
+        Action::Read { file } => Instr::Read { file },
+        Action::Write { file } => Instr::Write { file },
+    }
+}
+
 /// The code of a value.
 #[cycle(value)]
 pub fn emit_value(emitter: &mut Emitter, value: &Value) -> Result<(), NoMemory>
@@ -81,10 +94,20 @@ pub fn emit_value(emitter: &mut Emitter, value: &Value) -> Result<(), NoMemory>
             emitter.put(variable_code(*place))?;
             Ok(())
         }
+        Value::Reference(array) => {
+            emitter.put(array_code(*array))?;
+            Ok(())
+        }
         Value::Element { array, index } => {
             emitter.put(array_code(*array))?;
             emit_value(emitter, index.get())?;
             emitter.put(Instr::Elem)?;
+            Ok(())
+        }
+        Value::Part { array, index } => {
+            emitter.put(array_code(*array))?;
+            emit_value(emitter, index.get())?;
+            emitter.put(Instr::Place)?;
             Ok(())
         }
         Value::Unary { op, operand } => {
@@ -97,7 +120,25 @@ pub fn emit_value(emitter: &mut Emitter, value: &Value) -> Result<(), NoMemory>
             emit_links(emitter, rest.as_slice())?;
             Ok(())
         }
+        Value::Act { action, operands } => {
+            let count = operands.len() as u32;
+            emit_values(emitter, operands.as_slice())?;
+            emitter.put(action_code(*action, count))?;
+            Ok(())
+        }
     }
+}
+
+/// The code of values, one after the other.
+#[cycle(value)]
+pub fn emit_values(emitter: &mut Emitter, values: &[Value]) -> Result<(), NoMemory>
+    requires { HasRoom (values_code values.now) emitter.old }
+    ensures { OnOk result (emitter.new ≡ with_code (values_code values.now) emitter.old) }
+{
+    for value in values {
+        emit_value(emitter, value)?;
+    }
+    Ok(())
 }
 
 #[cycle(value)]
@@ -164,16 +205,5 @@ fn emit_right(emitter: &mut Emitter, right: &Value) -> Result<(), NoMemory>
     emitter.put(Instr::Bool)?;
     let to = emitter.len() + 2;
     emitter.put(Instr::Jump { to })?;
-    Ok(())
-}
-
-/// The code of values, one after the other.
-pub fn emit_values(emitter: &mut Emitter, values: &[Value]) -> Result<(), NoMemory>
-    requires { HasRoom (values_code values.now) emitter.old }
-    ensures { OnOk result (emitter.new ≡ with_code (values_code values.now) emitter.old) }
-{
-    for value in values {
-        emit_value(emitter, value)?;
-    }
     Ok(())
 }

@@ -1,5 +1,5 @@
 -- A walk after the parts of a program, and the room that it needs.
-use Rattle.std.specs.Prelude.{ℕ, ◌+◌, ◌<◌, List, [], ◌∷◌, ◌++◌, length, Option}
+use Rattle.std.specs.Prelude.{ℕ, ◌+◌, ◌<◌, List, ◌++◌, length, Option}
 use Rattle.ac_tree.specs.declared.item.Function.{Function}
 use Rattle.ac_tree.specs.declared.item.Item.{Item}
 use Rattle.ac_names.specs.Statements.{part_words, opened, moved, listed, names_after, sum_words, some_words, some_listed}

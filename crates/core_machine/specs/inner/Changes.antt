@@ -1,5 +1,7 @@
 -- What an instruction changes of a running core.
-use Rattle.std.specs.Prelude.{◌≡◌, Some}
+use Rattle.std.specs.Prelude.{◌≡◌, Option, Some, None}
+use Rattle.work_item.specs.declared.ids.Item.{Item}
+use Rattle.core_scheduler.specs.Schedule.{Schedule, at_front}
 use Rattle.stack_code.specs.declared.instr.Instr.{Instr}
 use Rattle.stack_code.specs.Machine.{begin, first_item}
 use Rattle.core_machine.specs.declared.running.Running.{Running}
@@ -12,9 +14,20 @@ pub record Keeps (before after : Running) : Type 0 where
   pub bound : after.bound ≡ before.bound
   pub journal : after.journal.entries ≡ before.journal.entries
 
--- the core has done this instruction
+-- the thread that runs
+abbrev pub item_of : Option Item → Item
+item_of None = first_item
+item_of (Some t) = t
+
+-- the running thread has done this instruction
 abbrev pub Does : Running → Instr → Running → Type 0
-Does before instr after = state_of after ≡ begin before.code.now before.bound (flat_of before) first_item (Some instr)
+Does before instr after =
+    state_of after ≡ begin before.code.now before.bound (flat_of before) (item_of before.schedule.running) (Some instr)
+
+-- the owner that is woken, if one is, goes to the front of the ready list
+abbrev pub with_woken : Schedule → Option Item → Schedule
+with_woken s None = s
+with_woken s (Some t) = at_front s t
 
 -- nothing has changed that the code's meaning sees
 pub record Stays (before after : Running) : Type 0 where

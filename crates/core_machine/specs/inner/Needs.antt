@@ -1,12 +1,18 @@
 -- What an instruction needs, which a core that is fit finds.
-use Rattle.std.specs.Prelude.{◌≡◌, ℕ, ◌+◌, ◌≤◌, ◌<◌, ◌^◌, [], ◌∷◌, length, true}
-use Rattle.work_item.specs.Store.{Store, above, cells_of}
-use Rattle.work_item.specs.Conditions.{Lives, HasLevel, HasSlot, HasGlobal, LiesIn}
+use Rattle.std.specs.Prelude.{◌≡◌, ◌≢◌, ℕ, ◌+◌, ◌≤◌, ◌<◌, ◌^◌, List, [], ◌∷◌, length, take, reverse, Option, Some, IfSome, IsSome}
+use Rattle.std.specs.Prelude.{true, slice_get}
+use Rattle.work_item.specs.declared.ids.Item.{Item}
+use Rattle.work_item.specs.declared.ids.BlockId.{BlockId}
+use Rattle.work_item.specs.declared.cell.Cell.{Cell}
+use Rattle.work_item.specs.Store.{above, cells_of}
+use Rattle.work_item.specs.Conditions.{Lives, HasLevel, HasSlot, HasGlobal, IsGoing}
+use Rattle.core_state.specs.Frames.{arguments}
 use Rattle.stack_code.specs.declared.instr.Instr.{Instr}
 use Rattle.stack_code.specs.declared.instr.Instr.TheVariants as i
+use Rattle.stack_code.specs.declared.parts.Entered.{Entered}
 use Rattle.stack_code.specs.Parts.{Parts}
-use Rattle.stack_code.specs.Machine.{Flat}
-use Rattle.core_machine.specs.Kinds.{is_int}
+use Rattle.stack_code.specs.Machine.{Flat, Block, block_at}
+use Rattle.stack_code.specs.Fit.{is_int}
 use Rattle.core_machine.specs.inner.Operands.{is_reference, on_top, Stand, second_place}
 
 -- its operands, two or one on top, are ints
@@ -20,11 +26,65 @@ HasInts m = Stand (is_int ∷ is_int ∷ []) m.current.operands
 abbrev pub HasCell : Flat → ℕ → ℕ → Type 0
 HasCell m level slot = HasLevel m.store m.current.frame level × HasSlot m.store (above m.store m.current.frame level) slot
 
--- an array below the index on top, which lies in its frame or in the globals
+-- an array below the index on top, whose slots have numbers of 32 bits
 abbrev pub HasArray : Flat → Type 0
 HasArray m =
-    Stand (is_int ∷ is_reference ∷ []) m.current.operands × LiesIn m.store (second_place m.current.operands)
+    Stand (is_int ∷ is_reference ∷ []) m.current.operands
     × ((second_place m.current.operands).start + (second_place m.current.operands).len < 2 ^ 32)
+
+-- a function, its arguments on top, each of the kind of its parameter, and a slot for each
+pub record HasCall (code : Parts) (operands : List Cell) (number count : ℕ) : Type 0 where
+  pub function : Entered
+  pub is : slice_get code.functions number ≡ Some function
+  pub enough : count ≤ length operands
+  pub room : count ≤ function.words
+  pub same : arguments function.params (reverse (take count operands)) ≡ reverse (take count operands)
+
+-- the innermost block lives
+pub record HasBlock (m : Flat) : Type 0 where
+  pub number : BlockId
+  pub is : m.current.block ≡ Some number
+  pub block : Block
+  pub there : block_at m.blocks number ≡ Some block
+
+-- no block lies directly in it
+abbrev pub IsChildless : List (Option Block) → BlockId → Type 0
+IsChildless blocks b = (c : BlockId) (x : Block) → block_at blocks c ≡ Some x → x.parent ≢ Some b
+
+-- the thread that runs has its place in the table
+abbrev pub IsListed : Flat → Type 0
+IsListed m = IfSome m.running (λ (t : Item). t.number < length m.threads)
+
+-- a thread is ready, and the first of those has its place
+pub record HasNext (m : Flat) : Type 0 where
+  pub next : Item
+  pub later : List Item
+  pub is : m.ready ≡ next ∷ later
+  pub listed : next.number < length m.threads
+
+-- a block into which the thread can go
+pub record CanEnter (m : Flat) (slot : ℕ) : Type 0 where
+  pub frame : Lives m.store m.current.frame
+  pub has : HasSlot m.store m.current.frame slot
+  pub round : IfSome m.current.block (λ b. IsSome (block_at m.blocks b))
+
+pub record CanFinish (m : Flat) : Type 0 where
+  pub has : HasBlock m
+  pub childless : has.block.count ≡ 0 → IsChildless m.blocks has.number
+  pub listed : IsListed m
+
+pub record CanStart (m : Flat) : Type 0 where
+  pub has : HasBlock m
+  pub few : has.block.count ≤ length m.threads
+  pub frame : Lives m.store m.current.frame
+  pub listed : IsListed m
+
+pub record CanEnd (m : Flat) : Type 0 where
+  pub has : HasBlock m
+  pub some : 0 < has.block.count
+  pub childless : has.block.count ≡ 1 → has.block.waits ≡ true → IsChildless m.blocks has.number
+  pub frame : IsGoing m.store m.current.frame
+  pub listed : IsListed m
 
 abbrev pub Finds : Parts → Flat → Instr → Type 0
 Finds code m i.Step = Unit {0}
@@ -64,5 +124,11 @@ Finds code m (i.Jump to) = Unit {0}
 Finds code m (i.Jz to) = HasInt m
 Finds code m (i.Jnz to) = HasInt m
 Finds code m (i.Print text count) = (text < length code.texts) × (count ≤ length m.current.operands)
-Finds code m i.Ret = 1 ≤ length m.current.operands
+Finds code m (i.Call function count) = HasCall code m.current.operands function count
+Finds code m i.Ret = HasInt m × IsGoing m.store m.current.frame
+Finds code m (i.Enter slot) = CanEnter m slot
+Finds code m (i.Finish slot) = CanFinish m
+Finds code m (i.Async slots to) = CanStart m
+Finds code m i.End = CanEnd m
+Finds code m i.Yield = IsListed m
 Finds code m _ = ⊥

@@ -6,4 +6,4 @@ use Rattle.ac_compile.proofs.whole.program_code.Goals as goal
 
 pub unreachable-requires : goal.unreachable-requires
 unreachable-requires c = never_none _ c.in_ok-made.made _ c.in-None.is c.in_ok-made.ensures.none
-    (subst IsValid (sym c.in_ok-whole.ensures) (code_valid c.args.program.now c.requires.one c.requires.short))
+    (subst IsValid (sym c.in_ok-whole.ensures) (code_valid c.args.program.now c.requires.in_place c.requires.short c.requires.few))

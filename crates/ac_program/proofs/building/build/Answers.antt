@@ -34,5 +34,5 @@ returns c =
       is_code = c.in_ok-compile.ensures.code;
       is_same = c.in_ok-compile.ensures.same;
       one_core = c.in_ok-compile.ensures.one;
-      sequential = c.in_ok-compile.ensures.sequential;
+      alone = c.in_ok-compile.ensures.alone;
     }

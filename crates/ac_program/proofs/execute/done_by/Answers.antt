@@ -7,8 +7,8 @@ use Rattle.ac_program.proofs.execute.done_by.Goals as goal
 pub run-requires-clause-one : goal.run-requires-clause-one
 run-requires-clause-one c = let built = c.requires in built.one_core
 
-pub run-requires-clause-sequential : goal.run-requires-clause-sequential
-run-requires-clause-sequential c = let built = c.requires in built.sequential
+pub run-requires-clause-alone : goal.run-requires-clause-alone
+run-requires-clause-alone c = let built = c.requires in built.alone
 
 pub report-requires : goal.report-requires
 report-requires c =

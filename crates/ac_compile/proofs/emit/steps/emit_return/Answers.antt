@@ -13,6 +13,6 @@ emit_operand-requires c =
 
 pub returns : goal.returns
 returns c =
-    let x = c.args.effect.now in
+    let x = c.args.value.now in
     three_are (one i.Step) (operand_code x) (one i.Ret) (one_sized i.Step)
     (operand_sized x) c.args.emitter.now c.put.new.self c.emit_operand.new.emitter c.put-2.new.self c.in_ok-put.ensures c.in_ok-emit_operand.ensures c.in_ok-put-2.ensures

@@ -1,0 +1,123 @@
+#!/usr/bin/env python3
+"""Times calls and threads of `ac run`.
+
+    python3 bench/threads.py
+
+The program must have been built (the README's first command). Each time is the least of several
+runs, less that of an empty program in the same language. These ratios are printed, each with its goal:
+
+- Fibonacci's number of 26 by recursion, against the same functions in CPython;
+- 200,000 times a `do` with one thread in it, against 100,000 times;
+- 20,000 threads alive at once, each of which yields ten times, against 10,000.
+"""
+import pathlib
+import subprocess
+import sys
+import tempfile
+import time
+
+PROGRAM = pathlib.Path(__file__).resolve().parent.parent / "crates" / "ac" / "out" / "ac"
+STEPS = 2_000_000
+DEPTH = 26
+EMPTY = "core a(f);\nasync void f() { }\n"
+RECURSION = r"""core a(f);
+int fibonacci(int n) {
+    if (n < 2) return n;
+    int a = fibonacci(n - 1);
+    int b = fibonacci(n - 2);
+    return a + b;
+}
+async void f() {
+    int r = fibonacci(%d);
+    printf("%%d\n", r);
+}
+"""
+PYTHON_EMPTY = "def f():\n    pass\nf()\n"
+PYTHON_RECURSION = """def fibonacci(n):
+    if n < 2:
+        return n
+    a = fibonacci(n - 1)
+    b = fibonacci(n - 2)
+    return a + b
+print(fibonacci(%d))
+"""
+BLOCKS = """core a(f);
+async void f() {
+    for (int i = 0; i < %d; i = i + 1) do { async ; } finish;
+}
+"""
+YIELDS = """core a(f);
+async void f() {
+    do {
+        for (int i = 0; i < %d; i = i + 1)
+            async { yield; yield; yield; yield; yield; yield; yield; yield; yield; yield; }
+    } finish;
+}
+"""
+
+
+def best(words, wanted, runs):
+    """The least time of these words, each run of which has to begin with what is wanted."""
+    times = []
+    for _ in range(runs):
+        begin = time.perf_counter()
+        done = subprocess.run(words, capture_output=True)
+        times.append(time.perf_counter() - begin)
+        if done.returncode != 0 or not done.stdout.decode().startswith(wanted):
+            sys.exit(f"{words} ended with {done.returncode} and printed {done.stdout[:200]!r}")
+    return min(times)
+
+
+def fibonacci(n):
+    a, b = 0, 1
+    for _ in range(n):
+        a, b = b, a + b
+    return a
+
+
+def report(steps, instructions):
+    return f"a: finished after {steps} steps, {instructions} instructions\n"
+
+
+def recursion():
+    """Steps and instructions of the recursion: calls of less than 2 take an `if` and a `return`, the others two more statements."""
+    inner = fibonacci(DEPTH + 1) - 1
+    leaves = inner + 1
+    return report(2 + 4 * inner + 2 * leaves, 9 + inner * (5 + 6 + 6 + 5) + leaves * (5 + 3))
+
+
+def blocks(count):
+    return report(2 + 6 * count, 10 + 19 * count)
+
+
+def yields(count):
+    return report(4 + 13 * count, 14 + count * (5 + 2 + 20 + 1 + 5 + 1))
+
+
+def main():
+    with tempfile.TemporaryDirectory() as folder:
+        def timed(ending, text, words, tail, wanted):
+            file = pathlib.Path(folder) / f"x.{ending}"
+            file.write_text(text)
+            return best([*words, str(file), *tail], wanted, 7)
+
+        def ac(text, wanted):
+            return timed("ac", text, [str(PROGRAM), "run"], ["--steps", str(STEPS)], wanted)
+
+        def python(text, wanted):
+            return timed("py", text, [sys.executable, "-S", "-E"], [], wanted)
+
+        start, python_start = ac(EMPTY, report(0, 2)), python(PYTHON_EMPTY, "")
+        seen = ac(RECURSION % DEPTH, recursion()) - start
+        other = python(PYTHON_RECURSION % DEPTH, f"{fibonacci(DEPTH)}\n") - python_start
+        half, whole = (ac(BLOCKS % n, blocks(n)) - start for n in (100_000, 200_000))
+        few, many = (ac(YIELDS % n, yields(n)) - start for n in (10_000, 20_000))
+    print(f"Fibonacci's number of {DEPTH}: {seen * 1000:.1f} ms, CPython's {other * 1000:.1f} ms")
+    print(f"ratio: {seen / other:.2f} (goal: at most 1.0)")
+    print(f"100,000 blocks with a thread: {half * 1000:.1f} ms, 200,000: {whole * 1000:.1f} ms")
+    print(f"ratio: {whole / half:.2f} (goal: at most 2.2)")
+    print(f"10,000 threads that yield ten times: {few * 1000:.1f} ms, 20,000: {many * 1000:.1f} ms")
+    print(f"ratio: {many / few:.2f} (goal: at most 2.2)")
+
+
+main()

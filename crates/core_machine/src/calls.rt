@@ -1,0 +1,84 @@
+//! Calls and returns.
+
+ghost use Rattle.std.specs.Prelude.{◌≡◌, ◌≤◌, length, IfOk};
+ghost use Rattle.core_state.specs.Frames.{first_cells};
+
+use crate::beginning::has_room;
+use crate::pause::Pause;
+use crate::running::Running;
+use ac_base::{NoMemory, Trap};
+use std::alloc::Global;
+use work_item::Cell;
+
+// The cells of a frame of so many slots that begins with these arguments.
+fn cells_of_call(alloc: Global, args: &[Cell], words: u32) -> Result<Vec<Cell>, NoMemory>
+    requires { length args.now ≤ words }
+    ensures { IfOk result (λ cells. cells.items ≡ first_cells args.now words) }
+{
+    let mut cells = Vec::with_capacity(alloc, words as usize)?;
+    cells.extend_from_slice(args)?;
+    cells.resize(words as usize, Cell::Int(0))?;
+    Ok(cells)
+}
+
+impl Running<'_> {
+    ghost use Rattle.std.specs.Prelude.{◌≡◌, true, None, ◌<◌, ◌^◌, OnOk, OnErr};
+    ghost use Rattle.work_item.specs.Conditions.{IsGoing};
+    ghost use Rattle.stack_code.specs.declared.instr.Instr.{Instr};
+    ghost use Rattle.stack_code.specs.Fit.{is_int};
+    ghost use Rattle.core_machine.specs.inner.Operands.{on_top};
+    ghost use Rattle.core_machine.specs.inner.Needs.{HasCall};
+    ghost use Rattle.core_machine.specs.inner.Changes.{Keeps, Does, Stays};
+
+    /// Calls a function with so many arguments.
+    pub fn call(&mut self, function: u32, count: u32) -> Result<(), NoMemory>
+        requires running { self.old.ended ≡ None }
+        requires inside { self.old.place < 2 ^ 32 }
+        requires has { HasCall self.old.code.now self.old.operands function count }
+        ensures ok { OnOk result (Does self.old (Instr.Call function count) self.new) }
+        ensures err { OnErr result (Stays self.old self.new) }
+        ensures keeps { Keeps self.old self.new }
+    {
+        let entered = &self.code.functions()[function as usize];
+        if !has_room(&self.frames, entered.words) {
+            self.end(Pause::Trapped(Trap::StackFull));
+            return Ok(());
+        }
+        let cells = cells_of_call(self.alloc, self.operands.top(count), entered.words)?;
+        self.callers
+            .push(self.place + 1, self.frame, self.operands.below(count))?;
+        match self.frames.make_of(None, cells) {
+            Ok(frame) => {
+                self.operands.clear();
+                self.frame = frame;
+                self.go_to(entered.at as usize);
+                Ok(())
+            }
+            Err(error) => {
+                self.callers.forget();
+                Err(error)
+            }
+        }
+    }
+
+    /// Gives the value of an activation to its caller; without one the core has finished.
+    pub fn ret(&mut self) -> Result<(), NoMemory>
+        requires running { self.old.ended ≡ None }
+        requires int { on_top is_int self.old.operands ≡ true }
+        requires frame { IsGoing self.old.frames self.old.frame }
+        ensures ok { OnOk result (Does self.old Instr.Ret self.new) }
+        ensures err { OnErr result (Stays self.old self.new) }
+        ensures keeps { Keeps self.old self.new }
+    {
+        let value = self.operands.top_int();
+        match self.callers.pop(Cell::Int(value), &mut self.operands)? {
+            None => self.end(Pause::Finished),
+            Some(caller) => {
+                self.frames.give_back(self.frame);
+                self.frame = caller.frame;
+                self.go_to(caller.place);
+            }
+        }
+        Ok(())
+    }
+}

@@ -1,0 +1,267 @@
+//! Threads and blocks.
+
+use crate::beginning::has_room;
+use crate::parked::Parked;
+use crate::pause::Pause;
+use crate::running::Running;
+use ac_base::{NoMemory, Trap};
+use finish_block::Arrival;
+use std::mem;
+use work_item::{BlockId, Cell, Item};
+
+impl Running<'_> {
+    ghost use Rattle.std.specs.Prelude.{◌≡◌, ◌+◌, ◌-◌, ◌^◌, min, slice_set, ◌<◌, length, Some, IsSome};
+    ghost use Rattle.core_scheduler.specs.Schedule.{suspended};
+    ghost use Rattle.finish_block.specs.Table.{woken, ended};
+    ghost use Rattle.finish_block.specs.Conditions.{HasThread, ChildlessAtEnd};
+    ghost use Rattle.stack_code.specs.Machine.{nobody};
+    ghost use Rattle.core_machine.specs.State.{flat_of, thread_of};
+    ghost use Rattle.core_machine.specs.inner.Changes.{Keeps, with_woken};
+
+    // One instruction more.
+    fn count_one(&mut self)
+        ensures { self.new ≡ record self.old { count = min (self.old.count + 1) (2 ^ 64 - 1) } }
+    {
+        self.count = self.count.saturating_add(1);
+    }
+
+    // Another thread stands where the running one did, which is given.
+    fn stand(&mut self, next: Parked) -> Parked
+        ensures stood { result ≡ thread_of self.old }
+        ensures stands { self.new ≡ record self.old {
+          place = next.place;
+          frame = next.frame;
+          operands = next.operands;
+          callers = next.callers;
+          block = next.block;
+        } }
+    {
+        let Parked {
+            place,
+            frame,
+            operands,
+            callers,
+            block,
+        } = next;
+        Parked {
+            place: mem::replace(&mut self.place, place),
+            frame: mem::replace(&mut self.frame, frame),
+            operands: mem::replace(&mut self.operands, operands),
+            callers: mem::replace(&mut self.callers, callers),
+            block: mem::replace(&mut self.block, block),
+        }
+    }
+
+    // Keeps the running thread in the table, to go on at that address, and lets another one stand
+    // in its place.
+    fn park(&mut self, item: Item, place: usize, next: Parked)
+        requires { item.number < length self.old.threads.items }
+        ensures flat { flat_of self.new ≡ record (flat_of self.old) {
+          current = next;
+          threads = slice_set self.old.threads.items item.number (record (thread_of self.old) { place = place });
+        } }
+        ensures ended { self.new.ended ≡ self.old.ended }
+        ensures keeps { Keeps self.old self.new }
+    {
+        self.place = place;
+        let kept = self.stand(next);
+        self.threads[item.number as usize] = kept;
+    }
+
+    // No thread stands in the place of the running one, nor in the table.
+    fn bury(&mut self, item: Item)
+        requires { item.number < length self.old.threads.items }
+        ensures flat { flat_of self.new ≡ record (flat_of self.old) {
+          current = nobody;
+          threads = slice_set self.old.threads.items item.number nobody;
+        } }
+        ensures ended { self.new.ended ≡ self.old.ended }
+        ensures keeps { Keeps self.old self.new }
+    {
+        let _ = self.stand(Parked::nobody(self.alloc));
+        self.threads[item.number as usize] = Parked::nobody(self.alloc);
+    }
+
+    // The running thread leaves a block for good, and wakes the owner where it is to.
+    fn leave(&mut self, block: BlockId)
+        requires runs { IsSome self.old.schedule.running }
+        requires spare { 0 < self.old.schedule.spare }
+        requires thread { HasThread self.old.blocks.blocks block }
+        requires childless { ChildlessAtEnd self.old.blocks.blocks block }
+        ensures { self.new ≡ record self.old {
+          schedule = with_woken (suspended self.old.schedule) (woken self.old.blocks.blocks block);
+          blocks = ended self.old.blocks block;
+        } }
+    {
+        self.schedule.suspend();
+        if let Some(owner) = self.blocks.end(block) {
+            self.schedule.wake_owner(owner);
+        }
+    }
+
+    // The running thread.
+    fn item(&self) -> Item
+        requires { IsSome self.now.schedule.running }
+        ensures { self.now.schedule.running ≡ Some result }
+    {
+        match self.schedule.running() {
+            Some(item) => item,
+            None => unreachable!(),
+        }
+    }
+
+    // The innermost block.
+    fn innermost(&self) -> BlockId
+        requires { IsSome self.now.block }
+        ensures { self.now.block ≡ Some result }
+    {
+        match self.block {
+            Some(block) => block,
+            None => unreachable!(),
+        }
+    }
+}
+
+impl Running<'_> {
+    ghost use Rattle.std.specs.Prelude.{◌≡◌, None, ◌<◌, ◌^◌, IsSome, OnOk, OnErr};
+    ghost use Rattle.stack_code.specs.declared.instr.Instr.{Instr};
+    ghost use Rattle.stack_code.specs.Machine.{exec};
+    ghost use Rattle.core_machine.specs.State.{flat_of, state_of};
+    ghost use Rattle.core_machine.specs.inner.Needs.{IsListed, CanEnter, CanFinish, CanStart, CanEnd, HasNext};
+    ghost use Rattle.core_machine.specs.inner.Changes.{Keeps, Does, Stays};
+
+    /// Enters a block, and keeps it in a slot.
+    pub fn enter(&mut self, slot: u32) -> Result<(), NoMemory>
+        requires running { self.old.ended ≡ None }
+        requires inside { self.old.place < 2 ^ 32 }
+        requires runs { IsSome self.old.schedule.running }
+        requires can { CanEnter (flat_of self.old) slot }
+        ensures ok { OnOk result (Does self.old (Instr.Enter slot) self.new) }
+        ensures err { OnErr result (Stays self.old self.new) }
+        ensures keeps { Keeps self.old self.new }
+    {
+        let owner = self.item();
+        self.blocks.reserve(1)?;
+        let block = self.blocks.enter(self.block, owner);
+        self.frames.write(self.frame, 0, slot, Cell::Block(block));
+        self.block = Some(block);
+        self.go_on();
+        Ok(())
+    }
+
+    /// Arrives at the finish of the innermost block: passes where no thread of it lives, and else
+    /// waits.
+    pub fn finish(&mut self, slot: u32)
+        requires running { self.old.ended ≡ None }
+        requires inside { self.old.place < 2 ^ 32 }
+        requires runs { IsSome self.old.schedule.running }
+        requires can { CanFinish (flat_of self.old) }
+        ensures does { Does self.old (Instr.Finish slot) self.new }
+        ensures keeps { Keeps self.old self.new }
+    {
+        let item = self.item();
+        let block = self.innermost();
+        self.block = self.blocks.parent(block);
+        match self.blocks.at_finish(block) {
+            Arrival::Passes => self.go_on(),
+            Arrival::Waits => {
+                self.schedule.suspend();
+                self.count_one();
+                self.park(item, self.place + 1, Parked::nobody(self.alloc));
+            }
+        }
+    }
+
+    /// Starts a thread, which runs from the next address on in a frame of so many slots; the running
+    /// one goes to the front of the ready list and on at that address.
+    pub fn start(&mut self, slots: u32, to: u32) -> Result<(), NoMemory>
+        requires running { self.old.ended ≡ None }
+        requires inside { self.old.place < 2 ^ 32 }
+        requires runs { IsSome self.old.schedule.running }
+        requires can { CanStart (flat_of self.old) }
+        ensures ok { OnOk result (Does self.old (Instr.Async slots to) self.new) }
+        ensures err { OnErr result (Stays self.old self.new) }
+        ensures keeps { Keeps self.old self.new }
+    {
+        if !has_room(&self.frames, slots) {
+            self.end(Pause::Trapped(Trap::StackFull));
+            return Ok(());
+        }
+        let item = self.item();
+        let block = self.innermost();
+        self.schedule.reserve(1)?;
+        self.threads.reserve(1)?;
+        let frame = self.frames.make(Some(self.frame), slots)?;
+        let born = Item {
+            number: self.threads.len() as u64,
+        };
+        self.threads.push_reserved(Parked::nobody(self.alloc));
+        self.blocks.begin(block);
+        self.schedule.yield_to(born);
+        self.count_one();
+        let next = Parked::new(self.alloc, self.place + 1, frame, self.block);
+        self.park(item, to as usize, next);
+        Ok(())
+    }
+
+    /// Ends the running thread, and gives its frame back; where it was the last of its block and the
+    /// owner waits at the finish, the owner goes to the front of the ready list.
+    pub fn end_thread(&mut self) -> Result<(), NoMemory>
+        requires running { self.old.ended ≡ None }
+        requires runs { IsSome self.old.schedule.running }
+        requires can { CanEnd (flat_of self.old) }
+        ensures ok { OnOk result (Does self.old Instr.End self.new) }
+        ensures err { OnErr result (Stays self.old self.new) }
+        ensures keeps { Keeps self.old self.new }
+    {
+        let item = self.item();
+        let block = self.innermost();
+        self.schedule.reserve(1)?;
+        self.frames.give_back(self.frame);
+        self.leave(block);
+        self.count_one();
+        self.bury(item);
+        Ok(())
+    }
+
+    /// The running thread goes to the back of the ready list.
+    pub fn yield_now(&mut self) -> Result<(), NoMemory>
+        requires running { self.old.ended ≡ None }
+        requires inside { self.old.place < 2 ^ 32 }
+        requires runs { IsSome self.old.schedule.running }
+        requires listed { IsListed (flat_of self.old) }
+        ensures ok { OnOk result (Does self.old Instr.Yield self.new) }
+        ensures err { OnErr result (Stays self.old self.new) }
+        ensures keeps { Keeps self.old self.new }
+    {
+        let item = self.item();
+        self.schedule.reserve(1)?;
+        self.schedule.yield_now();
+        self.count_one();
+        self.park(item, self.place + 1, Parked::nobody(self.alloc));
+        Ok(())
+    }
+
+    /// No thread runs: the one at the front of the ready list does.
+    pub fn dispatch(&mut self)
+        requires running { self.old.ended ≡ None }
+        requires idle { self.old.schedule.running ≡ None }
+        requires next { HasNext (flat_of self.old) }
+        ensures does { state_of self.new ≡ exec self.old.code.now self.old.bound (flat_of self.old) }
+        ensures keeps { Keeps self.old self.new }
+    {
+        let Some(item) = self.schedule.next() else {
+            unreachable!()
+        };
+        if self.turn == u64::MAX {
+            self.ended = Some(Pause::OutOfSteps);
+            return;
+        }
+        self.turn += 1;
+        let next = mem::replace(
+            &mut self.threads[item.number as usize],
+            Parked::nobody(self.alloc),
+        );
+        let _ = self.stand(next);
+    }
+}
