@@ -3,6 +3,7 @@
 - no line is longer than 140 characters in src and specs, 200 in proofs;
 - no clause of a public call reaches a definition of specs/inner, however far its words lead;
 - each definition of specs and each lemma of proofs has a use, or is a law that docs/ name;
+- each definition that a public clause reaches stands in a worked example, in a file of proofs whose name ends in Examples;
 - no two files of a crate begin with the same sentence.
 
 Run from anywhere: python3 .ci/layout.py. It prints what it finds, and ends with status 1 where it finds anything.
@@ -221,6 +222,20 @@ def inner_reached(every, found):
             yield f"{every[place].path.relative_to(ROOT)}: {name} is reached by a public clause: {way}"
 
 
+def without_example(every, found):
+    """Definitions that are reached and that no worked example names, by themselves or by a case or a field."""
+    used = set()
+    for module in every.values():
+        if module.path.name.endswith("Examples.antt"):
+            for lines in module.blocks.values():
+                used |= words("\n".join(lines))
+    for (place, name), way in sorted(found.items()):
+        module = every[place]
+        names = [name] + [c for c, owner in module.constructors().items() if owner == name]
+        if "specs" in module.path.parts and not any(n in used for n in names):
+            yield f"{module.path.relative_to(ROOT)}: {name} has no worked example"
+
+
 def without_use(every):
     """A definition has a use where its name, or that of a case or a field of it, stands anywhere but at the head of its own lines."""
     used = set()
@@ -237,7 +252,7 @@ def without_use(every):
             own = head and (head.group(1) or told.get(head.group(2)) == len(line) - len(line.lstrip(" ")))
             used |= words(line.strip()[head.end():] if own else line)
     for module in every.values():
-        if module.path.name in ("Answers.antt", "Invariants.antt", "Lib.antt", "Examples.antt") or "formers" in module.path.parts:
+        if module.path.name.endswith(("Answers.antt", "Invariants.antt", "Lib.antt", "Examples.antt")) or "formers" in module.path.parts:
             continue
         inside = module.constructors()
         for name in module.blocks:
@@ -267,7 +282,8 @@ def main():
                 rest = [n for n in module.blocks if (module.name, n) not in found]
                 print(f"{module.path.relative_to(ROOT)}: public {len(told)}; inner {len(rest)}: {' '.join(rest)}")
         return 0
-    faults = list(too_wide()) + list(inner_reached(every, found)) + list(without_use(every)) + list(same_heads())
+    faults = list(too_wide()) + list(inner_reached(every, found)) + list(without_example(every, found))
+    faults += list(without_use(every)) + list(same_heads())
     for fault in faults:
         print(fault)
     print(f"layout: {len(found)} definitions are reached by public clauses, {len(faults)} faults")

@@ -1,5 +1,5 @@
 #!/usr/bin/env python3
-"""Checks what CONTRIBUTING.md, README.md, CHANGELOG.md and the pages of docs/ name:
+"""Checks what CONTRIBUTING.md, README.md, CHANGELOG.md and the pages of docs/ and examples/ name:
 
 - each link leads to a file or folder of the repository, and its part after `#` to a heading there;
 - of a link whose words are a name in backticks, the file has a definition of that name;
@@ -13,8 +13,9 @@ import re
 import sys
 
 ROOT = pathlib.Path(__file__).resolve().parent.parent
-PAGES = [ROOT / "README.md", ROOT / "CONTRIBUTING.md", ROOT / "CHANGELOG.md", *sorted((ROOT / "docs").glob("*.md"))]
-TOP = re.compile(r"^(crates|tests|docs|bench|examples|\.ci)/[\w./*+-]+$")
+PAGES = [ROOT / name for name in ("README.md", "CONTRIBUTING.md", "CHANGELOG.md")]
+PAGES += sorted((ROOT / "docs").glob("*.md")) + sorted((ROOT / "examples").glob("*.md"))
+TOP = re.compile(r"^(crates|tests|tools|docs|editors|bench|examples|\.ci)/[\w./*+-]+$")
 LINK = re.compile(r"\[([^\]]*)\]\(([^)\s]+)\)")
 
 

@@ -1,5 +1,5 @@
 #!/usr/bin/env python3
-"""Runs the tests of this folder, and the examples and forms of docs/LANGUAGE.md, with a built `ac`.
+"""Runs the tests of this folder, the commands that the pages show, and the examples and forms of docs/LANGUAGE.md, with a built `ac`.
 
     python3 tests/run.py crates/ac/out/ac [WORD ..]
     python3 tests/run.py --cases FOLDER [WORD ..]
@@ -15,7 +15,12 @@ import sys
 import tempfile
 
 HERE = pathlib.Path(__file__).resolve().parent
-PAGE = HERE.parent / "docs" / "LANGUAGE.md"
+ROOT = HERE.parent
+PAGE = ROOT / "docs" / "LANGUAGE.md"
+GUIDE = ROOT / "docs" / "GUIDE.md"
+PAGES = [ROOT / "README.md", GUIDE, PAGE]
+# The commands that `ac` has today. Those of others that the pages show are passed over.
+BUILT = ("run", "check", "code")
 PIECE = re.compile(r'(?:(\d+) \* )?"((?:[^"\\]|\\.)*)"')
 ESCAPE = re.compile(r"\\(x[0-9a-f]{2}|.)")
 PLAIN = {"n": "\n", "t": "\t", "r": "\r", "\\": "\\", '"': '"'}
@@ -69,26 +74,74 @@ def read(path):
 
 
 def status_of(answer):
-    """The status that goes with an answer of the page."""
+    """The status that goes with an answer of a page."""
     if answer.startswith(b"rule "):
         return 3
     ends = re.findall(rb"^\w+: ([a-z-]+) after \d+ steps, \d+ instructions$", answer, re.M)
     kinds = {6: b"out-of-steps", 5: b"stalled", 0: b"finished"}
     if any(end not in kinds.values() for end in ends):
         return 4
-    return next(status for status, word in kinds.items() if word in ends)
+    return next((status for status, word in kinds.items() if word in ends), 0)
+
+
+class Front(bytes):
+    """The first lines of an output of which no more is shown."""
+
+
+def blocks(page):
+    """The fenced blocks of a page, each with the word after its fence."""
+    return re.findall(r"^```(\w*)\n(.*?)^```$", page.read_text(), re.M | re.S)
+
+
+def calls(block):
+    """Each `$ ac ..` of a block with the output below it, and the status where a `$ echo $?` shows it."""
+    found = re.findall(r"^\$ (.*)\n((?:(?!\$ ).*\n)*)", block, re.M)
+    for (command, output), (after, status) in zip(found, [*found[1:], ("", "")]):
+        if command.startswith("ac "):
+            yield command, output.encode(), int(status) if after == "echo $?" else status_of(output.encode())
+
+
+def command_tests():
+    """Each command of the pages that is built, with the file that it names."""
+    for page in PAGES:
+        for command, output, status in [call for _, block in blocks(page) for call in calls(block)]:
+            line, _, lines = command.partition(" | head -n ")
+            words = shlex.split(line)[1:]
+            if not words or words[0] not in BUILT:
+                continue
+            if lines and output.count(b"\n") != int(lines):
+                raise ValueError(f"{page.name}: {command} shows other than {lines} lines")
+            name = next((word for word in words if (ROOT / word).is_file()), None)
+            source = (ROOT / name).read_bytes() if name else None
+            words = ["x.ac" if word == name else word for word in words]
+            yield f"{page.relative_to(ROOT)}, {command}", (words, "x.ac", source, status, Front(output) if lines else output)
+
+
+def page_faults():
+    """The programs of the guide that are not those of the files that the commands after them name, and files without a line."""
+    program = None
+    for language, block in [*blocks(GUIDE), ("", "")]:
+        if program and not block.startswith("$ ac "):
+            yield f"docs/GUIDE.md: no command after the program\n{program}"
+        elif program:
+            name = re.search(r"examples/\w+\.ac", block).group()
+            if (ROOT / name).read_text() != program:
+                yield f"docs/GUIDE.md: the program before {name} is another"
+        program = block if language == "c" else None
+    for path in sorted((ROOT / "examples").glob("*.ac")):
+        if f"({path.name})" not in (ROOT / "examples" / "README.md").read_text():
+            yield f"examples/README.md: {path.name} has no line"
 
 
 def examples():
     """Each program of the page with the answer that stands after it: in the next block, or in its row."""
-    text = PAGE.read_text()
-    blocks = re.findall(r"^```\n(.*?)^```$", text, re.M | re.S)
+    texts = [text for _, text in blocks(PAGE)]
     pairs = [
         (source, answer)
-        for source, answer in zip(blocks, blocks[1:])
+        for source, answer in zip(texts, texts[1:])
         if source.startswith("core ") and re.match(r"\w+: [a-z-]+ after ", answer)
     ]
-    rows = re.findall(r"^\| `(core [^`]*)` \| `(rule C\d+ at \d+)`", text, re.M)
+    rows = re.findall(r"^\| `(core [^`]*)` \| `(rule C\d+ at \d+)`", PAGE.read_text(), re.M)
     pairs += [(source, answer + "\n") for source, answer in rows]
     for number, (source, answer) in enumerate(pairs, 1):
         answer = answer.encode()
@@ -135,17 +188,19 @@ def failure(program, test):
             done = subprocess.run([program, *words], cwd=folder, stdout=subprocess.PIPE, timeout=SECONDS)
         except subprocess.TimeoutExpired:
             return f"  not done after {SECONDS} seconds"
-    if (done.returncode, done.stdout) == (status, output):
+    came = done.stdout[: len(output)] if isinstance(output, Front) else done.stdout
+    if (done.returncode, came) == (status, output):
         return None
-    return f"  wanted {status}, {shown(output)}\n  came   {done.returncode}, {shown(done.stdout)}"
+    return f"  wanted {status}, {shown(output)}\n  came   {done.returncode}, {shown(came)}"
 
 
 def write_cases(folder, tests):
     """The tests as files of a new folder: of each its source, its words and its output. The status is not among them.
 
-    A source of another name than `x.ac` is left out, since `rt try` names the copies of sources itself."""
+    A source of another name than `x.ac` is left out, since `rt try` names the copies of sources itself, and so is an output that
+    is not shown whole."""
     folder.mkdir(parents=True)
-    tests = [test for test in tests if test[1][1] == "x.ac"]
+    tests = [test for test in tests if test[1][1] == "x.ac" and not isinstance(test[1][4], Front)]
     for number, (name, (words, file, source, _, output)) in enumerate(tests):
         case = re.sub(r"\W+", "_", f"{number:04} {name.removesuffix('.txt')}")
         (folder / case).write_bytes(source or b"")
@@ -161,20 +216,24 @@ def main():
     picks = sys.argv[3:] if sys.argv[1] == "--cases" else sys.argv[2:]
     files = sorted(HERE.glob("**/*.txt"))
     tests = [(str(path.relative_to(HERE)), read(path)) for path in files]
-    tests += [*examples(), *form_tests()]
+    tests += [*command_tests(), *examples(), *form_tests()]
     tests = [test for test in tests if not picks or any(pick in test[0] for pick in picks)]
     if sys.argv[1] == "--cases":
         write_cases(pathlib.Path(sys.argv[2]), tests)
         return
     program = str(pathlib.Path(sys.argv[1]).resolve())
+    faults = list(page_faults())
+    for fault in faults:
+        print(fault)
     failed = 0
     for name, test in tests:
         wrong = failure(program, test)
         if wrong:
             failed += 1
             print(f"{name}\n{wrong}")
-    print(f"{len(tests) - failed} passed, {failed} failed")
-    sys.exit(1 if failed or not files or not tests else 0)
+    print(f"{len(tests) - failed} passed, {failed + len(faults)} failed")
+    sys.exit(1 if failed or faults or not files or not tests else 0)
 
 
-main()
+if __name__ == "__main__":
+    main()

@@ -1,5 +1,5 @@
 -- What the definitions of Report say of small runs.
-use Rattle.std.proofs.Common.{◌≡◌, refl, ℕ, pos, List, false, [], ◌∷◌, ◌++◌, codes, ap, ◌∙◌, arith}
+use Rattle.std.proofs.Common.{◌≡◌, refl, ℕ, pos, List, true, false, [], ◌∷◌, ◌++◌, map, codes, ap, ◌∙◌, arith}
 use Rattle.std.specs.Prelude.{negsuc}
 use Rattle.std.specs.Fmt.{decimal, signed_decimal}
 use Rattle.std.proofs.lemmas.Fmt.{decimal_digit, decimal_step}
@@ -7,7 +7,7 @@ use Rattle.ac_base.specs.declared.ends.Trap.TheVariants.{ZeroDivisor, Index, Sta
 use Rattle.ac_base.specs.declared.ends.EndWord.{EndWord}
 use Rattle.ac_base.specs.declared.ends.EndWord.TheVariants.{Finished, Trapped, OutOfSteps, Stalled}
 use Rattle.ac_base.specs.declared.ends.MachineEnd.{MachineEnd}
-use Rattle.ac_base.specs.Report.{word_text, closed, report_of, status_of}
+use Rattle.ac_base.specs.Report.{trap_text, word_text, ending_of, line_of, closed, report_of, is_trapped, is_out_of_steps, is_stalled, any_ends, status_of}
 
 -- what is seen of a core that ended with this word after so many steps and instructions, and printed this
 abbrev pub ended : EndWord → ℕ → ℕ → List ℕ → MachineEnd
@@ -43,6 +43,18 @@ pub the_words_of_traps :
     word_text (Trapped ZeroDivisor) ∷ word_text (Trapped Index) ∷ word_text (Trapped StackFull) ∷ word_text (Trapped OutputFull) ∷ word_text (Trapped FileRange) ∷ []
     ≡ codes "zero-divisor" ∷ codes "index" ∷ codes "stack-full" ∷ codes "output-full" ∷ codes "file-range" ∷ []
 the_words_of_traps = refl
+
+pub the_texts_of_traps : map trap_text (ZeroDivisor ∷ FileRange ∷ []) ≡ codes "zero-divisor" ∷ codes "file-range" ∷ []
+the_texts_of_traps = refl
+
+-- ---- a core's line
+
+pub an_ending : ending_of (ended (Trapped Index) 2 9 (codes "7")) ≡ codes ": index after 2 steps, 9 instructions\n"
+an_ending = rw (two, nine) refl
+
+-- what it printed is not of its line
+pub a_line : line_of (codes "left") (ended Stalled 1 2 (codes "7")) ≡ codes "left: stalled after 1 steps, 2 instructions\n"
+a_line = rw (one, two) refl
 
 -- ---- the end of an output
 
@@ -80,6 +92,24 @@ pub two_cores : report_of (codes "a" ∷ codes "b" ∷ []) (ended OutOfSteps 9 1
 two_cores = rw (two, nine, fifteen) refl
 
 -- ---- the status
+
+abbrev pub all_words : List EndWord
+all_words = Finished ∷ Trapped Index ∷ OutOfSteps ∷ Stalled ∷ []
+
+-- each test holds of its own word alone
+pub trapped_alone : map is_trapped all_words ≡ false ∷ true ∷ false ∷ false ∷ []
+trapped_alone = refl
+
+pub out_of_steps_alone : map is_out_of_steps all_words ≡ false ∷ false ∷ true ∷ false ∷ []
+out_of_steps_alone = refl
+
+pub stalled_alone : map is_stalled all_words ≡ false ∷ false ∷ false ∷ true ∷ []
+stalled_alone = refl
+
+-- one core that ended so is enough, wherever it stands
+pub one_of_two_stalled : any_ends is_stalled (ended Finished 2 9 [] ∷ ended Stalled 2 9 [] ∷ []) ∷ any_ends is_trapped (ended Finished 2 9 [] ∷ ended Stalled 2 9 [] ∷ []) ∷ any_ends is_stalled [] ∷ []
+    ≡ true ∷ false ∷ false ∷ []
+one_of_two_stalled = refl
 
 pub all_finished : status_of (ended Finished 2 9 [] ∷ ended Finished 2 9 [] ∷ []) ≡ 0
 all_finished = refl

@@ -1,5 +1,5 @@
 -- The code of small programs, and what is not built.
-use Rattle.std.proofs.Common.{◌≡◌, refl, sym, ap, ◌∙◌, ℕ, zero, suc, ◌+◌, ◌<◌, ◌≤◌, ◌^◌, pos, List, [], ◌∷◌, codes, true, false, Option, Some, None, subst, arith}
+use Rattle.std.proofs.Common.{◌≡◌, refl, sym, ap, ◌∙◌, ℕ, zero, suc, ◌+◌, ◌<◌, ◌≤◌, ◌^◌, pos, List, [], ◌∷◌, codes, true, false, Option, Some, None, subst, arith, ◌++◌}
 use Rattle.std.specs.Prelude.{slice_get}
 use Rattle.ac_tree.specs.declared.expr.BinaryOp.TheVariants as b
 use Rattle.ac_tree.specs.declared.stmt.Stmt.TheFolds.{fold-roll-Stmt}
@@ -29,9 +29,15 @@ use Rattle.ac_resolve.proofs.Examples.{sum, sum_value, with_value, one_core, one
 use Rattle.ac_translation.specs.Translation.{no_exits, value_code, command_code, functions_code, code_of}
 use Rattle.ac_compile.specs.Compiled.{IsCodeOf}
 use Rattle.ac_compile.specs.Unbuilt.{as_list, stmt_step, stmt_nodes, unbuilt_nodes, first_unbuilt}
+use Rattle.ac_compile.specs.Unbuilt.{as_first, node_by, all_of, some_of, expr_step, link_step, expr_nodes, exprs_nodes, some_expr, body_nodes, item_nodes, is_late, items_nodes}
 use Rattle.ac_compile.proofs.Forms.{number_form, variable_form, reference_form, element_form, act_form, chain_form, link_form, nothing_form, set_form, print_form}
 use Rattle.ac_compile.proofs.Forms.{if_alone_form, if_else_form, while_form, for_form, break_form, continue_form, return_form, do_form, async_form, yield_form}
 use Rattle.ac_compile.proofs.Validity.{code_valid}
+use Rattle.ac_tree.specs.declared.expr.Expr.{Expr, fold-roll-Expr}
+use Rattle.ac_tree.specs.declared.expr.Expr.TheVariants as expr
+use Rattle.ac_tree.specs.declared.expr.Expr.TheOpen.{Expr-F}
+use Rattle.ac_compile.specs.OneEnd.{HasOneEnd}
+use Rattle.ac_tree.specs.declared.item.Item.{Item}
 
 -- ---- two.ac
 
@@ -276,3 +282,55 @@ a_cancel = ap (stmt_nodes as_list) (sym (s.rolls-Cancel 28 (codes "l"))) ∙ fol
 -- yield; is built
 pub a_yield : stmt_nodes as_list (s.Yield 28) ≡ []
 a_yield = ap (stmt_nodes as_list) (sym (s.rolls-Yield 28)) ∙ fold-roll-Stmt (List ℕ) (stmt_step as_list) (Stmt-F.Yield 28)
+
+-- ---- the parts of these, each as a list and as the first
+
+pub a_node_before_its_parts : (node_by as_list false 5 (7 ∷ []) ∷ node_by as_list true 5 (7 ∷ []) ∷ [] ≡ (5 ∷ 7 ∷ []) ∷ (7 ∷ []) ∷ [])
+    × (node_by as_first false 5 (Some 7) ∷ node_by as_first true 5 (Some 7) ∷ node_by as_first true 5 None ∷ [] ≡ Some 5 ∷ Some 7 ∷ None ∷ [])
+a_node_before_its_parts = (refl, refl)
+
+pub parts_in_their_order : (all_of as_list ((1 ∷ []) ∷ [] ∷ (2 ∷ []) ∷ []) ≡ 1 ∷ 2 ∷ []) × (all_of as_first (None ∷ Some 2 ∷ Some 3 ∷ []) ≡ Some 2)
+    × (some_of as_list None ∷ some_of as_list (Some (3 ∷ [])) ∷ [] ≡ [] ∷ (3 ∷ []) ∷ [])
+parts_in_their_order = (refl, refl, refl)
+
+-- a send is not built, and a chain and a number are
+pub forms_of_expressions : expr_step as_list (Expr-F.Send 5 (codes "c") (8 ∷ [])) ∷ expr_step as_list (Expr-F.Chain 5 0 (1 ∷ []) ((2 ∷ []) ∷ [])) ∷ expr_step as_list (Expr-F.Number 5 (pos 1)) ∷ []
+    ≡ (5 ∷ 8 ∷ []) ∷ (1 ∷ 2 ∷ []) ∷ [] ∷ []
+forms_of_expressions = refl
+
+number_nodes : expr_nodes as_list (expr.Number 12 (pos 1)) ≡ []
+number_nodes = ap (expr_nodes as_list) (sym (expr.rolls-Number 12 (pos 1))) ∙ fold-roll-Expr (List ℕ) (List ℕ) (expr_step as_list) (link_step as_list) (Expr-F.Number 12 (pos 1))
+
+-- send(c, 1)
+abbrev pub a_send : Expr
+a_send = expr.Send 5 (codes "c") (expr.Number 12 (pos 1))
+
+pub the_nodes_of_a_send : expr_nodes as_list a_send ≡ 5 ∷ []
+the_nodes_of_a_send =
+    ap (expr_nodes as_list) (sym (expr.rolls-Send 5 (codes "c") (expr.Number 12 (pos 1))))
+    ∙ fold-roll-Expr (List ℕ) (List ℕ) (expr_step as_list) (link_step as_list) (Expr-F.Send 5 (codes "c") (expr.Number 12 (pos 1)))
+    ∙ ap (λ (xs : List ℕ). (5 ∷ []) ++ xs) number_nodes
+
+pub nodes_of_expressions : (exprs_nodes as_list (expr.Number 12 (pos 1) ∷ a_send ∷ []) ≡ 5 ∷ []) × (some_expr as_list (Some a_send) ≡ 5 ∷ []) × (some_expr as_list None ≡ [])
+nodes_of_expressions = (rw (number_nodes, the_nodes_of_a_send) refl, the_nodes_of_a_send, refl)
+
+pub the_nodes_of_a_body : body_nodes as_list (s.Yield 28 ∷ s.Cancel 28 (codes "l") ∷ s.Yield 28 ∷ []) ≡ 28 ∷ []
+the_nodes_of_a_body = rw (a_yield, a_cancel) refl
+
+-- a core is built where none stands before it
+abbrev pub core_at_3 : Item
+core_at_3 = i.Core 3 (codes "a") (codes "f")
+
+pub nodes_of_items : (item_nodes as_list false core_at_3 ∷ item_nodes as_list true core_at_3 ∷ items_nodes as_list false (core_at_3 ∷ core_at_3 ∷ []) ∷ [] ≡ [] ∷ (3 ∷ []) ∷ (3 ∷ []) ∷ [])
+    × (is_late false core_at_3 ∷ is_late false (i.File 3 (codes "d") (codes "d.dat")) ∷ [] ≡ true ∷ false ∷ [])
+nodes_of_items = (refl, refl)
+
+-- ---- one end
+
+-- there is no core that could come to an end
+pub ends_of_no_core : HasOneEnd two_parts (record two { cores = [] })
+ends_of_no_core core bound journal lt = let less : core < 0 = lt in absurd (omega (arith, less))
+
+-- the code lacks a core of the program
+pub no_end_in_the_code : HasOneEnd (record two_parts { entries = []; names = [] }) two → ⊥
+no_end_in_the_code h = let runs = (h 0 100 [] (omega arith)).1.comes in let entry = runs.begins.entry_is in cc

@@ -1,20 +1,137 @@
 -- Small texts, and the tokens or the fault that the definition gives them.
-use Rattle.std.proofs.Common.{◌≡◌, ℕ, pos, List, [], ◌∷◌, map, codes, Result, Ok, Err, refl}
+use Rattle.std.proofs.Common.{◌≡◌, ℕ, pos, true, false, List, [], ◌∷◌, ◌++◌, map, codes, Some, None, Result, Ok, Err, refl}
 use Rattle.ac_lexer.specs.declared.fault.LexFault.{LexFault}
 use Rattle.ac_lexer.specs.declared.fault.LexFault.TheVariants as l
 use Rattle.ac_lexer.specs.declared.token.Word.TheVariants as w
 use Rattle.ac_lexer.specs.declared.token.Mark.TheVariants as m
 use Rattle.ac_lexer.specs.declared.token.Kind.TheVariants as k
 use Rattle.ac_lexer.specs.declared.token.Token.{Token}
-use Rattle.ac_lexer.specs.Spelling.{placed}
+use Rattle.ac_lexer.specs.Spelling.{is_blank, is_digit, is_letter, is_name, is_zero, Each, starts, value_of, letters, sign, placed}
 use Rattle.ac_lexer.specs.inner.Reading.{piece_at, name_at, word_of, mark_of_one, mark_of_two, number_at}
-use Rattle.ac_lexer.specs.Tokens.{LexesFrom, IsTokensOf, IsFirstFaultOf, max_len}
+use Rattle.ac_lexer.specs.Tokens.{is_plain, escape_of, Body, body_end, body_plain, body_escape, Spelled, word, text, not_feed, NoEnd, Gap, blank, line, block}
+use Rattle.ac_lexer.specs.Tokens.{Line, line_over, line_byte, line_escape, Ends, ends_text, ends_feed, ends_text_after, ends_feed_after, Bad, bad_byte, bad_escape, FaultHere, open_comment}
+use Rattle.ac_lexer.specs.Tokens.{before, LexesFrom, IsTokensOf, IsFirstFaultOf, max_len, Lexes}
 use Rattle.ac_lexer.proofs.Lexed.{lexes, lexes_only, kinds_in}
 
 abbrev given : List Token → Result (List Token) LexFault
 given tokens = Ok tokens
 
+-- ---- bytes
+
+-- a space, a tab, a carriage return, a line feed, and then a form feed
+pub blanks : map is_blank (32 ∷ 9 ∷ 13 ∷ 10 ∷ 12 ∷ []) ≡ true ∷ true ∷ true ∷ true ∷ false ∷ []
+blanks = refl
+
+-- with the bytes before the first and after the last
+pub digits : map is_digit (codes "/09:") ≡ false ∷ true ∷ true ∷ false ∷ []
+digits = refl
+
+pub some_letters : map is_letter (codes "@AZ[_`az{5") ≡ false ∷ true ∷ true ∷ false ∷ true ∷ false ∷ true ∷ true ∷ false ∷ false ∷ []
+some_letters = refl
+
+pub in_names : map is_name (codes "a_5-") ≡ true ∷ true ∷ true ∷ false ∷ []
+in_names = refl
+
+pub zeros : map is_zero (codes "01") ≡ true ∷ false ∷ []
+zeros = refl
+
+pub only_digits : Each is_digit (codes "07")
+only_digits = (refl, (refl, tt))
+
+pub not_only_digits : Each is_digit (codes "0a") → ⊥
+not_only_digits h = let e = h.1.0 in cc
+
+pub the_first_alone_counts : starts is_digit (codes "7a") ∷ starts is_digit (codes "a7") ∷ starts is_digit [] ∷ [] ≡ true ∷ false ∷ false ∷ []
+the_first_alone_counts = refl
+
+-- also after digits of the value 4, and up to the first byte that is none
+pub values : value_of 0 (codes "203") ∷ value_of 4 (codes "2x5") ∷ [] ≡ 203 ∷ 42 ∷ []
+values = refl
+
+pub two_words : letters w.Finish ∷ letters w.Cancelled ∷ [] ≡ codes "finish" ∷ codes "CANCELLED" ∷ []
+two_words = refl
+
+pub two_marks : sign m.Shl ∷ sign m.Caret ∷ [] ≡ codes "<<" ∷ codes "^" ∷ []
+two_marks = refl
+
+-- the bytes round the space and the tilde, the quote and the backslash
+pub plain_bytes : map is_plain (31 ∷ 32 ∷ 126 ∷ 127 ∷ 34 ∷ 92 ∷ []) ≡ false ∷ true ∷ true ∷ false ∷ false ∷ false ∷ []
+plain_bytes = refl
+
+pub escapes : map escape_of (codes "nt\\\"r") ≡ Some 10 ∷ Some 9 ∷ Some 92 ∷ Some 34 ∷ None ∷ []
+escapes = refl
+
+pub all_but_a_line_feed : map not_feed (10 ∷ 13 ∷ []) ≡ false ∷ true ∷ []
+all_but_a_line_feed = refl
+
+-- ---- parts of tokens and of gaps
+
+pub a_body : Body (codes "a\\n") (97 ∷ 10 ∷ [])
+a_body = body_plain _ _ _ refl (body_escape _ _ _ _ refl body_end)
+
+pub a_backslash_alone_is_none : (vs : List ℕ) → Body (92 ∷ []) vs → ⊥
+a_backslash_alone_is_none _ (body_plain b bs vs h d) = cc
+
+pub spelled_with_quotes : Spelled (k.Text (97 ∷ 10 ∷ [])) (codes "\"a\\n\"")
+spelled_with_quotes = text _ _ a_body
+
+pub a_word_is_spelled : Spelled (k.Word w.Do) (codes "do")
+a_word_is_spelled = word w.Do
+
+rest_is : {b c : ℕ} {bs cs : List ℕ} → b ∷ bs ≡ c ∷ cs → bs ≡ cs
+rest_is e = cc
+
+not_in_nothing : (x y : List ℕ) → [] ≡ x ++ 42 ∷ 47 ∷ y → ⊥
+not_in_nothing [] y e = cc
+not_in_nothing (a ∷ x) y e = cc
+
+-- a star alone
+pub no_end_of_a_comment : NoEnd (42 ∷ [])
+no_end_of_a_comment [] y e = let rest : [] ≡ 47 ∷ y = rest_is e in cc rest
+no_end_of_a_comment (a ∷ x) y e = not_in_nothing x y (rest_is e)
+
+pub the_end_of_a_comment : NoEnd (codes "a*/") → ⊥
+the_end_of_a_comment h = h (codes "a") [] refl
+
+pub a_blank_is_a_gap : Gap (codes "\t") (codes "x")
+a_blank_is_a_gap = blank _ _ refl
+
+pub a_line_comment_is_a_gap : Gap (codes "//a") (codes "\nx")
+a_line_comment_is_a_gap = line (codes "a") _ (refl, tt) refl
+
+pub a_block_comment_is_a_gap : Gap (codes "/**/") (codes "x")
+a_block_comment_is_a_gap = block [] _ no_end_of_a_comment
+
+pub not_closed : FaultHere 7 (codes "/**") (l.OpenComment 7)
+not_closed = open_comment _ no_end_of_a_comment
+
+-- the quote is the escape's
+pub within_a_line : Line (codes "a\\\"b")
+within_a_line = line_byte _ _ refl refl refl (line_escape _ _ refl (line_byte _ _ refl refl refl line_over))
+
+pub a_quote_is_not_within : Line (34 ∷ []) → ⊥
+a_quote_is_not_within (line_byte b bs e f g d) = cc
+
+pub ends_of_a_line : Ends [] × Ends (codes "\nx") × Ends (codes "\\") × Ends (codes "\\\nx")
+ends_of_a_line = (ends_text, ends_feed _, ends_text_after, ends_feed_after _)
+
+pub no_end_of_a_line : Ends (codes "x") → ⊥
+no_end_of_a_line h = elim h [ ]
+
+-- a tab, and a `q` after a backslash
+pub bad_bytes : Bad (codes "\t") 0 × Bad (codes "\\q") 1
+bad_bytes = (bad_byte _ refl refl refl refl, bad_escape _ refl refl)
+
+pub a_good_byte : Bad (codes "a") 0 → ⊥
+a_good_byte (bad_byte b e f g h) = cc
+
 -- ---- tokens and their places
+
+pub before_the_others : before (placed (k.Mark m.Comma) 0 1) (Ok (placed (k.Mark m.Comma) 1 2 ∷ [])) ≡ Ok (placed (k.Mark m.Comma) 0 1 ∷ placed (k.Mark m.Comma) 1 2 ∷ [])
+before_the_others = refl
+
+pub before_a_fault : before (placed (k.Mark m.Comma) 0 1) (Err (l.BadByte 1)) ≡ Err (l.BadByte 1)
+before_a_fault = refl
 
 pub the_empty_text : IsTokensOf [] []
 the_empty_text = lexes 9 0 _ _ refl
@@ -112,6 +229,13 @@ unfolding piece_at number_at
 no_tokens tokens d = not_both (lexes_only 9 0 (codes "007") (Err (l.BadByte 1)) (Ok tokens) refl d) where
   not_both : {ts : List Token} {f : LexFault} → Ok ts ≡ Err f → ⊥
   not_both h = cc
+
+-- so the fault alone may be answered
+pub the_fault_is_answered : Lexes (codes "007") (Err (l.BadByte 1))
+the_fault_is_answered = a_nought_in_front
+
+pub tokens_are_not : (tokens : List Token) → Lexes (codes "007") (Ok tokens) → ⊥
+tokens_are_not = no_tokens
 
 -- ---- comments
 

@@ -1,10 +1,11 @@
--- What the definitions of Texts, Told and Causes say of small texts and counts.
-use Rattle.std.proofs.Common.{◌≡◌, refl, ℕ, List, [], ◌∷◌, codes, length, None, Some, false, arith}
+-- What the definitions of Texts, Told, Views and Causes say of small texts and counts.
+use Rattle.std.proofs.Common.{◌≡◌, refl, ℕ, List, [], ◌∷◌, codes, length, None, Some, true, false, arith}
 use Rattle.std.specs.Prelude.{Ok, Err}
 use Rattle.std.specs.declared.result.Result.{Result}
 use Rattle.ac_outside.specs.declared.shelf.NamedBytes.{NamedBytes}
 use Rattle.ac_outside.specs.Texts.{text_of, rest_at, TakesFront}
 use Rattle.ac_outside.specs.Told.{one_more, CountsOne, AddsName, LibraryTold, OpenedJust, OpenedNone, GrewBy, WriteTook}
+use Rattle.ac_outside.specs.Views.{FailingTexts, told_by_failing}
 use Rattle.ac_outside.specs.Causes.{Rose, HasCause}
 
 -- ---- texts
@@ -101,6 +102,20 @@ nothing_was_opened = record { opens = refl; names = refl }
 
 pub something_was_opened : OpenedNone (asked_for 0 []) (asked_for 1 (codes "b" ∷ [])) → ⊥
 something_was_opened h = let e = h.names in cc
+
+-- the second call of three failed, an open; of the text that the third call read two bytes are left
+abbrev pub once_failed : FailingTexts
+once_failed = record { texts = texts; left = Some (codes "st"); fails = 1 ∷ []; calls = 3; opens = 2; names = Some (codes "ab" ∷ codes "b" ∷ []); faults = 1 }
+
+pub it_tells_what_it_holds :
+    told_by_failing once_failed ≡ record { text_at = text_of texts; is_open = true; left = Some (codes "st"); opens = Some 2; names = Some (codes "ab" ∷ codes "b" ∷ []); faults = 1 }
+it_tells_what_it_holds = refl
+
+pub a_text_that_it_does_not_hold : (told_by_failing once_failed).text_at (codes "b") ≡ None
+a_text_that_it_does_not_hold = refl
+
+pub none_is_open : (told_by_failing (record once_failed { left = None })).is_open ≡ false
+none_is_open = refl
 
 -- ---- writes
 

@@ -1,5 +1,5 @@
 -- Small programs and their trees, by the places of their bytes.
-use Rattle.std.proofs.Common.{◌≡◌, refl, ℕ, zero, suc, pos, List, [], ◌∷◌, ◌++◌, codes, Some, None, true, false, arith}
+use Rattle.std.proofs.Common.{◌≡◌, refl, sym, ap, ◌∙◌, subst, ℕ, zero, suc, ℤ, pos, Bool, List, [], ◌∷◌, ◌++◌, ◌+◌, codes, Some, None, true, false, Ok, Err, arith}
 use Rattle.std.specs.Prelude.{negsuc}
 use Rattle.ac_tree.specs.declared.expr.Expr.TheVariants as e
 use Rattle.ac_tree.specs.declared.expr.Constant.TheVariants as c
@@ -7,10 +7,13 @@ use Rattle.ac_tree.specs.declared.expr.BinaryOp.TheVariants as b
 use Rattle.ac_tree.specs.declared.expr.UnaryOp.TheVariants as u
 use Rattle.ac_tree.specs.declared.stmt.Stmt.{Stmt}
 use Rattle.ac_tree.specs.declared.stmt.Stmt.TheVariants as s
+use Rattle.ac_tree.specs.declared.stmt.Stmt.TheFolds.{fold-roll-Stmt}
+use Rattle.ac_tree.specs.declared.stmt.Stmt.TheOpen.{Stmt-F}
 use Rattle.ac_tree.specs.declared.item.Item.{Item}
 use Rattle.ac_tree.specs.declared.item.Item.TheVariants as i
 use Rattle.ac_tree.specs.declared.item.Program.{Program}
 use Rattle.ac_lexer.specs.declared.token.Word.TheVariants as w
+use Rattle.ac_lexer.specs.declared.token.Mark.{Mark}
 use Rattle.ac_lexer.specs.declared.token.Mark.TheVariants as m
 use Rattle.ac_lexer.specs.declared.token.Kind.TheVariants as k
 use Rattle.ac_lexer.specs.declared.token.Token.{Token}
@@ -18,16 +21,22 @@ use Rattle.ac_lexer.specs.Spelling.{placed}
 use Rattle.ac_lexer.specs.inner.Reading.{piece_at, name_at, word_of, number_at, mark_of_one, mark_of_two}
 use Rattle.ac_lexer.proofs.Lexed.{tokens_in}
 use Rattle.ac_lexer.proofs.Examples.{two_tokens}
-use Rattle.reading_laws.specs.Marks.{mark, Low, cut}
-use Rattle.ac_expressions.specs.Spelling.{link}
+use Rattle.reading_laws.specs.Marks.{Marked, mark, Low, cut}
+use Rattle.ac_expressions.specs.Spelling.{link, number, variable}
+use Rattle.ac_parser.specs.declared.faults.SyntaxFault.TheVariants as f
+use Rattle.ac_parser.specs.SpellingOfStatements.{ends_step, ends_open, no_value, DeclSpells, int_decl, array_decl, SimpleSpells, simple, InitSpells, no_init, simple_init, int_init}
+use Rattle.ac_parser.specs.SpellingOfStatements.{NextSpells, simple_next}
+use Rattle.ac_parser.specs.SpellingOfStatements.{BlockSpells, braces, no_entry}
+use Rattle.ac_parser.specs.SpellingOfItems.{GlobalValueSpells, zero_value, plain_value, negative_value, BracketsSpell, no_brackets, brackets, param, MoreParamsSpell, no_param, one_param, IsGiven}
 use Rattle.ac_parser.specs.SpellingOfItems.{core, no_item, one_item, ProgramSpells}
-use Rattle.ac_parser.specs.Places.{limit, IsTree, UnexpectedAt, TooDeepAt}
+use Rattle.ac_parser.specs.Places.{limit, place_in, Stuck, IsTree, UnexpectedAt, TooDeepAt, Parses}
 use Rattle.reading_laws.specs.Letters.{same_word, same_mark}
 use Rattle.reading_laws.specs.Readers.{many_at}
 use Rattle.ac_expressions.specs.Reads.{chain_at, unary_at}
 use Rattle.ac_parser.specs.inner.ReadsStatements.{stmt_at}
 use Rattle.ac_parser.specs.inner.ReadsItems.{item_at, program_at}
 use Rattle.ac_parser.proofs.Answered.{parsed_tree, parsed_unexpected, parsed_too_deep}
+use Rattle.ac_expressions.proofs.Examples.{of_the_first_level}
 use Rattle.ac_expressions.proofs.ExpressionHeads.{number_place, group_place, recv_place, read_place, write_place}
 
 -- ---- the grammar itself: `core a(f);`, `1+2*3` and the depths in `-(1)`
@@ -39,6 +48,114 @@ pub a_core : ProgramSpells (program (i.Core 0 (codes "a") (codes "f") ∷ []))
     (mark 0 (placed (k.Word w.Core) 0 4) ∷ mark 0 (placed (k.Name (codes "a")) 5 6) ∷ mark 0 (placed (k.Mark m.OpenParen) 6 7) ∷ mark 1 (placed (k.Name (codes "f")) 7 8)
     ∷ mark 1 (placed (k.Mark m.CloseParen) 8 9) ∷ mark 0 (placed (k.Mark m.Semicolon) 9 10) ∷ [])
 a_core = one_item _ _ _ _ (core _ _ _ _ _ _ _ _ refl refl refl refl refl refl) no_item
+
+-- ---- parts of items
+
+abbrev a_mark : Mark → ℕ → Token
+a_mark which at = placed (k.Mark which) at (at + 1)
+
+abbrev int_word : ℕ → Token
+int_word at = placed (k.Word w.Int) at (at + 3)
+
+abbrev x_name : ℕ → Token
+x_name at = placed (k.Name (codes "x")) at (at + 1)
+
+abbrev a_number : ℕ → ℕ → Token
+a_number n at = placed (k.Number (pos n)) at (at + 1)
+
+-- nothing, `=5` and `=-5` behind a name
+pub values_of_globals : GlobalValueSpells (pos 0) [] × GlobalValueSpells (pos 5) (mark 0 (a_mark m.Assign 5) ∷ mark 0 (a_number 5 6) ∷ [])
+    × GlobalValueSpells (negsuc 4) (mark 0 (a_mark m.Assign 5) ∷ mark 0 (a_mark m.Minus 6) ∷ mark 0 (a_number 5 7) ∷ [])
+values_of_globals = (zero_value, plain_value _ _ _ refl refl, negative_value _ _ _ 5 refl refl refl)
+
+without_tokens : (value : ℤ) (ms : List Marked) → GlobalValueSpells value ms → ms ≡ [] → value ≡ pos 0
+without_tokens _ _ zero_value e = refl
+without_tokens _ _ (plain_value equals digits n p q) e = cc
+without_tokens _ _ (negative_value equals minus digits n p q r) e = cc
+
+pub nothing_is_no_other_value : GlobalValueSpells (pos 5) [] → ⊥
+nothing_is_no_other_value h = let e = without_tokens (pos 5) [] h refl in cc e
+
+pub brackets_or_none : BracketsSpell false [] × BracketsSpell true (mark 1 (a_mark m.OpenBracket 12) ∷ mark 2 (a_mark m.CloseBracket 13) ∷ [])
+brackets_or_none = (no_brackets, brackets _ _ refl refl)
+
+pub no_array_without_brackets : BracketsSpell true [] → ⊥
+no_array_without_brackets h = elim h [ ]
+
+-- `,int x[]`
+pub a_parameter_more : MoreParamsSpell (record { at = 8; name = codes "x"; is_array = true } ∷ [])
+    (mark 1 (a_mark m.Comma 7) ∷ mark 1 (int_word 8) ∷ mark 1 (x_name 12) ∷ mark 1 (a_mark m.OpenBracket 13) ∷ mark 2 (a_mark m.CloseBracket 14) ∷ [])
+a_parameter_more = one_param _ _ _ _ _ refl (param _ _ _ _ _ refl refl (brackets _ _ refl refl)) no_param
+
+pub a_comma_alone : MoreParamsSpell [] (mark 1 (a_mark m.Comma 7) ∷ []) → ⊥
+a_comma_alone h = elim h [ ]
+
+pub what_is_given : IsGiven true (int_word 0) × IsGiven false (placed (k.Word w.Void) 0 4)
+what_is_given = (refl, refl)
+
+pub an_int_is_given : IsGiven false (int_word 0) → ⊥
+an_int_is_given e = cc e
+
+-- ---- parts of statements
+
+-- {}
+pub no_statements : BlockSpells 1 9 [] (mark 1 (a_mark m.OpenBrace 9) ∷ mark 1 (a_mark m.CloseBrace 10) ∷ [])
+no_statements = braces _ _ _ _ _ refl (no_entry _) refl
+
+pub no_braces : (at : ℕ) (body : List Stmt) → BlockSpells 1 at body [] → ⊥
+no_braces at body h = elim h [ ]
+
+-- int x; and int x[5];
+pub a_declared_int : DeclSpells 2 (s.Int 9 (codes "x") None) (mark 2 (int_word 9) ∷ mark 2 (x_name 13) ∷ mark 2 (a_mark m.Semicolon 14) ∷ [])
+a_declared_int = int_decl _ _ _ _ _ _ _ refl refl (no_value _) refl
+
+pub a_declared_array : DeclSpells 2 (s.Array 9 (codes "x") (pos 5))
+    (mark 2 (int_word 9) ∷ mark 2 (x_name 13) ∷ mark 2 (a_mark m.OpenBracket 14) ∷ mark 3 (a_number 5 15) ∷ mark 3 (a_mark m.CloseBracket 16) ∷ mark 2 (a_mark m.Semicolon 17) ∷ [])
+a_declared_array = array_decl _ _ _ _ _ _ _ _ _ refl refl refl refl refl refl
+
+pub nothing_is_declared : (x : Stmt) → DeclSpells 2 x [] → ⊥
+nothing_is_declared x h = elim h [ ]
+
+-- x=1
+abbrev set_x : Stmt
+set_x = s.Assign 9 (e.Name 9 (codes "x")) (e.Number 11 (pos 1))
+
+abbrev its_tokens : ℕ → List Marked
+its_tokens depth = mark depth (x_name 9) ∷ mark depth (a_mark m.Assign 10) ∷ mark depth (a_number 1 11) ∷ []
+
+pub an_assignment : (depth : ℕ) → SimpleSpells depth set_x (its_tokens depth)
+an_assignment depth = simple _ _ _ _ _ _ _ (variable _ _ _ refl) refl (of_the_first_level _ _ _ (number _ _ _ refl))
+
+pub nothing_is_assigned : (x : Stmt) → SimpleSpells 3 x [] → ⊥
+nothing_is_assigned x h = elim h [ ]
+
+-- the first part of a `for`: none, x=1 and int x=1
+pub first_parts : InitSpells 3 None [] × InitSpells 3 (Some set_x) (its_tokens 3)
+    × InitSpells 3 (Some (s.Int 9 (codes "x") (Some (e.Number 14 (pos 1))))) (mark 3 (int_word 9) ∷ mark 3 (x_name 12) ∷ mark 3 (a_mark m.Assign 13) ∷ mark 3 (a_number 1 14) ∷ [])
+first_parts = (no_init _, simple_init _ _ _ (an_assignment 3), int_init _ _ _ _ _ _ _ refl refl refl (of_the_first_level _ _ _ (number _ _ _ refl)))
+
+pub no_first_part : (x : Stmt) → InitSpells 3 (Some x) [] → ⊥
+no_first_part _ (simple_init depth x ms h) = nothing_is_assigned x h
+
+-- and the third
+pub a_third_part : NextSpells 3 (Some set_x) (its_tokens 3)
+a_third_part = simple_next _ _ _ (an_assignment 3)
+
+pub no_third_part : (x : Stmt) → NextSpells 3 (Some x) [] → ⊥
+no_third_part _ (simple_next depth x ms h) = nothing_is_assigned x h
+
+-- by whether the parts end so: if, if with such an else and with another, while, async, and a block
+pub forms_that_end_open : ends_step (Stmt-F.If 0 (e.Name 0 (codes "x")) false None) ∷ ends_step (Stmt-F.If 0 (e.Name 0 (codes "x")) false (Some true))
+    ∷ ends_step (Stmt-F.If 0 (e.Name 0 (codes "x")) true (Some false)) ∷ ends_step (Stmt-F.While 0 (e.Name 0 (codes "x")) true) ∷ ends_step (Stmt-F.Async 0 true)
+    ∷ ends_step (Stmt-F.Block 0 (true ∷ [])) ∷ [] ≡ true ∷ true ∷ false ∷ true ∷ true ∷ false ∷ []
+forms_that_end_open = refl
+
+-- if(x); and {}
+pub an_if_ends_open : ends_open (s.If 9 (e.Name 12 (codes "x")) (s.Empty 14) None) ≡ true
+an_if_ends_open = ap ends_open (sym (s.rolls-If 9 (e.Name 12 (codes "x")) (s.Empty 14) None)) ∙ fold-roll-Stmt Bool ends_step (Stmt-F.If 9 (e.Name 12 (codes "x")) (s.Empty 14) None)
+
+pub a_block_does_not : ends_open (s.Block 9 []) ≡ false
+a_block_does_not = ap ends_open (sym (s.rolls-Block 9 [])) ∙ fold-roll-Stmt Bool ends_step (Stmt-F.Block 9 [])
 
 -- ---- how deep a token may be
 
@@ -218,6 +335,37 @@ no_declaration_after_an_if = parsed_unexpected 21 _ _ 14 refl refl
 pub no_chain_of_places : UnexpectedAt 16 (tokens_in (codes "void f(){x=y=1;}")) 12
 unfolding piece_at name_at word_of number_at mark_of_one mark_of_two program_at item_at many_at stmt_at chain_at unary_at same_word same_mark
 no_chain_of_places = parsed_unexpected 16 _ _ 12 refl refl
+
+-- ---- answers
+
+pub the_tree_is_answered : Parses 0 [] (Ok (program []))
+the_tree_is_answered = the_empty_program
+
+some_items : (x : Item) (xs : List Item) → x ∷ xs ≡ [] → ⊥
+some_items x xs e = cc
+
+pub another_tree_is_not : Parses 10 (tokens_in (codes "core a(f);")) (Ok (program [])) → ⊥
+another_tree_is_not h = some_items _ _ (ap (λ (p : Program). p.items) (a_core_alone.only (program []) h.marks h.spells (sym h.split)))
+
+pub the_place_is_answered : Parses 9 (tokens_in (codes "core a f;")) (Err (f.Unexpected 7))
+the_place_is_answered = no_parenthesis
+
+-- no program begins with a number
+pub with_a_number : Stuck [] (a_number 1 0 ∷ [])
+unfolding no_such_item
+with_a_number = by _ _ no_such_item.split no_such_item.place no_such_item.stuck where
+  longer : (t u : Token) (us ts : List Token) → a_number 1 0 ∷ [] ≡ t ∷ (us ++ u ∷ ts) → ⊥
+  longer t u [] ts h = cc
+  longer t u (v ∷ vs) ts h = cc
+
+  by : (used rest : List Token) → a_number 1 0 ∷ [] ≡ used ++ rest → 0 ≡ place_in 1 rest → Stuck used rest → Stuck [] (a_number 1 0 ∷ [])
+  by used [] split place h = absurd (omega (arith, place))
+  by [] (t ∷ ts) split place h = subst (Stuck []) (sym split) h
+  by (t ∷ ts) (u ∷ us) split place h = absurd (longer t u ts us split)
+
+-- but the empty text is one
+pub with_no_token : Stuck [] [] → ⊥
+with_no_token h = h (program []) [] no_item refl
 
 -- ---- a text that is too deep
 

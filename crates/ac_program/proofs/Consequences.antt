@@ -1,66 +1,97 @@
 -- What each status says on its own, as it follows from the clauses of `ac_main`.
-use Rattle.std.proofs.Common.{◌≢◌, ◌≡◌, ℕ, ◌+◌, ◌<◌, ◌≤◌, ◌↔◌, ◌⊎◌, inl, inr, List, [], length, Option, Some, refl, sym, ◌∙◌, subst, arith}
-use Rattle.ac_base.specs.Report.{status_of}
+use Rattle.std.proofs.Common.{◌≢◌, ◌≡◌, ℕ, ◌+◌, ◌<◌, ◌≤◌, ◌↔◌, ◌⊎◌, inl, inr, List, [], length, Option, None, Some, refl, sym, ◌∙◌, subst, arith}
+use Rattle.ac_base.specs.Report.{report_of, status_of}
 use Rattle.ac_tree.specs.declared.item.Program.{Program}
-use Rattle.ac_outside.specs.Told.{LibraryTold, SinkTold, CountsOne}
+use Rattle.ac_outside.specs.Told.{LibraryTold, SinkTold, CountsOne, GrewBy}
 use Rattle.ac_program.specs.declared.refusal.Refusal.{Refusal}
 use Rattle.ac_program.specs.declared.running.Ended.{Ended}
-use Rattle.ac_program.specs.Lines.{refusal_status}
-use Rattle.ac_program.specs.Words.{IsRunCall}
+use Rattle.ac_program.specs.declared.execute.Done.{Done}
+use Rattle.ac_program.specs.declared.words.Task.{Task}
+use Rattle.ac_program.specs.declared.words.Task.TheVariants as t
+use Rattle.ac_resolve.specs.Resolution.{resolved}
+use Rattle.ac_translation.specs.Translation.{code_of}
+use Rattle.stack_code.specs.Listing.{listing}
+use Rattle.ac_compile.specs.Unbuilt.{unbuilt_nodes}
+use Rattle.ac_program.specs.Lines.{accepted_line, refusal_status}
+use Rattle.ac_program.specs.Words.{IsCall}
 use Rattle.ac_program.specs.Reading.{Gave, TookBytes}
 use Rattle.ac_program.specs.Run.{IsRunOf}
-use Rattle.ac_program.specs.Source.{IsRunnable, Refuses}
-use Rattle.ac_program.specs.Headline.{IsRead, IsDue, IsDueOfFile, TookWhole, GaveUp, TellsUsage, IsOfText, IsDecided, CallsFor}
-use Rattle.ac_program.specs.Making.IsDueOf.{refused, ran}
+use Rattle.ac_program.specs.Source.{IsAccepted, IsTooMany, IsNotBuilt, IsReady, Refuses, names_of}
+use Rattle.ac_program.specs.Headline.{IsRead, IsShort, IsDue, IsDueOfFile, TookWhole, GaveUp, TellsUsage, IsOfText, IsDecided, GivesStatus, CallsFor}
+use Rattle.ac_program.specs.Making.{Makes}
+use Rattle.ac_program.specs.Making.IsDueOf.{refused, made as is_done}
 use Rattle.ac_program.specs.Headline.IsDueOfFile.{library_fault, too_long, source}
-use Rattle.ac_program.specs.Headline.IsDue.{usage, runs}
-use Rattle.ac_program.specs.Headline.CallsFor.{over_long}
+use Rattle.ac_program.specs.Headline.IsDue.{usage, call}
+use Rattle.ac_program.specs.Headline.CallsFor.{over_long, made}
 use Rattle.ac_program.proofs.Statuses.{IsOfCores, IsOfRefusal, of_cores, done_status, not_above, not_one, of_refusal, apart, one, seven, eight, eleven}
-use Rattle.ac_program.proofs.Refusals.{refused_not}
-use Rattle.ac_program.proofs.Calls.{IsRefusedAs, Way, is_long, is_refused, is_run, way_of, calls_refused}
+use Rattle.ac_program.proofs.Refusals.{refused_not, some_status}
+use Rattle.ac_program.proofs.Calls.{IsRefusedAs, Way, is_long, is_refused, is_made, way_of, calls_refused}
 
 -- ---- what is said
 
--- the words call for a run
-pub record IsCall (words : List (List ℕ)) : Type 0 where
+-- the words are a call
+pub record IsSomeCall (words : List (List ℕ)) : Type 0 where
+  pub task : Task
   pub file : List ℕ
-  pub steps : ℕ
-  pub is_run : IsRunCall words file steps
+  pub is_call : IsCall words task file
 
--- the words call for a run, and one byte past the limit of the text of that name was taken
+-- the words are a call, and one byte past the limit of the text of its file was taken
 pub record IsTooLong (words : List (List ℕ)) (before after : LibraryTold) : Type 0 where
+  pub task : Task
   pub file : List ℕ
-  pub steps : ℕ
-  pub is_run : IsRunCall words file steps
+  pub is_call : IsCall words task file
   pub well : IsRead before after file
   pub took : TookBytes (before.text_at file) after.left (1048576 + 1)
 
--- the words call for a run of this source, which was read whole and is within the limit
-pub record HasRead (words : List (List ℕ)) (before after : LibraryTold) (steps : ℕ) (bytes : List ℕ) : Type 0 where
+-- the words call for this task with this source, which was read whole and is within the limit
+pub record HasRead (words : List (List ℕ)) (before after : LibraryTold) (task : Task) (bytes : List ℕ) : Type 0 where
   pub file : List ℕ
-  pub is_run : IsRunCall words file steps
+  pub is_call : IsCall words task file
   pub well : IsRead before after file
   pub gave : Gave (before.text_at file) bytes
   pub within : length bytes ≤ 1048576
 
--- the words call for a run of a source that is refused with that status
+-- the words call for a task with a source that is refused with that status
 pub record IsRefused (number : ℕ) (words : List (List ℕ)) (before after : LibraryTold) : Type 0 where
-  pub steps : ℕ
+  pub task : Task
   pub bytes : List ℕ
-  pub read : HasRead words before after steps bytes
-  pub is_refused : IsRefusedAs number bytes steps
+  pub read : HasRead words before after task bytes
+  pub is_refused : IsRefusedAs number bytes task
 
--- nothing refuses the source, and this is a run of its program with the bound that the words give, whose cores have this status
-pub record IsReported (words : List (List ℕ)) (before after : LibraryTold) (status : ℕ) (run : Option Ended) : Type 0 where
-  pub steps : ℕ
-  pub bytes : List ℕ
-  pub read : HasRead words before after steps bytes
-  pub program : Program
-  pub is_runnable : IsRunnable bytes steps program
+-- this is a run of the program with this bound, whose cores have this status, and its report
+pub record IsRunOnce (program : Program) (steps status : ℕ) (text : List ℕ) (run : Option Ended) : Type 0 where
   pub ended : Ended
   pub kept : run ≡ Some ended
   pub is_run : IsRunOf program steps [] ended
   pub status_is : status ≡ status_of ended.cores
+  pub text_is : text ≡ report_of (names_of program) ended.cores
+
+-- this text with status 0, and no run is kept
+pub record IsTextOnly (wanted : List ℕ) (status : ℕ) (text : List ℕ) (run : Option Ended) : Type 0 where
+  pub status_is : status ≡ 0
+  pub text_is : text ≡ wanted
+  pub no_run : run ≡ None
+
+-- what a task gives of the program
+abbrev pub Gives : Task → Program → ℕ → List ℕ → Option Ended → Type 0
+Gives (t.Run steps) program status text run = IsRunOnce program steps status text run
+Gives t.Check program status text run = IsTextOnly accepted_line status text run
+Gives t.Code program status text run = IsTextOnly (listing (code_of (resolved program))) status text run
+
+-- nothing refuses the source for the task that the words call for, and this is what the task gives of its program
+pub record IsMade (words : List (List ℕ)) (before after : LibraryTold) (status : ℕ) (text : List ℕ) (run : Option Ended) : Type 0 where
+  pub task : Task
+  pub bytes : List ℕ
+  pub read : HasRead words before after task bytes
+  pub program : Program
+  pub is_ready : IsReady bytes task program
+  pub gives : Gives task program status text run
+
+-- and the sink has taken all of it
+pub record IsWritten (words : List (List ℕ)) (before after : LibraryTold) (status : ℕ) (run : Option Ended) (sink later : SinkTold) : Type 0 where
+  pub text : List ℕ
+  pub made : IsMade words before after status text run
+  pub taken : GrewBy sink.held later.held text
 
 -- neither the library nor the sink failed, and no memory was refused
 pub record IsUndisturbed (status : ℕ) : Type 0 where
@@ -68,66 +99,75 @@ pub record IsUndisturbed (status : ℕ) : Type 0 where
   pub sink : status ≢ 8
   pub memory : status ≢ 11
 
+gives_of : (task : Task) (program : Program) (status : ℕ) (text : List ℕ) (run : Option Ended) (done : Done) →
+    status ≡ done.status.number → text ≡ done.text → run ≡ done.run → Makes task program done → Gives task program status text run
+gives_of (t.Run steps) program status text run done n x r d =
+    record { ended = d.ended; kept = r ∙ d.kept; is_run = d.is_run; status_is = n ∙ d.status; text_is = x ∙ d.text }
+gives_of t.Check program status text run done n x r d = record { status_is = n ∙ d.status; text_is = x ∙ d.text_is; no_run = r ∙ d.no_run }
+gives_of t.Code program status text run done n x r d = record { status_is = n ∙ d.status; text_is = x ∙ d.text_is; no_run = r ∙ d.no_run }
+
+gives_cores : (task : Task) (program : Program) (status : ℕ) → GivesStatus task program status → IsOfCores status
+gives_cores (t.Run steps) program status h = subst IsOfCores (sym h.status_is) (of_cores h.ended.cores)
+gives_cores t.Check program status h = inl h
+gives_cores t.Code program status h = inl h
+
 -- ---- what is due, by its status
 
 module _ (words : List (List ℕ)) (before after : LibraryTold) (status : ℕ) (text : List ℕ) (run : Option Ended) where
-  module _ (file : List ℕ) (steps : ℕ) (call : IsRunCall words file steps) where
-    has_read : (bytes : List ℕ) → IsRead before after file → Gave (before.text_at file) bytes → length bytes ≤ 1048576 → HasRead words before after steps bytes
-    has_read bytes w g l = record { file = file; is_run = call; well = w; gave = g; within = l }
+  module _ (task : Task) (file : List ℕ) (is_call : IsCall words task file) where
+    has_read : (bytes : List ℕ) → IsRead before after file → Gave (before.text_at file) bytes → length bytes ≤ 1048576 → HasRead words before after task bytes
+    has_read bytes w g l = record { file = file; is_call = is_call; well = w; gave = g; within = l }
 
     refused_with : (number : ℕ) (bytes : List ℕ) (refusal : Refusal) → IsRead before after file → Gave (before.text_at file) bytes → length bytes ≤ 1048576 →
-        status ≡ refusal_status refusal → Refuses bytes steps refusal → status ≡ number →
+        status ≡ refusal_status refusal → Refuses bytes task refusal → status ≡ number →
         IsRefused number words before after
-    refused_with number bytes refusal w g l n h e = record { steps = steps; bytes = bytes; read = has_read bytes w g l; is_refused = record { refusal = refusal; status_is = sym n ∙ e; refuses = h } }
+    refused_with number bytes refusal w g l n h e = record { task = task; bytes = bytes; read = has_read bytes w g l; is_refused = record { refusal = refusal; status_is = sym n ∙ e; refuses = h } }
 
-    file_refused : (number : ℕ) → IsOfRefusal number → number ≢ 10 → IsDueOfFile file steps before after status text run → status ≡ number → IsRefused number words before after
-    file_refused number k m (library_fault n t r j f) e = absurd (seven number k (sym e ∙ n))
-    file_refused number k m (too_long n t r w took) e = absurd (m (sym e ∙ n))
-    file_refused number k m (source bytes w g l (refused x n t r h)) e = refused_with number bytes x w g l n h e
-    file_refused number k m (source bytes w g l (ran done n t r d)) e = absurd (apart number k (subst IsOfCores e (done_status bytes steps status done n d)))
+    file_refused : (number : ℕ) → IsOfRefusal number → number ≢ 10 → IsDueOfFile file task before after status text run → status ≡ number → IsRefused number words before after
+    file_refused number k m (library_fault n x r j f) e = absurd (seven number k (sym e ∙ n))
+    file_refused number k m (too_long n x r w took) e = absurd (m (sym e ∙ n))
+    file_refused number k m (source bytes w g l (refused y n x r h)) e = refused_with number bytes y w g l n h e
+    file_refused number k m (source bytes w g l (is_done done n x r d)) e = absurd (apart number k (subst IsOfCores e (done_status bytes task status done n d)))
 
-    file_over : IsDueOfFile file steps before after status text run → status ≡ 10 → IsTooLong words before after ⊎ IsRefused 10 words before after
-    file_over (library_fault n t r j f) e = absurd (omega (arith, n, e))
-    file_over (too_long n t r w took) e = inl (record { file = file; steps = steps; is_run = call; well = w; took = took })
-    file_over (source bytes w g l (refused x n t r h)) e = inr (refused_with 10 bytes x w g l n h e)
-    file_over (source bytes w g l (ran done n t r d)) e = absurd (not_above status 10 (done_status bytes steps status done n d) e (omega arith))
+    file_over : IsDueOfFile file task before after status text run → status ≡ 10 → IsTooLong words before after ⊎ IsRefused 10 words before after
+    file_over (library_fault n x r j f) e = absurd (omega (arith, n, e))
+    file_over (too_long n x r w took) e = inl (record { task = task; file = file; is_call = is_call; well = w; took = took })
+    file_over (source bytes w g l (refused y n x r h)) e = inr (refused_with 10 bytes y w g l n h e)
+    file_over (source bytes w g l (is_done done n x r d)) e = absurd (not_above status 10 (done_status bytes task status done n d) e (omega arith))
 
-    file_reported : IsDueOfFile file steps before after status text run → IsOfCores status → IsReported words before after status run
-    file_reported (library_fault n t r j f) h = absurd (not_above status 7 h n (omega arith))
-    file_reported (too_long n t r w took) h = absurd (not_above status 10 h n (omega arith))
-    file_reported (source bytes w g l (refused x n t r k)) h = absurd (apart (refusal_status x) (of_refusal x) (subst IsOfCores n h))
-    file_reported (source bytes w g l (ran done n t r d)) h = record {
-      steps = steps;
+    file_made : IsDueOfFile file task before after status text run → IsOfCores status → IsMade words before after status text run
+    file_made (library_fault n x r j f) h = absurd (not_above status 7 h n (omega arith))
+    file_made (too_long n x r w took) h = absurd (not_above status 10 h n (omega arith))
+    file_made (source bytes w g l (refused y n x r k)) h = absurd (apart (refusal_status y) (of_refusal y) (subst IsOfCores n h))
+    file_made (source bytes w g l (is_done done n x r d)) h = record {
+      task = task;
       bytes = bytes;
       read = has_read bytes w g l;
       program = d.program;
-      is_runnable = d.is_runnable;
-      ended = done.ended;
-      kept = r;
-      is_run = d.is_run;
-      status_is = n ∙ d.status;
+      is_ready = d.is_ready;
+      gives = gives_of task d.program status text run done n x r d.makes;
     }
 
   due_refused : (number : ℕ) → IsOfRefusal number → number ≢ 10 → IsDue words before after status text run → status ≡ number → IsRefused number words before after
-  due_refused number k m (usage n t r w s) e = absurd (one number k (sym e ∙ n))
-  due_refused number k m (runs file steps call due) e = file_refused file steps call number k m due e
+  due_refused number k m (usage n x r w s) e = absurd (one number k (sym e ∙ n))
+  due_refused number k m (call task file c due) e = file_refused task file c number k m due e
 
   due_over : IsDue words before after status text run → status ≡ 10 → IsTooLong words before after ⊎ IsRefused 10 words before after
-  due_over (usage n t r w s) e = absurd (omega (arith, n, e))
-  due_over (runs file steps call due) e = file_over file steps call due e
+  due_over (usage n x r w s) e = absurd (omega (arith, n, e))
+  due_over (call task file c due) e = file_over task file c due e
 
-  due_reported : IsDue words before after status text run → IsOfCores status → IsReported words before after status run
-  due_reported (usage n t r w s) h = absurd (not_one status h n)
-  due_reported (runs file steps call due) h = file_reported file steps call due h
+  due_made : IsDue words before after status text run → IsOfCores status → IsMade words before after status text run
+  due_made (usage n x r w s) h = absurd (not_one status h n)
+  due_made (call task file c due) h = file_made task file c due h
 
 -- ---- the clauses, one by one
 
 module _ (words : List (List ℕ)) (before after : LibraryTold) (status : ℕ) (run : Option Ended) (sink later : SinkTold)
     (whole : status ≢ 8 → status ≢ 11 → TookWhole (IsDue words before after) status run sink later) (memory : status ≡ 11 → GaveUp words before after run sink later)
     (tells_usage : TellsUsage words status) (decided : IsOfText status → IsDecided words before after status) where
-  -- at status 11 the words call for a run, and one text was opened
-  pub called : status ≡ 11 → IsCall words
-  called is = let m = memory is in record { file = m.file; steps = m.steps; is_run = m.is_call }
+  -- at status 11 the words are a call, and one text was opened
+  pub called : status ≡ 11 → IsSomeCall words
+  called is = let m = memory is in record { task = m.task; file = m.file; is_call = m.is_call }
 
   pub opened : status ≡ 11 → CountsOne before.opens after.opens
   opened is = (memory is).is_read.just.once
@@ -150,58 +190,96 @@ module _ (words : List (List ℕ)) (before after : LibraryTold) (status : ℕ) (
   pub over : status ≡ 10 → IsTooLong words before after ⊎ IsRefused 10 words before after
   over is = let w = whole (λ e. omega (arith, e, is)) (λ e. omega (arith, e, is)) in due_over words before after status w.text run w.due is
 
-  pub reported : IsOfCores status → IsReported words before after status run
-  reported is = let w = whole (λ e. not_above status 8 is e (omega arith)) (λ e. not_above status 11 is e (omega arith)) in due_reported words before after status w.text run w.due is
+  pub reported : IsOfCores status → IsWritten words before after status run sink later
+  reported is =
+      let w = whole (λ e. not_above status 8 is e (omega arith)) (λ e. not_above status 11 is e (omega arith)) in
+      record { text = w.text; made = due_made words before after status w.text run w.due is; taken = w.taken }
 
   -- what the text decides, where the library tells it
-  module _ (file text : List ℕ) (steps : ℕ) (call : IsRunCall words file steps) (told : before.text_at file ≡ Some text) (undisturbed : IsUndisturbed status) where
+  module _ (task : Task) (file text : List ℕ) (is_call : IsCall words task file) (told : before.text_at file ≡ Some text) (undisturbed : IsUndisturbed status) where
     of_text : IsOfText status
-    of_text = record { usage = λ e. tells_usage.told e file steps call; library = undisturbed.library; sink = undisturbed.sink; memory = undisturbed.memory }
+    of_text = record { usage = λ e. tells_usage.told e task file is_call; library = undisturbed.library; sink = undisturbed.sink; memory = undisturbed.memory }
 
-    exactly : (number : ℕ) → (status ≡ number) ↔ CallsFor text steps number
-    exactly = (decided of_text).only file text steps call told
+    exactly : (number : ℕ) → (status ≡ number) ↔ CallsFor text task number
+    exactly = (decided of_text).only task file text is_call told
 
-    refused_way : (number : ℕ) → IsOfRefusal number → number ≢ 10 → Way text steps number → (length text ≤ 1048576) × IsRefusedAs number text steps
+    refused_way : (number : ℕ) → IsOfRefusal number → number ≢ 10 → Way text task number → (length text ≤ 1048576) × IsRefusedAs number text task
     refused_way number k m (is_long e h) = absurd (m e)
     refused_way number k m (is_refused s h) = (s, h)
-    refused_way number k m (is_run s h) = absurd (apart number k (subst IsOfCores (sym h.status_is) (of_cores h.ended.cores)))
+    refused_way number k m (is_made s h) = absurd (apart number k (gives_cores task h.program number h.gives))
 
-    refused_then : (number : ℕ) → (length text ≤ 1048576) × IsRefusedAs number text steps → status ≡ number
-    refused_then number h = (exactly number).1 (calls_refused text steps number h.1.refusal (sym h.1.status_is) h.0 h.1.refuses)
+    refused_then : (number : ℕ) → (length text ≤ 1048576) × IsRefusedAs number text task → status ≡ number
+    refused_then number h = (exactly number).1 (calls_refused text task number h.1.refusal (sym h.1.status_is) h.0 h.1.refuses)
 
-    only_refused : (number : ℕ) → IsOfRefusal number → number ≢ 10 → (status ≡ number) ↔ ((length text ≤ 1048576) × IsRefusedAs number text steps)
-    only_refused number k m = ((λ is. refused_way number k m (way_of text steps number ((exactly number).0 is))), refused_then number)
+    only_refused : (number : ℕ) → IsOfRefusal number → number ≢ 10 → (status ≡ number) ↔ ((length text ≤ 1048576) × IsRefusedAs number text task)
+    only_refused number k m = ((λ is. refused_way number k m (way_of text task number ((exactly number).0 is))), refused_then number)
 
-    pub only_misspelled : (status ≡ 2) ↔ ((length text ≤ 1048576) × IsRefusedAs 2 text steps)
+    pub only_misspelled : (status ≡ 2) ↔ ((length text ≤ 1048576) × IsRefusedAs 2 text task)
     only_misspelled = only_refused 2 (inl refl) (λ e. omega (arith, e))
 
-    pub only_broken : (status ≡ 3) ↔ ((length text ≤ 1048576) × IsRefusedAs 3 text steps)
+    pub only_broken : (status ≡ 3) ↔ ((length text ≤ 1048576) × IsRefusedAs 3 text task)
     only_broken = only_refused 3 (inr (inl refl)) (λ e. omega (arith, e))
 
-    pub only_not_built : (status ≡ 15) ↔ ((length text ≤ 1048576) × IsRefusedAs 15 text steps)
+    pub only_not_built : (status ≡ 15) ↔ ((length text ≤ 1048576) × IsRefusedAs 15 text task)
     only_not_built = only_refused 15 (inr (inr (inr refl))) (λ e. omega (arith, e))
 
-    over_way : Way text steps 10 → (1048576 < length text) ⊎ ((length text ≤ 1048576) × IsRefusedAs 10 text steps)
+    over_way : Way text task 10 → (1048576 < length text) ⊎ ((length text ≤ 1048576) × IsRefusedAs 10 text task)
     over_way (is_long e h) = inl h
     over_way (is_refused s h) = inr (s, h)
-    over_way (is_run s h) = absurd (not_above 10 10 (subst IsOfCores (sym h.status_is) (of_cores h.ended.cores)) refl (omega arith))
+    over_way (is_made s h) = absurd (not_above 10 10 (gives_cores task h.program 10 h.gives) refl (omega arith))
 
-    over_then : (1048576 < length text) ⊎ ((length text ≤ 1048576) × IsRefusedAs 10 text steps) → status ≡ 10
+    over_then : (1048576 < length text) ⊎ ((length text ≤ 1048576) × IsRefusedAs 10 text task) → status ≡ 10
     over_then (inl h) = (exactly 10).1 (over_long refl h)
     over_then (inr h) = refused_then 10 h
 
-    pub only_over : (status ≡ 10) ↔ ((1048576 < length text) ⊎ ((length text ≤ 1048576) × IsRefusedAs 10 text steps))
-    only_over = ((λ is. over_way (way_of text steps 10 ((exactly 10).0 is))), over_then)
+    pub only_over : (status ≡ 10) ↔ ((1048576 < length text) ⊎ ((length text ≤ 1048576) × IsRefusedAs 10 text task))
+    only_over = ((λ is. over_way (way_of text task 10 ((exactly 10).0 is))), over_then)
 
-    reported_way : Way text steps status → IsOfCores status → (length text ≤ 1048576) × ((program : Program) × IsRunnable text steps program)
+    reported_way : Way text task status → IsOfCores status → (length text ≤ 1048576) × ((program : Program) × IsReady text task program)
     reported_way (is_long e h) is = absurd (not_above status 10 is e (omega arith))
     reported_way (is_refused s h) is = absurd (apart status (subst IsOfRefusal h.status_is (of_refusal h.refusal)) is)
-    reported_way (is_run s h) is = (s, (h.program, h.is_runnable))
+    reported_way (is_made s h) is = (s, (h.program, h.is_ready))
 
-    cores_way : Way text steps status → (length text ≤ 1048576) × ((program : Program) × IsRunnable text steps program) → IsOfCores status
+    cores_way : Way text task status → (length text ≤ 1048576) × ((program : Program) × IsReady text task program) → IsOfCores status
     cores_way (is_long e h) k = absurd (omega (arith, h, k.0))
-    cores_way (is_refused s h) k = absurd (refused_not text steps s h.refusal k.1.0 h.refuses k.1.1)
-    cores_way (is_run s h) k = subst IsOfCores (sym h.status_is) (of_cores h.ended.cores)
+    cores_way (is_refused s h) k = absurd (refused_not text task s h.refusal k.1.0 h.refuses k.1.1)
+    cores_way (is_made s h) k = gives_cores task h.program status h.gives
 
-    pub only_reported : IsOfCores status ↔ ((length text ≤ 1048576) × ((program : Program) × IsRunnable text steps program))
-    only_reported = let way = way_of text steps status ((exactly status).0 refl) in (reported_way way, cores_way way)
+    pub only_reported : IsOfCores status ↔ ((length text ≤ 1048576) × ((program : Program) × IsReady text task program))
+    only_reported = let way = way_of text task status ((exactly status).0 refl) in (reported_way way, cores_way way)
+
+-- ---- a check, and a listing
+
+module _ (text : List ℕ) where
+  -- a check knows no bound on steps, and nothing that is not built
+  pub no_steps_of_a_check : IsTooMany text t.Check → ⊥
+  no_steps_of_a_check h = absurd (omega (arith, h.over))
+
+  pub no_form_of_a_check : (at : ℕ) → IsNotBuilt text t.Check at → ⊥
+  no_form_of_a_check at h = let e = h.unbuilt in cc (e)
+
+  accepted_of : (program : Program) → IsAccepted text program → IsReady text t.Check program
+  accepted_of program a = record { is_within = record { is_accepted = a; within = omega arith }; built = refl }
+
+  -- and a listing no bound
+  pub no_steps_of_a_listing : IsTooMany text t.Code → ⊥
+  no_steps_of_a_listing h = absurd (omega (arith, h.over))
+
+  listed_of : (program : Program) → IsAccepted text program → unbuilt_nodes program.items ≡ [] → IsReady text t.Code program
+  listed_of program a b = record { is_within = record { is_accepted = a; within = omega arith }; built = b }
+
+  -- a text is accepted with status 0 exactly where it spells a program that breaks no rule
+  pub check_calls : CallsFor text t.Check 0 ↔ (IsShort text × ((program : Program) × IsAccepted text program))
+  check_calls = ((λ h. forth (way_of text t.Check 0 h)), (λ k. made k.1.0 k.0 (accepted_of k.1.0 k.1.1) refl)) where
+    forth : Way text t.Check 0 → IsShort text × ((program : Program) × IsAccepted text program)
+    forth (is_long e h) = absurd (omega (arith, e))
+    forth (is_refused s h) = absurd (omega (arith, some_status h.refusal, h.status_is))
+    forth (is_made s h) = (s, (h.program, h.is_ready.is_within.is_accepted))
+
+  -- and it is listed with status 0 exactly where all of that program is built too
+  pub code_calls : CallsFor text t.Code 0 ↔ (IsShort text × ((program : Program) × (IsAccepted text program × (unbuilt_nodes program.items ≡ []))))
+  code_calls = ((λ h. forth (way_of text t.Code 0 h)), (λ k. made k.1.0 k.0 (listed_of k.1.0 k.1.1.0 k.1.1.1) refl)) where
+    forth : Way text t.Code 0 → IsShort text × ((program : Program) × (IsAccepted text program × (unbuilt_nodes program.items ≡ [])))
+    forth (is_long e h) = absurd (omega (arith, e))
+    forth (is_refused s h) = absurd (omega (arith, some_status h.refusal, h.status_is))
+    forth (is_made s h) = (s, (h.program, (h.is_ready.is_within.is_accepted, h.is_ready.built)))

@@ -64,18 +64,20 @@ use Rattle.ac_compile.proofs.Examples.{two, two_parts, two_is_compiled}
 use Rattle.ac_program.specs.declared.refusal.Refusal.TheVariants as r
 use Rattle.ac_program.specs.declared.execute.Done.{Done}
 use Rattle.ac_program.specs.declared.running.Ended.{Ended}
-use Rattle.ac_program.specs.Words.{IsPlain, IsNumber, IsBound, IsArguments, IsRunCall, no_more, operand, bound_apart, bound_joined, only_operands}
+use Rattle.ac_program.specs.declared.words.Task.{Task}
+use Rattle.ac_program.specs.declared.words.Task.TheVariants as t
+use Rattle.ac_program.specs.Words.{IsPlain, IsNumber, IsBound, IsArguments, IsTask, IsCall, steps_of, no_more, operand, bound_apart, bound_joined, only_operands}
 use Rattle.ac_program.specs.History.{Stamped, merged, IsLegal}
 use Rattle.ac_program.specs.Run.{HasEnded, HaveEnded, IsQuiet, IsCoreRun, IsRunOf}
 use Rattle.ac_program.specs.Source.{HasTokens, HasFault, IsUnexpected, IsTooDeep, IsAccepted, IsBroken, IsTooMany, IsWithin, IsNotBuilt, Refuses}
-use Rattle.ac_program.specs.Source.{IsSpelled, IsRunnable, IsBuilt, all_steps, most_steps, names_of}
-use Rattle.ac_program.specs.Lines.{library_line, limit_source_line, refusal_line, refusal_status}
+use Rattle.ac_program.specs.Source.{IsSpelled, IsReady, all_steps, missing, most_steps, names_of}
+use Rattle.ac_program.specs.Lines.{accepted_line, library_line, limit_source_line, refusal_line, refusal_status}
 use Rattle.ac_outside.specs.Told.{LibraryTold, SinkTold}
 use Rattle.ac_program.specs.Reading.{Gave, TookBytes}
 use Rattle.ac_program.specs.Writing.{TookFront}
-use Rattle.ac_program.specs.Making.{IsDone, ran}
-use Rattle.ac_program.specs.Headline.{IsNoCall, IsRead, IsShort, IsDue, runs, source, TookWhole, TookPart, GaveUp}
-use Rattle.ac_program.specs.Headline.{TellsUsage, TellsLibrary, TellsSink, IsOfText, CallsFor, has_run, bad_token, unexpected, broken, over_long, too_many, not_built, IsDecided}
+use Rattle.ac_program.specs.Making.{IsDone, IsReported, IsTold, Makes, made as is_made}
+use Rattle.ac_program.specs.Headline.{IsNoCall, IsRead, IsShort, IsDue, call, source, TookWhole, TookPart, GaveUp}
+use Rattle.ac_program.specs.Headline.{TellsUsage, TellsLibrary, TellsSink, IsOfText, HasRun, GivesStatus, CallsFor, made, bad_token, unexpected, broken, over_long, too_many, not_built, IsDecided}
 use Rattle.std.specs.Str.Parse.{digits_value}
 use Rattle.ac_resolve.specs.Resolution.{resolved}
 use Rattle.ac_translation.specs.Same.{IsSame}
@@ -83,7 +85,8 @@ use Rattle.ac_compile.proofs.Compiling.{is_same}
 use Rattle.stack_code.specs.declared.instr.Instr.{Instr}
 use Rattle.stack_code.specs.declared.instr.Instr.TheVariants as i
 use Rattle.stack_code.specs.Machine.{Flat, FlatEnd}
-use Rattle.stack_code.specs.Alone.{is_alone}
+use Rattle.stack_code.specs.Alone.{is_alone, IsAlone}
+use Rattle.stack_code.specs.Listing.{listing}
 use Rattle.core_machine.specs.Machine.{Machine, IsFirst, IsOnItsWay, IsSameCore}
 use Rattle.ac_tree.specs.declared.stmt.Stmt.TheVariants as s
 use Rattle.ac_program.proofs.Reasons.{is_decided}
@@ -94,9 +97,36 @@ use Rattle.ac_program.proofs.TwoRules.{two_tree, two_is_clean, two_is_built}
 x_ac : IsPlain (codes "x.ac")
 x_ac e = cc
 
--- run x.ac
-pub run_a_file : IsRunCall (codes "run" ∷ codes "x.ac" ∷ []) (codes "x.ac") 100000
-run_a_file = record { given = None; command = record { rest = _; form = refl; arguments = operand x_ac no_more }; bound = refl }
+-- run x.ac, check x.ac and code x.ac
+pub run_a_file : IsCall (codes "run" ∷ codes "x.ac" ∷ []) (t.Run 100000) (codes "x.ac")
+run_a_file = record { name = _; given = None; command = record { rest = _; form = refl; arguments = operand x_ac no_more }; is_task = (refl, refl) }
+
+pub check_a_file : IsCall (codes "check" ∷ codes "x.ac" ∷ []) t.Check (codes "x.ac")
+check_a_file = record { name = _; given = None; command = record { rest = _; form = refl; arguments = operand x_ac no_more }; is_task = (refl, refl) }
+
+pub code_of_a_file : IsCall (codes "code" ∷ codes "x.ac" ∷ []) t.Code (codes "x.ac")
+code_of_a_file = record { name = _; given = None; command = record { rest = _; form = refl; arguments = operand x_ac no_more }; is_task = (refl, refl) }
+
+-- a command stands for its task alone, and a bound is for a run alone
+pub another_task : IsTask (codes "check") None t.Code → ⊥
+another_task h = let e = h.0 in cc
+
+pub no_run_of_a_check : (steps : ℕ) → IsTask (codes "check") None (t.Run steps) → ⊥
+no_run_of_a_check steps h = let e = h.0 in cc
+
+pub no_bound_of_a_check : (task : Task) → IsTask (codes "check") (Some 7) task → ⊥
+no_bound_of_a_check (t.Run steps) h = let e = h.0 in cc
+no_bound_of_a_check t.Check h = let e = h.1 in cc
+no_bound_of_a_check t.Code h = let e = h.1 in cc
+
+pub no_bound_of_a_listing : (task : Task) → IsTask (codes "code") (Some 7) task → ⊥
+no_bound_of_a_listing (t.Run steps) h = let e = h.0 in cc
+no_bound_of_a_listing t.Check h = let e = h.1 in cc
+no_bound_of_a_listing t.Code h = let e = h.1 in cc
+
+-- only a run has steps
+pub the_steps_of_tasks : steps_of (t.Run 7) ∷ steps_of t.Check ∷ steps_of t.Code ∷ [] ≡ 7 ∷ 0 ∷ 0 ∷ []
+the_steps_of_tasks = refl
 
 -- a number of one digit
 pub seven : IsNumber (codes "7") 7
@@ -106,11 +136,13 @@ bound_seven : IsBound (codes "7") 7
 bound_seven = record { number = seven; least = omega arith; most = omega arith }
 
 -- run x.ac --steps 7, and run --steps=7 x.ac
-pub run_with_a_bound : IsRunCall (codes "run" ∷ codes "x.ac" ∷ codes "--steps" ∷ codes "7" ∷ []) (codes "x.ac") 7
-run_with_a_bound = record { given = Some 7; command = record { rest = _; form = refl; arguments = operand x_ac (bound_apart refl bound_seven no_more) }; bound = refl }
+pub run_with_a_bound : IsCall (codes "run" ∷ codes "x.ac" ∷ codes "--steps" ∷ codes "7" ∷ []) (t.Run 7) (codes "x.ac")
+run_with_a_bound =
+    record { name = _; given = Some 7; command = record { rest = _; form = refl; arguments = operand x_ac (bound_apart refl bound_seven no_more) }; is_task = (refl, refl) }
 
-pub run_with_a_bound_before : IsRunCall (codes "run" ∷ codes "--steps=7" ∷ codes "x.ac" ∷ []) (codes "x.ac") 7
-run_with_a_bound_before = record { given = Some 7; command = record { rest = _; form = refl; arguments = bound_joined refl bound_seven (operand x_ac no_more) }; bound = refl }
+pub run_with_a_bound_before : IsCall (codes "run" ∷ codes "--steps=7" ∷ codes "x.ac" ∷ []) (t.Run 7) (codes "x.ac")
+run_with_a_bound_before =
+    record { name = _; given = Some 7; command = record { rest = _; form = refl; arguments = bound_joined refl bound_seven (operand x_ac no_more) }; is_task = (refl, refl) }
 
 -- a leading nought is no number, and no word of eight digits is one
 pub no_leading_nought : (n : ℕ) → IsNumber (codes "07") n → ⊥
@@ -147,11 +179,12 @@ pub a_bound_past_it : IsBound (codes "2000001") 2000001 → ⊥
 a_bound_past_it h = let le = h.most in omega (arith, le)
 
 -- run -- -x.ac: after `--` a word is an operand whatever it starts with, but for `-` alone
-pub a_file_behind_two_dashes : IsRunCall (codes "run" ∷ codes "--" ∷ codes "-x.ac" ∷ []) (codes "-x.ac") 100000
+pub a_file_behind_two_dashes : IsCall (codes "run" ∷ codes "--" ∷ codes "-x.ac" ∷ []) (t.Run 100000) (codes "-x.ac")
 a_file_behind_two_dashes = record {
+  name = _;
   given = None;
   command = record { rest = _; form = refl; arguments = only_operands refl (All-from_recursion (λ (word : List ℕ). word ≡ codes "-" → ⊥) (codes "-x.ac" ∷ []) ((λ e. cc), tt)) };
-  bound = refl;
+  is_task = (refl, refl);
 }
 
 pub a_word_with_a_dash_in_front : IsPlain (codes "-x.ac") → ⊥
@@ -167,21 +200,37 @@ no_second_bound _ _ (bound_joined is bound more) = none_more more where
   none_more (only_operands is all) = cc
 no_second_bound _ _ (only_operands is all) = cc
 
--- run: no file, no call
-pub no_file : (file : List ℕ) (steps : ℕ) → IsRunCall (codes "run" ∷ []) file steps → ⊥
-no_file file steps r = none (same_rest r.command.form) r.command.arguments where
-  same_rest : {rest : List (List ℕ)} → codes "run" ∷ [] ≡ codes "run" ∷ rest → [] ≡ rest
-  same_rest e = cc
+-- run and check without a file are no calls
+no_arguments : {rest operands : List (List ℕ)} {given : Option ℕ} (file : List ℕ) → [] ≡ rest → IsArguments rest (file ∷ operands) given → ⊥
+no_arguments file e (operand h more) = cc
+no_arguments file e (bound_apart is bound more) = cc
+no_arguments file e (bound_joined is bound more) = cc
+no_arguments file e (only_operands is all) = cc
 
-  none : {rest operands : List (List ℕ)} {given : Option ℕ} → [] ≡ rest → IsArguments rest (file ∷ operands) given → ⊥
-  none e (operand h more) = cc
-  none e (bound_apart is bound more) = cc
-  none e (bound_joined is bound more) = cc
-  none e (only_operands is all) = cc
+same_rest : {v w : List ℕ} {vs rest : List (List ℕ)} → v ∷ vs ≡ w ∷ rest → vs ≡ rest
+same_rest e = cc
 
--- check x.ac is another command
-pub another_command : (file : List ℕ) (steps : ℕ) → IsRunCall (codes "check" ∷ codes "x.ac" ∷ []) file steps → ⊥
-another_command file steps r = let e = r.command.form in cc
+same_first : {v w : List ℕ} {vs rest : List (List ℕ)} → v ∷ vs ≡ w ∷ rest → v ≡ w
+same_first e = cc
+
+pub no_file : (task : Task) (file : List ℕ) → IsCall (codes "run" ∷ []) task file → ⊥
+no_file task file r = no_arguments file (same_rest r.command.form) r.command.arguments
+
+pub no_file_to_check : (task : Task) (file : List ℕ) → IsCall (codes "check" ∷ []) task file → ⊥
+no_file_to_check task file r = no_arguments file (same_rest r.command.form) r.command.arguments
+
+-- trace x.ac is a command that is not there yet
+abbrev first_of : List ℕ → ℕ
+first_of [] = 0
+first_of (x ∷ _) = x
+
+no_command : (name : List ℕ) (given : Option ℕ) (task : Task) → codes "trace" ≡ name → IsTask name given task → ⊥
+no_command name given (t.Run steps) e h = let n : 116 ≡ 114 = ap first_of (e ∙ h.0) in omega (arith, n)
+no_command name given t.Check e h = let n : 116 ≡ 99 = ap first_of (e ∙ h.0) in omega (arith, n)
+no_command name given t.Code e h = let n : 116 ≡ 99 = ap first_of (e ∙ h.0) in omega (arith, n)
+
+pub another_command : (task : Task) (file : List ℕ) → IsCall (codes "trace" ∷ codes "x.ac" ∷ []) task file → ⊥
+another_command task file r = no_command r.name r.given task (same_first r.command.form) r.is_task
 
 -- ---- histories
 
@@ -230,6 +279,9 @@ pub the_lines_of_limits : refusal_line (r.TooDeep 9) ∷ refusal_line r.TooManyS
     ≡ codes "limit: nesting at 9\n" ∷ codes "limit: steps\n" ∷ codes "limit: source\n" ∷ codes "library fault\n" ∷ []
 the_lines_of_limits = rw (decimal_digit 9 (omega arith)) refl
 
+pub the_line_of_a_check : accepted_line ≡ codes "accepted\n"
+the_line_of_a_check = refl
+
 pub the_lines_of_faults : refusal_line (r.BadByte 9) ∷ refusal_line (r.NumberTooLarge 9) ∷ refusal_line (r.OpenComment 9) ∷ refusal_line (r.OpenText 9) ∷ []
     ≡ codes "bad byte at 9\n" ∷ codes "number too large at 9\n" ∷ codes "open comment at 9\n" ∷ codes "open text at 9\n" ∷ []
 the_lines_of_faults = rw (decimal_digit 9 (omega arith)) refl
@@ -259,10 +311,10 @@ no_other_status_tells_it h = neither (h.only no_file) where
 
 -- run x.ac is one
 pub no_usage_of_a_call : TellsUsage (codes "run" ∷ codes "x.ac" ∷ []) 1 → ⊥
-no_usage_of_a_call h = h.told refl (codes "x.ac") 100000 run_a_file
+no_usage_of_a_call h = h.told refl (t.Run 100000) (codes "x.ac") run_a_file
 
 pub another_status_of_a_call : TellsUsage (codes "run" ∷ codes "x.ac" ∷ []) 4
-another_status_of_a_call = record { told = λ e. omega (arith, e); only = λ none. absurd (none (codes "x.ac") 100000 run_a_file) }
+another_status_of_a_call = record { told = λ e. omega (arith, e); only = λ none. absurd (none (t.Run 100000) (codes "x.ac") run_a_file) }
 
 -- ---- what was read and written
 
@@ -332,15 +384,19 @@ it_is_a_run = record {
 pub it_is_spelled : IsSpelled two_text two_tree
 it_is_spelled = record { tokens = two_tokens; lexed = record { lexed = two_ac_lexed; only = two_ac_only }; tree = two_ac_parsed }
 
-pub it_is_runnable : IsRunnable two_text 100 two_tree
-it_is_runnable = record { is_within = record { is_accepted = record { spelled = it_is_spelled; clean = two_is_clean }; within = omega arith }; built = two_is_built }
+pub it_is_ready : IsReady two_text (t.Run 100) two_tree
+it_is_ready = record { is_within = record { is_accepted = record { spelled = it_is_spelled; clean = two_is_clean }; within = omega arith }; built = two_is_built }
 
 -- one core may go 4,000,000 steps, and no more
-pub as_many_steps_as_there_may_be : all_steps two_tree 4000000 ≤ most_steps
+pub as_many_steps_as_there_may_be : all_steps two_tree (t.Run 4000000) ≤ most_steps
 as_many_steps_as_there_may_be = omega arith
 
-pub one_step_too_many : most_steps < all_steps two_tree 4000001
+pub one_step_too_many : most_steps < all_steps two_tree (t.Run 4000001)
 one_step_too_many = omega arith
+
+-- and a check of it none
+pub no_steps_to_check : all_steps two_tree t.Check ≡ 0
+no_steps_to_check = refl
 
 -- ---- sources that are refused
 
@@ -358,7 +414,7 @@ same_fault e = cc
 pub it_has_no_other : HasFault (codes "007") (l.BadByte 0) → ⊥
 it_has_no_other h = let e : 0 ≡ 1 = same_fault (it_has_a_fault.only (fault_at 0) h.lexed) in omega (arith, e)
 
-pub its_fault_refuses_it : Refuses (codes "007") 100 (r.BadByte 1)
+pub its_fault_refuses_it : Refuses (codes "007") (t.Run 100) (r.BadByte 1)
 its_fault_refuses_it = it_has_a_fault
 
 pub it_has_no_tokens : (tokens : List Token) → HasTokens (codes "007") tokens → ⊥
@@ -367,7 +423,7 @@ it_has_no_tokens tokens h = no_tokens tokens h.lexed
 pub nothing_is_spelled : (program : Program) → IsSpelled (codes "007") program → ⊥
 nothing_is_spelled program h = it_has_no_tokens h.tokens h.lexed
 
-pub a_fault_calls_for_2 : CallsFor (codes "007") 100 2
+pub a_fault_calls_for_2 : CallsFor (codes "007") (t.Run 100) 2
 a_fault_calls_for_2 = bad_token (l.BadByte 1) refl (omega arith) it_has_a_fault
 
 -- core a f; lacks a parenthesis at its eighth byte
@@ -379,7 +435,7 @@ it_is_unexpected = record {
   unexpected = no_parenthesis;
 }
 
-pub an_unexpected_token_calls_for_2 : CallsFor (codes "core a f;") 100 2
+pub an_unexpected_token_calls_for_2 : CallsFor (codes "core a f;") (t.Run 100) 2
 an_unexpected_token_calls_for_2 = unexpected 7 refl (omega arith) it_is_unexpected
 
 -- what a source spells is one program, whose tokens are neither unexpected nor too deep
@@ -455,8 +511,11 @@ one_assignment = parsed_tree _ _ [] refl
 pub it_breaks_a_rule : IsBroken undeclared_text its_rule
 it_breaks_a_rule = record { program = undeclared_tree; spelled = record { tokens = tokens_in undeclared_text; lexed = undeclared_tokens; tree = one_assignment }; least = its_least }
 
-pub a_broken_rule_calls_for_3 : CallsFor undeclared_text 100 3
+pub a_broken_rule_calls_for_3 : CallsFor undeclared_text (t.Run 100) 3
 a_broken_rule_calls_for_3 = broken its_rule refl (omega arith) it_breaks_a_rule
+
+pub in_a_check_too : CallsFor undeclared_text t.Check 3
+in_a_check_too = broken its_rule refl (omega arith) it_breaks_a_rule
 
 pub it_is_not_accepted : (program : Program) → IsAccepted undeclared_text program → ⊥
 it_is_not_accepted program h =
@@ -471,22 +530,22 @@ two_ac_breaks_no_rule broken_rule h =
     two_is_clean least.number broken_rule.rule least.is
 
 -- two.ac with a step too many for its core, and with as many as there may be
-pub too_many_steps : IsTooMany two_text 4000001
+pub too_many_steps : IsTooMany two_text (t.Run 4000001)
 too_many_steps = record { program = two_tree; is_accepted = record { spelled = it_is_spelled; clean = two_is_clean }; over = one_step_too_many }
 
-pub not_too_many_steps : IsTooMany two_text 4000000 → ⊥
+pub not_too_many_steps : IsTooMany two_text (t.Run 4000000) → ⊥
 not_too_many_steps h =
-    let over : most_steps < all_steps two_tree 4000000 = subst (λ (p : Program). most_steps < all_steps p 4000000) (sym (its_only_program h.program h.is_accepted.spelled)) h.over in
+    let over : most_steps < all_steps two_tree (t.Run 4000000) = subst (λ (p : Program). most_steps < all_steps p (t.Run 4000000)) (sym (its_only_program h.program h.is_accepted.spelled)) h.over in
     omega (arith, over)
 
-pub too_many_steps_call_for_10 : CallsFor two_text 4000001 10
+pub too_many_steps_call_for_10 : CallsFor two_text (t.Run 4000001) 10
 too_many_steps_call_for_10 = too_many refl (omega arith) too_many_steps
 
-pub it_is_not_within : IsWithin two_text 4000001 two_tree → ⊥
+pub it_is_not_within : IsWithin two_text (t.Run 4000001) two_tree → ⊥
 it_is_not_within h = let le = h.within in omega (arith, le)
 
-pub it_is_not_runnable : IsRunnable two_text 4000001 two_tree → ⊥
-it_is_not_runnable h = it_is_not_within h.is_within
+pub it_is_not_ready : IsReady two_text (t.Run 4000001) two_tree → ⊥
+it_is_not_ready h = it_is_not_within h.is_within
 
 -- core a(f); async void f() { yield; } has a form that is not built
 abbrev pub filing_text : List ℕ
@@ -509,20 +568,26 @@ filing_tokens = record { lexed = lexes 99 0 _ _ refl; only = λ other d. lexes_o
 a_file_breaks_none : BreaksNone filing_tree.items
 a_file_breaks_none = program_told filing_tree.items (row.ByOne 0 ∷ []) (reached_in filing_tree.items refl refl) None refl
 
-pub it_is_not_built : IsNotBuilt filing_text 100 11
-it_is_not_built = record {
-  program = filing_tree;
-  is_within = record {
-    is_accepted = record { spelled = record { tokens = tokens_in filing_text; lexed = filing_tokens; tree = a_file }; clean = a_file_breaks_none };
-    within = omega arith;
-  };
-  unbuilt = refl;
-}
+filing_is_accepted : IsAccepted filing_text filing_tree
+filing_is_accepted = record { spelled = record { tokens = tokens_in filing_text; lexed = filing_tokens; tree = a_file }; clean = a_file_breaks_none }
 
-pub what_is_not_built_calls_for_15 : CallsFor filing_text 100 15
+pub it_is_not_built : IsNotBuilt filing_text (t.Run 100) 11
+it_is_not_built = record { program = filing_tree; is_within = record { is_accepted = filing_is_accepted; within = omega arith }; unbuilt = refl }
+
+-- which is no fault of the program: a check accepts it, and there is no listing of it
+pub a_check_accepts_it : CallsFor filing_text t.Check 0
+a_check_accepts_it = made filing_tree (omega arith) (record { is_within = record { is_accepted = filing_is_accepted; within = omega arith }; built = refl }) refl
+
+pub a_check_needs_no_form : missing t.Check filing_tree ∷ missing t.Code filing_tree ∷ [] ≡ [] ∷ (11 ∷ []) ∷ []
+a_check_needs_no_form = refl
+
+pub there_is_no_listing_of_it : CallsFor filing_text t.Code 15
+there_is_no_listing_of_it = not_built 11 refl (omega arith) (record { program = filing_tree; is_within = record { is_accepted = filing_is_accepted; within = omega arith }; unbuilt = refl })
+
+pub what_is_not_built_calls_for_15 : CallsFor filing_text (t.Run 100) 15
 what_is_not_built_calls_for_15 = not_built 11 refl (omega arith) it_is_not_built
 
-pub all_of_two_ac_is_built : (at : ℕ) → IsNotBuilt two_text 100 at → ⊥
+pub all_of_two_ac_is_built : (at : ℕ) → IsNotBuilt two_text (t.Run 100) at → ⊥
 all_of_two_ac_is_built at h =
     let none : unbuilt_nodes h.program.items ≡ [] = subst (λ (p : Program). unbuilt_nodes p.items ≡ []) (its_only_program h.program h.is_within.is_accepted.spelled) two_is_built in
     let e : slice_get (unbuilt_nodes h.program.items) 0 ≡ None = ap (λ (places : List ℕ). slice_get places 0) none in
@@ -532,7 +597,7 @@ all_of_two_ac_is_built at h =
 pub it_is_not_short : (bytes : List ℕ) → length bytes ≡ 1048577 → IsShort bytes → ⊥
 it_is_not_short bytes e le = omega (arith, e, le)
 
-pub it_calls_for_10 : (bytes : List ℕ) → length bytes ≡ 1048577 → CallsFor bytes 100 10
+pub it_calls_for_10 : (bytes : List ℕ) → length bytes ≡ 1048577 → CallsFor bytes (t.Run 100) 10
 it_calls_for_10 bytes e = over_long refl (omega (arith, e))
 
 -- ---- a report
@@ -548,17 +613,20 @@ it_finished = refl
 
 -- all that is made of its text
 abbrev pub its_doing : Done
-its_doing = record { ended = its_run; report = its_report; status = record { number = 0 } }
+its_doing = record { run = Some its_run; text = its_report; status = record { number = 0 } }
 
-pub it_is_done : IsDone two_text 100 its_doing
-it_is_done = record {
-  program = two_tree;
-  is_runnable = it_is_runnable;
+its_reporting : IsReported two_tree 100 its_doing
+its_reporting = record {
+  ended = its_run;
+  kept = refl;
   is_run = it_is_a_run;
   ends = All-from_recursion (λ (end : MachineEnd). HasEnded end.core.word) its_run.cores (tt, tt);
-  report = sym it_is_reported;
+  text = sym it_is_reported;
   status = refl;
 }
+
+pub it_is_done : IsDone two_text (t.Run 100) its_doing
+it_is_done = record { program = two_tree; is_ready = it_is_ready; makes = its_reporting }
 
 -- ac run two.ac --steps=100, with a library that tells the text and was opened once
 abbrev pub its_words : List (List ℕ)
@@ -582,15 +650,16 @@ hundred = record {
   most = omega arith;
 }
 
-its_call : IsRunCall its_words (codes "two.ac") 100
-its_call = record { given = Some 100; command = record { rest = _; form = refl; arguments = operand (λ e. cc) (bound_joined refl hundred no_more) }; bound = refl }
+its_call : IsCall its_words (t.Run 100) (codes "two.ac")
+its_call =
+    record { name = _; given = Some 100; command = record { rest = _; form = refl; arguments = operand (λ e. cc) (bound_joined refl hundred no_more) }; is_task = (refl, refl) }
 
 its_reading : IsRead its_library its_library_after (codes "two.ac")
 its_reading = record { just = record { once = refl; named = refl }; well = refl }
 
 pub it_is_due : IsDue its_words its_library its_library_after 0 its_report (Some its_run)
-it_is_due = runs (codes "two.ac") 100 its_call
-    (source two_text its_reading refl (omega arith) (ran its_doing refl refl refl it_is_done))
+it_is_due = call (t.Run 100) (codes "two.ac") its_call
+    (source two_text its_reading refl (omega arith) (is_made its_doing refl refl refl it_is_done))
 
 abbrev pub its_sink : SinkTold
 its_sink = record { held = Some []; faults = 0 }
@@ -622,7 +691,7 @@ a_fault_that_is_not_told h = let e = h.only (omega arith) in omega (arith, e)
 
 -- memory was refused: two.ac was opened, nothing is written
 pub memory_is_refused : GaveUp its_words its_library its_library_after None its_sink its_sink
-memory_is_refused = record { file = codes "two.ac"; steps = 100; is_call = its_call; is_read = its_reading; no_run = refl; nothing = refl }
+memory_is_refused = record { task = t.Run 100; file = codes "two.ac"; is_call = its_call; is_read = its_reading; no_run = refl; nothing = refl }
 
 -- and where another name was opened, no call has this meaning
 pub another_name_is_opened : IsRead its_library (record its_library_after { names = Some (codes "" ∷ []) }) (codes "two.ac") → ⊥
@@ -634,11 +703,11 @@ a_fault_of_the_library = record { told = λ e. omega arith; only = λ n. absurd 
 pub no_fault_of_the_library : TellsLibrary its_library (record its_library_after { faults = 1 }) 0 → ⊥
 no_fault_of_the_library h = let e = h.only (omega arith) (omega arith) in omega (arith, e)
 
-pub its_status_is_called_for : CallsFor two_text 100 0
-its_status_is_called_for = has_run two_tree its_run refl (omega arith) it_is_runnable it_is_a_run
+pub its_status_is_called_for : CallsFor two_text (t.Run 100) 0
+its_status_is_called_for = made two_tree (omega arith) it_is_ready (record { ended = its_run; is_run = it_is_a_run; status_is = refl })
 
-pub it_calls_for_no_other : CallsFor two_text 100 2 → ⊥
-it_calls_for_no_other h = let e : 0 ≡ 2 = calls_once two_text 100 0 2 its_status_is_called_for h in omega (arith, e)
+pub it_calls_for_no_other : CallsFor two_text (t.Run 100) 2 → ⊥
+it_calls_for_no_other h = let e : 0 ≡ 2 = calls_once two_text (t.Run 100) 0 2 its_status_is_called_for h in omega (arith, e)
 
 -- ---- what is none of these
 
@@ -664,14 +733,20 @@ a_core_that_waits_is_not_quiet h = no (recursion_from_All (λ (end : MachineEnd)
 pub its_core_is_run : IsCoreRun two_tree 0 100 (journal []) (record { core = its_end; instructions = 9 })
 its_core_is_run = it_is_a_run.cores.0
 
-pub not_with_another_status : IsDone two_text 100 (record its_doing { status = record { number = 4 } }) → ⊥
-not_with_another_status h = let e : 4 ≡ 0 = h.status in omega (arith, e)
+-- its core cannot have finished and trapped
+pub not_with_another_run : (program : Program) → IsReported program 100 (record its_doing { status = record { number = 4 } }) → ⊥
+not_with_another_run program h = other h.ended h.kept h.status where
+  same_run : {a b : Ended} → Some a ≡ Some b → a ≡ b
+  same_run e = cc
+
+  other : (ended : Ended) → Some its_run ≡ Some ended → 4 ≡ status_of ended.cores → ⊥
+  other ended e h = let n : 4 ≡ 0 = h ∙ ap (λ (x : Ended). status_of x.cores) (sym (same_run e)) in omega (arith, n)
 
 pub no_run_is_kept_without_memory : GaveUp its_words its_library its_library_after (Some its_run) its_sink its_sink → ⊥
 no_run_is_kept_without_memory h = let e = h.no_run in cc
 
 pub a_call_is_one : IsNoCall its_words → ⊥
-a_call_is_one none = none (codes "two.ac") 100 its_call
+a_call_is_one none = none (t.Run 100) (codes "two.ac") its_call
 
 pub the_whole_is_no_front : TookFront (Some []) (Some (codes "ab")) (codes "ab") → ⊥
 the_whole_is_no_front h =
@@ -722,38 +797,78 @@ its_arguments name e (only_operands is all) = absurd (no_dashes (first_word e �
   no_dashes : codes "two.ac" ≡ codes "--" → ⊥
   no_dashes e = cc
 
-its_only_call : (name : List ℕ) (bound : ℕ) → IsRunCall its_words name bound → (name ≡ codes "two.ac") × (bound ≡ 100)
-its_only_call name bound r =
-    let a = its_arguments name (other_words r.command.form) r.command.arguments in (a.0, r.bound ∙ ap (λ (given : Option ℕ). unwrap_or given 100000) a.1)
+its_only_task : (task : Task) → IsTask (codes "run") (Some 100) task → task ≡ t.Run 100
+its_only_task (t.Run steps) h = ap (λ (n : ℕ). t.Run n) h.1
+its_only_task t.Check h = let e = h.0 in cc
+its_only_task t.Code h = let e = h.0 in cc
+
+its_only_call : (task : Task) (name : List ℕ) → IsCall its_words task name → (task ≡ t.Run 100) × (name ≡ codes "two.ac")
+its_only_call task name r =
+    let a = its_arguments name (other_words r.command.form) r.command.arguments in
+    let named : IsTask (codes "run") r.given task = subst (λ (n : List ℕ). IsTask n r.given task) (sym (first_word r.command.form)) r.is_task in
+    (its_only_task task (subst (λ (given : Option ℕ). IsTask (codes "run") given task) a.1 named), a.0)
 
 pub it_is_decided : IsDecided its_words its_library its_library_after 0
-it_is_decided = is_decided its_words (codes "two.ac") 100 its_library its_library_after 0 (Some its_run) its_sink (sink_with its_report 0) its_call
-    (λ well kept. record { text = its_report; due = source two_text its_reading refl (omega arith) (ran its_doing refl refl refl it_is_done); taken = refl })
+it_is_decided = is_decided its_words (t.Run 100) (codes "two.ac") its_library its_library_after 0 (Some its_run) its_sink (sink_with its_report 0) its_call
+    (λ well kept. record { text = its_report; due = source two_text its_reading refl (omega arith) (is_made its_doing refl refl refl it_is_done); taken = refl })
     its_only_call (record { usage = omega arith; library = omega arith; sink = omega arith; memory = omega arith })
 
 -- no other status
 pub it_is_not_decided_otherwise : IsDecided its_words its_library its_library_after 4 → ⊥
 it_is_not_decided_otherwise h =
-    let e : 4 ≡ 0 = (h.only (codes "two.ac") two_text 100 its_call refl 0).1 its_status_is_called_for in omega (arith, e)
+    let e : 4 ≡ 0 = (h.only (t.Run 100) (codes "two.ac") two_text its_call refl 0).1 its_status_is_called_for in omega (arith, e)
 
 -- ---- its code
 
-two_is_same : IsSame two_parts (resolved two_tree)
+pub two_is_same : IsSame two_parts (resolved two_tree)
 two_is_same =
     is_same two_tree (resolved two_tree) refl two_is_built (all_in_place two_tree two_is_clean (spelled_shape two_tree two_ac_parsed.marks two_ac_parsed.spells)) two_parts two_is_compiled
 
-pub it_is_built : IsBuilt two_text 100 two_parts
-it_is_built = record {
-  program = two_tree;
-  is_runnable = it_is_runnable;
-  is_code = two_is_compiled;
-  is_same = two_is_same;
-  one_core = refl;
-  alone = All-from_recursion (λ (instr : Instr). is_alone instr ≡ true) two_parts.instrs (refl, (refl, (refl, (refl, (refl, (refl, (refl, (refl, (refl, tt)))))))));
-}
+pub its_code_is_alone : IsAlone two_parts
+its_code_is_alone = All-from_recursion (λ (instr : Instr). is_alone instr ≡ true) two_parts.instrs (refl, (refl, (refl, (refl, (refl, (refl, (refl, (refl, (refl, tt)))))))))
 
-pub no_code_without_its_core : IsBuilt two_text 100 (record two_parts { entries = [] }) → ⊥
-no_code_without_its_core h = let e = h.one_core in omega (arith, e)
+-- and its listing
+abbrev pub its_listing : List ℕ
+its_listing = codes "core a 0\nfunction f words 0\n0 Step\n1 Push 1\n2 Push 2\n3 Push 3\n4 Mul\n5 Add\n6 Print 0 1\n7 Push 0\n8 Ret\ntext 0 25640a\n"
+
+pub it_is_listed : listing two_parts ≡ its_listing
+it_is_listed =
+    rw (
+      decimal_digit 0 (omega arith),
+      decimal_digit 1 (omega arith),
+      decimal_digit 2 (omega arith),
+      decimal_digit 3 (omega arith),
+      decimal_digit 4 (omega arith),
+      decimal_digit 5 (omega arith),
+      decimal_digit 6 (omega arith),
+      decimal_digit 7 (omega arith),
+      decimal_digit 8 (omega arith),
+    ) refl
+
+-- so ac code two.ac writes that, and ac check two.ac that it is accepted
+pub its_code_is_told : Makes t.Code two_tree (record { run = None; text = its_listing; status = record { number = 0 } })
+its_code_is_told = record { no_run = refl; text_is = sym it_is_listed ∙ ap (λ (code : Parts). listing code) two_is_compiled; status = refl }
+
+its_code_is_ready : IsReady two_text t.Code two_tree
+its_code_is_ready = record { is_within = record { is_accepted = record { spelled = it_is_spelled; clean = two_is_clean }; within = omega arith }; built = two_is_built }
+
+pub its_code_is_done : IsDone two_text t.Code (record { run = None; text = its_listing; status = record { number = 0 } })
+its_code_is_done = record { program = two_tree; is_ready = its_code_is_ready; makes = its_code_is_told }
+
+its_check_is_ready : IsReady two_text t.Check two_tree
+its_check_is_ready = record { is_within = record { is_accepted = record { spelled = it_is_spelled; clean = two_is_clean }; within = omega arith }; built = refl }
+
+pub its_check_is_done : IsDone two_text t.Check (record { run = None; text = codes "accepted\n"; status = record { number = 0 } })
+its_check_is_done = record { program = two_tree; is_ready = its_check_is_ready; makes = record { no_run = refl; text_is = refl; status = refl } }
+
+pub a_check_keeps_no_run : IsTold accepted_line (record { run = Some its_run; text = codes "accepted\n"; status = record { number = 0 } }) → ⊥
+a_check_keeps_no_run h = let e = h.no_run in cc
+
+pub its_check_gives_0_alone : GivesStatus t.Check two_tree 4 → ⊥
+its_check_gives_0_alone h = omega (arith, h)
+
+pub its_run_gives_0 : HasRun two_tree 100 0
+its_run_gives_0 = record { ended = its_run; is_run = it_is_a_run; status_is = refl }
 
 -- a code that prints nothing comes to another end
 abbrev pub silent : Parts

@@ -10,6 +10,7 @@ use Rattle.ac_lexer.specs.Tokens.FaultHere.{stray, after_zero, after_number, lar
 use Rattle.ac_lexer.specs.Tokens.LexesFrom.{end, gap, token, fault}
 use Rattle.ac_program.specs.declared.refusal.Refusal.{Refusal}
 use Rattle.ac_program.specs.declared.refusal.Refusal.TheVariants as r
+use Rattle.ac_program.specs.declared.words.Task.{Task}
 use Rattle.ac_program.specs.Lines.{refusal_status}
 use Rattle.ac_program.specs.Source.{HasFault, Refuses}
 
@@ -45,18 +46,18 @@ lexes_has _ _ _ (token at kind a rest given s h) = before_has (placed kind at (a
 lexes_has _ _ _ (fault at bs f h) = here_has at bs f h
 
 -- what refuses a source that has a lexical fault
-pub record IsFault (source : List ℕ) (steps : ℕ) : Type 0 where
+pub record IsFault (source : List ℕ) (task : Task) : Type 0 where
   pub refusal : Refusal
   pub status_is : refusal_status refusal ≡ 2
-  pub refuses : Refuses source steps refusal
+  pub refuses : Refuses source task refusal
 
-fault_with : (source : List ℕ) (steps : ℕ) (f : LexFault) → HasPlace f → HasFault source f → IsFault source steps
-fault_with source steps l.TooLong p h = absurd p
-fault_with source steps (l.BadByte at) p h = record { refusal = r.BadByte at; status_is = refl; refuses = h }
-fault_with source steps (l.NumberTooLarge at) p h = record { refusal = r.NumberTooLarge at; status_is = refl; refuses = h }
-fault_with source steps (l.OpenComment at) p h = record { refusal = r.OpenComment at; status_is = refl; refuses = h }
-fault_with source steps (l.OpenText at) p h = record { refusal = r.OpenText at; status_is = refl; refuses = h }
-fault_with source steps l.NoMemory p h = absurd p
+fault_with : (source : List ℕ) (task : Task) (f : LexFault) → HasPlace f → HasFault source f → IsFault source task
+fault_with source task l.TooLong p h = absurd p
+fault_with source task (l.BadByte at) p h = record { refusal = r.BadByte at; status_is = refl; refuses = h }
+fault_with source task (l.NumberTooLarge at) p h = record { refusal = r.NumberTooLarge at; status_is = refl; refuses = h }
+fault_with source task (l.OpenComment at) p h = record { refusal = r.OpenComment at; status_is = refl; refuses = h }
+fault_with source task (l.OpenText at) p h = record { refusal = r.OpenText at; status_is = refl; refuses = h }
+fault_with source task l.NoMemory p h = absurd p
 
-pub fault_refuses : (source : List ℕ) (steps : ℕ) (f : LexFault) → HasFault source f → IsFault source steps
-fault_refuses source steps f h = fault_with source steps f (lexes_has 0 source (Err f) h.lexed) h
+pub fault_refuses : (source : List ℕ) (task : Task) (f : LexFault) → HasFault source f → IsFault source task
+fault_refuses source task f h = fault_with source task f (lexes_has 0 source (Err f) h.lexed) h

@@ -15,3 +15,4 @@ pub mod Stopping
 pub mod Streams
 pub mod TwoRules
 pub mod Examples
+pub mod HistoryExamples

@@ -1,4 +1,4 @@
--- No source is refused with two statuses, and none that is refused is run.
+-- No source is refused with two statuses for one task, and for none that is refused is the task done.
 use Rattle.std.specs.Prelude.{slice_get}
 use Rattle.std.proofs.Common.{◌≡◌, ℕ, ◌<◌, ◌≤◌, List, [], ◌∷◌, length, Some, Ok, refl, sym, ◌∙◌, subst, arith}
 use Rattle.ac_lexer.specs.declared.token.Token.{Token}
@@ -7,43 +7,43 @@ use Rattle.ac_lexer.specs.declared.fault.LexFault.TheVariants as l
 use Rattle.ac_tree.specs.declared.item.Program.{Program}
 use Rattle.ac_parser.specs.Places.{UnexpectedAt, TooDeepAt}
 use Rattle.ac_types.specs.Reached.{BreaksNone, IsLeastBroken}
-use Rattle.ac_compile.specs.Unbuilt.{unbuilt_nodes}
+use Rattle.ac_program.specs.declared.words.Task.{Task}
 use Rattle.ac_program.specs.declared.refusal.Refusal.{Refusal}
 use Rattle.ac_program.specs.declared.refusal.Refusal.TheVariants as r
 use Rattle.ac_program.specs.Lines.{refusal_status}
-use Rattle.ac_program.specs.Source.{HasTokens, HasFault, IsUnexpected, IsTooDeep, IsSpelled, IsRunnable, Refuses, all_steps}
+use Rattle.ac_program.specs.Source.{HasTokens, HasFault, IsUnexpected, IsTooDeep, IsSpelled, IsReady, Refuses, all_steps, missing}
 use Rattle.ac_program.proofs.Answered.{not_deep, not_unexpected, not_both}
 
 -- ---- what a source is, from its tokens on
 
 -- what is known of a program that a source spells
-pub data Ruled (bound : ℕ) (p : Program) : ℕ → Type 0 where
-  breaks : (rule at : ℕ) → IsLeastBroken p.items rule at → Ruled bound p 3
-  many : BreaksNone p.items → 4000000 < all_steps p bound → Ruled bound p 10
-  unbuilt : (at : ℕ) → BreaksNone p.items → all_steps p bound ≤ 4000000 → slice_get (unbuilt_nodes p.items) 0 ≡ Some at → Ruled bound p 15
-  built : BreaksNone p.items → all_steps p bound ≤ 4000000 → unbuilt_nodes p.items ≡ [] → Ruled bound p 0
+pub data Ruled (task : Task) (p : Program) : ℕ → Type 0 where
+  breaks : (rule at : ℕ) → IsLeastBroken p.items rule at → Ruled task p 3
+  many : BreaksNone p.items → 4000000 < all_steps p task → Ruled task p 10
+  unbuilt : (at : ℕ) → BreaksNone p.items → all_steps p task ≤ 4000000 → slice_get (missing task p) 0 ≡ Some at → Ruled task p 15
+  built : BreaksNone p.items → all_steps p task ≤ 4000000 → missing task p ≡ [] → Ruled task p 0
 
--- what a source comes to, by its status, where 0 stands for those of cores
-pub data Comes (source : List ℕ) (bound : ℕ) : ℕ → Type 0 where
-  faulty : (f : LexFault) → HasFault source f → Comes source bound 2
-  stray : (at : ℕ) → IsUnexpected source at → Comes source bound 2
-  deep : (at : ℕ) → IsTooDeep source at → Comes source bound 10
-  spelled : (p : Program) (number : ℕ) → IsSpelled source p → Ruled bound p number → Comes source bound number
+-- what a source comes to, by its status, where 0 stands for those of what is made of it
+pub data Comes (source : List ℕ) (task : Task) : ℕ → Type 0 where
+  faulty : (f : LexFault) → HasFault source f → Comes source task 2
+  stray : (at : ℕ) → IsUnexpected source at → Comes source task 2
+  deep : (at : ℕ) → IsTooDeep source at → Comes source task 10
+  spelled : (p : Program) (number : ℕ) → IsSpelled source p → Ruled task p number → Comes source task number
 
-pub comes_of : (source : List ℕ) (bound : ℕ) → length source ≤ 1048576 → (refusal : Refusal) → Refuses source bound refusal → Comes source bound (refusal_status refusal)
-comes_of source bound short r.TooLong h = absurd (omega (arith, short, h))
-comes_of source bound short (r.BadByte at) h = faulty (l.BadByte at) h
-comes_of source bound short (r.NumberTooLarge at) h = faulty (l.NumberTooLarge at) h
-comes_of source bound short (r.OpenComment at) h = faulty (l.OpenComment at) h
-comes_of source bound short (r.OpenText at) h = faulty (l.OpenText at) h
-comes_of source bound short (r.Unexpected at) h = stray at h
-comes_of source bound short (r.TooDeep at) h = deep at h
-comes_of source bound short (r.Broken rule) h = spelled h.program 3 h.spelled (breaks rule.rule rule.at h.least)
-comes_of source bound short r.TooManySteps h = spelled h.program 10 h.is_accepted.spelled (many h.is_accepted.clean h.over)
-comes_of source bound short (r.NotBuilt at) h = spelled h.program 15 h.is_within.is_accepted.spelled (unbuilt at h.is_within.is_accepted.clean h.is_within.within h.unbuilt)
+pub comes_of : (source : List ℕ) (task : Task) → length source ≤ 1048576 → (refusal : Refusal) → Refuses source task refusal → Comes source task (refusal_status refusal)
+comes_of source task short r.TooLong h = absurd (omega (arith, short, h))
+comes_of source task short (r.BadByte at) h = faulty (l.BadByte at) h
+comes_of source task short (r.NumberTooLarge at) h = faulty (l.NumberTooLarge at) h
+comes_of source task short (r.OpenComment at) h = faulty (l.OpenComment at) h
+comes_of source task short (r.OpenText at) h = faulty (l.OpenText at) h
+comes_of source task short (r.Unexpected at) h = stray at h
+comes_of source task short (r.TooDeep at) h = deep at h
+comes_of source task short (r.Broken rule) h = spelled h.program 3 h.spelled (breaks rule.rule rule.at h.least)
+comes_of source task short r.TooManySteps h = spelled h.program 10 h.is_accepted.spelled (many h.is_accepted.clean h.over)
+comes_of source task short (r.NotBuilt at) h = spelled h.program 15 h.is_within.is_accepted.spelled (unbuilt at h.is_within.is_accepted.clean h.is_within.within h.unbuilt)
 
-pub runs_of : (source : List ℕ) (bound : ℕ) (p : Program) → IsRunnable source bound p → Comes source bound 0
-runs_of source bound p h = spelled p 0 h.is_within.is_accepted.spelled (built h.is_within.is_accepted.clean h.is_within.within h.built)
+pub ready_of : (source : List ℕ) (task : Task) (p : Program) → IsReady source task p → Comes source task 0
+ready_of source task p h = spelled p 0 h.is_within.is_accepted.spelled (built h.is_within.is_accepted.clean h.is_within.within h.built)
 
 -- ---- one of each
 
@@ -71,48 +71,48 @@ none_first : (ns : List ℕ) (at : ℕ) → slice_get ns 0 ≡ Some at → ns �
 none_first [] at e h = absurd (cc (e))
 none_first (n ∷ ns) at e h = absurd (cc (h))
 
-one_rule : (bound : ℕ) (p : Program) (m n : ℕ) → Ruled bound p m → Ruled bound p n → m ≡ n
-one_rule bound p _ _ (breaks rule at b) (breaks rule' at' b') = refl
-one_rule bound p _ _ (breaks rule at b) (many c o) = absurd (c b.number rule b.is)
-one_rule bound p _ _ (breaks rule at b) (unbuilt at' c w u) = absurd (c b.number rule b.is)
-one_rule bound p _ _ (breaks rule at b) (built c w u) = absurd (c b.number rule b.is)
-one_rule bound p _ _ (many c o) (breaks rule at b) = absurd (c b.number rule b.is)
-one_rule bound p _ _ (many c o) (many c' o') = refl
-one_rule bound p _ _ (many c o) (unbuilt at c' w u) = absurd (omega (arith, o, w))
-one_rule bound p _ _ (many c o) (built c' w u) = absurd (omega (arith, o, w))
-one_rule bound p _ _ (unbuilt at c w u) (breaks rule at' b) = absurd (c b.number rule b.is)
-one_rule bound p _ _ (unbuilt at c w u) (many c' o) = absurd (omega (arith, o, w))
-one_rule bound p _ _ (unbuilt at c w u) (unbuilt at' c' w' u') = refl
-one_rule bound p _ _ (unbuilt at c w u) (built c' w' u') = absurd (none_first (unbuilt_nodes p.items) at u u')
-one_rule bound p _ _ (built c w u) (breaks rule at b) = absurd (c b.number rule b.is)
-one_rule bound p _ _ (built c w u) (many c' o) = absurd (omega (arith, o, w))
-one_rule bound p _ _ (built c w u) (unbuilt at c' w' u') = absurd (none_first (unbuilt_nodes p.items) at u' u)
-one_rule bound p _ _ (built c w u) (built c' w' u') = refl
+one_rule : (task : Task) (p : Program) (m n : ℕ) → Ruled task p m → Ruled task p n → m ≡ n
+one_rule task p _ _ (breaks rule at b) (breaks rule' at' b') = refl
+one_rule task p _ _ (breaks rule at b) (many c o) = absurd (c b.number rule b.is)
+one_rule task p _ _ (breaks rule at b) (unbuilt at' c w u) = absurd (c b.number rule b.is)
+one_rule task p _ _ (breaks rule at b) (built c w u) = absurd (c b.number rule b.is)
+one_rule task p _ _ (many c o) (breaks rule at b) = absurd (c b.number rule b.is)
+one_rule task p _ _ (many c o) (many c' o') = refl
+one_rule task p _ _ (many c o) (unbuilt at c' w u) = absurd (omega (arith, o, w))
+one_rule task p _ _ (many c o) (built c' w u) = absurd (omega (arith, o, w))
+one_rule task p _ _ (unbuilt at c w u) (breaks rule at' b) = absurd (c b.number rule b.is)
+one_rule task p _ _ (unbuilt at c w u) (many c' o) = absurd (omega (arith, o, w))
+one_rule task p _ _ (unbuilt at c w u) (unbuilt at' c' w' u') = refl
+one_rule task p _ _ (unbuilt at c w u) (built c' w' u') = absurd (none_first (missing task p) at u u')
+one_rule task p _ _ (built c w u) (breaks rule at b) = absurd (c b.number rule b.is)
+one_rule task p _ _ (built c w u) (many c' o) = absurd (omega (arith, o, w))
+one_rule task p _ _ (built c w u) (unbuilt at c' w' u') = absurd (none_first (missing task p) at u' u)
+one_rule task p _ _ (built c w u) (built c' w' u') = refl
 
-pub one_status : (source : List ℕ) (bound m n : ℕ) → Comes source bound m → Comes source bound n → m ≡ n
-one_status source bound _ _ (faulty f h) (faulty f' h') = refl
-one_status source bound _ _ (faulty f h) (stray at u) = refl
-one_status source bound _ _ (faulty f h) (deep at d) = absurd (no_tokens source f d.tokens h d.lexed)
-one_status source bound _ _ (faulty f h) (spelled p _ s k) = absurd (no_tokens source f s.tokens h s.lexed)
-one_status source bound _ _ (stray at u) (faulty f h) = refl
-one_status source bound _ _ (stray at u) (stray at' u') = refl
-one_status source bound _ _ (stray at u) (deep at' d) = absurd (stray_deep source at at' u d)
-one_status source bound _ _ (stray at u) (spelled p _ s k) = absurd (stray_spelled source at p u s)
-one_status source bound _ _ (deep at d) (faulty f h) = absurd (no_tokens source f d.tokens h d.lexed)
-one_status source bound _ _ (deep at d) (stray at' u) = absurd (stray_deep source at' at u d)
-one_status source bound _ _ (deep at d) (deep at' d') = refl
-one_status source bound _ _ (deep at d) (spelled p _ s k) = absurd (deep_spelled source at p d s)
-one_status source bound _ _ (spelled p _ s k) (faulty f h) = absurd (no_tokens source f s.tokens h s.lexed)
-one_status source bound _ _ (spelled p _ s k) (stray at u) = absurd (stray_spelled source at p u s)
-one_status source bound _ _ (spelled p _ s k) (deep at d) = absurd (deep_spelled source at p d s)
-one_status source bound m n (spelled p _ s k) (spelled q _ t j) = one_rule bound p m n k (subst (λ (x : Program). Ruled bound x n) (sym (same_program source p q s t)) j)
+pub one_status : (source : List ℕ) (task : Task) (m n : ℕ) → Comes source task m → Comes source task n → m ≡ n
+one_status source task _ _ (faulty f h) (faulty f' h') = refl
+one_status source task _ _ (faulty f h) (stray at u) = refl
+one_status source task _ _ (faulty f h) (deep at d) = absurd (no_tokens source f d.tokens h d.lexed)
+one_status source task _ _ (faulty f h) (spelled p _ s k) = absurd (no_tokens source f s.tokens h s.lexed)
+one_status source task _ _ (stray at u) (faulty f h) = refl
+one_status source task _ _ (stray at u) (stray at' u') = refl
+one_status source task _ _ (stray at u) (deep at' d) = absurd (stray_deep source at at' u d)
+one_status source task _ _ (stray at u) (spelled p _ s k) = absurd (stray_spelled source at p u s)
+one_status source task _ _ (deep at d) (faulty f h) = absurd (no_tokens source f d.tokens h d.lexed)
+one_status source task _ _ (deep at d) (stray at' u) = absurd (stray_deep source at' at u d)
+one_status source task _ _ (deep at d) (deep at' d') = refl
+one_status source task _ _ (deep at d) (spelled p _ s k) = absurd (deep_spelled source at p d s)
+one_status source task _ _ (spelled p _ s k) (faulty f h) = absurd (no_tokens source f s.tokens h s.lexed)
+one_status source task _ _ (spelled p _ s k) (stray at u) = absurd (stray_spelled source at p u s)
+one_status source task _ _ (spelled p _ s k) (deep at d) = absurd (deep_spelled source at p d s)
+one_status source task m n (spelled p _ s k) (spelled q _ t j) = one_rule task p m n k (subst (λ (x : Program). Ruled task x n) (sym (same_program source p q s t)) j)
 
 -- ---- refusals
 
 -- what refuses a source does so with one status
-pub refused_once : (source : List ℕ) (bound : ℕ) → length source ≤ 1048576 → (a b : Refusal) → Refuses source bound a → Refuses source bound b → refusal_status a ≡ refusal_status b
-refused_once source bound short a b h k =
-    one_status source bound (refusal_status a) (refusal_status b) (comes_of source bound short a h) (comes_of source bound short b k)
+pub refused_once : (source : List ℕ) (task : Task) → length source ≤ 1048576 → (a b : Refusal) → Refuses source task a → Refuses source task b → refusal_status a ≡ refusal_status b
+refused_once source task short a b h k =
+    one_status source task (refusal_status a) (refusal_status b) (comes_of source task short a h) (comes_of source task short b k)
 
 pub some_status : (refusal : Refusal) → 2 ≤ refusal_status refusal
 some_status r.TooLong = omega arith
@@ -126,7 +126,7 @@ some_status (r.Broken rule) = omega arith
 some_status r.TooManySteps = omega arith
 some_status (r.NotBuilt at) = omega arith
 
--- and it is not run
-pub refused_not : (source : List ℕ) (bound : ℕ) → length source ≤ 1048576 → (refusal : Refusal) (p : Program) → Refuses source bound refusal → IsRunnable source bound p → ⊥
-refused_not source bound short refusal p h k =
-    absurd (omega (arith, some_status refusal, one_status source bound (refusal_status refusal) 0 (comes_of source bound short refusal h) (runs_of source bound p k)))
+-- and for it the task is not done
+pub refused_not : (source : List ℕ) (task : Task) → length source ≤ 1048576 → (refusal : Refusal) (p : Program) → Refuses source task refusal → IsReady source task p → ⊥
+refused_not source task short refusal p h k =
+    absurd (omega (arith, some_status refusal, one_status source task (refusal_status refusal) 0 (comes_of source task short refusal h) (ready_of source task p k)))

@@ -10,7 +10,10 @@ use Rattle.ac_program.specs.declared.refusal.Refusal.TheVariants as r
 use Rattle.ac_program.specs.declared.execute.Done.{Done}
 use Rattle.ac_program.specs.Lines.{refusal_status}
 use Rattle.ac_program.specs.Run.{HasEnded, HaveEnded}
-use Rattle.ac_program.specs.Making.{IsDone}
+use Rattle.ac_tree.specs.declared.item.Program.{Program}
+use Rattle.ac_program.specs.declared.words.Task.{Task}
+use Rattle.ac_program.specs.declared.words.Task.TheVariants as t
+use Rattle.ac_program.specs.Making.{Makes, IsDone}
 
 -- ---- statuses of cores
 
@@ -27,8 +30,13 @@ chosen false false false = inl refl
 pub of_cores : (ends : List MachineEnd) → IsOfCores (status_of ends)
 of_cores ends = chosen (any_ends is_trapped ends) (any_ends is_out_of_steps ends) (any_ends is_stalled ends)
 
-pub done_status : (bytes : List ℕ) (bound status : ℕ) (done : Done) → status ≡ done.status.number → IsDone bytes bound done → IsOfCores status
-done_status bytes bound status done e d = subst IsOfCores (sym (e ∙ d.status)) (of_cores done.ended.cores)
+pub made_status : (task : Task) (program : Program) (status : ℕ) (done : Done) → status ≡ done.status.number → Makes task program done → IsOfCores status
+made_status (t.Run steps) program status done e d = subst IsOfCores (sym (e ∙ d.status)) (of_cores d.ended.cores)
+made_status t.Check program status done e d = inl (e ∙ d.status)
+made_status t.Code program status done e d = inl (e ∙ d.status)
+
+pub done_status : (bytes : List ℕ) (task : Task) (status : ℕ) (done : Done) → status ≡ done.status.number → IsDone bytes task done → IsOfCores status
+done_status bytes task status done e d = made_status task d.program status done e d.makes
 
 -- no core waits for ever
 not_stalled : (word : EndWord) → HasEnded word → is_stalled word ≡ false
@@ -47,10 +55,15 @@ five status false true stalled e h is = omega (arith, h, is)
 five status false false true e h is = cc
 five status false false false e h is = omega (arith, h, is)
 
-pub done_not_stalled : (bytes : List ℕ) (bound status : ℕ) (done : Done) → status ≡ done.status.number → IsDone bytes bound done → status ≢ 5
-done_not_stalled bytes bound status done e d =
-    let ends = done.ended.cores in
-    five status (any_ends is_trapped ends) (any_ends is_out_of_steps ends) (any_ends is_stalled ends) (none_stalled ends d.ends) (e ∙ d.status)
+made_not_stalled : (task : Task) (program : Program) (status : ℕ) (done : Done) → status ≡ done.status.number → Makes task program done → status ≢ 5
+made_not_stalled (t.Run steps) program status done e d is =
+    let ends = d.ended.cores in
+    five status (any_ends is_trapped ends) (any_ends is_out_of_steps ends) (any_ends is_stalled ends) (none_stalled ends d.ends) (e ∙ d.status) is
+made_not_stalled t.Check program status done e d is = omega (arith, e, d.status, is)
+made_not_stalled t.Code program status done e d is = omega (arith, e, d.status, is)
+
+pub done_not_stalled : (bytes : List ℕ) (task : Task) (status : ℕ) (done : Done) → status ≡ done.status.number → IsDone bytes task done → status ≢ 5
+done_not_stalled bytes task status done e d = made_not_stalled task d.program status done e d.makes
 
 pub small : (status : ℕ) → IsOfCores status → status ≤ 6
 small status (inl e) = omega (arith, e)

@@ -11,6 +11,7 @@ use Rattle.ac_parser.specs.Places.{Parses}
 use Rattle.ac_types.specs.declared.fault.CheckFault.{CheckFault}
 use Rattle.ac_types.specs.declared.fault.CheckFault.TheVariants as c
 use Rattle.ac_types.specs.Verdicts.{IsFault}
+use Rattle.ac_program.specs.declared.words.Task.{Task}
 use Rattle.ac_program.specs.Source.{HasTokens, IsSpelled}
 use Rattle.ac_program.specs.inner.Parts.{Stops, lex_stop, syntax_stop, check_stop}
 
@@ -18,9 +19,9 @@ use Rattle.ac_program.specs.inner.Parts.{Stops, lex_stop, syntax_stop, check_sto
 abbrev no_tokens : LexFault → Result (List Token) LexFault
 no_tokens f = Err f
 
-module _ (source : List ℕ) (bound : ℕ) where
+module _ (source : List ℕ) (task : Task) where
   pub lex_stops : (f : LexFault) → (no_tokens f ≡ no_tokens l.TooLong → max_len < length source)
-      → Lexes source (no_tokens f) → ((r : Result (List Token) LexFault) → LexesFrom 0 source r → Answers (no_tokens f) r) → Stops source bound (lex_stop f)
+      → Lexes source (no_tokens f) → ((r : Result (List Token) LexFault) → LexesFrom 0 source r → Answers (no_tokens f) r) → Stops source task (lex_stop f)
   lex_stops l.TooLong long lexes only = long refl
   lex_stops (l.BadByte at) long lexes only = record { lexed = lexes; only = only }
   lex_stops (l.NumberTooLarge at) long lexes only = record { lexed = lexes; only = only }
@@ -29,11 +30,11 @@ module _ (source : List ℕ) (bound : ℕ) where
   lex_stops l.NoMemory long lexes only = tt
 
   pub syntax_stops : (tokens : List Token) → HasTokens source tokens → (f : SyntaxFault) → Parses (length source) tokens (Err f)
-      → Stops source bound (syntax_stop f)
+      → Stops source task (syntax_stop f)
   syntax_stops tokens h (p.Unexpected at) u = record { tokens = tokens; lexed = h; unexpected = u }
   syntax_stops tokens h (p.TooDeep at) d = record { tokens = tokens; lexed = h; deep = d }
   syntax_stops tokens h p.NoMemory n = tt
 
-  pub check_stops : (program : Program) → IsSpelled source program → (f : CheckFault) → IsFault program f → Stops source bound (check_stop f)
+  pub check_stops : (program : Program) → IsSpelled source program → (f : CheckFault) → IsFault program f → Stops source task (check_stop f)
   check_stops program s (c.Broken rule at) b = record { program = program; spelled = s; least = b }
   check_stops program s c.NoMemory n = tt

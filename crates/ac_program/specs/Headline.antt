@@ -8,17 +8,19 @@ use Rattle.ac_program.specs.declared.refusal.BrokenRule.{BrokenRule}
 use Rattle.ac_outside.specs.Causes.{Rose}
 use Rattle.ac_outside.specs.Told.{LibraryTold, SinkTold, OpenedJust, GrewBy}
 use Rattle.ac_program.specs.declared.running.Ended.{Ended}
-use Rattle.ac_program.specs.Words.{IsRunCall}
+use Rattle.ac_program.specs.declared.words.Task.{Task}
+use Rattle.ac_program.specs.declared.words.Task.TheVariants as t
+use Rattle.ac_program.specs.Words.{IsCall}
 use Rattle.ac_program.specs.Reading.{Gave, TookBytes}
 use Rattle.ac_program.specs.Writing.{TookFront}
-use Rattle.ac_program.specs.Source.{HasFault, IsUnexpected, IsTooDeep, IsBroken, IsTooMany, IsNotBuilt, IsRunnable}
+use Rattle.ac_program.specs.Source.{HasFault, IsUnexpected, IsTooDeep, IsBroken, IsTooMany, IsNotBuilt, IsReady}
 use Rattle.ac_program.specs.Run.{IsRunOf}
 use Rattle.ac_program.specs.Making.{IsDueOf}
 use Rattle.ac_program.specs.Lines.{usage_line, library_line, limit_source_line}
 
--- the words are not `run`, one file and at most one bound on steps
+-- the words are not `run`, `check` or `code` with one file, and after `run` at most one bound on steps
 abbrev pub IsNoCall : List (List ℕ) → Type 0
-IsNoCall words = (file : List ℕ) (steps : ℕ) → IsRunCall words file steps → ⊥
+IsNoCall words = (task : Task) (file : List ℕ) → IsCall words task file → ⊥
 
 -- just this file was opened, and no call of the library failed
 pub record IsRead (before after : LibraryTold) (file : List ℕ) : Type 0 where
@@ -31,20 +33,20 @@ IsShort text = length text ≤ 1048576
 
 -- ---- what is due: the status, the text that is written and the run that is kept, by the first refusal in the order of work
 
--- for a call of `run` with this file: the library failed, or one byte too many was taken, or the text was read whole
-pub data IsDueOfFile (file : List ℕ) (steps : ℕ) (before after : LibraryTold) (status : ℕ) (text : List ℕ) (run : Option Ended) :
+-- for a task on this file: the library failed, or one byte too many was taken, or the text was read whole
+pub data IsDueOfFile (file : List ℕ) (task : Task) (before after : LibraryTold) (status : ℕ) (text : List ℕ) (run : Option Ended) :
     Type 0 where
   library_fault : status ≡ 7 → text ≡ library_line → run ≡ None → OpenedJust before after file → Rose before.faults after.faults →
-      IsDueOfFile file steps before after status text run
+      IsDueOfFile file task before after status text run
   too_long : status ≡ 10 → text ≡ limit_source_line → run ≡ None → IsRead before after file →
-      TookBytes (before.text_at file) after.left (1048576 + 1) → IsDueOfFile file steps before after status text run
+      TookBytes (before.text_at file) after.left (1048576 + 1) → IsDueOfFile file task before after status text run
   source : (bytes : List ℕ) → IsRead before after file → Gave (before.text_at file) bytes → IsShort bytes →
-      IsDueOf bytes steps status text run → IsDueOfFile file steps before after status text run
+      IsDueOf bytes task status text run → IsDueOfFile file task before after status text run
 
 -- for any words: where they are no call, the usage line, and the library is left alone
 pub data IsDue (words : List (List ℕ)) (before after : LibraryTold) (status : ℕ) (text : List ℕ) (run : Option Ended) : Type 0 where
   usage : status ≡ 1 → text ≡ usage_line → run ≡ None → IsNoCall words → after ≡ before → IsDue words before after status text run
-  runs : (file : List ℕ) (steps : ℕ) → IsRunCall words file steps → IsDueOfFile file steps before after status text run →
+  call : (task : Task) (file : List ℕ) → IsCall words task file → IsDueOfFile file task before after status text run →
       IsDue words before after status text run
 
 -- the sink has taken all of a text that is due with this status and this run
@@ -60,11 +62,11 @@ pub record TookPart (Due : ℕ → List ℕ → Option Ended → Type 0) (run : 
   pub due : Due status text run
   pub taken : TookFront sink.held later.held text
 
--- memory was refused: the words call for a run, just its file was opened, nothing is written and no run is kept
+-- memory was refused: the words are a call, just its file was opened, nothing is written and no run is kept
 pub record GaveUp (words : List (List ℕ)) (before after : LibraryTold) (run : Option Ended) (sink later : SinkTold) : Type 0 where
+  pub task : Task
   pub file : List ℕ
-  pub steps : ℕ
-  pub is_call : IsRunCall words file steps
+  pub is_call : IsCall words task file
   pub is_read : IsRead before after file
   pub no_run : run ≡ None
   pub nothing : GrewBy sink.held later.held []
@@ -93,31 +95,42 @@ pub record IsOfText (status : ℕ) : Type 0 where
   pub sink : status ≢ 8
   pub memory : status ≢ 11
 
--- the statuses that a text calls for, where each core may go so many steps
-pub data CallsFor (text : List ℕ) (steps status : ℕ) : Type 0 where
+-- a run of the program with this bound on steps whose cores have this status
+pub record HasRun (program : Program) (steps status : ℕ) : Type 0 where
+  pub ended : Ended
+  pub is_run : IsRunOf program steps [] ended
+  pub status_is : status ≡ status_of ended.cores
+
+-- the status of what a task makes of a program: that of the cores in a run, and else 0
+abbrev pub GivesStatus : Task → Program → ℕ → Type 0
+GivesStatus (t.Run steps) program status = HasRun program steps status
+GivesStatus t.Check program status = status ≡ 0
+GivesStatus t.Code program status = status ≡ 0
+
+-- the statuses that a text calls for, by the task
+pub data CallsFor (text : List ℕ) (task : Task) (status : ℕ) : Type 0 where
   -- 2: a lexical fault, or a token with which no program goes on
-  bad_token : (fault : LexFault) → status ≡ 2 → IsShort text → HasFault text fault → CallsFor text steps status
-  unexpected : (at : ℕ) → status ≡ 2 → IsShort text → IsUnexpected text at → CallsFor text steps status
+  bad_token : (fault : LexFault) → status ≡ 2 → IsShort text → HasFault text fault → CallsFor text task status
+  unexpected : (at : ℕ) → status ≡ 2 → IsShort text → IsUnexpected text at → CallsFor text task status
   -- 3: its program breaks a rule
-  broken : (rule : BrokenRule) → status ≡ 3 → IsShort text → IsBroken text rule → CallsFor text steps status
-  -- 10: the text is too long, a token is too deep, or the steps of all cores together are too many
-  over_long : status ≡ 10 → 1048576 < length text → CallsFor text steps status
-  too_deep : (at : ℕ) → status ≡ 10 → IsShort text → IsTooDeep text at → CallsFor text steps status
-  too_many : status ≡ 10 → IsShort text → IsTooMany text steps → CallsFor text steps status
-  -- 15: a form of its program is not built
-  not_built : (at : ℕ) → status ≡ 15 → IsShort text → IsNotBuilt text steps at → CallsFor text steps status
-  -- 0, 4 or 6: nothing refuses it, and this is the status of the cores in a run of its program
-  has_run : (program : Program) (ended : Ended) → status ≡ status_of ended.cores → IsShort text → IsRunnable text steps program →
-      IsRunOf program steps [] ended → CallsFor text steps status
+  broken : (rule : BrokenRule) → status ≡ 3 → IsShort text → IsBroken text rule → CallsFor text task status
+  -- 10: the text is too long, a token is too deep, or the steps of all cores together in a run are too many
+  over_long : status ≡ 10 → 1048576 < length text → CallsFor text task status
+  too_deep : (at : ℕ) → status ≡ 10 → IsShort text → IsTooDeep text at → CallsFor text task status
+  too_many : status ≡ 10 → IsShort text → IsTooMany text task → CallsFor text task status
+  -- 15: a form of its program is not built, but not in a check
+  not_built : (at : ℕ) → status ≡ 15 → IsShort text → IsNotBuilt text task at → CallsFor text task status
+  -- 0, and in a run also 4 or 6: nothing refuses it, and this is the status of what is made of its program
+  made : (program : Program) → IsShort text → IsReady text task program → GivesStatus task program status → CallsFor text task status
 
 -- A text that the library may have given calls for the status; and where the library tells that text, for no other.
 pub record IsDecided (words : List (List ℕ)) (before after : LibraryTold) (status : ℕ) : Type 0 where
+  pub task : Task
   pub file : List ℕ
-  pub steps : ℕ
   pub text : List ℕ
-  pub is_call : IsRunCall words file steps
+  pub is_call : IsCall words task file
   pub is_read : IsRead before after file
   pub gave : Gave (before.text_at file) text
-  pub calls : CallsFor text steps status
-  pub only : (name known : List ℕ) (bound : ℕ) → IsRunCall words name bound → before.text_at name ≡ Some known →
-      (number : ℕ) → (status ≡ number) ↔ CallsFor known bound number
+  pub calls : CallsFor text task status
+  pub only : (asked : Task) (name known : List ℕ) → IsCall words asked name → before.text_at name ≡ Some known →
+      (number : ℕ) → (status ≡ number) ↔ CallsFor known asked number

@@ -14,6 +14,9 @@ library_line = codes "library fault" ++ 10 ∷ []
 abbrev pub limit_source_line : List ℕ
 limit_source_line = codes "limit: source" ++ 10 ∷ []
 
+abbrev pub accepted_line : List ℕ
+accepted_line = codes "accepted" ++ 10 ∷ []
+
 -- words and a place
 abbrev pub place_line : List ℕ → ℕ → List ℕ
 place_line words at = words ++ (signed_decimal (pos at) ++ 10 ∷ [])

@@ -11,13 +11,12 @@ use Rattle.ac_program.specs.declared.refusal.BrokenRule.{BrokenRule}
 use Rattle.ac_types.specs.Reached.{BreaksNone, IsLeastBroken}
 use Rattle.ac_names.specs.Numbered.{core_names}
 use Rattle.ac_resolve.specs.Resolution.{resolved}
-use Rattle.ac_compile.specs.Compiled.{IsCodeOf}
-use Rattle.ac_translation.specs.Same.{IsSame}
 use Rattle.ac_compile.specs.Unbuilt.{unbuilt_nodes}
 use Rattle.ac_program.specs.declared.refusal.Refusal.{Refusal}
 use Rattle.ac_program.specs.declared.refusal.Refusal.TheVariants as r
-use Rattle.stack_code.specs.Parts.{Parts}
-use Rattle.stack_code.specs.Alone.{IsAlone}
+use Rattle.ac_program.specs.declared.words.Task.{Task}
+use Rattle.ac_program.specs.declared.words.Task.TheVariants as t
+use Rattle.ac_program.specs.Words.{steps_of}
 
 -- ---- tokens
 
@@ -66,63 +65,58 @@ pub record IsBroken (source : List ℕ) (rule : BrokenRule) : Type 0 where
 
 -- ---- steps
 
--- the steps of all cores together, where each may go so many
-abbrev pub all_steps : Program → ℕ → ℕ
-all_steps program bound = length (core_names program.items) * bound
+-- the steps of all cores together that a task may take: none but for a run
+abbrev pub all_steps : Program → Task → ℕ
+all_steps program task = length (core_names program.items) * steps_of task
 
 -- how many they may be at most
 abbrev pub most_steps : ℕ
 most_steps = 4000000
 
 -- the source is accepted, and its cores may go too many steps
-pub record IsTooMany (source : List ℕ) (bound : ℕ) : Type 0 where
+pub record IsTooMany (source : List ℕ) (task : Task) : Type 0 where
   pub program : Program
   pub is_accepted : IsAccepted source program
-  pub over : most_steps < all_steps program bound
+  pub over : most_steps < all_steps program task
 
 -- the source is accepted and within the limit of steps
-pub record IsWithin (source : List ℕ) (bound : ℕ) (program : Program) : Type 0 where
+pub record IsWithin (source : List ℕ) (task : Task) (program : Program) : Type 0 where
   pub is_accepted : IsAccepted source program
-  pub within : all_steps program bound ≤ most_steps
+  pub within : all_steps program task ≤ most_steps
 
 -- ---- what is built
 
--- the first node that is not built begins at this place
-pub record IsNotBuilt (source : List ℕ) (bound at : ℕ) : Type 0 where
-  pub program : Program
-  pub is_within : IsWithin source bound program
-  pub unbuilt : slice_get (unbuilt_nodes program.items) 0 ≡ Some at
+-- the nodes that are not built and that a task needs: a check needs none
+abbrev pub missing : Task → Program → List ℕ
+missing (t.Run steps) program = unbuilt_nodes program.items
+missing t.Check program = []
+missing t.Code program = unbuilt_nodes program.items
 
--- the program is built
-pub record IsRunnable (source : List ℕ) (bound : ℕ) (program : Program) : Type 0 where
-  pub is_within : IsWithin source bound program
-  pub built : unbuilt_nodes program.items ≡ []
+-- the first node that is needed and not built begins at this place
+pub record IsNotBuilt (source : List ℕ) (task : Task) (at : ℕ) : Type 0 where
+  pub program : Program
+  pub is_within : IsWithin source task program
+  pub unbuilt : slice_get (missing task program) 0 ≡ Some at
+
+-- nothing refuses the source, which spells this program
+pub record IsReady (source : List ℕ) (task : Task) (program : Program) : Type 0 where
+  pub is_within : IsWithin source task program
+  pub built : missing task program ≡ []
 
 -- ---- refusals
 
--- What refuses a source, with so many steps for each core, by the first refusal in the order of work.
-abbrev pub Refuses : List ℕ → ℕ → Refusal → Type 0
-Refuses source bound r.TooLong = 1048576 < length source
-Refuses source bound (r.BadByte at) = HasFault source (l.BadByte at)
-Refuses source bound (r.NumberTooLarge at) = HasFault source (l.NumberTooLarge at)
-Refuses source bound (r.OpenComment at) = HasFault source (l.OpenComment at)
-Refuses source bound (r.OpenText at) = HasFault source (l.OpenText at)
-Refuses source bound (r.Unexpected at) = IsUnexpected source at
-Refuses source bound (r.TooDeep at) = IsTooDeep source at
-Refuses source bound (r.Broken rule) = IsBroken source rule
-Refuses source bound r.TooManySteps = IsTooMany source bound
-Refuses source bound (r.NotBuilt at) = IsNotBuilt source bound at
-
--- ---- code
-
--- the code of a program that the source spells and that is run with this bound
-pub record IsBuilt (source : List ℕ) (bound : ℕ) (code : Parts) : Type 0 where
-  pub program : Program
-  pub is_runnable : IsRunnable source bound program
-  pub is_code : IsCodeOf program code
-  pub is_same : IsSame code (resolved program)
-  pub one_core : length code.entries ≡ 1
-  pub alone : IsAlone code
+-- What refuses a source for a task, by the first refusal in the order of work.
+abbrev pub Refuses : List ℕ → Task → Refusal → Type 0
+Refuses source task r.TooLong = 1048576 < length source
+Refuses source task (r.BadByte at) = HasFault source (l.BadByte at)
+Refuses source task (r.NumberTooLarge at) = HasFault source (l.NumberTooLarge at)
+Refuses source task (r.OpenComment at) = HasFault source (l.OpenComment at)
+Refuses source task (r.OpenText at) = HasFault source (l.OpenText at)
+Refuses source task (r.Unexpected at) = IsUnexpected source at
+Refuses source task (r.TooDeep at) = IsTooDeep source at
+Refuses source task (r.Broken rule) = IsBroken source rule
+Refuses source task r.TooManySteps = IsTooMany source task
+Refuses source task (r.NotBuilt at) = IsNotBuilt source task at
 
 -- the names of the cores of a program
 abbrev pub names_of : Program → List (List ℕ)

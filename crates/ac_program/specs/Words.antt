@@ -2,6 +2,8 @@
 use Rattle.std.specs.Prelude.{◌≡◌, ◌≢◌, ℕ, ◌≤◌, List, [], ◌∷◌, ◌++◌, length, slice_index, All, ⊤, None, Some, codes, unwrap_or}
 use Rattle.std.specs.Str.Parse.{AllDigits, digits_value}
 use Rattle.std.specs.declared.option.Option.{Option}
+use Rattle.ac_program.specs.declared.words.Task.{Task}
+use Rattle.ac_program.specs.declared.words.Task.TheVariants as t
 
 -- the word does not start with `-`
 abbrev pub IsPlain : List ℕ → Type 0
@@ -42,8 +44,21 @@ pub record IsCommand (name : List ℕ) (words operands : List (List ℕ)) (given
   pub form : words ≡ name ∷ rest
   pub arguments : IsArguments rest operands given
 
--- The words are `run` with one operand, the file, and this bound on steps, which is 100,000 where none is given.
-pub record IsRunCall (words : List (List ℕ)) (file : List ℕ) (steps : ℕ) : Type 0 where
+-- The command stands for this task, with this bound on steps where one is given: a run has 100,000 where none is, and the others none.
+abbrev pub IsTask : List ℕ → Option ℕ → Task → Type 0
+IsTask command given (t.Run steps) = (command ≡ codes "run") × (steps ≡ unwrap_or given 100000)
+IsTask command given t.Check = (command ≡ codes "check") × (given ≡ None)
+IsTask command given t.Code = (command ≡ codes "code") × (given ≡ None)
+
+-- The words are a command that stands for this task, with one operand, the file.
+pub record IsCall (words : List (List ℕ)) (task : Task) (file : List ℕ) : Type 0 where
+  pub name : List ℕ
   pub given : Option ℕ
-  pub command : IsCommand (codes "run") words (file ∷ []) given
-  pub bound : steps ≡ unwrap_or given 100000
+  pub command : IsCommand name words (file ∷ []) given
+  pub is_task : IsTask name given task
+
+-- how many steps each core may go: only a run has any
+abbrev pub steps_of : Task → ℕ
+steps_of (t.Run steps) = steps
+steps_of t.Check = 0
+steps_of t.Code = 0

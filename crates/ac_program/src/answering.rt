@@ -1,6 +1,6 @@
 //! What is written, and the outcome that goes with it.
 
-ghost use Rattle.std.specs.Prelude.{◌≡◌, ◌≢◌, ◌≤◌, [], length, None, Some};
+ghost use Rattle.std.specs.Prelude.{◌≡◌, ◌≢◌, ◌≤◌, [], length, None};
 ghost use Rattle.ac_outside.specs.Told.{OpenedJust, GrewBy};
 ghost use Rattle.ac_program.specs.Writing.{TookFront};
 ghost use Rattle.ac_program.specs.Lines.{refusal_line, refusal_status};
@@ -11,6 +11,7 @@ use crate::execute::{Done, execute};
 use crate::outcome::Outcome;
 use crate::reading::{ReadFault, read_text};
 use crate::refusal::{LIMIT_SOURCE, Refusal, Stop};
+use crate::words::Task;
 use crate::writing::answer;
 use ac_base::Status;
 use ac_outside::{Library, Sink};
@@ -72,57 +73,51 @@ fn refuse_source<K: Sink>(alloc: Global, sink: &mut K, refusal: Refusal) -> Outc
     }
 }
 
+// Writes the text of what was made.
 fn give<K: Sink>(sink: &mut K, done: Done) -> Outcome
     requires { done.status.number ≢ 8 }
-    ensures run { result.run ≡ Some done.ended }
+    ensures run { result.run ≡ done.run }
     ensures status { result.status.number ≢ 8 → result.status.number ≡ done.status.number }
-    ensures whole { result.status.number ≢ 8 → GrewBy (K.told sink.old).held (K.told sink.new).held done.report }
-    ensures part { result.status.number ≡ 8 → TookFront (K.told sink.old).held (K.told sink.new).held done.report }
+    ensures whole { result.status.number ≢ 8 → GrewBy (K.told sink.old).held (K.told sink.new).held done.text }
+    ensures part { result.status.number ≡ 8 → TookFront (K.told sink.old).held (K.told sink.new).held done.text }
     ensures sink { TellsSink (K.told sink.old) (K.told sink.new) result.status.number }
 {
-    let Done {
-        ended,
-        report,
-        status,
-    } = done;
-    let status = answer(sink, status, report.as_slice());
-    Outcome {
-        status,
-        run: Some(ended),
-    }
+    let Done { run, text, status } = done;
+    let status = answer(sink, status, text.as_slice());
+    Outcome { status, run }
 }
 
-/// Runs the program of a source and writes its report, or what refuses it.
-pub fn run_source<K: Sink>(alloc: Global, source: &[u8], steps: u32, sink: &mut K) -> Outcome
+/// Does a task with a source and writes what is made of it, or what refuses it.
+pub fn do_source<K: Sink>(alloc: Global, source: &[u8], task: Task, sink: &mut K) -> Outcome
     requires { length source.now ≤ 1048576 }
     ensures whole { result.status.number ≢ 8 → result.status.number ≢ 11 →
-        TookWhole (IsDueOf source.now steps) result.status.number result.run (K.told sink.old) (K.told sink.new) }
-    ensures part { result.status.number ≡ 8 → TookPart (IsDueOf source.now steps) result.run (K.told sink.old) (K.told sink.new) }
+        TookWhole (IsDueOf source.now task) result.status.number result.run (K.told sink.old) (K.told sink.new) }
+    ensures part { result.status.number ≡ 8 → TookPart (IsDueOf source.now task) result.run (K.told sink.old) (K.told sink.new) }
     ensures memory { result.status.number ≡ 11 → GrewBy (K.told sink.old).held (K.told sink.new).held [] }
     ensures no_run { result.status.number ≡ 11 → result.run ≡ None }
     ensures sink { TellsSink (K.told sink.old) (K.told sink.new) result.status.number }
     ensures other { (result.status.number ≢ 1) × (result.status.number ≢ 7) }
 {
-    match execute(alloc, source, steps) {
+    match execute(alloc, source, task) {
         Err(Stop::NoMemory) => no_memory(),
         Err(Stop::Refused(refusal)) => refuse_source(alloc, sink, refusal),
         Ok(done) => give(sink, done),
     }
 }
 
-/// Reads the text of a name, runs its program and writes the report, or what refuses it.
-pub fn run_file<L: Library, K: Sink>(
+/// Reads the text of a name, does a task with it and writes what is made of it, or what refuses it.
+pub fn do_file<L: Library, K: Sink>(
     alloc: Global,
     file: &str,
-    steps: u32,
+    task: Task,
     library: &mut L,
     sink: &mut K,
 ) -> Outcome
     ensures whole { result.status.number ≢ 8 → result.status.number ≢ 11 →
-        TookWhole (IsDueOfFile file.now steps (L.told library.old) (L.told library.new))
+        TookWhole (IsDueOfFile file.now task (L.told library.old) (L.told library.new))
         result.status.number result.run (K.told sink.old) (K.told sink.new) }
     ensures part { result.status.number ≡ 8 →
-        TookPart (IsDueOfFile file.now steps (L.told library.old) (L.told library.new)) result.run (K.told sink.old) (K.told sink.new) }
+        TookPart (IsDueOfFile file.now task (L.told library.old) (L.told library.new)) result.run (K.told sink.old) (K.told sink.new) }
     ensures just { OpenedJust (L.told library.old) (L.told library.new) file.now }
     ensures memory { result.status.number ≡ 11 → GrewBy (K.told sink.old).held (K.told sink.new).held [] }
     ensures no_run { result.status.number ≡ 11 → result.run ≡ None }
@@ -134,6 +129,6 @@ pub fn run_file<L: Library, K: Sink>(
         Err(ReadFault::NoMemory) => no_memory(),
         Err(ReadFault::Failed) => refuse(sink, 7, "library fault\n"),
         Err(ReadFault::TooLong) => refuse(sink, 10, LIMIT_SOURCE),
-        Ok(source) => run_source(alloc, source.as_slice(), steps, sink),
+        Ok(source) => do_source(alloc, source.as_slice(), task, sink),
     }
 }

@@ -1,6 +1,7 @@
 //! From a source text to the program that it spells.
 
-ghost use Rattle.std.specs.Prelude.{◌≤◌, ℕ, length};
+ghost use Rattle.std.specs.Prelude.{◌≤◌, length};
+ghost use Rattle.ac_program.specs.declared.words.Task.{Task};
 ghost use Rattle.ac_program.specs.inner.Parts.{GivesTokens, GivesProgram, GivesChecked};
 
 use crate::refusal::Stop;
@@ -14,7 +15,7 @@ use std::alloc::Global;
 // The tokens of a source.
 fn tokens_of(alloc: Global, source: &[u8]) -> Result<List<Token>, Stop>
     requires { length source.now ≤ 1048576 }
-    ensures { (bound : ℕ) → GivesTokens source.now bound result }
+    ensures { (task : Task) → GivesTokens source.now task result }
 {
     let tokens = lex(alloc, source)?;
     Ok(tokens)
@@ -23,7 +24,7 @@ fn tokens_of(alloc: Global, source: &[u8]) -> Result<List<Token>, Stop>
 // The program that a source spells.
 fn program_of(alloc: Global, source: &[u8]) -> Result<Program, Stop>
     requires { length source.now ≤ 1048576 }
-    ensures { (bound : ℕ) → GivesProgram source.now bound result }
+    ensures { (task : Task) → GivesProgram source.now task result }
 {
     let tokens = tokens_of(alloc, source)?;
     let program = parse(alloc, &tokens, source.len() as u32)?;
@@ -33,7 +34,7 @@ fn program_of(alloc: Global, source: &[u8]) -> Result<Program, Stop>
 /// The program that a source of at most 1,048,576 bytes spells, where it breaks no rule.
 pub fn accept(alloc: Global, source: &[u8]) -> Result<Checked, Stop>
     requires { length source.now ≤ 1048576 }
-    ensures { (bound : ℕ) → GivesChecked source.now bound result }
+    ensures { (task : Task) → GivesChecked source.now task result }
 {
     let program = program_of(alloc, source)?;
     let checked = check(alloc, program)?;

@@ -16,29 +16,31 @@ mod words;
 mod writing;
 
 use ac_outside::{Library, Sink};
-use answering::{USAGE, refuse, run_file};
+use answering::{USAGE, do_file, refuse};
 pub use outcome::Outcome;
 pub use running::Ended;
 use std::alloc::Global;
 use words::read_words;
 
 /// Does what the words of a command line ask for: reads the text that they name from the library,
-/// runs its program with the bound on steps that they give, and writes the report to the sink.
+/// and runs its program with the bound on steps that they give, or checks it, or compiles it; and
+/// writes the report, the line `accepted` or the listing of the code to the sink.
 ///
-/// The statuses are 0 with the report where every core finished; 6 with the report where a core was
-/// out of steps, and 4 where one trapped. Status 5 stands for a core that waits for ever, which
-/// comes only with channels and files, and no program that runs today has them. The others come
-/// with a line, by the first refusal in this order: 1 with the usage line where the words are not
-/// `run`, one FILE and at most one bound from 1 to 2,000,000; 7 with `library fault` where a call
-/// of the library failed; 10 with `limit: source` where the text is longer than 1,048,576 bytes; 2
-/// with `bad byte at B`, `number too large at B`, `open comment at B` or `open text at B` for the
-/// first lexical fault, and with `unexpected token at B` for the first token with which no program
-/// goes on; 10 with `limit: nesting at B` for the first token that is more than 256 deep; 3 with
-/// `rule Cn at B` for the least broken rule, by node and then by number; 10 with `limit: steps`
-/// where the cores together may go more than 4,000,000 steps; 15 with `not built at B` for the
-/// first node, in preorder, of a form that is not built. B is a place in bytes from 0. The status
-/// is 8 where the sink failed, which has then taken a front of the text, and 11 where memory was
-/// refused, and nothing is written.
+/// The statuses of a run are 0 with the report where every core finished; 6 with the report where a
+/// core was out of steps, and 4 where one trapped. Status 5 stands for a core that waits for ever,
+/// which comes only with channels and files, and no program that runs today has them. A check and a
+/// listing have 0. The others come with a line, by the first refusal in this order: 1 with the
+/// usage line where the words are not `run`, `check` or `code`, one FILE and, of a run alone, at
+/// most one bound from 1 to 2,000,000; 7 with `library fault` where a call of the library failed;
+/// 10 with `limit: source` where the text is longer than 1,048,576 bytes; 2 with `bad byte at B`,
+/// `number too large at B`, `open comment at B` or `open text at B` for the first lexical fault,
+/// and with `unexpected token at B` for the first token with which no program goes on; 10 with
+/// `limit: nesting at B` for the first token that is more than 256 deep; 3 with `rule Cn at B` for
+/// the least broken rule, by node and then by number; 10 with `limit: steps` where the cores
+/// together may go more than 4,000,000 steps in a run; 15, but not of a check, with `not built at
+/// B` for the first node, in preorder, of a form that is not built. B is a place in bytes from 0.
+/// The status is 8 where the sink failed, which has then taken a front of the text, and 11 where
+/// memory was refused, and nothing is written.
 pub fn ac_main<L: Library, K: Sink>(
     alloc: Global,
     words: &[String],
@@ -56,8 +58,8 @@ pub fn ac_main<L: Library, K: Sink>(
         TookPart (IsDue (map string_bytes words.now) (L.told library.old) (L.told library.new))
         result.run (K.told sink.old) (K.told sink.new) }
 
-    // Where memory was refused, the words call for a run, just the file was opened, nothing is
-    // written and no run is kept.
+    // Where memory was refused, the words are a call, just the file was opened, nothing is written
+    // and no run is kept.
     ensures memory { result.status.number ≡ 11 →
         GaveUp (map string_bytes words.now) (L.told library.old) (L.told library.new)
         result.run (K.told sink.old) (K.told sink.new) }
@@ -71,7 +73,8 @@ pub fn ac_main<L: Library, K: Sink>(
     // Status 8 stands for a sink that failed.
     ensures sink { TellsSink (K.told sink.old) (K.told sink.new) result.status.number }
 
-    // Any other status is that which the text of the file calls for, and just the file was opened.
+    // Any other status is that which the text of the file calls for with the task of the words, and
+    // just the file was opened.
     ensures decided { IsOfText result.status.number →
         IsDecided (map string_bytes words.now) (L.told library.old) (L.told library.new) result.status.number }
 
@@ -82,5 +85,5 @@ pub fn ac_main<L: Library, K: Sink>(
     let Some(call) = read_words(words) else {
         return refuse(sink, 1, USAGE);
     };
-    run_file(alloc, call.file, call.steps, library, sink)
+    do_file(alloc, call.file, call.task, library, sink)
 }

@@ -1,17 +1,26 @@
 -- Small programs without their names, and some that are in place or not.
-use Rattle.std.proofs.Common.{◌≡◌, refl, ap, ◌∙◌, subst, ℕ, zero, suc, ◌+◌, pos, List, [], ◌∷◌, codes, Some, true, false, arith}
-use Rattle.std.specs.Prelude.{slice_get}
+use Rattle.std.proofs.Common.{◌≡◌, refl, ap, ◌∙◌, subst, ℕ, zero, suc, ◌+◌, pos, List, [], ◌∷◌, ◌++◌, length, map, codes, Some, None, true, false, arith}
+use Rattle.std.specs.Prelude.{negsuc, slice_get}
+use Rattle.ac_tree.specs.declared.expr.Constant.TheVariants as k
 use Rattle.ac_tree.specs.declared.expr.Expr.{Expr}
 use Rattle.ac_tree.specs.declared.expr.Expr.TheVariants as e
+use Rattle.ac_tree.specs.declared.expr.Expr.TheOpen.{Expr-F}
 use Rattle.ac_tree.specs.declared.expr.Link.{Link}
 use Rattle.ac_tree.specs.declared.expr.BinaryOp.{BinaryOp}
 use Rattle.ac_tree.specs.declared.expr.BinaryOp.TheVariants as b
 use Rattle.ac_tree.specs.declared.stmt.Stmt.{Stmt}
 use Rattle.ac_tree.specs.declared.stmt.Stmt.TheVariants as s
+use Rattle.ac_tree.specs.declared.stmt.Stmt.TheOpen.{Stmt-F}
+use Rattle.ac_tree.specs.declared.item.Function as tree
+use Rattle.ac_tree.specs.declared.item.Item.{Item}
 use Rattle.ac_tree.specs.declared.item.Item.TheVariants as i
 use Rattle.ac_tree.specs.declared.item.Program.{Program}
 use Rattle.ac_names.specs.declared.meaning.Meaning.TheVariants as m
+use Rattle.ac_names.specs.declared.names.Names.{Names}
+use Rattle.ac_names.specs.declared.past.Counts.{Counts}
 use Rattle.ac_names.specs.Scopes.{Declaration}
+use Rattle.ac_names.specs.Statements.{part}
+use Rattle.ac_names.specs.Items.{no_past}
 use Rattle.ac_commands.specs.declared.value.Action.TheVariants as act
 use Rattle.ac_commands.specs.declared.value.Value.{Value}
 use Rattle.ac_commands.specs.declared.value.Value.TheVariants as v
@@ -24,14 +33,20 @@ use Rattle.ac_commands.specs.declared.command.Command.TheVariants as c
 use Rattle.ac_commands.specs.declared.program.Core.{Core}
 use Rattle.ac_commands.specs.declared.program.Function.{Function}
 use Rattle.ac_commands.specs.declared.program.Resolved.{Resolved}
-use Rattle.ac_resolve.specs.Computed.{Reading, read, value_in}
-use Rattle.ac_resolve.specs.Resolution.{resolved}
+use Rattle.ac_resolve.specs.Places.{constant_value, place_of, array_of, name_argument, reference_to, cancel_of, function_of, channel_of, file_of, core_of}
+use Rattle.ac_resolve.specs.Computed.{InScopes, Reading, links_step, arguments_step, file_operands, value_step, argument_step, target_step, read_step, link_step, read, value_in}
+use Rattle.ac_resolve.specs.Computed.{target_in, values_in}
+use Rattle.ac_resolve.specs.Computed.{some_in, initial_in}
+use Rattle.ac_resolve.specs.Commands.{Texts, Told, shape_of, shapes, some_shape, all_texts, commands, some_texts, some_commands, other_commands, texts_step, for_names, commands_step}
+use Rattle.ac_resolve.specs.Commands.{told_step, body_told}
+use Rattle.ac_resolve.specs.Resolution.{body_names, function_in, function_texts, functions_in, items_texts, cores_in, channels_in, start_at, item_starts, starts_in, resolved}
+use Rattle.ac_resolve.specs.InPlace.{FrameRound, no_frame, frame_at, Holds, HoldInts, HasSlots, is_among, with_entered, want_of, IsOne, AreInts, AreStarts}
 use Rattle.ac_resolve.specs.InPlace.{NoReferences, Use, AsInt, AsReference, AsBlock, Round, is_entered, in_block, in_body, in_function, IsPlace, global, local, IsArray, local_array, parameter}
-use Rattle.ac_resolve.specs.InPlace.{AnInt, AnArray, OneInt, IsValue, number, reference, one_int, AreOperands, no_operand, one_operand, to_variable}
+use Rattle.ac_resolve.specs.InPlace.{AnInt, AnArray, OneInt, IsValue, number, variable, reference, one_int, AreOperands, no_operand, one_operand, to_variable}
 use Rattle.ac_resolve.specs.InPlace.{IsCommand, set, do_finish, start, cancel, AreCommands, no_command, one_command, IsCore, IsChannel, IsFunction, IsInPlace}
 use Rattle.ac_resolve.proofs.Uses.{ints}
 use Rattle.ac_resolve.proofs.Stretches.{Stands, hold_ints}
-use Rattle.ac_resolve.proofs.Forms.{number_reads, name_reads, chain_reads, link_reads, index_reads, call_reads, recv_reads, print_tells, int_tells}
+use Rattle.ac_resolve.proofs.Forms.{number_reads, name_reads, chain_reads, link_reads, index_reads, call_reads, recv_reads, print_tells, int_tells, yield_tells}
 
 -- ---- trees and what they become
 
@@ -115,6 +130,204 @@ into_an_element =
     ap (λ (q : Reading). q.value scopes 0) (recv_reads 0 (codes "c") (e.Index 9 (codes "a") (e.Number 11 (pos 2))))
     ∙ rw (index_reads 9 (codes "a") (e.Number 11 (pos 2)), number_reads 11 (pos 2)) refl
 
+-- ---- what names stand for
+
+pub named_results : map constant_value (k.Ok ∷ k.Cancelled ∷ k.Fault ∷ []) ≡ pos 0 ∷ negsuc 0 ∷ negsuc 1 ∷ []
+named_results = refl
+
+-- in two async bodies: a global, and what was declared in the function and in the first of the two
+pub variables : place_of (Some (m.Global 3)) 2 ∷ place_of (Some (m.Local 0 3)) 2 ∷ place_of (Some (m.Local 1 3)) 2 ∷ [] ≡ p.Global 3 ∷ p.Local 2 3 ∷ p.Local 1 3 ∷ []
+variables = refl
+
+pub arrays : array_of (Some (m.GlobalArray 5 3)) 2 ∷ array_of (Some (m.LocalArray 1 5 3)) 2 ∷ array_of (Some (m.ArrayParam 5)) 2 ∷ [] ≡ ar.Global 5 3 ∷ ar.Local 1 5 3 ∷ ar.Param 2 5 ∷ []
+arrays = refl
+
+pub names_as_arguments : name_argument (Some (m.ArrayParam 5)) 2 ∷ name_argument (Some (m.Global 3)) 2 ∷ [] ≡ v.Reference (ar.Param 2 5) ∷ v.Variable (p.Global 3) ∷ []
+names_as_arguments = refl
+
+pub references_to_one_int : reference_to (t.Variable (p.Local 2 3)) ∷ reference_to (t.Element (ar.Param 2 5) (v.Number (pos 1))) ∷ []
+    ≡ v.Reference (ar.Local 2 3 1) ∷ v.Part (ar.Param 2 5) (v.Number (pos 1)) ∷ []
+references_to_one_int = refl
+
+pub a_label : cancel_of (Some (m.Label 1 5)) 2 ≡ c.Cancel 1 5
+a_label = refl
+
+pub numbers_that_are_meant : function_of (Some (m.Function 7)) ∷ channel_of (Some (m.Channel 6)) ∷ file_of (Some (m.File 5)) ∷ core_of (Some (m.Core 4)) ∷ [] ≡ 7 ∷ 6 ∷ 5 ∷ 4 ∷ []
+numbers_that_are_meant = refl
+
+-- ---- expressions by their parts
+
+-- a number, and something into which 7 is put
+abbrev seven : InScopes Value
+seven around depth = v.Number (pos 7)
+
+abbrev seven_read : Reading
+seven_read = record { value = seven; argument = seven; target = λ around depth. t.Variable (p.Global 7) }
+
+pub links_in_order : links_step (link_step (record { op = b.Add; operand = seven_read }) ∷ link_step (record { op = b.Mul; operand = seven_read }) ∷ []) scopes 0
+    ≡ with_value b.Add (v.Number (pos 7)) ∷ with_value b.Mul (v.Number (pos 7)) ∷ []
+links_in_order = refl
+
+-- the argument is a reference, where the value would be an int
+pub arguments_in_order : arguments_step (seven_read ∷ read_step (Expr-F.Name 0 (codes "a")) ∷ []) scopes 0 ≡ v.Number (pos 7) ∷ v.Reference (ar.Local 0 2 3) ∷ []
+arguments_in_order = refl
+
+pub operands_of_a_read : file_operands seven_read seven_read (codes "a") scopes 0 ≡ v.Number (pos 7) ∷ v.Number (pos 7) ∷ v.Reference (ar.Local 0 2 3) ∷ []
+operands_of_a_read = refl
+
+-- OK, x, a[7], (7) and Send(c, 7) in one async body
+pub values_of_forms : value_step (Expr-F.Const 0 k.Ok) scopes 1 ∷ value_step (Expr-F.Name 0 (codes "x")) scopes 1 ∷ value_step (Expr-F.Index 0 (codes "a") seven_read) scopes 1
+    ∷ value_step (Expr-F.Group 0 seven_read) scopes 1 ∷ value_step (Expr-F.Send 0 (codes "c") seven_read) scopes 1 ∷ []
+    ≡ v.Number (pos 0) ∷ v.Variable (p.Local 1 1) ∷ v.Element (ar.Local 1 2 3) (v.Number (pos 7)) ∷ v.Number (pos 7) ∷ v.Act (act.Send 4) (v.Number (pos 7) ∷ []) ∷ []
+values_of_forms = refl
+
+pub arguments_of_forms : argument_step (Expr-F.Name 0 (codes "b")) scopes 1 ∷ argument_step (Expr-F.Name 0 (codes "x")) scopes 1 ∷ argument_step (Expr-F.Group 0 seven_read) scopes 1 ∷ []
+    ≡ v.Reference (ar.Param 1 0) ∷ v.Variable (p.Local 1 1) ∷ v.Number (pos 7) ∷ []
+arguments_of_forms = refl
+
+pub targets_of_forms : target_step (Expr-F.Name 0 (codes "x")) scopes 1 ∷ target_step (Expr-F.Index 0 (codes "a") seven_read) scopes 1 ∷ []
+    ≡ t.Variable (p.Local 1 1) ∷ t.Element (ar.Local 1 2 3) (v.Number (pos 7)) ∷ []
+targets_of_forms = refl
+
+pub a_target : target_in (e.Name 9 (codes "x")) scopes 0 ≡ t.Variable (p.Local 0 1)
+a_target = ap (λ (q : Reading). q.target scopes 0) (name_reads 9 (codes "x"))
+
+pub values_in_order : values_in (e.Name 0 (codes "x") ∷ e.Number 3 (pos 7) ∷ []) scopes 0 ≡ v.Variable (p.Local 0 1) ∷ v.Number (pos 7) ∷ []
+values_in_order = rw (ap (λ (q : Reading). q.value) (name_reads 0 (codes "x")), ap (λ (q : Reading). q.value) (number_reads 3 (pos 7))) refl
+
+pub a_value_that_may_be_left_out : some_in None scopes 0 ∷ some_in (Some (e.Number 3 (pos 7))) scopes 0 ∷ [] ≡ None ∷ Some (v.Number (pos 7)) ∷ []
+a_value_that_may_be_left_out = rw (ap (λ (q : Reading). q.value) (number_reads 3 (pos 7))) refl
+
+pub a_first_value : initial_in None scopes 0 ∷ initial_in (Some (e.Number 3 (pos 7))) scopes 0 ∷ [] ≡ v.Number (pos 0) ∷ v.Number (pos 7) ∷ []
+a_first_value = rw (ap (λ (q : Reading). q.value) (number_reads 3 (pos 7))) refl
+
+-- ---- statements by their parts
+
+-- a statement that takes a slot and has the text `t`; its commands tell the number of its text and its slot
+abbrev one_told : Told
+one_told = record { shape = part None 1 tt; texts = λ texts. texts ++ codes "t" ∷ []; commands = λ n depth texts. c.Print (length texts) [] ∷ c.Do n.slot [] ∷ [] }
+
+abbrev one_text : Texts
+one_text = codes "s" ∷ []
+
+abbrev slot_five : Names
+slot_five = record { scopes = scopes; labels = []; slot = 5 }
+
+pub shapes_of_two : shapes (one_told ∷ one_told ∷ []) ≡ part None 1 tt ∷ part None 1 tt ∷ []
+shapes_of_two = refl
+
+pub its_shape : shape_of one_told ≡ part None 1 tt
+its_shape = refl
+
+pub texts_of_two : all_texts (one_told ∷ one_told ∷ []) one_text ≡ codes "s" ∷ codes "t" ∷ codes "t" ∷ []
+texts_of_two = refl
+
+pub commands_of_two : commands (one_told ∷ one_told ∷ []) slot_five 0 one_text ≡ c.Print 1 [] ∷ c.Do 5 [] ∷ c.Print 2 [] ∷ c.Do 6 [] ∷ []
+commands_of_two = refl
+
+pub a_part_that_is_left_out : (some_shape None ≡ None) × (some_texts None one_text ≡ one_text) × (some_commands None slot_five 0 one_text ≡ []) × (other_commands None slot_five 0 one_text ≡ None)
+a_part_that_is_left_out = (refl, refl, refl, refl)
+
+pub a_part_that_is_there : (some_shape (Some one_told) ≡ Some (part None 1 tt)) × (some_texts (Some one_told) one_text ≡ codes "s" ∷ codes "t" ∷ [])
+    × (some_commands (Some one_told) slot_five 0 one_text ≡ c.Print 1 [] ∷ c.Do 5 [] ∷ []) × (other_commands (Some one_told) slot_five 0 one_text ≡ Some (c.Print 1 [] ∷ c.Do 5 [] ∷ []))
+a_part_that_is_there = (refl, refl, refl, refl)
+
+-- yield; printf("u"); and while (x) with one statement in it
+pub texts_of_forms : texts_step (Stmt-F.Yield 0) one_text ∷ texts_step (Stmt-F.Print 0 (codes "u") []) one_text ∷ texts_step (Stmt-F.While 0 (e.Name 0 (codes "x")) one_told) one_text ∷ []
+    ≡ (codes "s" ∷ []) ∷ (codes "s" ∷ codes "u" ∷ []) ∷ (codes "s" ∷ codes "t" ∷ []) ∷ []
+texts_of_forms = refl
+
+pub names_in_a_for : for_names (Some one_told) 0 slot_five ≡ record { scopes = [] ∷ scopes; labels = []; slot = 6 }
+names_in_a_for = refl
+
+-- int a[3]; a block, do { .. } finish; and async ..
+pub commands_of_forms : commands_step (Stmt-F.Array 0 (codes "y") (pos 3)) slot_five 0 one_text ∷ commands_step (Stmt-F.Block 0 (one_told ∷ [])) slot_five 0 one_text
+    ∷ commands_step (Stmt-F.Do 0 None (one_told ∷ [])) slot_five 0 one_text ∷ commands_step (Stmt-F.Async 0 one_told) slot_five 0 one_text ∷ []
+    ≡ (c.Clear 5 3 ∷ []) ∷ (c.Print 1 [] ∷ c.Do 5 [] ∷ []) ∷ (c.Do 5 (c.Print 1 [] ∷ c.Do 6 [] ∷ []) ∷ []) ∷ (c.Async 1 (c.Print 1 [] ∷ c.Do 0 [] ∷ []) ∷ []) ∷ []
+commands_of_forms = refl
+
+-- the first part stands before the loop, and the third comes before the body in the text
+pub commands_of_a_for : commands_step (Stmt-F.For 0 (Some one_told) None (Some one_told) one_told) slot_five 0 one_text
+    ≡ c.Print 1 [] ∷ c.Do 5 [] ∷ c.For None (c.Print 2 [] ∷ c.Do 6 [] ∷ []) (c.Print 3 [] ∷ c.Do 7 [] ∷ []) ∷ []
+commands_of_a_for = refl
+
+pub what_a_block_tells : shape_of (told_step (Stmt-F.Block 0 (one_told ∷ one_told ∷ []))) ≡ part None 2 tt
+what_a_block_tells = refl
+
+pub what_a_body_tells : commands (body_told (s.Yield 4 ∷ s.Yield 11 ∷ [])) slot_five 0 one_text ≡ c.Yield ∷ c.Yield ∷ []
+what_a_body_tells = rw (yield_tells 4, yield_tells 11) refl
+
+-- ---- items by their parts
+
+-- async void f(int x) { printf("t"); }
+abbrev printing : tree.Function
+printing = record {
+  at = 0;
+  is_async = true;
+  gives_int = false;
+  name = codes "f";
+  params = record { at = 13; name = codes "x"; is_array = false } ∷ [];
+  body = s.Print 22 (codes "t") [] ∷ [];
+}
+
+pub round_its_body : body_names printing [] ≡ record { scopes = (record { name = codes "x"; meaning = m.Local 0 0 } ∷ []) ∷ []; labels = []; slot = 1 }
+round_its_body = refl
+
+-- after one text its own has the number 1
+abbrev printing_resolved : Function
+printing_resolved = record { name = codes "f"; is_async = true; gives_int = false; params = false ∷ []; slots = 1; body = c.Print 1 [] ∷ [] }
+
+pub a_function : function_in printing [] one_text ≡ printing_resolved
+a_function = rw (print_tells 22 (codes "t") []) refl
+
+pub functions_alone : functions_in (i.Core 0 (codes "a") (codes "f") ∷ i.Function printing ∷ []) [] one_text ≡ printing_resolved ∷ []
+functions_alone = rw (print_tells 22 (codes "t") []) refl
+
+pub its_texts : function_texts printing one_text ≡ codes "s" ∷ codes "t" ∷ []
+its_texts = rw (print_tells 22 (codes "t") []) refl
+
+pub texts_of_items : items_texts (i.Function printing ∷ i.Core 0 (codes "a") (codes "f") ∷ i.Function printing ∷ []) [] ≡ codes "t" ∷ codes "t" ∷ []
+texts_of_items = rw (print_tells 22 (codes "t") []) refl
+
+-- core a(f); channel d(k, l, 5); where k and l are the cores 2 and 0
+abbrev two_items : List Item
+two_items = i.Core 0 (codes "a") (codes "f") ∷ i.Channel 11 (codes "d") (codes "k") (codes "l") (pos 5) ∷ []
+
+abbrev two_cores : List (List Declaration)
+two_cores = (record { name = codes "k"; meaning = m.Core 2 } ∷ record { name = codes "l"; meaning = m.Core 0 } ∷ []) ∷ []
+
+pub cores_alone : cores_in two_items scopes ≡ record { name = codes "a"; entry = 7 } ∷ []
+cores_alone = refl
+
+pub channels_alone : channels_in two_items two_cores ≡ record { from = 2; to = 0; capacity = 5 } ∷ []
+channels_alone = refl
+
+-- nought needs no start
+pub starts_at_slot_3 : start_at 3 (pos 0) ∷ start_at 3 (pos 5) ∷ start_at 3 (negsuc 0) ∷ []
+    ≡ [] ∷ (record { slot = 3; value = pos 5 } ∷ []) ∷ (record { slot = 3; value = negsuc 0 } ∷ []) ∷ []
+starts_at_slot_3 = refl
+
+abbrev three_slots : Counts
+three_slots = record { cores = 0; functions = 0; channels = 0; files = 0; slots = 3 }
+
+pub starts_of_items : item_starts three_slots (i.Global 0 (codes "x") None (pos 5)) ∷ item_starts three_slots (i.Global 0 (codes "h") (Some (pos 4)) (pos 0)) ∷ []
+    ≡ (record { slot = 3; value = pos 5 } ∷ []) ∷ [] ∷ []
+starts_of_items = refl
+
+-- int x = 5; int h[3]; int y = -1;
+pub starts_by_their_slots : starts_in no_past.counts (i.Global 0 (codes "x") None (pos 5) ∷ i.Global 0 (codes "h") (Some (pos 3)) (pos 0) ∷ i.Global 0 (codes "y") None (negsuc 0) ∷ [])
+    ≡ record { slot = 0; value = pos 5 } ∷ record { slot = 4; value = negsuc 0 } ∷ []
+starts_by_their_slots = refl
+
+pub they_are_starts : AreStarts 0 5 (record { slot = 0; value = pos 5 } ∷ record { slot = 4; value = negsuc 0 } ∷ [])
+they_are_starts = (omega arith, omega arith, (λ e. cc e), (omega arith, omega arith, (λ e. cc e), tt))
+
+pub no_slot_starts_twice : AreStarts 0 5 (record { slot = 0; value = pos 5 } ∷ record { slot = 0; value = pos 6 } ∷ []) → ⊥
+no_slot_starts_twice h = let le = h.3.0 in omega (arith, le)
+
+pub no_start_is_nought : AreStarts 0 5 (record { slot = 0; value = pos 0 } ∷ []) → ⊥
+no_start_is_nought h = h.2 refl
+
 -- ---- what is there
 
 -- in an async body with an int, in a function with an int, an array parameter, a block that is entered, and an array of two elements
@@ -127,6 +340,46 @@ in_a_body = record {
 
 abbrev pub one_global : Resolved
 one_global = record { cores = []; functions = []; channels = []; files = []; slots = 1; starts = []; texts = [] }
+
+abbrev frame_of_the_function : FrameRound
+frame_of_the_function = record { uses = AsInt ∷ AsReference ∷ AsBlock ∷ AsInt ∷ AsInt ∷ []; entered = 2 ∷ [] }
+
+pub one_frame_up : frame_at in_a_body.frames 1 ∷ frame_at in_a_body.frames 2 ∷ [] ≡ frame_of_the_function ∷ no_frame ∷ []
+one_frame_up = refl
+
+pub what_a_slot_holds : Holds in_a_body 1 2 AsBlock × Holds in_a_body 0 0 AsInt
+what_a_slot_holds = (refl, refl)
+
+pub what_it_does_not_hold : Holds in_a_body 1 2 AsInt → ⊥
+what_it_does_not_hold e = cc e
+
+pub there_are_two_slots : HasSlots in_a_body 1 3 2
+there_are_two_slots = omega arith
+
+pub there_are_not_three : HasSlots in_a_body 1 3 3 → ⊥
+there_are_not_three h = omega (arith, h)
+
+pub ints_alone_are_held : HoldInts in_a_body 1 2 2 → ⊥
+ints_alone_are_held h = let e = h 2 (omega arith) (omega arith) in what_it_does_not_hold e
+
+pub slots_among_others : is_among 2 (1 ∷ 2 ∷ []) ∷ is_among 3 (1 ∷ 2 ∷ []) ∷ [] ≡ true ∷ false ∷ []
+slots_among_others = refl
+
+-- in the innermost frame
+pub one_more_is_entered : with_entered 4 (frame_of_the_function ∷ no_frame ∷ []) ≡ record frame_of_the_function { entered = 4 ∷ 2 ∷ [] } ∷ no_frame ∷ []
+one_more_is_entered = refl
+
+pub wanted_of_parameters : want_of true ∷ want_of false ∷ [] ≡ AnArray ∷ AnInt ∷ []
+wanted_of_parameters = refl
+
+pub one_element : IsOne (ar.Global 4 1)
+one_element = refl
+
+pub two_elements : IsOne (ar.Local 0 4 2) → ⊥
+two_elements e = omega (arith, e)
+
+pub elements_of_a_parameter : IsOne (ar.Param 0 4) → ⊥
+elements_of_a_parameter h = h
 
 pub a_global_is_there : IsPlace one_global in_a_body (p.Global 0)
 a_global_is_there = global 0 (omega arith)
@@ -170,6 +423,17 @@ a_parameter_that_is_an_array = parameter 1 1 (omega arith) refl
 
 pub a_parameter_that_is_an_int : IsArray one_global in_a_body (ar.Param 1 0) → ⊥
 a_parameter_that_is_an_int (parameter level slot h e) = cc
+
+pub two_slots_hold_ints : HoldInts in_a_body 1 3 2
+two_slots_hold_ints = (hold_ints _ 2 3 two_ints).each
+
+pub two_ints_as_values : AreInts one_global in_a_body (v.Number (pos 7) ∷ v.Variable (p.Global 0) ∷ [])
+two_ints_as_values = (number _, (variable _ a_global_is_there, tt))
+
+pub a_reference_is_no_int_value : AreInts one_global in_a_body (v.Reference (ar.Local 1 3 2) ∷ []) → ⊥
+a_reference_is_no_int_value h = by h.0 where
+  by : IsValue one_global in_a_body AnInt (v.Reference (ar.Local 1 3 2)) → ⊥
+  by h = elim h [ ]
 
 -- an int for an int and an array for an array
 pub operands_of_the_right_kinds : AreOperands one_global in_a_body (AnInt ∷ AnArray ∷ []) (v.Number (pos 7) ∷ v.Reference (ar.Local 1 3 2) ∷ [])

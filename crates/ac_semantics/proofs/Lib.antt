@@ -1,3 +1,4 @@
 pub mod Forms
 pub mod Around
 pub mod Examples
+pub mod PartExamples

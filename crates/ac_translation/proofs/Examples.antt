@@ -1,5 +1,5 @@
 -- Pieces of code where they stand, and the code of small forms.
-use Rattle.std.proofs.Common.{◌≡◌, refl, ℕ, pos, List, [], ◌∷◌, Some, None}
+use Rattle.std.proofs.Common.{◌≡◌, refl, sym, ap, ◌∙◌, ℕ, pos, List, [], ◌∷◌, Some, None, true, false}
 use Rattle.ac_tree.specs.declared.expr.BinaryOp.TheVariants as b
 use Rattle.ac_tree.specs.declared.expr.UnaryOp.TheVariants as u
 use Rattle.ac_commands.specs.declared.value.Place.TheVariants as p
@@ -9,9 +9,18 @@ use Rattle.ac_commands.specs.declared.value.Value.TheVariants as v
 use Rattle.ac_commands.specs.declared.command.Target.TheVariants as t
 use Rattle.stack_code.specs.declared.instr.Instr.{Instr}
 use Rattle.stack_code.specs.declared.instr.Instr.TheVariants as i
-use Rattle.ac_translation.specs.Pieces.{Exits, Piece, no_code, one, ◌⨾◌, all, over, out_past, out_turn, loop_end, loop_exits, loop}
+use Rattle.ac_translation.specs.Pieces.{Exits, Piece, no_code, one, ◌⨾◌, all, over, out_past, out_turn, loop_end, loop_exits, loop, no_jump}
 use Rattle.ac_translation.specs.Translation.{unary_code, operator_code, joined_code, variable_code, array_code, value_code, target_code, if_code, test_code, at_loop, at_next, operand_code}
+use Rattle.ac_translation.specs.Translation.{link_step, functions_code, no_exits}
+use Rattle.ac_translation.specs.Translation.{functions_from, start_of, ends_of, request_capacity}
+use Rattle.ac_translation.specs.Translation.{lazily, chained_code, action_code, value_step, values_code, command_step, command_code, body_code, last_code, function_code}
 use Rattle.ac_translation.proofs.Codes.{number_code, reference_code, chain_code, act_code, link_is}
+use Rattle.std.specs.Prelude.{codes}
+use Rattle.ac_commands.specs.declared.value.Value.TheOpen.{Value-F}
+use Rattle.ac_commands.specs.declared.command.Command.{fold-roll-Command}
+use Rattle.ac_commands.specs.declared.command.Command.TheVariants as c
+use Rattle.ac_commands.specs.declared.command.Command.TheOpen.{Command-F}
+use Rattle.ac_commands.specs.declared.program.Function.{Function}
 
 -- a loop that is left at 90 and goes on at 80
 abbrev pub exits : Exits
@@ -127,3 +136,58 @@ a_missing_test = refl
 -- `return;` gives 0
 pub a_missing_operand : code_at 5 (operand_code None) ≡ i.Push (pos 0) ∷ []
 a_missing_operand = refl
+
+-- ---- the parts of these
+
+pub no_jump_to_an_exit : no_jump 5 ∷ (one i.Ret).pasts 5 ∷ [] ≡ [] ∷ [] ∷ []
+no_jump_to_an_exit = refl
+
+pub a_side_passed_over : code_at 4 (lazily i.Jz (i.Push (pos 0)) (one (i.Push (pos 7)))) ≡ i.Jz 8 ∷ i.Push (pos 7) ∷ i.Bool ∷ i.Jump 9 ∷ i.Push (pos 0) ∷ []
+a_side_passed_over = refl
+
+-- `.. + 2 - 3`
+pub the_rest_of_a_chain : code_at 4 (chained_code ((b.Add, one (i.Push (pos 2))) ∷ (b.Sub, one (i.Push (pos 3))) ∷ [])) ≡ i.Push (pos 2) ∷ i.Add ∷ i.Push (pos 3) ∷ i.Sub ∷ []
+the_rest_of_a_chain = refl
+
+-- only a call tells how many operands it takes
+pub actions_after_their_operands : action_code (Call 3) 2 ∷ action_code (Recv 3) 1 ∷ [] ≡ i.Call 3 2 ∷ i.Recv 3 ∷ []
+actions_after_their_operands = refl
+
+-- -2, and the second of two globals
+pub forms_of_values : (code_at 4 (value_step (Value-F.Unary u.Neg (one (i.Push (pos 2))))) ≡ i.Push (pos 2) ∷ i.Neg ∷ [])
+    × (code_at 4 (value_step (Value-F.Element (a.Global 0 2) (one (i.Push (pos 1))))) ≡ i.ArrG 0 2 ∷ i.Push (pos 1) ∷ i.Elem ∷ [])
+forms_of_values = (refl, refl)
+
+pub one_value_after_the_other : code_at 5 (values_code (v.Number (pos 1) ∷ v.Number (pos 2) ∷ [])) ≡ i.Push (pos 1) ∷ i.Push (pos 2) ∷ []
+one_value_after_the_other = simp (number_code)
+
+-- the creator of a thread goes on past the body
+pub forms_of_statements : (code_at 5 (command_step (Command-F.Do 2 (one i.Drop ∷ []))) ≡ i.Step ∷ i.Enter 2 ∷ i.Drop ∷ i.Step ∷ i.Finish 2 ∷ [])
+    × (code_at 5 (command_step (Command-F.Async 1 (one i.Drop ∷ []))) ≡ i.Step ∷ i.Async 1 9 ∷ i.Drop ∷ i.End ∷ [])
+    × (code_at 5 (command_step Command-F.Break) ≡ i.Step ∷ i.Jump 90 ∷ [])
+forms_of_statements = (refl, refl, refl)
+
+yield_code : command_code c.Yield ≡ one i.Step ⨾ one i.Yield
+yield_code = ap command_code (sym c.rolls-Yield) ∙ fold-roll-Command Piece command_step Command-F.Yield
+
+pub the_code_of_a_body : code_at 5 (body_code (c.Yield ∷ c.Yield ∷ [])) ≡ i.Step ∷ i.Yield ∷ i.Step ∷ i.Yield ∷ []
+the_code_of_a_body = rw (yield_code) refl
+
+-- ---- functions
+
+abbrev pub empty : Function
+empty = record { name = codes "f"; is_async = false; gives_int = true; params = true ∷ []; slots = 3; body = [] }
+
+pub it_gives_nought_at_its_end : code_at 5 last_code ∷ code_at 5 (function_code empty) ∷ [] ≡ (i.Push (pos 0) ∷ i.Ret ∷ []) ∷ (i.Push (pos 0) ∷ i.Ret ∷ []) ∷ []
+it_gives_nought_at_its_end = refl
+
+pub functions_in_a_row : functions_from 4 (empty ∷ record empty { name = codes "g" } ∷ [])
+    ≡ record { name = codes "f"; at = 4; params = true ∷ []; words = 3 } ∷ record { name = codes "g"; at = 6; params = true ∷ []; words = 3 } ∷ []
+functions_in_a_row = refl
+
+pub the_rest_of_a_program : (start_of (record { slot = 1; value = pos 5 }) ≡ record { slot = 1; value = pos 5 }) × (ends_of (record { from = 2; to = 0; capacity = 9 }) ≡ record { from = 2; to = 0 })
+    × (request_capacity ≡ 16)
+the_rest_of_a_program = (refl, refl, refl)
+
+pub sizes_and_exits : ((functions_code (empty ∷ empty ∷ [])).size ≡ 4) × (no_exits ≡ record { past = 0; turn = 0 }) × ((link_step (record { op = b.Add; operand = no_code })).0 ≡ b.Add)
+sizes_and_exits = (refl, refl, refl)

@@ -4,10 +4,10 @@ use Rattle.std.specs.List.{sum_by}
 use Rattle.std.proofs.lemmas.Bool.{cases_lt, eq-eqb}
 use Rattle.std.proofs.lemmas.Bool.Decides.{nat_tests}
 use Rattle.work_item.specs.declared.ids.BlockId.{BlockId}
-use Rattle.ac_semantics.specs.Threads.{Phase, Active, AtFinish, Ended, Thread, nobody}
+use Rattle.ac_semantics.specs.Threads.{Phase, Active, AtFinish, Ended, Thread, nobody, none_within}
 use Rattle.stack_code.specs.Machine.{Block, block_at}
 use Rattle.ac_translation.proofs.Tables.{Changed, found, first, total_one, total_two, total_some, one, one_same, one_is, occ_append}
-use Rattle.ac_translation.proofs.Blocks.{number, other_block, among, Lives, entered, head_is, held, direct, at, Good, alive_is, alive_lives, held_at}
+use Rattle.ac_translation.proofs.Blocks.{number, other_block, among, Lives, entered, head_is, held, direct, at, Good, alive_is, alive_lives, held_at, count_tells}
 use Rattle.ac_translation.proofs.Changes.{none_full, direct_change}
 
 abbrev pub waits_at : Phase → BlockId → Bool
@@ -25,6 +25,11 @@ told ts counts o b outside = entry (first (outside ++ (at ts o).around)) o (sum_
 
 abbrev pub Tracks : List Thread → List (Option Block) → Type 0
 Tracks ts bs = (o : ℕ) (b : BlockId) (inside outside : List BlockId) → Lives (at ts o).phase → entered (at ts o) ≡ inside ++ b ∷ outside → block_at bs b ≡ Some (told ts ts o b outside)
+
+-- The innermost block of a living thread stands in the machine's table, and its count is 0 exactly where no thread within it lives, wherever its owner has arrived.
+pub count_is_0_exactly_where_none_lives : (ts : List Thread) (bs : List (Option Block)) (blocks : ℕ) → Good ts blocks → Tracks ts bs → (o : ℕ) (b : BlockId) (outside : List BlockId)
+    → Lives (at ts o).phase → entered (at ts o) ≡ b ∷ outside → (x : Block) × (block_at bs b ≡ Some x) × (nat_eq x.count 0 ≡ none_within b ts)
+count_is_0_exactly_where_none_lives ts bs blocks good tracks o b outside l e = (told ts ts o b outside, tracks o b [] outside l e, count_tells ts blocks good o b outside l e)
 
 -- the table of blocks is as it was but for b
 abbrev pub SameBut : BlockId → List (Option Block) → List (Option Block) → Type 0

@@ -11,13 +11,18 @@ use Rattle.ac_tree.specs.declared.expr.BinaryOp.TheVariants as b
 use Rattle.ac_tree.specs.declared.expr.UnaryOp.TheVariants as u
 use Rattle.ac_tree.specs.declared.stmt.Stmt.{Stmt}
 use Rattle.ac_tree.specs.declared.stmt.Stmt.TheVariants as s
+use Rattle.ac_tree.specs.declared.stmt.Stmt.TheFolds.{fold-Stmt, fold-roll-Stmt}
+use Rattle.ac_tree.specs.declared.stmt.Stmt.TheOpen.{Stmt-F}
 use Rattle.ac_tree.specs.declared.item.Item.{Item}
 use Rattle.ac_tree.specs.declared.item.Item.TheVariants as i
 use Rattle.ac_tree.specs.declared.item.Param.{Param}
 use Rattle.ac_tree.specs.declared.item.Program.{Program}
 use Rattle.ac_tree.specs.Shape.{IsExpr, number, place, chain, AreLinks, no_link, one_link, IsPlace, variable, element, function_call, no_expr, one_expr, some_value, int}
 use Rattle.ac_tree.specs.Shape.{IsAssignment, assign, IsFirst, first_declares, IsNext, next_assigns, IsStmt, assignment, call_stmt, AreEntries, no_entry, declares, does}
-use Rattle.ac_tree.specs.Weight.{total, expr_weight, stmt_weight, params_weight, items_weight, IsSmall}
+use Rattle.ac_tree.specs.Shape.{IsDeclaration, array, block, empty as empty_stmt, print, if_alone, if_else, while, for, break, continue, return, do_finish, async, cancel, yield, IsItem}
+use Rattle.ac_tree.specs.Shape.{AreItems, HasShape}
+use Rattle.ac_tree.specs.Weight.{total, total_some, expr_weigh, link_weigh, expr_weight, exprs_weight, value_weight, label_weight, stmt_weigh, stmt_weight, body_weight}
+use Rattle.ac_tree.specs.Weight.{param_weight, params_weight, item_weight, items_weight, IsSmall}
 use Rattle.ac_tree.proofs.WeightForms.{number_weighs, const_weighs, name_weighs, index_weighs, group_weighs, unary_weighs, send_weighs, recv_weighs, read_weighs, write_weighs, call_weighs}
 use Rattle.ac_tree.proofs.WeightForms.{chain_weighs}
 use Rattle.ac_tree.proofs.WeightForms.{empty_weighs, int_weighs, array_weighs, assign_weighs, call_stmt_weighs, print_weighs, while_weighs, break_weighs, continue_weighs, return_weighs}
@@ -73,7 +78,23 @@ a_read = simp (read_weighs, number_weighs, name_weighs)
 pub a_write : expr_weight (e.Write 0 (codes "f") one x (codes "h")) ≡ 10
 a_write = simp (write_weighs, number_weighs, name_weighs)
 
+-- two expressions in a row, without the comma
+pub two_expressions : exprs_weight (one ∷ e.Index 0 (codes "x") one ∷ []) ≡ 5
+two_expressions = simp (number_weighs, index_weighs)
+
+-- by the weights of the parts: f ( .. , .. ) and read ( f , .. , .. , h ), whose parts weigh 1 and 4; and `+` before a part that weighs 4
+pub by_the_parts : expr_weigh (Expr-F.Call 0 (codes "f") (1 ∷ 4 ∷ [])) ∷ expr_weigh (Expr-F.Read 0 (codes "f") 1 4 (codes "h")) ∷ link_weigh (record { op = b.Add; operand = 4 }) ∷ [] ≡ 8 ∷ 13 ∷ 5 ∷ []
+by_the_parts = refl
+
 -- ---- statements
+
+-- what may be left out weighs nothing then: a statement, an expression, and a label with its colon
+pub left_out : total_some None ∷ total_some (Some 4) ∷ value_weight None ∷ value_weight (Some one) ∷ label_weight None ∷ label_weight (Some (codes "l")) ∷ [] ≡ 0 ∷ 4 ∷ 0 ∷ 1 ∷ 0 ∷ 2 ∷ []
+left_out = rw (number_weighs 0 (pos 1)) refl
+
+-- by the weights of the parts: do : l { .. .. } finish ; and { .. .. }, whose parts weigh 1 and 2
+pub stmt_by_the_parts : stmt_weigh (Stmt-F.Do 0 (Some (codes "l")) (1 ∷ 2 ∷ [])) ∷ stmt_weigh (Stmt-F.Block 0 (1 ∷ 2 ∷ [])) ∷ [] ≡ 10 ∷ 5 ∷ []
+stmt_by_the_parts = refl
 
 abbrev pub empty : Stmt
 empty = s.Empty 0
@@ -81,6 +102,10 @@ empty = s.Empty 0
 -- { ; }
 pub a_block : stmt_weight (s.Block 0 (empty ∷ [])) ≡ 3
 a_block = simp (block_weighs, empty_weighs)
+
+-- ; break ;
+pub a_body : body_weight (empty ∷ s.Break 0 ∷ []) ≡ 3
+a_body = simp (empty_weighs, break_weighs)
 
 -- int x ; and int x = 1 ; of which the `=` does not count
 pub an_int : stmt_weight (s.Int 0 (codes "x") None) ≡ 3
@@ -143,12 +168,19 @@ a_do_with_a_label = simp (do_weighs)
 abbrev pub param : Bool → Param
 param is_array = record { at = 0; name = codes "x"; is_array = is_array }
 
+pub each_param : param_weight false ∷ param_weight true ∷ [] ≡ 2 ∷ 4 ∷ []
+each_param = refl
+
 pub two_params : params_weight (param false ∷ param true ∷ []) ≡ 6
 two_params = refl
 
 -- int x ; and int x [ 3 ] ;
 pub two_globals : items_weight (i.Global 0 (codes "x") None (pos 0) ∷ i.Global 0 (codes "h") (Some (pos 3)) (pos 0) ∷ []) ≡ 9
 two_globals = refl
+
+-- core a ( f ) ;
+pub a_core : item_weight (i.Core 0 (codes "a") (codes "f")) ≡ 6
+a_core = refl
 
 -- channel c ( a , b , 1 ) ; and file f = "f" ; and core a ( f ) ;
 pub declared : items_weight (i.Channel 0 (codes "c") (codes "a") (codes "b") (pos 1) ∷ i.File 0 (codes "f") (codes "f") ∷ i.Core 0 (codes "a") (codes "f") ∷ []) ≡ 22
@@ -235,3 +267,64 @@ a_link = one_link _ [] (place x a_name_is_a_place) no_link
 
 pub a_sum_has_one : IsExpr (e.Chain 0 9 one (link b.Add x ∷ []))
 a_sum_has_one = chain 0 9 one _ [] (number 0 (pos 1)) a_link
+
+-- ---- programs that have a shape, and one that has none
+
+-- core a(f); async void f() { x = 1; }
+pub a_function_has_a_shape : HasShape (program (i.Core 0 (codes "a") (codes "f") ∷ function (s.Assign 0 x one ∷ []) ∷ []))
+a_function_has_a_shape = (tt, (does _ [] (assignment _ its_shape) no_entry, tt))
+
+-- whether what a statement puts a value into, if it does, is a place
+abbrev kept_step : Stmt-F Bool → Bool
+kept_step (Stmt-F.Assign at into value) = is_place into
+kept_step _ = true
+
+abbrev keeps_places : Stmt → Bool
+keeps_places = fold-Stmt Bool kept_step
+
+assigned_told : (x : Stmt) → IsAssignment x → keeps_places x ≡ true
+assigned_told _ (assign at into value p h) =
+    ap keeps_places (sym (s.rolls-Assign at into value)) ∙ fold-roll-Stmt Bool kept_step (Stmt-F.Assign at into value) ∙ place_told into p
+
+declared_told : (x : Stmt) → IsDeclaration x → keeps_places x ≡ true
+declared_told _ (int at name value h) = ap keeps_places (sym (s.rolls-Int at name value)) ∙ fold-roll-Stmt Bool kept_step (Stmt-F.Int at name value)
+declared_told _ (array at name size) = ap keeps_places (sym (s.rolls-Array at name size)) ∙ fold-roll-Stmt Bool kept_step (Stmt-F.Array at name size)
+
+kept_told : (x : Stmt) → IsStmt x → keeps_places x ≡ true
+kept_told x (assignment _ h) = assigned_told x h
+kept_told _ (block at body h) = ap keeps_places (sym (s.rolls-Block at body)) ∙ fold-roll-Stmt Bool kept_step (Stmt-F.Block at body)
+kept_told _ (empty_stmt at) = ap keeps_places (sym (s.rolls-Empty at)) ∙ fold-roll-Stmt Bool kept_step (Stmt-F.Empty at)
+kept_told _ (call_stmt at call h) = ap keeps_places (sym (s.rolls-Call at call)) ∙ fold-roll-Stmt Bool kept_step (Stmt-F.Call at call)
+kept_told _ (print at format args h) = ap keeps_places (sym (s.rolls-Print at format args)) ∙ fold-roll-Stmt Bool kept_step (Stmt-F.Print at format args)
+kept_told _ (if_alone at test body h hs) = ap keeps_places (sym (s.rolls-If at test body None)) ∙ fold-roll-Stmt Bool kept_step (Stmt-F.If at test body None)
+kept_told _ (if_else at test body other h hs hos) = ap keeps_places (sym (s.rolls-If at test body (Some other))) ∙ fold-roll-Stmt Bool kept_step (Stmt-F.If at test body (Some other))
+kept_told _ (while at test body h hs) = ap keeps_places (sym (s.rolls-While at test body)) ∙ fold-roll-Stmt Bool kept_step (Stmt-F.While at test body)
+kept_told _ (for at init test next body a b c d) = ap keeps_places (sym (s.rolls-For at init test next body)) ∙ fold-roll-Stmt Bool kept_step (Stmt-F.For at init test next body)
+kept_told _ (break at) = ap keeps_places (sym (s.rolls-Break at)) ∙ fold-roll-Stmt Bool kept_step (Stmt-F.Break at)
+kept_told _ (continue at) = ap keeps_places (sym (s.rolls-Continue at)) ∙ fold-roll-Stmt Bool kept_step (Stmt-F.Continue at)
+kept_told _ (return at value h) = ap keeps_places (sym (s.rolls-Return at value)) ∙ fold-roll-Stmt Bool kept_step (Stmt-F.Return at value)
+kept_told _ (do_finish at label body h) = ap keeps_places (sym (s.rolls-Do at label body)) ∙ fold-roll-Stmt Bool kept_step (Stmt-F.Do at label body)
+kept_told _ (async at body h) = ap keeps_places (sym (s.rolls-Async at body)) ∙ fold-roll-Stmt Bool kept_step (Stmt-F.Async at body)
+kept_told _ (cancel at label) = ap keeps_places (sym (s.rolls-Cancel at label)) ∙ fold-roll-Stmt Bool kept_step (Stmt-F.Cancel at label)
+kept_told _ (yield at) = ap keeps_places (sym (s.rolls-Yield at)) ∙ fold-roll-Stmt Bool kept_step (Stmt-F.Yield at)
+
+-- 1 = 1;
+abbrev pub into_a_number : Stmt
+into_a_number = s.Assign 0 one one
+
+into_a_number_told : keeps_places into_a_number ≡ false
+into_a_number_told = ap keeps_places (sym (s.rolls-Assign 0 one one)) ∙ fold-roll-Stmt Bool kept_step (Stmt-F.Assign 0 one one) ∙ number_told
+
+first_told : (x : Stmt) (xs : List Stmt) → AreEntries (x ∷ xs) → keeps_places x ≡ true
+first_told x xs (declares _ _ h hs) = declared_told x h
+first_told x xs (does _ _ h hs) = kept_told x h
+
+pub such_a_function_is_none : IsItem (function (into_a_number ∷ [])) → ⊥
+such_a_function_is_none h = let a = first_told into_a_number [] h in let b = into_a_number_told in cc (a, b)
+
+-- wherever it stands
+pub nor_are_items_with_it : AreItems (i.Core 0 (codes "a") (codes "f") ∷ function (into_a_number ∷ []) ∷ []) → ⊥
+nor_are_items_with_it h = such_a_function_is_none h.1.0
+
+pub nor_has_the_program_a_shape : HasShape (program (function (into_a_number ∷ []) ∷ [])) → ⊥
+nor_has_the_program_a_shape h = such_a_function_is_none h.0

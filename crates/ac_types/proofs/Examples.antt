@@ -3,15 +3,21 @@ use Rattle.std.proofs.Common.{◌≡◌, refl, sym, ap, subst, ℕ, zero, suc, �
 use Rattle.std.specs.Prelude.{negsuc, if◌then◌else◌}
 use Rattle.ac_tree.specs.declared.expr.Expr.{Expr}
 use Rattle.ac_tree.specs.declared.expr.Expr.TheVariants as e
+use Rattle.ac_tree.specs.declared.expr.Expr.TheOpen.{Expr-F}
 use Rattle.ac_tree.specs.declared.expr.BinaryOp.TheVariants as b
 use Rattle.ac_tree.specs.declared.expr.UnaryOp.TheVariants as u
 use Rattle.ac_tree.specs.declared.stmt.Stmt.{Stmt}
 use Rattle.ac_tree.specs.declared.stmt.Stmt.TheVariants as s
+use Rattle.ac_tree.specs.declared.stmt.Stmt.TheOpen.{Stmt-F}
 use Rattle.ac_tree.specs.declared.item.Item.{Item}
 use Rattle.ac_tree.specs.declared.item.Item.TheVariants as i
+use Rattle.ac_tree.specs.declared.item.Function.{Function}
 use Rattle.ac_tree.specs.declared.item.Param.{Param}
 use Rattle.ac_names.specs.declared.meaning.Meaning.{Meaning}
 use Rattle.ac_names.specs.declared.meaning.Meaning.TheVariants as m
+use Rattle.ac_names.specs.declared.names.Names.{Names}
+use Rattle.ac_names.specs.Statements.{part, part_gives}
+use Rattle.ac_names.specs.Items.{no_past, outermost, function_names}
 use Rattle.ac_reach.specs.declared.reached.Reached.{Reached}
 use Rattle.ac_reach.specs.declared.reached.Reached.TheVariants as r
 use Rattle.ac_reach.specs.Reached.{ReachedFrom, is_entry, is_called, AreRows, IsReachedBy, here_is}
@@ -21,17 +27,23 @@ use Rattle.ac_types.specs.declared.around.Position.{Position}
 use Rattle.ac_types.specs.declared.around.Position.TheVariants as p
 use Rattle.ac_types.specs.declared.fault.CheckFault.TheVariants as f
 use Rattle.ac_types.specs.declared.numbered.Callee.{Callee}
+use Rattle.ac_types.specs.declared.numbered.Signature.{Signature}
+use Rattle.ac_types.specs.declared.numbered.Tables.{Tables}
 use Rattle.ac_types.specs.declared.rule.Rule.TheVariants as rule
 use Rattle.ac_types.specs.Rules.{rule_number, IsUpTo}
-use Rattle.ac_types.specs.Tables.{callee, takes_array, ends_named}
+use Rattle.ac_types.specs.Tables.{callee_of, callee, is_array_in, takes_array, ends_named}
 use Rattle.ac_types.specs.Nodes.{Node, calls_of}
 use Rattle.ac_types.specs.Around.{is_array_position, is_used, is_partial, position_of, inside_do, inside_async, inside_loop, is_closed, is_reached_by_another}
 use Rattle.ac_types.specs.Formats.{HasHoles, no_more, a_byte, a_percent_sign, a_number, a_letter}
 use Rattle.ac_types.specs.Judged.{Tests, value_tests, name_tests, index_tests, call_tests, sends_away, takes_away, channel_tests, file_tests, array_tests, holes}
-use Rattle.ac_types.specs.Judged.{return_tests}
-use Rattle.ac_types.specs.Expressions.{plain}
-use Rattle.ac_types.specs.Items.{tables_of, signatures, core_number, link_tests, path_tests, core_tests, program_tests, reached_in, program_nodes}
-use Rattle.ac_types.specs.Reached.{entries_of, all_calls, Reaches, AreReached, IsReachedByAnother, IsBrokenRule, BreaksIn, Breaks, IsLeastBroken, BreaksNone}
+use Rattle.ac_types.specs.Judged.{is_misplaced, is_miscounted, calls_async, uses_void, once_tests, is_size, is_misprinted, print_tests, leave_tests, return_tests, async_tests}
+use Rattle.ac_types.specs.Judged.{body_tests, cancel_tests}
+use Rattle.ac_types.specs.Expressions.{plain, number_of, call_node, ExprPart, links_step, args_step, expr_step, link_step, expr_all, values_all, value_all, one_node, join_nodes}
+use Rattle.ac_types.specs.Statements.{Gives, StmtPart, body_gives, some_gives, used, valued, for_gives, gives_step, stmt_all}
+use Rattle.ac_types.specs.Items.{signature_of, channel_ends, all_ends, global_tests, is_capacity, is_same_core, is_no_entry, around_of, params_give, function_gives, item_gives}
+use Rattle.ac_types.specs.Items.{items_give, program_gives}
+use Rattle.ac_types.specs.Items.{tables_of, signatures, core_number, link_tests, path_tests, core_tests, program_tests, reached_in, function_nodes, program_nodes}
+use Rattle.ac_types.specs.Reached.{function_number, calls_in, entries_of, all_calls, Reaches, AreReached, IsReachedByAnother, IsBrokenRule, BreaksIn, Breaks, IsLeastBroken, BreaksNone}
 use Rattle.ac_types.specs.Verdicts.{IsFault}
 use Rattle.ac_types.specs.inner.Seen.{first_of}
 use Rattle.ac_types.proofs.Formats.{formats_are_printed}
@@ -219,6 +231,141 @@ returns_of_a_function = refl
 pub returns_in_a_body : map (λ (gives : Bool). broken (return_tests (inside_async in_loop) gives)) (true ∷ false ∷ []) ≡ (9 ∷ 12 ∷ []) ∷ (9 ∷ []) ∷ []
 returns_in_a_body = refl
 
+-- ---- the questions that the rules ask
+
+pub misplaced_names : is_misplaced an_int p.Array ∷ is_misplaced an_array p.Array ∷ is_misplaced an_int p.Value ∷ is_misplaced an_array p.Whole ∷ is_misplaced None p.Value ∷ []
+    ≡ true ∷ false ∷ false ∷ true ∷ false ∷ []
+misplaced_names = refl
+
+pub miscounted_arguments : is_miscounted (with true true 2) 2 ∷ is_miscounted (with true true 2) 1 ∷ is_miscounted None 1 ∷ [] ≡ false ∷ true ∷ false ∷ []
+miscounted_arguments = refl
+
+pub async_calls : calls_async (with true false 0) in_plain ∷ calls_async (with true false 0) in_loop ∷ calls_async (with false false 0) in_plain ∷ calls_async None in_plain ∷ []
+    ≡ true ∷ false ∷ false ∷ false ∷ []
+async_calls = refl
+
+pub void_values : uses_void (with false false 0) p.Value ∷ uses_void (with false false 0) p.Statement ∷ uses_void (with false true 0) p.Value ∷ uses_void None p.Value ∷ []
+    ≡ true ∷ false ∷ false ∷ false ∷ []
+void_values = refl
+
+pub sizes : map is_size (negsuc 0 ∷ pos 0 ∷ pos 1 ∷ pos 4096 ∷ pos 4097 ∷ []) ≡ false ∷ false ∷ true ∷ true ∷ false ∷ []
+sizes = refl
+
+pub capacities : map is_capacity (negsuc 0 ∷ pos 0 ∷ pos 1 ∷ pos 64 ∷ pos 65 ∷ []) ≡ false ∷ false ∷ true ∷ true ∷ false ∷ []
+capacities = refl
+
+pub the_same_core : is_same_core (Some (m.Core 1)) (Some (m.Core 1)) ∷ is_same_core (Some (m.Core 1)) (Some (m.Core 2)) ∷ is_same_core (Some (m.Core 1)) None
+    ∷ is_same_core (Some (m.File 1)) (Some (m.File 1)) ∷ [] ≡ true ∷ false ∷ false ∷ false ∷ []
+the_same_core = refl
+
+pub no_entries : map is_no_entry (None ∷ with true false 0 ∷ with true true 0 ∷ with true false 1 ∷ with false false 0 ∷ []) ≡ false ∷ false ∷ false ∷ true ∷ true ∷ []
+no_entries = refl
+
+pub misprinted : is_misprinted None 0 ∷ is_misprinted (Some 2) 2 ∷ is_misprinted (Some 2) 1 ∷ [] ≡ true ∷ false ∷ true ∷ []
+misprinted = refl
+
+pub declarations : map broken (once_tests None ∷ once_tests an_int ∷ global_tests None None ∷ global_tests an_int None ∷ global_tests None (Some (pos 0)) ∷ global_tests an_int (Some (pos 4097)) ∷ [])
+    ≡ [] ∷ (1 ∷ []) ∷ [] ∷ (1 ∷ []) ∷ (13 ∷ []) ∷ (1 ∷ 13 ∷ []) ∷ []
+declarations = refl
+
+pub prints : map broken (print_tests (codes "%d") 1 ∷ print_tests (codes "%d") 0 ∷ print_tests (codes "%") 0 ∷ []) ≡ [] ∷ (16 ∷ []) ∷ (16 ∷ []) ∷ []
+prints = refl
+
+-- `break`, `yield` and `async` in a loop, in a plain function, and in a `do`
+pub jumps : map (λ (a : Around). broken (leave_tests a)) (in_loop ∷ in_plain ∷ inside_do in_loop ∷ []) ≡ [] ∷ (9 ∷ []) ∷ (9 ∷ []) ∷ []
+jumps = refl
+
+pub yields : map (λ (a : Around). broken (async_tests a)) (in_loop ∷ in_plain ∷ inside_do in_loop ∷ []) ≡ [] ∷ (6 ∷ []) ∷ [] ∷ []
+yields = refl
+
+pub bodies : map (λ (a : Around). broken (body_tests a)) (in_loop ∷ in_plain ∷ inside_do in_loop ∷ []) ≡ (7 ∷ []) ∷ (6 ∷ 7 ∷ []) ∷ [] ∷ []
+bodies = refl
+
+pub cancels : map broken (cancel_tests (Some (m.Label 0 0)) in_loop ∷ cancel_tests None in_loop ∷ cancel_tests None in_plain ∷ []) ≡ [] ∷ (8 ∷ []) ∷ (6 ∷ 8 ∷ []) ∷ []
+cancels = refl
+
+-- ---- what the forms give by their parts
+
+abbrev firsts : List Node → List ℕ
+firsts nodes = map (λ (n : Node). n.at) nodes
+
+abbrev no_tables : Tables
+no_tables = record { functions = []; channels = []; reached = [] }
+
+abbrev from_slot : ℕ → Names
+from_slot slot = record { scopes = []; labels = []; slot = slot }
+
+-- an expression whose node begins at 7, or at 9 where an array has to stand
+abbrev seven : ExprPart (List Node) one_node [] join_nodes
+seven t scopes a w = plain (if is_array_position w then 9 else 7) [] ∷ []
+
+pub nodes_in_a_row : join_nodes (one_node (plain 4 [])) (one_node (plain 5 [])) ≡ plain 4 [] ∷ plain 5 [] ∷ []
+nodes_in_a_row = refl
+
+pub a_call_tells_its_function : call_node 28 (Some (m.Function 3)) (Some (record { number = 3; is_async = true; gives_int = false; params = 0 })) 0 in_loop p.Statement
+    ≡ record { at = 28; tests = call_tests (Some (m.Function 3)) (Some (record { number = 3; is_async = true; gives_int = false; params = 0 })) 0 in_loop p.Statement; calls = Some 3 }
+a_call_tells_its_function = refl
+
+pub numbers_of_callees : number_of None ∷ number_of (with true false 0) ∷ [] ≡ None ∷ Some 0 ∷ []
+numbers_of_callees = refl
+
+pub operands_of_a_chain : firsts (links_step (List Node) one_node [] join_nodes (seven ∷ seven ∷ []) no_tables [] in_plain) ≡ 7 ∷ 7 ∷ []
+operands_of_a_chain = refl
+
+pub an_operand : firsts (link_step (List Node) one_node [] join_nodes (record { op = b.Add; operand = seven }) no_tables [] in_plain p.Value) ≡ 7 ∷ []
+an_operand = refl
+
+-- f(.., ..), where f takes an array and an int
+abbrev one_array : Tables
+one_array = record { functions = record { is_async = false; gives_int = false; params = true ∷ false ∷ [] } ∷ []; channels = []; reached = [] }
+
+pub arguments_by_their_parameters : firsts (args_step (List Node) one_node [] join_nodes (Some (m.Function 0)) 0 (seven ∷ seven ∷ []) one_array [] in_plain) ≡ 9 ∷ 7 ∷ []
+arguments_by_their_parameters = refl
+
+-- the node of h[..] comes before that of its index
+pub an_element_in_preorder : firsts (expr_step (List Node) one_node [] join_nodes (Expr-F.Index 3 (codes "h") seven) no_tables [] in_plain p.Value) ≡ 3 ∷ 7 ∷ []
+an_element_in_preorder = refl
+
+pub a_number_has_one_node : firsts (expr_all (List Node) one_node [] join_nodes (e.Number 5 (pos 1)) no_tables [] in_plain p.Value) ≡ 5 ∷ []
+a_number_has_one_node = rw (number_is 5 (pos 1)) refl
+
+pub values_in_order : firsts (values_all (List Node) one_node [] join_nodes (e.Number 5 (pos 1) ∷ e.Number 8 (pos 1) ∷ []) no_tables [] in_plain) ≡ 5 ∷ 8 ∷ []
+values_in_order = rw (number_is 5 (pos 1), number_is 8 (pos 1)) refl
+
+pub a_value_that_may_be_left_out : firsts (value_all (List Node) one_node [] join_nodes p.Whole None no_tables [] in_plain)
+    ∷ firsts (value_all (List Node) one_node [] join_nodes p.Whole (Some (e.Number 5 (pos 1))) no_tables [] in_plain) ∷ [] ≡ [] ∷ (5 ∷ []) ∷ []
+a_value_that_may_be_left_out = rw (number_is 5 (pos 1)) refl
+
+pub a_value_that_is_used : firsts (used (List Node) one_node [] join_nodes (e.Number 5 (pos 1)) no_tables (from_slot 0) in_plain)
+    ∷ firsts (valued (List Node) one_node [] join_nodes p.Whole (Some (e.Number 5 (pos 1))) no_tables (from_slot 0) in_plain) ∷ [] ≡ (5 ∷ []) ∷ (5 ∷ []) ∷ []
+a_value_that_is_used = rw (number_is 5 (pos 1)) refl
+
+-- a statement that takes one slot, and whose node begins at the number of that slot
+abbrev slot_told : Gives (List Node)
+slot_told t n a = plain n.slot [] ∷ []
+
+abbrev one_slot : StmtPart (List Node)
+one_slot = part None 1 slot_told
+
+pub each_after_those_before : firsts (body_gives (List Node) one_node [] join_nodes (one_slot ∷ one_slot ∷ []) no_tables (from_slot 5) in_plain) ≡ 5 ∷ 6 ∷ []
+each_after_those_before = refl
+
+pub one_that_may_be_left_out : firsts (some_gives (List Node) one_node [] join_nodes None no_tables (from_slot 5) in_plain)
+    ∷ firsts (some_gives (List Node) one_node [] join_nodes (Some one_slot) no_tables (from_slot 5) in_plain) ∷ [] ≡ [] ∷ (5 ∷ []) ∷ []
+one_that_may_be_left_out = refl
+
+-- the third part of a `for`, and then its body
+pub parts_of_a_for : firsts (for_gives (List Node) one_node [] join_nodes None (Some one_slot) one_slot no_tables (from_slot 5) in_plain) ≡ 5 ∷ 6 ∷ []
+parts_of_a_for = refl
+
+-- { .. .. } and async .., which has a frame of its own
+pub a_block_and_a_body : firsts (gives_step (List Node) one_node [] join_nodes (Stmt-F.Block 3 (one_slot ∷ one_slot ∷ [])) no_tables (from_slot 5) in_plain)
+    ∷ firsts (gives_step (List Node) one_node [] join_nodes (Stmt-F.Async 3 one_slot) no_tables (from_slot 5) in_plain) ∷ [] ≡ (3 ∷ 5 ∷ 6 ∷ []) ∷ (3 ∷ 0 ∷ []) ∷ []
+a_block_and_a_body = refl
+
+pub a_yield_has_one_node : firsts (part_gives (stmt_all (List Node) one_node [] join_nodes (s.Yield 4)) no_tables (from_slot 0) in_plain) ≡ 4 ∷ []
+a_yield_has_one_node = rw (yield_is 4) refl
+
 -- ---- small programs: the first bytes of the nodes that break rules, with the numbers of those rules
 
 abbrev with_fault : ℕ → List ℕ → List (ℕ × List ℕ) → List (ℕ × List ℕ)
@@ -241,6 +388,42 @@ in_one_core body = faults (program_nodes (one_core body) (r.ByOne 0 ∷ []))
 
 abbrev a_number_at : ℕ → Expr
 a_number_at at = e.Number at (pos 1)
+
+-- int f(int x, int x[]) {}
+abbrev two_parameters : Function
+two_parameters = record {
+  at = 11;
+  is_async = false;
+  gives_int = true;
+  name = codes "f";
+  params = record { at = 17; name = codes "x"; is_array = false } ∷ record { at = 24; name = codes "x"; is_array = true } ∷ [];
+  body = [];
+}
+
+pub the_second_parameter_again : faults (params_give (List Node) one_node [] join_nodes two_parameters.params (function_names [])) ≡ (24, 1 ∷ []) ∷ []
+the_second_parameter_again = refl
+
+pub nodes_of_a_function : firsts (function_gives (List Node) one_node [] join_nodes two_parameters no_tables [] r.ByNone) ∷ firsts (function_nodes two_parameters no_tables [] r.ByNone) ∷ []
+    ≡ (17 ∷ 24 ∷ []) ∷ (17 ∷ 24 ∷ []) ∷ []
+nodes_of_a_function = refl
+
+pub around_its_body : around_of two_parameters (r.ByOne 2) ≡ record { is_async = false; gives_int = true; depth = 0; in_do = false; in_loop = false; reached = r.ByOne 2 }
+around_its_body = refl
+
+pub its_signature : signature_of two_parameters ≡ record { is_async = false; gives_int = true; params = false ∷ true ∷ [] }
+its_signature = refl
+
+-- the node of an item, and then those of what stands in it
+pub nodes_of_an_item : firsts (item_gives (List Node) one_node [] join_nodes no_past (i.Function two_parameters) no_tables []) ≡ 11 ∷ 17 ∷ 24 ∷ []
+nodes_of_an_item = refl
+
+-- int x; int x;
+pub a_global_again : faults (items_give (List Node) one_node [] join_nodes no_past (i.Global 0 (codes "x") None (pos 0) ∷ i.Global 7 (codes "x") None (pos 0) ∷ []) no_tables []) ≡ (7, 1 ∷ []) ∷ []
+a_global_again = refl
+
+-- the program's own node comes first
+pub nodes_of_a_program : firsts (program_gives (List Node) one_node [] join_nodes (i.Global 7 (codes "x") None (pos 0) ∷ []) []) ≡ 0 ∷ 7 ∷ []
+nodes_of_a_program = refl
 
 pub the_empty_program : faults (program_nodes [] []) ≡ (0, 15 ∷ []) ∷ []
 the_empty_program = refl
@@ -420,6 +603,28 @@ tables_of_two_cores = refl
 
 pub kinds_of_parameters : signatures with_arrays ≡ record { is_async = true; gives_int = false; params = [] } ∷ record { is_async = false; gives_int = false; params = true ∷ false ∷ [] } ∷ []
 kinds_of_parameters = refl
+
+abbrev a_signature : Signature
+a_signature = record { is_async = true; gives_int = false; params = true ∷ false ∷ [] }
+
+pub by_its_signature : callee_of 3 (Some a_signature) ∷ callee_of 3 None ∷ [] ≡ Some (record { number = 3; is_async = true; gives_int = false; params = 2 }) ∷ None ∷ []
+by_its_signature = refl
+
+pub arrays_of_a_signature : is_array_in 0 (Some a_signature) ∷ is_array_in 1 (Some a_signature) ∷ is_array_in 2 (Some a_signature) ∷ is_array_in 0 None ∷ [] ≡ true ∷ false ∷ false ∷ false ∷ []
+arrays_of_a_signature = refl
+
+-- of which the second name is no core
+pub two_ends : channel_ends (outermost with_a_channel) (codes "b") (codes "f") ≡ record { from = Some 1; to = None }
+two_ends = refl
+
+pub ends_of_all_channels : all_ends (outermost with_a_channel) with_a_channel ≡ record { from = Some 0; to = Some 1 } ∷ []
+ends_of_all_channels = refl
+
+pub numbers_of_functions_meant : map function_number (Some (m.Function 2) ∷ Some (m.Core 2) ∷ None ∷ []) ≡ Some 2 ∷ None ∷ None ∷ []
+numbers_of_functions_meant = refl
+
+pub it_calls_nothing : calls_in no_tables [] (one_core []) ≡ [] ∷ []
+it_calls_nothing = refl
 
 pub a_callee : callee (tables_of with_arrays []) (Some (m.Function 1)) ≡ Some (record { number = 1; is_async = false; gives_int = false; params = 2 })
 a_callee = refl

@@ -8,3 +8,4 @@ pub mod Sides
 pub mod Notes
 pub mod Laws
 pub mod Examples
+pub mod StepExamples

@@ -15,7 +15,9 @@ use Rattle.stack_code.specs.Valid.{IsValid}
 use Rattle.stack_code.specs.Alone.{IsAlone}
 use Rattle.stack_code.specs.Machine.{Flat, FlatEnd, nobody, exec, first_flat, first_item, first_core, with_starts, first_globals}
 use Rattle.stack_code.specs.Fit.{IsFit}
+use Rattle.stack_code.specs.Chains.{AreChained}
 use Rattle.stack_code.proofs.Beginnings.{first_fit}
+use Rattle.stack_code.proofs.NoDangling.{first_chained}
 use Rattle.core_machine.specs.declared.pause.Pause.{Pause}
 use Rattle.core_machine.specs.declared.pause.Pause.TheVariants.{Trapped}
 use Rattle.core_machine.specs.declared.running.Running.{Running}
@@ -92,6 +94,7 @@ module _ (m : Running) (function : Entered) (b : Begins m.code.now m.core functi
     pub sound_first : IsValid m.code.now → IsAlone m.code.now → IsSound m
     sound_first v alone = record {
       fit = λ still. go m.ended still begun;
+      chained = λ still. chains m.ended still begun;
       valid = v;
       alone = alone;
       quiet = journal;
@@ -102,6 +105,10 @@ module _ (m : Running) (function : Entered) (b : Begins m.code.now m.core functi
         stands store room =
             let long : has_words (bare m.code.now) (length (replicate function.words no_int)) ≡ true = ap (has_words (bare m.code.now)) (length-replicate function.words no_int) ∙ room in
             subst (IsFit m.code.now) (sym (first ∙ ap (first_core function (first_shared [])) store)) (first_fit m.code.now v m.core function b (first_shared []) long)
+
+        chains : (o : Option Pause) → o ≡ None → HasBegun (bare m.code.now) m.frames function.words o → AreChained m.code.now (flat_of m)
+        chains None e h = subst (AreChained m.code.now) (sym (first ∙ ap (first_core function (first_shared [])) h.1)) (first_chained m.code.now m.core function b (first_shared []))
+        chains (Some pause) e h = let no : Some pause ≡ None = e in absurd (cc)
 
         go : (o : Option Pause) → o ≡ None → HasBegun (bare m.code.now) m.frames function.words o → IsFit m.code.now (flat_of m)
         go None e h = stands h.1 h.0

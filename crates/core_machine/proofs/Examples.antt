@@ -17,8 +17,10 @@ use Rattle.core_machine.specs.declared.pause.Pause.TheVariants as pause
 use Rattle.core_machine.specs.Words.{word_of}
 use Rattle.core_machine.specs.Machine.{IsSeen, IsPaused}
 use Rattle.core_machine.specs.Callers.{callers_of, all_below, Popped}
-use Rattle.core_machine.specs.Blocks.{blocks_of}
+use Rattle.core_machine.specs.Blocks.{blocks_of, block_of}
 use Rattle.core_machine.specs.inner.Changes.{with_woken, item_of}
+use Rattle.core_machine.specs.declared.running.Running.{Running}
+use Rattle.core_machine.specs.State.{shared_of, thread_of, flat_of, end_or, state_of, machine_of}
 
 -- ---- how a core has come back
 
@@ -134,3 +136,59 @@ none_is_woken = refl
 
 pub second_runs : item_of (Some second) ≡ second
 second_runs = refl
+
+pub one_block_is_seen : (block_of None ≡ None)
+    × (block_of (Some (record { parent = None; owner = first; count = 0; waits = false; cancelled = true })) ≡ Some (record { parent = None; owner = first; count = 0; waits = false }))
+one_block_is_seen = (refl, refl)
+
+-- ---- the state that the fields stand for
+
+-- three steps and two turns, seven instructions, and a thread at the address 5
+abbrev pub with_fields : Running → Running
+with_fields m = record m {
+  core = 1;
+  bound = 9;
+  journal = record { entries = []; spare = 0 };
+  frames = store;
+  frame = frame 2;
+  place = 5;
+  operands = int 3 ∷ [];
+  callers = both;
+  block = None;
+  schedule = schedule;
+  blocks = record { blocks = None ∷ []; spare = 1 };
+  steps = 3;
+  turn = 2;
+  count = 7;
+  ended = None;
+}
+
+pub what_it_shares : (m : Running) → shared_of (with_fields m) ≡ record { steps = 3; turn = 2; output = m.output.items; past = []; todo = [] }
+what_it_shares m = refl
+
+pub the_thread_that_runs : (m : Running) → thread_of (with_fields m) ≡ record { place = 5; frame = frame 2; operands = int 3 ∷ []; callers = both; block = None }
+the_thread_that_runs m = refl
+
+pub the_whole_state : (m : Running) → flat_of (with_fields m)
+    ≡ record {
+      shared = shared_of (with_fields m);
+      store = store;
+      running = None;
+      current = thread_of (with_fields m);
+      ready = second ∷ [];
+      threads = m.threads.items;
+      blocks = None ∷ [];
+      count = 7;
+    }
+the_whole_state m = refl
+
+pub an_end_or_none : (end_or running None ≡ On running)
+    × (end_or running (Some pause.OutOfSteps) ≡ Over (record { core = Some (core_end OutOfSteps false (pos 0 ∷ pos 0 ∷ []) running.shared); count = 3 }))
+an_end_or_none = (refl, refl)
+
+pub it_goes_on_or_is_over : (m : Running) → (state_of (with_fields m) ≡ On (flat_of (with_fields m)))
+    × (state_of (record m { ended = Some pause.Finished }) ≡ end_or (flat_of m) (Some pause.Finished))
+it_goes_on_or_is_over m = (refl, refl)
+
+pub the_machine : (m : Running) → machine_of (with_fields m) ≡ record { code = m.code.now; core = 1; bound = 9; journal = []; state = On (flat_of (with_fields m)) }
+the_machine m = refl

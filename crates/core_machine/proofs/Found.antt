@@ -10,7 +10,7 @@ use Rattle.work_item.specs.declared.ids.FrameId.{FrameId}
 use Rattle.work_item.specs.declared.cell.Cell.{Cell}
 use Rattle.work_item.specs.declared.cell.Cell.TheVariants as cell
 use Rattle.work_item.specs.Store.{Store, frame_at, no_cells, cells_of, above, place_in, parent_or, parent_is}
-use Rattle.work_item.specs.Conditions.{HasParent, HasLevel, IsGoing}
+use Rattle.work_item.specs.Conditions.{HomeLives, HasParent, HasLevel, IsGoing}
 use Rattle.core_state.specs.Frames.{argument, arguments}
 use Rattle.stack_code.specs.declared.instr.Instr.{Instr}
 use Rattle.stack_code.specs.declared.instr.Instr.TheVariants as i
@@ -29,13 +29,14 @@ use Rattle.stack_code.specs.Valid.{IsValid, HasRoom}
 use Rattle.stack_code.specs.Alone.{is_alone}
 use Rattle.stack_code.specs.Machine.{Flat}
 use Rattle.stack_code.specs.Fit.{Birth, is_int, HasKind, HaveKinds, AreBodies, last, more, IsThread, IsFit, life_at}
+use Rattle.stack_code.specs.Living.{as_running, AllReferToLiving, NamesLiving}
 use Rattle.stack_code.proofs.Taken.{on_some_is, if_is, after_is, IsWanted, Top, top_of, many_of}
 use Rattle.stack_code.proofs.Arguments.{AreArguments, arguments_of}
 use Rattle.stack_code.proofs.Plain.{in_frame}
 use Rattle.stack_code.proofs.Own.{thread_of}
 use Rattle.stack_code.proofs.Calling.{call_enough}
 use Rattle.core_machine.specs.inner.Operands.{is_reference, on_top, Stand, second_place}
-use Rattle.core_machine.specs.inner.Needs.{HasInt, HasInts, HasCell, HasArray, HasCall, Finds}
+use Rattle.core_machine.specs.inner.Needs.{HasInt, HasInts, HasCell, HasArray, HasElement, HasCall, Finds}
 use Rattle.core_machine.proofs.Lives.{round_lives, finish_there, start_there, end_there, is_listed}
 
 -- the frames so many levels up live
@@ -66,7 +67,15 @@ same_arguments code births (a ∷ params) (x ∷ xs) l h =
     let rest = same_arguments code births params xs (omega (arith, l)) h.1 in
     ap (λ y. y ∷ arguments params xs) first ∙ ap (λ ys. x ∷ ys) rest
 
-module _ (code : Parts) (bound : ℕ) (m : Flat) (fit : IsFit code m) (t : Item) (run : m.running ≡ Some t) (v : IsValid code) where
+-- the array of the reference below the topmost operand
+home_there : (s : Store) (operands : List Cell) → AllReferToLiving s operands → HomeLives s (second_place operands).home
+home_there s [] h = tt
+home_there s (x ∷ []) h = tt
+home_there s (x ∷ cell.Int value ∷ below) h = tt
+home_there s (x ∷ cell.Array place ∷ below) h = h.1.0
+home_there s (x ∷ cell.Block b ∷ below) h = tt
+
+module _ (code : Parts) (bound : ℕ) (m : Flat) (fit : IsFit code m) (t : Item) (run : m.running ≡ Some t) (v : IsValid code) (names : NamesLiving m) where
   abbrev pub own : IsThread code fit.births m.store m.blocks t (life_at fit.lives t).start m.current
   own = thread_of code m fit t run
 
@@ -128,6 +137,9 @@ module _ (code : Parts) (bound : ℕ) (m : Flat) (fit : IsFit code m) (t : Item)
       let r = reference_there p.top p.wanted in
       let stand : Stand (is_int ∷ is_reference ∷ []) ops = subst (Stand (is_int ∷ is_reference ∷ [])) (sym both) (o.wanted, (r.0, tt)) in
       (stand, subst (λ l. (second_place l).start + (second_place l).len < 2 ^ 32) (sym both) r.1)
+
+  element_there : (wants : List Want) (go : Shape → Option Leads) (leads : Leads) → after (want.Int ∷ want.Reference ∷ wants) s go ≡ Some leads → HasElement m
+  element_there wants go leads e = (array_there wants go leads e, home_there store ops (names.threads t m.current (as_running t run)).0.1)
 
   three_there : (go : Shape → Option Leads) (leads : Leads) → after (want.Int ∷ want.Reference ∷ want.Int ∷ []) s go ≡ Some leads → Stand (is_int ∷ is_reference ∷ is_int ∷ []) ops
   three_there go leads e =
@@ -204,8 +216,8 @@ module _ (code : Parts) (bound : ℕ) (m : Flat) (fit : IsFit code m) (t : Item)
       let b = on_some_is (body_with s level slot len) _ leads e in
       level_there level slot len b.0 b.1.0
   finds (i.ArrG slot len) leads here e q = tt
-  finds i.Elem leads here e q = array_there [] (pushes m.current.place kind.Int) leads e
-  finds i.SetElem leads here e q = (array_there (want.Int ∷ []) (goes m.current.place) leads e, three_there (goes m.current.place) leads e)
+  finds i.Elem leads here e q = element_there [] (pushes m.current.place kind.Int) leads e
+  finds i.SetElem leads here e q = (element_there (want.Int ∷ []) (goes m.current.place) leads e, three_there (goes m.current.place) leads e)
   finds i.Place leads here e q = array_there [] (pushes m.current.place (kind.Reference true)) leads e
   finds (i.Clear slot len) leads here e q =
       let b = on_some_is (body_with s 0 slot len) _ leads e in

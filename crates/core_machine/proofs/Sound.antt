@@ -13,10 +13,12 @@ use Rattle.stack_code.specs.Kept.{IsRanked}
 use Rattle.stack_code.specs.Alone.{is_alone, IsAlone}
 use Rattle.stack_code.specs.Left.{left}
 use Rattle.stack_code.specs.Fit.{IsFit}
+use Rattle.stack_code.specs.Chains.{AreChained}
 use Rattle.stack_code.specs.Machine.{Flat, begin, exec, exec_of, first_flat}
 use Rattle.stack_code.proofs.Plain.{Onward}
 use Rattle.stack_code.proofs.Own.{thread_of}
 use Rattle.stack_code.proofs.Moving.{moves_on}
+use Rattle.stack_code.proofs.NoDangling.{chained_on, names_living}
 use Rattle.core_machine.specs.declared.pause.Pause.{Pause}
 use Rattle.core_machine.specs.declared.running.Running.{Running}
 use Rattle.core_machine.specs.inner.Needs.{Finds}
@@ -43,12 +45,12 @@ module _ (code : Parts) (bound : ℕ) (m : Flat) (fit : IsFit code m) (v : IsVal
       let is : slice_index_or code.instrs m.current.place instr ≡ instr = get_or_from_slice_get code.instrs m.current.place instr instr here in
       subst (λ x. is_alone x ≡ true) is (q m.current.place instr within)
 
-  pub finds_there : (instr : Instr) → IsAlone code → slice_get code.instrs m.current.place ≡ Some instr → Finds code m instr
-  finds_there instr q here =
+  pub finds_there : AreChained code m → (instr : Instr) → IsAlone code → slice_get code.instrs m.current.place ≡ Some instr → Finds code m instr
+  finds_there chained instr q here =
       let h = thread_of code m fit t run in
       let same : fits_there.instr ≡ instr = let both : Some fits_there.instr ≡ Some instr = sym fits_there.here ∙ here in cc in
       let found : effect code m.current.place instr h.shape ≡ Some fits_there.leads = subst (λ x. effect code m.current.place x h.shape ≡ Some fits_there.leads) same fits_there.finds in
-      finds code bound m fit t run v instr fits_there.leads here found (alone_there instr q here)
+      finds code bound m fit t run v (names_living code m fit chained) instr fits_there.leads here found (alone_there instr q here)
 
 -- ---- a turn of a core
 
@@ -77,9 +79,14 @@ module _ (before after : Running) (still : before.ended ≡ None) (sound : IsSou
   better ranks r e = subst (Onward (λ n. IsFit before.code.now n × (left ranks before.bound n < left ranks before.bound (flat_of before)))) (moved ∙ running (flat_of after) after.ended e)
       (moves_on before.code.now before.bound sound.valid sound.alone ranks r (flat_of before) fit)
 
+  still_chained : after.ended ≡ None → AreChained before.code.now (flat_of after)
+  still_chained e = subst (Onward (AreChained before.code.now)) (moved ∙ running (flat_of after) after.ended e)
+      (chained_on before.code.now before.bound (flat_of before) sound.valid sound.alone fit (sound.chained still))
+
   pub still_sound : (ranks : List ℕ) → IsRanked before.code.now ranks → IsSound after
   still_sound ranks r = record {
     fit = λ e. subst (λ code. IsFit code (flat_of after)) (sym keeps.code) (better ranks r e).0;
+    chained = λ e. subst (λ code. AreChained code (flat_of after)) (sym keeps.code) (still_chained e);
     valid = rw keeps.code sound.valid;
     alone = rw keeps.code sound.alone;
     quiet = keeps.journal ∙ sound.quiet;

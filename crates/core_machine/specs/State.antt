@@ -8,6 +8,7 @@ use Rattle.stack_code.specs.Machine.{Thread, Flat, FlatEnd, seen_of}
 use Rattle.stack_code.specs.Valid.{IsValid}
 use Rattle.stack_code.specs.Alone.{IsAlone}
 use Rattle.stack_code.specs.Fit.{IsFit}
+use Rattle.stack_code.specs.Chains.{AreChained}
 use Rattle.core_machine.specs.declared.running.Running.{Running}
 use Rattle.core_machine.specs.Blocks.{blocks_of}
 use Rattle.core_machine.specs.Machine.{Machine, IsOnItsWay}
@@ -41,9 +42,10 @@ state_of m = end_or (flat_of m) m.ended
 abbrev pub machine_of : Running → Machine
 machine_of m = record { code = m.code.now; core = m.core; bound = m.bound; journal = m.journal.entries; state = state_of m }
 
--- a core that has not ended stands where its code can stand
+-- a core that has not ended stands where its code can stand, and no reference dangles there
 pub record IsSound (m : Running) : Type 0 where
   pub fit : m.ended ≡ None → IsFit m.code.now (flat_of m)
+  pub chained : m.ended ≡ None → AreChained m.code.now (flat_of m)
   pub valid : IsValid m.code.now
   pub alone : IsAlone m.code.now
   pub quiet : m.journal.entries ≡ []

@@ -1,25 +1,10 @@
 //! Calls and returns.
 
-ghost use Rattle.std.specs.Prelude.{◌≡◌, ◌≤◌, length, IfOk};
-ghost use Rattle.core_state.specs.Frames.{first_cells};
-
 use crate::beginning::has_room;
 use crate::pause::Pause;
 use crate::running::Running;
 use ac_base::{NoMemory, Trap};
-use std::alloc::Global;
 use work_item::Cell;
-
-// The cells of a frame of so many slots that begins with these arguments.
-fn cells_of_call(alloc: Global, args: &[Cell], words: u32) -> Result<Vec<Cell>, NoMemory>
-    requires { length args.now ≤ words }
-    ensures { IfOk result (λ cells. cells.items ≡ first_cells args.now words) }
-{
-    let mut cells = Vec::with_capacity(alloc, words as usize)?;
-    cells.extend_from_slice(args)?;
-    cells.resize(words as usize, Cell::Int(0))?;
-    Ok(cells)
-}
 
 impl Running<'_> {
     ghost use Rattle.std.specs.Prelude.{◌≡◌, true, None, ◌<◌, ◌^◌, OnOk, OnErr};
@@ -44,10 +29,10 @@ impl Running<'_> {
             self.end(Pause::Trapped(Trap::StackFull));
             return Ok(());
         }
-        let cells = cells_of_call(self.alloc, self.operands.top(count), entered.words)?;
         self.callers
             .push(self.place + 1, self.frame, self.operands.below(count))?;
-        match self.frames.make_of(None, cells) {
+        let args = self.operands.top(count);
+        match self.frames.make_of(None, args, entered.words) {
             Ok(frame) => {
                 self.operands.clear();
                 self.frame = frame;

@@ -281,6 +281,7 @@ impl Running<'_> {
 
 impl Running<'_> {
     ghost use Rattle.std.specs.Prelude.{◌≡◌, true, None, Some, ◌+◌, ◌-◌, ◌≤◌, ◌<◌, ◌^◌, [], ◌∷◌, length};
+    ghost use Rattle.work_item.specs.Conditions.{HomeLives};
     ghost use Rattle.stack_code.specs.declared.instr.Instr.{Instr};
     ghost use Rattle.stack_code.specs.Fit.{is_int};
     ghost use Rattle.core_machine.specs.inner.Operands.{is_reference, Stand, second_place};
@@ -291,6 +292,7 @@ impl Running<'_> {
         requires running { self.old.ended ≡ None }
         requires inside { self.old.place < 2 ^ 32 }
         requires operands { Stand (is_int ∷ is_reference ∷ []) self.old.operands }
+        requires home { HomeLives self.old.frames (second_place self.old.operands).home }
         ensures does { Does self.old Instr.Elem self.new }
         ensures keeps { Keeps self.old self.new }
     {
@@ -311,6 +313,7 @@ impl Running<'_> {
         requires running { self.old.ended ≡ None }
         requires inside { self.old.place < 2 ^ 32 }
         requires operands { Stand (is_int ∷ is_reference ∷ is_int ∷ []) self.old.operands }
+        requires home { HomeLives self.old.frames (second_place self.old.operands).home }
         ensures does { Does self.old Instr.SetElem self.new }
         ensures keeps { Keeps self.old self.new }
     {

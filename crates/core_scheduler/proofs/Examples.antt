@@ -1,7 +1,7 @@
 -- What the definitions of Schedule say of a core with few threads.
 use Rattle.std.proofs.Common.{◌≡◌, refl, ℕ, List, [], ◌∷◌, Option, None, Some}
 use Rattle.work_item.specs.declared.ids.Item.{Item}
-use Rattle.core_scheduler.specs.Schedule.{Schedule, at_back, at_front, suspended, yielded, yielded_to, dispatched}
+use Rattle.core_scheduler.specs.Schedule.{Schedule, at_back, at_front, suspended, yielded, yielded_to, dispatched, yielded_by, left_by, dispatched_from, front}
 
 abbrev pub thread : ℕ → Item
 thread number = record { number = number }
@@ -47,3 +47,18 @@ the_front_runs = refl
 
 pub none_is_ready : dispatched (schedule None [] 4) ≡ schedule None [] 4
 none_is_ready = refl
+
+-- ---- the parts of these
+
+pub a_given_thread_yields : (yielded_by one_runs (Some (thread 1)) ≡ schedule None (thread 2 ∷ thread 3 ∷ thread 1 ∷ []) 3) × (yielded_by none_runs None ≡ none_runs)
+a_given_thread_yields = (refl, refl)
+
+pub a_given_thread_is_left : (left_by one_runs (Some (thread 1)) (thread 9) ≡ schedule (Some (thread 9)) (thread 1 ∷ thread 2 ∷ thread 3 ∷ []) 3)
+    × (left_by none_runs None (thread 9) ≡ none_runs)
+a_given_thread_is_left = (refl, refl)
+
+pub the_first_of_a_list_runs : (dispatched_from none_runs (thread 7 ∷ thread 8 ∷ []) ≡ schedule (Some (thread 7)) (thread 8 ∷ []) 5) × (dispatched_from none_runs [] ≡ none_runs)
+the_first_of_a_list_runs = (refl, refl)
+
+pub who_is_in_front : front (thread 2 ∷ thread 3 ∷ []) ∷ front [] ∷ [] ≡ Some (thread 2) ∷ None ∷ []
+who_is_in_front = refl

@@ -1,16 +1,24 @@
 -- What the definitions of Shared, Arithmetic and Moves say of small values.
-use Rattle.std.proofs.Common.{◌≡◌, refl, sym, ℕ, zero, suc, ◌≤◌, ℤ, pos, [], ◌∷◌, ◌++◌, codes, arith, None}
-use Rattle.std.specs.Prelude.{negsuc, Ok, Err, true, false}
+use Rattle.std.proofs.Common.{◌≡◌, refl, sym, ℕ, zero, suc, ◌≤◌, ℤ, pos, List, [], ◌∷◌, ◌++◌, ◌*◌, codes, length, arith, None, Some}
+use Rattle.std.specs.Prelude.{negsuc, Ok, Err, true, false, Result, Option}
 use Rattle.std.specs.Fmt.{decimal, signed_decimal}
 use Rattle.std.proofs.lemmas.Fmt.{decimal_digit}
-use Rattle.ac_base.specs.declared.ends.Trap.TheVariants.{ZeroDivisor, Index}
+use Rattle.ac_base.specs.declared.ends.Trap.{Trap}
+use Rattle.ac_base.specs.declared.ends.Trap.TheVariants.{ZeroDivisor, Index, StackFull}
 use Rattle.work_item.specs.declared.cell.Place.{Place}
 use Rattle.work_item.specs.declared.cell.Cell.TheVariants as cell
-use Rattle.work_item.specs.Store.{no_place}
-use Rattle.core_state.specs.Moves.{Move, On, Over, moves, EndsAs, GoesOn, ComesTo}
-use Rattle.core_state.specs.Arithmetic.{sum_of, negated, quotient, remainder, shifted_left, shifted_right, is_less, truth}
-use Rattle.core_state.specs.Frames.{within, has_words, arguments, first_cells, first_store}
+use Rattle.work_item.specs.Store.{no_place, Store, no_int}
+use Rattle.core_state.specs.Moves.{Move, On, Over, moves, EndsAs, GoesOn, ComesTo, and_then}
+use Rattle.core_state.specs.Arithmetic.{sum_of, negated, quotient, remainder, shifted_left, shifted_right, is_less, truth, both_bits, either_bits, differing_bits, low_byte}
+use Rattle.core_state.specs.Arithmetic.{Computed, bind, at_zero, truth_of, not_true, flipped, difference_of, product_of, shift_count, is_equal, is_not_equal, is_at_most}
+use Rattle.core_state.specs.Frames.{within, has_words, arguments, first_cells, first_store, first_frame}
+use Rattle.core_state.specs.Frames.{element, set_element, one_place, part_at, word_limit, begun, argument, begun_with, with_entered}
 use Rattle.core_state.specs.Shared.{formatted}
+use Rattle.core_state.specs.Shared.{Shared, with_step, with_turn, first_shared, output_limit, formatted_from, printed, core_end, seen_left, seen, if_turn, begins_with, begins}
+use Rattle.ac_base.specs.declared.ends.CoreEnd.{CoreEnd}
+use Rattle.ac_base.specs.declared.ends.EndWord.TheVariants as word
+use Rattle.ac_base.specs.declared.entry.Entry.{Entry}
+use Rattle.work_item.specs.declared.ids.FrameId.{FrameId}
 
 -- the decimal texts of digits, which do not compute
 two : decimal 2 ≡ codes "2"
@@ -168,3 +176,153 @@ no_higher (suc k) (suc s) t h = let le = no_higher k s t h in omega (arith, le)
 
 pub it_does_not_go_up : GoesOn down (On 5) (On 6) → ⊥
 it_does_not_go_up (k, h) = let le = no_higher k 5 6 h in omega (arith, le)
+
+-- ---- more of numbers
+
+pub nought_is_told_from_the_rest : at_zero (pos 0) (pos 1) (pos 2) ∷ at_zero (pos 1) (pos 1) (pos 2) ∷ at_zero (negsuc 0) (pos 1) (pos 2) ∷ [] ≡ pos 1 ∷ pos 2 ∷ pos 2 ∷ []
+nought_is_told_from_the_rest = refl
+
+abbrev pub halved : Computed → Computed
+halved x = bind x (λ v. quotient v (pos 2))
+
+pub a_trap_is_kept : (halved (Ok (pos 7)) ≡ Ok (pos 3)) × (halved (Err Index) ≡ Err Index)
+a_trap_is_kept = (refl, refl)
+
+pub truths_are_one_and_nought : truth_of true ∷ truth_of false ∷ not_true (pos 0) ∷ not_true (negsuc 1) ∷ [] ≡ pos 1 ∷ pos 0 ∷ pos 1 ∷ pos 0 ∷ []
+truths_are_one_and_nought = refl
+
+pub every_bit_is_flipped : flipped (pos 0) ∷ flipped (pos 5) ∷ flipped (negsuc 5) ∷ [] ≡ negsuc 0 ∷ negsuc 5 ∷ pos 5 ∷ []
+every_bit_is_flipped = refl
+
+-- the least number less one is the greatest, and twice 2 ^ 63 is nought
+pub differences_and_products_wrap : (difference_of (negsuc 9223372036854775807) (pos 1) ≡ pos 9223372036854775807) × (product_of (negsuc 9223372036854775807) (pos 2) ≡ pos 0)
+differences_and_products_wrap = (refl, refl)
+
+pub counts_of_shifts : shift_count (pos 63) ∷ shift_count (pos 65) ∷ shift_count (negsuc 0) ∷ [] ≡ 63 ∷ 1 ∷ 63 ∷ []
+counts_of_shifts = refl
+
+-- of equal numbers and of others
+pub comparisons : (is_equal (pos 3) (pos 3) ∷ is_not_equal (pos 3) (pos 3) ∷ is_at_most (pos 3) (pos 3) ∷ [] ≡ pos 1 ∷ pos 0 ∷ pos 1 ∷ [])
+    × (is_equal (pos 3) (negsuc 3) ∷ is_not_equal (pos 3) (negsuc 3) ∷ is_at_most (pos 3) (negsuc 3) ∷ [] ≡ pos 0 ∷ pos 1 ∷ pos 0 ∷ [])
+comparisons = (refl, refl)
+
+-- of 1100 and 1010
+pub bits : both_bits (pos 12) (pos 10) ∷ either_bits (pos 12) (pos 10) ∷ differing_bits (pos 12) (pos 10) ∷ [] ≡ pos 8 ∷ pos 14 ∷ pos 6 ∷ []
+bits = refl
+
+-- -1 has every bit
+pub bits_of_a_number_below_nought : both_bits (negsuc 0) (pos 10) ∷ either_bits (negsuc 0) (pos 10) ∷ differing_bits (negsuc 0) (pos 10) ∷ []
+    ≡ pos 10 ∷ negsuc 0 ∷ negsuc 10 ∷ []
+bits_of_a_number_below_nought = refl
+
+pub low_bytes : low_byte (pos 321) ∷ low_byte (pos 255) ∷ low_byte (negsuc 1) ∷ [] ≡ 65 ∷ 255 ∷ 254 ∷ []
+low_bytes = refl
+
+-- ---- directives
+
+pub after_a_percent_sign : (formatted_from true (codes "c%%") (pos 65 ∷ []) ≡ codes "A%") × (formatted_from false (codes "c%%") (pos 65 ∷ []) ≡ codes "c%")
+after_a_percent_sign = (refl, refl)
+
+-- ---- elements of an array of the globals from the second on
+
+abbrev pub four_globals : Store
+four_globals = first_store (pos 4 ∷ pos 5 ∷ pos 6 ∷ pos 7 ∷ [])
+
+abbrev pub last_three : Place
+last_three = record { home = None; start = 1; len = 3 }
+
+pub an_element_is_read : (element four_globals last_three (pos 2) ≡ Ok (pos 7)) × (element four_globals last_three (pos 3) ≡ Err Index)
+an_element_is_read = (refl, refl)
+
+pub an_element_is_set : (set_element four_globals last_three (pos 0) (negsuc 0) ≡ Ok (first_store (pos 4 ∷ negsuc 0 ∷ pos 6 ∷ pos 7 ∷ [])))
+    × (set_element four_globals last_three (negsuc 0) (pos 9) ≡ Err Index)
+an_element_is_set = (refl, refl)
+
+pub an_element_is_an_array_of_one : one_place last_three 2 ≡ record { home = None; start = 3; len = 1 }
+an_element_is_an_array_of_one = refl
+
+pub a_part_of_an_array : (part_at last_three (pos 2) ≡ Ok (record { home = None; start = 3; len = 1 })) × (part_at last_three (pos 3) ≡ Err Index)
+a_part_of_an_array = (refl, refl)
+
+-- ---- frames begin
+
+abbrev pub frame : FrameId
+frame = record { number = 0 }
+
+pub a_parameter_takes_its_kind : argument true (cell.Array three_slots) ∷ argument true (cell.Int (pos 7)) ∷ argument false (cell.Int (pos 7)) ∷ argument false (cell.Array three_slots) ∷ []
+    ≡ cell.Array three_slots ∷ cell.Array no_place ∷ cell.Int (pos 7) ∷ cell.Int (pos 0) ∷ []
+a_parameter_takes_its_kind = refl
+
+-- one int, in a frame of two slots
+pub a_call_begins : begun_with (first_store []) (false ∷ []) 2 (cell.Int (pos 7) ∷ [])
+    ≡ Ok (record { globals = []; frames = Some (record { parent = None; cells = cell.Int (pos 7) ∷ cell.Int (pos 0) ∷ []; over = false }) ∷ [] })
+a_call_begins = refl
+
+-- 4096 times 1024
+pub four_mebi : (word_limit ≡ 4096 * 1024) × (output_limit ≡ 4096 * 1024)
+four_mebi = (refl, refl)
+
+pub a_block_is_kept_in_its_slot : with_entered (record { globals = []; frames = Some (record { parent = None; cells = no_int ∷ no_int ∷ []; over = false }) ∷ [] }) frame 1 5
+    ≡ record { globals = []; frames = Some (record { parent = None; cells = no_int ∷ cell.Block (record { number = 5 }) ∷ []; over = false }) ∷ [] }
+a_block_is_kept_in_its_slot = refl
+
+-- ---- what is shared
+
+-- three steps, that many turns, and two bytes printed
+abbrev pub shared : ℕ → List Entry → Shared
+shared turn todo = record { steps = 3; turn = turn; output = codes "ok"; past = []; todo = todo }
+
+pub a_step_and_a_turn : (with_step (shared 8 []) ≡ record (shared 8 []) { steps = 4 }) × (with_turn (shared 8 []) ≡ shared 9 [])
+a_step_and_a_turn = (refl, refl)
+
+abbrev pub ended_well : CoreEnd
+ended_well = record { word = word.Finished; steps = 3; output = codes "ok"; globals = pos 4 ∷ []; waiting = []; idle = false }
+
+-- nothing is seen while an entry is to come
+pub an_end_is_seen : (entry : Entry) → (seen_left word.Finished false (pos 4 ∷ []) (shared 8 []) [] ≡ Some ended_well)
+    × (seen_left word.Finished false (pos 4 ∷ []) (shared 8 []) (entry ∷ []) ≡ None)
+an_end_is_seen entry = (refl, refl)
+
+-- moves whose ends are what is seen
+abbrev pub Ends : Type 0
+Ends = Move ℕ (Option CoreEnd)
+
+abbrev pub turn_after : ℕ → Ends
+turn_after turn = if_turn (λ seen. seen) (pos 4 ∷ []) (shared turn []) (On 1)
+
+-- a core has 2 ^ 64 - 1 turns
+pub the_last_turn : turn_after 18446744073709551614 ≡ On 1
+the_last_turn = refl
+
+pub no_turn_is_left : turn_after 18446744073709551615 ≡ Over (Some (record ended_well { word = word.OutOfSteps }))
+no_turn_is_left = refl
+
+abbrev pub begins_as : Result Store Trap → Ends
+begins_as made = begins_with (λ seen. seen) (pos 4 ∷ []) (shared 8 []) made (λ store. On (length store.globals))
+
+pub where_there_is_room_it_begins : (begins_as (Ok four_globals) ≡ On 4) × (begins_as (Err StackFull) ≡ Over (Some (record ended_well { word = word.Trapped StackFull })))
+where_there_is_room_it_begins = (refl, refl)
+
+abbrev pub begun_in : ℕ → Ends
+begun_in slots = begins (λ seen. seen) (pos 4 ∷ []) (shared 8 []) slots (λ store. On (length store.frames))
+
+pub it_begins_in_its_frame : begun_in 2 ≡ On 1
+it_begins_in_its_frame = refl
+
+-- ---- the wholes of these
+
+pub a_new_frame : begun (first_store []) None (cell.Int (pos 7) ∷ [])
+    ≡ Ok (record { globals = []; frames = Some (record { parent = None; cells = cell.Int (pos 7) ∷ []; over = false }) ∷ [] })
+a_new_frame = refl
+
+pub one_byte_is_printed : printed (shared 8 []) (codes "!") ≡ Ok (record (shared 8 []) { output = codes "ok!" })
+one_byte_is_printed = refl
+
+pub nothing_was_done_at_first : (journal : List Entry) → first_shared journal ≡ record { steps = 0; turn = 0; output = []; past = []; todo = journal }
+nothing_was_done_at_first journal = refl
+
+pub the_whole_of_an_end : (core_end word.Finished false (pos 4 ∷ []) (shared 8 []) ≡ ended_well) × (seen word.Finished false (pos 4 ∷ []) (shared 8 []) ≡ Some ended_well)
+the_whole_of_an_end = (refl, refl)
+
+pub an_end_stays : (and_then {S = ℕ} {T = ℕ} {E = ℕ} (On 3) down ≡ On 2) × (and_then {S = ℕ} {T = ℕ} {E = ℕ} (Over 7) down ≡ Over 7) × (first_frame ≡ frame)
+an_end_stays = (refl, refl, refl)

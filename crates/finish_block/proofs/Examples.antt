@@ -5,9 +5,10 @@ use Rattle.work_item.specs.declared.ids.Item.{Item}
 use Rattle.work_item.specs.declared.ids.BlockId.{BlockId}
 use Rattle.finish_block.specs.declared.block.Block.{Block}
 use Rattle.finish_block.specs.declared.blocks.Arrival.TheVariants.{Passes, Waits}
-use Rattle.finish_block.specs.Table.{Table, parent_at, block_at, next_block, entered, begun, woken, ended, arrival, arrived, marked}
+use Rattle.finish_block.specs.Table.{Table, parent_at, block_at, next_block, entered, begun, woken, ended, arrival, arrived, marked, one_more}
+use Rattle.finish_block.specs.Table.{with_block, new_block, wakes, woken_by, one_less, arrival_at, left_at, with_mark}
 use Rattle.finish_block.specs.Conditions.{Lives, ParentLives, Childless, CanCountMore, HasThread, ChildlessAtEnd, ChildlessAtFinish, IsRooted}
-use Rattle.finish_block.specs.Ancestors.{IsRound, itself, further, IsCancelled, AncestorsLive}
+use Rattle.finish_block.specs.Ancestors.{IsRound, itself, further, IsCancelled, AncestorsLive, IsMarked}
 
 abbrev pub block : ℕ → BlockId
 block number = record { number = number }
@@ -206,3 +207,42 @@ not_rooted h = let e = (h (block 2) (inner 1 false false) (block 0) refl refl).1
 
 pub ancestors_do_not_live : AncestorsLive (with_blocks None (Some (inner 1 false false))).blocks (block 2) → ⊥
 ancestors_do_not_live h = let e = h (block 0) (further (block 2) (block 0) (inner 1 false false) refl refl itself) in cc
+
+-- ---- the parts of these
+
+pub a_block_that_is_new : new_block (Some (block 0)) (thread 6) ≡ inner 0 false false
+a_block_that_is_new = refl
+
+pub another_stands_in_its_place : with_block table (block 0) None ≡ with_blocks None (Some (inner 1 false false))
+another_stands_in_its_place = refl
+
+-- only the last thread, and only where the owner waits
+pub the_last_one_wakes : wakes (inner 1 true false) ∷ wakes (inner 2 true false) ∷ wakes (inner 1 false false) ∷ [] ≡ true ∷ false ∷ false ∷ []
+the_last_one_wakes = refl
+
+pub whom_it_wakes : (woken_by (Some (inner 1 true false)) ≡ Some (thread 6)) × (woken_by (Some (inner 2 true false)) ≡ None) × (woken_by None ≡ None)
+whom_it_wakes = (refl, refl, refl)
+
+pub a_thread_less : (one_less (Some (inner 1 true false)) ≡ None) × (one_less (Some (inner 2 true false)) ≡ Some (inner 1 true false)) × (one_less None ≡ None)
+a_thread_less = (refl, refl, refl)
+
+pub at_the_finish : arrival_at (Some (inner 0 false false)) ∷ arrival_at (Some (inner 1 false false)) ∷ arrival_at None ∷ [] ≡ Passes ∷ Waits ∷ Waits ∷ []
+at_the_finish = refl
+
+pub what_is_left_there : (left_at (Some (inner 0 false false)) ≡ None) × (left_at (Some (inner 1 false false)) ≡ Some (inner 1 true false)) × (left_at None ≡ None)
+what_is_left_there = (refl, refl, refl)
+
+pub it_gets_the_mark : (with_mark (Some (inner 1 false false)) ≡ Some (inner 1 false true)) × (with_mark None ≡ None)
+it_gets_the_mark = (refl, refl)
+
+pub the_outer_is_marked : IsMarked outer_marked.blocks (block 0)
+the_outer_is_marked = refl
+
+pub the_inner_is_not_marked : IsMarked outer_marked.blocks (block 2) → ⊥
+the_inner_is_not_marked h = cc
+
+pub what_was_given_back_is_not_marked : IsMarked outer_marked.blocks (block 1) → ⊥
+what_was_given_back_is_not_marked h = h
+
+pub a_thread_more : (one_more (Some (inner 1 false false)) ≡ Some (inner 2 false false)) × (one_more None ≡ None)
+a_thread_more = (refl, refl)

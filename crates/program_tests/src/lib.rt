@@ -2,14 +2,6 @@
 #![tactic(auto)]
 
 #[cfg(test)]
-mod compiled;
-#[cfg(test)]
 mod main_calls;
 #[cfg(test)]
-mod resolved;
-#[cfg(test)]
 mod rules;
-#[cfg(test)]
-mod shown;
-#[cfg(test)]
-mod trees;

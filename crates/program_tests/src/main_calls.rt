@@ -31,6 +31,11 @@ const NONE: &str = "core a(f); async void f() { }";
 
 const EMPTY: &str = "a: finished after 0 steps, 2 instructions\n";
 
+const LISTING: &str =
+    "core a 0\nfunction f words 0\n0 Step\n1 Push 1\n2 Push 2\n3 Push 3\n4 Mul\n5 Add\n6 Print 0 1\n7 Push 0\n8 Ret\ntext 0 25640a\n";
+
+const FILED: &str = "core a(f); file p(\"x\"); async void f() { }";
+
 const TWO: &str = "core a(f); async void f() { printf(\"%d\\n\", 1); printf(\"%d\\n\", 2); }";
 
 const ONE_STEP: &str = "a: out-of-steps after 1 steps, 3 instructions\n1\n";
@@ -180,11 +185,11 @@ fn reports_are_written_as_far_as_there_is_room(rt: HostRuntime) -> Result<(), Fa
     Ok(())
 }
 
-// Calls that are refused, the first refusal in the order of work.
+// Calls that are refused, by the first refusal in the order of work, and calls that run nothing.
 #[test]
-fn refusals_are_told_and_no_run_is_kept(rt: HostRuntime) -> Result<(), Fail> {
+fn no_run_is_kept_where_none_is_reported(rt: HostRuntime) -> Result<(), Fail> {
     let alloc = rt.alloc();
-    let rows: [(&'static [&'static str], &'static str, u64, u8, &'static str); 16] = [
+    let rows: [(&'static [&'static str], &'static str, u64, u8, &'static str); 28] = [
         (&["run", "y.ac"], SEVEN, 999, 7, "library fault\n"),
         (&["run", "x.ac", "y.ac"], SEVEN, 999, 1, USAGE),
         (&["run", "x.ac", "--steps", "0"], SEVEN, 999, 1, USAGE),
@@ -223,13 +228,19 @@ fn refusals_are_told_and_no_run_is_kept(rt: HostRuntime) -> Result<(), Fail> {
             3,
             "rule C7 at 28\n",
         ),
-        (
-            &["run", "x.ac"],
-            "core a(f); file p(\"x\"); async void f() { }",
-            999,
-            15,
-            "not built at 11\n",
-        ),
+        (&["run", "x.ac"], FILED, 999, 15, "not built at 11\n"),
+        (&["check", "x.ac"], SEVEN, 999, 0, "accepted\n"),
+        (&["check", "x.ac"], SEVEN, 9, 0, "accepted\n"),
+        (&["check", "x.ac"], SEVEN, 8, 8, "accepted"),
+        (&["check", "x.ac"], FILED, 999, 0, "accepted\n"),
+        (&["check", "x.ac"], UNDECLARED, 999, 3, "rule C2 at 28\n"),
+        (&["check", "x.ac", "--steps", "1"], SEVEN, 999, 1, USAGE),
+        (&["code", "x.ac"], SEVEN, 999, 0, LISTING),
+        (&["code", "x.ac"], SEVEN, 10, 8, "core a 0\nf"),
+        (&["code", "x.ac"], FILED, 999, 15, "not built at 11\n"),
+        (&["code", "x.ac"], UNDECLARED, 999, 3, "rule C2 at 28\n"),
+        (&["code", "y.ac"], SEVEN, 999, 7, "library fault\n"),
+        (&["trace", "x.ac"], SEVEN, 999, 1, USAGE),
         (
             &["run", "x.ac"],
             "core a(f); core b(g); async void f() { } async void g() { }",
@@ -246,7 +257,7 @@ fn refusals_are_told_and_no_run_is_kept(rt: HostRuntime) -> Result<(), Fail> {
             taken.as_bytes(),
             "of {source} at room {room}"
         );
-        assert!(rt; !seen.ran, "{source} is refused");
+        assert!(rt; !seen.ran, "{source} is not run");
     }
     Ok(())
 }
@@ -303,17 +314,21 @@ fn blocks_are_nested_256_deep_at_most(rt: HostRuntime) -> Result<(), Fail> {
 #[test]
 fn a_library_that_fails_is_told_and_opened_once(rt: HostRuntime) -> Result<(), Fail> {
     let alloc = rt.alloc();
-    for (fails, status, line) in [
-        (0, 7, "library fault\n"),
-        (1, 7, "library fault\n"),
-        (2, 7, "library fault\n"),
-        (3, 0, EMPTY),
-        (999, 0, EMPTY),
-    ] {
+    let rows: [(&'static [&'static str], u64, u8, &'static str); 8] = [
+        (&["run", "x.ac"], 0, 7, "library fault\n"),
+        (&["run", "x.ac"], 1, 7, "library fault\n"),
+        (&["run", "x.ac"], 2, 7, "library fault\n"),
+        (&["run", "x.ac"], 3, 0, EMPTY),
+        (&["run", "x.ac"], 999, 0, EMPTY),
+        (&["check", "x.ac"], 2, 7, "library fault\n"),
+        (&["check", "x.ac"], 3, 0, "accepted\n"),
+        (&["code", "x.ac"], 1, 7, "library fault\n"),
+    ];
+    for (words, fails, status, line) in rows {
         let fails = List::from_vec(vec![in alloc; fails]?);
         let mut library = MemoryLibrary::new(one_text(alloc, NONE.as_bytes())?, fails)?;
         let mut sink = MemorySink::new(alloc, 999)?;
-        let seen = called(alloc, &["run", "x.ac"], &mut library, &mut sink)?;
+        let seen = called(alloc, words, &mut library, &mut sink)?;
         assert_eq!(rt; seen.status, status);
         assert_eq!(rt; sink.taken(), line.as_bytes());
         assert_eq!(rt; library.opens(), 1);

@@ -1,7 +1,12 @@
 //! What a checked tree says by number.
 
-use crate::resolved::program;
+ghost use Rattle.std.specs.Prelude.{◌≤◌, length, IfOk};
+ghost use Rattle.ac_tree.specs.Shape.{HasShape};
+ghost use Rattle.ac_tree.specs.Weight.{IsSmall};
+
 use ac_base::List;
+use ac_lexer::lex;
+use ac_parser::parse;
 use ac_tree::Program;
 use ac_types::{CheckFault, Checked, check};
 use std::alloc::Global;
@@ -9,6 +14,20 @@ use std::test::Fail;
 
 const SOURCE: &str =
     "core a(f); core b(f); channel c(a, b, 5); file p(\"x\"); async void f() { } void h() { }";
+
+/// The program that a source spells.
+fn program(alloc: Global, source: &[u8]) -> Result<Program, Fail>
+    requires { length source.now ≤ 1048576 }
+    ensures { IfOk result (λ p. IsSmall p × HasShape p) }
+{
+    let Ok(tokens) = lex(alloc, source) else {
+        return Err(Fail::from("no tokens"));
+    };
+    match parse(alloc, &tokens, source.len() as u32) {
+        Ok(program) => Ok(program),
+        Err(_) => Err(Fail::from("no program")),
+    }
+}
 
 fn accepted(alloc: Global) -> Result<Checked, Fail> {
     match check(alloc, program(alloc, SOURCE.as_bytes())?) {

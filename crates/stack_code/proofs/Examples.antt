@@ -1,8 +1,9 @@
 -- What instructions do and ask for, the run of short codes, a code that is valid, and codes that are not.
-use Rattle.std.proofs.Common.{◌≡◌, refl, sym, ap, subst, ◌∙◌, ℕ, zero, suc, ◌<◌, ℤ, pos, List, [], ◌∷◌, codes, Option, Some, None, Bool, true, false, inl, inr, arith}
+use Rattle.std.proofs.Common.{◌≡◌, refl, sym, ap, subst, ◌∙◌, ℕ, zero, suc, ◌+◌, ◌<◌, ℤ, pos, List, [], ◌∷◌, codes, Option, Some, None, Bool, true, false, inl, inr, arith}
 use Rattle.std.specs.Prelude.{negsuc, slice_get, slice_index, unwrap_or}
 use Rattle.std.proofs.lemmas.List.Elements.{All-from_recursion, recursion_from_All}
 use Rattle.std.proofs.lemmas.Fmt.{decimal_digit}
+use Rattle.std.specs.Fmt.{decimal}
 use Rattle.ac_base.specs.declared.ends.Trap.TheVariants.{ZeroDivisor, Index}
 use Rattle.ac_base.specs.declared.ends.EndWord.{EndWord}
 use Rattle.ac_base.specs.declared.ends.CoreEnd.{CoreEnd}
@@ -22,13 +23,17 @@ use Rattle.stack_code.specs.declared.shape.Shape.{Shape}
 use Rattle.stack_code.specs.declared.shape.Leads.{Leads}
 use Rattle.stack_code.specs.declared.shape.Leads.TheVariants.{Stop, One, Two}
 use Rattle.stack_code.specs.Parts.{Parts, Begins}
-use Rattle.stack_code.specs.Shapes.{first, effect, LeadsTo, params_of}
+use Rattle.stack_code.specs.Shapes.{first, effect, LeadsTo, params_of, can_end, can_return, directives, directives_in, channels_of, pushes, branches, transfers}
+use Rattle.stack_code.specs.Shapes.{inner, is_entered, one_int, two_ints, is_array, calls, finished, taken, arguments}
+use Rattle.stack_code.specs.Shapes.{on_some, takes, with_operands, pushed, is_int_alone, params_in, loaded, want_of, body_with, is_block, finished_in, has_own, can_start}
 use Rattle.stack_code.specs.Machine.{Flat, FlatEnd, exec, first_flat, Runs}
-use Rattle.stack_code.specs.Valid.{IsValid, Fits, Goes, Reaches, begins, goes, IsShaped, Quiet, QuietWay, one, more, TakesSteps}
+use Rattle.stack_code.specs.Valid.{IsValid, Fits, Goes, Reaches, begins, goes, IsShaped, Quiet, QuietWay, one, more, TakesSteps, home_at}
 use Rattle.stack_code.specs.Valid.{Use, AsInt, AsReference, AsBlock, use_of, ints_of, Uses, param, loads, sets, enters, HasOneUse}
 use Rattle.stack_code.specs.Valid.{IsEntry, HasCores, IsCapacity, IsChannel, HasLinks, IsStart, HasStarts, HasRoom, HasLists}
 use Rattle.stack_code.specs.Kept.{Has, IsTable, IsRanked, IsKept}
 use Rattle.stack_code.specs.Alone.{is_alone, IsAlone}
+use Rattle.stack_code.specs.declared.shape.Want.TheVariants as want
+use Rattle.stack_code.specs.Listing.{instr_line, between, function_lines, core_lines, hex_of, text_lines, listing}
 
 -- a code of one function whose frame has so many slots, which the core `a` enters; it has two globals, of which the second starts with 5
 abbrev pub entered : ℕ → Entered
@@ -581,3 +586,146 @@ it_is_alone = All-from_recursion (λ (instr : Instr). is_alone instr ≡ true) k
 
 pub a_send_is_not : IsAlone (code_of 0 (i.Send 0 ∷ i.Ret ∷ [])) → ⊥
 a_send_is_not h = let e = (recursion_from_All (λ (instr : Instr). is_alone instr ≡ true) (i.Send 0 ∷ i.Ret ∷ []) h).0 in cc
+
+-- ---- what the effects of instructions are made of
+
+pub what_is_there_goes_on : (on_some (Some 4) (λ (n : ℕ). Some (n + 1)) ≡ Some 5) × (on_some None (λ (n : ℕ). Some (n + 1)) ≡ None)
+what_is_there_goes_on = (refl, refl)
+
+-- `One` is a reference to an array of one element
+pub wanted_operands : takes want.Int kind.Int ∷ takes want.Int (kind.Reference true) ∷ takes want.Reference kind.Int ∷ takes want.One (kind.Reference true) ∷ takes want.One (kind.Reference false) ∷ []
+    ≡ true ∷ false ∷ false ∷ true ∷ false ∷ []
+wanted_operands = refl
+
+pub operands_of_a_shape : (with_operands (shape []) (kind.Int ∷ []) ≡ shape (kind.Int ∷ [])) × (pushed kind.Int (shape (kind.Reference true ∷ [])) ≡ shape (kind.Int ∷ kind.Reference true ∷ []))
+operands_of_a_shape = (refl, refl)
+
+pub one_int_and_no_more : is_int_alone (kind.Int ∷ []) ∷ is_int_alone [] ∷ is_int_alone (kind.Int ∷ kind.Int ∷ []) ∷ is_int_alone (kind.Reference true ∷ []) ∷ []
+    ≡ true ∷ false ∷ false ∷ false ∷ []
+one_int_and_no_more = refl
+
+pub parameters_and_their_kinds : (params_in (Some (record (entered 1) { params = true ∷ [] })) ≡ true ∷ []) × (params_in None ≡ [])
+    × (loaded true ∷ loaded false ∷ [] ≡ kind.Reference false ∷ kind.Int ∷ []) × (want_of true ∷ want_of false ∷ [] ≡ want.Reference ∷ want.Int ∷ [])
+parameters_and_their_kinds = (refl, refl, refl, refl)
+
+-- a frame of two slots
+pub slots_of_a_body : (body_with (shape []) 0 0 2 ≡ Some (record { home = home.Function 0; slots = 2 })) × (body_with (shape []) 0 1 2 ≡ None) × (body_with (shape []) 1 0 0 ≡ None)
+slots_of_a_body = (refl, refl, refl)
+
+-- the body of an `Async` in the block that is entered
+abbrev pub in_async : Shape
+in_async = record (in_block 1) { bodies = record { home = home.Async 3; slots = 1 } ∷ (in_block 1).bodies }
+
+pub whose_body_it_is : home_at in_async 0 ∷ home_at in_async 1 ∷ home_at in_async 2 ∷ [] ≡ Some (home.Async 3) ∷ Some (home.Function 0) ∷ None ∷ []
+whose_body_it_is = refl
+
+pub which_block_it_is : is_block 1 3 (record { bodies = 1; slot = 3 }) ∷ is_block 1 2 (record { bodies = 1; slot = 3 }) ∷ is_block 2 3 (record { bodies = 1; slot = 3 }) ∷ []
+    ≡ true ∷ false ∷ false ∷ []
+which_block_it_is = refl
+
+pub the_innermost_is_finished : (finished_in 1 (in_block 1) (in_block 1).blocks ≡ Some (shape [])) × (finished_in 0 (in_block 1) (in_block 1).blocks ≡ None) × (finished_in 1 (in_block 1) [] ≡ None)
+the_innermost_is_finished = (refl, refl, refl)
+
+-- a block that was entered at the `Async` is none of the body's own
+pub blocks_of_the_own_body : has_own (in_block 1) ∷ has_own in_async ∷ has_own (shape []) ∷ [] ≡ true ∷ false ∷ false ∷ []
+blocks_of_the_own_body = refl
+
+pub where_threads_start_and_end : (can_start (in_block 1) ∷ can_start (shape []) ∷ can_start (record (in_block 1) { operands = kind.Int ∷ [] }) ∷ [] ≡ true ∷ false ∷ false ∷ [])
+    × (can_end in_async ∷ can_end (in_block 1) ∷ can_end (shape []) ∷ [] ≡ true ∷ false ∷ false ∷ [])
+where_threads_start_and_end = (refl, refl)
+
+pub where_a_function_returns : can_return (shape (kind.Int ∷ [])) ∷ can_return (shape []) ∷ can_return (record (in_block 1) { operands = kind.Int ∷ [] }) ∷ []
+    ≡ true ∷ false ∷ false ∷ []
+where_a_function_returns = refl
+
+-- nor from the body of an `Async`
+pub no_return_from_a_thread : can_return (record in_async { blocks = []; operands = kind.Int ∷ [] }) ≡ false
+no_return_from_a_thread = refl
+
+pub counts_of_directives : directives_in (codes "%d%%d%c") ∷ directives true (codes "d%c") ∷ directives false (codes "d%c") ∷ [] ≡ 2 ∷ 2 ∷ 1 ∷ []
+counts_of_directives = refl
+
+-- the other links are those of the cores
+pub one_channel : channels_of (record (code_of 0 []) { capacities = 16 ∷ 4 ∷ [] }) ∷ channels_of (code_of 0 []) ∷ [] ≡ 1 ∷ 0 ∷ []
+one_channel = refl
+
+pub where_effects_lead : (pushes 4 kind.Int (shape []) ≡ Some (One 5 (shape (kind.Int ∷ [])))) × (branches 4 9 (shape (kind.Int ∷ [])) ≡ Some (Two 5 (shape []) 9 (shape [])))
+    × (branches 4 9 (shape []) ≡ None)
+where_effects_lead = (refl, refl, refl)
+
+-- files are numbered 0 to 15; the array is on top
+pub transfers_to_files : (transfers 4 15 (shape (kind.Reference false ∷ kind.Int ∷ kind.Int ∷ [])) ≡ Some (One 5 (shape (kind.Int ∷ []))))
+    × (transfers 4 16 (shape (kind.Reference false ∷ kind.Int ∷ kind.Int ∷ [])) ≡ None)
+transfers_to_files = (refl, refl)
+
+-- ---- the listing
+
+nought : decimal 0 ≡ codes "0"
+nought = decimal_digit 0 (omega arith)
+
+one_is : decimal 1 ≡ codes "1"
+one_is = decimal_digit 1 (omega arith)
+
+two_is : decimal 2 ≡ codes "2"
+two_is = decimal_digit 2 (omega arith)
+
+seven_is : decimal 7 ≡ codes "7"
+seven_is = decimal_digit 7 (omega arith)
+
+-- a line of each number and kind of operands
+pub lines_without_operands : instr_line 7 i.Step ∷ instr_line 7 i.SetElem ∷ instr_line 7 i.LessEq ∷ instr_line 7 i.End ∷ []
+    ≡ codes "7 Step\n" ∷ codes "7 SetElem\n" ∷ codes "7 LessEq\n" ∷ codes "7 End\n" ∷ []
+lines_without_operands = rw seven_is refl
+
+pub lines_with_a_number : instr_line 7 (i.Push (pos 2)) ∷ instr_line 7 (i.Push (negsuc 1)) ∷ [] ≡ codes "7 Push 2\n" ∷ codes "7 Push -2\n" ∷ []
+lines_with_a_number = rw (seven_is, two_is) refl
+
+pub lines_with_one_operand : instr_line 7 (i.LoadG 2) ∷ instr_line 7 (i.Jz 2) ∷ instr_line 7 (i.Finish 2) ∷ instr_line 7 (i.Recv 2) ∷ instr_line 7 (i.Write 2) ∷ []
+    ≡ codes "7 LoadG 2\n" ∷ codes "7 Jz 2\n" ∷ codes "7 Finish 2\n" ∷ codes "7 Recv 2\n" ∷ codes "7 Write 2\n" ∷ []
+lines_with_one_operand = rw (seven_is, two_is) refl
+
+-- the operands stand in their order
+pub lines_with_two_operands :
+    instr_line 7 (i.Store 1 2) ∷ instr_line 7 (i.ArrG 2 1) ∷ instr_line 7 (i.Clear 2 1) ∷ instr_line 7 (i.Print 0 2) ∷ instr_line 7 (i.Call 2 1) ∷ instr_line 7 (i.Async 1 2)
+    ∷ instr_line 7 (i.Cancel 1 0) ∷ []
+    ≡ codes "7 Store 1 2\n" ∷ codes "7 ArrG 2 1\n" ∷ codes "7 Clear 2 1\n" ∷ codes "7 Print 0 2\n" ∷ codes "7 Call 2 1\n" ∷ codes "7 Async 1 2\n" ∷ codes "7 Cancel 1 0\n" ∷ []
+lines_with_two_operands = rw (seven_is, nought, one_is, two_is) refl
+
+pub a_line_with_three_operands : instr_line 7 (i.Arr 0 1 2) ≡ codes "7 Arr 0 1 2\n"
+a_line_with_three_operands = rw (seven_is, nought, one_is, two_is) refl
+
+-- bytes in hexadecimal, where none are a dash
+pub bytes_in_hexadecimal : hex_of (0 ∷ 10 ∷ 159 ∷ 255 ∷ []) ∷ hex_of [] ∷ [] ≡ codes "000a9fff" ∷ codes "-" ∷ []
+bytes_in_hexadecimal = refl
+
+pub texts_are_numbered : text_lines 0 (codes "a" ∷ [] ∷ []) ≡ codes "text 0 61\ntext 1 -\n"
+texts_are_numbered = rw (nought, one_is) refl
+
+pub cores_with_their_functions : core_lines (codes "a" ∷ codes "b" ∷ []) (1 ∷ 0 ∷ []) ≡ codes "core a 1\ncore b 0\n"
+cores_with_their_functions = rw (one_is, nought) refl
+
+pub from_one_address_to_another : between 1 2 (i.Step ∷ i.Drop ∷ i.Ret ∷ []) ∷ between 2 2 (i.Step ∷ []) ∷ [] ≡ (i.Drop ∷ []) ∷ [] ∷ []
+from_one_address_to_another = refl
+
+-- the first function ends where the second begins
+pub functions_one_after_the_other :
+    function_lines (entered 2 ∷ record { name = codes "g"; at = 1; params = true ∷ []; words = 1 } ∷ []) (i.Yield ∷ i.Ret ∷ []) ≡ codes "function f words 2\n0 Yield\nfunction g words 1\n1 Ret\n"
+functions_one_after_the_other = rw (two_is, nought, one_is) refl
+
+pub a_whole_listing : listing (code_of 0 (i.Push (pos 7) ∷ i.Ret ∷ [])) ≡ codes "core a 0\nfunction f words 0\n0 Push 7\n1 Ret\ntext 0 25640a\n"
+a_whole_listing = rw (seven_is, nought, one_is) refl
+
+-- ---- the wholes of these
+
+pub operands_are_taken : (taken (want.Int ∷ []) (kind.Int ∷ kind.Reference true ∷ []) ≡ Some (kind.Reference true ∷ [])) × (taken (want.Int ∷ []) [] ≡ None)
+    × (one_int 4 (shape (kind.Int ∷ [])) ≡ Some (One 5 (shape (kind.Int ∷ [])))) × (two_ints 4 (shape (kind.Int ∷ [])) ≡ None)
+operands_are_taken = (refl, refl, refl, refl)
+
+pub blocks_and_bodies : (is_entered (in_block 1) 0 1 ∷ is_entered (in_block 1) 0 0 ∷ is_entered in_async 0 1 ∷ is_entered in_async 1 1 ∷ [] ≡ true ∷ false ∷ false ∷ true ∷ [])
+    × (finished 1 (in_block 1) ≡ Some (shape [])) × (inner 3 1 (in_block 1) ≡ in_async)
+blocks_and_bodies = (refl, refl, refl)
+
+-- the last argument is on top
+pub a_call_and_its_arguments : (arguments (true ∷ false ∷ []) ≡ want.Int ∷ want.Reference ∷ []) × (is_array with_a_parameter (home.Function 0) 0 ≡ false)
+    × (calls 4 3 0 (shape []) (entered 2) ≡ Some (Two 5 (shape (kind.Int ∷ [])) 0 (first 3 (entered 2)))) × (calls 4 3 1 (shape (kind.Int ∷ [])) (entered 2) ≡ None)
+a_call_and_its_arguments = (refl, refl, refl, refl)

@@ -100,7 +100,7 @@ kept_at [] k n = refl
 kept_at (x ∷ frames) k zero = let e : k + 0 ≡ k = omega arith in rw e refl
 kept_at (x ∷ frames) k (suc n) = let e : k + suc n ≡ (k + 1) + n = omega arith in rw e (kept_at frames (k + 1) n)
 
-kept_first : (frames : List (Option Frame)) (n : ℕ) → slice_index_or (kept 0 frames) n None ≡ kept_one (any_in n (drop (suc n) (kept 0 frames))) (slice_index_or frames n None)
+pub kept_first : (frames : List (Option Frame)) (n : ℕ) → slice_index_or (kept 0 frames) n None ≡ kept_one (any_in n (drop (suc n) (kept 0 frames))) (slice_index_or frames n None)
 kept_first frames n =
     let e : 0 + n ≡ n = omega arith in
     subst (λ k. slice_index_or (kept 0 frames) n None ≡ kept_one (any_in k (drop (suc n) (kept 0 frames))) (slice_index_or frames n None)) e (kept_at frames 0 n)
@@ -123,7 +123,7 @@ kept_some b x h = go x.over b refl h
     go true false e h = elim h [ inl k ↦ let n : false ≡ true = k in absurd (cc) | inr k ↦ let n : true ≡ false = k in absurd (cc) ]
 
 module _ (s : Store) (f : FrameId) where
-  abbrev noted : List (Option Frame)
+  abbrev pub noted : List (Option Frame)
   noted = slice_set s.frames f.number (some_over (frame_at s f))
 
   abbrev left : Store
@@ -134,7 +134,7 @@ module _ (s : Store) (f : FrameId) where
     pub parent : y.parent ≡ x.parent
     pub cells : y.cells ≡ x.cells
 
-  noted_of : (n : ℕ) (x : Frame) → slice_index_or s.frames n None ≡ Some x → (y : Frame) × ((slice_index_or noted n None ≡ Some y) × (Noted x y × ((f.number ≡ n → ⊥) → y ≡ x)))
+  pub noted_of : (n : ℕ) (x : Frame) → slice_index_or s.frames n None ≡ Some x → (y : Frame) × ((slice_index_or noted n None ≡ Some y) × (Noted x y × ((f.number ≡ n → ⊥) → y ≡ x)))
   noted_of n x e = elim (cases_eq f.number n) as (λ _. (y : Frame) × ((slice_index_or noted n None ≡ Some y) × (Noted x y × ((f.number ≡ n → ⊥) → y ≡ x)))) [
     | inl q ↦
         let here : frame_at s f ≡ Some x = ap (λ k. slice_index_or s.frames k None) q ∙ e in
@@ -168,7 +168,7 @@ module _ (s : Store) (f : FrameId) where
     round = left_round;
   }
 
-  kept_is : (o : Option Frame) (b : Bool) (y : Frame) → kept_one b o ≡ Some y → o ≡ Some y
+  pub kept_is : (o : Option Frame) (b : Bool) (y : Frame) → kept_one b o ≡ Some y → o ≡ Some y
   kept_is None b y e = e
   kept_is (Some x) b y e = go (x.over && not b) e
     where
@@ -181,7 +181,7 @@ module _ (s : Store) (f : FrameId) where
   over_is (Some x) y e = (x, (refl, sym (ap (λ (z : Frame). z.cells) (some_same (record x { over = true }) y e))))
 
   -- a frame that is left was there
-  was_there : (g : FrameId) (y : Frame) → frame_at left g ≡ Some y → (x : Frame) × ((frame_at s g ≡ Some x) × (y.cells ≡ x.cells))
+  pub was_there : (g : FrameId) (y : Frame) → frame_at left g ≡ Some y → (x : Frame) × ((frame_at s g ≡ Some x) × (y.cells ≡ x.cells))
   was_there g y e =
       let n : slice_index_or noted g.number None ≡ Some y =
       kept_is (slice_index_or noted g.number None) (any_in g.number (drop (suc g.number) (kept 0 noted))) y (sym (kept_first noted g.number) ∙ e) in
@@ -196,7 +196,7 @@ module _ (s : Store) (f : FrameId) where
         | inr ne ↦ (y, (sym (get_or-set_other s.frames f.number g.number (some_over (frame_at s f)) None (λ e. ne (sym e))) ∙ n, refl))
       ]
 
-length-kept : (k : ℕ) (frames : List (Option Frame)) → length (kept k frames) ≡ length frames
+pub length-kept : (k : ℕ) (frames : List (Option Frame)) → length (kept k frames) ≡ length frames
 length-kept k [] = refl
 length-kept k (x ∷ frames) = ap suc (length-kept (k + 1) frames)
 

@@ -51,6 +51,11 @@ unfolding block_bound
 is_bound None = tt
 is_bound (Some b) = omega arith
 
+pub bound_below : (o : Option BlockId) (n : ℕ) → ((b : BlockId) → o ≡ Some b → b.number < n) → block_bound o ≤ n
+unfolding block_bound
+bound_below None n h = omega arith
+bound_below (Some b) n h = h b refl
+
 pub all_kept : (blocks : List (Option Block)) (t : Item) (k : ℕ) → KeepsBlocks blocks blocks t k
 all_kept blocks t k b x here owner lt = (x, (here, (refl, refl)))
 

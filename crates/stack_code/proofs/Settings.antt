@@ -74,7 +74,7 @@ set_global code births s slot value h = record {
   };
 }
 
-at_set : (frames : List (Option Frame)) (n : ℕ) (cells : List Cell) → slice_index_or (slice_set frames n (some_with cells (slice_index_or frames n None))) n None
+pub at_set : (frames : List (Option Frame)) (n : ℕ) (cells : List Cell) → slice_index_or (slice_set frames n (some_with cells (slice_index_or frames n None))) n None
     ≡ some_with cells (slice_index_or frames n None)
 at_set [] n cells = refl
 at_set (x ∷ frames) zero cells = refl

@@ -45,7 +45,7 @@ wider : (n : ℕ) (blocks : List OpenBlock) → AreInBodies n blocks → AreInBo
 wider n [] h = tt
 wider n (b ∷ blocks) h = let le = h.0.1 in ((h.0.0, omega (arith, le)), wider n blocks h.1)
 
-none_own : (n : ℕ) (blocks : List OpenBlock) → AreInBodies n blocks → own_in (suc n) blocks ≡ 0
+pub none_own : (n : ℕ) (blocks : List OpenBlock) → AreInBodies n blocks → own_in (suc n) blocks ≡ 0
 none_own n [] h = refl
 none_own n (b ∷ blocks) h =
     let rest = none_own n blocks h.1 in
@@ -54,7 +54,7 @@ none_own n (b ∷ blocks) h =
     omega (arith, rest, z)
 
 -- where one is entered but none in the innermost body, there are two bodies
-two_bodies : (n : ℕ) (blocks : List OpenBlock) → 0 < length blocks → AreInBodies n blocks → own_in n blocks ≡ 0 → 1 < n
+pub two_bodies : (n : ℕ) (blocks : List OpenBlock) → 0 < length blocks → AreInBodies n blocks → own_in n blocks ≡ 0 → 1 < n
 two_bodies n [] some h e = absurd (omega (arith, some))
 two_bodies n (b ∷ blocks) some h e =
     elim (cases_eq b.bodies n) as (λ _. 1 < n) [

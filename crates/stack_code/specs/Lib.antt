@@ -8,3 +8,6 @@ pub mod Alone
 pub mod Fit
 pub mod Left
 pub mod Ends
+pub mod Listing
+pub mod Living
+pub mod Chains

@@ -149,6 +149,13 @@ impl Code {
         self.sketch.texts()
     }
 
+    /// The function that each core enters.
+    pub fn entries(&self) -> &[u32]
+        ensures { result.now ≡ self.now.entries }
+    {
+        self.sketch.entries()
+    }
+
     /// The names of the cores.
     pub fn names(&self) -> &List<Name>
         ensures { result.now ≡ self.now.names }

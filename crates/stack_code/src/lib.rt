@@ -5,6 +5,7 @@ mod bodies;
 mod code;
 mod effect;
 mod instr;
+mod lines;
 mod lists;
 mod operands;
 mod parts;
@@ -17,6 +18,7 @@ mod work;
 
 pub use code::Code;
 pub use instr::Instr;
+pub use lines::listing;
 pub use parts::{ChannelEnds, Entered, Start};
 pub use shape::{Body, Home, Kind, OpenBlock, Shape};
 pub use stack::Stack;

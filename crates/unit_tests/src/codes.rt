@@ -5,3 +5,4 @@ mod parts;
 mod shapes;
 mod slots;
 mod ways;
+mod written;

@@ -93,10 +93,17 @@ fn a_frame_stays_while_one_lives_in_it(rt: HostRuntime) -> Result<(), Fail> {
 fn a_frame_holds_the_cells_that_it_is_made_of(rt: HostRuntime) -> Result<(), Fail> {
     let mut frames = Frames::new(rt.alloc(), 0)?;
     let block = Cell::Block(BlockId { number: 3 });
-    let cells = vec![in rt.alloc(); Cell::Int(5), block]?;
-    let frame = frames.make_of(None, cells)?;
-    let read = [frames.read(frame, 0, 0), frames.read(frame, 0, 1)];
-    assert_eq!(rt; read.as_slice(), [Cell::Int(5), block].as_slice());
-    assert_eq!(rt; frames.live_words(), 6);
+    let first = [Cell::Int(5), block];
+    let frame = frames.make_of(None, &first, 3)?;
+    let read = [
+        frames.read(frame, 0, 0),
+        frames.read(frame, 0, 1),
+        frames.read(frame, 0, 2),
+    ];
+    assert_eq!(rt;
+        read.as_slice(),
+        [Cell::Int(5), block, Cell::Int(0)].as_slice()
+    );
+    assert_eq!(rt; frames.live_words(), 7);
     Ok(())
 }

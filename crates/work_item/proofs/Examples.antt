@@ -1,14 +1,17 @@
 -- What the definitions of Store, Conditions and Table say of small stores.
-use Rattle.std.proofs.Common.{◌≡◌, refl, ℕ, ◌<◌, pos, List, [], ◌∷◌, Option, None, Some, Bool, true, false, arith}
+use Rattle.std.proofs.Common.{◌≡◌, refl, ℕ, zero, suc, ◌<◌, pos, List, [], ◌∷◌, Option, None, Some, Bool, true, false, arith}
 use Rattle.std.specs.Prelude.{negsuc}
 use Rattle.work_item.specs.declared.ids.FrameId.{FrameId}
 use Rattle.work_item.specs.declared.cell.Place.{Place}
 use Rattle.work_item.specs.declared.cell.Cell.{Cell}
 use Rattle.work_item.specs.declared.cell.Cell.TheVariants as c
 use Rattle.work_item.specs.Store.{Frame, Store, no_frames, next_frame, made, above, cell_at, with_cell_at, global_at, with_global, int_in, place_in, no_place, int_at, with_int_at}
+use Rattle.work_item.specs.Store.{all_words}
+use Rattle.work_item.specs.Store.{cleared_front, cleared, is_number, is_parent, any_in, kept_one, kept, some_over, frame_words}
+use Rattle.work_item.specs.Store.{frame_at, no_cells, cells_of, no_int, parent_is, parent_or, cell_of, some_with, with_cells, with_cell, int_from, with_int_from}
 use Rattle.work_item.specs.Store.{with_cleared, released, live_words}
-use Rattle.work_item.specs.Conditions.{Lives, ParentLives, HasLevel, HasSlot, HasGlobal, IsGoing}
-use Rattle.work_item.specs.Table.{children_of, IsWhole}
+use Rattle.work_item.specs.Conditions.{Lives, HomeLives, ParentLives, HasLevel, HasSlot, HasGlobal, IsGoing, HasParent}
+use Rattle.work_item.specs.Table.{children_of, IsWhole, IsSettled, at}
 use Rattle.work_item.specs.inner.Kept.{is_done}
 
 abbrev pub frame : ℕ → FrameId
@@ -142,6 +145,13 @@ one_that_is_gone_does_not h = cc
 pub nor_one_that_was_never_made : Lives store (frame 3) → ⊥
 nor_one_that_was_never_made h = cc
 
+-- an array of the globals, of a frame that lives, and of one that is gone
+pub arrays_that_are_there : HomeLives store None × HomeLives store (Some (frame 0))
+arrays_that_are_there = (tt, the_outer_one_lives)
+
+pub an_array_that_is_gone : HomeLives store (Some (frame 1)) → ⊥
+an_array_that_is_gone h = one_that_is_gone_does_not h
+
 pub no_parent_is_needed : ParentLives store None
 no_parent_is_needed = tt
 
@@ -201,3 +211,84 @@ it_is_done = refl
 -- a frame that is done does not stay
 pub it_does_not_stay : IsWhole left_over.globals left_over.frames → ⊥
 it_does_not_stay h = let e : 0 < children_of left_over.frames 0 = h.settled 0 (outer true) refl refl in omega (arith, e)
+
+-- ---- the parts of these
+
+pub what_stands_at_a_number : (frame_at store (frame 0) ≡ Some (outer false)) × (frame_at store (frame 1) ≡ None) × (frame_at store (frame 3) ≡ None)
+what_stands_at_a_number = (refl, refl, refl)
+
+pub the_cells_of_a_frame : (no_cells (Some (outer false)) ≡ int 4 ∷ int 5 ∷ []) × (cells_of store (frame 2) ≡ three_cells) × (cells_of store (frame 1) ≡ no_cells None)
+the_cells_of_a_frame = (refl, refl, refl)
+
+-- past its end a frame reads as 0
+pub a_cell_of_a_frame : (cell_of store (frame 0) 1 ≡ int 5) × (cell_of store (frame 0) 2 ≡ no_int) × (no_int ≡ int 0)
+a_cell_of_a_frame = (refl, refl, refl)
+
+-- a frame that lies in none stands for its own parent, and so does one that is gone
+pub parents : parent_is (frame 2) None ∷ parent_is (frame 2) (Some (frame 0)) ∷ parent_or (frame 2) (Some (inner [])) ∷ parent_or (frame 1) None ∷ []
+    ≡ frame 2 ∷ frame 0 ∷ frame 0 ∷ frame 1 ∷ []
+parents = refl
+
+pub one_has_a_parent : HasParent store (frame 2)
+one_has_a_parent = refl
+
+pub one_has_none : HasParent store (frame 0) → ⊥
+one_has_none h = cc
+
+pub cells_are_replaced : (some_with (int 7 ∷ []) (Some (inner three_cells)) ≡ Some (inner (int 7 ∷ []))) × (some_with (int 7 ∷ []) None ≡ None)
+    × (with_cells store (frame 2) (int 7 ∷ []) ≡ with_frames (Some (outer false)) (Some (inner (int 7 ∷ []))))
+cells_are_replaced = (refl, refl, refl)
+
+pub one_cell_is_replaced : with_cell (with_frames None (Some (inner (int 1 ∷ int 2 ∷ [])))) (frame 2) 1 (int 9) ≡ with_frames None (Some (inner (int 1 ∷ int 9 ∷ [])))
+one_cell_is_replaced = refl
+
+-- of the frame 0, and of the globals
+pub ints_of_two_homes : int_from store (Some (frame 0)) 1 ∷ int_from store None 1 ∷ [] ≡ pos 5 ∷ pos 9 ∷ []
+ints_of_two_homes = refl
+
+pub ints_of_two_homes_are_set : (with_int_from store None 0 (pos 3) ≡ record store { globals = pos 3 ∷ pos 9 ∷ [] })
+    × (with_int_from (with_frames None (Some (inner (int 1 ∷ [])))) (Some (frame 2)) 0 (pos 3) ≡ with_frames None (Some (inner (int 3 ∷ []))))
+ints_of_two_homes_are_set = (refl, refl)
+
+pub some_cells_are_cleared : (cleared_front 1 (int 1 ∷ int 2 ∷ []) ≡ int 0 ∷ int 2 ∷ []) × (cleared 1 1 (int 1 ∷ int 2 ∷ int 3 ∷ []) ≡ int 1 ∷ int 0 ∷ int 3 ∷ [])
+    × (cleared 1 5 (int 1 ∷ int 2 ∷ []) ≡ int 1 ∷ int 0 ∷ [])
+some_cells_are_cleared = (refl, refl, refl)
+
+pub whose_parent_it_is : is_number 0 (Some (frame 0)) ∷ is_number 0 None ∷ is_parent 0 (Some (inner [])) ∷ is_parent 2 (Some (inner [])) ∷ is_parent 0 None ∷ []
+    ≡ true ∷ false ∷ true ∷ false ∷ false ∷ []
+whose_parent_it_is = refl
+
+pub in_which_one_lies : any_in 0 store.frames ∷ any_in 2 store.frames ∷ any_in 0 (Some (outer false) ∷ []) ∷ [] ≡ true ∷ false ∷ false ∷ []
+in_which_one_lies = refl
+
+-- of those that are over only one in which another lies
+pub which_are_kept : (kept_one false (Some (outer true)) ≡ None) × (kept_one true (Some (outer true)) ≡ Some (outer true)) × (kept_one false (Some (outer false)) ≡ Some (outer false))
+    × (kept_one true None ≡ None)
+which_are_kept = (refl, refl, refl, refl)
+
+pub those_that_live : kept 0 (Some (outer true) ∷ None ∷ Some (inner []) ∷ []) ≡ Some (outer true) ∷ None ∷ Some (inner []) ∷ []
+those_that_live = refl
+
+pub it_is_over : (some_over (Some (outer false)) ≡ Some (outer true)) × (some_over None ≡ None)
+it_is_over = (refl, refl)
+
+-- four words and three slots
+pub words_of_a_frame : (frame_words (Some (inner three_cells)) ≡ 7) × (frame_words None ≡ 0)
+words_of_a_frame = (refl, refl)
+
+same_some : {a b : Frame} → Some a ≡ Some b → a ≡ b
+same_some e = cc
+
+-- the one that is over has another in it
+pub settled : IsSettled (Some (outer true) ∷ Some (inner []) ∷ [])
+settled zero x is over = omega arith
+settled (suc zero) x is over = let e : inner [] ≡ x = same_some is in let f : x.over ≡ false = rw (← e) refl in cc
+settled (suc (suc n)) x is over = cc
+
+pub not_settled : IsSettled left_over.frames → ⊥
+not_settled h = let e : 0 < children_of left_over.frames 0 = h 0 (outer true) refl refl in omega (arith, e)
+
+-- ---- the table
+
+pub frames_and_their_words : (at store.frames 0 ∷ at store.frames 1 ∷ at store.frames 5 ∷ [] ≡ Some (outer false) ∷ None ∷ None ∷ []) × (all_words (Some (outer false) ∷ None ∷ []) ≡ 6)
+frames_and_their_words = (refl, refl)

@@ -1,5 +1,6 @@
 pub mod Children
 pub mod Sound
+pub mod Places
 pub mod Stands
 pub mod Clearing
 pub mod Levels

@@ -11,7 +11,7 @@ use Rattle.work_item.specs.declared.table.Live.{Live}
 use Rattle.work_item.specs.Store.{Frame, is_number, is_parent, all_words}
 use Rattle.work_item.specs.Table.{at, children_of}
 use Rattle.work_item.specs.inner.Kept.{IsRooted, LivesIn, frame_of, frames_of, live_at, Counts, IsSound}
-use Rattle.work_item.specs.inner.Kept.{one_more, one_less, with_more, with_less, CanCountMore, CanCountLess, is_over, is_done}
+use Rattle.work_item.specs.inner.Kept.{one_more, one_less, is_over, is_done}
 use Rattle.work_item.proofs.Children.{within, some_of, is_there, other, pushed, one_if, is_its_parent, parent_is_at, children-set, children-push}
 use Rattle.work_item.proofs.Children.{children_same, one_at_least, unborn, words-push, words_same, words_gone, rooted_same, rooted_gone, rooted_made}
 
@@ -34,6 +34,20 @@ live_there lives n l = go (live_at lives n) refl
 
 -- ---- the counts, one more and one less
 
+abbrev pub counted_in : List (Option Live) → Option FrameId → List (Option Live)
+counted_in lives None = lives
+counted_in lives (Some f) = set lives f.number (one_more (live_at lives f.number))
+
+abbrev pub counted_out : List (Option Live) → Option FrameId → List (Option Live)
+counted_out lives None = lives
+counted_out lives (Some f) = set lives f.number (one_less (live_at lives f.number))
+
+abbrev pub CanCountIn : List (Option Live) → Option FrameId → Type 0
+CanCountIn lives parent = IfSome parent (λ f. IsSomeAnd (live_at lives f.number) (λ x. x.children + 1 < 2 ^ 64))
+
+abbrev pub CanCountOut : List (Option Live) → Option FrameId → Type 0
+CanCountOut lives parent = IfSome parent (λ f. IsSomeAnd (live_at lives f.number) (λ x. 0 < x.children))
+
 abbrev LivesAt : List (Option Live) → Option FrameId → Type 0
 LivesAt lives parent = IfSome parent (λ f. IsSome (live_at lives f.number))
 
@@ -55,7 +69,7 @@ alike : (m : ℕ) → one_if (nat_eq m m) ≡ 1
 alike m = ap one_if (eq-eqb m m refl)
 
 pub counts_more : (lives : List (Option Live)) (t u : List (Option Frame)) (p : Option FrameId) → Counts lives t → LivesAt lives p
-    → ((m : ℕ) → children_of u m ≡ children_of t m + one_if (is_number m p)) → Counts (with_more lives p) u
+    → ((m : ℕ) → children_of u m ≡ children_of t m + one_if (is_number m p)) → Counts (counted_in lives p) u
 counts_more lives t u None c l h = λ m z e. omega (arith, c m z e, h m)
 counts_more lives t u (Some f) c l h =
     let x = some_of (live_at lives f.number) l in
@@ -65,7 +79,7 @@ counts_more lives t u (Some f) c l h =
     subst (λ o. Counts (set lives f.number (one_more o)) u) (sym x.1) (counts_at lives t u f.number x.0 (record x.0 { children = x.0.children + 1 }) c x.1 here rest)
 
 pub counts_less : (lives : List (Option Live)) (t u : List (Option Frame)) (p : Option FrameId) → Counts lives t → LivesAt lives p
-    → ((m : ℕ) → children_of u m + one_if (is_number m p) ≡ children_of t m) → Counts (with_less lives p) u
+    → ((m : ℕ) → children_of u m + one_if (is_number m p) ≡ children_of t m) → Counts (counted_out lives p) u
 counts_less lives t u None c l h = λ m z e. omega (arith, c m z e, h m)
 counts_less lives t u (Some f) c l h =
     let x = some_of (live_at lives f.number) l in
@@ -74,7 +88,7 @@ counts_less lives t u (Some f) c l h =
     let rest = (λ (m : ℕ) (ne : f.number ≡ m → ⊥). let a : children_of u m ≡ children_of t m = omega (arith, h m, apart m f.number ne) in a) in
     subst (λ o. Counts (set lives f.number (one_less o)) u) (sym x.1) (counts_at lives t u f.number x.0 (record x.0 { children = x.0.children - 1 }) c x.1 here rest)
 
-same_more : (lives : List (Option Live)) (p : Option FrameId) → frames_of (with_more lives p) ≡ frames_of lives
+same_more : (lives : List (Option Live)) (p : Option FrameId) → frames_of (counted_in lives p) ≡ frames_of lives
 same_more lives None = refl
 same_more lives (Some f) = map-set_same frame_of lives f.number (one_more (live_at lives f.number)) None (go (live_at lives f.number))
   where
@@ -82,7 +96,7 @@ same_more lives (Some f) = map-set_same frame_of lives f.number (one_more (live_
     go None = refl
     go (Some x) = refl
 
-same_less : (lives : List (Option Live)) (p : Option FrameId) → frames_of (with_less lives p) ≡ frames_of lives
+same_less : (lives : List (Option Live)) (p : Option FrameId) → frames_of (counted_out lives p) ≡ frames_of lives
 same_less lives None = refl
 same_less lives (Some f) = map-set_same frame_of lives f.number (one_less (live_at lives f.number)) None (go (live_at lives f.number))
   where
@@ -137,21 +151,21 @@ lives_on lives (Some f) new l =
     is_there (live_at (lives ++ Some new ∷ []) f.number) x.0 (get_or-append lives (Some new ∷ []) None f.number (within lives f.number x.0 x.1) ∙ x.1)
 
 pub sound_made : (lives : List (Option Live)) (words : ℕ) (new : Live) → IsSound lives words → LivesIn (frames_of lives) new.parent → new.children ≡ 0
-    → IsSound (with_more (lives ++ Some new ∷ []) new.parent) (words + (length new.cells.items + 4))
+    → IsSound (counted_in (lives ++ Some new ∷ []) new.parent) (words + (length new.cells.items + 4))
 sound_made lives words new s alive none =
     let fnew : Frame = record { parent = new.parent; cells = new.cells.items; over = new.over } in
     let t = frames_of lives in
-    let frames : frames_of (with_more (lives ++ Some new ∷ []) new.parent) ≡ t ++ Some fnew ∷ [] = same_more (lives ++ Some new ∷ []) new.parent ∙ map-append frame_of lives (Some new ∷ []) in
+    let frames : frames_of (counted_in (lives ++ Some new ∷ []) new.parent) ≡ t ++ Some fnew ∷ [] = same_more (lives ++ Some new ∷ []) new.parent ∙ map-append frame_of lives (Some new ∷ []) in
     let counted = counts_pushed lives t new s.counts s.rooted (length-map lives frame_of) none in
     record {
       rooted = subst IsRooted (sym frames) (rooted_made t fnew s.rooted alive);
-      counts = subst (λ u. Counts (with_more (lives ++ Some new ∷ []) new.parent) u) (sym frames)
+      counts = subst (λ u. Counts (counted_in (lives ++ Some new ∷ []) new.parent) u) (sym frames)
           (counts_more (lives ++ Some new ∷ []) t (t ++ Some fnew ∷ []) new.parent counted (lives_on lives new.parent new alive) (λ m. children-push t (Some fnew) m));
       words_are = ap (λ k. k + (length new.cells.items + 4)) s.words_are ∙ sym (words-push t (Some fnew)) ∙ ap all_words (sym frames);
     }
 
 pub can_more : (lives : List (Option Live)) (words : ℕ) (p : Option FrameId) (new : Live) → IsSound lives words → LivesIn (frames_of lives) p → length lives + 1 < 2 ^ 64
-    → CanCountMore (lives ++ Some new ∷ []) p
+    → CanCountIn (lives ++ Some new ∷ []) p
 can_more lives words None new s alive few = tt
 can_more lives words (Some f) new s alive few =
     let x = live_there lives f.number alive in
@@ -162,7 +176,7 @@ can_more lives words (Some f) new s alive few =
     let small : x.0.children + 1 < 2 ^ 64 = omega (arith, c, le, len, few) in
     subst (λ o. IsSomeAnd o (λ y. y.children + 1 < 2 ^ 64)) (sym e) small
 
-pub same_pushed : (lives : List (Option Live)) (new : Live) (p : Option FrameId) → frames_of (with_more (lives ++ Some new ∷ []) p) ≡ frames_of lives ++ frame_of (Some new) ∷ []
+pub same_pushed : (lives : List (Option Live)) (new : Live) (p : Option FrameId) → frames_of (counted_in (lives ++ Some new ∷ []) p) ≡ frames_of lives ++ frame_of (Some new) ∷ []
 same_pushed lives new p = same_more (lives ++ Some new ∷ []) p ∙ map-append frame_of lives (Some new ∷ [])
 
 -- ---- a frame that is gone
@@ -192,7 +206,7 @@ parent_stays lives words n x (Some f) s e q =
     let some : 0 < y.0.children = omega (arith, one_at_least t n f.number mine, s.counts f.number y.0 y.1) in
     subst (λ o. IsSomeAnd o (λ z. 0 < z.children)) (sym stays) some
 
-pub can_less : (lives : List (Option Live)) (words n : ℕ) (x : Live) → IsSound lives words → live_at lives n ≡ Some x → CanCountLess (set lives n None) x.parent
+pub can_less : (lives : List (Option Live)) (words n : ℕ) (x : Live) → IsSound lives words → live_at lives n ≡ Some x → CanCountOut (set lives n None) x.parent
 can_less lives words n x s e = parent_stays lives words n x x.parent s e refl
 
 some_at : (lives : List (Option Live)) (p : Option FrameId) → IfSome p (λ f. IsSomeAnd (live_at lives f.number) (λ y. 0 < y.children)) → LivesAt lives p
@@ -204,17 +218,17 @@ some_at lives (Some f) h = go (live_at lives f.number) h
     go (Some y) k = refl
 
 pub sound_gone : (lives : List (Option Live)) (words n : ℕ) (x : Live) → IsSound lives words → live_at lives n ≡ Some x → children_of (frames_of lives) n ≡ 0
-    → IsSound (with_less (set lives n None) x.parent) (words - (length x.cells.items + 4))
+    → IsSound (counted_out (set lives n None) x.parent) (words - (length x.cells.items + 4))
 sound_gone lives words n x s e none =
     let fx : Frame = record { parent = x.parent; cells = x.cells.items; over = x.over } in
     let t = frames_of lives in
     let here : at t n ≡ Some fx = frame_is lives n x e in
-    let frames : frames_of (with_less (set lives n None) x.parent) ≡ set t n None = same_less (set lives n None) x.parent ∙ map-set frame_of lives n None in
+    let frames : frames_of (counted_out (set lives n None) x.parent) ≡ set t n None = same_less (set lives n None) x.parent ∙ map-set frame_of lives n None in
     let fewer = (λ (m : ℕ). let a : children_of (set t n None) m + one_if (is_number m x.parent)
     ≡ children_of t m = omega (arith, children-set t n None m (within t n fx here), ap one_if (parent_is_at m (at t n) fx here)) in a) in
     record {
       rooted = subst IsRooted (sym frames) (rooted_gone t n fx s.rooted here none);
-      counts = subst (λ u. Counts (with_less (set lives n None) x.parent) u) (sym frames)
+      counts = subst (λ u. Counts (counted_out (set lives n None) x.parent) u) (sym frames)
           (counts_less (set lives n None) t (set t n None) x.parent (counts_gone lives t n x s.counts e) (some_at (set lives n None) x.parent (can_less lives words n x s e)) fewer);
       words_are = (let a : words - (length x.cells.items + 4) ≡ all_words (set t n None) = omega (arith, words_gone t n fx here, s.words_are) in a) ∙ ap all_words (sym frames);
     }
@@ -223,7 +237,7 @@ pub words_within : (lives : List (Option Live)) (words n : ℕ) (x : Live) → I
 words_within lives words n x s e =
     omega (arith, words_gone (frames_of lives) n (record { parent = x.parent; cells = x.cells.items; over = x.over }) (frame_is lives n x e), s.words_are)
 
-pub same_gone : (lives : List (Option Live)) (n : ℕ) (p : Option FrameId) → frames_of (with_less (set lives n None) p) ≡ set (frames_of lives) n None
+pub same_gone : (lives : List (Option Live)) (n : ℕ) (p : Option FrameId) → frames_of (counted_out (set lives n None) p) ≡ set (frames_of lives) n None
 same_gone lives n p = same_less (set lives n None) p ∙ map-set frame_of lives n None
 
 -- ---- the end of a frame

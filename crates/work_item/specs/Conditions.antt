@@ -1,5 +1,5 @@
 -- What the calls on frames ask for.
-use Rattle.std.specs.Prelude.{◌≡◌, ℕ, zero, suc, ◌+◌, ◌<◌, ◌≤◌, length, Option, Some, None, IsSome, IsSomeAnd, false}
+use Rattle.std.specs.Prelude.{◌≡◌, ℕ, zero, suc, ◌<◌, length, Option, Some, None, IsSome, IsSomeAnd, false}
 use Rattle.work_item.specs.declared.ids.FrameId.{FrameId}
 use Rattle.work_item.specs.Store.{Store, frame_at, cells_of, parent_or}
 
@@ -10,6 +10,11 @@ Lives s f = IsSome (frame_at s f)
 abbrev pub ParentLives : Store → Option FrameId → Type 0
 ParentLives s None = Unit {0}
 ParentLives s (Some f) = Lives s f
+
+-- an array lies in the globals, or in a frame that lives
+abbrev pub HomeLives : Store → Option FrameId → Type 0
+HomeLives s None = Unit {0}
+HomeLives s (Some f) = Lives s f
 
 abbrev pub HasParent : Store → FrameId → Type 0
 HasParent s f = IsSomeAnd (frame_at s f) (λ x. IsSome x.parent)

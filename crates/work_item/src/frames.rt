@@ -1,9 +1,9 @@
 //! The globals of a core and its frames.
 
-ghost use Rattle.std.specs.Prelude.{◌≡◌, ◌+◌, ◌^◌, ◌<◌, ◌≤◌, length, replicate, IfOk, OnOk, OnErr};
+ghost use Rattle.std.specs.Prelude.{◌≡◌, ◌+◌, ◌-◌, ◌^◌, ◌<◌, ◌≤◌, ◌++◌, length, replicate, IfOk, OnOk, OnErr};
 ghost use Rattle.work_item.specs.Store.{above, cell_at, with_cell_at, with_cleared, cells_of, int_at, with_int_at, global_at};
 ghost use Rattle.work_item.specs.Store.{with_global, no_int, no_frames, next_frame, made, released, live_words, int_in};
-ghost use Rattle.work_item.specs.Conditions.{Lives, ParentLives, HasLevel, HasSlot, HasGlobal, IsGoing};
+ghost use Rattle.work_item.specs.Conditions.{Lives, ParentLives, HomeLives, HasLevel, HasSlot, HasGlobal, IsGoing};
 
 use crate::cell::{Cell, Place};
 use crate::ids::FrameId;
@@ -69,26 +69,28 @@ impl Frames {
         ensures ok { OnOk result (self.new ≡ made self.old parent (replicate words no_int)) }
         ensures err { OnErr result (self.new ≡ self.old) }
     {
-        let cells = vec![in self.alloc; Cell::Int(0); words as usize]?;
-        self.make_of(parent, cells)
+        self.make_of(parent, &[], words)
     }
 
-    /// Makes a frame that holds these cells, and gives its number, which is the next one. After want
-    /// of memory all is as before, and the cells are dropped.
+    /// Makes a frame of so many cells, which begin with these and are 0 from there on, and gives its
+    /// number, which is the next one. After want of memory all is as before.
     ///
-    /// Condition: the parent lives, where one is given, and the live words with those of the new
-    /// frame, one for each cell and 4, are below 2^64.
+    /// Condition: the parent lives, where one is given, no more cells are given than the frame has,
+    /// and the live words with those of the new frame, `words` and 4, are below 2^64.
     pub fn make_of(
         &mut self,
         parent: Option<FrameId>,
-        cells: Vec<Cell>,
+        first: &[Cell],
+        words: u32,
     ) -> Result<FrameId, NoMemory>
         requires parent { ParentLives self.old parent }
-        requires words { live_words self.old + (length cells.items + 4) < 2 ^ 64 }
+        requires first { length first.now ≤ words }
+        requires words { live_words self.old + (words + 4) < 2 ^ 64 }
         ensures number { IfOk result (λ f. f ≡ next_frame self.old) }
-        ensures ok { OnOk result (self.new ≡ made self.old parent cells.items) }
+        ensures ok { OnOk result (self.new ≡ made self.old parent (first.now ++ replicate (words - length first.now) no_int)) }
         ensures err { OnErr result (self.new ≡ self.old) }
     {
+        let cells = self.table.cells(self.alloc, first, words)?;
         self.table.push(parent, cells)
     }
 
@@ -145,9 +147,10 @@ impl Frames {
 
     /// An element of an array. One that holds no int, or is not there, reads as 0.
     ///
-    /// Condition: the index is below its length.
+    /// Condition: the frame in which it lies lives, and the index is below its length.
     pub fn read_at(&self, place: Place, index: u32) -> i64
-        requires { index < place.len }
+        requires home { HomeLives self.now place.home }
+        requires index { index < place.len }
         ensures { result ≡ int_at self.now place index }
     {
         let slot = place.start as usize + index as usize;
@@ -167,7 +170,8 @@ impl Frames {
     ///
     /// Condition: as that of `read_at`.
     pub fn write_at(&mut self, place: Place, index: u32, value: i64)
-        requires { index < place.len }
+        requires home { HomeLives self.old place.home }
+        requires index { index < place.len }
         ensures { self.new ≡ with_int_at self.old place index value }
     {
         let slot = place.start as usize + index as usize;

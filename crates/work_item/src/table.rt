@@ -1,11 +1,12 @@
 //! The frames that live, each with the count of those that live in it.
 
-ghost use Rattle.std.specs.Prelude.{◌≡◌, ◌+◌, ◌^◌, ◌<◌, ◌≤◌, [], ◌∷◌, ◌++◌, length};
-ghost use Rattle.std.specs.Prelude.{nat_lt, slice_index_or, slice_set, IsSome, IfOk, OnOk, OnErr, Some, None};
+ghost use Rattle.std.specs.Prelude.{◌≡◌, ℕ, ◌+◌, ◌-◌, ◌^◌, ◌<◌, ◌≤◌, [], ◌∷◌, ◌++◌, length, take, replicate, true};
+ghost use Rattle.std.specs.Prelude.{nat_lt, slice_index_or, slice_set, IsSome, IfSome, IfOk, OnOk, OnErr, Some, None};
 ghost use Rattle.work_item.specs.Store.{all_words, no_cells, no_int, some_with, some_over, cleared, parent_or};
 ghost use Rattle.work_item.specs.Table.{at, children_of};
 ghost use Rattle.work_item.specs.inner.Kept.{parent_at, new_frame, is_done, LivesIn};
 ghost use Rattle.work_item.specs.inner.Kept.{IsRooted, CanCountMore, CanCountLess, with_more, with_less};
+ghost use Rattle.work_item.specs.inner.Kept.{live_at, in_place, place_at};
 
 use crate::cell::Cell;
 use crate::ids::FrameId;
@@ -26,14 +27,24 @@ struct Live {
 // The words of a frame beside its cells.
 const HEAD_WORDS: u64 = 4;
 
-/// The frames of a core, each at its number.
+// How many lists of cells are kept for frames to come, and the most cells that one of them has room for.
+const SPARES: usize = 64;
+
+const SPARE_CELLS: usize = 64;
+
+/// The frames of a core, each at its number. The youngest places are used again once their frames
+/// are gone.
 ///
 /// Contracts see them as a list, in which one that is gone is none.
 #[derive(Drop)]
 pub struct Table {
-    frames: Vec<Option<Live>>,
+    // By number, the place of a frame that lives.
+    places: Vec<Option<u32>>,
+    slots: Vec<Option<Live>>,
     // The words of those that live.
     words: u64,
+    // The lists of cells of frames that are gone, so that a call need not ask for memory.
+    spares: Vec<Vec<Cell>>,
 }
 
 impl Model for Table {
@@ -42,34 +53,113 @@ impl Model for Table {
 
     ghost Value = { List (Option Frame) };
 
-    ghost use Rattle.work_item.specs.inner.Kept.{frames_of, IsSound};
+    ghost use Rattle.work_item.specs.inner.Kept.{frames_of, lives_of, IsKept};
 
-    ghost view = { λ s. frames_of s.frames.items };
+    ghost view = { λ s. frames_of (lives_of s.places.items s.slots.items) };
 
-    ghost invariant = { λ s. IsSound s.frames.items s.words };
+    ghost invariant = { λ s. IsKept s.places.items s.slots.items s.words };
 }
 
-// Counts a frame in at its parent.
-fn count_in(frames: &mut Vec<Option<Live>>, parent: Option<FrameId>)
-    requires { CanCountMore frames.old.items parent }
-    ensures { frames.new.items ≡ with_more frames.old.items parent }
+// Counts a frame in at the place of its parent.
+fn count_in(slots: &mut Vec<Option<Live>>, parent: Option<u32>)
+    requires { CanCountMore slots.old.items parent }
+    ensures { slots.new.items ≡ with_more slots.old.items parent }
 {
-    let Some(parent) = parent else { return };
-    match &mut frames[parent.number as usize] {
+    let Some(place) = parent else { return };
+    match &mut slots[place as usize] {
         Some(live) => live.children += 1,
         None => unreachable!(),
     }
 }
 
-// Counts a frame out at its parent.
-fn count_out(frames: &mut Vec<Option<Live>>, parent: Option<FrameId>)
-    requires { CanCountLess frames.old.items parent }
-    ensures { frames.new.items ≡ with_less frames.old.items parent }
+// Counts a frame out at the place of its parent.
+fn count_out(slots: &mut Vec<Option<Live>>, parent: Option<u32>)
+    requires { CanCountLess slots.old.items parent }
+    ensures { slots.new.items ≡ with_less slots.old.items parent }
 {
-    let Some(parent) = parent else { return };
-    match &mut frames[parent.number as usize] {
+    let Some(place) = parent else { return };
+    match &mut slots[place as usize] {
         Some(live) => live.children -= 1,
         None => unreachable!(),
+    }
+}
+
+// Takes the gaps away that come last.
+fn drop_gaps(slots: &mut Vec<Option<Live>>)
+    ensures { (place : ℕ) → live_at slots.new.items place ≡ live_at slots.old.items place }
+{
+    while ends_in_gap(slots) {
+        let _ = slots.pop();
+    }
+}
+
+fn ends_in_gap(slots: &[Option<Live>]) -> bool
+    ensures { result ≡ true → slots.now ≡ take (length slots.now - 1) slots.now ++ None ∷ [] }
+{
+    match slots {
+        [.., last] => last.is_none(),
+        [] => false,
+    }
+}
+
+// The place of a frame, if it lives.
+fn find_place(places: &Vec<Option<u32>>, frame: FrameId) -> Option<u32>
+    ensures { result ≡ slice_index_or places.now.items frame.number None }
+{
+    let number = frame.number as usize;
+    if number >= places.len() {
+        return None;
+    }
+    places[number]
+}
+
+// The place of a frame that lives.
+fn place_of(places: &Vec<Option<u32>>, frame: FrameId) -> usize
+    requires { IsSome (slice_index_or places.now.items frame.number None) }
+    ensures { slice_index_or places.now.items frame.number None ≡ Some result }
+{
+    match places[frame.number as usize] {
+        Some(place) => place as usize,
+        None => unreachable!(),
+    }
+}
+
+// The place of a frame that lives, where one is given.
+fn place_or_none(places: &Vec<Option<u32>>, frame: Option<FrameId>) -> Option<u32>
+    requires { IfSome frame (λ f. IsSome (slice_index_or places.now.items f.number None)) }
+    ensures { result ≡ place_at places.now.items frame }
+{
+    let Some(frame) = frame else { return None };
+    places[frame.number as usize]
+}
+
+// A frame that lives.
+fn live_of<'a>(places: &Vec<Option<u32>>, slots: &'a Vec<Option<Live>>, frame: FrameId) -> &'a Live
+    requires { IsSome (in_place slots.now.items (slice_index_or places.now.items frame.number None)) }
+    ensures { in_place slots.now.items (slice_index_or places.now.items frame.number None) ≡ Some result.now }
+{
+    match &slots[place_of(places, frame)] {
+        Some(live) => live,
+        None => unreachable!(),
+    }
+}
+
+// So many cells that begin with these, and are 0 from there on.
+fn fill(cells: &mut Vec<Cell>, first: &[Cell], words: usize) -> Result<(), NoMemory>
+    requires { length first.now ≤ words }
+    ensures { OnOk result (cells.new.items ≡ first.now ++ replicate (words - length first.now) no_int) }
+{
+    cells.clear();
+    cells.reserve(words)?;
+    cells.extend_from_slice(first)?;
+    cells.resize(words, Cell::Int(0))?;
+    Ok(())
+}
+
+// Keeps a list of cells for a frame to come, where there is a place for it.
+fn keep(spares: &mut Vec<Vec<Cell>>, cells: Vec<Cell>) {
+    if spares.len() < SPARES && cells.capacity() <= SPARE_CELLS {
+        let _ = spares.push(cells);
     }
 }
 
@@ -89,8 +179,10 @@ impl Table {
         ensures { result ≡ [] }
     {
         Table {
-            frames: Vec::new(alloc),
+            places: Vec::new(alloc),
+            slots: Vec::new(alloc),
             words: 0,
+            spares: Vec::new(alloc),
         }
     }
 
@@ -101,6 +193,25 @@ impl Table {
         self.words
     }
 
+    /// So many cells for a new frame, which begin with these and are 0 from there on.
+    pub fn cells(
+        &mut self,
+        alloc: Global,
+        first: &[Cell],
+        words: u32,
+    ) -> Result<Vec<Cell>, NoMemory>
+        requires { length first.now ≤ words }
+        ensures cells { IfOk result (λ cells. cells.items ≡ first.now ++ replicate (words - length first.now) no_int) }
+        ensures same { self.new ≡ self.old }
+    {
+        let mut cells = match self.spares.pop() {
+            Some(cells) => cells,
+            None => Vec::new(alloc),
+        };
+        fill(&mut cells, first, words as usize)?;
+        Ok(cells)
+    }
+
     /// A new frame under the next number.
     pub fn push(&mut self, parent: Option<FrameId>, cells: Vec<Cell>) -> Result<FrameId, NoMemory>
         requires parent { LivesIn self.old parent }
@@ -109,16 +220,23 @@ impl Table {
         ensures ok { OnOk result (self.new ≡ self.old ++ Some (new_frame parent cells.items) ∷ []) }
         ensures err { OnErr result (self.new ≡ self.old) }
     {
-        let number = self.frames.len() as u64;
+        let number = self.places.len() as u64;
         let words = cells.len() as u64 + HEAD_WORDS;
-        self.frames.push(Some(Live {
+        let place = self.slots.len();
+        if place > u32::MAX as usize {
+            return Err(NoMemory);
+        }
+        let outer = place_or_none(&self.places, parent);
+        self.places.reserve(1)?;
+        self.slots.push(Some(Live {
             parent,
             cells,
             over: false,
             children: 0,
         }))?;
+        self.places.push_reserved(Some(place as u32));
         self.words += words;
-        count_in(&mut self.frames, parent);
+        count_in(&mut self.slots, outer);
         Ok(FrameId { number })
     }
 
@@ -127,12 +245,9 @@ impl Table {
         requires { IsSome (at self.now frame.number) }
         ensures { result ≡ parent_or frame (at self.now frame.number) }
     {
-        match &self.frames[frame.number as usize] {
-            Some(live) => match live.parent {
-                Some(parent) => parent,
-                None => frame,
-            },
-            None => unreachable!(),
+        match live_of(&self.places, &self.slots, frame).parent {
+            Some(parent) => parent,
+            None => frame,
         }
     }
 
@@ -141,28 +256,20 @@ impl Table {
         requires { slot < length (no_cells (at self.now frame.number)) }
         ensures { result ≡ slice_index_or (no_cells (at self.now frame.number)) slot no_int }
     {
-        match &self.frames[frame.number as usize] {
-            Some(live) => live.cells[slot],
-            None => unreachable!(),
-        }
+        live_of(&self.places, &self.slots, frame).cells[slot]
     }
 
-    /// Whether a frame lives and has that cell.
+    /// Whether a frame has that cell.
     pub fn has_cell(&self, frame: FrameId, slot: usize) -> bool
+        requires { IsSome (at self.now frame.number) }
         ensures { result ≡ nat_lt slot (length (no_cells (at self.now frame.number))) }
     {
-        let number = frame.number as usize;
-        if number >= self.frames.len() {
-            return false;
-        }
-        match &self.frames[number] {
-            Some(live) => slot < live.cells.len(),
-            None => false,
-        }
+        slot < live_of(&self.places, &self.slots, frame).cells.len()
     }
 
     /// A cell, and 0 where it is not there.
     pub fn cell_or_zero(&self, frame: FrameId, slot: usize) -> Cell
+        requires { IsSome (at self.now frame.number) }
         ensures { result ≡ slice_index_or (no_cells (at self.now frame.number)) slot no_int }
     {
         if self.has_cell(frame, slot) {
@@ -178,7 +285,7 @@ impl Table {
         ensures { let x = at self.old frame.number in
             self.new ≡ slice_set self.old frame.number (some_with (slice_set (no_cells x) slot cell) x) }
     {
-        match &mut self.frames[frame.number as usize] {
+        match &mut self.slots[place_of(&self.places, frame)] {
             Some(live) => live.cells[slot] = cell,
             None => unreachable!(),
         }
@@ -191,7 +298,7 @@ impl Table {
         ensures { let x = at self.old frame.number in
             self.new ≡ slice_set self.old frame.number (some_with (cleared slot len (no_cells x)) x) }
     {
-        match &mut self.frames[frame.number as usize] {
+        match &mut self.slots[place_of(&self.places, frame)] {
             Some(live) => clear_cells(&mut live.cells, slot, len),
             None => unreachable!(),
         }
@@ -203,7 +310,7 @@ impl Table {
         ensures ended { self.new ≡ slice_set self.old frame.number (some_over (at self.old frame.number)) }
         ensures rooted { IsRooted self.new }
     {
-        match &mut self.frames[frame.number as usize] {
+        match &mut self.slots[place_of(&self.places, frame)] {
             Some(live) => live.over = true,
             None => unreachable!(),
         }
@@ -214,10 +321,8 @@ impl Table {
         requires { IsSome (at self.now frame.number) }
         ensures { result ≡ is_done self.now frame.number }
     {
-        match &self.frames[frame.number as usize] {
-            Some(live) => live.over && live.children == 0,
-            None => unreachable!(),
-        }
+        let live = live_of(&self.places, &self.slots, frame);
+        live.over && live.children == 0
     }
 
     /// Takes a frame away in which none lives, and gives its parent.
@@ -227,11 +332,17 @@ impl Table {
         ensures parent { result ≡ parent_at (at self.old frame.number) }
         ensures gone { self.new ≡ slice_set self.old frame.number None }
     {
-        match self.frames[frame.number as usize].take() {
+        let place = place_of(&self.places, frame);
+        self.places[frame.number as usize] = None;
+        match self.slots[place].take() {
             Some(live) => {
                 self.words -= live.cells.len() as u64 + HEAD_WORDS;
-                count_out(&mut self.frames, live.parent);
-                live.parent
+                let outer = place_or_none(&self.places, live.parent);
+                count_out(&mut self.slots, outer);
+                drop_gaps(&mut self.slots);
+                let parent = live.parent;
+                keep(&mut self.spares, live.cells);
+                parent
             }
             None => unreachable!(),
         }

@@ -1,7 +1,7 @@
 use Rattle.std.proofs.Common.{None, refl, arith}
 use Rattle.ac_program.specs.Lines.{usage_line}
 use Rattle.ac_program.specs.Headline.{IsDue, IsDueOfFile}
-use Rattle.ac_program.specs.Headline.IsDue.{usage, runs}
+use Rattle.ac_program.specs.Headline.IsDue.{usage, call}
 use Rattle.ac_program.proofs.Endings.{whole_of, part_of, whole_as, part_as}
 use Rattle.ac_program.proofs.Statuses.{one_or_eight}
 use Rattle.ac_program.proofs.Reasons.{is_decided, never_stalled}
@@ -25,33 +25,33 @@ returns-in_default-clause-decided g c = λ t. absurd (t.usage (c.refuse.ensures.
 
 pub returns-clause-whole : goal.returns-clause-whole
 returns-clause-whole g c =
-    λ well kept. whole_as (IsDueOfFile c.in-Some.call.file.now c.in-Some.call.steps _ _) (IsDue _ _ _)
-    (λ n t run due. runs c.in-Some.call.file.now c.in-Some.call.steps c.in-Some.ensures.call due)
-    c.run_file.result.run _ _ c.run_file.result.status.number (c.run_file.ensures.whole well kept)
+    λ well kept. whole_as (IsDueOfFile c.in-Some.call.file.now c.in-Some.call.task _ _) (IsDue _ _ _)
+    (λ n t run due. call c.in-Some.call.task c.in-Some.call.file.now c.in-Some.ensures.call due)
+    c.do_file.result.run _ _ c.do_file.result.status.number (c.do_file.ensures.whole well kept)
 
 pub returns-clause-part : goal.returns-clause-part
 returns-clause-part g c =
-    λ failed. part_as (IsDueOfFile c.in-Some.call.file.now c.in-Some.call.steps _ _) (IsDue _ _ _)
-    (λ n t run due. runs c.in-Some.call.file.now c.in-Some.call.steps c.in-Some.ensures.call due)
-    c.run_file.result.run _ _ (c.run_file.ensures.part failed)
+    λ failed. part_as (IsDueOfFile c.in-Some.call.file.now c.in-Some.call.task _ _) (IsDue _ _ _)
+    (λ n t run due. call c.in-Some.call.task c.in-Some.call.file.now c.in-Some.ensures.call due)
+    c.do_file.result.run _ _ (c.do_file.ensures.part failed)
 
 pub returns-clause-memory : goal.returns-clause-memory
 returns-clause-memory g c = λ refused. record {
+  task = c.in-Some.call.task;
   file = c.in-Some.call.file.now;
-  steps = c.in-Some.call.steps;
   is_call = c.in-Some.ensures.call;
-  is_read = record { just = c.run_file.ensures.just; well = c.run_file.ensures.library.only (λ e. omega (arith, refused, e)) (λ e. omega (arith, refused, e)) };
-  no_run = c.run_file.ensures.no_run refused;
-  nothing = c.run_file.ensures.memory refused;
+  is_read = record { just = c.do_file.ensures.just; well = c.do_file.ensures.library.only (λ e. omega (arith, refused, e)) (λ e. omega (arith, refused, e)) };
+  no_run = c.do_file.ensures.no_run refused;
+  nothing = c.do_file.ensures.memory refused;
 }
 
 pub returns-clause-usage : goal.returns-clause-usage
-returns-clause-usage g c = record { told = λ is. absurd (c.run_file.ensures.other is); only = λ none. absurd (none c.in-Some.call.file.now c.in-Some.call.steps c.in-Some.ensures.call) }
+returns-clause-usage g c = record { told = λ is. absurd (c.do_file.ensures.other is); only = λ none. absurd (none c.in-Some.call.task c.in-Some.call.file.now c.in-Some.ensures.call) }
 
 pub returns-clause-decided : goal.returns-clause-decided
 returns-clause-decided g c =
-    λ t. is_decided _ c.in-Some.call.file.now c.in-Some.call.steps _ _ c.run_file.result.status.number c.run_file.result.run _ _
-    c.in-Some.ensures.call c.run_file.ensures.whole c.in-Some.ensures.only t
+    λ t. is_decided _ c.in-Some.call.task c.in-Some.call.file.now _ _ c.do_file.result.status.number c.do_file.result.run _ _
+    c.in-Some.ensures.call c.do_file.ensures.whole c.in-Some.ensures.only t
 
 pub returns-clause-no_stall : goal.returns-clause-no_stall
-returns-clause-no_stall g c = never_stalled _ c.in-Some.call.file.now c.in-Some.call.steps _ _ c.run_file.result.status.number c.run_file.result.run _ _ c.in-Some.ensures.call c.run_file.ensures.whole
+returns-clause-no_stall g c = never_stalled _ c.in-Some.call.task c.in-Some.call.file.now _ _ c.do_file.result.status.number c.do_file.result.run _ _ c.in-Some.ensures.call c.do_file.ensures.whole

@@ -10,12 +10,12 @@ use Rattle.ac_types.specs.declared.fault.CheckFault.TheVariants as c
 use Rattle.ac_tree.specs.declared.item.Program.{Program}
 use Rattle.ac_tree.specs.Shape.{HasShape}
 use Rattle.ac_tree.specs.Weight.{IsSmall}
-use Rattle.stack_code.specs.Parts.{Parts}
 use Rattle.ac_program.specs.declared.execute.Done.{Done}
 use Rattle.ac_program.specs.declared.refusal.Refusal.TheVariants as r
 use Rattle.ac_program.specs.declared.refusal.Stop.{Stop}
 use Rattle.ac_program.specs.declared.refusal.Stop.TheVariants as s
-use Rattle.ac_program.specs.Source.{HasTokens, IsSpelled, IsAccepted, IsBuilt, Refuses}
+use Rattle.ac_program.specs.declared.words.Task.{Task}
+use Rattle.ac_program.specs.Source.{HasTokens, IsSpelled, IsAccepted, IsReady, Refuses}
 use Rattle.ac_program.specs.Making.{IsDone}
 
 -- ---- why work stops, by the fault that stops it
@@ -40,27 +40,28 @@ check_stop c.NoMemory = s.NoMemory
 -- ---- what each part gives
 
 -- why work on a source stops, where memory was not refused
-abbrev pub Stops : List ℕ → ℕ → Stop → Type 0
-Stops source bound (s.Refused refusal) = Refuses source bound refusal
-Stops source bound s.NoMemory = Unit {0}
+abbrev pub Stops : List ℕ → Task → Stop → Type 0
+Stops source task (s.Refused refusal) = Refuses source task refusal
+Stops source task s.NoMemory = Unit {0}
 
-abbrev pub GivesTokens : List ℕ → ℕ → Result (List Token) Stop → Type 0
-GivesTokens source bound (Ok tokens) = HasTokens source tokens × (length tokens ≤ length source)
-GivesTokens source bound (Err stop) = Stops source bound stop
+abbrev pub GivesTokens : List ℕ → Task → Result (List Token) Stop → Type 0
+GivesTokens source task (Ok tokens) = HasTokens source tokens × (length tokens ≤ length source)
+GivesTokens source task (Err stop) = Stops source task stop
 
-abbrev pub GivesProgram : List ℕ → ℕ → Result Program Stop → Type 0
-GivesProgram source bound (Ok program) = IsSpelled source program × IsSmall program × HasShape program
-GivesProgram source bound (Err stop) = Stops source bound stop
+abbrev pub GivesProgram : List ℕ → Task → Result Program Stop → Type 0
+GivesProgram source task (Ok program) = IsSpelled source program × IsSmall program × HasShape program
+GivesProgram source task (Err stop) = Stops source task stop
 
-abbrev pub GivesChecked : List ℕ → ℕ → Result Program Stop → Type 0
-GivesChecked source bound (Ok program) = IsAccepted source program
-GivesChecked source bound (Err stop) = Stops source bound stop
+abbrev pub GivesChecked : List ℕ → Task → Result Program Stop → Type 0
+GivesChecked source task (Ok program) = IsAccepted source program
+GivesChecked source task (Err stop) = Stops source task stop
 
-abbrev pub GivesCode : List ℕ → ℕ → Result Parts Stop → Type 0
-GivesCode source bound (Ok code) = IsBuilt source bound code
-GivesCode source bound (Err stop) = Stops source bound stop
+-- the program, where nothing refuses it for the task
+abbrev pub GivesReady : List ℕ → Task → Result Program Stop → Type 0
+GivesReady source task (Ok program) = IsReady source task program
+GivesReady source task (Err stop) = Stops source task stop
 
--- what work on a source gives: what is made of it, or why it stops
-abbrev pub GivesDone : List ℕ → ℕ → Result Done Stop → Type 0
-GivesDone source bound (Ok done) = IsDone source bound done
-GivesDone source bound (Err stop) = Stops source bound stop
+-- what work on a source gives in the end: what the task makes of it, or why it stops
+abbrev pub GivesDone : List ℕ → Task → Result Done Stop → Type 0
+GivesDone source task (Ok done) = IsDone source task done
+GivesDone source task (Err stop) = Stops source task stop

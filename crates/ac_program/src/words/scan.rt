@@ -1,11 +1,11 @@
 //! The words after a command, read one after another.
 
 ghost use Rattle.std.specs.Prelude.{◌≡◌, ◌↔◌, ℕ, List, [], ◌∷◌, map, string_bytes, IfSome, IsNone, None};
+ghost use Rattle.std.specs.declared.option.Option.{Option};
 ghost use Rattle.std.specs.Option.{option_copied};
 ghost use Rattle.ac_program.specs.inner.Scanning.{Completes, CompletesAny, IsKind};
 
 use super::bound::read_bound;
-use super::{Call, USUAL_STEPS};
 
 /// What the next word may be: an operand or an option, the value of an option, or an operand alone.
 #[derive(Clone, Copy)]
@@ -13,6 +13,13 @@ pub enum Next {
     Any,
     Value,
     Operand,
+}
+
+/// What the words after a command give: one operand, and a bound on steps, if there is one.
+#[derive(Clone, Copy)]
+pub struct Arguments<'a> {
+    pub file: &'a str,
+    pub steps: Option<u32>,
 }
 
 /// What a word is where options may stand.
@@ -38,12 +45,14 @@ pub struct Scan<'a> {
     pub steps: Option<u32>,
 }
 
-/// Reads the words after the command `run`. It gives none exactly where they form no call.
-pub fn read_arguments(words: &[String]) -> Option<Call<'_>>
-    ensures usage { IsNone result → (file : List ℕ) (steps : ℕ) → CompletesAny None None (map string_bytes words.now) file steps → ⊥ }
-    ensures call { IfSome result (λ call. CompletesAny None None (map string_bytes words.now) call.file.now call.steps) }
-    ensures only { IfSome result (λ call. (file : List ℕ) (steps : ℕ) → CompletesAny None None (map string_bytes words.now) file steps
-        → (file ≡ call.file.now) × (steps ≡ call.steps)) }
+/// Reads the words after a command. It gives none exactly where they are not one operand and at most
+/// one bound on steps.
+pub fn read_arguments(words: &[String]) -> Option<Arguments<'_>>
+    ensures usage { IsNone result → (file : List ℕ) (given : Option ℕ)
+        → CompletesAny None None (map string_bytes words.now) file given → ⊥ }
+    ensures call { IfSome result (λ found. CompletesAny None None (map string_bytes words.now) found.file.now found.steps) }
+    ensures only { IfSome result (λ found. (file : List ℕ) (given : Option ℕ)
+        → CompletesAny None None (map string_bytes words.now) file given → (file ≡ found.file.now) × (given ≡ found.steps)) }
 {
     let mut scan = Scan {
         next: Next::Any,
@@ -57,10 +66,10 @@ pub fn read_arguments(words: &[String]) -> Option<Call<'_>>
 }
 
 fn take_word<'a>(scan: Scan<'a>, word: &'a str) -> Option<Scan<'a>>
-    ensures refused { IsNone result → (words : List (List ℕ)) (file : List ℕ) (steps : ℕ)
-        → Completes scan.entry (word.now ∷ words) file steps → ⊥ }
-    ensures taken { IfSome result (λ after. (words : List (List ℕ)) (file : List ℕ) (steps : ℕ)
-        → Completes scan.entry (word.now ∷ words) file steps ↔ Completes after words file steps) }
+    ensures refused { IsNone result → (words : List (List ℕ)) (file : List ℕ) (given : Option ℕ)
+        → Completes scan.entry (word.now ∷ words) file given → ⊥ }
+    ensures taken { IfSome result (λ after. (words : List (List ℕ)) (file : List ℕ) (given : Option ℕ)
+        → Completes scan.entry (word.now ∷ words) file given ↔ Completes after words file given) }
 {
     match scan.next {
         Next::Any => take_any(scan, word),
@@ -86,10 +95,10 @@ fn take_word<'a>(scan: Scan<'a>, word: &'a str) -> Option<Scan<'a>>
 }
 
 fn take_any<'a>(scan: Scan<'a>, word: &'a str) -> Option<Scan<'a>>
-    ensures refused { IsNone result → (words : List (List ℕ)) (file : List ℕ) (steps : ℕ)
-        → CompletesAny (option_copied scan.entry.file) scan.entry.steps (word.now ∷ words) file steps → ⊥ }
-    ensures taken { IfSome result (λ after. (words : List (List ℕ)) (file : List ℕ) (steps : ℕ)
-        → CompletesAny (option_copied scan.entry.file) scan.entry.steps (word.now ∷ words) file steps ↔ Completes after words file steps) }
+    ensures refused { IsNone result → (words : List (List ℕ)) (file : List ℕ) (given : Option ℕ)
+        → CompletesAny (option_copied scan.entry.file) scan.entry.steps (word.now ∷ words) file given → ⊥ }
+    ensures taken { IfSome result (λ after. (words : List (List ℕ)) (file : List ℕ) (given : Option ℕ)
+        → CompletesAny (option_copied scan.entry.file) scan.entry.steps (word.now ∷ words) file given ↔ Completes after words file given) }
 {
     match kind_of(word) {
         Kind::Plain if scan.file.is_none() => Some(Scan {
@@ -134,19 +143,19 @@ fn kind_of(word: &str) -> Kind<'_>
     }
 }
 
-// The call that is formed where no word is left.
-fn finish(scan: Scan<'_>) -> Option<Call<'_>>
-    ensures refused { IsNone result → (file : List ℕ) (steps : ℕ) → Completes scan.entry [] file steps → ⊥ }
-    ensures call { IfSome result (λ call. Completes scan.entry [] call.file.now call.steps) }
-    ensures only { IfSome result (λ call. (file : List ℕ) (steps : ℕ) → Completes scan.entry [] file steps
-        → (file ≡ call.file.now) × (steps ≡ call.steps)) }
+// What is given where no word is left.
+fn finish(scan: Scan<'_>) -> Option<Arguments<'_>>
+    ensures refused { IsNone result → (file : List ℕ) (given : Option ℕ) → Completes scan.entry [] file given → ⊥ }
+    ensures call { IfSome result (λ found. Completes scan.entry [] found.file.now found.steps) }
+    ensures only { IfSome result (λ found. (file : List ℕ) (given : Option ℕ) → Completes scan.entry [] file given
+        → (file ≡ found.file.now) × (given ≡ found.steps)) }
 {
     match (scan.next, scan.file) {
         (Next::Value, _) => None,
         (_, None) => None,
-        (_, Some(file)) => Some(Call {
+        (_, Some(file)) => Some(Arguments {
             file,
-            steps: scan.steps.unwrap_or(USUAL_STEPS),
+            steps: scan.steps,
         }),
     }
 }

@@ -5,7 +5,7 @@ use Rattle.work_item.specs.declared.ids.Item.{Item}
 use Rattle.work_item.specs.declared.ids.BlockId.{BlockId}
 use Rattle.work_item.specs.declared.cell.Cell.{Cell}
 use Rattle.work_item.specs.Store.{above, cells_of}
-use Rattle.work_item.specs.Conditions.{Lives, HasLevel, HasSlot, HasGlobal, IsGoing}
+use Rattle.work_item.specs.Conditions.{Lives, HomeLives, HasLevel, HasSlot, HasGlobal, IsGoing}
 use Rattle.core_state.specs.Frames.{arguments}
 use Rattle.stack_code.specs.declared.instr.Instr.{Instr}
 use Rattle.stack_code.specs.declared.instr.Instr.TheVariants as i
@@ -31,6 +31,10 @@ abbrev pub HasArray : Flat → Type 0
 HasArray m =
     Stand (is_int ∷ is_reference ∷ []) m.current.operands
     × ((second_place m.current.operands).start + (second_place m.current.operands).len < 2 ^ 32)
+
+-- and its frame lives
+abbrev pub HasElement : Flat → Type 0
+HasElement m = HasArray m × HomeLives m.store (second_place m.current.operands).home
 
 -- a function, its arguments on top, each of the kind of its parameter, and a slot for each
 pub record HasCall (code : Parts) (operands : List Cell) (number count : ℕ) : Type 0 where
@@ -95,8 +99,8 @@ Finds code m (i.Store level slot) = HasCell m level slot × HasInt m
 Finds code m (i.StoreG slot) = HasGlobal m.store slot × HasInt m
 Finds code m (i.Arr level slot len) = HasLevel m.store m.current.frame level
 Finds code m (i.ArrG slot len) = Unit {0}
-Finds code m i.Elem = HasArray m
-Finds code m i.SetElem = HasArray m × Stand (is_int ∷ is_reference ∷ is_int ∷ []) m.current.operands
+Finds code m i.Elem = HasElement m
+Finds code m i.SetElem = HasElement m × Stand (is_int ∷ is_reference ∷ is_int ∷ []) m.current.operands
 Finds code m i.Place = HasArray m
 Finds code m (i.Clear slot len) = Lives m.store m.current.frame × (slot + len ≤ length (cells_of m.store m.current.frame))
 Finds code m i.Neg = HasInt m

@@ -1,5 +1,6 @@
 //! Small codes.
 
+use super::written::written;
 use ac_base::{Bytes, List, Name, NoMemory};
 use stack_code::{ChannelEnds, Code, Entered, Instr, Start};
 use std::alloc::Global;
@@ -106,44 +107,34 @@ pub enum Whose {
     Second,
 }
 
-const RETURNS_ITS_INT: [Instr; 2] = [Instr::Load { level: 0, slot: 0 }, Instr::Ret];
+const RETURNS_ITS_INT: &str = "Load 0 0, Ret";
 
-const CALLS_THE_SECOND: [Instr; 4] = [
-    Instr::Push(1),
-    Instr::Arr {
-        level: 0,
-        slot: 0,
-        len: 2,
-    },
-    Instr::Call {
-        function: 1,
-        count: 2,
-    },
-    Instr::Ret,
-];
+const CALLS_THE_SECOND: &str = "Push 1, Arr 0 0 2, Call 1 2, Ret";
 
-fn may_have(alloc: Global, whose: Whose, body: &[Instr]) -> Result<bool, NoMemory> {
+/// Whether that function may have the body that is written so; none where it is not well written.
+fn may_have(alloc: Global, whose: Whose, body: &str) -> Result<Option<bool>, NoMemory> {
     let (other, first, second) = match whose {
-        Whose::First => (RETURNS_ITS_INT.as_slice(), 2, 0),
-        Whose::Second => (CALLS_THE_SECOND.as_slice(), 0, 4),
+        Whose::First => (RETURNS_ITS_INT, 2, 0),
+        Whose::Second => (CALLS_THE_SECOND, 0, 4),
     };
-    let mut instrs = Vec::from_slice(alloc, other)?;
-    for instr in body {
-        instrs.push(*instr)?;
+    let mut instrs = Vec::new(alloc);
+    if !written(&mut instrs, other)? || !written(&mut instrs, body)? {
+        return Ok(None);
     }
     let code = code_with(alloc, &USUAL, instrs.as_slice(), first, second)?;
-    Ok(code.is_some())
+    Ok(Some(code.is_some()))
 }
 
 /// The first of these cases in which that function may have the body and is said not to, or the
-/// other way round. One place calls for all tables, since each place is proved on its own.
+/// other way round, or in which the body is not well written. One place calls for all tables, since
+/// each place is proved on its own.
 pub fn first_wrong(
     alloc: Global,
     whose: Whose,
-    cases: &[(&[Instr], bool)],
+    cases: &[(&str, bool)],
 ) -> Result<Option<usize>, NoMemory> {
     for (at, (body, valid)) in cases.iter().enumerate() {
-        if may_have(alloc, whose, body)? != *valid {
+        if may_have(alloc, whose, body)? != Some(*valid) {
             return Ok(Some(at));
         }
     }

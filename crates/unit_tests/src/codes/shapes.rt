@@ -1,48 +1,31 @@
 //! Operands, blocks and bodies.
 
 use super::parts::{Whose, first_wrong};
-use stack_code::Instr;
-use stack_code::Instr::{
-    Add, Arr, ArrG, Async, Call, Cancel, Drop, Elem, End, Enter, Finish, Place, Print, Push, Read,
-    Recv, Ret, Send, SetElem, Write, Yield,
-};
 use std::test::Fail;
 
-const ONE: Instr = Arr {
-    level: 0,
-    slot: 0,
-    len: 1,
-};
-
-const TWO: Instr = Arr {
-    level: 0,
-    slot: 0,
-    len: 2,
-};
-
-static OPERANDS: [(&[Instr], bool); 22] = [
-    (&[Push(1), Ret], true),
-    (&[Ret], false),
-    (&[Push(1), Push(1), Ret], false),
-    (&[ONE, Ret], false),
-    (&[Push(1), Push(2), Add, Ret], true),
-    (&[Push(1), Add, Ret], false),
-    (&[ONE, Push(1), Add, Ret], false),
-    (&[TWO, Push(0), Elem, Ret], true),
-    (&[Push(0), TWO, Elem, Ret], false),
-    (&[Push(7), TWO, Push(0), SetElem, Push(1), Ret], true),
-    (&[TWO, Push(0), Push(7), SetElem, Push(1), Ret], false),
-    (&[ONE, Drop, Push(1), Ret], true),
-    (&[Drop, Push(1), Ret], false),
-    (&[ONE, Recv { channel: 0 }, Ret], true),
-    (&[TWO, Recv { channel: 0 }, Ret], false),
-    (&[TWO, Push(1), Place, Recv { channel: 0 }, Ret], true),
-    (&[ArrG { slot: 2, len: 1 }, Recv { channel: 0 }, Ret], true),
-    (&[Push(1), Send { channel: 0 }, Ret], true),
-    (&[ONE, Send { channel: 0 }, Ret], false),
-    (&[Push(0), Push(2), TWO, Read { file: 15 }, Ret], true),
-    (&[TWO, Push(0), Push(2), Write { file: 0 }, Ret], false),
-    (&[Push(0), Yield, Ret], true),
+static OPERANDS: [(&str, bool); 22] = [
+    ("Push 1, Ret", true),
+    ("Ret", false),
+    ("Push 1, Push 1, Ret", false),
+    ("Arr 0 0 1, Ret", false),
+    ("Push 1, Push 2, Add, Ret", true),
+    ("Push 1, Add, Ret", false),
+    ("Arr 0 0 1, Push 1, Add, Ret", false),
+    ("Arr 0 0 2, Push 0, Elem, Ret", true),
+    ("Push 0, Arr 0 0 2, Elem, Ret", false),
+    ("Push 7, Arr 0 0 2, Push 0, SetElem, Push 1, Ret", true),
+    ("Arr 0 0 2, Push 0, Push 7, SetElem, Push 1, Ret", false),
+    ("Arr 0 0 1, Drop, Push 1, Ret", true),
+    ("Drop, Push 1, Ret", false),
+    ("Arr 0 0 1, Recv 0, Ret", true),
+    ("Arr 0 0 2, Recv 0, Ret", false),
+    ("Arr 0 0 2, Push 1, Place, Recv 0, Ret", true),
+    ("ArrG 2 1, Recv 0, Ret", true),
+    ("Push 1, Send 0, Ret", true),
+    ("Arr 0 0 1, Send 0, Ret", false),
+    ("Push 0, Push 2, Arr 0 0 2, Read 15, Ret", true),
+    ("Arr 0 0 2, Push 0, Push 2, Write 0, Ret", false),
+    ("Push 0, Yield, Ret", true),
 ];
 
 #[test]
@@ -52,75 +35,19 @@ fn operands_are_of_the_kinds_that_are_asked_for(rt: HostRuntime) -> Result<(), F
     Ok(())
 }
 
-static RANGES: [(&[Instr], bool); 12] = [
-    (
-        &[
-            Push(1),
-            TWO,
-            Call {
-                function: 1,
-                count: 2,
-            },
-            Ret,
-        ],
-        true,
-    ),
-    (
-        &[
-            TWO,
-            Push(1),
-            Call {
-                function: 1,
-                count: 2,
-            },
-            Ret,
-        ],
-        false,
-    ),
-    (
-        &[
-            Push(1),
-            Push(1),
-            Call {
-                function: 1,
-                count: 2,
-            },
-            Ret,
-        ],
-        false,
-    ),
-    (
-        &[
-            Push(1),
-            TWO,
-            Call {
-                function: 1,
-                count: 1,
-            },
-            Ret,
-        ],
-        false,
-    ),
-    (
-        &[
-            Call {
-                function: 2,
-                count: 0,
-            },
-            Ret,
-        ],
-        false,
-    ),
-    (
-        &[Push(1), Push(2), Print { text: 0, count: 2 }, Push(0), Ret],
-        true,
-    ),
-    (&[Push(1), Print { text: 0, count: 1 }, Push(0), Ret], false),
-    (&[Print { text: 1, count: 0 }, Push(0), Ret], true),
-    (&[Print { text: 2, count: 0 }, Push(0), Ret], false),
-    (&[Push(1), Send { channel: 1 }, Ret], false),
-    (&[ONE, Recv { channel: 1 }, Ret], false),
-    (&[Push(0), Push(2), TWO, Read { file: 16 }, Ret], false),
+static RANGES: [(&str, bool); 12] = [
+    ("Push 1, Arr 0 0 2, Call 1 2, Ret", true),
+    ("Arr 0 0 2, Push 1, Call 1 2, Ret", false),
+    ("Push 1, Push 1, Call 1 2, Ret", false),
+    ("Push 1, Arr 0 0 2, Call 1 1, Ret", false),
+    ("Call 2 0, Ret", false),
+    ("Push 1, Push 2, Print 0 2, Push 0, Ret", true),
+    ("Push 1, Print 0 1, Push 0, Ret", false),
+    ("Print 1 0, Push 0, Ret", true),
+    ("Print 2 0, Push 0, Ret", false),
+    ("Push 1, Send 1, Ret", false),
+    ("Arr 0 0 1, Recv 1, Ret", false),
+    ("Push 0, Push 2, Arr 0 0 2, Read 16, Ret", false),
 ];
 
 #[test]
@@ -130,42 +57,15 @@ fn what_is_named_is_in_range(rt: HostRuntime) -> Result<(), Fail> {
     Ok(())
 }
 
-const INTO: Instr = Enter { slot: 0 };
-
-const OUT: Instr = Finish { slot: 0 };
-
-static BLOCKS: [(&[Instr], bool); 8] = [
-    (&[INTO, OUT, Push(0), Ret], true),
-    (&[OUT, Push(0), Ret], false),
-    (&[INTO, Push(0), Ret], false),
-    (&[INTO, INTO, OUT, OUT, Push(0), Ret], false),
-    (
-        &[
-            INTO,
-            Enter { slot: 1 },
-            Finish { slot: 1 },
-            OUT,
-            Push(0),
-            Ret,
-        ],
-        true,
-    ),
-    (
-        &[
-            INTO,
-            Enter { slot: 1 },
-            OUT,
-            Finish { slot: 1 },
-            Push(0),
-            Ret,
-        ],
-        false,
-    ),
-    (
-        &[INTO, Cancel { level: 0, slot: 0 }, OUT, Push(0), Ret],
-        true,
-    ),
-    (&[Cancel { level: 0, slot: 0 }, Push(0), Ret], false),
+static BLOCKS: [(&str, bool); 8] = [
+    ("Enter 0, Finish 0, Push 0, Ret", true),
+    ("Finish 0, Push 0, Ret", false),
+    ("Enter 0, Push 0, Ret", false),
+    ("Enter 0, Enter 0, Finish 0, Finish 0, Push 0, Ret", false),
+    ("Enter 0, Enter 1, Finish 1, Finish 0, Push 0, Ret", true),
+    ("Enter 0, Enter 1, Finish 0, Finish 1, Push 0, Ret", false),
+    ("Enter 0, Cancel 0 0, Finish 0, Push 0, Ret", true),
+    ("Cancel 0 0, Push 0, Ret", false),
 ];
 
 #[test]
@@ -176,92 +76,37 @@ fn blocks_lie_in_one_another(rt: HostRuntime) -> Result<(), Fail> {
 }
 
 // The body of an `Async` begins at address 4, and its creator goes on behind it.
-static BODIES: [(&[Instr], bool); 11] = [
+static BODIES: [(&str, bool); 11] = [
+    ("Enter 0, Async 1 5, End, Finish 0, Push 0, Ret", true),
+    ("Async 1 4, End, Push 0, Ret", false),
+    ("Enter 0, Push 1, Async 1 6, End, Finish 0, Ret", false),
+    ("End", false),
     (
-        &[INTO, Async { slots: 1, to: 5 }, End, OUT, Push(0), Ret],
-        true,
-    ),
-    (&[Async { slots: 1, to: 4 }, End, Push(0), Ret], false),
-    (
-        &[INTO, Push(1), Async { slots: 1, to: 6 }, End, OUT, Ret],
-        false,
-    ),
-    (&[End], false),
-    (
-        &[
-            INTO,
-            Async { slots: 1, to: 6 },
-            Push(1),
-            End,
-            OUT,
-            Push(0),
-            Ret,
-        ],
+        "Enter 0, Async 1 6, Push 1, End, Finish 0, Push 0, Ret",
         false,
     ),
     (
-        &[
-            INTO,
-            Async { slots: 1, to: 6 },
-            INTO,
-            End,
-            OUT,
-            Push(0),
-            Ret,
-        ],
+        "Enter 0, Async 1 6, Enter 0, End, Finish 0, Push 0, Ret",
         false,
     ),
     (
-        &[
-            INTO,
-            Async { slots: 1, to: 7 },
-            INTO,
-            OUT,
-            End,
-            OUT,
-            Push(0),
-            Ret,
-        ],
+        "Enter 0, Async 1 7, Enter 0, Finish 0, End, Finish 0, Push 0, Ret",
         true,
     ),
     (
-        &[INTO, Async { slots: 1, to: 6 }, OUT, End, OUT, Push(0), Ret],
+        "Enter 0, Async 1 6, Finish 0, End, Finish 0, Push 0, Ret",
         false,
     ),
     (
-        &[
-            INTO,
-            Async { slots: 1, to: 6 },
-            Push(0),
-            Ret,
-            OUT,
-            Push(0),
-            Ret,
-        ],
+        "Enter 0, Async 1 6, Push 0, Ret, Finish 0, Push 0, Ret",
         false,
     ),
     (
-        &[
-            INTO,
-            Async { slots: 0, to: 6 },
-            Cancel { level: 1, slot: 0 },
-            End,
-            OUT,
-            Push(0),
-            Ret,
-        ],
+        "Enter 0, Async 0 6, Cancel 1 0, End, Finish 0, Push 0, Ret",
         true,
     ),
     (
-        &[
-            INTO,
-            Async { slots: 1, to: 6 },
-            Cancel { level: 0, slot: 0 },
-            End,
-            OUT,
-            Push(0),
-            Ret,
-        ],
+        "Enter 0, Async 1 6, Cancel 0 0, End, Finish 0, Push 0, Ret",
         false,
     ),
 ];

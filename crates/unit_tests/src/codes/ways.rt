@@ -1,84 +1,31 @@
 //! Ways through a code.
 
 use super::parts::{Whose, first_wrong};
-use stack_code::Instr;
-use stack_code::Instr::{
-    Arr, Async, Call, Drop, End, Enter, Finish, Jnz, Jump, Jz, Load, Push, Ret, Step,
-};
 use std::test::Fail;
 
-static WAYS: [(&[Instr], bool); 10] = [
-    (&[Push(0)], false),
-    (&[Jump { to: 9 }], false),
-    (&[Push(1), Jz { to: 5 }, Step, Push(0), Ret], true),
-    (&[Push(1), Jz { to: 5 }, Push(0), Push(0), Ret], false),
-    (&[Push(1), Jnz { to: 5 }, Push(0), Push(0), Ret], false),
+static WAYS: [(&str, bool); 10] = [
+    ("Push 0", false),
+    ("Jump 9", false),
+    ("Push 1, Jz 5, Step, Push 0, Ret", true),
+    ("Push 1, Jz 5, Push 0, Push 0, Ret", false),
+    ("Push 1, Jnz 5, Push 0, Push 0, Ret", false),
     // References of one element and of two are not the same.
     (
-        &[
-            Push(1),
-            Jz { to: 6 },
-            Arr {
-                level: 0,
-                slot: 0,
-                len: 1,
-            },
-            Jump { to: 7 },
-            Arr {
-                level: 0,
-                slot: 0,
-                len: 2,
-            },
-            Drop,
-            Push(0),
-            Ret,
-        ],
+        "Push 1, Jz 6, Arr 0 0 1, Jump 7, Arr 0 0 2, Drop, Push 0, Ret",
         false,
     ),
     (
-        &[
-            Push(1),
-            Jz { to: 6 },
-            Arr {
-                level: 0,
-                slot: 0,
-                len: 3,
-            },
-            Jump { to: 7 },
-            Arr {
-                level: 0,
-                slot: 0,
-                len: 2,
-            },
-            Drop,
-            Push(0),
-            Ret,
-        ],
+        "Push 1, Jz 6, Arr 0 0 3, Jump 7, Arr 0 0 2, Drop, Push 0, Ret",
         true,
     ),
     // A jump into the other function, which is called as well, and which is not.
     (
-        &[
-            Push(1),
-            Jz { to: 8 },
-            Push(1),
-            Arr {
-                level: 0,
-                slot: 0,
-                len: 2,
-            },
-            Call {
-                function: 1,
-                count: 2,
-            },
-            Ret,
-            Jump { to: 0 },
-        ],
+        "Push 1, Jz 8, Push 1, Arr 0 0 2, Call 1 2, Ret, Jump 0",
         false,
     ),
-    (&[Jump { to: 0 }], true),
+    ("Jump 0", true),
     // What is not reached has no say.
-    (&[Jump { to: 4 }, Drop, Push(0), Ret], true),
+    ("Jump 4, Drop, Push 0, Ret", true),
 ];
 
 #[test]
@@ -88,69 +35,21 @@ fn an_address_lies_in_the_code_and_has_one_shape(rt: HostRuntime) -> Result<(), 
     Ok(())
 }
 
-static WAYS_BACK: [(&[Instr], bool); 9] = [
-    (&[Jump { to: 2 }], false),
-    (&[Step, Jump { to: 2 }], true),
-    (&[Push(1), Jz { to: 2 }, Push(0), Ret], false),
-    (&[Step, Push(1), Jz { to: 2 }, Push(0), Ret], true),
-    (
-        &[
-            Call {
-                function: 0,
-                count: 0,
-            },
-            Ret,
-        ],
-        false,
-    ),
-    (
-        &[
-            Step,
-            Call {
-                function: 0,
-                count: 0,
-            },
-            Ret,
-        ],
-        true,
-    ),
-    (&[Enter { slot: 0 }, Async { slots: 1, to: 3 }, End], false),
-    (
-        &[Enter { slot: 0 }, Step, Async { slots: 1, to: 3 }, End],
-        true,
-    ),
-    (
-        &[Enter { slot: 0 }, Finish { slot: 0 }, Jump { to: 2 }],
-        false,
-    ),
+static WAYS_BACK: [(&str, bool); 9] = [
+    ("Jump 2", false),
+    ("Step, Jump 2", true),
+    ("Push 1, Jz 2, Push 0, Ret", false),
+    ("Step, Push 1, Jz 2, Push 0, Ret", true),
+    ("Call 0 0, Ret", false),
+    ("Step, Call 0 0, Ret", true),
+    ("Enter 0, Async 1 3, End", false),
+    ("Enter 0, Step, Async 1 3, End", true),
+    ("Enter 0, Finish 0, Jump 2", false),
 ];
 
-static CALLS_BACK: [(&[Instr], bool); 2] = [
-    (
-        &[
-            Push(1),
-            Load { level: 0, slot: 1 },
-            Call {
-                function: 1,
-                count: 2,
-            },
-            Ret,
-        ],
-        false,
-    ),
-    (
-        &[
-            Step,
-            Push(1),
-            Load { level: 0, slot: 1 },
-            Call {
-                function: 1,
-                count: 2,
-            },
-            Ret,
-        ],
-        true,
-    ),
+static CALLS_BACK: [(&str, bool); 2] = [
+    ("Push 1, Load 0 1, Call 1 2, Ret", false),
+    ("Step, Push 1, Load 0 1, Call 1 2, Ret", true),
 ];
 
 #[test]

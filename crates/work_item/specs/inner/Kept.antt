@@ -44,6 +44,28 @@ frames_of lives = map frame_of lives
 abbrev pub live_at : List (Option Live) → ℕ → Option Live
 live_at lives number = slice_index_or lives number None
 
+-- ---- where they lie
+
+-- what lies at a place
+abbrev pub in_place : List (Option Live) → Option ℕ → Option Live
+in_place slots None = None
+in_place slots (Some place) = live_at slots place
+
+-- the frames by number
+abbrev pub lives_of : List (Option ℕ) → List (Option Live) → List (Option Live)
+lives_of places slots = map (in_place slots) places
+
+-- the place of a frame, if there is one
+abbrev pub place_at : List (Option ℕ) → Option FrameId → Option ℕ
+place_at places None = None
+place_at places (Some f) = slice_index_or places f.number None
+
+-- at each place that a number has lies a frame, and no two numbers have the same
+pub record ArePlaces (places : List (Option ℕ)) (slots : List (Option Live)) : Type 0 where
+  pub taken : (number place : ℕ) → slice_index_or places number None ≡ Some place → IsSome (live_at slots place)
+  pub apart : (number other place : ℕ) → slice_index_or places number None ≡ Some place
+      → slice_index_or places other None ≡ Some place → number ≡ other
+
 -- each count of children is that of these frames
 abbrev pub Counts : List (Option Live) → List (Option Frame) → Type 0
 Counts lives frames = (number : ℕ) (x : Live) → live_at lives number ≡ Some x → x.children ≡ children_of frames number
@@ -53,6 +75,11 @@ pub record IsSound (lives : List (Option Live)) (words : ℕ) : Type 0 where
   pub counts : Counts lives (frames_of lives)
   pub words_are : words ≡ all_words (frames_of lives)
 
+-- the frames lie at places of their own
+pub record IsKept (places : List (Option ℕ)) (slots : List (Option Live)) (words : ℕ) : Type 0 where
+  pub placed : ArePlaces places slots
+  pub sound : IsSound (lives_of places slots) words
+
 abbrev pub one_more : Option Live → Option Live
 one_more None = None
 one_more (Some x) = Some (record x { children = x.children + 1 })
@@ -61,18 +88,18 @@ abbrev pub one_less : Option Live → Option Live
 one_less None = None
 one_less (Some x) = Some (record x { children = x.children - 1 })
 
--- one child more is counted at the parent, if there is one
-abbrev pub with_more : List (Option Live) → Option FrameId → List (Option Live)
+-- one child more is counted at the place of the parent, if there is one
+abbrev pub with_more : List (Option Live) → Option ℕ → List (Option Live)
 with_more lives None = lives
-with_more lives (Some f) = slice_set lives f.number (one_more (live_at lives f.number))
+with_more lives (Some place) = slice_set lives place (one_more (live_at lives place))
 
-abbrev pub with_less : List (Option Live) → Option FrameId → List (Option Live)
+abbrev pub with_less : List (Option Live) → Option ℕ → List (Option Live)
 with_less lives None = lives
-with_less lives (Some f) = slice_set lives f.number (one_less (live_at lives f.number))
+with_less lives (Some place) = slice_set lives place (one_less (live_at lives place))
 
 -- the parent, if there is one, lives and can count one more, or one less
-abbrev pub CanCountMore : List (Option Live) → Option FrameId → Type 0
-CanCountMore lives parent = IfSome parent (λ f. IsSomeAnd (live_at lives f.number) (λ x. x.children + 1 < 2 ^ 64))
+abbrev pub CanCountMore : List (Option Live) → Option ℕ → Type 0
+CanCountMore lives parent = IfSome parent (λ place. IsSomeAnd (live_at lives place) (λ x. x.children + 1 < 2 ^ 64))
 
-abbrev pub CanCountLess : List (Option Live) → Option FrameId → Type 0
-CanCountLess lives parent = IfSome parent (λ f. IsSomeAnd (live_at lives f.number) (λ x. 0 < x.children))
+abbrev pub CanCountLess : List (Option Live) → Option ℕ → Type 0
+CanCountLess lives parent = IfSome parent (λ place. IsSomeAnd (live_at lives place) (λ x. 0 < x.children))

@@ -6,7 +6,7 @@ use Rattle.ac_program.proofs.words.scan.finish.Goals as goal
 pub returns-in_default-Some : goal.returns-in_default-Some
 returns-in_default-Some c = record {
   refused = λ e. absurd (cc (e));
-  call = rw c.unwrap_or.ensures (end_of c.args.scan.next (option_copied c.args.scan.file) c.args.scan.steps c.in_default-Some.file.now c.in_default-Some.not-Value-0
-      (ap option_copied c.in_default-Some.is-1));
-  only = rw c.unwrap_or.ensures (one_at_end c.args.scan.next (option_copied c.args.scan.file) c.args.scan.steps c.in_default-Some.file.now (ap option_copied c.in_default-Some.is-1));
+  call = end_of c.args.scan.next (option_copied c.args.scan.file) c.args.scan.steps c.in_default-Some.file.now c.in_default-Some.not-Value-0
+      (ap option_copied c.in_default-Some.is-1);
+  only = one_at_end c.args.scan.next (option_copied c.args.scan.file) c.args.scan.steps c.in_default-Some.file.now (ap option_copied c.in_default-Some.is-1);
 }

@@ -5,32 +5,32 @@ use Rattle.ac_program.proofs.Scans.{words_from, words_end}
 use Rattle.ac_program.proofs.words.scan.read_arguments.Goals as goal
 
 pub loop-word-preserved : goal.loop-word-preserved
-loop-word-preserved c = λ file steps.
+loop-word-preserved c = λ file given.
     let e : map (string_bytes {Z = Global}) (drop c.loop-word.word-index c.args.words.now)
     ≡ c.as_str.result.now ∷ map (string_bytes {Z = Global}) (drop (c.loop-word.word-index + 1) c.args.words.now) =
     words_from (string_bytes {Z = Global}) c.args.words.now c.loop-word.word-index c.word-item.result c.as_str.result.now c.loop-word-test.true c.word-item.is c.as_str.ensures.value in
-    let inv = c.loop-word.invariant file steps in
-    let taken = c.in_ok-scan.ensures.taken (map (string_bytes {Z = Global}) (drop (c.loop-word.word-index + 1) c.args.words.now)) file steps in
-    (λ g. taken.0 (subst (λ ws. Completes c.loop-word.scan ws file steps) e (inv.0 g)), λ h. inv.1 (subst (λ ws. Completes c.loop-word.scan ws file steps) (sym e) (taken.1 h)))
+    let inv = c.loop-word.invariant file given in
+    let taken = c.in_ok-scan.ensures.taken (map (string_bytes {Z = Global}) (drop (c.loop-word.word-index + 1) c.args.words.now)) file given in
+    (λ g. taken.0 (subst (λ ws. Completes c.loop-word.scan ws file given) e (inv.0 g)), λ h. inv.1 (subst (λ ws. Completes c.loop-word.scan ws file given) (sym e) (taken.1 h)))
 
 pub returns-in_err-scan-clause-usage : goal.returns-in_err-scan-clause-usage
-returns-in_err-scan-clause-usage c = λ none file steps g.
+returns-in_err-scan-clause-usage c = λ none file given g.
     let e : map (string_bytes {Z = Global}) (drop c.loop-word.word-index c.args.words.now)
     ≡ c.as_str.result.now ∷ map (string_bytes {Z = Global}) (drop (c.loop-word.word-index + 1) c.args.words.now) =
     words_from (string_bytes {Z = Global}) c.args.words.now c.loop-word.word-index c.word-item.result c.as_str.result.now c.loop-word-test.true c.word-item.is c.as_str.ensures.value in
-    let inv = c.loop-word.invariant file steps in
-    c.in_err-scan.ensures.refused refl (map (string_bytes {Z = Global}) (drop (c.loop-word.word-index + 1) c.args.words.now)) file steps
-    (subst (λ ws. Completes c.loop-word.scan ws file steps) e (inv.0 g))
+    let inv = c.loop-word.invariant file given in
+    c.in_err-scan.ensures.refused refl (map (string_bytes {Z = Global}) (drop (c.loop-word.word-index + 1) c.args.words.now)) file given
+    (subst (λ ws. Completes c.loop-word.scan ws file given) e (inv.0 g))
 
 pub returns-clause-usage : goal.returns-clause-usage
-returns-clause-usage c = λ none file steps g.
-    let inv = c.loop-word.invariant file steps in
+returns-clause-usage c = λ none file given g.
+    let inv = c.loop-word.invariant file given in
     let e : map (string_bytes {Z = Global}) (drop c.loop-word.word-index c.args.words.now)
     ≡ [] = words_end (string_bytes {Z = Global}) c.args.words.now c.loop-word.word-index c.loop-word-test.false in
-    c.finish.ensures.refused none file steps (subst (λ ws. Completes c.loop-word.scan ws file steps) e (inv.0 g))
+    c.finish.ensures.refused none file given (subst (λ ws. Completes c.loop-word.scan ws file given) e (inv.0 g))
 
 pub returns-clause-only : goal.returns-clause-only
 returns-clause-only c =
     let e : map (string_bytes {Z = Global}) (drop c.loop-word.word-index c.args.words.now)
     ≡ [] = words_end (string_bytes {Z = Global}) c.args.words.now c.loop-word.word-index c.loop-word-test.false in
-    IfSome_then c.finish.result c.finish.ensures.only (λ call one file steps g. one file steps (subst (λ ws. Completes c.loop-word.scan ws file steps) e ((c.loop-word.invariant file steps).0 g)))
+    IfSome_then c.finish.result c.finish.ensures.only (λ call one file given g. one file given (subst (λ ws. Completes c.loop-word.scan ws file given) e ((c.loop-word.invariant file given).0 g)))

@@ -1,0 +1,264 @@
+-- What a move of the machine is made of, and what a state fits by, in small states.
+use Rattle.std.proofs.Common.{◌≡◌, refl, ℕ, zero, suc, pos, List, [], ◌∷◌, Option, Some, None, Bool, true, false, arith, codes}
+use Rattle.std.specs.Prelude.{negsuc, Ok, Err, ◌++◌}
+use Rattle.ac_base.specs.declared.ends.Trap.TheVariants.{Index}
+use Rattle.ac_base.specs.declared.ends.EndWord.{EndWord}
+use Rattle.ac_base.specs.declared.ends.EndWord.TheVariants.{Finished, Trapped, OutOfSteps, Stalled}
+use Rattle.core_state.specs.Moves.{Move, On, Over}
+use Rattle.core_state.specs.Shared.{core_end, first_shared}
+use Rattle.stack_code.specs.declared.instr.Instr.TheVariants as i
+use Rattle.stack_code.specs.declared.shape.Kind.TheVariants as kind
+use Rattle.stack_code.specs.declared.shape.Home.TheVariants as home
+use Rattle.stack_code.specs.Machine.{Flat, FlatEnd, with_starts, first_globals, first_item, first_core, Caller, one_operand, block_at, one_more, told, text_at, dispatched, calls}
+use Rattle.stack_code.specs.Machine.{thread_at, with_block, stops, counted_in, arrives_at, arrives_in, counted_out, dies_in, dies, begin, exec_of}
+use Rattle.stack_code.specs.Machine.{Block, nobody, seen_of, with_shared, with_store, goes_to, or_trap, on_top, on_two, on_three, on_many, two_operands, always}
+use Rattle.work_item.specs.declared.ids.FrameId.{FrameId}
+use Rattle.work_item.specs.declared.ids.Item.{Item}
+use Rattle.work_item.specs.declared.ids.BlockId.{BlockId}
+use Rattle.work_item.specs.declared.cell.Cell.{Cell}
+use Rattle.work_item.specs.declared.cell.Cell.TheVariants as cell
+use Rattle.work_item.specs.Store.{no_frames}
+use Rattle.core_state.specs.Arithmetic.{sum_of, difference_of, negated}
+use Rattle.stack_code.specs.Fit.{Birth, Born, is_int, HoldsInts, HasKind, HaveKinds, AreSlots, AreInBodies, one_if, own_in, own_blocks, Phase, Gone, Going, AtFinish}
+use Rattle.stack_code.specs.Fit.{runs, total, HasEntered, outside, inside}
+use Rattle.stack_code.specs.Fit.{Life, no_life, life_at, is_living, is_going, is_at, starts_in, innermost_in, innermost, IsStarted, one_at, occurs}
+use Rattle.stack_code.proofs.Examples.{code_of, code, entered, small, start, in_block, in_async, it_is_loaded}
+
+-- ---- what the moves of the machine are made of
+
+abbrev pub item : ℕ → Item
+item number = record { number = number }
+
+abbrev pub block : ℕ → BlockId
+block number = record { number = number }
+
+abbrev pub frame : ℕ → FrameId
+frame number = record { number = number }
+
+abbrev pub int : ℕ → Cell
+int value = cell.Int (pos value)
+
+-- the first thread runs, and stands at that address with these operands, after so many instructions
+abbrev pub at_place : ℕ → List Cell → ℕ → Flat
+at_place place operands count = record {
+  shared = first_shared [];
+  store = no_frames 1;
+  running = Some (item 0);
+  current = record nobody { place = place; operands = operands };
+  ready = [];
+  threads = nobody ∷ [];
+  blocks = [];
+  count = count;
+}
+
+abbrev pub here : List Cell → Flat
+here operands = at_place 4 operands 7
+
+abbrev pub over : EndWord → Bool → ℕ → Move Flat FlatEnd
+over word idle count = Over (record { core = Some (core_end word idle (pos 0 ∷ []) (first_shared [])); count = count })
+
+pub threads_at_their_numbers : thread_at (nobody ∷ (here []).current ∷ []) (item 1) ∷ thread_at (nobody ∷ []) (item 1) ∷ [] ≡ (here []).current ∷ nobody ∷ []
+threads_at_their_numbers = refl
+
+pub what_is_seen : seen_of Finished true (here []) ≡ Some (core_end Finished true (pos 0 ∷ []) (first_shared []))
+what_is_seen = refl
+
+pub parts_are_replaced : ((with_shared (here []) (record (first_shared []) { steps = 3 })).shared.steps ≡ 3) × ((with_store (here []) (no_frames 2)).store ≡ no_frames 2)
+parts_are_replaced = (refl, refl)
+
+pub it_goes_there : goes_to 9 (here []) (int 1 ∷ []) ≡ On (at_place 9 (int 1 ∷ []) 8)
+it_goes_there = refl
+
+pub a_trap_ends_it : (or_trap {A = ℕ} (here []) (Err Index) (λ place. goes_to place (here []) []) ≡ over (Trapped Index) false 8)
+    × (or_trap {A = ℕ} (here []) (Ok 9) (λ place. goes_to place (here []) []) ≡ On (at_place 9 [] 8))
+a_trap_ends_it = (refl, refl)
+
+-- where an operand lacks, nothing moves
+pub operands_from_the_top : (on_top (here []) (λ x below. goes_to 9 (here []) (x ∷ x ∷ below)) (int 1 ∷ int 2 ∷ []) ≡ On (at_place 9 (int 1 ∷ int 1 ∷ int 2 ∷ []) 8))
+    × (on_top (here []) (λ x below. goes_to 9 (here []) below) [] ≡ On (here []))
+operands_from_the_top = (refl, refl)
+
+pub two_and_three_operands : (on_two (here []) (λ x y below. goes_to 9 (here []) (x ∷ y ∷ below)) (int 2 ∷ int 1 ∷ int 7 ∷ []) ≡ On (at_place 9 (int 1 ∷ int 2 ∷ int 7 ∷ []) 8))
+    × (on_two (here []) (λ x y below. goes_to 9 (here []) below) (int 1 ∷ []) ≡ On (here []))
+    × (on_three (here []) (λ x y z below. goes_to 9 (here []) (x ∷ y ∷ z ∷ below)) (int 3 ∷ int 2 ∷ int 1 ∷ int 7 ∷ []) ≡ On (at_place 9 (int 1 ∷ int 2 ∷ int 3 ∷ int 7 ∷ []) 8))
+    × (on_three (here []) (λ x y z below. goes_to 9 (here []) below) (int 2 ∷ int 1 ∷ []) ≡ On (here []))
+two_and_three_operands = (refl, refl, refl, refl)
+
+pub so_many_operands : (on_many (here []) 2 (λ args below. goes_to 9 (here []) (args ++ below)) (int 2 ∷ int 1 ∷ int 7 ∷ []) ≡ On (at_place 9 (int 1 ∷ int 2 ∷ int 7 ∷ []) 8))
+    × (on_many (here []) 2 (λ args below. goes_to 9 (here []) below) (int 1 ∷ []) ≡ On (here []))
+so_many_operands = (refl, refl)
+
+pub an_operator : (always sum_of (pos 1) (pos 2) ≡ Ok (pos 3)) × (two_operands (here (int 3 ∷ int 1 ∷ [])) (always difference_of) ≡ On (at_place 5 (cell.Int (negsuc 1) ∷ []) 8))
+an_operator = (refl, refl)
+
+-- the thread 0 is the owner of this block
+abbrev pub owned : ℕ → Bool → Block
+owned count waits = record { parent = None; owner = item 0; count = count; waits = waits }
+
+pub blocks_at_their_numbers : (with_block (None ∷ None ∷ []) (block 1) (Some (owned 0 false)) ≡ None ∷ Some (owned 0 false) ∷ [])
+    × (counted_in (Some (owned 1 false) ∷ []) (Some (block 0)) ≡ Some (owned 2 false) ∷ []) × (counted_in (Some (owned 1 false) ∷ []) None ≡ Some (owned 1 false) ∷ [])
+blocks_at_their_numbers = (refl, refl, refl)
+
+pub it_stops : stops (here []) (item 0) (record nobody { place = 5 }) (item 1 ∷ []) (None ∷ [])
+    ≡ record (here []) { running = None; current = nobody; ready = item 1 ∷ []; threads = record nobody { place = 5 } ∷ []; blocks = None ∷ []; count = 8 }
+it_stops = refl
+
+-- the owner has come to the finish, where so many threads of the block live
+abbrev pub at_finish : ℕ → Flat
+at_finish count = record (here []) { current = record nobody { place = 4; block = Some (block 0) }; blocks = Some (owned count false) ∷ [] }
+
+pub it_arrives : (arrives_in (at_finish 0) (item 0) (block 0) (Some (owned 0 false)) ≡ On (record (here []) { current = record nobody { place = 5 }; blocks = None ∷ []; count = 8 }))
+    × (arrives_at false (at_finish 2) (item 0) (block 0) (owned 2 false)
+    ≡ On (record (here []) { running = None; current = nobody; threads = record nobody { place = 5 } ∷ []; blocks = Some (owned 2 true) ∷ []; count = 8 }))
+    × (arrives_in (here []) (item 0) (block 0) None ≡ On (here []))
+it_arrives = (refl, refl, refl)
+
+-- the thread 1 ends in a block whose owner waits, where so many threads of the block live
+abbrev pub ending : ℕ → Flat
+ending count = record (here []) {
+  running = Some (item 1);
+  current = record nobody { place = 4; block = Some (block 0) };
+  threads = nobody ∷ nobody ∷ [];
+  blocks = Some (owned count true) ∷ [];
+}
+
+abbrev pub dead : ℕ → List Item → Option Block → Flat
+dead count ready x = record (ending count) { running = None; current = nobody; ready = ready; blocks = x ∷ []; count = 8 }
+
+pub the_last_thread_dies : (dies (ending 1) (item 1) (Some (block 0)) ≡ dead 1 (item 0 ∷ []) None) × (counted_out true (ending 1) (item 1) (block 0) (owned 1 true) ≡ dead 1 (item 0 ∷ []) None)
+    × (dies (ending 1) (item 1) None ≡ ending 1)
+the_last_thread_dies = (refl, refl, refl)
+
+pub another_thread_dies : (dies_in (ending 2) (item 1) (block 0) (Some (owned 2 true)) ≡ dead 2 [] (Some (owned 1 true)))
+    × (counted_out false (ending 2) (item 1) (block 0) (owned 2 true) ≡ dead 2 [] (Some (owned 1 true))) × (dies_in (ending 2) (item 1) (block 0) None ≡ ending 2)
+another_thread_dies = (refl, refl, refl)
+
+pub an_instruction_begins : (begin code 0 (here []) (item 0) (Some (i.Push (pos 3))) ≡ On (at_place 5 (int 3 ∷ []) 8)) × (begin code 0 (here []) (item 0) (Some i.Step) ≡ over OutOfSteps false 7)
+    × (begin code 0 (here []) (item 0) None ≡ On (here []))
+an_instruction_begins = (refl, refl, refl)
+
+-- no thread runs or is ready; and one runs, at the address of the `Jump`
+pub one_move : (exec_of code 0 (here []) None ≡ over Stalled true 7)
+    × (exec_of (code_of 0 (i.Step ∷ i.Step ∷ i.Step ∷ i.Step ∷ i.Jump 9 ∷ [])) 0 (here []) (Some (item 0)) ≡ On (at_place 9 [] 8))
+one_move = (refl, refl)
+
+pub globals_at_first : (with_starts (start 1 (pos 5) ∷ []) (pos 8 ∷ pos 9 ∷ []) ≡ pos 8 ∷ pos 5 ∷ []) × (first_globals (code_of 0 []) ≡ pos 0 ∷ pos 5 ∷ [])
+globals_at_first = (refl, refl)
+
+pub a_core_at_first : (first_item ≡ item 0) × (first_core (record (entered 0) { at = 6 }) (first_shared []) (no_frames 1)
+    ≡ record (at_place 0 [] 0) { running = None; ready = item 0 ∷ []; threads = record nobody { place = 6 } ∷ [] })
+a_core_at_first = (refl, refl)
+
+-- ---- what a state fits by
+
+-- the frame 0 is of the function 0, in which the thread 0 goes
+abbrev pub birth : Birth
+birth = record { home = home.Function 0; item = item 0 }
+
+pub it_was_born : Born (birth ∷ []) (frame 0) birth
+it_was_born = refl
+
+pub no_other_was_born : Born (birth ∷ []) (frame 1) birth → ⊥
+no_other_was_born h = cc
+
+-- two globals are there
+pub globals_are_ints : HoldsInts small (birth ∷ []) None 0 2
+globals_are_ints = omega arith
+
+pub no_third_global_is : HoldsInts small (birth ∷ []) None 1 2 → ⊥
+no_third_global_is h = omega (arith, h)
+
+pub ints_are_told_from_arrays : is_int (int 5) ∷ is_int (cell.Array (record { home = None; start = 0; len = 2 })) ∷ [] ≡ true ∷ false ∷ []
+ints_are_told_from_arrays = refl
+
+abbrev pub both_globals : Cell
+both_globals = cell.Array (record { home = None; start = 0; len = 2 })
+
+pub operands_have_their_kinds : HasKind small [] kind.Int (int 5) × HaveKinds small [] (kind.Int ∷ kind.Reference false ∷ []) (int 5 ∷ both_globals ∷ [])
+operands_have_their_kinds = (tt, (tt, (record { short = omega arith; ints = omega arith }, tt)))
+
+pub an_array_is_no_int : HasKind small [] kind.Int both_globals → ⊥
+an_array_is_no_int h = h
+
+pub an_operand_is_missing : HaveKinds small [] (kind.Int ∷ kind.Int ∷ []) (int 5 ∷ []) → ⊥
+an_operand_is_missing h = h.1
+
+pub no_slots : AreSlots small [] (home.Function 0) []
+no_slots zero x is = cc
+no_slots (suc slot) x is = cc
+
+-- it is loaded as an int
+pub no_array_in_its_slot : AreSlots small [] (home.Function 0) (both_globals ∷ []) → ⊥
+no_array_in_its_slot h = let e = (h 0 both_globals refl).int it_is_loaded in cc
+
+pub a_block_in_its_body : AreInBodies 1 (record { bodies = 1; slot = 0 } ∷ [])
+a_block_in_its_body = ((omega arith, omega arith), tt)
+
+pub a_block_in_no_body : AreInBodies 1 (record { bodies = 2; slot = 0 } ∷ []) → ⊥
+a_block_in_no_body h = let le = h.0.1 in omega (arith, le)
+
+pub counts_of_own_blocks : one_if true ∷ one_if false ∷ own_in 2 (record { bodies = 2; slot = 0 } ∷ record { bodies = 1; slot = 0 } ∷ []) ∷ own_blocks (in_block 1) ∷ own_blocks in_async ∷ []
+    ≡ 1 ∷ 0 ∷ 1 ∷ 1 ∷ 0 ∷ []
+counts_of_own_blocks = refl
+
+-- its thread is in the block 3
+abbrev pub life : Phase → Option BlockId → Life
+life phase start = record { phase = phase; start = start; thread = record nobody { block = Some (block 3) } }
+
+pub lives_at_their_numbers : (life_at (life Going None ∷ []) (item 0) ≡ life Going None) × (life_at (life Going None ∷ []) (item 1) ≡ no_life) × (no_life.phase ≡ Gone)
+lives_at_their_numbers = (refl, refl, refl)
+
+pub phases_of_a_life : (is_living Gone ∷ is_living Going ∷ is_living (AtFinish (block 1)) ∷ [] ≡ false ∷ true ∷ true ∷ [])
+    × (is_going Gone ∷ is_going Going ∷ is_going (AtFinish (block 1)) ∷ [] ≡ false ∷ true ∷ false ∷ [])
+phases_of_a_life = (refl, refl)
+
+pub where_it_started : (is_at (Some (block 1)) (block 1) ∷ is_at (Some (block 2)) (block 1) ∷ is_at None (block 1) ∷ [] ≡ true ∷ false ∷ false ∷ [])
+    × (starts_in (block 1) (life Going (Some (block 1))) ∷ starts_in (block 1) (life Gone (Some (block 1))) ∷ starts_in (block 1) (life Going None) ∷ [] ≡ 1 ∷ 0 ∷ 0 ∷ [])
+where_it_started = (refl, refl)
+
+pub in_which_block_it_is : innermost_in Gone (Some (block 3)) ∷ innermost_in (AtFinish (block 1)) (Some (block 3)) ∷ innermost (life Going None) ∷ []
+    ≡ None ∷ Some (block 1) ∷ Some (block 3) ∷ []
+in_which_block_it_is = refl
+
+pub an_older_thread_is_its_owner : IsStarted (Some (owned 1 false) ∷ []) (item 1) (block 0)
+an_older_thread_is_its_owner = record { block = owned 1 false; here = refl; older = omega arith }
+
+pub its_owner_was_not_started_in_it : IsStarted (Some (owned 1 false) ∷ []) (item 0) (block 0) → ⊥
+its_owner_was_not_started_in_it h = let lt = h.older in omega (arith, lt)
+
+pub how_often_it_stands_there : one_at 2 (item 2) ∷ one_at 2 (item 1) ∷ occurs 2 (item 2 ∷ item 1 ∷ item 2 ∷ []) ∷ [] ≡ 1 ∷ 0 ∷ 2 ∷ []
+how_often_it_stands_there = refl
+
+pub how_many_run : (runs 2 (Some (item 2)) ∷ runs 2 (Some (item 1)) ∷ runs 2 None ∷ [] ≡ 1 ∷ 0 ∷ 0 ∷ []) × (total (λ (n : ℕ). n) (1 ∷ 2 ∷ []) ≡ 3)
+how_many_run = (refl, refl)
+
+pub one_block_was_entered : HasEntered (Some (owned 1 false) ∷ []) (item 0) None 1 (Some (block 0))
+one_block_was_entered = inside 0 (block 0) (owned 1 false) refl refl outside
+
+-- where none was entered, it is in the one in which it was started
+where_it_is : (blocks : List (Option Block)) (t : Item) (start b : Option BlockId) (n : ℕ) → n ≡ 0 → HasEntered blocks t start n b → b ≡ start
+where_it_is blocks t start b n e outside = refl
+where_it_is blocks t start b n e (inside m c x here owner rest) = absurd (omega (arith, e))
+
+pub no_block_was_entered : HasEntered (Some (owned 1 false) ∷ []) (item 0) None 0 (Some (block 0)) → ⊥
+no_block_was_entered h = let e : Some (block 0) ≡ None = where_it_is (Some (owned 1 false) ∷ []) (item 0) None (Some (block 0)) 0 refl h in cc
+
+-- ---- more of what moves are made of
+
+pub more_parts_of_moves : (one_operand (here (int 3 ∷ [])) negated ≡ On (at_place 5 (cell.Int (negsuc 2) ∷ []) 8)) × (block_at (None ∷ Some (owned 0 false) ∷ []) (block 1) ≡ Some (owned 0 false))
+    × (one_more (Some (owned 1 true)) ≡ Some (owned 2 true)) × (told 3 None ≡ record { core = None; count = 3 }) × (text_at code 0 ∷ text_at code 1 ∷ [] ≡ codes "%d\n" ∷ [] ∷ [])
+    × (dispatched (here []) [] ≡ over Stalled true 7)
+more_parts_of_moves = (refl, refl, refl, refl, refl, refl)
+
+-- where it goes on, in which frame, and with which operands
+abbrev pub caller : Caller
+caller = record { place = 5; frame = frame 0; operands = int 1 ∷ [] }
+
+pub a_call : (calls (here []) (Some (entered 2)) [] (int 1 ∷ [])
+    ≡ On (record (here []) {
+      store = record { globals = pos 0 ∷ []; frames = Some (record { parent = None; cells = int 0 ∷ int 0 ∷ []; over = false }) ∷ [] };
+      current = record { place = 0; frame = frame 0; operands = []; callers = caller ∷ []; block = None };
+      count = 8;
+    }))
+    × (calls (here []) None [] [] ≡ On (here []))
+a_call = (refl, refl)
