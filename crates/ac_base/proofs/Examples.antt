@@ -1,5 +1,5 @@
--- What the definitions of Report say of small runs.
-use Rattle.std.proofs.Common.{◌≡◌, refl, ℕ, pos, List, true, false, [], ◌∷◌, ◌++◌, map, codes, ap, ◌∙◌, arith}
+-- What the definitions say of small runs, of stamps and of bytes.
+use Rattle.std.proofs.Common.{◌≡◌, refl, ℕ, pos, List, true, false, [], ◌∷◌, ◌++◌, map, codes, Some, None, ap, ◌∙◌, arith}
 use Rattle.std.specs.Prelude.{negsuc}
 use Rattle.std.specs.Fmt.{decimal, signed_decimal}
 use Rattle.std.proofs.lemmas.Fmt.{decimal_digit, decimal_step}
@@ -7,7 +7,9 @@ use Rattle.ac_base.specs.declared.ends.Trap.TheVariants.{ZeroDivisor, Index, Sta
 use Rattle.ac_base.specs.declared.ends.EndWord.{EndWord}
 use Rattle.ac_base.specs.declared.ends.EndWord.TheVariants.{Finished, Trapped, OutOfSteps, Stalled}
 use Rattle.ac_base.specs.declared.ends.MachineEnd.{MachineEnd}
+use Rattle.ac_base.specs.Hexadecimal.{hex_of}
 use Rattle.ac_base.specs.Report.{trap_text, word_text, ending_of, line_of, closed, report_of, is_trapped, is_out_of_steps, is_stalled, any_ends, status_of}
+use Rattle.ac_base.specs.Stamps.{next_stamp, stamp_after}
 
 -- what is seen of a core that ended with this word after so many steps and instructions, and printed this
 abbrev pub ended : EndWord → ℕ → ℕ → List ℕ → MachineEnd
@@ -131,3 +133,32 @@ a_trap_counts_before_a_stall = refl
 
 pub want_of_steps_counts_before_a_stall : status_of (ended Stalled 2 9 [] ∷ ended OutOfSteps 2 9 [] ∷ []) ≡ 6
 want_of_steps_counts_before_a_stall = refl
+
+-- ---- stamps
+
+pub a_first_stamp : next_stamp 0 0 ≡ 1
+a_first_stamp = refl
+
+-- it is above that of the party's last entry and above that of the answered one, whichever is greater
+pub above_its_own : next_stamp 7 3 ≡ 8
+above_its_own = refl
+
+pub above_the_answered : next_stamp 3 7 ≡ 8
+above_the_answered = refl
+
+pub the_greatest_stamp : stamp_after 1152921504606846974 0 ≡ Some 1152921504606846975
+the_greatest_stamp = refl
+
+pub none_above_it : stamp_after 1152921504606846975 0 ≡ None
+none_above_it = refl
+
+pub none_above_it_where_it_is_answered : stamp_after 0 1152921504606846975 ≡ None
+none_above_it_where_it_is_answered = refl
+
+-- ---- hexadecimal
+
+pub two_digits_a_byte : hex_of (0 ∷ 9 ∷ 10 ∷ 171 ∷ 255 ∷ []) ≡ codes "00090aabff"
+two_digits_a_byte = refl
+
+pub no_bytes_are_a_dash : hex_of [] ≡ codes "-"
+no_bytes_are_a_dash = refl

@@ -1,3 +1,5 @@
 pub mod formers
+pub mod Hexadecimal
 pub mod Log
 pub mod Report
+pub mod Stamps

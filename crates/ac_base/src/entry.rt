@@ -1,6 +1,6 @@
 //! The events of a run, and a party's journal of them.
 
-ghost use Rattle.std.specs.Prelude.{◌≡◌, ◌+◌, [], ◌∷◌, ◌++◌, ◌<◌, ◌≤◌, length, slice_get, OnOk, Some};
+ghost use Rattle.std.specs.Prelude.{◌≡◌, ◌+◌, [], ◌∷◌, ◌++◌, ◌<◌, ◌≤◌, length, slice_get, OnOk, IfOk, Some};
 
 use crate::draft::Draft;
 use crate::list::Bytes;
@@ -8,11 +8,14 @@ use crate::memory::NoMemory;
 use std::alloc::Global;
 use std::marker::Model;
 
+/// What a channel carries.
+pub type Message = i64;
+
 /// What an offer carries: a message of a channel, or a request to the file worker. Places and
 /// lengths are in bytes.
 #[derive(Debug, Drop)]
 pub enum Payload {
-    Int(i64),
+    Int(Message),
     Read { file: u32, from: u32, len: u32 },
     Write { file: u32, from: u32, bytes: Bytes },
 }
@@ -49,7 +52,7 @@ pub enum Event {
     Got {
         link: u32,
         number: u64,
-        value: i64,
+        value: Message,
     },
     Pass {
         link: u32,
@@ -73,6 +76,13 @@ pub struct Entry {
     pub stamp: u64,
     pub turn: u64,
     pub event: Event,
+}
+
+/// An entry and the party that made it: a core by its number, or the worker after the last core.
+#[derive(Debug, Drop)]
+pub struct Stamped {
+    pub party: u32,
+    pub entry: Entry,
 }
 
 /// A party's entries in the order in which it made them.
@@ -132,5 +142,24 @@ impl Journal {
         ensures { slice_get self.now.entries place ≡ Some result.now }
     {
         self.list.get(place)
+    }
+
+    /// The entries.
+    pub fn as_slice(&self) -> &[Entry]
+        ensures { result.now ≡ self.now.entries }
+    {
+        self.list.as_slice()
+    }
+
+    /// A journal with the same entries.
+    pub fn copy(&self, alloc: Global) -> Result<Journal, NoMemory>
+        ensures { IfOk result (λ it. it.entries ≡ self.now.entries) }
+    {
+        let mut list = Draft::new(alloc);
+        list.reserve(self.list.len())?;
+        for entry in self.list.as_slice() {
+            list.push(entry.copy(alloc)?);
+        }
+        Ok(Journal { list })
     }
 }

@@ -2,18 +2,23 @@
 #![tactic(auto)]
 
 mod boxed;
+mod clock;
+mod copies;
 mod draft;
 mod ends;
 mod entry;
+mod hexadecimal;
 mod list;
 mod memory;
 mod span;
 mod texts;
 
 pub use boxed::Boxed;
+pub use clock::Clock;
 pub use draft::Draft;
 pub use ends::{CoreEnd, EndWord, MachineEnd, Phase, Status, Trap, Waiting};
-pub use entry::{Answer, Entry, Event, Journal, Payload};
+pub use entry::{Answer, Entry, Event, Journal, Message, Payload, Stamped};
+pub use hexadecimal::hex;
 pub use list::{Bytes, List, Name};
 pub use memory::NoMemory;
 pub use span::Span;

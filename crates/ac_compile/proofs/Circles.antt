@@ -10,7 +10,7 @@ use Rattle.stack_code.specs.declared.shape.Leads.TheVariants.{Stop, One}
 use Rattle.stack_code.specs.Parts.{Parts}
 use Rattle.stack_code.specs.Shapes.{effect, LeadsTo, can_return, pushed}
 use Rattle.stack_code.specs.Valid.{Quiet, QuietWay, one, more}
-use Rattle.stack_code.proofs.StepAt.{IsStep}
+use Rattle.ac_compile.proofs.StepAt.{IsStep}
 use Rattle.ac_compile.proofs.Points.{IsEnd, IsStart}
 
 -- ---- the end of a function

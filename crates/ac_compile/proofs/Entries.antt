@@ -18,7 +18,7 @@ use Rattle.stack_code.specs.declared.shape.Leads.TheVariants.{Stop, One}
 use Rattle.stack_code.specs.declared.shape.Shape.{Shape}
 use Rattle.stack_code.specs.Parts.{Parts}
 use Rattle.stack_code.specs.Shapes.{first, params_in}
-use Rattle.stack_code.proofs.StepAt.{IsStep}
+use Rattle.ac_compile.proofs.StepAt.{IsStep}
 use Rattle.ac_resolve.specs.InPlace.{Use, AsInt, AsReference, use_of, Round, NoReferences, in_function, no_test, some_test, IsFunction}
 use Rattle.ac_resolve.specs.InPlace.{IsCommand, nothing, set, clear, run, print, if_alone, if_else, while_loop, for_loop, leave, go_on, give, do_finish, start, cancel, yield, AreCommands}
 use Rattle.ac_resolve.specs.InPlace.{no_command, one_command}

@@ -1,3 +1,4 @@
+mod StepAt
 pub mod Forms
 pub mod Frames
 pub mod Points

@@ -8,8 +8,8 @@ use Rattle.stack_code.specs.Parts.{Parts}
 use Rattle.stack_code.specs.Valid.{IsValid}
 use Rattle.stack_code.specs.Alone.{IsAlone}
 use Rattle.stack_code.specs.Machine.{FlatEnd, Runs}
-use Rattle.stack_code.specs.Ends.{EndsOnlySo}
-use Rattle.stack_code.proofs.OneEnd.{ends_only_so}
+use Rattle.code_safety.specs.Ends.{EndsOnlySo}
+use Rattle.code_safety.proofs.OneEnd.{ends_only_so}
 use Rattle.ac_translation.specs.Same.{IsSame}
 use Rattle.ac_compile.specs.OneEnd.{IsOnly, HasOneEnd}
 use Rattle.ac_compile.specs.inner.Made.{HasRanks}

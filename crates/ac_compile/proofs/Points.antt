@@ -15,7 +15,7 @@ use Rattle.stack_code.specs.Parts.{Parts}
 use Rattle.stack_code.specs.Shapes.{effect, first, is_array, LeadsTo}
 use Rattle.stack_code.specs.Valid as valid
 use Rattle.stack_code.specs.Valid.{Fits, home_at}
-use Rattle.stack_code.proofs.StepAt.{IsStep}
+use Rattle.ac_compile.proofs.StepAt.{IsStep}
 use Rattle.ac_resolve.specs.InPlace.{Use, AsInt, AsReference, AsBlock, FrameRound}
 use Rattle.ac_translation.specs.Pieces.{Exits, Piece, no_code, one, ◌⨾◌, out_past, out_turn}
 use Rattle.ac_translation.proofs.Sized.{IsSized, no_sized, one_sized, past_sized, turn_sized, both_sized}

@@ -16,7 +16,7 @@ use Rattle.stack_code.specs.declared.shape.Leads.TheVariants.{Stop, One, Two}
 use Rattle.stack_code.specs.declared.shape.Shape.{Shape}
 use Rattle.stack_code.specs.Parts.{Parts}
 use Rattle.stack_code.specs.Shapes.{effect, entered, directives_in}
-use Rattle.stack_code.proofs.StepAt.{IsStep}
+use Rattle.ac_compile.proofs.StepAt.{IsStep}
 use Rattle.ac_resolve.specs.InPlace.{Use, AsInt, AsReference, AsBlock, FrameRound, Round, NoReferences, Holds, HoldInts, HasSlots, is_entered, with_entered, in_loop, in_block, in_body}
 use Rattle.ac_resolve.specs.InPlace.{global, local, AnInt, IsValue, IsTest, no_test, some_test, IsTarget, to_variable, to_element}
 use Rattle.ac_resolve.specs.InPlace.{IsCommand, nothing, set, clear, run, print, if_alone, if_else, while_loop, for_loop, leave, go_on, give, do_finish, start, cancel, yield, AreCommands}

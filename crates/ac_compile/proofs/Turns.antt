@@ -7,7 +7,7 @@ use Rattle.stack_code.specs.declared.shape.Shape.{Shape}
 use Rattle.stack_code.specs.declared.shape.Leads.TheVariants.{Two}
 use Rattle.stack_code.specs.Parts.{Parts}
 use Rattle.stack_code.specs.Shapes.{effect}
-use Rattle.stack_code.proofs.StepAt.{IsStep}
+use Rattle.ac_compile.proofs.StepAt.{IsStep}
 use Rattle.ac_translation.specs.Pieces.{Exits, Piece, one, ◌⨾◌, over, loop_end, loop_exits, loop}
 use Rattle.ac_translation.specs.Translation.{lazily, at_loop, at_next}
 use Rattle.ac_translation.proofs.Sized.{IsSized, over_sized, both_sized, loop_sized}

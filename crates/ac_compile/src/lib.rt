@@ -22,9 +22,8 @@ use stack_code::Code;
 use std::alloc::Global;
 
 /// The code of a program whose nodes are all built: that of its tree, whose cores come to just the ends to which they come in
-/// the source. Such a program has one core, its code has no operation and no cancel, and each of its cores comes to one end and to no
-/// other, in the source
-/// and in the code.
+/// the source. Such a program has one core, its code has no operation and no cancel, and each of its cores comes to one end and to
+/// no other, in the source and in the code.
 pub fn compile(alloc: Global, checked: &Checked) -> Result<Code, NoMemory>
     requires { unbuilt_nodes checked.now.items ≡ [] }
     ensures code { IfOk result (λ code. IsCodeOf checked.now code) }

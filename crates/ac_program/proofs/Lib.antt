@@ -16,3 +16,4 @@ pub mod Streams
 pub mod TwoRules
 pub mod Examples
 pub mod HistoryExamples
+pub mod TwoExamples

@@ -182,7 +182,7 @@ two_globals = refl
 pub a_core : item_weight (i.Core 0 (codes "a") (codes "f")) ≡ 6
 a_core = refl
 
--- channel c ( a , b , 1 ) ; and file f = "f" ; and core a ( f ) ;
+-- channel c ( a , b , 1 ) ; and file f ( "f" ) ; and core a ( f ) ;
 pub declared : items_weight (i.Channel 0 (codes "c") (codes "a") (codes "b") (pos 1) ∷ i.File 0 (codes "f") (codes "f") ∷ i.Core 0 (codes "a") (codes "f") ∷ []) ≡ 22
 declared = refl
 

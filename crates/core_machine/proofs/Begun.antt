@@ -14,10 +14,10 @@ use Rattle.stack_code.specs.Parts.{Parts, Begins}
 use Rattle.stack_code.specs.Valid.{IsValid}
 use Rattle.stack_code.specs.Alone.{IsAlone}
 use Rattle.stack_code.specs.Machine.{Flat, FlatEnd, nobody, exec, first_flat, first_item, first_core, with_starts, first_globals}
-use Rattle.stack_code.specs.Fit.{IsFit}
-use Rattle.stack_code.specs.Chains.{AreChained}
-use Rattle.stack_code.proofs.Beginnings.{first_fit}
-use Rattle.stack_code.proofs.NoDangling.{first_chained}
+use Rattle.code_safety.specs.Fit.{IsFit}
+use Rattle.code_safety.specs.Chains.{AreChained}
+use Rattle.code_safety.proofs.Beginnings.{first_fit}
+use Rattle.code_safety.proofs.NoDangling.{first_chained}
 use Rattle.core_machine.specs.declared.pause.Pause.{Pause}
 use Rattle.core_machine.specs.declared.pause.Pause.TheVariants.{Trapped}
 use Rattle.core_machine.specs.declared.running.Running.{Running}

@@ -28,13 +28,13 @@ use Rattle.stack_code.specs.Shapes.{after, first, pushed, body_with, pushes, goe
 use Rattle.stack_code.specs.Valid.{IsValid, HasRoom}
 use Rattle.stack_code.specs.Alone.{is_alone}
 use Rattle.stack_code.specs.Machine.{Flat}
-use Rattle.stack_code.specs.Fit.{Birth, is_int, HasKind, HaveKinds, AreBodies, last, more, IsThread, IsFit, life_at}
-use Rattle.stack_code.specs.Living.{as_running, AllReferToLiving, NamesLiving}
-use Rattle.stack_code.proofs.Taken.{on_some_is, if_is, after_is, IsWanted, Top, top_of, many_of}
-use Rattle.stack_code.proofs.Arguments.{AreArguments, arguments_of}
-use Rattle.stack_code.proofs.Plain.{in_frame}
-use Rattle.stack_code.proofs.Own.{thread_of}
-use Rattle.stack_code.proofs.Calling.{call_enough}
+use Rattle.code_safety.specs.Fit.{Birth, is_int, HasKind, HaveKinds, AreBodies, last, more, IsThread, IsFit, life_at}
+use Rattle.code_safety.specs.Living.{as_running, AllReferToLiving, NamesLiving}
+use Rattle.code_safety.proofs.Taken.{on_some_is, if_is, after_is, IsWanted, Top, top_of, many_of}
+use Rattle.code_safety.proofs.Arguments.{AreArguments, arguments_of}
+use Rattle.code_safety.proofs.Plain.{in_frame}
+use Rattle.code_safety.proofs.Own.{thread_of}
+use Rattle.code_safety.proofs.Calling.{call_enough}
 use Rattle.core_machine.specs.inner.Operands.{is_reference, on_top, Stand, second_place}
 use Rattle.core_machine.specs.inner.Needs.{HasInt, HasInts, HasCell, HasArray, HasElement, HasCall, Finds}
 use Rattle.core_machine.proofs.Lives.{round_lives, finish_there, start_there, end_there, is_listed}

@@ -12,15 +12,15 @@ use Rattle.stack_code.specs.Parts.{Parts}
 use Rattle.stack_code.specs.Shapes.{effect}
 use Rattle.stack_code.specs.Valid.{IsValid}
 use Rattle.stack_code.specs.Machine.{Flat, Block, block_at}
-use Rattle.stack_code.specs.Fit.{IsThread, Phase, Gone, Going, AtFinish, Life, no_life, life_at, is_living, is_going, is_at, starts_in}
-use Rattle.stack_code.specs.Fit.{total, one_if, one_at, occurs, runs, innermost, innermost_in, own_blocks, IsFit}
-use Rattle.stack_code.proofs.Lives.{total_set, total_one, starts_one, living_within, going_is, going_lives, one_same, one_true, one_at_most, same_item}
-use Rattle.stack_code.proofs.Own.{phase_of, lives_of, within_of, thread_of}
-use Rattle.stack_code.proofs.Entering.{Stands, own, round, stands_in}
-use Rattle.stack_code.proofs.Finishing.{arrival}
-use Rattle.stack_code.proofs.Starting.{starting}
-use Rattle.stack_code.proofs.Dying.{leaving}
-use Rattle.stack_code.proofs.Moving.{never_stalled}
+use Rattle.code_safety.specs.Fit.{IsThread, Phase, Gone, Going, AtFinish, Life, no_life, life_at, is_living, is_going, is_at, starts_in}
+use Rattle.code_safety.specs.Fit.{total, one_if, one_at, occurs, runs, innermost, innermost_in, own_blocks, IsFit}
+use Rattle.code_safety.proofs.Lives.{total_set, total_one, starts_one, living_within, going_is, going_lives, one_same, one_true, one_at_most, same_item}
+use Rattle.code_safety.proofs.Own.{phase_of, lives_of, within_of, thread_of}
+use Rattle.code_safety.proofs.Entering.{Stands, own, round, stands_in}
+use Rattle.code_safety.proofs.Finishing.{arrival}
+use Rattle.code_safety.proofs.Starting.{starting}
+use Rattle.code_safety.proofs.Dying.{leaving}
+use Rattle.code_safety.proofs.Moving.{never_stalled}
 use Rattle.core_machine.specs.inner.Needs.{IsChildless, IsListed, CanFinish, CanStart, CanEnd, HasNext}
 
 -- ---- counts

@@ -1,24 +1,24 @@
 -- A core stays where its code can stand, and comes to its end.
-use Rattle.std.proofs.Common.{◌≡◌, ℕ, suc, ◌<◌, ◌^◌, List, length, Option, Some, None, IsSome, Bool, true, false, refl, sym, ap, ◌∙◌, subst, arith}
+use Rattle.std.proofs.Common.{◌≡◌, ℕ, zero, suc, ◌<◌, ◌^◌, List, length, Option, Some, None, IsSome, Bool, true, false, refl, sym, ap, ◌∙◌, subst, arith}
 use Rattle.std.specs.Prelude.{slice_get, slice_index_or, is_none, is_some, not}
 use Rattle.std.proofs.lemmas.Option.{slice_get_within, get_or_from_slice_get}
 use Rattle.work_item.specs.declared.ids.Item.{Item}
-use Rattle.core_state.specs.Moves.{On, GoesOn}
-use Rattle.core_state.proofs.Runs.{GoesOn-more}
+use Rattle.core_state.specs.Moves.{Move, On, Over, GoesOn, and_then, moves}
+use Rattle.core_state.proofs.Runs.{GoesOn-none, GoesOn-more}
 use Rattle.stack_code.specs.declared.instr.Instr.{Instr}
 use Rattle.stack_code.specs.Parts.{Parts}
 use Rattle.stack_code.specs.Shapes.{effect}
 use Rattle.stack_code.specs.Valid.{Fits, IsValid}
 use Rattle.stack_code.specs.Kept.{IsRanked}
 use Rattle.stack_code.specs.Alone.{is_alone, IsAlone}
-use Rattle.stack_code.specs.Left.{left}
-use Rattle.stack_code.specs.Fit.{IsFit}
-use Rattle.stack_code.specs.Chains.{AreChained}
+use Rattle.code_safety.specs.Left.{left}
+use Rattle.code_safety.specs.Fit.{IsFit}
+use Rattle.code_safety.specs.Chains.{AreChained}
 use Rattle.stack_code.specs.Machine.{Flat, begin, exec, exec_of, first_flat}
-use Rattle.stack_code.proofs.Plain.{Onward}
-use Rattle.stack_code.proofs.Own.{thread_of}
-use Rattle.stack_code.proofs.Moving.{moves_on}
-use Rattle.stack_code.proofs.NoDangling.{chained_on, names_living}
+use Rattle.code_safety.proofs.Plain.{Onward}
+use Rattle.code_safety.proofs.Own.{thread_of}
+use Rattle.code_safety.proofs.Moving.{moves_on}
+use Rattle.code_safety.proofs.NoDangling.{chained_on, names_living}
 use Rattle.core_machine.specs.declared.pause.Pause.{Pause}
 use Rattle.core_machine.specs.declared.running.Running.{Running}
 use Rattle.core_machine.specs.inner.Needs.{Finds}
@@ -124,6 +124,26 @@ goes_on a b c k still g e =
     subst (GoesOn (exec a.code.now a.bound) (state_of a)) (sym same)
     (GoesOn-more (exec a.code.now a.bound) (state_of a) (flat_of b) (subst (GoesOn (exec a.code.now a.bound) (state_of a)) (running (flat_of b) b.ended still) g))
 
+-- some turns after others
+then_moves : {S E : Type 0} (f : S → Move S E) (a b c : Move S E) → GoesOn f a b → (k : ℕ) → c ≡ and_then b (moves f k) → GoesOn f a c
+then_moves f a (Over e) c g k h = subst (GoesOn f a) (sym h) g
+then_moves f a (On s) c g zero h = subst (GoesOn f a) (sym h) g
+then_moves f a (On s) c g (suc k) h = then_moves f a (f s) c (GoesOn-more f a s g) k h
+
+pub goes_then : (a b c : Running) → Keeps a b → GoesOn (exec a.code.now a.bound) (state_of a) (state_of b) → GoesOn (exec b.code.now b.bound) (state_of b) (state_of c)
+    → GoesOn (exec a.code.now a.bound) (state_of a) (state_of c)
+goes_then a b c k g h =
+    let same : GoesOn (exec a.code.now a.bound) (state_of b) (state_of c) = rw (sym k.code, sym k.bound) h in
+    then_moves (exec a.code.now a.bound) (state_of a) (state_of b) (state_of c) g same.0 same.1
+
+-- none, and one
+pub stays_there : (a b : Running) → state_of b ≡ state_of a → GoesOn (exec a.code.now a.bound) (state_of a) (state_of b)
+stays_there a b e = subst (GoesOn (exec a.code.now a.bound) (state_of a)) (sym e) (GoesOn-none (exec a.code.now a.bound) (state_of a))
+
+pub one_move : (a b : Running) → a.ended ≡ None → state_of b ≡ exec a.code.now a.bound (flat_of a) → GoesOn (exec a.code.now a.bound) (state_of a) (state_of b)
+one_move a b still e =
+    goes_on a a b (record { code = refl; core = refl; bound = refl; journal = refl }) still (GoesOn-none (exec a.code.now a.bound) (state_of a)) e
+
 pub none_of : (o : Option Pause) → is_none o ≡ true → o ≡ None
 none_of None e = refl
 none_of (Some pause) e = let no : false ≡ true = e in cc
@@ -133,10 +153,6 @@ none_of (Some pause) e = let no : false ≡ true = e in cc
 pub is_item : (o : Option Item) → IsSome o → (t : Item) × (o ≡ Some t)
 is_item None h = let no : false ≡ true = h in absurd (cc)
 is_item (Some t) h = (t, refl)
-
-pub some_item : (o : Option Item) (b : Bool) → b ≡ false → is_some o ≡ not b → (t : Item) × (o ≡ Some t)
-some_item None b e h = let no : false ≡ true = h ∙ ap not e in absurd (cc)
-some_item (Some t) b e h = (t, refl)
 
 pub none_item : (o : Option Item) (b : Bool) → b ≡ true → is_some o ≡ not b → o ≡ None
 none_item None b e h = refl

@@ -1,7 +1,7 @@
 -- The last elements of a list, which are the first ones of the list turned round.
-use Rattle.std.proofs.Common.{◌≡◌, ℕ, ◌-◌, ◌≤◌, List, ◌++◌, length, take, drop, sym, ap, ◌∙◌, arith}
+use Rattle.std.proofs.Common.{◌≡◌, ℕ, ◌-◌, ◌≤◌, List, [], ◌∷◌, ◌++◌, length, take, drop, set, refl, sym, ap, ◌∙◌, arith}
 use Rattle.std.specs.Prelude.{reverse}
-use Rattle.std.proofs.lemmas.List.{reverse-append, reverse-reverse, length-reverse, take-append-drop, length-drop}
+use Rattle.std.proofs.lemmas.List.{reverse-append, reverse-reverse, length-reverse, length-append, take-append-drop, length-drop}
 use Rattle.std.proofs.Math.Seq.{take-append_seam, drop-append_seam}
 
 module _ {A : Type 0} (items now : List A) (below count : ℕ) (turned : reverse items ≡ now) (here : count ≤ length now) (lies : below ≡ length items - count) where
@@ -24,3 +24,17 @@ module _ {A : Type 0} (items now : List A) (below count : ℕ) (turned : reverse
       sym
       (ap (λ l. drop count l) split_top ∙ ap (λ k. drop k (reverse (drop below items) ++ reverse (take below items))) many
       ∙ drop-append_seam (reverse (drop below items)) (reverse (take below items)))
+
+-- ---- another in the place of the last
+
+set_last : {A : Type 0} (xs : List A) (y x : A) → set (xs ++ y ∷ []) (length xs) x ≡ xs ++ x ∷ []
+set_last [] y x = refl
+set_last (z ∷ xs) y x = ap (λ l. z ∷ l) (set_last xs y x)
+
+pub last_set : {A : Type 0} (items now : List A) (x : A) → reverse items ≡ now → 1 ≤ length now → reverse (set items (length items - 1) x) ≡ x ∷ drop 1 now
+last_set items [] x turned some = absurd (omega (arith, some))
+last_set items (y ∷ ys) x turned some =
+    let is : items ≡ reverse ys ++ y ∷ [] = sym (reverse-reverse items) ∙ ap reverse turned ∙ reverse-append (y ∷ []) ys in
+    let at : length items - 1 ≡ length (reverse ys) = omega (arith, ap length is, length-append (reverse ys) (y ∷ [])) in
+    ap (λ k. reverse (set items k x)) at ∙ ap (λ l. reverse (set l (length (reverse ys)) x)) is ∙ ap reverse (set_last (reverse ys) y x)
+    ∙ reverse-append (reverse ys) (x ∷ []) ∙ ap (λ l. x ∷ l) (reverse-reverse ys)

@@ -7,8 +7,8 @@ use Rattle.core_state.specs.Shared.{Shared}
 use Rattle.stack_code.specs.Machine.{Thread, Flat, FlatEnd, seen_of}
 use Rattle.stack_code.specs.Valid.{IsValid}
 use Rattle.stack_code.specs.Alone.{IsAlone}
-use Rattle.stack_code.specs.Fit.{IsFit}
-use Rattle.stack_code.specs.Chains.{AreChained}
+use Rattle.code_safety.specs.Fit.{IsFit}
+use Rattle.code_safety.specs.Chains.{AreChained}
 use Rattle.core_machine.specs.declared.running.Running.{Running}
 use Rattle.core_machine.specs.Blocks.{blocks_of}
 use Rattle.core_machine.specs.Machine.{Machine, IsOnItsWay}

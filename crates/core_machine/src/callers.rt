@@ -1,6 +1,6 @@
 //! The activations of a thread that wait for what they have called.
 
-ghost use Rattle.std.specs.Prelude.{◌≡◌, List, [], ◌∷◌, reverse, IfOk, OnOk, OnErr};
+ghost use Rattle.std.specs.Prelude.{◌≡◌, List, [], ◌∷◌, ◌++◌, reverse, IfOk, OnOk, OnErr};
 ghost use Rattle.stack_code.specs.Machine.{Caller};
 ghost use Rattle.core_machine.specs.Callers.{Popped};
 
@@ -39,6 +39,18 @@ impl Model for Callers {
     ghost invariant = { λ c. all_below (reverse c.waiting.items) ≡ length c.cells.items };
 }
 
+// Puts more cells at the end. Mostly there are none.
+fn extend(cells: &mut Vec<Cell>, more: &[Cell]) -> Result<(), NoMemory>
+    ensures ok { OnOk result (cells.new.items ≡ cells.old.items ++ more.now) }
+    ensures err { OnErr result (cells.new.items ≡ cells.old.items) }
+{
+    if more.is_empty() {
+        return Ok(());
+    }
+    cells.extend_from_slice(more)?;
+    Ok(())
+}
+
 impl Callers {
     /// None waits.
     pub fn new(alloc: Global) -> Callers
@@ -57,7 +69,7 @@ impl Callers {
         ensures err { OnErr result (self.new ≡ self.old) }
     {
         self.waiting.reserve(1)?;
-        self.cells.extend_from_slice(operands)?;
+        extend(&mut self.cells, operands)?;
         self.waiting.push_reserved(Waiting {
             place,
             frame,

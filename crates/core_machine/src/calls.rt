@@ -7,27 +7,29 @@ use ac_base::{NoMemory, Trap};
 use work_item::Cell;
 
 impl Running<'_> {
-    ghost use Rattle.std.specs.Prelude.{◌≡◌, true, None, ◌<◌, ◌^◌, OnOk, OnErr};
+    ghost use Rattle.std.specs.Prelude.{◌≡◌, true, None, ◌<◌, ◌^◌, OnOk, OnErr, IfOk};
     ghost use Rattle.work_item.specs.Conditions.{IsGoing};
     ghost use Rattle.stack_code.specs.declared.instr.Instr.{Instr};
-    ghost use Rattle.stack_code.specs.Fit.{is_int};
+    ghost use Rattle.code_safety.specs.Fit.{is_int};
     ghost use Rattle.core_machine.specs.inner.Operands.{on_top};
     ghost use Rattle.core_machine.specs.inner.Needs.{HasCall};
-    ghost use Rattle.core_machine.specs.inner.Changes.{Keeps, Does, Stays};
+    ghost use Rattle.core_machine.specs.inner.Changes.{Keeps, Does, Stays, Continues};
 
-    /// Calls a function with so many arguments.
-    pub fn call(&mut self, function: u32, count: u32) -> Result<(), NoMemory>
+    /// Calls a function with so many arguments. It says whether the core goes on.
+    #[inline(always)]
+    pub fn call(&mut self, function: u32, count: u32) -> Result<bool, NoMemory>
         requires running { self.old.ended ≡ None }
         requires inside { self.old.place < 2 ^ 32 }
         requires has { HasCall self.old.code.now self.old.operands function count }
         ensures ok { OnOk result (Does self.old (Instr.Call function count) self.new) }
         ensures err { OnErr result (Stays self.old self.new) }
         ensures keeps { Keeps self.old self.new }
+        ensures continues { IfOk result (λ goes. goes ≡ true → Continues self.old self.new) }
     {
         let entered = &self.code.functions()[function as usize];
         if !has_room(&self.frames, entered.words) {
             self.end(Pause::Trapped(Trap::StackFull));
-            return Ok(());
+            return Ok(false);
         }
         self.callers
             .push(self.place + 1, self.frame, self.operands.below(count))?;
@@ -37,7 +39,7 @@ impl Running<'_> {
                 self.operands.clear();
                 self.frame = frame;
                 self.go_to(entered.at as usize);
-                Ok(())
+                Ok(true)
             }
             Err(error) => {
                 self.callers.forget();
@@ -46,24 +48,30 @@ impl Running<'_> {
         }
     }
 
-    /// Gives the value of an activation to its caller; without one the core has finished.
-    pub fn ret(&mut self) -> Result<(), NoMemory>
+    /// Gives the value of an activation to its caller; without one the core has finished. It says
+    /// whether it goes on.
+    #[inline(always)]
+    pub fn ret(&mut self) -> Result<bool, NoMemory>
         requires running { self.old.ended ≡ None }
         requires int { on_top is_int self.old.operands ≡ true }
         requires frame { IsGoing self.old.frames self.old.frame }
         ensures ok { OnOk result (Does self.old Instr.Ret self.new) }
         ensures err { OnErr result (Stays self.old self.new) }
         ensures keeps { Keeps self.old self.new }
+        ensures continues { IfOk result (λ goes. goes ≡ true → Continues self.old self.new) }
     {
         let value = self.operands.top_int();
         match self.callers.pop(Cell::Int(value), &mut self.operands)? {
-            None => self.end(Pause::Finished),
+            None => {
+                self.end(Pause::Finished);
+                Ok(false)
+            }
             Some(caller) => {
                 self.frames.give_back(self.frame);
                 self.frame = caller.frame;
                 self.go_to(caller.place);
+                Ok(true)
             }
         }
-        Ok(())
     }
 }

@@ -1,12 +1,10 @@
 //! The running core: a machine for stack code, whose state is the code's run.
 #![tactic(auto)]
 
-mod arithmetic;
 mod beginning;
 mod callers;
 mod calls;
-mod elements;
-mod format;
+mod counter;
 mod machine;
 mod operands;
 mod operate;

@@ -2,6 +2,7 @@
 
 use crate::beginning::{make_first, set_starts};
 use crate::callers::Callers;
+use crate::counter::Counter;
 use crate::operands::Operands;
 use crate::parked::Parked;
 use crate::pause::{Pause, end_word};
@@ -91,7 +92,7 @@ impl<'a> CoreMachine<'a> {
                 steps: 0,
                 turn: 0,
                 output: Vec::new(alloc),
-                count: 0,
+                count: Counter::new(),
                 ended,
                 alloc,
             },
@@ -144,7 +145,7 @@ impl<'a> CoreMachine<'a> {
                 waiting: List::new(alloc),
                 idle: false,
             },
-            instructions: running.count,
+            instructions: running.count.value(),
         })
     }
 }

@@ -2,7 +2,7 @@
 
 ghost use Rattle.std.specs.Prelude.{◌≡◌, ◌≤◌, true, [], ◌∷◌, OnOk, OnErr, length, reverse, take, drop};
 ghost use Rattle.work_item.specs.declared.cell.Cell.{Cell};
-ghost use Rattle.stack_code.specs.Fit.{is_int};
+ghost use Rattle.code_safety.specs.Fit.{is_int};
 ghost use Rattle.core_machine.specs.inner.Operands.{is_reference, on_top};
 
 use ac_base::NoMemory;
@@ -42,7 +42,8 @@ impl Operands {
         ensures ok { OnOk result (self.new ≡ cell ∷ self.old) }
         ensures err { OnErr result (self.new ≡ self.old) }
     {
-        self.cells.push(cell)?;
+        self.cells.reserve(1)?;
+        self.cells.push_reserved(cell);
         Ok(())
     }
 
@@ -108,8 +109,8 @@ impl Operands {
         requires { 1 ≤ length self.old }
         ensures { self.new ≡ cell ∷ drop 1 self.old }
     {
-        let _ = self.cells.pop();
-        self.cells.push_reserved(cell);
+        let top = self.cells.len() - 1;
+        self.cells[top] = cell;
     }
 
     /// So many from the top, the topmost last.
@@ -143,6 +144,10 @@ impl Operands {
     {
         self.cells.reserve(others.len() + 1)?;
         self.cells.clear();
+        if others.is_empty() {
+            self.cells.push_reserved(top);
+            return Ok(());
+        }
         match self.cells.extend_from_slice(others) {
             Ok(()) => self.cells.push_reserved(top),
             Err(_) => unreachable!(),

@@ -3,10 +3,11 @@
 ghost use Rattle.std.specs.Prelude.{◌≡◌, IsSome, Some, option_map};
 ghost use Rattle.core_machine.specs.inner.Operators.{unary, binary};
 
-use crate::arithmetic;
 use ac_base::Trap;
+use core_values as arithmetic;
 use stack_code::Instr;
 
+#[inline(always)]
 pub fn unary(instr: Instr, x: i64) -> i64
     requires { IsSome (unary instr) }
     ensures { option_map (λ f. f x) (unary instr) ≡ Some result }
@@ -20,6 +21,7 @@ pub fn unary(instr: Instr, x: i64) -> i64
     }
 }
 
+#[inline(always)]
 pub fn binary(instr: Instr, x: i64, y: i64) -> Result<i64, Trap>
     requires { IsSome (binary instr) }
     ensures { option_map (λ f. f x y) (binary instr) ≡ Some result }

@@ -3,14 +3,14 @@
 ghost use Rattle.std.specs.Prelude.{◌≡◌};
 
 use crate::callers::Callers;
-use crate::elements::within;
-use crate::format::add_formatted;
+use crate::counter::Counter;
 use crate::operands::Operands;
 use crate::operate::{binary, unary};
 use crate::parked::Parked;
 use crate::pause::Pause;
 use ac_base::{Journal, NoMemory, Trap};
 use core_scheduler::Scheduler;
+use core_values::{add_formatted, within};
 use finish_block::Blocks;
 use stack_code::{Code, Instr};
 use std::alloc::Global;
@@ -38,7 +38,7 @@ pub struct Running<'a> {
     pub steps: u64,
     pub turn: u64,
     pub output: Vec<u8>,
-    pub count: u64,
+    pub count: Counter,
     pub ended: Option<Pause>,
     pub alloc: Global,
 }
@@ -47,19 +47,29 @@ impl Running<'_> {
     ghost use Rattle.std.specs.Prelude.{◌≡◌, true, None, Some, ◌+◌, ◌-◌, ◌≤◌, ◌<◌, ◌^◌, min, length};
     ghost use Rattle.stack_code.specs.declared.instr.Instr.{Instr};
     ghost use Rattle.core_machine.specs.declared.pause.Pause.{Pause};
-    ghost use Rattle.stack_code.specs.Fit.{is_int};
+    ghost use Rattle.code_safety.specs.Fit.{is_int};
     ghost use Rattle.core_machine.specs.inner.Operands.{on_top};
-    ghost use Rattle.core_machine.specs.inner.Changes.{Keeps, Does};
+    ghost use Rattle.core_machine.specs.inner.Changes.{Keeps, Does, Continues};
+
+    /// One instruction more.
+    #[inline(always)]
+    pub fn count_one(&mut self)
+        ensures { self.new ≡ record self.old { count = min (self.old.count + 1) (2 ^ 64 - 1) } }
+    {
+        self.count.add_one();
+    }
 
     /// One instruction more, and on to that address.
+    #[inline(always)]
     pub fn go_to(&mut self, place: usize)
         ensures { self.new ≡ record self.old { place = place; count = min (self.old.count + 1) (2 ^ 64 - 1) } }
     {
         self.place = place;
-        self.count = self.count.saturating_add(1);
+        self.count_one();
     }
 
     /// One instruction more, and on to the next address.
+    #[inline(always)]
     pub fn go_on(&mut self)
         requires { self.old.place < 2 ^ 32 }
         ensures { self.new ≡ record self.old { place = self.old.place + 1; count = min (self.old.count + 1) (2 ^ 64 - 1) } }
@@ -71,23 +81,25 @@ impl Running<'_> {
     pub fn end(&mut self, pause: Pause)
         ensures { self.new ≡ record self.old { count = min (self.old.count + 1) (2 ^ 64 - 1); ended = Some pause } }
     {
-        self.count = self.count.saturating_add(1);
+        self.count_one();
         self.ended = Some(pause);
     }
 
-    /// Uses a step.
-    pub fn step(&mut self)
+    /// Uses a step. It says whether there was one.
+    pub fn step(&mut self) -> bool
         requires running { self.old.ended ≡ None }
         requires inside { self.old.place < 2 ^ 32 }
         ensures does { Does self.old Instr.Step self.new }
         ensures keeps { Keeps self.old self.new }
+        ensures continues { result ≡ true → Continues self.old self.new }
     {
         if self.steps >= self.bound {
             self.ended = Some(Pause::OutOfSteps);
-            return;
+            return false;
         }
         self.steps += 1;
         self.go_on();
+        true
     }
 
     /// Drops an operand.
@@ -97,6 +109,7 @@ impl Running<'_> {
         requires one { 1 ≤ length self.old.operands }
         ensures does { Does self.old Instr.Drop self.new }
         ensures keeps { Keeps self.old self.new }
+        ensures continues { Continues self.old self.new }
     {
         let _ = self.operands.pop();
         self.go_on();
@@ -107,6 +120,7 @@ impl Running<'_> {
         requires running { self.old.ended ≡ None }
         ensures does { Does self.old (Instr.Jump to) self.new }
         ensures keeps { Keeps self.old self.new }
+        ensures continues { Continues self.old self.new }
     {
         self.go_to(to as usize);
     }
@@ -118,6 +132,7 @@ impl Running<'_> {
         requires int { on_top is_int self.old.operands ≡ true }
         ensures does { Does self.old (Instr.Jz to) self.new }
         ensures keeps { Keeps self.old self.new }
+        ensures continues { Continues self.old self.new }
     {
         if self.operands.pop_int() == 0 {
             self.go_to(to as usize);
@@ -133,6 +148,7 @@ impl Running<'_> {
         requires int { on_top is_int self.old.operands ≡ true }
         ensures does { Does self.old (Instr.Jnz to) self.new }
         ensures keeps { Keeps self.old self.new }
+        ensures continues { Continues self.old self.new }
     {
         if self.operands.pop_int() != 0 {
             self.go_to(to as usize);
@@ -149,10 +165,10 @@ impl Running<'_> {
     ghost use Rattle.work_item.specs.Store.{above, cells_of};
     ghost use Rattle.work_item.specs.Conditions.{Lives, HasLevel, HasSlot, HasGlobal};
     ghost use Rattle.stack_code.specs.declared.instr.Instr.{Instr};
-    ghost use Rattle.stack_code.specs.Fit.{is_int};
+    ghost use Rattle.code_safety.specs.Fit.{is_int};
     ghost use Rattle.core_machine.specs.inner.Operands.{on_top};
     ghost use Rattle.core_machine.specs.State.{flat_of, state_of};
-    ghost use Rattle.core_machine.specs.inner.Changes.{Keeps, Does, Stays};
+    ghost use Rattle.core_machine.specs.inner.Changes.{Keeps, Does, Stays, Continues};
 
     /// Pushes an int.
     pub fn push(&mut self, value: i64) -> Result<(), NoMemory>
@@ -161,6 +177,7 @@ impl Running<'_> {
         ensures ok { OnOk result (Does self.old (Instr.Push value) self.new) }
         ensures err { OnErr result (Stays self.old self.new) }
         ensures keeps { Keeps self.old self.new }
+        ensures continues { Continues self.old self.new }
     {
         self.operands.push(Cell::Int(value))?;
         self.go_on();
@@ -176,6 +193,7 @@ impl Running<'_> {
         ensures ok { OnOk result (Does self.old (Instr.Load level slot) self.new) }
         ensures err { OnErr result (Stays self.old self.new) }
         ensures keeps { Keeps self.old self.new }
+        ensures continues { Continues self.old self.new }
     {
         let cell = self.frames.read(self.frame, level, slot);
         self.operands.push(cell)?;
@@ -191,6 +209,7 @@ impl Running<'_> {
         ensures ok { OnOk result (Does self.old (Instr.LoadG slot) self.new) }
         ensures err { OnErr result (Stays self.old self.new) }
         ensures keeps { Keeps self.old self.new }
+        ensures continues { Continues self.old self.new }
     {
         let value = self.frames.read_global(slot);
         self.operands.push(Cell::Int(value))?;
@@ -207,6 +226,7 @@ impl Running<'_> {
         requires int { on_top is_int self.old.operands ≡ true }
         ensures does { Does self.old (Instr.Store level slot) self.new }
         ensures keeps { Keeps self.old self.new }
+        ensures continues { Continues self.old self.new }
     {
         let value = self.operands.pop_int();
         self.frames.write(self.frame, level, slot, Cell::Int(value));
@@ -221,6 +241,7 @@ impl Running<'_> {
         requires int { on_top is_int self.old.operands ≡ true }
         ensures does { Does self.old (Instr.StoreG slot) self.new }
         ensures keeps { Keeps self.old self.new }
+        ensures continues { Continues self.old self.new }
     {
         let value = self.operands.pop_int();
         self.frames.write_global(slot, value);
@@ -235,6 +256,7 @@ impl Running<'_> {
         ensures ok { OnOk result (Does self.old (Instr.Arr level slot len) self.new) }
         ensures err { OnErr result (Stays self.old self.new) }
         ensures keeps { Keeps self.old self.new }
+        ensures continues { Continues self.old self.new }
     {
         let home = self.frames.above(self.frame, level);
         self.operands.push(Cell::Array(Place {
@@ -253,6 +275,7 @@ impl Running<'_> {
         ensures ok { OnOk result (Does self.old (Instr.ArrG slot len) self.new) }
         ensures err { OnErr result (Stays self.old self.new) }
         ensures keeps { Keeps self.old self.new }
+        ensures continues { Continues self.old self.new }
     {
         self.operands.push(Cell::Array(Place {
             home: None,
@@ -271,6 +294,7 @@ impl Running<'_> {
         requires slots { slot + len ≤ length (cells_of self.old.frames self.old.frame) }
         ensures does { Does self.old (Instr.Clear slot len) self.new }
         ensures keeps { Keeps self.old self.new }
+        ensures continues { Continues self.old self.new }
     {
         self.frames.clear(self.frame, slot, len);
         self.go_on();
@@ -283,18 +307,20 @@ impl Running<'_> {
     ghost use Rattle.std.specs.Prelude.{◌≡◌, true, None, Some, ◌+◌, ◌-◌, ◌≤◌, ◌<◌, ◌^◌, [], ◌∷◌, length};
     ghost use Rattle.work_item.specs.Conditions.{HomeLives};
     ghost use Rattle.stack_code.specs.declared.instr.Instr.{Instr};
-    ghost use Rattle.stack_code.specs.Fit.{is_int};
+    ghost use Rattle.code_safety.specs.Fit.{is_int};
     ghost use Rattle.core_machine.specs.inner.Operands.{is_reference, Stand, second_place};
-    ghost use Rattle.core_machine.specs.inner.Changes.{Keeps, Does};
+    ghost use Rattle.core_machine.specs.inner.Changes.{Keeps, Does, Continues};
 
-    /// Pops an index, then a reference, and pushes that element.
-    pub fn element(&mut self)
+    /// Pops an index, then a reference, and pushes that element. Each of these says whether it did so,
+    /// and did not trap.
+    pub fn element(&mut self) -> bool
         requires running { self.old.ended ≡ None }
         requires inside { self.old.place < 2 ^ 32 }
         requires operands { Stand (is_int ∷ is_reference ∷ []) self.old.operands }
         requires home { HomeLives self.old.frames (second_place self.old.operands).home }
         ensures does { Does self.old Instr.Elem self.new }
         ensures keeps { Keeps self.old self.new }
+        ensures continues { result ≡ true → Continues self.old self.new }
     {
         let index = self.operands.pop_int();
         let place = self.operands.top_place();
@@ -303,19 +329,24 @@ impl Running<'_> {
                 let value = self.frames.read_at(place, index);
                 self.operands.replace(Cell::Int(value));
                 self.go_on();
+                true
             }
-            Err(trap) => self.end(Pause::Trapped(trap)),
+            Err(trap) => {
+                self.end(Pause::Trapped(trap));
+                false
+            }
         }
     }
 
     /// Pops an index, a reference and an int, and puts the int into that element.
-    pub fn set_element(&mut self)
+    pub fn set_element(&mut self) -> bool
         requires running { self.old.ended ≡ None }
         requires inside { self.old.place < 2 ^ 32 }
         requires operands { Stand (is_int ∷ is_reference ∷ is_int ∷ []) self.old.operands }
         requires home { HomeLives self.old.frames (second_place self.old.operands).home }
         ensures does { Does self.old Instr.SetElem self.new }
         ensures keeps { Keeps self.old self.new }
+        ensures continues { result ≡ true → Continues self.old self.new }
     {
         let index = self.operands.pop_int();
         let place = self.operands.pop_place();
@@ -324,19 +355,24 @@ impl Running<'_> {
             Ok(index) => {
                 self.frames.write_at(place, index, value);
                 self.go_on();
+                true
             }
-            Err(trap) => self.end(Pause::Trapped(trap)),
+            Err(trap) => {
+                self.end(Pause::Trapped(trap));
+                false
+            }
         }
     }
 
     /// Pops an index, then a reference, and pushes the reference to just that element.
-    pub fn element_place(&mut self)
+    pub fn element_place(&mut self) -> bool
         requires running { self.old.ended ≡ None }
         requires inside { self.old.place < 2 ^ 32 }
         requires operands { Stand (is_int ∷ is_reference ∷ []) self.old.operands }
         requires place { (second_place self.old.operands).start + (second_place self.old.operands).len < 2 ^ 32 }
         ensures does { Does self.old Instr.Place self.new }
         ensures keeps { Keeps self.old self.new }
+        ensures continues { result ≡ true → Continues self.old self.new }
     {
         let index = self.operands.pop_int();
         let place = self.operands.top_place();
@@ -348,8 +384,12 @@ impl Running<'_> {
                     len: 1,
                 }));
                 self.go_on();
+                true
             }
-            Err(trap) => self.end(Pause::Trapped(trap)),
+            Err(trap) => {
+                self.end(Pause::Trapped(trap));
+                false
+            }
         }
     }
 }
@@ -359,12 +399,13 @@ impl Running<'_> {
 impl Running<'_> {
     ghost use Rattle.std.specs.Prelude.{◌≡◌, true, None, Some, IsSome, ◌+◌, ◌-◌, ◌≤◌, ◌<◌, ◌^◌, [], ◌∷◌, length};
     ghost use Rattle.stack_code.specs.declared.instr.Instr.{Instr};
-    ghost use Rattle.stack_code.specs.Fit.{is_int};
+    ghost use Rattle.code_safety.specs.Fit.{is_int};
     ghost use Rattle.core_machine.specs.inner.Operands.{on_top, Stand};
     ghost use Rattle.core_machine.specs.inner.Operators.{unary, binary};
-    ghost use Rattle.core_machine.specs.inner.Changes.{Keeps, Does};
+    ghost use Rattle.core_machine.specs.inner.Changes.{Keeps, Does, Continues};
 
     /// Applies an operator to one int.
+    #[inline(always)]
     pub fn apply_unary(&mut self, instr: Instr)
         requires running { self.old.ended ≡ None }
         requires inside { self.old.place < 2 ^ 32 }
@@ -372,20 +413,23 @@ impl Running<'_> {
         requires int { on_top is_int self.old.operands ≡ true }
         ensures does { Does self.old instr self.new }
         ensures keeps { Keeps self.old self.new }
+        ensures continues { Continues self.old self.new }
     {
         let x = self.operands.top_int();
         self.operands.replace(Cell::Int(unary(instr, x)));
         self.go_on();
     }
 
-    /// Applies an operator to two ints.
-    pub fn apply_binary(&mut self, instr: Instr)
+    /// Applies an operator to two ints. It says whether it did so, and did not trap.
+    #[inline(always)]
+    pub fn apply_binary(&mut self, instr: Instr) -> bool
         requires running { self.old.ended ≡ None }
         requires inside { self.old.place < 2 ^ 32 }
         requires operator { IsSome (binary instr) }
         requires ints { Stand (is_int ∷ is_int ∷ []) self.old.operands }
         ensures does { Does self.old instr self.new }
         ensures keeps { Keeps self.old self.new }
+        ensures continues { result ≡ true → Continues self.old self.new }
     {
         let y = self.operands.pop_int();
         let x = self.operands.top_int();
@@ -393,8 +437,12 @@ impl Running<'_> {
             Ok(value) => {
                 self.operands.replace(Cell::Int(value));
                 self.go_on();
+                true
             }
-            Err(trap) => self.end(Pause::Trapped(trap)),
+            Err(trap) => {
+                self.end(Pause::Trapped(trap));
+                false
+            }
         }
     }
 }
@@ -402,13 +450,14 @@ impl Running<'_> {
 // ---- printing
 
 impl Running<'_> {
-    ghost use Rattle.std.specs.Prelude.{◌≡◌, None, Some, ◌+◌, ◌-◌, ◌≤◌, ◌<◌, ◌^◌, length, OnOk, OnErr};
+    ghost use Rattle.std.specs.Prelude.{◌≡◌, None, Some, true, ◌+◌, ◌-◌, ◌≤◌, ◌<◌, ◌^◌, length, OnOk, OnErr, IfOk};
     ghost use Rattle.stack_code.specs.declared.instr.Instr.{Instr};
     ghost use Rattle.core_machine.specs.State.{flat_of, state_of};
-    ghost use Rattle.core_machine.specs.inner.Changes.{Keeps, Does, Stays};
+    ghost use Rattle.core_machine.specs.inner.Changes.{Keeps, Does, Stays, Continues};
 
-    /// Pops so many ints, and prints a text with them.
-    pub fn print(&mut self, text: u32, count: u32) -> Result<(), NoMemory>
+    /// Pops so many ints, and prints a text with them. It says whether there was room for it.
+    #[inline(always)]
+    pub fn print(&mut self, text: u32, count: u32) -> Result<bool, NoMemory>
         requires running { self.old.ended ≡ None }
         requires inside { self.old.place < 2 ^ 32 }
         requires text { text < length self.old.code.now.texts }
@@ -416,33 +465,61 @@ impl Running<'_> {
         ensures ok { OnOk result (Does self.old (Instr.Print text count) self.new) }
         ensures err { OnErr result (Stays self.old self.new) }
         ensures keeps { Keeps self.old self.new }
+        ensures continues { IfOk result (λ goes. goes ≡ true → Continues self.old self.new) }
     {
         let text = self.code.texts()[text as usize].as_slice();
         let values = self.operands.top(count);
         if add_formatted(self.alloc, &mut self.output, text, values)? {
             self.operands.discard(count);
             self.go_on();
+            Ok(true)
         } else {
             self.end(Pause::Trapped(Trap::OutputFull));
+            Ok(false)
         }
-        Ok(())
     }
 }
 
 // ---- one instruction after another
 
 impl Running<'_> {
-    ghost use Rattle.std.specs.Prelude.{◌≡◌, None, Some, IsSome, ◌<◌, ◌^◌, OnOk, OnErr, IfOk, slice_get};
+    ghost use Rattle.std.specs.Prelude.{◌≡◌, None, Some, IsSome, true, ◌<◌, ◌^◌, OnOk, OnErr, IfOk, slice_get};
     ghost use Rattle.core_state.specs.Moves.{GoesOn};
     ghost use Rattle.stack_code.specs.Kept.{IsRanked};
     ghost use Rattle.stack_code.specs.Machine.{exec};
     ghost use Rattle.core_machine.specs.State.{flat_of, state_of, IsSound};
     ghost use Rattle.core_machine.specs.inner.Left.{left_of};
-    ghost use Rattle.core_machine.specs.inner.Needs.{Finds};
-    ghost use Rattle.core_machine.specs.inner.Changes.{Keeps, Does, Stays};
+    ghost use Rattle.core_machine.specs.inner.Needs.{Finds, is_on_threads};
+    ghost use Rattle.core_machine.specs.inner.Changes.{Keeps, Does, Stays, Continues};
 
-    // One instruction, which finds what it needs.
-    fn execute(&mut self, instr: Instr) -> Result<(), NoMemory>
+    // An instruction on blocks and threads, which finds what it needs.
+    fn change_threads(&mut self, instr: Instr) -> Result<(), NoMemory>
+        requires running { self.old.ended ≡ None }
+        requires runs { IsSome self.old.schedule.running }
+        requires inside { self.old.place < 2 ^ 32 }
+        requires threads { is_on_threads instr ≡ true }
+        requires finds { Finds self.old.code.now (flat_of self.old) instr }
+        ensures ok { OnOk result (Does self.old instr self.new) }
+        ensures err { OnErr result (Stays self.old self.new) }
+        ensures keeps { Keeps self.old self.new }
+    {
+        match instr {
+            Instr::Enter { slot } => self.enter(slot),
+            Instr::Finish { slot } => {
+                self.finish(slot);
+                Ok(())
+            }
+            Instr::Async { slots, to } => self.start(slots, to),
+            Instr::End => self.end_thread(),
+            Instr::Yield => self.yield_now(),
+            _ => unreachable!(),
+        }
+    }
+
+    // One instruction, which finds what it needs. It says whether the same thread goes on with the
+    // next one; where it does not say so, the core may have ended or another thread may run, or none.
+    #[inline(always)]
+    fn execute(&mut self, instr: Instr) -> Result<bool, NoMemory>
         requires running { self.old.ended ≡ None }
         requires runs { IsSome self.old.schedule.running }
         requires inside { self.old.place < 2 ^ 32 }
@@ -450,21 +527,21 @@ impl Running<'_> {
         ensures ok { OnOk result (Does self.old instr self.new) }
         ensures err { OnErr result (Stays self.old self.new) }
         ensures keeps { Keeps self.old self.new }
+        ensures continues { IfOk result (λ goes. goes ≡ true → Continues self.old self.new) }
     {
         match instr {
-            Instr::Step => self.step(),
-            Instr::Push(value) => return self.push(value),
-            Instr::Load { level, slot } => return self.load(level, slot),
-            Instr::LoadG { slot } => return self.load_global(slot),
+            Instr::Step => return Ok(self.step()),
+            Instr::Push(value) => self.push(value)?,
+            Instr::Load { level, slot } => self.load(level, slot)?,
+            Instr::LoadG { slot } => self.load_global(slot)?,
             Instr::Store { level, slot } => self.store(level, slot),
             Instr::StoreG { slot } => self.store_global(slot),
-            Instr::Arr { level, slot, len } => return self.array(level, slot, len),
-            Instr::ArrG { slot, len } => return self.global_array(slot, len),
-            Instr::Elem => self.element(),
-            Instr::SetElem => self.set_element(),
-            Instr::Place => self.element_place(),
+            Instr::Arr { level, slot, len } => self.array(level, slot, len)?,
+            Instr::ArrG { slot, len } => self.global_array(slot, len)?,
+            Instr::Elem => return Ok(self.element()),
+            Instr::SetElem => return Ok(self.set_element()),
+            Instr::Place => return Ok(self.element_place()),
             Instr::Clear { slot, len } => self.clear(slot, len),
-            Instr::Neg | Instr::Not | Instr::Flip | Instr::Bool => self.apply_unary(instr),
             Instr::Drop => self.drop_one(),
             Instr::Jump { to } => self.jump(to),
             Instr::Jz { to } => self.jump_if_zero(to),
@@ -472,51 +549,101 @@ impl Running<'_> {
             Instr::Print { text, count } => return self.print(text, count),
             Instr::Call { function, count } => return self.call(function, count),
             Instr::Ret => return self.ret(),
-            Instr::Enter { slot } => return self.enter(slot),
-            Instr::Finish { slot } => self.finish(slot),
-            Instr::Async { slots, to } => return self.start(slots, to),
-            Instr::End => return self.end_thread(),
-            Instr::Yield => return self.yield_now(),
-            Instr::BitOr
-            | Instr::BitXor
-            | Instr::BitAnd
-            | Instr::Eq
-            | Instr::Ne
-            | Instr::Less
-            | Instr::LessEq
-            | Instr::More
-            | Instr::MoreEq
-            | Instr::Shl
-            | Instr::Shr
-            | Instr::Add
-            | Instr::Sub
-            | Instr::Mul
-            | Instr::Div
-            | Instr::Rem => self.apply_binary(instr),
+            // One arm for each operator, so that nothing looks at the instruction twice.
+            Instr::Neg => self.apply_unary(Instr::Neg),
+            Instr::Not => self.apply_unary(Instr::Not),
+            Instr::Flip => self.apply_unary(Instr::Flip),
+            Instr::Bool => self.apply_unary(Instr::Bool),
+            Instr::BitOr => return Ok(self.apply_binary(Instr::BitOr)),
+            Instr::BitXor => return Ok(self.apply_binary(Instr::BitXor)),
+            Instr::BitAnd => return Ok(self.apply_binary(Instr::BitAnd)),
+            Instr::Eq => return Ok(self.apply_binary(Instr::Eq)),
+            Instr::Ne => return Ok(self.apply_binary(Instr::Ne)),
+            Instr::Less => return Ok(self.apply_binary(Instr::Less)),
+            Instr::LessEq => return Ok(self.apply_binary(Instr::LessEq)),
+            Instr::More => return Ok(self.apply_binary(Instr::More)),
+            Instr::MoreEq => return Ok(self.apply_binary(Instr::MoreEq)),
+            Instr::Shl => return Ok(self.apply_binary(Instr::Shl)),
+            Instr::Shr => return Ok(self.apply_binary(Instr::Shr)),
+            Instr::Add => return Ok(self.apply_binary(Instr::Add)),
+            Instr::Sub => return Ok(self.apply_binary(Instr::Sub)),
+            Instr::Mul => return Ok(self.apply_binary(Instr::Mul)),
+            Instr::Div => return Ok(self.apply_binary(Instr::Div)),
+            Instr::Rem => return Ok(self.apply_binary(Instr::Rem)),
+            Instr::Enter { .. }
+            | Instr::Finish { .. }
+            | Instr::Async { .. }
+            | Instr::End
+            | Instr::Yield => {
+                self.change_threads(instr)?;
+                return Ok(false);
+            }
             _ => unreachable!(),
         }
-        Ok(())
+        Ok(true)
     }
 
-    fn next_instr(&self) -> Instr
+    #[inline(always)]
+    fn next_instr(&self, instrs: &[Instr]) -> Instr
         requires running { self.now.ended ≡ None }
         requires runs { IsSome self.now.schedule.running }
         requires sound { IsSound self.now }
+        requires instrs { instrs.now ≡ self.now.code.now.instrs }
         ensures here { slice_get self.now.code.now.instrs self.now.place ≡ Some result }
         ensures inside { self.now.place < 2 ^ 32 }
         ensures finds { Finds self.now.code.now (flat_of self.now) result }
     {
-        self.code.instrs()[self.place]
+        instrs[self.place]
     }
 
-    // The next instruction of a core that has not ended, or the next dispatch. The ranks are there
-    // for the proof alone that less is left to do.
+    // The next instruction of the running thread. The ranks are there for the proof alone that less
+    // is left to do.
+    #[inline(always)]
+    fn one(&mut self, instrs: &[Instr], _ranks: &[u64]) -> Result<bool, NoMemory>
+        requires running { self.old.ended ≡ None }
+        requires runs { IsSome self.old.schedule.running }
+        requires sound { IsSound self.old }
+        requires instrs { instrs.now ≡ self.old.code.now.instrs }
+        requires ranked { IsRanked self.old.code.now _ranks.now }
+        ensures ok { OnOk result (state_of self.new ≡ exec self.old.code.now self.old.bound (flat_of self.old)) }
+        ensures err { OnErr result (state_of self.new ≡ state_of self.old) }
+        ensures keeps { Keeps self.old self.new }
+        ensures sound { IsSound self.new }
+        ensures less { OnOk result (left_of _ranks.now self.new < left_of _ranks.now self.old) }
+        ensures continues { IfOk result (λ goes. goes ≡ true → Continues self.old self.new) }
+    {
+        let instr = self.next_instr(instrs);
+        let goes = self.execute(instr)?;
+        Ok(goes)
+    }
+
+    // The instructions of the running thread, until it need not be the same thread that goes on.
+    fn stretch(&mut self, _ranks: &[u64]) -> Result<(), NoMemory>
+        requires running { self.old.ended ≡ None }
+        requires runs { IsSome self.old.schedule.running }
+        requires sound { IsSound self.old }
+        requires ranked { IsRanked self.old.code.now _ranks.now }
+        ensures goes { GoesOn (exec self.old.code.now self.old.bound) (state_of self.old) (state_of self.new) }
+        ensures keeps { Keeps self.old self.new }
+        ensures sound { IsSound self.new }
+        ensures less { OnOk result (left_of _ranks.now self.new < left_of _ranks.now self.old) }
+    {
+        let code = self.code;
+        let instrs = code.instrs();
+        'steps: loop {
+            let goes = self.one(instrs, _ranks)?;
+            if !goes {
+                return Ok(());
+            }
+        }
+    }
+
+    // A stretch of a core that has not ended, or the next dispatch.
     fn turn(&mut self, _ranks: &[u64]) -> Result<(), NoMemory>
         requires running { self.old.ended ≡ None }
         requires sound { IsSound self.old }
         requires ranked { IsRanked self.old.code.now _ranks.now }
-        ensures ok { OnOk result (state_of self.new ≡ exec self.old.code.now self.old.bound (flat_of self.old)) }
-        ensures err { OnErr result (state_of self.new ≡ state_of self.old) }
+        ensures goes { GoesOn (exec self.old.code.now self.old.bound) (state_of self.old) (state_of self.new) }
         ensures keeps { Keeps self.old self.new }
         ensures sound { IsSound self.new }
         ensures less { OnOk result (left_of _ranks.now self.new < left_of _ranks.now self.old) }
@@ -525,9 +652,7 @@ impl Running<'_> {
             self.dispatch();
             return Ok(());
         }
-        let instr = self.next_instr();
-        self.execute(instr)?;
-        Ok(())
+        self.stretch(_ranks)
     }
 
     // The ranks are there for the proof alone that the core comes to its end.

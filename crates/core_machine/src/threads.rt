@@ -18,13 +18,6 @@ impl Running<'_> {
     ghost use Rattle.core_machine.specs.State.{flat_of, thread_of};
     ghost use Rattle.core_machine.specs.inner.Changes.{Keeps, with_woken};
 
-    // One instruction more.
-    fn count_one(&mut self)
-        ensures { self.new ≡ record self.old { count = min (self.old.count + 1) (2 ^ 64 - 1) } }
-    {
-        self.count = self.count.saturating_add(1);
-    }
-
     // Another thread stands where the running one did, which is given.
     fn stand(&mut self, next: Parked) -> Parked
         ensures stood { result ≡ thread_of self.old }

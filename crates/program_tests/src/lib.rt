@@ -4,4 +4,6 @@
 #[cfg(test)]
 mod main_calls;
 #[cfg(test)]
+mod reference;
+#[cfg(test)]
 mod rules;

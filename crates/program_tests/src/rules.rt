@@ -16,7 +16,7 @@ const SOURCE: &str =
     "core a(f); core b(f); channel c(a, b, 5); file p(\"x\"); async void f() { } void h() { }";
 
 /// The program that a source spells.
-fn program(alloc: Global, source: &[u8]) -> Result<Program, Fail>
+pub fn program(alloc: Global, source: &[u8]) -> Result<Program, Fail>
     requires { length source.now ≤ 1048576 }
     ensures { IfOk result (λ p. IsSmall p × HasShape p) }
 {

@@ -10,6 +10,7 @@ use Rattle.ac_base.specs.declared.ends.CoreEnd.{CoreEnd}
 use Rattle.ac_base.specs.declared.ends.EndWord.TheVariants.{Finished, Trapped, OutOfSteps}
 use Rattle.core_state.specs.Moves.{Move, On, Over, moves, and_then}
 use Rattle.core_state.specs.Shared.{core_end}
+use Rattle.ac_base.specs.Hexadecimal.{hex_of}
 use Rattle.stack_code.specs.declared.instr.Instr.{Instr}
 use Rattle.stack_code.specs.declared.instr.Instr.TheVariants as i
 use Rattle.stack_code.specs.declared.parts.Entered.{Entered}
@@ -33,7 +34,7 @@ use Rattle.stack_code.specs.Valid.{IsEntry, HasCores, IsCapacity, IsChannel, Has
 use Rattle.stack_code.specs.Kept.{Has, IsTable, IsRanked, IsKept}
 use Rattle.stack_code.specs.Alone.{is_alone, IsAlone}
 use Rattle.stack_code.specs.declared.shape.Want.TheVariants as want
-use Rattle.stack_code.specs.Listing.{instr_line, between, function_lines, core_lines, hex_of, text_lines, listing}
+use Rattle.stack_code.specs.Listing.{instr_line, between, function_lines, core_lines, text_lines, listing}
 
 -- a code of one function whose frame has so many slots, which the core `a` enters; it has two globals, of which the second starts with 5
 abbrev pub entered : ℕ → Entered

@@ -5,9 +5,4 @@ pub mod Valid
 pub mod Kept
 pub mod inner
 pub mod Alone
-pub mod Fit
-pub mod Left
-pub mod Ends
 pub mod Listing
-pub mod Living
-pub mod Chains

@@ -1,6 +1,7 @@
 -- The text that shows a code: its cores, its functions with their instructions, and its texts, each on lines of their own.
-use Rattle.std.specs.Prelude.{ℕ, suc, ◌+◌, ◌-◌, ◌/◌, ◌%◌, ℤ, pos, List, [], ◌∷◌, ◌++◌, length, take, drop, codes, nat_lt, if◌then◌else◌}
+use Rattle.std.specs.Prelude.{ℕ, suc, ◌-◌, ℤ, pos, List, [], ◌∷◌, ◌++◌, length, take, drop, codes}
 use Rattle.std.specs.Fmt.{decimal, signed_decimal}
+use Rattle.ac_base.specs.Hexadecimal.{hex_of}
 use Rattle.stack_code.specs.declared.instr.Instr.{Instr}
 use Rattle.stack_code.specs.declared.instr.Instr.TheVariants as i
 use Rattle.stack_code.specs.declared.parts.Entered.{Entered}
@@ -128,19 +129,7 @@ core_lines [] entries = []
 core_lines (name ∷ names) [] = []
 core_lines (name ∷ names) (entry ∷ entries) = core_line name entry ++ core_lines names entries
 
--- a digit in lower-case hexadecimal
-abbrev pub hex_digit : ℕ → ℕ
-hex_digit n = if nat_lt n 10 then 48 + n else 97 + (n - 10)
-
-abbrev pub hex_digits : List ℕ → List ℕ
-hex_digits [] = []
-hex_digits (b ∷ bs) = hex_digit (b / 16) ∷ hex_digit (b % 16) ∷ hex_digits bs
-
--- two digits a byte, and `-` for no bytes
-abbrev pub hex_of : List ℕ → List ℕ
-hex_of [] = codes "-"
-hex_of (b ∷ bs) = hex_digits (b ∷ bs)
-
+-- a text of `Print` with its number, in hexadecimal
 abbrev pub text_line : ℕ → List ℕ → List ℕ
 text_line number bytes = codes "text " ++ decimal number ++ 32 ∷ [] ++ hex_of bytes ++ 10 ∷ []
 

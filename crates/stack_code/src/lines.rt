@@ -2,12 +2,12 @@
 
 ghost use Rattle.std.specs.Prelude.{◌≡◌, ◌++◌, ◌∷◌, [], ◌+◌, ◌<◌, ◌^◌, pos, length, IfOk, OnOk};
 ghost use Rattle.stack_code.specs.Listing.{instr_name, operands_of, spaced, instr_line, instr_lines, function_line, between, end_before};
-ghost use Rattle.stack_code.specs.Listing.{function_lines, core_line, core_lines, hex_digit, hex_of, text_line, text_lines, listing};
+ghost use Rattle.stack_code.specs.Listing.{function_lines, core_line, core_lines, text_line, text_lines, listing};
 
 use crate::code::Code;
 use crate::instr::Instr;
 use crate::parts::Entered;
-use ac_base::{Bytes, List, Name, NoMemory, decimal};
+use ac_base::{Bytes, List, Name, NoMemory, decimal, hex};
 use std::alloc::Global;
 
 fn name_of(instr: Instr) -> &'static str
@@ -239,32 +239,6 @@ fn add_cores(
     Ok(())
 }
 
-fn digit(number: u8) -> u8
-    requires { number < 16 }
-    ensures { result ≡ hex_digit number }
-{
-    if number < 10 {
-        b'0' + number
-    } else {
-        b'a' + (number - 10)
-    }
-}
-
-// Adds the bytes in hexadecimal, and `-` where there are none.
-fn add_hex(text: &mut Vec<u8>, bytes: &[u8]) -> Result<(), NoMemory>
-    ensures { OnOk result (text.new.items ≡ text.old.items ++ hex_of bytes.now) }
-{
-    if bytes.is_empty() {
-        text.push(b'-')?;
-        return Ok(());
-    }
-    for byte in bytes {
-        text.push(digit(*byte / 16))?;
-        text.push(digit(*byte % 16))?;
-    }
-    Ok(())
-}
-
 fn add_text(alloc: Global, text: &mut Vec<u8>, number: usize, bytes: &[u8]) -> Result<(), NoMemory>
     requires { number < 2 ^ 63 }
     ensures { OnOk result (text.new.items ≡ text.old.items ++ text_line number bytes.now) }
@@ -273,7 +247,7 @@ fn add_text(alloc: Global, text: &mut Vec<u8>, number: usize, bytes: &[u8]) -> R
     text.extend_from_slice(b"text ")?;
     text.extend_from_slice(number.as_slice())?;
     text.push(b' ')?;
-    add_hex(text, bytes)?;
+    text.extend_from_slice(hex(alloc, bytes)?.as_slice())?;
     text.push(b'\n')?;
     Ok(())
 }

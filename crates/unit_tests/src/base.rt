@@ -1,8 +1,8 @@
 //! Tests of the types and texts that every layer speaks of.
 
 use ac_base::{
-    Boxed, CoreEnd, Draft, EndWord, Entry, Event, Journal, List, MachineEnd, NoMemory, Trap,
-    decimal, report, status,
+    Boxed, Clock, CoreEnd, Draft, EndWord, Entry, Event, Journal, List, MachineEnd, NoMemory,
+    Payload, Trap, decimal, hex, report, status,
 };
 use std::alloc::Global;
 use std::test::Fail;
@@ -142,5 +142,61 @@ fn lists_boxes_and_journals_take_what_they_are_given(rt: HostRuntime) -> Result<
         event: Event::Know { link: 0, number: 0 },
     });
     assert_eq!(rt; journal.len(), 1);
+    Ok(())
+}
+
+#[test]
+fn a_copied_journal_has_the_same_entries(rt: HostRuntime) -> Result<(), Fail> {
+    let alloc = rt.alloc();
+    let mut journal = Journal::new(alloc);
+    journal.reserve(1)?;
+    journal.push(Entry {
+        stamp: 3,
+        turn: 2,
+        event: Event::Offer {
+            link: 1,
+            number: 4,
+            payload: Payload::Write {
+                file: 5,
+                from: 6,
+                bytes: bytes(alloc, "xy")?,
+            },
+        },
+    });
+    let copy = journal.copy(alloc)?;
+    assert_eq!(rt; copy.len(), 1);
+    let Event::Offer {
+        payload: Payload::Write { from, bytes, .. },
+        ..
+    } = &copy.as_slice()[0].event
+    else {
+        return Err(Fail::from(NoMemory));
+    };
+    assert_eq!(rt; *from, 6);
+    assert_eq!(rt; bytes.as_slice(), b"xy".as_slice());
+    Ok(())
+}
+
+#[test]
+fn a_clock_gives_the_last_stamp_and_no_more(rt: HostRuntime) -> Result<(), Fail> {
+    let mut clock = Clock::new(1_152_921_504_606_846_974);
+    assert_eq!(rt; clock.after(0), Some(1_152_921_504_606_846_975));
+    clock.set(1_152_921_504_606_846_975);
+    assert_eq!(rt; clock.after(0), None);
+    assert_eq!(rt; clock.last(), 1_152_921_504_606_846_975);
+    let clock = Clock::new(3);
+    assert_eq!(rt; clock.after(7), Some(8));
+    assert_eq!(rt; clock.after(2), Some(4));
+    Ok(())
+}
+
+#[test]
+fn bytes_are_written_in_hexadecimal(rt: HostRuntime) -> Result<(), Fail> {
+    let alloc = rt.alloc();
+    assert_eq!(rt; hex(alloc, b"")?.as_slice(), b"-".as_slice());
+    assert_eq!(rt;
+        hex(alloc, &[0, 9, 171, 255])?.as_slice(),
+        b"0009abff".as_slice()
+    );
     Ok(())
 }

@@ -12,6 +12,8 @@ mod codes;
 #[cfg(test)]
 mod frames;
 #[cfg(test)]
+mod histories;
+#[cfg(test)]
 mod lexing;
 #[cfg(test)]
 mod links;

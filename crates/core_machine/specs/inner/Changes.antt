@@ -14,6 +14,11 @@ pub record Keeps (before after : Running) : Type 0 where
   pub bound : after.bound ≡ before.bound
   pub journal : after.journal.entries ≡ before.journal.entries
 
+-- whether the core has ended, and which threads run and are ready, stays
+pub record Continues (before after : Running) : Type 0 where
+  pub ended : after.ended ≡ before.ended
+  pub schedule : after.schedule ≡ before.schedule
+
 -- the thread that runs
 abbrev pub item_of : Option Item → Item
 item_of None = first_item

@@ -1,6 +1,6 @@
 -- A bound on what a running core can still do.
 use Rattle.std.specs.Prelude.{ℕ, suc, List, Option, Some, None}
-use Rattle.stack_code.specs.Left.{left}
+use Rattle.code_safety.specs.Left.{left}
 use Rattle.core_machine.specs.declared.pause.Pause.{Pause}
 use Rattle.core_machine.specs.declared.running.Running.{Running}
 use Rattle.core_machine.specs.State.{flat_of}

@@ -1,6 +1,6 @@
 -- What an instruction needs, which a core that is fit finds.
 use Rattle.std.specs.Prelude.{◌≡◌, ◌≢◌, ℕ, ◌+◌, ◌≤◌, ◌<◌, ◌^◌, List, [], ◌∷◌, length, take, reverse, Option, Some, IfSome, IsSome}
-use Rattle.std.specs.Prelude.{true, slice_get}
+use Rattle.std.specs.Prelude.{Bool, true, false, slice_get}
 use Rattle.work_item.specs.declared.ids.Item.{Item}
 use Rattle.work_item.specs.declared.ids.BlockId.{BlockId}
 use Rattle.work_item.specs.declared.cell.Cell.{Cell}
@@ -12,7 +12,7 @@ use Rattle.stack_code.specs.declared.instr.Instr.TheVariants as i
 use Rattle.stack_code.specs.declared.parts.Entered.{Entered}
 use Rattle.stack_code.specs.Parts.{Parts}
 use Rattle.stack_code.specs.Machine.{Flat, Block, block_at}
-use Rattle.stack_code.specs.Fit.{is_int}
+use Rattle.code_safety.specs.Fit.{is_int}
 use Rattle.core_machine.specs.inner.Operands.{is_reference, on_top, Stand, second_place}
 
 -- its operands, two or one on top, are ints
@@ -89,6 +89,15 @@ pub record CanEnd (m : Flat) : Type 0 where
   pub childless : has.block.count ≡ 1 → has.block.waits ≡ true → IsChildless m.blocks has.number
   pub frame : IsGoing m.store m.current.frame
   pub listed : IsListed m
+
+-- the instruction is one on blocks and threads
+abbrev pub is_on_threads : Instr → Bool
+is_on_threads (i.Enter slot) = true
+is_on_threads (i.Finish slot) = true
+is_on_threads (i.Async slots to) = true
+is_on_threads i.End = true
+is_on_threads i.Yield = true
+is_on_threads _ = false
 
 abbrev pub Finds : Parts → Flat → Instr → Type 0
 Finds code m i.Step = Unit {0}

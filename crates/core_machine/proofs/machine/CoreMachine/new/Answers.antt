@@ -9,13 +9,13 @@ use Rattle.core_machine.specs.State.{flat_of}
 use Rattle.core_machine.proofs.Begun.{bare, is_bare, first_stands, first_of, run_of, sound_first}
 use Rattle.core_machine.proofs.machine.CoreMachine.new.Goals as goal
 
-begun : (c : goal.After-new-6) → HasBegun (bare c.args.code.now) c.make_first.new.frames c.begin-entered.result.now.words c.in_ok-ended.ended
+begun : (c : goal.After-new-7) → HasBegun (bare c.args.code.now) c.make_first.new.frames c.begin-entered.result.now.words c.in_ok-ended.ended
 begun c =
     let e = is_bare c.args.code.now c.in_ok-frames.frames c.set_starts.new.frames c.globals.result c.starts.result.now c.in_ok-frames.ensures c.globals.ensures c.starts.ensures.same
     c.set_starts.ensures.globals c.set_starts.ensures.frames in
     subst (λ (s : Store). HasBegun s c.make_first.new.frames c.begin-entered.result.now.words c.in_ok-ended.ended) e c.in_ok-ended.ensures
 
-abbrev first : goal.After-new-6 → Running
+abbrev first : goal.After-new-7 → Running
 first c = record {
   code = c.args.code;
   core = c.args.core;
@@ -33,17 +33,18 @@ first c = record {
   steps = 0;
   turn = 0;
   output = c.new-6.result;
-  count = 0;
+  count = c.new-7.result;
   ended = c.in_ok-ended.ended;
   alloc = c.args.alloc;
 }
 
-stands : (c : goal.After-new-6) → flat_of (first c) ≡ first_core c.begin-entered.result.now (first_shared []) c.make_first.new.frames
+stands : (c : goal.After-new-7) → flat_of (first c) ≡ first_core c.begin-entered.result.now (first_shared []) c.make_first.new.frames
 stands c =
     let running = ap (λ (s : Schedule). s.running) c.schedule-2.ensures ∙ c.reserve.ensures.running ∙ c.new-schedule.ensures.running in
     let ready = ap (λ (s : Schedule). s.ready) c.schedule-2.ensures ∙ ap (λ l. l ++ first_item ∷ []) (c.reserve.ensures.ready ∙ c.new-schedule.ensures.ready) in
     let threads = c.in_ok-push.ensures.items ∙ ap (λ l. l ++ c.new-first.result ∷ []) c.new-threads.ensures.items ∙ ap (λ x. x ∷ []) c.new-first.ensures in
-    first_stands (first c) c.begin-entered.result.now running ready threads c.new-5.ensures refl refl c.new-3.ensures c.new-4.ensures refl c.new-2.ensures c.new-6.ensures.items refl refl refl
+    first_stands (first c) c.begin-entered.result.now running ready threads
+    c.new-5.ensures refl refl c.new-3.ensures c.new-4.ensures refl c.new-2.ensures c.new-6.ensures.items refl refl c.new-7.ensures
 
 pub invariant_of-result : goal.invariant_of-result
 invariant_of-result c = sound_first (first c) c.begin-entered.result.now c.begin-entered.ensures c.new-2.ensures (stands c) (begun c) c.starts.ensures.valid c.requires.alone

@@ -11,7 +11,7 @@ bounds-instrs-self c =
     let m = c.args.self.now in
     let fit = c.requires.sound.fit c.requires.running in
     let t = is_item m.schedule.running c.requires.runs in
-    subst (λ xs. m.place < length xs) (sym c.instrs.ensures.same) (within m.code.now m.bound (flat_of m) fit c.requires.sound.valid t.0 t.1)
+    subst (λ xs. m.place < length xs) (sym c.requires.instrs) (within m.code.now m.bound (flat_of m) fit c.requires.sound.valid t.0 t.1)
 
 pub offset_bounds-instrs-self : goal.offset_bounds-instrs-self
 offset_bounds-instrs-self c =
@@ -28,7 +28,7 @@ returns-clause-here c =
     let t = is_item m.schedule.running c.requires.runs in
     let instrs = m.code.now.instrs in
     let there = slice_get-get_or instrs m.place i.Step (within m.code.now m.bound (flat_of m) fit c.requires.sound.valid t.0 t.1) in
-    let same : slice_index_or instrs m.place i.Step ≡ slice_index_or c.instrs.result.now m.place i.Step = ap (λ xs. slice_index_or xs m.place i.Step) (sym c.instrs.ensures.same) in
+    let same : slice_index_or instrs m.place i.Step ≡ slice_index_or c.args.instrs.now m.place i.Step = ap (λ xs. slice_index_or xs m.place i.Step) (sym c.requires.instrs) in
     there ∙ ap (λ x. Some x) same
 
 pub returns-clause-inside : goal.returns-clause-inside
@@ -44,6 +44,6 @@ returns-clause-finds c =
     let t = is_item m.schedule.running c.requires.runs in
     let instrs = m.code.now.instrs in
     let there = slice_get-get_or instrs m.place i.Step (within m.code.now m.bound (flat_of m) fit c.requires.sound.valid t.0 t.1) in
-    let same : slice_index_or instrs m.place i.Step ≡ slice_index_or c.instrs.result.now m.place i.Step = ap (λ xs. slice_index_or xs m.place i.Step) (sym c.instrs.ensures.same) in
+    let same : slice_index_or instrs m.place i.Step ≡ slice_index_or c.args.instrs.now m.place i.Step = ap (λ xs. slice_index_or xs m.place i.Step) (sym c.requires.instrs) in
     finds_there m.code.now m.bound (flat_of m) fit c.requires.sound.valid t.0 t.1 (c.requires.sound.chained c.requires.running)
-    (slice_index_or c.instrs.result.now m.place i.Step) c.requires.sound.alone (there ∙ ap (λ x. Some x) same)
+    (slice_index_or c.args.instrs.now m.place i.Step) c.requires.sound.alone (there ∙ ap (λ x. Some x) same)

@@ -1,0 +1,17 @@
+pub mod Bound
+pub mod Deciding
+pub mod Disk
+pub mod Examples
+pub mod Journals
+pub mod LawExamples
+pub mod PartExamples
+pub mod Parties
+pub mod PartiesExamples
+pub mod Parts
+pub mod Putting
+pub mod Running
+pub mod Runtime
+pub mod Steps
+pub mod Unique
+pub mod Whole
+pub mod Writing

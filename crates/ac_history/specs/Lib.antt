@@ -1,0 +1,9 @@
+pub mod Agreement
+pub mod Files
+pub mod History
+pub mod Laws
+pub mod Merged
+pub mod Network
+pub mod Parties
+pub mod Served
+pub mod Working

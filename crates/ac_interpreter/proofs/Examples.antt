@@ -1,0 +1,79 @@
+-- After how many moves small machines and cores are over.
+use Rattle.std.proofs.Common.{◌≡◌, ℕ, zero, suc, ◌<◌, [], ◌∷◌, pos, true, false, Some, None, refl, sym, ap, ◌∙◌, arith}
+use Rattle.work_item.specs.Store.{made}
+use Rattle.core_state.specs.Moves.{Move, On, Over, and_then, moves}
+use Rattle.core_state.specs.Frames.{first_store}
+use Rattle.core_state.specs.Shared.{first_shared}
+use Rattle.ac_commands.specs.declared.command.Command.{Command, out-Command}
+use Rattle.ac_commands.specs.declared.command.Command.TheVariants as c
+use Rattle.ac_commands.specs.declared.command.Command.TheOpen.{Command-F}
+use Rattle.ac_semantics.specs.Held.{turned}
+use Rattle.ac_semantics.specs.Threads.{CoreState, thread_at, step, first_item, first_core, first_state}
+use Rattle.ac_semantics.proofs.Examples.{program, function, form, finish_by}
+use Rattle.ac_interpreter.specs.Ends.{is_over, IsOverBy, IsCount, HasCount, CoreEnds}
+
+-- ---- a machine that counts down to 0
+
+abbrev down : ℕ → Move ℕ ℕ
+down zero = Over 0
+down (suc n) = On n
+
+before_two : (j : ℕ) → j < 2 → is_over (and_then (On 1) (moves down j)) ≡ false
+before_two zero lt = refl
+before_two (suc zero) lt = refl
+before_two (suc (suc j)) lt = absurd (omega (arith, lt))
+
+pub one_takes_two_moves : IsCount down (On 1) 2
+one_takes_two_moves = (refl, before_two)
+
+pub it_is_over_by_three : IsOverBy down (On 1) 3
+it_is_over_by_three = refl
+
+-- two are enough
+pub it_does_not_take_three : IsCount down (On 1) 3 → ⊥
+it_does_not_take_three h = let no : true ≡ false = h.1 2 (omega arith) in cc
+
+-- ---- a machine that stays where it is
+
+stays_there : {S E : Type 0} (f : S → Move S E) (s : S) → f s ≡ On s → (k : ℕ) → moves f k s ≡ On s
+stays_there f s e zero = refl
+stays_there f s e (suc k) = ap (λ a. and_then a (moves f k)) e ∙ stays_there f s e k
+
+abbrev stays : ℕ → Move ℕ ℕ
+stays n = On n
+
+pub it_is_never_over : HasCount stays (On 0) → ⊥
+it_is_never_over h = let no : false ≡ true = sym (ap is_over (stays_there stays 0 refl h.0)) ∙ h.1.0 in cc
+
+-- ---- a core without statements: its dispatch, and its end
+
+before_the_end : (j : ℕ) → j < 2 → is_over (and_then (first_state (program []) (function []) []) (moves (step (program []) 0) j)) ≡ false
+before_the_end zero lt = refl
+before_the_end (suc zero) lt = refl
+before_the_end (suc (suc j)) lt = absurd (omega (arith, lt))
+
+pub a_core_without_statements_ends : CoreEnds (program []) (function []) 0
+a_core_without_statements_ends = (2, (refl, before_the_end))
+
+-- ---- a core that cancels: a cancel has no meaning yet, so before it the core stays
+
+abbrev cancels : Command
+cancels = c.Cancel 0 0
+
+cancel_form : out-Command cancels ≡ Command-F.Cancel 0 0
+cancel_form = form cancels _ (c.rolls-Cancel 0 0)
+
+abbrev at_the_cancel : CoreState
+at_the_cancel =
+    let first = first_core (function (cancels ∷ [])) (first_shared []) (made (first_store (pos 0 ∷ pos 5 ∷ [])) None []) in
+    record first { held = turned first.held; running = Some first_item; work = (thread_at first.threads first_item).work; ready = [] }
+
+it_stays : step (program (cancels ∷ [])) 1 at_the_cancel ≡ On at_the_cancel
+it_stays = rw (cancel_form, finish_by (program (cancels ∷ [])) cancels _ cancel_form) refl
+
+goes_on_from : (k : ℕ) → is_over (and_then (first_state (program (cancels ∷ [])) (function (cancels ∷ [])) []) (moves (step (program (cancels ∷ [])) 1) k)) ≡ false
+goes_on_from zero = refl
+goes_on_from (suc k) = ap is_over (stays_there (step (program (cancels ∷ [])) 1) at_the_cancel it_stays k)
+
+pub a_core_that_cancels_does_not : CoreEnds (program (cancels ∷ [])) (function (cancels ∷ [])) 1 → ⊥
+a_core_that_cancels_does_not h = let no : false ≡ true = sym (goes_on_from h.0) ∙ h.1.0 in cc

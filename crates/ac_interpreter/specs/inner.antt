@@ -1,0 +1,10 @@
+pub mod Data
+pub mod Pending
+pub mod Works
+pub mod Phases
+pub mod State
+pub mod Nexts
+pub mod Cores
+pub mod Left
+pub mod Released
+pub mod Chains

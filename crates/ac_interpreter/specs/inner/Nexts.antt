@@ -1,0 +1,16 @@
+-- What the interpreter's answers to a step stand for, beside what the core holds and the thread has still to do afterwards.
+use Rattle.std.specs.Prelude.{List}
+use Rattle.ac_semantics.specs.Work.{Work}
+use Rattle.ac_semantics.specs.Held.{Held}
+use Rattle.ac_semantics.specs.Statements as s
+use Rattle.ac_interpreter.specs.declared.statements.Next.{Next}
+use Rattle.ac_interpreter.specs.declared.statements.Next.TheVariants as n
+
+abbrev pub next_with : Next → Held → List Work → s.Next
+next_with n.Goes h ws = s.Goes h ws
+next_with (n.Ends word) h ws = s.Ends word h
+next_with (n.Starts frame own) h ws = s.Starts h frame own ws
+next_with n.Yields h ws = s.Yields h ws
+next_with (n.Arrives block) h ws = s.Arrives block h ws
+next_with (n.Dies frame) h ws = s.Dies frame h
+next_with n.Stays h ws = s.Stays

@@ -1,0 +1,308 @@
+//! A core that goes from step to step.
+
+ghost use Rattle.std.specs.Prelude.{◌≡◌, [], IfOk, Some, None, false, if◌then◌else◌};
+ghost use Rattle.ac_base.specs.declared.ends.EndWord.TheVariants.{Trapped};
+ghost use Rattle.ac_base.specs.declared.ends.Trap.TheVariants.{StackFull};
+ghost use Rattle.core_state.specs.Moves.{ComesTo};
+ghost use Rattle.ac_semantics.specs.Threads.{with_starts, first_state, step};
+ghost use Rattle.ac_interpreter.specs.inner.Cores.{state_of};
+
+use crate::datum::Datum;
+use crate::ending::Ending;
+use crate::held::Held;
+use crate::memory::Memory;
+use crate::statements::{Next, next_step};
+use crate::threads::{Phase, Threads};
+use crate::work::{Agenda, Work};
+use ac_base::{CoreEnd, EndWord, List, NoMemory, Trap};
+use ac_commands::{Function, Resolved, Start};
+use std::alloc::Global;
+use std::collections::VecDeque;
+use std::mem;
+use work_item::{FrameId, Item};
+
+/// How a core has ended; it is idle where it only waits.
+#[derive(Clone, Copy)]
+pub struct Halt {
+    pub word: EndWord,
+    pub idle: bool,
+}
+
+/// A core of a program: what it holds, the running thread and its work, the ready list, all threads, and how it has ended.
+#[derive(Drop)]
+pub struct Core<'a> {
+    pub program: &'a Resolved,
+    pub bound: u64,
+    pub held: Held,
+    pub running: Option<Item>,
+    pub work: Agenda<'a>,
+    pub ready: VecDeque<Item>,
+    pub threads: Threads<'a>,
+    pub ended: Option<Halt>,
+    pub alloc: Global,
+}
+
+impl<'a> Core<'a> {
+    ghost use Rattle.std.specs.Prelude.{◌≡◌, None, Some, IsSome, OnOk, []};
+    ghost use Rattle.work_item.specs.Store.{released};
+    ghost use Rattle.core_state.specs.Moves.{On, Over, GoesOn};
+    ghost use Rattle.ac_semantics.specs.Held.{with_store, seen_of};
+    ghost use Rattle.ac_semantics.specs.Threads.{Ended, stops, starts, wakes_owner, applied, dispatched, step, first_state};
+    ghost use Rattle.ac_interpreter.specs.declared.statements.Next.TheVariants as n;
+    ghost use Rattle.ac_interpreter.specs.inner.Phases.{phase_of};
+    ghost use Rattle.ac_interpreter.specs.inner.State.{held_of};
+    ghost use Rattle.ac_interpreter.specs.inner.Nexts.{next_with};
+    ghost use Rattle.ac_interpreter.specs.inner.Cores.{core_of, state_of, IsSameCore};
+
+    // The running thread stops with the work that it has now.
+    fn stop(&mut self, item: Item, phase: Phase)
+        ensures state { core_of self.new
+            ≡ stops (core_of self.old) item (phase_of phase) (held_of self.old.held) self.old.work self.old.ready.items }
+        ensures ended { self.new.ended ≡ self.old.ended }
+        ensures same { IsSameCore self.old self.new }
+    {
+        let work = mem::replace(&mut self.work, Agenda::new(self.alloc));
+        self.threads.park(item, phase, work);
+        self.running = None;
+    }
+
+    // A thread is started and runs; its creator goes to the front.
+    fn start(&mut self, item: Item, own: Agenda<'a>) -> Result<(), NoMemory>
+        ensures state { OnOk result (core_of self.new ≡ starts (core_of self.old) item (held_of self.old.held) own.entry self.old.work) }
+        ensures ended { self.new.ended ≡ self.old.ended }
+        ensures same { IsSameCore self.old self.new }
+    {
+        let around = self.work.closes(self.alloc, self.threads.around(item))?;
+        let work = mem::replace(&mut self.work, own);
+        self.threads.park(item, Phase::Active, work);
+        let born = self.threads.push(around, Agenda::new(self.alloc))?;
+        self.ready.push_front(item)?;
+        self.running = Some(born);
+        Ok(())
+    }
+
+    // The thread has ended; an owner whose block has no living thread any more goes to the front.
+    fn die(&mut self, item: Item, frame: FrameId) -> Result<(), NoMemory>
+        ensures state { OnOk result (core_of self.new ≡ wakes_owner (stops (core_of self.old) item Ended
+            (with_store (held_of self.old.held) (released self.old.held.memory frame)) [] self.old.ready.items)) }
+        ensures ended { self.new.ended ≡ self.old.ended }
+        ensures same { IsSameCore self.old self.new }
+    {
+        self.held.memory.release(frame);
+        self.threads
+            .park(item, Phase::Ended, Agenda::new(self.alloc));
+        let _ = mem::replace(&mut self.work, Agenda::new(self.alloc));
+        self.running = None;
+        if let Some(owner) = self.threads.woken() {
+            self.ready.push_front(owner)?;
+            self.threads.wake(owner);
+        }
+        Ok(())
+    }
+
+    // The core has ended.
+    fn end_with(&mut self, word: EndWord, idle: bool)
+        ensures state { state_of self.new ≡ Over (seen_of word idle (held_of self.old.held)) }
+        ensures same { IsSameCore self.old self.new }
+    {
+        self.ended = Some(Halt { word, idle });
+    }
+
+    // What a step of the running thread comes to.
+    fn apply(&mut self, item: Item, next: Next<'a>) -> Result<(), NoMemory>
+        requires running { self.old.ended ≡ None }
+        requires meaning { next ≡ n.Stays → ⊥ }
+        ensures state { OnOk result (state_of self.new
+            ≡ applied (core_of self.old) item (next_with next.entry (held_of self.old.held) self.old.work)) }
+        ensures same { IsSameCore self.old self.new }
+    {
+        match next {
+            Next::Goes => Ok(()),
+            Next::Ends(word) => {
+                self.end_with(word, false);
+                Ok(())
+            }
+            Next::Starts(_, own) => self.start(item, own),
+            Next::Yields => {
+                self.stop(item, Phase::Active);
+                self.ready.push_back(item)?;
+                Ok(())
+            }
+            Next::Arrives(block) => {
+                if !self.threads.none_within(block) {
+                    self.stop(item, Phase::AtFinish(block));
+                }
+                Ok(())
+            }
+            Next::Dies(frame) => self.die(item, frame),
+            Next::Stays => unreachable!(),
+        }
+    }
+
+    // No thread runs: the front of the ready list does, or the core waits.
+    fn dispatch(&mut self) -> Result<(), NoMemory>
+        requires running { self.old.ended ≡ None }
+        requires idle { self.old.running ≡ None }
+        ensures state { OnOk result (state_of self.new ≡ dispatched (core_of self.old) self.old.ready.items) }
+        ensures same { IsSameCore self.old self.new }
+    {
+        let Some(item) = self.ready.pop_front() else {
+            self.end_with(EndWord::Stalled, true);
+            return Ok(());
+        };
+        if self.held.turn == u64::MAX {
+            self.end_with(EndWord::OutOfSteps, false);
+            return Ok(());
+        }
+        self.held.turn += 1;
+        let work = self.threads.work(self.alloc, item)?;
+        let _ = mem::replace(&mut self.work, work);
+        self.running = Some(item);
+        Ok(())
+    }
+
+    // One move of a core that has not ended.
+    fn turn(&mut self) -> Result<(), NoMemory>
+        requires running { self.old.ended ≡ None }
+        requires meaning { step self.old.program.now self.old.bound (core_of self.old) ≡ On (core_of self.old) → ⊥ }
+        ensures state { OnOk result (state_of self.new ≡ step self.old.program.now self.old.bound (core_of self.old)) }
+        ensures same { IsSameCore self.old self.new }
+    {
+        let Some(item) = self.running else {
+            return self.dispatch();
+        };
+        let next = next_step(
+            self.alloc,
+            self.program,
+            self.bound,
+            &mut self.work,
+            &mut self.held,
+        )?;
+        self.apply(item, next)
+    }
+
+    // Runs the core until it has ended.
+    fn run(&mut self, ending: &Ending) -> Result<(), NoMemory>
+        requires program { self.old.program.now ≡ ending.now.program.now }
+        requires bound { self.old.bound ≡ ending.now.bound }
+        requires first { state_of self.old ≡ first_state ending.now.program.now ending.now.function.now [] }
+        ensures goes { OnOk result (GoesOn (step ending.now.program.now ending.now.bound)
+            (first_state ending.now.program.now ending.now.function.now []) (state_of self.new)) }
+        ensures over { OnOk result (IsSome self.new.ended) }
+    {
+        'turns: while self.ended.is_none() {
+            self.turn()?;
+        }
+        Ok(())
+    }
+
+    // What is seen of a core that has ended.
+    fn end(self) -> CoreEnd
+        requires ended { IsSome self.ended }
+        ensures { state_of self.entry ≡ Over (Some result) }
+    {
+        let Core {
+            held,
+            ended,
+            alloc,
+            ..
+        } = self;
+        let Held {
+            steps,
+            output,
+            memory,
+            ..
+        } = held;
+        let Some(Halt { word, idle }) = ended else {
+            unreachable!()
+        };
+        CoreEnd {
+            word,
+            steps,
+            output: List::from_vec(output),
+            globals: List::from_vec(memory.into_globals()),
+            waiting: List::new(alloc),
+            idle,
+        }
+    }
+}
+
+// Sets the globals that start with something else than 0.
+fn set_starts(memory: &mut Memory, starts: &[Start])
+    ensures globals { memory.new.globals ≡ with_starts starts.now memory.old.globals }
+    ensures frames { memory.new.frames ≡ memory.old.frames }
+{
+    for start in starts {
+        memory.write_global(start.slot, start.value);
+    }
+}
+
+// Where there is no room for its first frame, a core has ended.
+fn first_halt(has_room: bool) -> Option<Halt>
+    ensures { result ≡ (if has_room then None else Some (record { word = Trapped StackFull; idle = false })) }
+{
+    if has_room {
+        None
+    } else {
+        Some(Halt {
+            word: EndWord::Trapped(Trap::StackFull),
+            idle: false,
+        })
+    }
+}
+
+// A core that is about to enter a function; where there is no room for its frame, it has ended.
+fn begin_core<'a>(
+    alloc: Global,
+    program: &'a Resolved,
+    function: &'a Function,
+    bound: u64,
+) -> Result<Core<'a>, NoMemory>
+    ensures program { IfOk result (λ c. c.program.now ≡ program.now) }
+    ensures bound { IfOk result (λ c. c.bound ≡ bound) }
+    ensures first { IfOk result (λ c. state_of c ≡ first_state program.now function.now []) }
+{
+    let mut memory = Memory::new(alloc, program.slots)?;
+    set_starts(&mut memory, program.starts.as_slice());
+    let has_room = memory.has_words(u64::from(function.slots));
+    let mut threads = Threads::new(alloc);
+    let mut ready = VecDeque::new(alloc);
+    if has_room {
+        memory.make(
+            None,
+            vec![in alloc; Datum::int(0); function.slots as usize]?,
+        )?;
+        let mut work = Agenda::new(alloc);
+        work.push(Work::Leave)?;
+        work.push_all(FrameId { number: 0 }, function.body.as_slice())?;
+        let first = threads.push(Vec::new(alloc), work)?;
+        ready.push_back(first)?;
+    }
+    Ok(Core {
+        program,
+        bound,
+        held: Held {
+            steps: 0,
+            turn: 0,
+            output: Vec::new(alloc),
+            memory,
+            blocks: Vec::new(alloc),
+        },
+        running: None,
+        work: Agenda::new(alloc),
+        ready,
+        threads,
+        ended: first_halt(has_room),
+        alloc,
+    })
+}
+
+/// What is seen of a core at the end of its run without entries.
+pub fn run_core(alloc: Global, ending: &Ending) -> Result<CoreEnd, NoMemory>
+    ensures { IfOk result (λ end. ComesTo (step ending.now.program.now ending.now.bound)
+        (first_state ending.now.program.now ending.now.function.now []) (Some end)) }
+{
+    let mut core = begin_core(alloc, ending.program, ending.function, ending.bound)?;
+    core.run(ending)?;
+    Ok(core.end())
+}

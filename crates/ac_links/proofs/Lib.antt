@@ -1,0 +1,15 @@
+pub mod Combine
+pub mod Examples
+pub mod Growth
+pub mod Keeps
+pub mod LawExamples
+pub mod Leading
+pub mod Mixing
+pub mod Pair
+pub mod Parted
+pub mod PartExamples
+pub mod Party
+pub mod Push
+pub mod Sorting
+pub mod Told
+pub mod Waiting

@@ -1,0 +1,10 @@
+pub mod Journals
+pub mod Laws
+pub mod Link
+pub mod Noted
+pub mod Order
+pub mod Party
+pub mod Payloads
+pub mod Replies
+pub mod Views
+pub mod inner

@@ -1,0 +1,207 @@
+-- What is decided of two.ac: by its text, by its code, and by its machine, before the first instruction and at its end.
+use Rattle.std.proofs.Common.{◌≡◌, refl, ap, ◌∙◌, ℕ, zero, suc, pos, List, [], ◌∷◌, ◌++◌, length}
+use Rattle.std.proofs.Common.{codes, Option, None, Some, true, subst, sym, arith}
+use Rattle.std.specs.Prelude.{slice_get}
+use Rattle.std.proofs.lemmas.List.Elements.{All-from_recursion}
+use Rattle.std.proofs.lemmas.Fmt.{decimal_digit}
+use Rattle.ac_lexer.proofs.Examples.{two_text}
+use Rattle.ac_parser.proofs.Examples.{two_ac as two_ac_parsed}
+use Rattle.ac_parser.proofs.Shaped.{spelled_shape}
+use Rattle.ac_base.specs.declared.ends.CoreEnd.{CoreEnd}
+use Rattle.core_state.specs.Moves.{Move, On, Over, moves, and_then}
+use Rattle.ac_resolve.proofs.ProgramInPlace.{all_in_place}
+use Rattle.ac_semantics.proofs.Examples.{form}
+use Rattle.stack_code.specs.declared.parts.Entered.{Entered}
+use Rattle.stack_code.specs.Parts.{Parts}
+use Rattle.stack_code.specs.Machine.{exec, first_flat, Runs}
+use Rattle.ac_compile.proofs.Examples.{two, two_parts, two_is_compiled}
+use Rattle.ac_program.specs.declared.refusal.Refusal.TheVariants as r
+use Rattle.ac_program.specs.declared.words.Task.{Task}
+use Rattle.ac_program.specs.declared.words.Task.TheVariants as t
+use Rattle.ac_program.specs.Words.{IsArguments, IsTask, IsCall, no_more, operand, bound_apart, bound_joined, only_operands}
+use Rattle.ac_program.specs.Source.{IsReady}
+use Rattle.ac_program.specs.Lines.{accepted_line}
+use Rattle.ac_program.specs.Making.{IsDone, IsTold, Makes, made as is_made}
+use Rattle.ac_program.specs.Headline.{source}
+use Rattle.ac_program.specs.Headline.{HasRun, GivesStatus, IsDecided}
+use Rattle.std.specs.Str.Parse.{digits_value}
+use Rattle.ac_resolve.specs.Resolution.{resolved}
+use Rattle.ac_translation.specs.Same.{IsSame}
+use Rattle.ac_compile.proofs.Compiling.{is_same}
+use Rattle.stack_code.specs.declared.instr.Instr.{Instr}
+use Rattle.stack_code.specs.declared.instr.Instr.TheVariants as i
+use Rattle.stack_code.specs.Machine.{Flat, FlatEnd}
+use Rattle.stack_code.specs.Alone.{is_alone, IsAlone}
+use Rattle.stack_code.specs.Listing.{listing}
+use Rattle.core_machine.specs.Machine.{Machine, IsFirst, IsOnItsWay, IsSameCore}
+use Rattle.ac_tree.specs.declared.stmt.Stmt.TheVariants as s
+use Rattle.ac_program.proofs.Reasons.{is_decided}
+use Rattle.ac_program.proofs.TwoRules.{two_tree, two_is_clean, two_is_built}
+use Rattle.ac_program.proofs.Examples.{code_prints_seven, e, it_is_a_run, it_is_done, it_is_spelled, it_replays, its_call, its_doing, its_end, its_library, its_library_after, its_reading}
+use Rattle.ac_program.proofs.Examples.{its_report, its_run, its_sink, its_status_is_called_for, its_words, sink_with}
+
+-- ---- its text decides
+
+-- its words are one call alone
+first_word : {v w : List ℕ} {vs ws : List (List ℕ)} → v ∷ vs ≡ w ∷ ws → v ≡ w
+first_word e = cc
+
+other_words : {v w : List ℕ} {vs ws : List (List ℕ)} → v ∷ vs ≡ w ∷ ws → vs ≡ ws
+other_words e = cc
+
+its_last_word : {rest : List (List ℕ)} {given : Option ℕ} → codes "--steps=100" ∷ [] ≡ rest → IsArguments rest [] given → given ≡ Some 100
+its_last_word e no_more = cc
+its_last_word e (bound_apart is bound more) = cc
+its_last_word e (bound_joined {word} {value} {words} {operands} {steps} is bound more) =
+    let w : codes "--steps=100" ≡ word = first_word e in
+    let v : codes "100" ≡ value = same_value (w ∙ is) in
+    ap Some (bound.number.value ∙ ap (λ (ds : List ℕ). digits_value 10 ds) (sym v)) where
+      same_value : {v : List ℕ} → codes "--steps=100" ≡ codes "--steps=" ++ v → codes "100" ≡ v
+      same_value e = cc
+its_last_word {rest} e (only_operands {word} {words} is all) = absurd (no_dashes (first_word e ∙ is)) where
+  no_dashes : codes "--steps=100" ≡ codes "--" → ⊥
+  no_dashes e = cc
+
+its_arguments : {rest : List (List ℕ)} {given : Option ℕ} (name : List ℕ) → codes "two.ac" ∷ codes "--steps=100" ∷ [] ≡ rest → IsArguments rest (name ∷ []) given
+    → (name ≡ codes "two.ac") × (given ≡ Some 100)
+its_arguments name e (operand {word} {words} plain more) = (sym (first_word e), its_last_word (other_words e) more)
+its_arguments name e (bound_apart is bound more) = absurd (no_bound (first_word e ∙ is)) where
+  no_bound : codes "two.ac" ≡ codes "--steps" → ⊥
+  no_bound e = cc
+its_arguments name e (bound_joined {word} {value} is bound more) = absurd (no_bound (first_word e ∙ is)) where
+  no_bound : codes "two.ac" ≡ codes "--steps=" ++ value → ⊥
+  no_bound e = cc
+its_arguments name e (only_operands is all) = absurd (no_dashes (first_word e ∙ is)) where
+  no_dashes : codes "two.ac" ≡ codes "--" → ⊥
+  no_dashes e = cc
+
+its_only_task : (task : Task) → IsTask (codes "run") (Some 100) task → task ≡ t.Run 100
+its_only_task (t.Run steps) h = ap (λ (n : ℕ). t.Run n) h.1
+its_only_task t.Check h = let e = h.0 in cc
+its_only_task t.Code h = let e = h.0 in cc
+
+its_only_call : (task : Task) (name : List ℕ) → IsCall its_words task name → (task ≡ t.Run 100) × (name ≡ codes "two.ac")
+its_only_call task name r =
+    let a = its_arguments name (other_words r.command.form) r.command.arguments in
+    let named : IsTask (codes "run") r.given task = subst (λ (n : List ℕ). IsTask n r.given task) (sym (first_word r.command.form)) r.is_task in
+    (its_only_task task (subst (λ (given : Option ℕ). IsTask (codes "run") given task) a.1 named), a.0)
+
+pub it_is_decided : IsDecided its_words its_library its_library_after 0
+it_is_decided = is_decided its_words (t.Run 100) (codes "two.ac") its_library its_library_after 0 (Some its_run) its_sink (sink_with its_report 0) its_call
+    (λ well kept. record { text = its_report; due = source two_text its_reading refl (omega arith) (is_made its_doing refl refl refl it_is_done); taken = refl })
+    its_only_call (record { usage = omega arith; library = omega arith; sink = omega arith; memory = omega arith })
+
+-- no other status
+pub it_is_not_decided_otherwise : IsDecided its_words its_library its_library_after 4 → ⊥
+it_is_not_decided_otherwise h =
+    let e : 4 ≡ 0 = (h.only (t.Run 100) (codes "two.ac") two_text its_call refl 0).1 its_status_is_called_for in omega (arith, e)
+
+-- ---- its code
+
+pub two_is_same : IsSame two_parts (resolved two_tree)
+two_is_same =
+    is_same two_tree (resolved two_tree) refl two_is_built (all_in_place two_tree two_is_clean (spelled_shape two_tree two_ac_parsed.marks two_ac_parsed.spells)) two_parts two_is_compiled
+
+pub its_code_is_alone : IsAlone two_parts
+its_code_is_alone = All-from_recursion (λ (instr : Instr). is_alone instr ≡ true) two_parts.instrs (refl, (refl, (refl, (refl, (refl, (refl, (refl, (refl, (refl, tt)))))))))
+
+-- and its listing
+abbrev pub its_listing : List ℕ
+its_listing = codes "core a 0\nfunction f words 0\n0 Step\n1 Push 1\n2 Push 2\n3 Push 3\n4 Mul\n5 Add\n6 Print 0 1\n7 Push 0\n8 Ret\ntext 0 25640a\n"
+
+pub it_is_listed : listing two_parts ≡ its_listing
+it_is_listed =
+    rw (
+      decimal_digit 0 (omega arith),
+      decimal_digit 1 (omega arith),
+      decimal_digit 2 (omega arith),
+      decimal_digit 3 (omega arith),
+      decimal_digit 4 (omega arith),
+      decimal_digit 5 (omega arith),
+      decimal_digit 6 (omega arith),
+      decimal_digit 7 (omega arith),
+      decimal_digit 8 (omega arith),
+    ) refl
+
+-- so ac code two.ac writes that, and ac check two.ac that it is accepted
+pub its_code_is_told : Makes t.Code two_tree (record { run = None; text = its_listing; status = record { number = 0 } })
+its_code_is_told = record { no_run = refl; text_is = sym it_is_listed ∙ ap (λ (code : Parts). listing code) two_is_compiled; status = refl }
+
+its_code_is_ready : IsReady two_text t.Code two_tree
+its_code_is_ready = record { is_within = record { is_accepted = record { spelled = it_is_spelled; clean = two_is_clean }; within = omega arith }; built = two_is_built }
+
+pub its_code_is_done : IsDone two_text t.Code (record { run = None; text = its_listing; status = record { number = 0 } })
+its_code_is_done = record { program = two_tree; is_ready = its_code_is_ready; makes = its_code_is_told }
+
+its_check_is_ready : IsReady two_text t.Check two_tree
+its_check_is_ready = record { is_within = record { is_accepted = record { spelled = it_is_spelled; clean = two_is_clean }; within = omega arith }; built = refl }
+
+pub its_check_is_done : IsDone two_text t.Check (record { run = None; text = codes "accepted\n"; status = record { number = 0 } })
+its_check_is_done = record { program = two_tree; is_ready = its_check_is_ready; makes = record { no_run = refl; text_is = refl; status = refl } }
+
+pub a_check_keeps_no_run : IsTold accepted_line (record { run = Some its_run; text = codes "accepted\n"; status = record { number = 0 } }) → ⊥
+a_check_keeps_no_run h = let e = h.no_run in cc
+
+pub its_check_gives_0_alone : GivesStatus t.Check two_tree 4 → ⊥
+its_check_gives_0_alone h = omega (arith, h)
+
+pub its_run_gives_0 : HasRun two_tree 100 0
+its_run_gives_0 = record { ended = its_run; is_run = it_is_a_run; status_is = refl }
+
+-- a code that prints nothing comes to another end
+abbrev pub silent : Parts
+silent = record two_parts { instrs = i.Push (pos 0) ∷ i.Ret ∷ [] }
+
+-- how many bytes were printed
+abbrev printed_by : Option CoreEnd → ℕ
+printed_by None = 0
+printed_by (Some end) = length end.output
+
+abbrev printed : Move Flat FlatEnd → ℕ
+printed (On s) = 0
+printed (Over end) = printed_by end.core
+
+same_function : (entry : ℕ) (function : Entered) → slice_get (0 ∷ []) 0 ≡ Some entry → slice_get (e ∷ []) entry ≡ Some function → function ≡ e
+same_function zero function at_core at_entry = cc
+same_function (suc n) function at_core at_entry = cc
+
+silent_prints_nothing : (count k : ℕ) → Over (record { core = Some its_end; count = count }) ≡ and_then (first_flat silent e []) (moves (exec silent 100) k) → ⊥
+silent_prints_nothing count zero h = let n : 2 ≡ 0 = ap printed h in omega (arith, n)
+silent_prints_nothing count (suc zero) h = let n : 2 ≡ 0 = ap printed h in omega (arith, n)
+silent_prints_nothing count (suc (suc zero)) h = let n : 2 ≡ 0 = ap printed h in omega (arith, n)
+silent_prints_nothing count (suc (suc (suc k))) h = let n : 2 ≡ 0 = ap printed h in omega (arith, n)
+
+pub another_code_is_not_the_same : IsSame silent two → ⊥
+another_code_is_not_the_same h = let r = (h 0 100 [] (Some its_end)).0 it_replays in no_run r.0 r.1 where
+  no_run : (count : ℕ) → Runs silent 0 100 [] (record { core = Some its_end; count = count }) → ⊥
+  no_run count r = silent_prints_nothing count r.comes.0 (rw (same_function r.begins.entry r.function r.begins.entry_is r.begins.function_is) at r.comes.1)
+
+-- ---- its machine, before the first instruction and at its end
+
+abbrev pub machine : Parts → Move Flat FlatEnd → Machine
+machine code state = record { code = code; core = 0; bound = 100; journal = []; state = state }
+
+abbrev pub at_first : Move Flat FlatEnd
+at_first = first_flat two_parts e []
+
+abbrev pub at_last : Move Flat FlatEnd
+at_last = Over (record { core = Some its_end; count = 9 })
+
+pub it_begins : IsFirst (machine two_parts at_first)
+it_begins = record { function = e; begins = record { entry = 0; entry_is = refl; function_is = refl }; state = refl }
+
+pub it_does_not_begin_at_its_end : IsFirst (machine two_parts at_last) → ⊥
+it_does_not_begin_at_its_end m =
+    let h : at_last ≡ at_first = rw (same_function m.begins.entry m.function m.begins.entry_is m.begins.function_is) at m.state in let n : 2 ≡ 0 = ap printed h in omega (arith, n)
+
+pub it_comes_to_its_end : IsOnItsWay (machine two_parts at_last)
+it_comes_to_its_end = record { function = e; begins = record { entry = 0; entry_is = refl; function_is = refl }; goes = (10, sym code_prints_seven) }
+
+pub another_does_not_come_there : IsOnItsWay (machine silent at_last) → ⊥
+another_does_not_come_there m = silent_prints_nothing 9 m.goes.0 (rw (same_function m.begins.entry m.function m.begins.entry_is m.begins.function_is) at m.goes.1)
+
+pub it_is_the_same_core : IsSameCore (machine two_parts at_first) (machine two_parts at_last)
+it_is_the_same_core = record { code = refl; core = refl; bound = refl; journal = refl }
+
+pub it_is_not_with_another_bound : IsSameCore (machine two_parts at_first) (record (machine two_parts at_first) { bound = 99 }) → ⊥
+it_is_not_with_another_bound h = let e = h.bound in omega (arith, e)

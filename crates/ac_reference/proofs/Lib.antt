@@ -1,0 +1,3 @@
+mod Counts
+mod Replays
+mod Examples

@@ -1,0 +1,404 @@
+-- What a core can still do becomes less with each move of its code.
+use Rattle.std.proofs.Common.{◌≡◌, ◌⊎◌, ℕ, zero, suc, ◌+◌, ◌-◌, ◌*◌, ◌≤◌, ◌<◌, List, [], ◌∷◌, ◌++◌, length, take, drop, Option, Some, None, Result, Bool, true, false, refl, sym, ap, ◌∙◌, subst, inl}
+use Rattle.std.proofs.Common.{inr, arith}
+use Rattle.std.specs.Prelude.{sum, slice_get, slice_index, slice_index_or, slice_set, nat_eq, nat_le, reverse, replicate, ◌&&◌, if◌then◌else◌}
+use Rattle.std.proofs.lemmas.Bool.{cases_eq}
+use Rattle.std.proofs.lemmas.List.{length-set, get_or-set_same, get_or-set_other, get_or_append_left}
+use Rattle.ac_base.specs.declared.ends.Trap.{Trap}
+use Rattle.work_item.specs.declared.ids.Item.{Item}
+use Rattle.work_item.specs.declared.ids.BlockId.{BlockId}
+use Rattle.work_item.specs.declared.cell.Cell.{Cell}
+use Rattle.work_item.specs.declared.cell.Cell.TheVariants as cell
+use Rattle.work_item.specs.Store.{Store, int_in, no_int, released, next_frame}
+use Rattle.core_state.specs.Moves.{Move, On}
+use Rattle.core_state.specs.Frames.{begun, begun_with}
+use Rattle.core_state.specs.Shared.{Shared}
+use Rattle.stack_code.specs.declared.instr.Instr.{Instr}
+use Rattle.stack_code.specs.declared.instr.Instr.TheVariants as i
+use Rattle.stack_code.specs.declared.parts.Entered.{Entered}
+use Rattle.stack_code.specs.declared.shape.Kind.TheVariants as kind
+use Rattle.stack_code.specs.declared.shape.Shape.{Shape}
+use Rattle.stack_code.specs.declared.shape.Leads.{Leads}
+use Rattle.stack_code.specs.declared.shape.Leads.TheVariants.{Stop, One, Two}
+use Rattle.stack_code.specs.Parts.{Parts}
+use Rattle.stack_code.specs.Shapes as shapes
+use Rattle.stack_code.specs.Shapes.{effect, after, pushed, first, entered, finished, inner, can_start, body_with, is_entered, LeadsTo}
+use Rattle.stack_code.specs.Valid.{IsValid, Goes, Quiet}
+use Rattle.stack_code.specs.Kept.{IsRanked}
+use Rattle.stack_code.specs.Machine.{Flat, FlatEnd, Thread, Block, Caller, begin, counted, block_at, with_block, with_store, thread_at, nobody, stops, starts, one_more, counted_in}
+use Rattle.stack_code.specs.Machine.{calls, returns, arrives, arrives_in, arrives_at, dies, dies_in, counted_out, on_many}
+use Rattle.code_safety.specs.Fit.{IsThread, Phase, Gone, Going, AtFinish, Life, life_at, is_living, is_going, total, one_if, one_at, occurs, runs, innermost_in, IsFit}
+use Rattle.code_safety.specs.Left.{grown, at_weight, callers_weight, thread_weight, parked_weight, ready_weight, owner_weight, waiting_weight, running_weight, left}
+use Rattle.code_safety.proofs.Taken.{on_some_is, if_is, if_not_is, after_is}
+use Rattle.code_safety.proofs.Plain.{Onward, Next, Spends, one, none, trap_on, top_on, many_on}
+use Rattle.code_safety.proofs.Lives.{one_same, one_other, one_is, one_true, one_at_most, same_item, living_within, total_set, total_append}
+use Rattle.code_safety.proofs.Making.{there_within}
+use Rattle.code_safety.proofs.Own.{phase_of, lives_of, within_of, thread_of}
+use Rattle.code_safety.proofs.Calling.{call_enough, return_top}
+use Rattle.code_safety.proofs.Finishing.{arrival}
+use Rattle.code_safety.proofs.Starting.{starting}
+use Rattle.code_safety.proofs.Dying.{leaving}
+use Rattle.code_safety.proofs.Turns.{running_once}
+use Rattle.code_safety.proofs.Weights.{grown_some, grown_one, grown_two, weight_within, step_falls, ready_same, waiting_same, ready_append}
+
+module _ (code : Parts) (bound : ℕ) (m : Flat) (fit : IsFit code m) (v : IsValid code) (ranks : List ℕ) (ranked : IsRanked code ranks) where
+  abbrev Less : Flat → Type 0
+  Less n = left ranks bound n < left ranks bound m
+
+  -- ---- a dispatch
+
+  module _ (idle : m.running ≡ None) (t : Item) (ready : List Item) (first : m.ready ≡ t ∷ ready) where
+    listed : one_at t.number t + occurs t.number ready ≡ one_if (is_going (life_at fit.lives t).phase)
+    listed =
+        let l : 0 + (one_at t.number t + occurs t.number ready) ≡ one_if (is_going (life_at fit.lives t).phase) =
+        ap (λ o. runs t.number o + occurs t.number (t ∷ ready)) (sym idle) ∙ ap (λ r. runs t.number m.running + occurs t.number r) (sym first) ∙ fit.listed t.number in
+        omega (arith, l)
+
+    once : occurs t.number ready ≡ 0
+    once = let l = listed in let one = one_same t.number in let most = one_at_most (is_going (life_at fit.lives t).phase) in omega (arith, l, one, most)
+
+    going : is_going (life_at fit.lives t).phase ≡ true
+    going = let l = listed in let one = one_same t.number in let most = one_at_most (is_going (life_at fit.lives t).phase) in
+        one_true (is_going (life_at fit.lives t).phase) (omega (arith, l, one, most))
+
+    aside : (u : Item) → (u.number ≡ t.number → ⊥) → thread_at (slice_set m.threads t.number nobody) u ≡ thread_at m.threads u
+    aside u ne = get_or-set_other m.threads t.number u.number nobody nobody ne
+
+    ready_stays : ready_weight ranks (slice_set m.threads t.number nobody) ready ≡ ready_weight ranks m.threads ready
+    ready_stays = ready_same ranks m.threads (slice_set m.threads t.number nobody) ready
+        (λ u some. aside u (λ e. let o : occurs u.number ready ≡ occurs t.number ready = ap (λ n. occurs n ready) e in let z = once in omega (arith, some, o, z)))
+
+    waiting_stays : waiting_weight ranks (slice_set m.threads t.number nobody) m.blocks ≡ waiting_weight ranks m.threads m.blocks
+    waiting_stays = waiting_same ranks m.threads (slice_set m.threads t.number nobody) m.blocks
+        (λ n x e w. aside x.owner (λ same.
+        let there = (fit.block (record { number = n }) x e).waits w in
+        let mine : (life_at fit.lives t).phase ≡ AtFinish (record { number = n }) = ap (λ (u : Item). (life_at fit.lives u).phase) (same_item t x.owner (sym same)) ∙ there in
+        let no : false ≡ true = sym (ap is_going mine) ∙ going in cc))
+
+    pub dispatch_falls : (shared : Shared) → shared.steps ≡ m.shared.steps
+        → Less (record m { shared = shared; running = Some t; current = thread_at m.threads t; ready = ready; threads = slice_set m.threads t.number nobody })
+    dispatch_falls shared steps =
+        let r : running_weight ranks m.current m.running ≡ 0 = ap (running_weight ranks m.current) idle in
+        let q : ready_weight ranks m.threads m.ready ≡ (1 + thread_weight ranks (thread_at m.threads t)) + ready_weight ranks m.threads ready = ap (ready_weight ranks m.threads) first in
+        let s : (bound - shared.steps) * grown (sum ranks) ≡ (bound - m.shared.steps) * grown (sum ranks) = ap (λ k. (bound - k) * grown (sum ranks)) steps in
+        let a = ready_stays in
+        let w = waiting_stays in
+        omega (arith, r, q, s, a, w)
+
+  module _ (t : Item) (run : m.running ≡ Some t) where
+    abbrev h : IsThread code fit.births m.store m.blocks t (life_at fit.lives t).start m.current
+    h = thread_of code m fit t run
+
+    abbrev s : Shape
+    s = h.shape
+
+    abbrev place : ℕ
+    place = m.current.place
+
+    runs_now : running_weight ranks m.current m.running ≡ at_weight ranks place + callers_weight ranks m.current.callers
+    runs_now = ap (running_weight ranks m.current) run
+
+    rank_falls : (instr : Instr) → slice_get code.instrs place ≡ Some instr → (instr ≡ i.Step → ⊥) → (to : ℕ) (u : Shape) → Goes code place s to u → slice_index ranks to < slice_index ranks place
+    rank_falls instr here other to u goes =
+        ranked.falls place to (record {
+          shape = s;
+          next = u;
+          reached = h.top.reached;
+          goes = goes;
+          no_step = λ e. other (let both : Some instr ≡ Some i.Step = sym here ∙ e in cc);
+        })
+
+    one_falls : (instr : Instr) → slice_get code.instrs place ≡ Some instr → (instr ≡ i.Step → ⊥) → (to : ℕ) (u : Shape) → Goes code place s to u → 1 + at_weight ranks to < at_weight ranks place
+    one_falls instr here other to u goes = grown_one (slice_index ranks to) (slice_index ranks place) (rank_falls instr here other to u goes)
+
+    -- ---- in the same activation
+
+    pub plain_falls : (instr : Instr) → slice_get code.instrs place ≡ Some instr → (next : Flat) → Next code bound m fit.births s instr next → Less next
+    plain_falls instr here next n = go n.spends
+      where
+        run_next : running_weight ranks next.current next.running ≡ at_weight ranks next.current.place + callers_weight ranks m.current.callers
+        run_next =
+            let r : next.running ≡ Some t = ap (λ (f : Flat). f.running) n.others ∙ run in
+            let c : next.current.callers ≡ m.current.callers = ap (λ (f : Flat). f.current.callers) n.others in
+            ap (running_weight ranks next.current) r ∙ ap (λ cs. at_weight ranks next.current.place + callers_weight ranks cs) c
+
+        ready_next : ready_weight ranks next.threads next.ready + waiting_weight ranks next.threads next.blocks ≡ ready_weight ranks m.threads m.ready + waiting_weight ranks m.threads m.blocks
+        ready_next = ap (λ (f : Flat). ready_weight ranks f.threads f.ready + waiting_weight ranks f.threads f.blocks) n.others
+
+        go : Spends bound instr m.shared.steps next.shared.steps → Less next
+        go (one is lt e) =
+            let f = step_falls bound m.shared.steps (grown (sum ranks)) (at_weight ranks next.current.place) (at_weight ranks place)
+            (callers_weight ranks m.current.callers + (ready_weight ranks m.threads m.ready + waiting_weight ranks m.threads m.blocks)) lt
+            (weight_within ranks next.current.place) (grown_some (slice_index ranks place)) in
+            let a = run_next in
+            let b = ready_next in
+            let c = runs_now in
+            let k : (bound - next.shared.steps) * grown (sum ranks) ≡ (bound - (m.shared.steps + 1)) * grown (sum ranks) = ap (λ q. (bound - q) * grown (sum ranks)) e in
+            omega (arith, f, a, b, c, k)
+        go (none other e) =
+            let f = one_falls instr here other next.current.place n.shape n.goes in
+            let a = run_next in
+            let b = ready_next in
+            let c = runs_now in
+            let k : (bound - next.shared.steps) * grown (sum ranks) ≡ (bound - m.shared.steps) * grown (sum ranks) = ap (λ q. (bound - q) * grown (sum ranks)) e in
+            omega (arith, f, a, b, c, k)
+
+    -- the running thread alone has changed
+    own_falls : (next : Flat) (w : ℕ) → left ranks bound next ≡ (bound - m.shared.steps) * grown (sum ranks) + (w + (ready_weight ranks m.threads m.ready + waiting_weight ranks m.threads m.blocks))
+        → w < at_weight ranks place + callers_weight ranks m.current.callers → Less next
+    own_falls next w e lt = let c = runs_now in omega (arith, e, lt, c)
+
+    run_is : (f : Thread) → running_weight ranks f m.running ≡ thread_weight ranks f
+    run_is f = ap (running_weight ranks f) run
+
+    -- ---- a call
+
+    pub call_falls : (number count : ℕ) (leads : Leads) → slice_get code.instrs place ≡ Some (i.Call number count) → effect code place (i.Call number count) s ≡ Some leads
+        → Onward Less (begin code bound m t (Some (i.Call number count)))
+    call_falls number count leads here finds =
+        let f = on_some_is (slice_get code.functions number) (shapes.calls place number count s) leads finds in
+        let function = f.0 in
+        let ways = (λ (x : Shape). Some (Two (place + 1) (pushed kind.Int x) function.at (first number function))) in
+        let c = if_is (nat_eq count (length function.params)) (after (shapes.arguments function.params) s ways) leads f.1.1 in
+        let a = after_is (shapes.arguments function.params) s ways leads c.1 in
+        let u = record s { operands = a.0 } in
+        let on = finds ∙ sym a.1.1 in
+        let goes = (λ (to : ℕ) (v : Shape) (l : LeadsTo (Two (place + 1) (pushed kind.Int u) function.at (first number function)) to v). let g : Goes code place s to v = record {
+          fits = record { instr = i.Call number count; leads = Two (place + 1) (pushed kind.Int u) function.at (first number function); here = here; finds = on };
+          leads = l;
+        } in g) in
+        let back = rank_falls (i.Call number count) here (λ e. cc) (place + 1) (pushed kind.Int u) (goes (place + 1) (pushed kind.Int u) (inl (refl, refl))) in
+        let into = rank_falls (i.Call number count) here (λ e. cc) function.at (first number function) (goes function.at (first number function) (inr (refl, refl))) in
+        let both = grown_two (slice_index ranks function.at) (slice_index ranks (place + 1)) (slice_index ranks place) into back in
+        many_on Less m count (λ args below. calls m (slice_get code.functions number) args below) m.current.operands (call_enough code bound m fit t run v number count leads finds)
+        (subst (λ x. Onward Less (calls m x (reverse (take count m.current.operands)) (drop count m.current.operands))) (sym f.1.0) (made function both))
+      where
+        made : (function : Entered) → 1 + (at_weight ranks function.at + at_weight ranks (place + 1)) < at_weight ranks place
+            → Onward Less (calls m (Some function) (reverse (take count m.current.operands)) (drop count m.current.operands))
+        made function both = trap_on Less m (begun_with m.store function.params function.words (reverse (take count m.current.operands))) _ (λ store e.
+            own_falls (record m {
+              store = store;
+              current = record {
+                place = function.at;
+                frame = next_frame m.store;
+                operands = [];
+                callers = record { place = place + 1; frame = m.current.frame; operands = drop count m.current.operands } ∷ m.current.callers;
+                block = m.current.block;
+              };
+              count = counted m.count;
+            })
+            (at_weight ranks function.at + (at_weight ranks (place + 1) + callers_weight ranks m.current.callers)) (rw run refl) (omega (arith, both)))
+
+    pub return_falls : (leads : Leads) → effect code place i.Ret s ≡ Some leads → Onward Less (begin code bound m t (Some i.Ret))
+    return_falls leads finds =
+        let o = return_top code bound m fit t run v leads finds in
+        top_on Less m (λ x below. returns m (cell.Int (int_in x)) m.current.callers) m.current.operands o.0 o.1.0 o.1.1 (go (cell.Int (int_in o.0)) m.current.callers refl)
+      where
+        go : (value : Cell) (callers : List Caller) → m.current.callers ≡ callers → Onward Less (returns m value callers)
+        go value [] e = tt
+        go value (c ∷ callers) e =
+            let some = grown_some (slice_index ranks place) in
+            let w : callers_weight ranks m.current.callers ≡ at_weight ranks c.place + callers_weight ranks callers = ap (callers_weight ranks) e in
+            own_falls (record m {
+              store = released m.store m.current.frame;
+              current = record m.current { place = c.place; frame = c.frame; operands = value ∷ c.operands; callers = callers };
+              count = counted m.count;
+            })
+            (at_weight ranks c.place + callers_weight ranks callers) (rw run refl) (omega (arith, some, w))
+
+    -- ---- a block is entered
+
+    pub enter_falls : (slot : ℕ) (leads : Leads) → slice_get code.instrs place ≡ Some (i.Enter slot) → effect code place (i.Enter slot) s ≡ Some leads
+        → Onward Less (begin code bound m t (Some (i.Enter slot)))
+    enter_falls slot leads here finds =
+        let f = on_some_is (body_with s 0 slot 1) (λ body. if is_entered s 0 slot then None else shapes.goes place (entered slot s)) leads finds in
+        let c = if_not_is (is_entered s 0 slot) (shapes.goes place (entered slot s)) leads f.1.1 in
+        let on = finds ∙ sym c.1 in
+        let goes : Goes code place s (place + 1) (entered slot s) =
+        record { fits = record { instr = i.Enter slot; leads = One (place + 1) (entered slot s); here = here; finds = on }; leads = (refl, refl) } in
+        let lt = one_falls (i.Enter slot) here (λ e. cc) (place + 1) (entered slot s) goes in
+        let new : Block = record { parent = m.current.block; owner = t; count = 0; waits = false } in
+        let w : waiting_weight ranks m.threads (m.blocks ++ Some new ∷ []) ≡ waiting_weight ranks m.threads m.blocks + (0 + 0) = total_append (owner_weight ranks m.threads) m.blocks (Some new ∷ []) in
+        let c = runs_now in
+        let r : running_weight ranks (record m.current { place = place + 1; block = Some (record { number = length m.blocks }) }) m.running ≡ at_weight ranks
+        (place + 1) + callers_weight ranks m.current.callers =
+        run_is (record m.current { place = place + 1; block = Some (record { number = length m.blocks }) }) in
+        omega (arith, lt, w, c, r)
+
+    -- ---- the thread is kept
+
+    other_thread : (kept : Thread) (u : Item) → (t ≡ u → ⊥) → thread_at (slice_set m.threads t.number kept) u ≡ thread_at m.threads u
+    other_thread kept u ne = get_or-set_other m.threads t.number u.number kept nobody (λ e. ne (same_item t u (sym e)))
+
+    own_thread : (kept : Thread) → thread_at (slice_set m.threads t.number kept) t ≡ kept
+    own_thread kept = let lt = within_of code m fit t run in let k = fit.many in get_or-set_same m.threads t.number kept nobody (omega (arith, lt, k))
+
+    ready_other : (u : Item) → 0 < occurs u.number m.ready → t ≡ u → ⊥
+    ready_other u lt e = let k = running_once code m fit t run in let n : occurs u.number m.ready ≡ occurs t.number m.ready = ap (λ (z : Item). occurs z.number m.ready) (sym e) in
+        omega (arith, lt, k, n)
+
+    waiting_other : (n : ℕ) (x : Block) → slice_index_or m.blocks n None ≡ Some x → x.waits ≡ true → t ≡ x.owner → ⊥
+    waiting_other n x e w same =
+        let phase = (fit.block (record { number = n }) x e).waits w in
+        let no : Going ≡ AtFinish (record { number = n }) = sym (phase_of code m fit t run) ∙ ap (λ k. (life_at fit.lives k).phase) same ∙ phase in
+        cc
+
+    ready_kept : (kept : Thread) → ready_weight ranks (slice_set m.threads t.number kept) m.ready ≡ ready_weight ranks m.threads m.ready
+    ready_kept kept = ready_same ranks m.threads (slice_set m.threads t.number kept) m.ready (λ u lt. other_thread kept u (ready_other u lt))
+
+    waiting_kept : (kept : Thread) → waiting_weight ranks (slice_set m.threads t.number kept) m.blocks ≡ waiting_weight ranks m.threads m.blocks
+    waiting_kept kept = waiting_same ranks m.threads (slice_set m.threads t.number kept) m.blocks (λ n x e w. other_thread kept x.owner (waiting_other n x e w))
+
+    pub yield_falls : slice_get code.instrs place ≡ Some i.Yield → Onward Less (begin code bound m t (Some i.Yield))
+    yield_falls here =
+        let goes : Goes code place s (place + 1) s = record { fits = record { instr = i.Yield; leads = One (place + 1) s; here = here; finds = refl }; leads = (refl, refl) } in
+        let lt = one_falls i.Yield here (λ e. cc) (place + 1) s goes in
+        let kept = record m.current { place = place + 1 } in
+        let a = ready_append ranks (slice_set m.threads t.number kept) m.ready (t ∷ []) in
+        let own : parked_weight ranks (slice_set m.threads t.number kept) t ≡ 1 + (at_weight ranks (place + 1) + callers_weight ranks m.current.callers) =
+        ap (λ h. 1 + thread_weight ranks h) (own_thread kept) in
+        let r = ready_kept kept in
+        let w = waiting_kept kept in
+        let c = runs_now in
+        omega (arith, lt, a, own, r, w, c)
+
+    -- ---- an arrival
+
+    pub finish_falls : (slot : ℕ) (leads : Leads) → slice_get code.instrs place ≡ Some (i.Finish slot) → effect code place (i.Finish slot) s ≡ Some leads
+        → Onward Less (begin code bound m t (Some (i.Finish slot)))
+    finish_falls slot leads here finds =
+        let a = arrival code bound m fit t run slot here leads finds in
+        let goes : Goes code place s (place + 1) a.u = record { fits = record { instr = i.Finish slot; leads = One (place + 1) a.u; here = here; finds = a.ways }; leads = (refl, refl) } in
+        let lt = one_falls (i.Finish slot) here (λ e. cc) (place + 1) a.u goes in
+        let n = a.innermost in
+        subst (λ o. Onward Less (arrives m t o)) (sym n.is) (subst (λ o. Onward Less (arrives_in m t n.b o)) (sym n.here) (go n.b n.x n.here n.owner lt (nat_eq n.x.count 0)))
+      where
+        go : (b : BlockId) (x : Block) → block_at m.blocks b ≡ Some x → x.owner ≡ t → 1 + at_weight ranks (place + 1) < at_weight ranks place → (z : Bool) → Onward Less (arrives_at z m t b x)
+        go b x at owner lt true =
+            let set = total_set (owner_weight ranks m.threads) m.blocks b.number None None (there_within m.blocks b.number x at) in
+            let w : waiting_weight ranks m.threads (with_block m.blocks b None) + owner_weight ranks m.threads (block_at m.blocks b) ≡ waiting_weight ranks m.threads m.blocks + 0 = set in
+            let c = runs_now in
+            let r = run_is (record m.current { place = place + 1; block = x.parent }) in
+            omega (arith, lt, w, c, r)
+        go b x at owner lt false =
+            let kept = record m.current { place = place + 1; block = x.parent } in
+            let threads = slice_set m.threads t.number kept in
+            let asleep : Block = record x { waits = true } in
+            let set : waiting_weight ranks threads (with_block m.blocks b (Some asleep)) + owner_weight ranks threads
+            (block_at m.blocks b) ≡ waiting_weight ranks threads m.blocks + parked_weight ranks threads x.owner =
+            total_set (owner_weight ranks threads) m.blocks b.number (Some asleep) None (there_within m.blocks b.number x at) in
+            let own : parked_weight ranks threads x.owner ≡ 1 + (at_weight ranks (place + 1) + callers_weight ranks m.current.callers) =
+            ap (parked_weight ranks threads) owner ∙ ap (λ h. 1 + thread_weight ranks h) (own_thread kept) in
+            let r = ready_kept kept in
+            let w = waiting_kept kept in
+            let c = runs_now in
+            omega (arith, lt, set, own, r, w, c)
+
+    -- ---- a thread is started
+
+    pub async_falls : (slots to : ℕ) (leads : Leads) → slice_get code.instrs place ≡ Some (i.Async slots to) → effect code place (i.Async slots to) s ≡ Some leads
+        → Onward Less (begin code bound m t (Some (i.Async slots to)))
+    async_falls slots to leads here finds =
+        let z = starting code bound m fit t run v slots to here leads finds in
+        let goes = (λ (a : ℕ) (u : Shape) (l : LeadsTo (Two (place + 1) (inner place slots s) to s) a u). let g : Goes code place s a u = record {
+          fits = record { instr = i.Async slots to; leads = Two (place + 1) (inner place slots s) to s; here = here; finds = z.ways };
+          leads = l;
+        } in g) in
+        let on = rank_falls (i.Async slots to) here (λ e. cc) to s (goes to s (inr (refl, refl))) in
+        let into = rank_falls (i.Async slots to) here (λ e. cc) (place + 1) (inner place slots s) (goes (place + 1) (inner place slots s) (inl (refl, refl))) in
+        let both = grown_two (slice_index ranks to) (slice_index ranks (place + 1)) (slice_index ranks place) on into in
+        trap_on Less m (begun m.store (Some m.current.frame) (replicate slots no_int)) (λ store. On (starts m t to store)) (λ store e. made z.there.b z.there.is z.there.x z.there.at both store)
+      where
+        made : (b : BlockId) → m.current.block ≡ Some b → (x : Block) → block_at m.blocks b ≡ Some x → 1 + (at_weight ranks to + at_weight ranks (place + 1)) < at_weight ranks place → (store : Store)
+            → Less (starts m t to store)
+        made b is x at both store =
+            let creator = record m.current { place = to } in
+            let front = slice_set m.threads t.number creator in
+            let threads = front ++ nobody ∷ [] in
+            let long = length-set m.threads t.number creator in
+            let still = (λ (u : Item) (lt : u.number < length m.threads). let e : thread_at threads u ≡ thread_at front u = get_or_append_left front (nobody ∷ []) nobody u.number
+            (omega (arith, lt, long)) in e) in
+            let r : ready_weight ranks threads m.ready ≡ ready_weight ranks m.threads m.ready =
+            ready_same ranks m.threads threads m.ready (λ u lt. still u (ready_within u lt) ∙ other_thread creator u (ready_other u lt)) in
+            let w : waiting_weight ranks threads m.blocks ≡ waiting_weight ranks m.threads m.blocks =
+            waiting_same ranks m.threads threads m.blocks (λ n y e k. still y.owner (owner_within n y e) ∙ other_thread creator y.owner (waiting_other n y e k)) in
+            let t_within : t.number < length m.threads = let lt = within_of code m fit t run in let k = fit.many in omega (arith, lt, k) in
+            let own : parked_weight ranks threads t ≡ 1 + (at_weight ranks to + callers_weight ranks m.current.callers) = ap (λ h. 1 + thread_weight ranks h) (still t t_within ∙ own_thread creator) in
+            let more : counted_in m.blocks m.current.block ≡ with_block m.blocks b (Some (record x { count = x.count + 1 })) = ap (counted_in m.blocks) is
+            ∙ ap (λ o. with_block m.blocks b (one_more o)) at in
+            let set : waiting_weight ranks threads (with_block m.blocks b (Some (record x { count = x.count + 1 }))) + owner_weight ranks threads
+            (block_at m.blocks b) ≡ waiting_weight ranks threads m.blocks + owner_weight ranks threads (Some x) =
+            total_set (owner_weight ranks threads) m.blocks b.number (Some (record x { count = x.count + 1 })) None (there_within m.blocks b.number x at) in
+            let same : owner_weight ranks threads (block_at m.blocks b) ≡ owner_weight ranks threads (Some x) = ap (owner_weight ranks threads) at in
+            let all : waiting_weight ranks threads (counted_in m.blocks m.current.block) ≡ waiting_weight ranks threads (with_block m.blocks b (Some (record x { count = x.count + 1 }))) =
+            ap (waiting_weight ranks threads) more in
+            let c = runs_now in
+            omega (arith, r, w, own, set, same, all, c, both)
+          where
+            ready_within : (u : Item) → 0 < occurs u.number m.ready → u.number < length m.threads
+            ready_within u lt =
+                let l = fit.listed u.number in
+                let living = some_going (life_at fit.lives u).phase (omega (arith, l, lt)) in
+                let k = living_within fit.lives u living in
+                let n = fit.many in
+                omega (arith, k, n)
+              where
+                some_going : (p : Phase) → 0 < one_if (is_going p) → is_living p ≡ true
+                some_going Gone e = absurd (omega (arith, e))
+                some_going Going e = refl
+                some_going (AtFinish c) e = refl
+
+            owner_within : (n : ℕ) (y : Block) → slice_index_or m.blocks n None ≡ Some y → y.owner.number < length m.threads
+            owner_within n y e =
+                let o = fit.block (record { number = n }) y e in
+                let k = living_within fit.lives y.owner (some_inner (life_at fit.lives y.owner).phase (life_at fit.lives y.owner).thread.block o.inner o.innermost) in
+                let l = fit.many in
+                omega (arith, k, l)
+              where
+                some_inner : (p : Phase) (o : Option BlockId) (q : BlockId) → innermost_in p o ≡ Some q → is_living p ≡ true
+                some_inner Gone o q e = let no : None ≡ Some q = e in cc
+                some_inner Going o q e = refl
+                some_inner (AtFinish c) o q e = refl
+
+    -- ---- a thread ends
+
+    pub end_falls : (leads : Leads) → effect code place i.End s ≡ Some leads → Onward Less (begin code bound m t (Some i.End))
+    end_falls leads finds =
+        let l = leaving code bound m fit t run leads finds in
+        subst (λ z. Less (dies (with_store m (released m.store m.current.frame)) t z)) (sym l.block) (subst (λ z. Less (dies_in (with_store m (released m.store m.current.frame)) t l.b z)) (sym l.here)
+        (go l.b l.x l.here l.older (nat_eq l.x.count 1) l.x.waits refl))
+      where
+        go : (b : BlockId) (x : Block) → block_at m.blocks b ≡ Some x → x.owner.number < t.number → (p q : Bool) → x.waits ≡ q
+            → Less (counted_out (p && q) (with_store m (released m.store m.current.frame)) t b x)
+        go b x at older p q e = by p q e
+          where
+            less_one : Less (stops (with_store m (released m.store m.current.frame)) t nobody m.ready (with_block m.blocks b (Some (record x { count = x.count - 1 }))))
+            less_one =
+                let threads = slice_set m.threads t.number nobody in
+                let set : waiting_weight ranks threads (with_block m.blocks b (Some (record x { count = x.count - 1 }))) + owner_weight ranks threads
+                (block_at m.blocks b) ≡ waiting_weight ranks threads m.blocks + owner_weight ranks threads (Some x) =
+                total_set (owner_weight ranks threads) m.blocks b.number (Some (record x { count = x.count - 1 })) None (there_within m.blocks b.number x at) in
+                let same : owner_weight ranks threads (block_at m.blocks b) ≡ owner_weight ranks threads (Some x) = ap (owner_weight ranks threads) at in
+                let r = ready_kept nobody in
+                let w = waiting_kept nobody in
+                let c = runs_now in
+                let some = grown_some (slice_index ranks place) in
+                omega (arith, set, same, r, w, c, some)
+
+            wakes : x.waits ≡ true → Less (stops (with_store m (released m.store m.current.frame)) t nobody (x.owner ∷ m.ready) (with_block m.blocks b None))
+            wakes k =
+                let threads = slice_set m.threads t.number nobody in
+                let set : waiting_weight ranks threads (with_block m.blocks b None) + owner_weight ranks threads (block_at m.blocks b) ≡ waiting_weight ranks threads m.blocks + 0 =
+                total_set (owner_weight ranks threads) m.blocks b.number None None (there_within m.blocks b.number x at) in
+                let same : owner_weight ranks threads (block_at m.blocks b) ≡ parked_weight ranks threads x.owner = ap (owner_weight ranks threads) at
+                ∙ ap (λ z. if z then parked_weight ranks threads x.owner else 0) k in
+                let r = ready_kept nobody in
+                let w = waiting_kept nobody in
+                let c = runs_now in
+                let some = grown_some (slice_index ranks place) in
+                omega (arith, set, same, r, w, c, some)
+
+            by : (p q : Bool) → x.waits ≡ q → Less (counted_out (p && q) (with_store m (released m.store m.current.frame)) t b x)
+            by true true k = wakes k
+            by true false k = less_one
+            by false q k = less_one

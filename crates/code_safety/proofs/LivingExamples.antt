@@ -1,0 +1,183 @@
+-- States in which no reference dangles, states in which one does, and chains of frames.
+use Rattle.std.proofs.Common.{◌≡◌, ℕ, zero, suc, ◌<◌, List, [], ◌∷◌, pos, Option, Some, None, true, false, inl, inr, refl, sym, ap, ◌∙◌, subst, arith}
+use Rattle.std.specs.Prelude.{slice_get, slice_index_or}
+use Rattle.work_item.specs.declared.ids.FrameId.{FrameId}
+use Rattle.work_item.specs.declared.ids.Item.{Item}
+use Rattle.work_item.specs.declared.ids.BlockId.{BlockId}
+use Rattle.work_item.specs.declared.cell.Cell.{Cell}
+use Rattle.work_item.specs.declared.cell.Cell.TheVariants as cell
+use Rattle.work_item.specs.Store.{Frame}
+use Rattle.work_item.specs.Conditions.{ParentLives}
+use Rattle.core_state.specs.Shared.{first_shared}
+use Rattle.stack_code.specs.Machine.{Thread, Block, Flat, nobody}
+use Rattle.code_safety.specs.Living.{LivesAs, as_running, as_ready, as_waiting, IsOfCaller, HasFrame, RefersToLiving, AllReferToLiving, ActivationLives, CallersLive, NamesLiving}
+use Rattle.code_safety.specs.Chains.{Origin, AtEntry, CalledIn, StartedIn, link_of, parent_of, Came, OnChain, itself, further, LiesIn, directly, deeper}
+use Rattle.code_safety.specs.Chains.{HomeOnChain, AllName, HasEnteredIn, none_in, one_in, Starts}
+
+-- ---- references
+
+abbrev outer : FrameId
+outer = record { number = 0 }
+
+abbrev called : FrameId
+called = record { number = 1 }
+
+abbrev first : Item
+first = record { number = 0 }
+
+-- the two slots of the outer frame, as an array
+abbrev array : Cell
+array = cell.Array (record { home = Some outer; start = 0; len = 2 })
+
+abbrev outer_frame : Frame
+outer_frame = record { parent = None; cells = cell.Int (pos 5) ∷ cell.Int (pos 6) ∷ []; over = false }
+
+-- that of a function which was called with the array
+abbrev called_frame : Frame
+called_frame = record { parent = None; cells = array ∷ []; over = false }
+
+-- the function is about to read an element
+abbrev reading : Option Frame → Flat
+reading caller = record {
+  shared = first_shared [];
+  store = record { globals = []; frames = caller ∷ Some called_frame ∷ [] };
+  running = Some first;
+  current = record { place = 7; frame = called; operands = cell.Int (pos 1) ∷ array ∷ []; callers = record { place = 3; frame = outer; operands = [] } ∷ []; block = None };
+  ready = [];
+  threads = nobody ∷ [];
+  blocks = [];
+  count = 4;
+}
+
+abbrev whole : Flat
+whole = reading (Some outer_frame)
+
+whole_threads : (t : Item) (h : Thread) → LivesAs whole t h → ActivationLives whole.store h.frame h.operands × CallersLive whole.store h.callers
+whole_threads _ _ (as_running t e) = ((refl, (tt, (refl, tt))), ((refl, tt), tt))
+whole_threads _ _ (as_ready t some) = absurd (omega (arith, some))
+whole_threads _ _ (as_waiting t b x here owner w) = let no : None ≡ Some x = here in absurd (cc)
+
+whole_frames : (n : ℕ) (x : Frame) → slice_index_or whole.store.frames n None ≡ Some x → ParentLives whole.store x.parent × AllReferToLiving whole.store x.cells
+whole_frames zero x e = let is : outer_frame ≡ x = cc in subst (λ (z : Frame). ParentLives whole.store z.parent × AllReferToLiving whole.store z.cells) is (tt, (tt, (tt, tt)))
+whole_frames (suc zero) x e = let is : called_frame ≡ x = cc in subst (λ (z : Frame). ParentLives whole.store z.parent × AllReferToLiving whole.store z.cells) is (tt, (refl, tt))
+whole_frames (suc (suc n)) x e = let no : None ≡ Some x = e in absurd (cc)
+
+-- the frame of the caller lives
+pub the_caller_lives : NamesLiving whole
+the_caller_lives = record {
+  threads = whole_threads;
+  parents = λ f x e. (whole_frames f.number x e).0;
+  cells = λ f x e. (whole_frames f.number x e).1;
+}
+
+-- and here it is gone
+pub the_caller_is_gone : NamesLiving (reading None) → ⊥
+the_caller_is_gone n =
+    let dangles : false ≡ true = (n.threads first (reading None).current (as_running first refl)).0.1.1.0 in
+    cc
+
+pub what_refers_to_a_living_frame : RefersToLiving whole.store array × RefersToLiving (reading None).store (cell.Int (pos 5))
+what_refers_to_a_living_frame = (refl, tt)
+
+pub what_dangles : RefersToLiving (reading None).store array → ⊥
+what_dangles h = let no : false ≡ true = h in cc
+
+-- ---- threads
+
+-- the frames of a thread are those of its activations
+pub the_frame_of_a_caller : HasFrame whole.current outer
+the_frame_of_a_caller = inr (inl refl)
+
+pub the_frame_of_no_caller : IsOfCaller whole.current.callers called → ⊥
+the_frame_of_no_caller (inl e) = let z = ap (λ (k : FrameId). k.number) e in omega (arith, z)
+the_frame_of_no_caller (inr x) = x
+
+-- no other thread lives there
+pub no_second_thread : (h : Thread) → LivesAs whole (record { number = 1 }) h → ⊥
+no_second_thread h l = by (record { number = 1 }) h refl l
+  where
+    by : (t : Item) (h : Thread) → t.number ≡ 1 → LivesAs whole t h → ⊥
+    by _ _ q (as_running t e) =
+        let same : first ≡ t = cc in
+        let z = ap (λ (u : Item). u.number) same in
+        omega (arith, z, q)
+    by _ _ q (as_ready t some) = omega (arith, some)
+    by _ _ q (as_waiting t b x here owner w) = let no : None ≡ Some x = here in cc
+
+-- ---- chains
+
+abbrev body : FrameId
+body = record { number = 2 }
+
+-- the entry, a function that it called, and an async body in that
+abbrev origins : List Origin
+origins = AtEntry ∷ CalledIn outer ∷ StartedIn called ∷ []
+
+pub out_to_the_entry : OnChain origins body outer
+out_to_the_entry = further body called outer (StartedIn called) refl refl (further called outer outer (CalledIn outer) refl refl (itself outer))
+
+-- the entry was made by no activation
+pub not_inwards : OnChain origins outer body → ⊥
+not_inwards c = by outer body refl c refl
+  where
+    by : (f g : FrameId) → f ≡ outer → OnChain origins f g → g ≡ body → ⊥
+    by _ _ e (itself f) q = let z = ap (λ (k : FrameId). k.number) (sym e ∙ q) in omega (arith, z)
+    by _ _ e (further f g h o came link rest) q =
+        let at : Some AtEntry ≡ Some o = ap (λ (k : FrameId). slice_get origins k.number) (sym e) ∙ came in
+        let is : AtEntry ≡ o = cc in
+        let no : None ≡ Some g = ap link_of is ∙ link in
+        cc
+
+pub in_the_function : LiesIn origins body called
+in_the_function = directly body called refl
+
+-- the function does not lie in its caller
+pub not_in_the_caller : LiesIn origins body outer → ⊥
+not_in_the_caller l = by body outer refl l refl
+  where
+    calls : (f : FrameId) (p : FrameId) → f ≡ called → Came origins f (StartedIn p) → ⊥
+    calls f p e came = let no : Some (CalledIn outer) ≡ Some (StartedIn p) = ap (λ (k : FrameId). slice_get origins k.number) (sym e) ∙ came in cc
+
+    next : (f p : FrameId) → f ≡ body → Came origins f (StartedIn p) → called ≡ p
+    next f p e came = let both : Some (StartedIn called) ≡ Some (StartedIn p) = ap (λ (k : FrameId). slice_get origins k.number) (sym e) ∙ came in cc
+
+    ends : (f g : FrameId) → f ≡ called → LiesIn origins f g → ⊥
+    ends _ _ e (directly f g came) = calls f g e came
+    ends _ _ e (deeper f g h came rest) = calls f g e came
+
+    by : (f g : FrameId) → f ≡ body → LiesIn origins f g → g ≡ outer → ⊥
+    by _ _ e (directly f g came) q = let z = ap (λ (k : FrameId). k.number) (next f g e came ∙ q) in omega (arith, z)
+    by _ _ e (deeper f g h came rest) q = ends g h (sym (next f g e came)) rest
+
+-- the body lies in the function, and the function in nothing
+pub what_frames_lie_in : (parent_of (StartedIn called) ≡ Some called) × (parent_of (CalledIn outer) ≡ None)
+what_frames_lie_in = (refl, refl)
+
+-- ---- what a frame may name
+
+pub the_body_names_an_array_of_the_entry : HomeOnChain origins body (Some outer) × AllName origins body (array ∷ cell.Int (pos 1) ∷ [])
+the_body_names_an_array_of_the_entry = (out_to_the_entry, (out_to_the_entry, (tt, tt)))
+
+pub the_entry_names_none_of_the_body : AllName origins outer (cell.Array (record { home = Some body; start = 0; len = 1 }) ∷ []) → ⊥
+the_entry_names_none_of_the_body h = not_inwards h.0
+
+-- ---- blocks and threads
+
+abbrev block : BlockId
+block = record { number = 0 }
+
+abbrev entered : Block
+entered = record { parent = None; owner = first; count = 0; waits = false }
+
+pub a_block_that_was_entered : HasEnteredIn (Some entered ∷ []) (outer ∷ []) first outer 1 (Some block) None
+a_block_that_was_entered = one_in 0 block entered None refl refl refl (none_in None)
+
+pub a_block_that_is_not_there : (n : ℕ) (inner out : Option BlockId) → HasEnteredIn [] [] first outer n inner out → 0 < n → ⊥
+a_block_that_is_not_there _ _ _ (none_in out) some = omega (arith, some)
+a_block_that_is_not_there _ _ _ (one_in n b x out here owner site rest) some = let no : None ≡ Some x = here in cc
+
+pub the_first_thread_starts_at_the_entry : Starts origins [] [] first outer None
+the_first_thread_starts_at_the_entry = refl
+
+pub no_thread_starts_by_a_call : Starts origins [] [] first called None → ⊥
+no_thread_starts_by_a_call came = let no : Some (CalledIn outer) ≡ Some AtEntry = came in cc

@@ -1,0 +1,80 @@
+-- How the bound on what a core can still do changes with its threads.
+use Rattle.std.proofs.Common.{◌≡◌, ◌⊎◌, ℕ, zero, suc, ◌+◌, ◌-◌, ◌*◌, ◌≤◌, ◌<◌, List, [], ◌∷◌, ◌++◌, length, Option, Some, None, Bool, true, false, refl, sym, ap, ◌∙◌, subst, inl, inr, arith}
+use Rattle.std.specs.Prelude.{sum, slice_index, slice_index_or, nat_eq, if◌then◌else◌}
+use Rattle.std.proofs.lemmas.Bool.{cases_lt}
+use Rattle.std.proofs.lemmas.List.{get_or_past}
+use Rattle.std.proofs.lemmas.List.Sums.{get_or-le-sum_by}
+use Rattle.work_item.specs.declared.ids.Item.{Item}
+use Rattle.work_item.specs.declared.ids.BlockId.{BlockId}
+use Rattle.stack_code.specs.Machine.{Thread, Block, thread_at}
+use Rattle.code_safety.specs.Fit.{total, one_if, one_at, occurs}
+use Rattle.code_safety.specs.Left.{grown, at_weight, parked_weight, ready_weight, owner_weight, waiting_weight}
+use Rattle.code_safety.proofs.Lives.{one_same}
+
+-- ---- ranks
+
+pub grown_some : (r : ℕ) → 1 ≤ grown r
+grown_some zero = omega arith
+grown_some (suc r) = omega arith
+
+grown_le : (q r : ℕ) → q ≤ r → grown q ≤ grown r
+grown_le zero r h = grown_some r
+grown_le (suc q) zero h = absurd (omega (arith, h))
+grown_le (suc q) (suc r) h = let x : grown q ≤ grown r = grown_le q r (omega (arith, h)) in omega (arith, x)
+
+-- one of lower rank and a dispatch
+pub grown_one : (q r : ℕ) → q < r → 1 + grown q < grown r
+grown_one q zero h = absurd (omega (arith, h))
+grown_one q (suc r) h = let x : grown q ≤ grown r = grown_le q r (omega (arith, h)) in let s = grown_some q in omega (arith, x, s)
+
+pub grown_two : (q k r : ℕ) → q < r → k < r → 1 + (grown q + grown k) < grown r
+grown_two q k zero h g = absurd (omega (arith, h))
+grown_two q k (suc r) h g =
+    let x : grown q ≤ grown r = grown_le q r (omega (arith, h)) in
+    let y : grown k ≤ grown r = grown_le k r (omega (arith, g)) in
+    omega (arith, x, y)
+
+rank_within : (ranks : List ℕ) (at : ℕ) → slice_index ranks at ≤ sum ranks
+rank_within ranks at =
+    elim (cases_lt at (length ranks)) as (λ _. slice_index ranks at ≤ sum ranks) [
+      | inl lt ↦ get_or-le-sum_by (λ x. x) ranks at 0 lt
+      | inr past ↦ omega (arith, get_or_past ranks at 0 past)
+    ]
+
+pub weight_within : (ranks : List ℕ) (at : ℕ) → at_weight ranks at ≤ grown (sum ranks)
+weight_within ranks at = grown_le (slice_index ranks at) (sum ranks) (rank_within ranks at)
+
+-- a step is used
+pub step_falls : (bound steps all x y rest : ℕ) → steps < bound → x ≤ all → 1 ≤ y → (bound - (steps + 1)) * all + (x + rest) < (bound - steps) * all + (y + rest)
+step_falls bound steps all x y rest lt le some = let e : bound - steps ≡ (bound - (steps + 1)) + 1 = omega arith in rw e (omega (arith, le, some))
+
+-- ---- other threads
+
+module _ (ranks : List ℕ) (old new : List Thread) where
+  pub ready_same : (ready : List Item) → ((u : Item) → 0 < occurs u.number ready → thread_at new u ≡ thread_at old u) → ready_weight ranks new ready ≡ ready_weight ranks old ready
+  ready_same [] h = refl
+  ready_same (t ∷ ready) h =
+      let first = h t (let one = one_same t.number in let o : one_at t.number t ≡ 1 = one in omega (arith, o)) in
+      let rest = ready_same ready (λ u lt. h u (omega (arith, lt))) in
+      let a : parked_weight ranks new t ≡ parked_weight ranks old t = rw first refl in
+      omega (arith, a, rest)
+
+  owner_same : (o : Option Block) → ((x : Block) → o ≡ Some x → x.waits ≡ true → thread_at new x.owner ≡ thread_at old x.owner) → owner_weight ranks new o ≡ owner_weight ranks old o
+  owner_same None h = refl
+  owner_same (Some x) h = go x.waits refl
+    where
+      go : (b : Bool) → x.waits ≡ b → (if b then parked_weight ranks new x.owner else 0) ≡ (if b then parked_weight ranks old x.owner else 0)
+      go true e = let s = h x refl e in rw s refl
+      go false e = refl
+
+  pub waiting_same : (blocks : List (Option Block)) → ((n : ℕ) (x : Block) → slice_index_or blocks n None ≡ Some x → x.waits ≡ true → thread_at new x.owner ≡ thread_at old x.owner)
+      → waiting_weight ranks new blocks ≡ waiting_weight ranks old blocks
+  waiting_same [] h = refl
+  waiting_same (o ∷ blocks) h =
+      let first = owner_same o (λ x e w. h zero x e w) in
+      let rest = waiting_same blocks (λ n x e w. h (suc n) x e w) in
+      omega (arith, first, rest)
+
+pub ready_append : (ranks : List ℕ) (threads : List Thread) (xs ys : List Item) → ready_weight ranks threads (xs ++ ys) ≡ ready_weight ranks threads xs + ready_weight ranks threads ys
+ready_append ranks threads [] ys = omega arith
+ready_append ranks threads (x ∷ xs) ys = let h = ready_append ranks threads xs ys in omega (arith, h)

@@ -1,0 +1,46 @@
+-- A bound on what a core can still do before it ends.
+use Rattle.std.specs.Prelude.{ℕ, zero, suc, ◌+◌, ◌-◌, ◌*◌, List, [], ◌∷◌, Option, Some, None, Bool, true, false, sum, slice_index}
+use Rattle.std.specs.Prelude.{if◌then◌else◌}
+use Rattle.work_item.specs.declared.ids.Item.{Item}
+use Rattle.stack_code.specs.Machine.{Caller, Thread, Block, Flat, thread_at}
+use Rattle.code_safety.specs.Fit.{total}
+
+-- twice and two: an address of that rank may be left for two of lower ranks, with a dispatch between
+abbrev pub grown : ℕ → ℕ
+grown zero = 1
+grown (suc r) = 2 * grown r + 2
+
+abbrev pub at_weight : List ℕ → ℕ → ℕ
+at_weight ranks place = grown (slice_index ranks place)
+
+abbrev pub callers_weight : List ℕ → List Caller → ℕ
+callers_weight ranks [] = 0
+callers_weight ranks (c ∷ callers) = at_weight ranks c.place + callers_weight ranks callers
+
+abbrev pub thread_weight : List ℕ → Thread → ℕ
+thread_weight ranks h = at_weight ranks h.place + callers_weight ranks h.callers
+
+-- one that does not run has a dispatch before it
+abbrev pub parked_weight : List ℕ → List Thread → Item → ℕ
+parked_weight ranks threads t = 1 + thread_weight ranks (thread_at threads t)
+
+abbrev pub ready_weight : List ℕ → List Thread → List Item → ℕ
+ready_weight ranks threads [] = 0
+ready_weight ranks threads (t ∷ ready) = parked_weight ranks threads t + ready_weight ranks threads ready
+
+abbrev pub owner_weight : List ℕ → List Thread → Option Block → ℕ
+owner_weight ranks threads None = 0
+owner_weight ranks threads (Some x) = if x.waits then parked_weight ranks threads x.owner else 0
+
+abbrev pub waiting_weight : List ℕ → List Thread → List (Option Block) → ℕ
+waiting_weight ranks threads blocks = total (owner_weight ranks threads) blocks
+
+abbrev pub running_weight : List ℕ → Thread → Option Item → ℕ
+running_weight ranks current None = 0
+running_weight ranks current (Some t) = thread_weight ranks current
+
+-- the steps that are left, and what each thread can do before the next one
+abbrev pub left : List ℕ → ℕ → Flat → ℕ
+left ranks bound m =
+    (bound - m.shared.steps) * grown (sum ranks)
+    + (running_weight ranks m.current m.running + (ready_weight ranks m.threads m.ready + waiting_weight ranks m.threads m.blocks))

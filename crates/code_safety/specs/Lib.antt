@@ -1,0 +1,5 @@
+pub mod Fit
+pub mod Left
+pub mod Ends
+pub mod Living
+pub mod Chains

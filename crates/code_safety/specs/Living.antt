@@ -1,0 +1,53 @@
+-- No reference dangles: whatever a thread that lives can name is in a frame that lives, or in the globals.
+use Rattle.std.specs.Prelude.{◌≡◌, ◌⊎◌, ◌<◌, List, [], ◌∷◌, Option, Some, true}
+use Rattle.work_item.specs.declared.ids.FrameId.{FrameId}
+use Rattle.work_item.specs.declared.ids.Item.{Item}
+use Rattle.work_item.specs.declared.ids.BlockId.{BlockId}
+use Rattle.work_item.specs.declared.cell.Cell.{Cell}
+use Rattle.work_item.specs.declared.cell.Cell.TheVariants as cell
+use Rattle.work_item.specs.Store.{Store, Frame, frame_at}
+use Rattle.work_item.specs.Conditions.{Lives, ParentLives, HomeLives}
+use Rattle.stack_code.specs.Machine.{Caller, Thread, Block, Flat, thread_at, block_at}
+use Rattle.code_safety.specs.Fit.{occurs}
+
+-- ---- the threads that live
+
+-- a thread that lives, as it stands: it runs, is ready, or waits at the finish of a block
+pub data LivesAs (m : Flat) : Item → Thread → Type 0 where
+  as_running : (t : Item) → m.running ≡ Some t → LivesAs m t m.current
+  as_ready : (t : Item) → 0 < occurs t.number m.ready → LivesAs m t (thread_at m.threads t)
+  as_waiting : (t : Item) (b : BlockId) (x : Block) → block_at m.blocks b ≡ Some x → x.owner ≡ t → x.waits ≡ true
+      → LivesAs m t (thread_at m.threads t)
+
+-- the frame of one of its activations
+abbrev pub IsOfCaller : List Caller → FrameId → Type 0
+IsOfCaller [] f = ⊥
+IsOfCaller (c ∷ callers) f = (c.frame ≡ f) ⊎ IsOfCaller callers f
+
+abbrev pub HasFrame : Thread → FrameId → Type 0
+HasFrame h f = (h.frame ≡ f) ⊎ IsOfCaller h.callers f
+
+-- ---- references
+
+abbrev pub RefersToLiving : Store → Cell → Type 0
+RefersToLiving s (cell.Array place) = HomeLives s place.home
+RefersToLiving s _ = Unit {0}
+
+abbrev pub AllReferToLiving : Store → List Cell → Type 0
+AllReferToLiving s [] = Unit {0}
+AllReferToLiving s (x ∷ cells) = RefersToLiving s x × AllReferToLiving s cells
+
+-- ---- the whole
+
+-- an activation with this frame and these operands
+abbrev pub ActivationLives : Store → FrameId → List Cell → Type 0
+ActivationLives s f operands = Lives s f × AllReferToLiving s operands
+
+abbrev pub CallersLive : Store → List Caller → Type 0
+CallersLive s [] = Unit {0}
+CallersLive s (c ∷ callers) = ActivationLives s c.frame c.operands × CallersLive s callers
+
+pub record NamesLiving (m : Flat) : Type 0 where
+  pub threads : (t : Item) (h : Thread) → LivesAs m t h → ActivationLives m.store h.frame h.operands × CallersLive m.store h.callers
+  pub parents : (f : FrameId) (x : Frame) → frame_at m.store f ≡ Some x → ParentLives m.store x.parent
+  pub cells : (f : FrameId) (x : Frame) → frame_at m.store f ≡ Some x → AllReferToLiving m.store x.cells

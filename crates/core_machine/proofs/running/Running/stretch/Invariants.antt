@@ -1,0 +1,20 @@
+use Rattle.std.proofs.Common.{◌≡◌, ◌≤◌, None, IsSome}
+use Rattle.core_state.specs.Moves.{GoesOn}
+use Rattle.stack_code.specs.Machine.{exec}
+use Rattle.core_machine.specs.State.{state_of, IsSound}
+use Rattle.core_machine.specs.inner.Left.{left_of}
+use Rattle.core_machine.specs.inner.Changes.{Keeps}
+use Rattle.core_machine.proofs.running.Running.stretch.Given as goal
+
+abbrev pub invariant-steps : goal.invariant-steps
+invariant-steps l = record {
+  goes : GoesOn (exec l.fn.self.code.now l.fn.self.bound) (state_of l.fn.self) (state_of l.self);
+  keeps : Keeps l.fn.self l.self;
+  sound : IsSound l.self;
+  running : l.self.ended ≡ None;
+  runs : IsSome l.self.schedule.running;
+  less : left_of l.fn._ranks l.self ≤ left_of l.fn._ranks l.fn.self;
+}
+
+abbrev pub decreases-steps : goal.decreases-steps
+decreases-steps l = left_of l.fn._ranks l.self

@@ -1,0 +1,16 @@
+//! Numbers, texts of `printf` and indices: what source and code of a core compute alike.
+#![tactic(auto)]
+
+mod arithmetic;
+mod cells;
+mod elements;
+mod format;
+
+pub use arithmetic::{
+    both_bits, difference, differing_bits, either_bits, flipped, is_at_most, is_equal, is_less,
+    is_not_equal, low_byte, negated, not_true, product, quotient, remainder, shifted_left,
+    shifted_right, sum, truth,
+};
+pub use cells::{int_in, place_in};
+pub use elements::within;
+pub use format::add_formatted;

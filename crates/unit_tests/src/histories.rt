@@ -1,0 +1,207 @@
+//! Journals merged, and histories taken entry by entry.
+
+use ac_base::{Answer, Bytes, Entry, Event, Journal, List, NoMemory, Payload, Stamped};
+use ac_history::{Legal, merge};
+use std::alloc::Global;
+use std::test::Fail;
+
+fn entry(stamp: u64, turn: u64, event: Event) -> Entry {
+    Entry { stamp, turn, event }
+}
+
+fn by(party: u32, stamp: u64, turn: u64, event: Event) -> Stamped {
+    Stamped {
+        party,
+        entry: entry(stamp, turn, event),
+    }
+}
+
+fn offer(number: u64, value: i64) -> Event {
+    Event::Offer {
+        link: 0,
+        number,
+        payload: Payload::Int(value),
+    }
+}
+
+fn got(number: u64, value: i64) -> Event {
+    Event::Got {
+        link: 0,
+        number,
+        value,
+    }
+}
+
+fn bytes(alloc: Global, text: &str) -> Result<Bytes, NoMemory> {
+    Ok(List::from_vec(Vec::from_slice(alloc, text.as_bytes())?))
+}
+
+// A history on links of these capacities, with one file.
+fn legal(alloc: Global, capacities: &[u32], cores: u32, file: &str) -> Result<Legal, NoMemory> {
+    let capacities = List::from_vec(Vec::from_slice(alloc, capacities)?);
+    if capacities.len() < u64::from(cores) {
+        return Err(NoMemory);
+    }
+    let mut start = List::new(alloc);
+    start.push(bytes(alloc, file)?)?;
+    Legal::new(alloc, &capacities, cores, &start)
+}
+
+// `step`, without its clauses.
+fn takes(legal: &mut Legal, entry: &Stamped) -> Result<bool, NoMemory> {
+    legal.step(entry)
+}
+
+// A message crosses, and what does not fit on the way is refused.
+fn message(place: u32) -> (bool, Stamped) {
+    match place {
+        0 => (true, by(0, 1, 1, offer(0, 5))),
+        1 => (false, by(1, 2, 1, got(0, 6))),
+        2 => (false, by(0, 2, 1, offer(1, 6))),
+        3 => (true, by(1, 2, 1, got(0, 5))),
+        4 => (true, by(0, 3, 1, Event::Know { link: 0, number: 0 })),
+        _ => (true, by(0, 4, 1, offer(1, 6))),
+    }
+}
+
+#[test]
+fn a_message_crosses(rt: HostRuntime) -> Result<(), Fail> {
+    let mut legal = legal(rt.alloc(), &[1, 16, 16], 2, "")?;
+    for place in 0..6 {
+        let (taken, entry) = message(place);
+        assert_eq!(rt; takes(&mut legal, &entry)?, taken, "at {place}");
+    }
+    Ok(())
+}
+
+fn withdrawal(place: u32) -> (bool, Stamped) {
+    let (link, number) = (0, 0);
+    match place {
+        0 => (true, by(0, 1, 1, offer(0, 5))),
+        1 => (true, by(0, 2, 1, Event::Withdraw { link, number })),
+        2 => (false, by(0, 3, 1, offer(1, 6))),
+        3 => (true, by(1, 3, 1, Event::Pass { link, number })),
+        4 => (true, by(0, 4, 1, Event::Room { link, number })),
+        5 => (true, by(0, 5, 1, offer(1, 6))),
+        _ => (true, by(1, 6, 1, got(1, 6))),
+    }
+}
+
+#[test]
+fn withdrawn_offer_keeps_its_room(rt: HostRuntime) -> Result<(), Fail> {
+    let mut legal = legal(rt.alloc(), &[1, 16, 16], 2, "")?;
+    for place in 0..7 {
+        let (taken, entry) = withdrawal(place);
+        assert_eq!(rt; takes(&mut legal, &entry)?, taken, "at {place}");
+    }
+    Ok(())
+}
+
+fn read(number: u64, from: u32, len: u32) -> Event {
+    let file = 0;
+    Event::Offer {
+        link: 0,
+        number,
+        payload: Payload::Read { file, from, len },
+    }
+}
+
+fn write(number: u64, from: u32, bytes: Bytes) -> Event {
+    let file = 0;
+    Event::Offer {
+        link: 0,
+        number,
+        payload: Payload::Write { file, from, bytes },
+    }
+}
+
+fn did(number: u64, answer: Answer) -> Event {
+    Event::Did {
+        link: 0,
+        number,
+        answer,
+    }
+}
+
+fn reply(number: u64, answer: Answer) -> Event {
+    Event::Reply {
+        link: 0,
+        number,
+        answer,
+    }
+}
+
+fn known(stamp: u64, turn: u64, number: u64) -> Stamped {
+    by(0, stamp, turn, Event::Know { link: 0, number })
+}
+
+// The answer to the read of a file of ten bytes, from its fifth on, but for the last `less`.
+fn rest(alloc: Global, less: usize) -> Result<Answer, NoMemory> {
+    let text = "456789";
+    Ok(Answer::Bytes(bytes(alloc, &text[..6 - less.min(6)])?))
+}
+
+// A read is answered, and then a write past the end.
+fn request(alloc: Global, place: u32) -> Result<(bool, Stamped), NoMemory> {
+    Ok(match place {
+        0 => (true, by(0, 1, 1, read(0, 4, 256))),
+        1 => (false, by(1, 2, 0, did(0, rest(alloc, 1)?))),
+        2 => (true, by(1, 2, 0, did(0, rest(alloc, 0)?))),
+        3 => (true, known(3, 1, 0)),
+        4 => (true, by(0, 4, 1, reply(0, rest(alloc, 0)?))),
+        5 => (true, by(0, 5, 2, write(1, 12, bytes(alloc, "A")?))),
+        6 => (false, by(0, 6, 0, did(1, Answer::Count(1)))),
+        7 => (true, by(1, 6, 0, did(1, Answer::Count(1)))),
+        8 => (true, known(7, 2, 1)),
+        9 => (false, by(0, 8, 2, reply(1, Answer::Count(0)))),
+        10 => (true, by(0, 8, 2, reply(1, Answer::Count(1)))),
+        _ => (false, by(0, 9, 2, reply(1, Answer::Count(1)))),
+    })
+}
+
+#[test]
+fn a_read_and_a_write_past_the_end(rt: HostRuntime) -> Result<(), Fail> {
+    let alloc = rt.alloc();
+    let mut legal = legal(alloc, &[16], 1, "0123456789")?;
+    for place in 0..12 {
+        let (taken, entry) = request(alloc, place)?;
+        assert_eq!(rt; takes(&mut legal, &entry)?, taken, "at {place}");
+    }
+    assert_eq!(rt; legal.contents(0).as_slice(), b"0123456789\0\0A".as_slice());
+    Ok(())
+}
+
+#[test]
+fn a_failed_write_leaves_its_prefix(rt: HostRuntime) -> Result<(), Fail> {
+    let alloc = rt.alloc();
+    let mut legal = legal(alloc, &[16], 1, "123")?;
+    let asked = by(0, 1, 1, write(0, 0, bytes(alloc, "AB")?));
+    assert!(rt; takes(&mut legal, &asked)?);
+    assert!(rt; !takes(&mut legal, &by(1, 2, 0, did(0, Answer::Fault(3))))?);
+    assert!(rt; takes(&mut legal, &by(1, 2, 0, did(0, Answer::Fault(1))))?);
+    assert_eq!(rt; legal.contents(0).as_slice(), b"A23".as_slice());
+    Ok(())
+}
+
+#[test]
+fn journals_are_merged_by_their_stamps(rt: HostRuntime) -> Result<(), Fail> {
+    let alloc = rt.alloc();
+    let mut sender = Journal::new(alloc);
+    sender.reserve(2)?;
+    sender.push(entry(1, 1, offer(0, 5)));
+    sender.push(entry(3, 1, Event::Know { link: 0, number: 0 }));
+    let mut receiver = Journal::new(alloc);
+    receiver.reserve(2)?;
+    receiver.push(entry(2, 1, got(0, 5)));
+    receiver.push(entry(3, 2, Event::Pass { link: 0, number: 1 }));
+    let mut journals = List::new(alloc);
+    journals.push(sender)?;
+    journals.push(receiver)?;
+    let all = merge(alloc, &journals)?;
+    assert_eq!(rt; all.len(), 4);
+    for (stamped, (party, stamp)) in all.as_slice().iter().zip([(0, 1), (1, 2), (0, 3), (1, 3)]) {
+        assert_eq!(rt; stamped.party, party);
+        assert_eq!(rt; stamped.entry.stamp, stamp);
+    }
+    Ok(())
+}
