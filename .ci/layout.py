@@ -21,11 +21,11 @@ KEYWORDS = {"use", "pub", "module", "mod", "unfolding", "open", "syntax", "infix
 
 
 def words(text):
-    """The words of a text as the logic reads them; the parts of a dotted name too."""
+    """The words of a text as the logic reads them; the parts of a dotted name and of a path too."""
     found = set()
     for word in SEPARATORS.split(text):
         found.add(word)
-        found.update(word.split("."))
+        found.update(re.split(r"\.|::", word))
         found.add("◌" + word + "◌")
     found.discard("")
     return found

@@ -11,11 +11,12 @@ use Rattle.stack_code.specs.Valid.{IsValid}
 use Rattle.ac_translation.specs.Translation.{functions_code, code_of}
 use Rattle.ac_translation.specs.Same.{IsSame}
 use Rattle.ac_translation.proofs.Agrees.{code_same}
-use Rattle.ac_compile.specs.Unbuilt.{unbuilt_nodes}
+use Rattle.ac_compile.specs.Unbuilt.{unbuilt_nodes, meaningless_nodes}
 use Rattle.ac_compile.specs.Compiled.{IsCodeOf}
 use Rattle.stack_code.specs.Alone.{IsAlone}
+use Rattle.stack_code.specs.Meant.{IsMeant}
 use Rattle.ac_compile.proofs.Weights.{code_small, links_small}
-use Rattle.ac_compile.proofs.Alone.{code_alone}
+use Rattle.ac_compile.proofs.Alone.{code_alone, code_meant}
 use Rattle.ac_compile.specs.OneEnd.{HasOneEnd}
 use Rattle.ac_compile.specs.inner.Made.{HasRanks}
 use Rattle.ac_compile.proofs.Formed.{well_formed}
@@ -32,18 +33,18 @@ module _ (p : Program) (r : Resolved) (is : r ≡ resolved p) where
   pub is_code : (code : Parts) → code ≡ code_of r → IsCodeOf p code
   is_code code e = e ∙ ap code_of is
 
-  module _ (built : unbuilt_nodes p.items ≡ []) where
-    pub is_alone : (code : Parts) → code ≡ code_of r → IsAlone code
-    is_alone code e = subst IsAlone (sym (is_code code e)) (code_alone p built)
+  pub is_same : IsInPlace r → (code : Parts) → code ≡ code_of r → IsSame code (resolved p)
+  is_same place code e =
+      subst (λ (x : Parts). IsSame x (resolved p)) (sym (is_code code e)) (code_same (resolved p) (well_formed (resolved p) (subst IsInPlace is place)))
 
-    pub is_same : IsInPlace r → (code : Parts) → code ≡ code_of r → IsSame code (resolved p)
-    is_same place code e =
-        subst (λ (x : Parts). IsSame x (resolved p)) (sym (is_code code e)) (code_same (resolved p) (well_formed (resolved p) (subst IsInPlace is place) (code_alone p built)))
+  pub is_alone : unbuilt_nodes p.items ≡ [] → (code : Parts) → code ≡ code_of r → IsAlone code
+  is_alone built code e = subst IsAlone (sym (is_code code e)) (code_alone p built)
 
-    pub is_one_end : IsInPlace r → IsSmall p → (code : Parts) → code ≡ code_of r → HasRanks code → HasOneEnd code (resolved p)
-    is_one_end place small code e ranks =
-        has_one_end code (resolved p) (is_same place code e) (subst IsValid (sym e) (code_valid r place (is_short small) (is_few small))) (is_alone code e) ranks
-        (ap (λ (x : Parts). length x.entries) e ∙ length-map r.cores _ ∙ ap (λ (x : Resolved). length x.cores) is)
+  pub is_one_end : meaningless_nodes p.items ≡ [] → IsInPlace r → IsSmall p → (code : Parts) → code ≡ code_of r → HasRanks code → HasOneEnd code (resolved p)
+  is_one_end meant place small code e ranks =
+      has_one_end code (resolved p) (is_same place code e) (subst IsValid (sym e) (code_valid r place (is_short small) (is_few small)))
+      (subst IsMeant (sym (is_code code e)) (code_meant p meant)) ranks
+      (ap (λ (x : Parts). length x.entries) e ∙ length-map r.cores _ ∙ ap (λ (x : Resolved). length x.cores) is)
 
 pub if_both : {A E : Type 0} {P Q S : A → Type 0} (r : Result A E) → ((x : A) → P x → Q x → S x) → IfOk r P → IfOk r Q → IfOk r S
 if_both (Ok x) f h k = f x h k

@@ -28,7 +28,7 @@ use Rattle.ac_resolve.specs.InPlace.{no_operand, one_operand, some_test, to_vari
 use Rattle.ac_resolve.proofs.Examples.{sum, sum_value, with_value, one_core, one_core_resolved, two_ac}
 use Rattle.ac_translation.specs.Translation.{no_exits, value_code, command_code, functions_code, code_of}
 use Rattle.ac_compile.specs.Compiled.{IsCodeOf}
-use Rattle.ac_compile.specs.Unbuilt.{as_list, stmt_step, stmt_nodes, unbuilt_nodes, first_unbuilt}
+use Rattle.ac_compile.specs.Unbuilt.{as_list, as_list_with, as_meaningless, link_by, stmt_step, stmt_nodes, unbuilt_nodes, meaningless_nodes, first_unbuilt}
 use Rattle.ac_compile.specs.Unbuilt.{as_first, node_by, all_of, some_of, expr_step, link_step, expr_nodes, exprs_nodes, some_expr, body_nodes, item_nodes, is_late, items_nodes}
 use Rattle.ac_compile.proofs.Forms.{number_form, variable_form, reference_form, element_form, act_form, chain_form, link_form, nothing_form, set_form, print_form}
 use Rattle.ac_compile.proofs.Forms.{if_alone_form, if_else_form, while_form, for_form, break_form, continue_form, return_form, do_form, async_form, yield_form}
@@ -272,6 +272,16 @@ a_return_without_a_value = rw (return_form None) refl
 pub a_second_core : unbuilt_nodes (i.Core 0 (codes "a") (codes "f") ∷ i.Global 11 (codes "x") None (pos 0) ∷ i.Core 18 (codes "b") (codes "f") ∷ []) ≡ 18 ∷ []
 a_second_core = refl
 
+-- cores and a channel have a meaning, and a file has none
+abbrev pub two_cores : List Item
+two_cores = i.Channel 0 (codes "c") (codes "a") (codes "b") (pos 1) ∷ i.Core 22 (codes "a") (codes "f") ∷ i.Core 33 (codes "b") (codes "f") ∷ []
+
+pub all_of_it_has_a_meaning : (meaningless_nodes two_cores ≡ []) × (unbuilt_nodes two_cores ≡ 0 ∷ 33 ∷ [])
+all_of_it_has_a_meaning = (refl, refl)
+
+pub a_file_has_none : meaningless_nodes (i.File 0 (codes "d") (codes "d.dat") ∷ two_cores) ≡ 0 ∷ []
+a_file_has_none = refl
+
 pub the_first_is_told : first_unbuilt (i.Channel 0 (codes "c") (codes "a") (codes "b") (pos 1) ∷ i.Core 22 (codes "a") (codes "f") ∷ i.Core 33 (codes "b") (codes "f") ∷ []) ≡ Some 0
 the_first_is_told = refl
 
@@ -288,6 +298,10 @@ a_yield = ap (stmt_nodes as_list) (sym (s.rolls-Yield 28)) ∙ fold-roll-Stmt (L
 pub a_node_before_its_parts : (node_by as_list false 5 (7 ∷ []) ∷ node_by as_list true 5 (7 ∷ []) ∷ [] ≡ (5 ∷ 7 ∷ []) ∷ (7 ∷ []) ∷ [])
     × (node_by as_first false 5 (Some 7) ∷ node_by as_first true 5 (Some 7) ∷ node_by as_first true 5 None ∷ [] ≡ Some 5 ∷ Some 7 ∷ None ∷ [])
 a_node_before_its_parts = (refl, refl)
+
+pub a_link_before_its_parts : (link_by as_list false 5 (7 ∷ []) ∷ link_by as_list true 5 (7 ∷ []) ∷ link_by as_meaningless false 5 (7 ∷ []) ∷ [] ≡ (5 ∷ 7 ∷ []) ∷ (7 ∷ []) ∷ (7 ∷ []) ∷ [])
+    × ((as_list_with (λ at. at ∷ at ∷ [])).link 5 ≡ 5 ∷ 5 ∷ [])
+a_link_before_its_parts = (refl, refl)
 
 pub parts_in_their_order : (all_of as_list ((1 ∷ []) ∷ [] ∷ (2 ∷ []) ∷ []) ≡ 1 ∷ 2 ∷ []) × (all_of as_first (None ∷ Some 2 ∷ Some 3 ∷ []) ≡ Some 2)
     × (some_of as_list None ∷ some_of as_list (Some (3 ∷ [])) ∷ [] ≡ [] ∷ (3 ∷ []) ∷ [])

@@ -11,6 +11,7 @@ pub mod Entries
 pub mod Circles
 pub mod Reached
 pub mod Validity
+pub mod Gathered
 pub mod Firsts
 pub mod Filling
 pub mod Emissions
@@ -22,6 +23,7 @@ pub mod Loops
 pub mod Making
 pub mod Never
 pub mod Weights
+pub mod Tested
 pub mod Alone
 pub mod Formed
 pub mod OneEnd

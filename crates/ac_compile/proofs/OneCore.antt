@@ -1,5 +1,5 @@
 -- A program whose nodes are all built has at most one core.
-use Rattle.std.proofs.Common.{◌≡◌, ◌≤◌, ◌<◌, ℕ, Bool, true, false, List, [], ◌∷◌, ◌++◌, length, refl, ap, ◌∙◌, arith}
+use Rattle.std.proofs.Common.{◌≡◌, ◌≤◌, ℕ, true, false, List, [], ◌∷◌, ◌++◌, length, refl, ap, ◌∙◌, arith}
 use Rattle.std.proofs.lemmas.List.{length-map}
 use Rattle.ac_tree.specs.declared.item.Item.{Item}
 use Rattle.ac_tree.specs.declared.item.Item.TheVariants as i
@@ -11,7 +11,7 @@ use Rattle.ac_resolve.specs.Resolution.{cores_in, resolved}
 use Rattle.ac_names.specs.Items.{outermost}
 use Rattle.stack_code.specs.Parts.{Parts}
 use Rattle.ac_translation.specs.Translation.{code_of}
-use Rattle.ac_compile.specs.Unbuilt.{as_list, item_nodes, items_nodes, is_late, unbuilt_nodes}
+use Rattle.ac_compile.specs.Unbuilt.{as_list, item_nodes, items_nodes, unbuilt_nodes}
 
 second_nil : (xs ys : List ℕ) → xs ++ ys ≡ [] → ys ≡ []
 second_nil [] ys e = e

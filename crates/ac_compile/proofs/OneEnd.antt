@@ -6,7 +6,7 @@ use Rattle.ac_commands.specs.declared.program.Resolved.{Resolved}
 use Rattle.ac_semantics.specs.Replay.{Replays}
 use Rattle.stack_code.specs.Parts.{Parts}
 use Rattle.stack_code.specs.Valid.{IsValid}
-use Rattle.stack_code.specs.Alone.{IsAlone}
+use Rattle.stack_code.specs.Meant.{IsMeant}
 use Rattle.stack_code.specs.Machine.{FlatEnd, Runs}
 use Rattle.code_safety.specs.Ends.{EndsOnlySo}
 use Rattle.code_safety.proofs.OneEnd.{ends_only_so}
@@ -25,7 +25,7 @@ module _ (code : Parts) (program : Resolved) (same : IsSame code program) (core 
     only = λ other h. let run = (same core bound journal other).0 h in ap (λ (x : FlatEnd). x.core) (one.only (record { core = other; count = run.0 }) run.1);
   }
 
-pub has_one_end : (code : Parts) (program : Resolved) → IsSame code program → IsValid code → IsAlone code → HasRanks code → length code.entries ≡ length program.cores → HasOneEnd code program
-has_one_end code program same valid alone ranks as_many core bound journal lt =
-    let one = ends_only_so code valid core (subst (λ n. core < n) (sym as_many) lt) alone ranks.ranks ranks.ranked bound journal in
+pub has_one_end : (code : Parts) (program : Resolved) → IsSame code program → IsValid code → IsMeant code → HasRanks code → length code.entries ≡ length program.cores → HasOneEnd code program
+has_one_end code program same valid meant ranks as_many core bound journal lt =
+    let one = ends_only_so code valid core (subst (λ n. core < n) (sym as_many) lt) meant ranks.ranks ranks.ranked bound journal in
     (in_source code program same core bound journal one.0 one.1, in_code code program same core bound journal one.0 one.1)

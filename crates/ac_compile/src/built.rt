@@ -3,7 +3,7 @@
 ghost use Rattle.std.specs.Prelude.{◌≡◌, [], map, None, false, slice_get, IfNone};
 ghost use Rattle.ac_compile.specs.Unbuilt.{as_first, expr_nodes, exprs_nodes, some_expr};
 ghost use Rattle.ac_compile.specs.Unbuilt.{link_nodes, all_of, stmt_nodes, body_nodes, some_stmt};
-ghost use Rattle.ac_compile.specs.Unbuilt.{item_nodes, is_late, items_nodes, unbuilt_nodes};
+ghost use Rattle.ac_compile.specs.Unbuilt.{item_nodes, is_late, items_nodes, unbuilt_nodes, meaningless_nodes};
 
 use ac_base::Boxed;
 use ac_tree::{Expr, Item, Link, Stmt};
@@ -213,10 +213,12 @@ fn in_items(items: &[Item]) -> Option<u32>
     None
 }
 
-/// The first node in preorder that is not built, by its first byte. It takes no memory.
+/// The first node in preorder that is not built, by its first byte. Where there is none, each node has a meaning. It takes no
+/// memory.
 pub fn unbuilt(checked: &Checked) -> Option<u32>
     ensures first { result ≡ slice_get (unbuilt_nodes checked.now.items) 0 }
     ensures none { IfNone result (unbuilt_nodes checked.now.items ≡ []) }
+    ensures meant { IfNone result (meaningless_nodes checked.now.items ≡ []) }
 {
     in_items(checked.tree().items.as_slice())
 }

@@ -3,7 +3,7 @@
 
 ghost use Rattle.std.specs.Prelude.{◌≡◌, [], length, IfOk};
 ghost use Rattle.ac_resolve.specs.Resolution.{resolved};
-ghost use Rattle.ac_compile.specs.Unbuilt.{unbuilt_nodes};
+ghost use Rattle.ac_compile.specs.Unbuilt.{unbuilt_nodes, meaningless_nodes};
 ghost use Rattle.stack_code.specs.Alone.{IsAlone};
 ghost use Rattle.ac_translation.specs.Same.{IsSame};
 ghost use Rattle.ac_compile.specs.Compiled.{IsCodeOf};
@@ -21,16 +21,15 @@ pub use built::unbuilt;
 use stack_code::Code;
 use std::alloc::Global;
 
-/// The code of a program whose nodes are all built: that of its tree, whose cores come to just the ends to which they come in
-/// the source. Such a program has one core, its code has no operation and no cancel, and each of its cores comes to one end and to
-/// no other, in the source and in the code.
+/// The code of a program: that of its tree, whose cores come to just the ends to which they come in the source. Where each node has a
+/// meaning, each core comes to one end and to no other, in the source and in the code. A program whose nodes are all built has one core,
+/// and its code has no operation and no cancel.
 pub fn compile(alloc: Global, checked: &Checked) -> Result<Code, NoMemory>
-    requires { unbuilt_nodes checked.now.items ≡ [] }
     ensures code { IfOk result (λ code. IsCodeOf checked.now code) }
     ensures same { IfOk result (λ code. IsSame code (resolved checked.now)) }
-    ensures one_end { IfOk result (λ code. HasOneEnd code (resolved checked.now)) }
-    ensures one { IfOk result (λ code. length code.entries ≡ 1) }
-    ensures alone { IfOk result IsAlone }
+    ensures one_end { meaningless_nodes checked.now.items ≡ [] → IfOk result (λ code. HasOneEnd code (resolved checked.now)) }
+    ensures one { unbuilt_nodes checked.now.items ≡ [] → IfOk result (λ code. length code.entries ≡ 1) }
+    ensures alone { unbuilt_nodes checked.now.items ≡ [] → IfOk result IsAlone }
 {
     // The tree is small.
     let _ = checked.tree();

@@ -1,5 +1,7 @@
--- After how many moves small machines and cores are over.
+-- After how many moves small machines and cores are over, and a journal that does not fit a core.
 use Rattle.std.proofs.Common.{◌≡◌, ℕ, zero, suc, ◌<◌, [], ◌∷◌, pos, true, false, Some, None, refl, sym, ap, ◌∙◌, arith}
+use Rattle.ac_base.specs.declared.entry.Entry.{Entry}
+use Rattle.ac_base.specs.declared.entry.Event.TheVariants.{Know}
 use Rattle.work_item.specs.Store.{made}
 use Rattle.core_state.specs.Moves.{Move, On, Over, and_then, moves}
 use Rattle.core_state.specs.Frames.{first_store}
@@ -11,6 +13,7 @@ use Rattle.ac_semantics.specs.Held.{turned}
 use Rattle.ac_semantics.specs.Threads.{CoreState, thread_at, step, first_item, first_core, first_state}
 use Rattle.ac_semantics.proofs.Examples.{program, function, form, finish_by}
 use Rattle.ac_interpreter.specs.Ends.{is_over, IsOverBy, IsCount, HasCount, CoreEnds}
+use Rattle.ac_interpreter.specs.Unfit.{IsUnfit}
 
 -- ---- a machine that counts down to 0
 
@@ -52,7 +55,7 @@ before_the_end zero lt = refl
 before_the_end (suc zero) lt = refl
 before_the_end (suc (suc j)) lt = absurd (omega (arith, lt))
 
-pub a_core_without_statements_ends : CoreEnds (program []) (function []) 0
+pub a_core_without_statements_ends : CoreEnds (program []) (function []) 0 []
 a_core_without_statements_ends = (2, (refl, before_the_end))
 
 -- ---- a core that cancels: a cancel has no meaning yet, so before it the core stays
@@ -75,5 +78,24 @@ goes_on_from : (k : ℕ) → is_over (and_then (first_state (program (cancels �
 goes_on_from zero = refl
 goes_on_from (suc k) = ap is_over (stays_there (step (program (cancels ∷ [])) 1) at_the_cancel it_stays k)
 
-pub a_core_that_cancels_does_not : CoreEnds (program (cancels ∷ [])) (function (cancels ∷ [])) 1 → ⊥
+pub a_core_that_cancels_does_not : CoreEnds (program (cancels ∷ [])) (function (cancels ∷ [])) 1 [] → ⊥
 a_core_that_cancels_does_not h = let no : false ≡ true = sym (goes_on_from h.0) ∙ h.1.0 in cc
+
+-- ---- a journal with an entry for which a core without statements does not wait
+
+abbrev an_entry : Entry
+an_entry = record { stamp = 1; turn = 1; event = Know 0 0 }
+
+pub the_first_does_not_fit : IsUnfit (program []) (function []) 0 (an_entry ∷ []) 0
+the_first_does_not_fit = record {
+  inside = omega arith;
+  unfit = (2, refl);
+  before = λ earlier less. absurd (omega (arith, less));
+}
+
+-- there is a lesser one
+pub it_is_not_the_second : IsUnfit (program []) (function []) 0 (an_entry ∷ an_entry ∷ []) 1 → ⊥
+it_is_not_the_second h = h.before 0 (omega arith) (2, refl)
+
+pub no_entries_fit : IsUnfit (program []) (function []) 0 [] 0 → ⊥
+no_entries_fit h = let inside = h.inside in omega (arith, inside)

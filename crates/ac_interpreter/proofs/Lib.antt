@@ -6,7 +6,9 @@ mod Calling
 mod Copying
 mod Outcomes
 mod Returning
+mod Finding
 pub mod Ends
-mod Examples
-pub mod Journals
+mod Journals
+mod Prefixes
 mod Moving
+mod Examples

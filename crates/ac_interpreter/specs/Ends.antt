@@ -1,9 +1,10 @@
 -- After how many moves a run is over; there is at most one such number.
-use Rattle.std.specs.Prelude.{◌≡◌, ℕ, ◌<◌, [], Option, Bool, true, false}
+use Rattle.std.specs.Prelude.{◌≡◌, ℕ, ◌<◌, List, Option, Bool, true, false}
 use Rattle.std.proofs.Common.{⊎_elim, sym, ap, ◌∙◌, subst, arith}
 use Rattle.std.proofs.Math.Bool.{Bool-set}
 use Rattle.std.proofs.lemmas.Bool.{cases_lt}
 use Rattle.ac_base.specs.declared.ends.CoreEnd.{CoreEnd}
+use Rattle.ac_base.specs.declared.entry.Entry.{Entry}
 use Rattle.core_state.specs.Moves.{Move, On, Over, and_then, moves}
 use Rattle.ac_commands.specs.declared.program.Function.{Function}
 use Rattle.ac_commands.specs.declared.program.Resolved.{Resolved}
@@ -24,9 +25,10 @@ IsCount f a k = IsOverBy f a k × ((j : ℕ) → j < k → is_over (and_then a (
 abbrev pub HasCount : {S E : Type 0} → (S → Move S E) → Move S E → Type 0
 HasCount f a = (k : ℕ) × IsCount f a k
 
--- so it is with a core that enters this function, with this bound on its steps and without entries
-abbrev pub CoreEnds : Resolved → Function → ℕ → Type 0
-CoreEnds program function bound = HasCount {S = CoreState} {E = Option CoreEnd} (step program bound) (first_state program function [])
+-- so it is with a core that enters this function, with this bound on its steps, under this journal
+abbrev pub CoreEnds : Resolved → Function → ℕ → List Entry → Type 0
+CoreEnds program function bound journal =
+    HasCount {S = CoreState} {E = Option CoreEnd} (step program bound) (first_state program function journal)
 
 -- ---- there is one such number
 
@@ -55,5 +57,6 @@ module _ {S E : Type 0} (f : S → Move S E) (a : Move S E) where
   count_once x y =
       subst (IsFirst x) (same_number x y) (λ c. ap (λ (z : IsCount f a x.0). (x.0, z)) (count_is x.0 x.1 c)) y.1
 
-pub ends_once : (program : Resolved) (function : Function) (bound : ℕ) → IsProp (CoreEnds program function bound)
-ends_once program function bound = count_once (step program bound) (first_state program function [])
+pub ends_once : (program : Resolved) (function : Function) (bound : ℕ) (journal : List Entry)
+    → IsProp (CoreEnds program function bound journal)
+ends_once program function bound journal = count_once (step program bound) (first_state program function journal)

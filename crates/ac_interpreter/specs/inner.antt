@@ -2,9 +2,13 @@ pub mod Data
 pub mod Pending
 pub mod Works
 pub mod Phases
+pub mod Operations
 pub mod State
 pub mod Nexts
 pub mod Cores
 pub mod Left
 pub mod Released
 pub mod Chains
+pub mod Arrivals
+pub mod Under
+pub mod Runs

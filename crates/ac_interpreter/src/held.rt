@@ -7,14 +7,15 @@ ghost use Rattle.core_state.specs.Shared.{printed, formatted};
 
 use crate::datum::Datum;
 use crate::memory::Memory;
+use crate::operation::{Asked, Operation};
 use ac_base::NoMemory;
 use core_values::add_formatted;
 use std::alloc::Global;
 use std::marker::Model;
-use work_item::{BlockId, Cell, FrameId};
+use work_item::{BlockId, Cell, FrameId, Item};
 
-/// The steps and turns that a core has used, the bytes that it has printed, its globals and frames, and the frame in which
-/// each block was entered.
+/// The steps and turns that a core has used, the bytes that it has printed, its globals and frames, the frame in which each
+/// block was entered, and its operations that have not ended, the oldest first.
 #[derive(Drop)]
 pub struct Held {
     pub steps: u64,
@@ -22,6 +23,7 @@ pub struct Held {
     pub output: Vec<u8>,
     pub memory: Memory,
     pub blocks: Vec<FrameId>,
+    pub operations: Vec<Operation>,
 }
 
 // The ints among them, and 0 for each that is none.
@@ -36,7 +38,8 @@ fn ints_of(alloc: Global, values: &[Datum]) -> Result<Vec<Cell>, NoMemory>
 }
 
 impl Held {
-    ghost use Rattle.ac_semantics.specs.Held.{stepped, entered, with_shared};
+    ghost use Rattle.ac_semantics.specs.Held.{stepped, entered, with_shared, with_started};
+    ghost use Rattle.ac_interpreter.specs.inner.Operations.{asked_of};
     ghost use Rattle.ac_interpreter.specs.inner.State.{held_of, shared_of};
 
     /// Whether there was a step left, which is used now.
@@ -62,6 +65,14 @@ impl Held {
         self.blocks.push(frame)?;
         self.memory.write(frame, 0, slot, Datum::block(block));
         Ok(block)
+    }
+
+    /// An operation starts, for whose end that thread waits.
+    pub fn operate(&mut self, link: u32, asked: Asked, item: Item) -> Result<(), NoMemory>
+        ensures { OnOk result (held_of self.new ≡ with_started (held_of self.old) link (asked_of asked) item) }
+    {
+        self.operations.push(Operation::start(link, asked, item))?;
+        Ok(())
     }
 
     /// Whether a text with its values was printed, which is so where the output keeps within its limit.

@@ -1,13 +1,16 @@
 //! A slow interpreter of programs without names: what it comes to is what the program does.
 #![tactic(auto)]
 
+mod arrivals;
 mod datum;
 mod ending;
 mod evaluation;
 mod held;
 mod memory;
+mod operation;
 mod operators;
 mod pending;
+mod replay;
 mod resuming;
 mod running;
 mod statements;
@@ -15,4 +18,4 @@ mod threads;
 mod work;
 
 pub use ending::Ending;
-pub use running::run_core;
+pub use replay::{Run, run_core};

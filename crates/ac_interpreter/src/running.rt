@@ -1,20 +1,20 @@
 //! A core that goes from step to step.
 
-ghost use Rattle.std.specs.Prelude.{◌≡◌, [], IfOk, Some, None, false, if◌then◌else◌};
+ghost use Rattle.std.specs.Prelude.{◌≡◌, [], map, IfOk, Some, None, false, if◌then◌else◌};
 ghost use Rattle.ac_base.specs.declared.ends.EndWord.TheVariants.{Trapped};
 ghost use Rattle.ac_base.specs.declared.ends.Trap.TheVariants.{StackFull};
-ghost use Rattle.core_state.specs.Moves.{ComesTo};
-ghost use Rattle.ac_semantics.specs.Threads.{with_starts, first_state, step};
+ghost use Rattle.cancel_scope.specs.Outstanding.{waiting_as};
+ghost use Rattle.ac_semantics.specs.Threads.{with_starts, first_state};
 ghost use Rattle.ac_interpreter.specs.inner.Cores.{state_of};
 
 use crate::datum::Datum;
-use crate::ending::Ending;
 use crate::held::Held;
 use crate::memory::Memory;
+use crate::operation::Operation;
 use crate::statements::{Next, next_step};
 use crate::threads::{Phase, Threads};
 use crate::work::{Agenda, Work};
-use ac_base::{CoreEnd, EndWord, List, NoMemory, Trap};
+use ac_base::{CoreEnd, EndWord, List, NoMemory, Trap, Waiting};
 use ac_commands::{Function, Resolved, Start};
 use std::alloc::Global;
 use std::collections::VecDeque;
@@ -43,11 +43,11 @@ pub struct Core<'a> {
 }
 
 impl<'a> Core<'a> {
-    ghost use Rattle.std.specs.Prelude.{◌≡◌, None, Some, IsSome, OnOk, []};
+    ghost use Rattle.std.specs.Prelude.{◌≡◌, None, Some, IsSome, OnOk, IfOk, []};
     ghost use Rattle.work_item.specs.Store.{released};
-    ghost use Rattle.core_state.specs.Moves.{On, Over, GoesOn};
+    ghost use Rattle.core_state.specs.Moves.{On, Over};
     ghost use Rattle.ac_semantics.specs.Held.{with_store, seen_of};
-    ghost use Rattle.ac_semantics.specs.Threads.{Ended, stops, starts, wakes_owner, applied, dispatched, step, first_state};
+    ghost use Rattle.ac_semantics.specs.Threads.{Ended, stops, starts, wakes_owner, applied, dispatched, step};
     ghost use Rattle.ac_interpreter.specs.declared.statements.Next.TheVariants as n;
     ghost use Rattle.ac_interpreter.specs.inner.Phases.{phase_of};
     ghost use Rattle.ac_interpreter.specs.inner.State.{held_of};
@@ -134,6 +134,11 @@ impl<'a> Core<'a> {
                 }
                 Ok(())
             }
+            Next::Operates(link, asked) => {
+                self.held.operate(link, asked, item)?;
+                self.stop(item, Phase::Active);
+                Ok(())
+            }
             Next::Dies(frame) => self.die(item, frame),
             Next::Stays => unreachable!(),
         }
@@ -161,8 +166,8 @@ impl<'a> Core<'a> {
         Ok(())
     }
 
-    // One move of a core that has not ended.
-    fn turn(&mut self) -> Result<(), NoMemory>
+    /// One move of a core that has not ended.
+    pub fn turn(&mut self) -> Result<(), NoMemory>
         requires running { self.old.ended ≡ None }
         requires meaning { step self.old.program.now self.old.bound (core_of self.old) ≡ On (core_of self.old) → ⊥ }
         ensures state { OnOk result (state_of self.new ≡ step self.old.program.now self.old.bound (core_of self.old)) }
@@ -181,25 +186,10 @@ impl<'a> Core<'a> {
         self.apply(item, next)
     }
 
-    // Runs the core until it has ended.
-    fn run(&mut self, ending: &Ending) -> Result<(), NoMemory>
-        requires program { self.old.program.now ≡ ending.now.program.now }
-        requires bound { self.old.bound ≡ ending.now.bound }
-        requires first { state_of self.old ≡ first_state ending.now.program.now ending.now.function.now [] }
-        ensures goes { OnOk result (GoesOn (step ending.now.program.now ending.now.bound)
-            (first_state ending.now.program.now ending.now.function.now []) (state_of self.new)) }
-        ensures over { OnOk result (IsSome self.new.ended) }
-    {
-        'turns: while self.ended.is_none() {
-            self.turn()?;
-        }
-        Ok(())
-    }
-
-    // What is seen of a core that has ended.
-    fn end(self) -> CoreEnd
+    /// What is seen of a core that has ended.
+    pub fn end(self) -> Result<CoreEnd, NoMemory>
         requires ended { IsSome self.ended }
-        ensures { state_of self.entry ≡ Over (Some result) }
+        ensures { IfOk result (λ end. state_of self.entry ≡ Over (Some end)) }
     {
         let Core {
             held,
@@ -211,20 +201,33 @@ impl<'a> Core<'a> {
             steps,
             output,
             memory,
+            operations,
             ..
         } = held;
         let Some(Halt { word, idle }) = ended else {
             unreachable!()
         };
-        CoreEnd {
+        let waiting = seen_operations(alloc, operations.as_slice())?;
+        Ok(CoreEnd {
             word,
             steps,
             output: List::from_vec(output),
             globals: List::from_vec(memory.into_globals()),
-            waiting: List::new(alloc),
+            waiting: List::from_vec(waiting),
             idle,
-        }
+        })
     }
+}
+
+// What is seen of operations that have not ended.
+fn seen_operations(alloc: Global, operations: &[Operation]) -> Result<Vec<Waiting>, NoMemory>
+    ensures { IfOk result (λ waiting. waiting.items ≡ map waiting_as operations.now) }
+{
+    let mut waiting = Vec::new(alloc);
+    for operation in operations {
+        waiting.push(operation.seen())?;
+    }
+    Ok(waiting)
 }
 
 // Sets the globals that start with something else than 0.
@@ -251,8 +254,8 @@ fn first_halt(has_room: bool) -> Option<Halt>
     }
 }
 
-// A core that is about to enter a function; where there is no room for its frame, it has ended.
-fn begin_core<'a>(
+/// A core that is about to enter a function; where there is no room for its frame, it has ended.
+pub fn begin_core<'a>(
     alloc: Global,
     program: &'a Resolved,
     function: &'a Function,
@@ -287,6 +290,7 @@ fn begin_core<'a>(
             output: Vec::new(alloc),
             memory,
             blocks: Vec::new(alloc),
+            operations: Vec::new(alloc),
         },
         running: None,
         work: Agenda::new(alloc),
@@ -295,14 +299,4 @@ fn begin_core<'a>(
         ended: first_halt(has_room),
         alloc,
     })
-}
-
-/// What is seen of a core at the end of its run without entries.
-pub fn run_core(alloc: Global, ending: &Ending) -> Result<CoreEnd, NoMemory>
-    ensures { IfOk result (λ end. ComesTo (step ending.now.program.now ending.now.bound)
-        (first_state ending.now.program.now ending.now.function.now []) (Some end)) }
-{
-    let mut core = begin_core(alloc, ending.program, ending.function, ending.bound)?;
-    core.run(ending)?;
-    Ok(core.end())
 }

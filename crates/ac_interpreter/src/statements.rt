@@ -2,7 +2,7 @@
 
 ghost use Rattle.std.specs.Prelude.{◌≡◌, [], ◌∷◌, List, Ok, Err, IfOk, OnOk, IfErr, map, length, reverse, replicate};
 ghost use Rattle.std.specs.Prelude.{slice_get, slice_index_or, Some, None, MatchOption};
-ghost use Rattle.work_item.specs.Store.{no_int, int_in, next_frame, released};
+ghost use Rattle.work_item.specs.Store.{no_int, int_in, place_in, next_frame, released};
 ghost use Rattle.work_item.specs.declared.cell.Cell.TheVariants as c;
 ghost use Rattle.core_state.specs.Arithmetic.{at_zero};
 ghost use Rattle.core_state.specs.Frames.{begun, argument, arguments, first_cells};
@@ -14,9 +14,10 @@ ghost use Rattle.ac_interpreter.specs.inner.Pending.{outcome_of};
 ghost use Rattle.ac_interpreter.specs.inner.State.{held_of, shared_of};
 ghost use Rattle.ac_interpreter.specs.inner.Nexts.{next_with};
 
-use crate::datum::Datum;
+use crate::datum::{Datum, Span};
 use crate::held::Held;
 use crate::memory::Memory;
+use crate::operation::Asked;
 use crate::pending::{Around, Head, Outcome};
 use crate::resuming::{begin, resume};
 use crate::work::{Agenda, Work};
@@ -36,6 +37,8 @@ pub enum Next<'a> {
     Yields,
     /// The thread arrives at the finish of a block.
     Arrives(BlockId),
+    /// The thread waits for the end of an operation on that link.
+    Operates(u32, Asked),
     /// The thread has ended, and its frame is given back.
     Dies(FrameId),
     /// It has no meaning.
@@ -59,6 +62,12 @@ fn last_int(operands: &[Datum]) -> i64
     ensures { result ≡ int_in (s.last_of (reverse operands.now)) }
 {
     operand(operands, 0).as_int()
+}
+
+fn last_array(operands: &[Datum]) -> Span
+    ensures { result ≡ place_in (s.last_of (reverse operands.now)) }
+{
+    operand(operands, 0).as_array()
 }
 
 // The value of a `return`; without one it is 0.
@@ -426,6 +435,16 @@ fn settle<'a>(
                 Some(entered) => call(alloc, entered, operands.as_slice(), work, held),
                 None => Ok(Next::Stays),
             }
+        }
+        Outcome::Stops(Head::Acting(Action::Send { channel }), operands) => {
+            work.push(Work::Pend(frame, command, around))?;
+            let message = last_int(operands.as_slice());
+            Ok(Next::Operates(channel, Asked::Send(message)))
+        }
+        Outcome::Stops(Head::Acting(Action::Recv { channel }), operands) => {
+            work.push(Work::Pend(frame, command, around))?;
+            let place = last_array(operands.as_slice());
+            Ok(Next::Operates(channel, Asked::Recv(place)))
         }
         Outcome::Stops(Head::Acting(_), _) => Ok(Next::Stays),
     }

@@ -3,8 +3,10 @@
 ghost use Rattle.std.specs.Prelude.{◌≡◌, [], ◌∷◌, ◌++◌, length, IfOk, OnOk};
 ghost use Rattle.ac_semantics.specs.Threads.{thread_at, none_within, woken, with_phase, is_within, may_pass};
 ghost use Rattle.ac_semantics.specs.Threads as s;
+ghost use Rattle.ac_semantics.specs.Work.{given};
 ghost use Rattle.ac_interpreter.specs.inner.Phases.{phase_of};
 
+use crate::datum::Datum;
 use crate::work::Agenda;
 use ac_base::NoMemory;
 use std::alloc::Global;
@@ -31,6 +33,7 @@ pub struct Thread<'a> {
 
 impl<'a> Model for Thread<'a> {
     ghost use Rattle.ac_semantics.specs.Threads as s;
+    ghost use Rattle.ac_semantics.specs.Work.{given};
     ghost use Rattle.ac_interpreter.specs.inner.Phases.{phase_of};
     ghost use Rattle.ac_commands.specs.contracts.value.Value as v;
     ghost use Rattle.ac_commands.specs.contracts.value.ValueLink as l;
@@ -128,6 +131,19 @@ impl<'a> Threads<'a> {
         if index < self.threads.len() {
             self.threads[index].phase = Phase::Active;
         }
+    }
+
+    /// A thread has the value for which it waits.
+    pub fn give(&mut self, item: Item, value: Datum) -> Result<(), NoMemory>
+        ensures { OnOk result (self.new ≡ with_phase self.old item s.Active (given value (thread_at self.old item).work)) }
+    {
+        let index = item.number as usize;
+        if index < self.threads.len() {
+            let thread = &mut self.threads[index];
+            thread.phase = Phase::Active;
+            thread.work.give(value)?;
+        }
+        Ok(())
     }
 
     /// The blocks round the place where a thread was started.

@@ -7,7 +7,7 @@ use Rattle.ac_lexer.specs.declared.fault.LexFault.TheVariants as l
 use Rattle.ac_program.specs.Lines.{refusal_status}
 use Rattle.ac_program.specs.declared.words.Task.{Task}
 use Rattle.ac_program.specs.declared.words.Task.TheVariants as t
-use Rattle.ac_program.specs.Source.{IsReady, Refuses}
+use Rattle.ac_program.specs.Source.{missing, IsReady, Refuses}
 use Rattle.ac_program.specs.Headline.{IsShort, GivesStatus, CallsFor}
 use Rattle.ac_program.specs.Headline.CallsFor.{bad_token, unexpected, broken, over_long, too_deep, too_many, not_built, made}
 use Rattle.ac_program.proofs.Faults.{fault_refuses}
@@ -62,16 +62,16 @@ module _ (text : List ℕ) (task : Task) (status : ℕ) where
 
 -- ---- one status
 
-gives_once : (task : Task) (program : Program) (m n : ℕ) → GivesStatus task program m → GivesStatus task program n → m ≡ n
-gives_once (t.Run steps) program m n a b = a.status_is ∙ same_status program steps a.ended b.ended a.is_run b.is_run ∙ sym b.status_is
-gives_once t.Check program m n a b = a ∙ sym b
-gives_once t.Code program m n a b = a ∙ sym b
+gives_once : (task : Task) (program : Program) (m n : ℕ) → missing task program ≡ [] → GivesStatus task program m → GivesStatus task program n → m ≡ n
+gives_once (t.Run steps) program m n built a b = a.status_is ∙ same_status program built steps a.ended b.ended a.is_run b.is_run ∙ sym b.status_is
+gives_once t.Check program m n built a b = a ∙ sym b
+gives_once t.Code program m n built a b = a ∙ sym b
 
 module _ (text : List ℕ) (task : Task) where
   made_once : (m n : ℕ) → IsMadeAs m text task → IsMadeAs n text task → m ≡ n
   made_once m n a b =
       let same = same_program text a.program b.program a.is_ready.is_within.is_accepted.spelled b.is_ready.is_within.is_accepted.spelled in
-      gives_once task a.program m n a.gives (subst (λ (p : Program). GivesStatus task p n) (sym same) b.gives)
+      gives_once task a.program m n a.is_ready.built a.gives (subst (λ (p : Program). GivesStatus task p n) (sym same) b.gives)
 
   one_way : (m n : ℕ) → Way text task m → Way text task n → m ≡ n
   one_way m n (is_long e h) (is_long f k) = e ∙ sym f

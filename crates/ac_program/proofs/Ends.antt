@@ -60,9 +60,6 @@ all_one P x p (suc k) d lt = absurd (omega arith)
 pub only_ended : (m : Machine) (end : MachineEnd) (p : Pause) → IsOnItsWay m → IsPaused m.state p → IsSeen m.state end → (cores : List MachineEnd) → cores ≡ end ∷ [] → HaveEnded cores
 only_ended m end p r q s cores c = rw c (all_one (λ e. HasEnded e.core.word) end (ends m end p r q s).ended)
 
-abbrev entries_of : Log → List Entry
-entries_of j = j.entries
-
 runs_as : (code code' : Parts) (core core' bound bound' : ℕ) (journal journal' : List Entry) (x : FlatEnd) → code ≡ code' → core ≡ core' → bound ≡ bound' → journal ≡ journal'
     → Runs code core bound journal x → Runs code' core' bound' journal' x
 runs_as code code' core core' bound bound' journal journal' x c k b j r = rw (← c, ← k, ← b, ← j) r

@@ -40,6 +40,8 @@ use Rattle.ac_program.specs.declared.refusal.BrokenRule.{BrokenRule}
 use Rattle.ac_program.proofs.Answered.{not_unexpected, not_deep}
 use Rattle.ac_program.proofs.Calls.{calls_once}
 use Rattle.ac_base.specs.declared.entry.Entry.{Entry}
+use Rattle.ac_base.specs.declared.entry.Stamped.{Stamped}
+use Rattle.ac_history.specs.History.{Past, start, fits}
 use Rattle.ac_base.specs.declared.entry.Event.TheVariants as event
 use Rattle.ac_base.specs.declared.ends.EndWord.TheVariants.{Finished, Stalled}
 use Rattle.ac_base.specs.declared.ends.CoreEnd.{CoreEnd}
@@ -58,6 +60,7 @@ use Rattle.ac_semantics.specs.Replay.{Replays}
 use Rattle.stack_code.specs.declared.parts.Entered.{Entered}
 use Rattle.stack_code.specs.Parts.{Parts}
 use Rattle.stack_code.specs.Machine.{exec, first_flat, Runs}
+use Rattle.ac_translation.specs.Translation.{code_of}
 use Rattle.ac_compile.proofs.Examples.{two, two_parts, two_is_compiled}
 use Rattle.ac_program.specs.declared.refusal.Refusal.TheVariants as r
 use Rattle.ac_program.specs.declared.execute.Done.{Done}
@@ -65,8 +68,7 @@ use Rattle.ac_program.specs.declared.running.Ended.{Ended}
 use Rattle.ac_program.specs.declared.words.Task.{Task}
 use Rattle.ac_program.specs.declared.words.Task.TheVariants as t
 use Rattle.ac_program.specs.Words.{IsPlain, IsNumber, IsBound, IsArguments, IsTask, IsCall, steps_of, no_more, operand, bound_apart, bound_joined, only_operands}
-use Rattle.ac_program.specs.History.{Stamped, merged, IsLegal}
-use Rattle.ac_program.specs.Run.{HasEnded, HaveEnded, IsQuiet, IsCoreRun, IsRunOf}
+use Rattle.ac_program.specs.Run.{HasEnded, HaveEnded, history_of, nothing_yet, IsQuiet, IsCoreRun, IsRunOf}
 use Rattle.ac_program.specs.Source.{HasTokens, HasFault, IsUnexpected, IsTooDeep, IsAccepted, IsBroken, IsTooMany, IsWithin, IsNotBuilt, Refuses}
 use Rattle.ac_program.specs.Source.{IsSpelled, IsReady, all_steps, missing, most_steps, names_of}
 use Rattle.ac_program.specs.Lines.{accepted_line, library_line, limit_source_line, refusal_line, refusal_status}
@@ -232,21 +234,14 @@ abbrev pub of_party : ℕ → Entry → Stamped
 of_party party entry = record { party = party; entry = entry }
 
 -- by stamp, then party, then place
-pub two_journals : merged (journal (stamped 1 10 ∷ stamped 3 11 ∷ []) ∷ journal (stamped 1 20 ∷ stamped 2 21 ∷ stamped 3 22 ∷ []) ∷ [])
+pub two_journals : history_of (journal (stamped 1 10 ∷ stamped 3 11 ∷ []) ∷ journal (stamped 1 20 ∷ stamped 2 21 ∷ stamped 3 22 ∷ []) ∷ [])
     ≡ of_party 0 (stamped 1 10) ∷ of_party 1 (stamped 1 20) ∷ of_party 1 (stamped 2 21) ∷ of_party 0 (stamped 3 11) ∷ of_party 1 (stamped 3 22) ∷ []
 two_journals = refl
 
 -- an entry of a lower party comes first where the stamps are equal, and those of one journal stay in their order
-pub equal_stamps : merged (journal (stamped 5 10 ∷ stamped 5 11 ∷ []) ∷ journal (stamped 5 20 ∷ []) ∷ [])
+pub equal_stamps : history_of (journal (stamped 5 10 ∷ stamped 5 11 ∷ []) ∷ journal (stamped 5 20 ∷ []) ∷ [])
     ≡ of_party 0 (stamped 5 10) ∷ of_party 0 (stamped 5 11) ∷ of_party 1 (stamped 5 20) ∷ []
 equal_stamps = refl
-
-pub no_entry_is_legal : IsLegal []
-no_entry_is_legal = tt
-
--- no program that runs today has a link
-pub an_entry_is_not : IsLegal (of_party 0 (stamped 1 0) ∷ []) → ⊥
-an_entry_is_not h = let e = h.0 in cc
 
 -- ---- lines and statuses
 
@@ -321,7 +316,7 @@ a_front_is_taken = record { front = codes "a"; rest = codes "b"; cut = refl; sho
 
 -- the core printed 7, in one step and nine instructions
 abbrev pub its_end : CoreEnd
-its_end = core_end Finished false [] (record { steps = 1; turn = 1; output = codes "7\n"; past = []; todo = [] })
+its_end = core_end Finished false [] [] (record { steps = 1; turn = 1; output = codes "7\n"; past = []; todo = [] })
 
 abbrev pub its_run : Ended
 its_run = record { steps = 100; start = []; journals = journal [] ∷ journal [] ∷ []; cores = record { core = its_end; instructions = 9 } ∷ [] }
@@ -701,6 +696,17 @@ it_calls_for_no_other h = let e : 0 ≡ 2 = calls_once two_text (t.Run 100) 0 2 
 -- a run with another bound, and one whose core waits
 pub not_with_another_bound : IsRunOf two_tree 99 [] its_run → ⊥
 not_with_another_bound h = let e = h.steps in omega (arith, e)
+
+-- its one core has a link for requests, on which nothing was offered
+pub before_its_first_entry : nothing_yet two_tree ≡ start (16 ∷ []) 1
+before_its_first_entry = ap (λ (p : Resolved). start (code_of p).capacities (length p.cores)) two_ac
+
+-- nor is it a run where the worker has an entry that only a core may make
+pub not_with_an_entry_of_the_worker : IsRunOf two_tree 100 [] (record its_run { journals = journal [] ∷ journal (stamped 1 0 ∷ []) ∷ [] }) → ⊥
+not_with_an_entry_of_the_worker h =
+    let e : fits (start (16 ∷ []) 1) (of_party 1 (stamped 1 0)) ≡ true =
+    subst (λ (past : Past). fits past (of_party 1 (stamped 1 0)) ≡ true) before_its_first_entry h.legal.0 in
+    cc
 
 abbrev pub stalled : MachineEnd
 stalled = record { core = record its_end { word = Stalled }; instructions = 9 }

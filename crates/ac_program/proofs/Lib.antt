@@ -15,5 +15,5 @@ pub mod Stopping
 pub mod Streams
 pub mod TwoRules
 pub mod Examples
-pub mod HistoryExamples
+pub mod RunExamples
 pub mod TwoExamples

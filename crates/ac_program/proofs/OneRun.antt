@@ -1,6 +1,5 @@
--- Two runs of a program with the same bound have the same status.
-use Rattle.std.proofs.Common.{◌≡◌, ℕ, suc, Bool, true, false, List, [], ◌∷◌, ◌++◌, length, Some, refl, sym, ◌∙◌, subst, arith, if◌then◌else◌}
-use Rattle.std.specs.Prelude.{nat_le}
+-- Two runs of a program whose nodes are all built, with the same bound, have the same status.
+use Rattle.std.proofs.Common.{◌≡◌, ℕ, suc, Bool, List, [], ◌∷◌, length, Some, None, refl, sym, ◌∙◌, subst, arith}
 use Rattle.ac_base.specs.Log.{Log}
 use Rattle.ac_base.specs.Report.{any_ends, is_trapped, is_out_of_steps, is_stalled, status_of}
 use Rattle.ac_base.specs.declared.entry.Entry.{Entry}
@@ -10,54 +9,26 @@ use Rattle.ac_base.specs.declared.ends.MachineEnd.{MachineEnd}
 use Rattle.ac_tree.specs.declared.item.Program.{Program}
 use Rattle.ac_resolve.specs.Resolution.{resolved}
 use Rattle.ac_semantics.specs.Replay.{Replays}
+use Rattle.stack_code.specs.Machine.{Runs}
+use Rattle.ac_translation.specs.Translation.{code_of}
+use Rattle.code_safety.proofs.NoEntries.{alone_takes_none}
+use Rattle.ac_compile.specs.Unbuilt.{unbuilt_nodes}
+use Rattle.ac_compile.proofs.Alone.{code_alone}
 use Rattle.ac_compile.proofs.OnlyEnds.{source_only}
 use Rattle.ac_program.specs.declared.running.Ended.{Ended}
-use Rattle.ac_program.specs.History.{Stamped, placed, in_order, of_party, all_from, merged, IsLegal}
-use Rattle.ac_program.specs.Run.{AreCoreRuns, IsRunOf}
+use Rattle.ac_program.specs.Run.{IsCoreRun, AreCoreRuns, IsRunOf}
 
--- ---- a legal history has no entry, and so no journal has one
+module _ (program : Program) (built : unbuilt_nodes program.items ≡ []) (bound : ℕ) where
+  -- ---- such a program starts no operation, so no entry fits
 
-legal_is_nil : (history : List Stamped) → IsLegal history → history ≡ []
-legal_is_nil [] h = refl
-legal_is_nil (e ∷ es) h = let never : false ≡ true = h.0 in absurd (cc (never))
+  none_in : (core : ℕ) (es : List Entry) (end : MachineEnd) → Runs (code_of (resolved program)) core bound es (record { core = Some end.core; count = end.instructions }) → es ≡ []
+  none_in core [] end h = refl
+  none_in core (e ∷ es) end h =
+      let never : Some end.core ≡ None = alone_takes_none (code_of (resolved program)) core bound e es (record { core = Some end.core; count = end.instructions }) (code_alone program built) h in
+      absurd (cc (never))
 
-chosen_not_nil : {X : Type 0} (b : Bool) (x y : X) (xs ys : List X) → (if b then x ∷ xs else y ∷ ys) ≡ [] → ⊥
-chosen_not_nil true x y xs ys e = absurd (cc (e))
-chosen_not_nil false x y xs ys e = absurd (cc (e))
+  -- ---- so each core has one end
 
-placed_not_nil : {X : Type 0} (key : X → ℕ) (x : X) (ys : List X) → placed key x ys ≡ [] → ⊥
-placed_not_nil key x [] e = absurd (cc (e))
-placed_not_nil key x (y ∷ ys) e = chosen_not_nil (nat_le (key x) (key y)) x y (y ∷ ys) (placed key x ys) e
-
-order_nil : {X : Type 0} (key : X → ℕ) (xs : List X) → in_order key xs ≡ [] → xs ≡ []
-order_nil key [] e = refl
-order_nil key (x ∷ xs) e = absurd (placed_not_nil key x (in_order key xs) e)
-
-both_nil : {X : Type 0} (xs ys : List X) → xs ++ ys ≡ [] → (xs ≡ []) × (ys ≡ [])
-both_nil [] ys e = (refl, e)
-both_nil (x ∷ xs) ys e = absurd (cc (e))
-
-party_nil : (party : ℕ) (es : List Entry) → of_party party es ≡ [] → es ≡ []
-party_nil party [] e = refl
-party_nil party (x ∷ es) e = absurd (cc (e))
-
-AreEmpty : List Log → Type 0
-AreEmpty [] = Unit {0}
-AreEmpty (j ∷ js) = (j.entries ≡ []) × AreEmpty js
-
-all_empty : (party : ℕ) (js : List Log) → all_from party js ≡ [] → AreEmpty js
-unfolding AreEmpty
-all_empty party [] e = tt
-all_empty party (j ∷ js) e =
-    let parts = both_nil (of_party party j.entries) (all_from (suc party) js) e in
-    (party_nil party j.entries parts.0, all_empty (suc party) js parts.1)
-
-journals_empty : (js : List Log) → IsLegal (merged js) → AreEmpty js
-journals_empty js legal = all_empty 0 js (order_nil (λ (e : Stamped). e.entry.stamp) (all_from 0 js) (legal_is_nil (merged js) legal))
-
--- ---- so each core has one end
-
-module _ (program : Program) (bound : ℕ) where
   same_core : (core : ℕ) (j k : List Entry) (x y : CoreEnd) → j ≡ [] → k ≡ [] → Replays (resolved program) core bound j (Some x) → Replays (resolved program) core bound k (Some y) → x ≡ y
   same_core core j k x y e f h i =
       let first : Replays (resolved program) core bound [] (Some x) = subst (λ (l : List Entry). Replays (resolved program) core bound l (Some x)) e h in
@@ -65,20 +36,21 @@ module _ (program : Program) (bound : ℕ) where
       let same : Some x ≡ Some y = source_only (resolved program) core bound [] (Some x) (Some y) first other in
       cc
 
-  same_any : (p : EndWord → Bool) (core : ℕ) (js ks : List Log) (xs ys : List MachineEnd) → AreEmpty js → AreEmpty ks →
+  same_end : (core : ℕ) (j k : Log) (x y : MachineEnd) → IsCoreRun program core bound j x → IsCoreRun program core bound k y → x.core ≡ y.core
+  same_end core j k x y h i = same_core core j.entries k.entries x.core y.core (none_in core j.entries x h.code) (none_in core k.entries y i.code) h.source i.source
+
+  same_any : (p : EndWord → Bool) (core : ℕ) (js ks : List Log) (xs ys : List MachineEnd) →
       AreCoreRuns program bound core js xs → AreCoreRuns program bound core ks ys → length xs ≡ length ys → any_ends p xs ≡ any_ends p ys
-  unfolding AreEmpty
-  same_any p core js ks [] [] e f h i l = refl
-  same_any p core js ks [] (y ∷ ys) e f h i l = absurd (omega (arith, l))
-  same_any p core js ks (x ∷ xs) [] e f h i l = absurd (omega (arith, l))
-  same_any p core [] ks (x ∷ xs) (y ∷ ys) e f h i l = absurd h
-  same_any p core (j ∷ js) [] (x ∷ xs) (y ∷ ys) e f h i l = absurd i
-  same_any p core (j ∷ js) (k ∷ ks) (x ∷ xs) (y ∷ ys) e f h i l =
-      let same : x.core ≡ y.core = same_core core j.entries k.entries x.core y.core e.0 f.0 h.0.source i.0.source in
-      rw (same, same_any p (suc core) js ks xs ys e.1 f.1 h.1 i.1 (omega (arith, l))) refl
+  same_any p core js ks [] [] h i l = refl
+  same_any p core js ks [] (y ∷ ys) h i l = absurd (omega (arith, l))
+  same_any p core js ks (x ∷ xs) [] h i l = absurd (omega (arith, l))
+  same_any p core [] ks (x ∷ xs) (y ∷ ys) h i l = absurd h
+  same_any p core (j ∷ js) [] (x ∷ xs) (y ∷ ys) h i l = absurd i
+  same_any p core (j ∷ js) (k ∷ ks) (x ∷ xs) (y ∷ ys) h i l =
+      rw (same_end core j k x y h.0 i.0, same_any p (suc core) js ks xs ys h.1 i.1 (omega (arith, l))) refl
 
   pub same_status : (a b : Ended) → IsRunOf program bound [] a → IsRunOf program bound [] b → status_of a.cores ≡ status_of b.cores
   same_status a b h i =
       let same : (p : EndWord → Bool) → any_ends p a.cores ≡ any_ends p b.cores =
-      λ p. same_any p 0 a.journals b.journals a.cores b.cores (journals_empty a.journals h.legal) (journals_empty b.journals i.legal) h.cores i.cores (h.every_core ∙ sym i.every_core) in
+      λ p. same_any p 0 a.journals b.journals a.cores b.cores h.cores i.cores (h.every_core ∙ sym i.every_core) in
       rw (same is_trapped, same is_out_of_steps, same is_stalled) refl

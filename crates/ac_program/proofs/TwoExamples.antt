@@ -100,7 +100,7 @@ it_is_not_decided_otherwise h =
 
 pub two_is_same : IsSame two_parts (resolved two_tree)
 two_is_same =
-    is_same two_tree (resolved two_tree) refl two_is_built (all_in_place two_tree two_is_clean (spelled_shape two_tree two_ac_parsed.marks two_ac_parsed.spells)) two_parts two_is_compiled
+    is_same two_tree (resolved two_tree) refl (all_in_place two_tree two_is_clean (spelled_shape two_tree two_ac_parsed.marks two_ac_parsed.spells)) two_parts two_is_compiled
 
 pub its_code_is_alone : IsAlone two_parts
 its_code_is_alone = All-from_recursion (λ (instr : Instr). is_alone instr ≡ true) two_parts.instrs (refl, (refl, (refl, (refl, (refl, (refl, (refl, (refl, (refl, tt)))))))))

@@ -1,5 +1,4 @@
 pub mod Headline
-pub mod History
 pub mod Lines
 pub mod Making
 pub mod Reading

@@ -1,6 +1,7 @@
 -- The run of a program.
-use Rattle.std.specs.Prelude.{◌≡◌, ℕ, suc, ◌⊎◌, true, List, [], ◌∷◌, length, Some, All}
+use Rattle.std.specs.Prelude.{◌≡◌, ℕ, suc, ◌⊎◌, true, List, [], ◌∷◌, length, map, Some, All}
 use Rattle.ac_base.specs.Log.{Log}
+use Rattle.ac_base.specs.declared.entry.Stamped.{Stamped}
 use Rattle.ac_base.specs.declared.ends.EndWord.{EndWord}
 use Rattle.ac_base.specs.declared.ends.EndWord.TheVariants.{Finished, Trapped, OutOfSteps, Stalled}
 use Rattle.ac_base.specs.declared.ends.MachineEnd.{MachineEnd}
@@ -9,8 +10,9 @@ use Rattle.ac_resolve.specs.Resolution.{resolved}
 use Rattle.ac_semantics.specs.Replay.{Replays}
 use Rattle.stack_code.specs.Machine.{Runs}
 use Rattle.ac_translation.specs.Translation.{code_of}
+use Rattle.ac_history.specs.Merged.{merged, entries_of}
+use Rattle.ac_history.specs.History.{Past, start, IsLegal}
 use Rattle.ac_program.specs.declared.running.Ended.{Ended}
-use Rattle.ac_program.specs.History.{Stamped, merged, IsLegal}
 
 -- what the source and the code of the program say of a core under its journal: just this end
 pub record IsCoreRun (program : Program) (core bound : ℕ) (journal : Log) (end : MachineEnd) : Type 0 where
@@ -34,6 +36,14 @@ HasEnded Stalled = ⊥
 abbrev pub HaveEnded : List MachineEnd → Type 0
 HaveEnded ends = All (λ end. HasEnded end.core.word) ends
 
+-- the history of a run: the journals, merged by the stamps of their entries (Lamport 1978)
+abbrev pub history_of : List Log → List Stamped
+history_of journals = merged (map entries_of journals)
+
+-- the links and the cores of the program, before any entry
+abbrev pub nothing_yet : Program → Past
+nothing_yet program = start (code_of (resolved program)).capacities (length (resolved program).cores)
+
 -- Every core has ended or is idle, and nothing can arrive. No program of this language has a link on which something could.
 pub record IsQuiet (ends : List MachineEnd) (history : List Stamped) : Type 0 where
   pub cores : All (λ end. HasEnded end.core.word ⊎ (end.core.idle ≡ true)) ends
@@ -44,5 +54,5 @@ pub record IsRunOf (program : Program) (bound : ℕ) (start : List (List ℕ)) (
   pub files : ended.start ≡ start
   pub every_core : length ended.cores ≡ length (resolved program).cores
   pub cores : AreCoreRuns program bound 0 ended.journals ended.cores
-  pub legal : IsLegal (merged ended.journals)
-  pub quiet : IsQuiet ended.cores (merged ended.journals)
+  pub legal : IsLegal (nothing_yet program) (history_of ended.journals)
+  pub quiet : IsQuiet ended.cores (history_of ended.journals)

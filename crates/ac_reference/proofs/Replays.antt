@@ -1,20 +1,18 @@
--- The end of a core by the function that it enters, and journals that do not fit.
-use Rattle.std.proofs.Common.{◌≡◌, ℕ, ◌<◌, List, [], ◌∷◌, length, Option, Some, None, sym, ◌∙◌, subst, arith}
+-- The end of a core by the function that it enters, and the journals that do not fit.
+use Rattle.std.proofs.Common.{◌≡◌, ℕ, ◌+◌, ◌<◌, List, [], length, take, Option, Some, None, refl, sym, ◌∙◌, subst}
 use Rattle.std.specs.Prelude.{slice_get, Result, Err, IfOk}
 use Rattle.std.proofs.lemmas.Option.{slice_get_within}
 use Rattle.ac_base.specs.declared.ends.CoreEnd.{CoreEnd}
 use Rattle.ac_base.specs.declared.entry.Entry.{Entry}
-use Rattle.core_state.specs.Moves.{ComesTo}
 use Rattle.ac_commands.specs.declared.program.Core.{Core}
 use Rattle.ac_commands.specs.declared.program.Function.{Function}
 use Rattle.ac_commands.specs.declared.program.Resolved.{Resolved}
-use Rattle.ac_semantics.specs.Threads.{step, first_state}
 use Rattle.ac_semantics.specs.Replay.{Enters, Replays}
 use Rattle.ac_compile.specs.OneEnd.{IsOnly}
-use Rattle.ac_interpreter.proofs.Journals.{no_end}
+use Rattle.ac_interpreter.specs.Unfit.{RunEnds, IsUnfit}
 use Rattle.ac_reference.specs.declared.fault.ReplayFault.{ReplayFault}
 use Rattle.ac_reference.specs.declared.fault.ReplayFault.TheVariants.{Misfit}
-use Rattle.ac_reference.specs.Misfits.{IsMisfit}
+use Rattle.ac_reference.specs.Misfits.{HasReplay, IsMisfit}
 
 same_there : {A : Type 0} (xs : List A) (n m : ℕ) (x y : A) → n ≡ m → slice_get xs n ≡ Some x → slice_get xs m ≡ Some y → x ≡ y
 same_there {A} xs n m x y e h k =
@@ -37,40 +35,58 @@ has_function program core here f h there =
     let same : h.here ≡ here = cc in
     slice_get_within program.functions here.entry f (subst (λ (x : Core). slice_get program.functions x.entry ≡ Some f) same h.function_is)
 
+-- the end by the function that the core enters
+pub end_there : (p : Resolved) (core bound : ℕ) (f : Function) → Enters p core f → (journal : List Entry) (end : Option CoreEnd) → Replays p core bound journal end → RunEnds p f bound journal end
+end_there p core bound f enters journal end h =
+    subst (λ (g : Function). RunEnds p g bound journal end) (one_function p core h.function f h.enters enters) h.ends
+
+pub replay_of : (p : Resolved) (core bound : ℕ) (f : Function) → Enters p core f → (journal : List Entry) (end : Option CoreEnd) → RunEnds p f bound journal end → Replays p core bound journal end
+replay_of p core bound f enters journal end h = record { function = f; enters = enters; ends = h }
+
+seen_or_none : {A : Type 0} (end : Option CoreEnd) → ((x : CoreEnd) → end ≡ Some x → A) → (end ≡ None → A) → A
+seen_or_none None some none = none refl
+seen_or_none (Some x) some none = some x refl
+
 module _ (p : Resolved) (core bound : ℕ) (one : (entries : List Entry) → IsOnly (λ (end : Option CoreEnd). Replays p core bound entries end)) where
   pub it_enters : (f : Function) × Enters p core f
   it_enters = let here = (one []).comes in (here.function, here.enters)
 
-  pub it_ends : (f : Function) → Enters p core f → (end : Option CoreEnd) × ComesTo (step p bound) (first_state p f []) end
-  it_ends f enters =
-      let here = (one []).comes in
-      let is = one_function p core here.function f here.enters enters in
-      ((one []).end, subst (λ (g : Function). ComesTo (step p bound) (first_state p g []) (one []).end) is here.ends)
+  module _ (f : Function) (enters : Enters p core f) where
+    pub it_ends : (journal : List Entry) → (end : Option CoreEnd) × RunEnds p f bound journal end
+    it_ends journal = ((one journal).end, end_there p core bound f enters journal (one journal).end (one journal).comes)
 
--- where an entry is still to come, the end is none
-no_replay_of : (program : Resolved) (core bound : ℕ) (e : Entry) (es : List Entry) (end : Option CoreEnd) → Replays program core bound (e ∷ es) end → Replays program core bound (e ∷ es) None
-no_replay_of program core bound e es None h = h
-no_replay_of program core bound e es (Some end) h = absurd (no_end e es program bound h.function end h.ends)
+    -- no journal has an end that is seen and one that is not
+    not_both : (journal : List Entry) → HasReplay p core bound journal → RunEnds p f bound journal None → ⊥
+    not_both journal h none =
+        let only = one journal in
+        let some = only.only (Some h.0) h.1 in
+        let other = only.only None (replay_of p core bound f enters journal None none) in
+        let no : Some h.0 ≡ None = some ∙ sym other in
+        cc
 
-pub no_replay : (program : Resolved) (core bound : ℕ) (journal : List Entry) → 0 < length journal → IsOnly (λ (end : Option CoreEnd). Replays program core bound journal end)
-    → Replays program core bound journal None
-no_replay program core bound [] lt one = absurd (omega (arith, lt))
-no_replay program core bound (e ∷ es) lt one = no_replay_of program core bound e es one.end one.comes
+    has_replay : (journal : List Entry) → (RunEnds p f bound journal None → ⊥) → HasReplay p core bound journal
+    has_replay journal seen =
+        let only = one journal in
+        seen_or_none only.end
+        (λ x is. (x, subst (λ (end : Option CoreEnd). Replays p core bound journal end) is only.comes))
+        (λ is. absurd (seen (end_there p core bound f enters journal None (subst (λ (end : Option CoreEnd). Replays p core bound journal end) is only.comes))))
 
-misfit_at_once : (program : Resolved) (core bound : ℕ) (journal : List Entry) → 0 < length journal → IsMisfit program core bound journal 0
-misfit_at_once program core bound [] lt = absurd (omega (arith, lt))
-misfit_at_once program core bound (e ∷ es) lt = record {
-  inside = lt;
-  unfit = λ h. no_end e [] program bound h.1.function h.0 h.1.ends;
-  before = λ earlier less. absurd (omega (arith, less));
-}
+    pub is_misfit : (journal : List Entry) (place : ℕ) → IsUnfit p f bound journal place → IsMisfit p core bound journal place
+    is_misfit journal place h = record {
+      inside = h.inside;
+      unfit = λ r. not_both (take (place + 1) journal) r h.unfit;
+      before = λ earlier less. has_replay (take (earlier + 1) journal) (h.before earlier less);
+    }
 
-same_place : (place : ℕ) → ◌≡◌ {A = Result CoreEnd ReplayFault} (Err (Misfit 0)) (Err (Misfit place)) → 0 ≡ place
-same_place place e = cc
+-- of an equal core
+pub unfit_there : (p q : Resolved) (f g : Function) (b d : ℕ) (xs ys : List Entry) (place : ℕ) → q ≡ p → g ≡ f → d ≡ b → ys ≡ xs → IsUnfit q g d ys place → IsUnfit p f b xs place
+unfit_there p q f g b d xs ys place program function bound journal h =
+    subst (λ (r : Resolved). IsUnfit r f b xs place) program
+    (subst (λ (x : Function). IsUnfit q x b xs place) function
+    (subst (λ (n : ℕ). IsUnfit q g n xs place) bound (subst (λ (es : List Entry). IsUnfit q g d es place) journal h)))
 
-pub is_misfit : (program : Resolved) (core bound : ℕ) (journal : List Entry) → 0 < length journal → (place : ℕ) → ◌≡◌ {A = Result CoreEnd ReplayFault} (Err (Misfit 0)) (Err (Misfit place))
-    → IsMisfit program core bound journal place
-is_misfit program core bound journal lt place e = subst (IsMisfit program core bound journal) (same_place place e) (misfit_at_once program core bound journal lt)
+pub one_place : (x place : ℕ) → ◌≡◌ {A = Result CoreEnd ReplayFault} (Err (Misfit x)) (Err (Misfit place)) → x ≡ place
+one_place x place e = cc
 
 -- ---- what is known of the whole program, of an equal one
 

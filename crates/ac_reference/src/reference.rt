@@ -8,7 +8,7 @@ ghost use Rattle.ac_semantics.specs.Replay.{Enters, Replays};
 ghost use Rattle.ac_names.specs.Numbered.{core_names};
 ghost use Rattle.ac_resolve.specs.Resolution.{resolved};
 ghost use Rattle.ac_compile.specs.OneEnd.{IsOnly};
-ghost use Rattle.ac_compile.specs.Unbuilt.{unbuilt_nodes};
+ghost use Rattle.ac_compile.specs.Unbuilt.{meaningless_nodes};
 ghost use Rattle.ac_reference.specs.declared.fault.ReplayFault.TheVariants.{Misfit};
 ghost use Rattle.ac_reference.specs.Misfits.{IsMisfit};
 
@@ -16,7 +16,7 @@ use crate::fault::ReplayFault;
 use ac_base::{CoreEnd, Journal};
 use ac_commands::{Function, Resolved};
 use ac_compile::compile;
-use ac_interpreter::{Ending, run_core};
+use ac_interpreter::{Ending, Run, run_core};
 use ac_resolve::resolve;
 use ac_types::Checked;
 use std::alloc::Global;
@@ -48,18 +48,19 @@ fn replayed(
     ensures none { (place : ℕ) → result ≡ Err (Misfit place) → Replays program.now core steps journal.now.entries None }
     ensures misfit { (place : ℕ) → result ≡ Err (Misfit place) → IsMisfit program.now core steps journal.now.entries place }
 {
-    if journal.len() > 0 {
-        return Err(ReplayFault::Misfit { place: 0 });
+    let entered = entered(program, core);
+    let ending = Ending::new(program, entered, steps, journal.as_slice());
+    match run_core(alloc, &ending)? {
+        Run::Ends(end) => Ok(end),
+        Run::Misfit { place } => Err(ReplayFault::Misfit { place }),
     }
-    let ending = Ending::new(program, entered(program, core), steps);
-    Ok(run_core(alloc, &ending)?)
 }
 
 impl Reference {
     /// What is seen of a core at the end of its run under a journal, with a bound on its steps; or the first entry that does
     /// not fit.
     ///
-    /// Conditions: all nodes of the program are built, and it has that core.
+    /// Conditions: each node of the program has a meaning, and it has that core.
     pub fn replay(
         alloc: Global,
         checked: &Checked,
@@ -67,7 +68,7 @@ impl Reference {
         steps: u64,
         journal: &Journal,
     ) -> Result<CoreEnd, ReplayFault>
-        requires built { unbuilt_nodes checked.now.items ≡ [] }
+        requires meant { meaningless_nodes checked.now.items ≡ [] }
         requires core { core < length (core_names checked.now.items) }
         ensures ok { IfOk result (λ end. Replays (resolved checked.now) core steps journal.now.entries (Some end)) }
         ensures none { (place : ℕ) → result ≡ Err (Misfit place)

@@ -154,7 +154,7 @@ abbrev pub after : List Command → ℕ → ℕ → Move CoreState (Option CoreE
 after body bound count = and_then (first_state (program body) (function body) []) (moves (step (program body) bound) count)
 
 abbrev pub ended : EndWord → ℕ → List ℕ → List ℤ → Move CoreState (Option CoreEnd)
-ended word steps output globals = Over (Some (core_end word false globals (record { steps = steps; turn = 1; output = output; past = []; todo = [] })))
+ended word steps output globals = Over (Some (core_end word false globals [] (record { steps = steps; turn = 1; output = output; past = []; todo = [] })))
 
 pub form : (x : Command) (y : Command-F Command) → roll-Command y ≡ x → out-Command x ≡ y
 form x y e = ap out-Command (sym e) ∙ out-roll-Command y

@@ -2,3 +2,4 @@ pub mod Forms
 pub mod Around
 pub mod Examples
 pub mod PartExamples
+pub mod OperationExamples

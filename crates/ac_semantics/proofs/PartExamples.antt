@@ -113,10 +113,10 @@ a_row_goes s = simp (operand_goes s first_frame, number_goes s first_frame)
 -- ---- what is held
 
 abbrev pub held : Held
-held = record { shared = first_shared []; store = two_globals; blocks = 3 }
+held = record { shared = first_shared []; store = two_globals; blocks = 3; operations = [] }
 
 abbrev pub ends_so : EndWord → Bool → CoreEnd
-ends_so word idle = core_end word idle (pos 8 ∷ pos 9 ∷ []) (first_shared [])
+ends_so word idle = core_end word idle (pos 8 ∷ pos 9 ∷ []) [] (first_shared [])
 
 pub held_and_changed : ((stepped held).shared.steps ≡ 1) × ((turned held).shared.turn ≡ 1) × ((with_shared held (stepped held).shared).shared.steps ≡ 1)
     × ((with_store held (first_store [])).store ≡ first_store []) × (seen_of Finished true held ≡ Some (ends_so Finished true))
@@ -124,8 +124,8 @@ held_and_changed = (refl, refl, refl, refl, refl)
 
 -- ---- statements
 
-pub operands_of_statements : (operands_of (Command-F.Set (t.Element (a.Global 0 2) (number 1)) (number 3)) ≡ number 3 ∷ v.Reference (a.Global 0 2) ∷ number 1 ∷ [])
-    × (target_operands (t.Variable (p.Global 1)) ≡ []) × (operands_of (Command-F.If (number 1) [] None) ≡ number 1 ∷ []) × (operands_of Command-F.Break ≡ [])
+pub operands_of_statements : (operands_of {A = Command} (Command-F.Set (t.Element (a.Global 0 2) (number 1)) (number 3)) ≡ number 3 ∷ v.Reference (a.Global 0 2) ∷ number 1 ∷ [])
+    × (target_operands (t.Variable (p.Global 1)) ≡ []) × (operands_of {A = Command} (Command-F.If (number 1) [] None) ≡ number 1 ∷ []) × (operands_of {A = Command} Command-F.Break ≡ [])
     × (some_operand None ≡ []) × (some_operand (Some (number 1)) ≡ number 1 ∷ [])
 operands_of_statements = (refl, refl, refl, refl, refl, refl)
 

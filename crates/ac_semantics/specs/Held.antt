@@ -1,17 +1,22 @@
 -- What a core holds beside its threads.
-use Rattle.std.specs.Prelude.{ℕ, ◌+◌, Bool, Option}
+use Rattle.std.specs.Prelude.{ℕ, ◌+◌, List, [], ◌∷◌, ◌++◌, Bool, Option}
 use Rattle.ac_base.specs.declared.ends.EndWord.{EndWord}
 use Rattle.ac_base.specs.declared.ends.CoreEnd.{CoreEnd}
 use Rattle.work_item.specs.declared.ids.FrameId.{FrameId}
 use Rattle.work_item.specs.Store.{Store}
+use Rattle.work_item.specs.declared.ids.Item.{Item}
+use Rattle.cancel_scope.specs.declared.operation.Asked.{Asked}
+use Rattle.cancel_scope.specs.declared.operation.Operation.{Operation}
+use Rattle.cancel_scope.specs.Outstanding.{started}
 use Rattle.core_state.specs.Frames.{with_entered}
 use Rattle.core_state.specs.Shared.{Shared, with_step, with_turn, seen}
 
--- what it shares with its code, what its globals and frames hold, and how many blocks were born
+-- what it shares with its code, what its globals and frames hold, how many blocks were born, and its operations that have not ended
 pub record Held : Type 0 where
   pub shared : Shared
   pub store : Store
   pub blocks : ℕ
+  pub operations : List Operation
 
 abbrev pub with_shared : Held → Shared → Held
 with_shared s shared = record s { shared = shared }
@@ -29,5 +34,9 @@ turned s = with_shared s (with_turn s.shared)
 abbrev pub entered : Held → FrameId → ℕ → Held
 entered s frame slot = record s { store = with_entered s.store frame slot s.blocks; blocks = s.blocks + 1 }
 
+-- an operation more, for whose end that thread waits
+abbrev pub with_started : Held → ℕ → Asked → Item → Held
+with_started s link asked item = record s { operations = s.operations ++ started link asked item ∷ [] }
+
 abbrev pub seen_of : EndWord → Bool → Held → Option CoreEnd
-seen_of word idle s = seen word idle s.store.globals s.shared
+seen_of word idle s = seen word idle s.store.globals s.operations s.shared

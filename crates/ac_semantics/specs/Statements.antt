@@ -9,6 +9,8 @@ use Rattle.work_item.specs.declared.ids.BlockId.{BlockId}
 use Rattle.work_item.specs.declared.cell.Cell.{Cell}
 use Rattle.work_item.specs.declared.cell.Cell.TheVariants as cell
 use Rattle.work_item.specs.Store.{Store, no_int, int_in, place_in, next_frame, with_cell_at, with_cleared, with_global, released}
+use Rattle.cancel_scope.specs.declared.operation.Asked.{Asked}
+use Rattle.cancel_scope.specs.declared.operation.Asked.TheVariants as asked
 use Rattle.core_state.specs.Arithmetic.{at_zero}
 use Rattle.core_state.specs.Frames.{set_element, begun, begun_with}
 use Rattle.core_state.specs.Shared.{printed, formatted}
@@ -16,7 +18,7 @@ use Rattle.ac_commands.specs.declared.value.Value.{Value}
 use Rattle.ac_commands.specs.declared.value.Value.TheVariants as v
 use Rattle.ac_commands.specs.declared.value.Place.{Place}
 use Rattle.ac_commands.specs.declared.value.Place.TheVariants as p
-use Rattle.ac_commands.specs.declared.value.Action.TheVariants.{Call}
+use Rattle.ac_commands.specs.declared.value.Action.TheVariants.{Call, Send, Recv}
 use Rattle.ac_commands.specs.declared.command.Target.{Target}
 use Rattle.ac_commands.specs.declared.command.Target.TheVariants as t
 use Rattle.ac_commands.specs.declared.command.Command.{Command, out-Command}
@@ -38,6 +40,8 @@ pub data Next : Type 0 where
   Yields : Held → List Work → Next
   -- the thread arrives at the finish of a block
   Arrives : BlockId → Held → List Work → Next
+  -- the thread waits for the end of an operation on that link
+  Operates : ℕ → Asked → Held → List Work → Next
   -- the thread has ended, and its frame is given back
   Dies : FrameId → Held → Next
   Stays : Next
@@ -59,7 +63,7 @@ some_operand None = []
 some_operand (Some x) = x ∷ []
 
 -- the expressions of a statement, in the order in which they are computed
-abbrev pub operands_of : Command-F Command → List Value
+abbrev pub operands_of : {A : Type 0} → Command-F A → List Value
 operands_of (Command-F.Set target value) = value ∷ target_operands target
 operands_of (Command-F.Run value) = value ∷ []
 operands_of (Command-F.Print text args) = args
@@ -161,6 +165,10 @@ settles program command frame ws s (Traps trap) = Ends (word.Trapped trap) s
 settles program command frame ws s (Stops Ending operands around) = finish program command operands frame ws s
 settles program command frame ws s (Stops (Acting (Call function)) operands around) =
     calls (slice_get program.functions function) operands (Pend frame command around ∷ ws) s
+settles program command frame ws s (Stops (Acting (Send channel)) operands around) =
+    Operates channel (asked.Send (int_in (last_of operands))) s (Pend frame command around ∷ ws)
+settles program command frame ws s (Stops (Acting (Recv channel)) operands around) =
+    Operates channel (asked.Recv (place_in (last_of operands))) s (Pend frame command around ∷ ws)
 settles program command frame ws s (Stops (Acting action) operands around) = Stays
 
 -- a statement, whose step is used

@@ -7,18 +7,20 @@ use Rattle.ac_base.specs.declared.ends.EndWord.TheVariants as word
 use Rattle.work_item.specs.declared.ids.Item.{Item}
 use Rattle.work_item.specs.declared.ids.BlockId.{BlockId}
 use Rattle.work_item.specs.Store.{Store, released}
+use Rattle.work_item.specs.declared.cell.Cell.{Cell}
 use Rattle.core_state.specs.Moves.{Move, On, Over}
 use Rattle.core_state.specs.Frames.{first_frame}
 use Rattle.core_state.specs.Shared.{Shared, first_shared, begins, if_turn}
+use Rattle.core_state.specs.Arrivals.{Arrival, point, ok}
 use Rattle.ac_commands.specs.declared.program.Function.{Function}
 use Rattle.ac_commands.specs.declared.program.Start.{Start}
 use Rattle.ac_commands.specs.declared.program.Resolved.{Resolved}
-use Rattle.ac_semantics.specs.Held.{Held, with_store, turned, seen_of}
-use Rattle.ac_semantics.specs.Work.{Work, Leave, before, closes}
-use Rattle.ac_semantics.specs.Statements.{Next, Goes, Ends, Starts, Yields, Arrives, Dies, Stays, next_of}
+use Rattle.ac_semantics.specs.Held.{Held, with_store, with_started, turned, seen_of}
+use Rattle.ac_semantics.specs.Work.{Work, Leave, before, closes, given}
+use Rattle.ac_semantics.specs.Statements.{Next, Goes, Ends, Starts, Yields, Arrives, Operates, Dies, Stays, next_of}
 
 pub data Phase : Type 0 where
-  -- it runs, or is ready to
+  -- it runs, is ready to, or waits for the end of an operation
   Active : Phase
   AtFinish : BlockId → Phase
   Ended : Phase
@@ -119,18 +121,35 @@ applied c t (Ends word s) = Over (seen_of word false s)
 applied c t (Starts s frame own ws) = On (starts c t s own ws)
 applied c t (Yields s ws) = On (stops c t Active s ws (c.ready ++ t ∷ []))
 applied c t (Arrives block s ws) = On (arrives (none_within block c.threads) c t block s ws)
+applied c t (Operates link asked s ws) = On (stops c t Active (with_started s link asked t) ws c.ready)
 applied c t (Dies frame s) = On (wakes_owner (stops c t Ended (with_store s (released s.store frame)) [] c.ready))
 applied c t Stays = On c
 
--- no thread runs: the front of the ready list does, or the core waits; after the last turn it is out of steps
+-- the thread whose operation has ended has its value, and goes to the back
+abbrev pub resumed : CoreState → Cell → Option Item → CoreState
+resumed c value None = c
+resumed c value (Some t) =
+    record c { ready = c.ready ++ t ∷ []; threads = with_phase c.threads t Active (given value (thread_at c.threads t).work) }
+
+-- an entry has come in
+abbrev pub arrived : CoreState → Shared → Arrival → CoreState
+arrived c shared x =
+    resumed (record c { held = record c.held { shared = shared; store = x.store; operations = x.operations } }) ok x.woken
+
+-- the front of the ready list runs, or the core waits; after the last turn it is out of steps
 abbrev pub dispatched : CoreState → List Item → Move CoreState (Option CoreEnd)
 dispatched c [] = Over (seen_of word.Stalled true c.held)
 dispatched c (t ∷ ready) =
-    if_turn (λ e. e) c.held.store.globals c.held.shared
+    if_turn (λ e. e) c.held.store.globals c.held.operations c.held.shared
     (On (record { held = turned c.held; running = Some t; work = (thread_at c.threads t).work; ready = ready; threads = c.threads }))
 
+-- no thread runs: an entry comes in, or the front of the ready list runs
+abbrev pub rests : CoreState → Move CoreState (Option CoreEnd)
+rests c =
+    point (λ e. e) c.held.shared c.held.store c.held.operations (λ shared x. On (arrived c shared x)) (dispatched c c.ready)
+
 abbrev pub step_of : Resolved → ℕ → CoreState → Option Item → Move CoreState (Option CoreEnd)
-step_of program bound c None = dispatched c c.ready
+step_of program bound c None = rests c
 step_of program bound c (Some t) = applied c t (next_of program bound c.work c.held)
 
 abbrev pub step : Resolved → ℕ → CoreState → Move CoreState (Option CoreEnd)
@@ -145,7 +164,7 @@ first_item = record { number = 0 }
 abbrev pub first_core : Function → Shared → Store → CoreState
 first_core function s store =
     record {
-      held = record { shared = s; store = store; blocks = 0 };
+      held = record { shared = s; store = store; blocks = 0; operations = [] };
       running = None;
       work = [];
       ready = first_item ∷ [];

@@ -1,13 +1,15 @@
--- Calls and what they give back.
+-- Calls, operations, and what calls give back.
 use Rattle.std.proofs.Common.{◌≡◌, ℕ, ◌+◌, ◌≤◌, List, [], ◌∷◌, ◌++◌, length, Option, Some, None, true, false, refl, sym, ap, ◌∙◌, subst, arith, length-append}
 use Rattle.std.specs.Prelude.{slice_get, nat_le, reverse}
 use Rattle.std.proofs.Math.Seq.{take-append_seam, drop-append_seam}
+use Rattle.std.proofs.lemmas.Bool.{eqb-true}
 use Rattle.std.proofs.lemmas.Bool.Decides.{nat_tests}
 use Rattle.ac_base.specs.declared.ends.EndWord.TheVariants.{Finished}
 use Rattle.work_item.specs.declared.ids.FrameId.{FrameId}
 use Rattle.work_item.specs.declared.cell.Cell.{Cell}
 use Rattle.work_item.specs.declared.cell.Cell.TheVariants as cell
-use Rattle.work_item.specs.Store.{Store, int_in, next_frame, released}
+use Rattle.work_item.specs.Store.{Store, int_in, place_in, next_frame, released}
+use Rattle.cancel_scope.specs.declared.operation.Asked.TheVariants as asked
 use Rattle.core_state.specs.Moves.{Move, On}
 use Rattle.core_state.specs.Frames.{begun_with}
 use Rattle.core_state.proofs.Simulation.{arrived}
@@ -19,18 +21,19 @@ use Rattle.ac_commands.specs.declared.program.Resolved.{Resolved}
 use Rattle.ac_semantics.specs.Evaluation.{Acting, Context, Stops}
 use Rattle.ac_semantics.specs.Held.{Held, with_store, seen_of}
 use Rattle.ac_semantics.specs.Work.{Work, Do, Pend, Given, Turn, Close, Back, Leave, End, before}
-use Rattle.ac_semantics.specs.Statements.{Next, Goes, returns, calls, settles}
+use Rattle.ac_semantics.specs.Statements.{Next, Goes, Operates, last_of, returns, calls, settles}
 use Rattle.ac_semantics.specs.Threads.{CoreState, goes_on}
 use Rattle.stack_code.specs.declared.instr.Instr.TheVariants as i
 use Rattle.stack_code.specs.declared.parts.Entered.{Entered}
 use Rattle.stack_code.specs.Parts.{Parts}
 use Rattle.stack_code.specs.Machine.{Caller, Flat, FlatEnd, counted, on_many, or_trap as or_end, calls as enters, returns as gives_back}
 use Rattle.ac_translation.specs.Translation.{action_code, body_code, last_code}
-use Rattle.ac_translation.proofs.WellFormed.{in_function, are_well_formed, IsWellFormed}
+use Rattle.ac_translation.proofs.WellFormed.{takes, in_function, are_well_formed, IsWellFormed}
 use Rattle.ac_translation.proofs.Sized.{body_sized}
 use Rattle.ac_translation.proofs.Placed.{first_part, other_part, here}
 use Rattle.ac_translation.proofs.Functions.{EntersAt, entry_of, no_entry, IsCodeOf}
 use Rattle.ac_translation.proofs.Keeps.{called, Around, flat, SameBirths, FollowsAt, KeepsAt, is_there, stays_follow, turn_follows, ends_follows, turns_or_ends}
+use Rattle.ac_translation.proofs.Turns.{Turns}
 use Rattle.ac_translation.proofs.Works.{not_both, Scope, no_scope, Does, Sleeps, Works, works, wakes, Relates, before_does}
 
 -- so many operands, of which the last is the first
@@ -107,15 +110,30 @@ module _ (code : Parts) (program : Resolved) (same : IsCodeOf code program) (fin
       let entry = entry_of code.instrs f (slice_get program.functions number) (slice_get code.functions number) (same.functions number) found in
       enters_follow f entry.entered number count x around ws s place values below b entry.enters (fine.bodies number f found) is entry.is many d
 
+  -- what takes one operand
+  takes_one : (place : ℕ) (values below : List Cell) (s : Held) (next : Cell → Next) → length values ≡ 1 → ((v : Cell) → FollowsAt code bound R a c s place (v ∷ below) (next v)) →
+      FollowsAt code bound R a c s place (values ++ below) (next (last_of values))
+  takes_one place [] below s next e f = absurd (omega (arith, e))
+  takes_one place (v ∷ []) below s next e f = f v
+  takes_one place (v ∷ w ∷ values) below s next e f = absurd (omega (arith, e))
+
   -- what an action does with its operands
-  pub acts_follow : (action : Action) (count : ℕ) (x : Command) (around : List Context) (ws : List Work) (s : Held) (place : ℕ) (values below : List Cell) → Born s →
-      slice_get code.instrs place ≡ Some (action_code action count) → count ≡ length values → Sleeps code.instrs a.activation (place + 1) below (Pend a.activation.frame x around ∷ ws) →
+  pub acts_follow : Turns code bound R a c → (action : Action) (count : ℕ) (x : Command) (around : List Context) (ws : List Work) (s : Held) (place : ℕ) (values below : List Cell) → Born s →
+      slice_get code.instrs place ≡ Some (action_code action count) → count ≡ length values → takes action count ≡ true → Sleeps code.instrs a.activation (place + 1) below
+      (Pend a.activation.frame x around ∷ ws) →
       FollowsAt code bound R a c s place (values ++ below) (settles program x a.activation.frame ws s (Stops (Acting action) values around))
-  acts_follow (Call number) count x around ws s place values below b is many d = call_follows number count x around ws s place values below b is many d (slice_get program.functions number) refl
-  acts_follow (Send channel) count x around ws s place values below b is many d = stays_follow code bound R a c (i.Send channel) is (λ k. refl)
-  acts_follow (Recv channel) count x around ws s place values below b is many d = stays_follow code bound R a c (i.Recv channel) is (λ k. refl)
-  acts_follow (Read file) count x around ws s place values below b is many d = stays_follow code bound R a c (i.Read file) is (λ k. refl)
-  acts_follow (Write file) count x around ws s place values below b is many d = stays_follow code bound R a c (i.Write file) is (λ k. refl)
+  acts_follow turns (Call number) count x around ws s place values below b is many one d = call_follows number count x around ws s place values below b is many d
+      (slice_get program.functions number) refl
+  acts_follow turns (Send channel) count x around ws s place values below b is many one d =
+      let rest = Pend a.activation.frame x around ∷ ws in
+      takes_one place values below s (λ v. Operates channel (asked.Send (int_in v)) s rest) (sym many ∙ eqb-true count 1 one)
+      (λ v. turns.waits channel (asked.Send (int_in v)) (i.Send channel) s place v below rest b is (λ k. refl) d)
+  acts_follow turns (Recv channel) count x around ws s place values below b is many one d =
+      let rest = Pend a.activation.frame x around ∷ ws in
+      takes_one place values below s (λ v. Operates channel (asked.Recv (place_in v)) s rest) (sym many ∙ eqb-true count 1 one)
+      (λ v. turns.waits channel (asked.Recv (place_in v)) (i.Recv channel) s place v below rest b is (λ k. refl) d)
+  acts_follow turns (Read file) count x around ws s place values below b is many one d = stays_follow code bound R a c (i.Read file) is (λ k. refl)
+  acts_follow turns (Write file) count x around ws s place values below b is many one d = stays_follow code bound R a c (i.Write file) is (λ k. refl)
 
   -- the innermost call gives a value, and what was left of it is dropped
   pub returns_follow : (ws : List Work) (scope : Scope) (place : ℕ) → scope.block ≡ false → DoesAt scope place ws → (s : Held) (at : ℕ) (o : Cell) → Born s → slice_get code.instrs at ≡ Some i.Ret →

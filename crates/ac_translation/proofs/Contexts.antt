@@ -1,5 +1,5 @@
 -- Where the code stands that does what is round an open place.
-use Rattle.std.proofs.Common.{◌≡◌, ℕ, ◌+◌, ◌≤◌, List, [], ◌∷◌, ◌++◌, length, map, Some}
+use Rattle.std.proofs.Common.{◌≡◌, ℕ, ◌+◌, ◌≤◌, List, [], ◌∷◌, ◌++◌, length, map, Some, true}
 use Rattle.std.specs.Prelude.{slice_get, ℤ, pos}
 use Rattle.ac_tree.specs.declared.expr.BinaryOp.{BinaryOp}
 use Rattle.ac_tree.specs.declared.expr.BinaryOp.TheVariants as b
@@ -13,6 +13,7 @@ use Rattle.stack_code.specs.declared.instr.Instr.{Instr}
 use Rattle.stack_code.specs.declared.instr.Instr.TheVariants as i
 use Rattle.ac_translation.specs.Pieces.{Exits, Piece, one, ◌⨾◌, over}
 use Rattle.ac_translation.specs.Translation.{unary_code, operator_code, chained_code, link_code, action_code, values_code}
+use Rattle.ac_translation.proofs.WellFormed.{takes, all_fit, links_fit}
 use Rattle.ac_translation.proofs.Placed.{Placed}
 
 -- after a right side that may be passed over, and before what follows it
@@ -59,12 +60,13 @@ module _ (code : List Instr) where
     pub below : List Cell
     pub operator : Placed code (right_code op) exits place after
     pub others : Placed code (chained_code (map link_code links)) exits after to
+    pub fit : links_fit links ≡ true
     pub lies : LeftBelow op x operands below
     pub rest : Then to below
 
   -- what takes so many operands, above those that lie below them
   abbrev pub HeadAt : Head → ℕ → ℕ → List Cell → (ℕ → List Cell → Type 0) → (ℕ → ℕ → Type 0) → Type 0
-  HeadAt (Acting action) place count below Then Last = (slice_get code place ≡ Some (action_code action count)) × Then (place + 1) below
+  HeadAt (Acting action) place count below Then Last = (slice_get code place ≡ Some (action_code action count)) × (takes action count ≡ true) × Then (place + 1) below
   HeadAt Ending place count below Then Last = (below ≡ []) × (1 ≤ count) × Last place count
 
   -- one of several operands, with those after it
@@ -73,6 +75,7 @@ module _ (code : List Instr) where
     pub to : ℕ
     pub below : List Cell
     pub stands : Placed code (values_code xs) exits place to
+    pub fit : all_fit xs ≡ true
     pub lies : operands ≡ values ++ below
     pub rest : HeadAt head to (length values + 1 + length xs) below Then Last
 
@@ -83,7 +86,8 @@ module _ (code : List Instr) where
   Waits (ElementAt whole ∷ around) place operands Last = IndexAt i.Elem whole place operands (λ to below. Waits around to below Last)
   Waits (PartAt whole ∷ around) place operands Last = IndexAt i.Place whole place operands (λ to below. Waits around to below Last)
   Waits (Operand op ∷ around) place operands Last = SingleAt (one (unary_code op)) place operands (λ to below. Waits around to below Last)
-  Waits (First links ∷ around) place operands Last = SingleAt (chained_code (map link_code links)) place operands (λ to below. Waits around to below Last)
+  Waits (First links ∷ around) place operands Last =
+      (links_fit links ≡ true) × SingleAt (chained_code (map link_code links)) place operands (λ to below. Waits around to below Last)
   Waits (Right x op links ∷ around) place operands Last = RightAt x op links place operands (λ to below. Waits around to below Last)
   Waits (Operands head values xs ∷ around) place operands Last = RowAt head values xs place operands (λ to below. Waits around to below Last) Last
 
@@ -93,7 +97,7 @@ module _ (code : List Instr) where
   taken_at (ElementAt whole ∷ around) place operands Last w = taken_at around w.to w.below Last w.rest
   taken_at (PartAt whole ∷ around) place operands Last w = taken_at around w.to w.below Last w.rest
   taken_at (Operand op ∷ around) place operands Last w = taken_at around w.to operands Last w.rest
-  taken_at (First links ∷ around) place operands Last w = taken_at around w.to operands Last w.rest
+  taken_at (First links ∷ around) place operands Last w = taken_at around w.1.to operands Last w.1.rest
   taken_at (Right x op links ∷ around) place operands Last w = taken_at around w.to w.below Last w.rest
-  taken_at (Operands (Acting action) values xs ∷ around) place operands Last w = taken_at around (w.to + 1) w.below Last w.rest.1
+  taken_at (Operands (Acting action) values xs ∷ around) place operands Last w = taken_at around (w.to + 1) w.below Last w.rest.2
   taken_at (Operands Ending values xs ∷ around) place operands Last w = (w.to, length values + 1 + length xs, w.rest.2)

@@ -20,16 +20,16 @@ use Rattle.ac_translation.proofs.Tables.{Changed, set_changed, found, in_table, 
 use Rattle.ac_translation.proofs.Blocks.{other_block, Lives, entered, head_is, direct, at, OwnerOf, Good, Waits}
 use Rattle.ac_translation.proofs.Tracks.{SameBut, waits_at, told, Tracks, changed_same, unequal, tracks_leave, tracks_count}
 use Rattle.ac_translation.proofs.Counts.{block_put, counted_out_tells}
-use Rattle.ac_translation.proofs.Wakes.{item, active as is_counted, Listed, listed_gone, listed_new}
+use Rattle.ac_translation.proofs.Wakes.{item, active as is_counted, asked_by, Listed, runs_without, listed_gone, listed_new}
 use Rattle.ac_translation.proofs.Ends.{left_good, one_less, none_woken, some_left, not_arrived, at_finish, has_entered, owner_lives, owner_woken, freed_good, freed_waits}
-use Rattle.ac_translation.proofs.Works.{both_true}
+use Rattle.ac_translation.proofs.WellFormed.{both_true}
 use Rattle.ac_translation.proofs.Keeps.{Activation, Around, flat, SameBirths, FollowsAt, turn_follows}
 use Rattle.ac_translation.proofs.Standing.{running, around_of, resting, halted, seated, stack_at, Parked, Others, Together}
 use Rattle.ac_translation.proofs.Standing.{Stands, rests, with_births, still_stacks, in_stacks, others_back, sitting, Seat}
 
 module _ (code : Parts) (bound : ℕ) (s0 : Held) (t : Item) (ws : List Work) (ready : List Item) (ts : List Thread) (activation : Activation) (stacks : List Stack)
     (bs : List (Option Block)) (x : Seat ts t ws activation)
-    (h0 : Together code.instrs (seated ts t ws) s0.blocks ready (Some t) stacks bs) where
+    (h0 : Together code.instrs (seated ts t ws) s0.blocks s0.operations ready (Some t) stacks bs) where
   abbrev R : CoreState → Flat → Type 0
   R = Stands code.instrs
 
@@ -55,7 +55,7 @@ module _ (code : Parts) (bound : ℕ) (s0 : Held) (t : Item) (ws : List Work) (r
   change : Changed nobody all dead t.number gone
   change = x.changed Ended []
 
-  module _ (s : Held) (h : Together code.instrs all s.blocks ready (Some t) stacks bs) (block : BlockId) (others : List BlockId) (e : activation.entered ≡ [])
+  module _ (s : Held) (h : Together code.instrs all s.blocks s.operations ready (Some t) stacks bs) (block : BlockId) (others : List BlockId) (e : activation.entered ≡ [])
       (r : activation.around ≡ block ∷ others) where
     empty : entered (at all t.number) ≡ []
     empty = x.has ∙ e
@@ -85,18 +85,19 @@ module _ (code : Parts) (bound : ℕ) (s0 : Held) (t : Item) (ws : List Work) (r
     good' : Good dead s.blocks
     good' = left_good all dead t.number gone change s.blocks h.good h.waits x.lives refl empty
 
-    listed' : Listed dead ready None
-    listed' = listed_gone all dead t.number gone change ready t refl refl h.listed
+    listed' : Listed dead s.operations ready None
+    listed' = listed_gone all dead t.number gone change s.operations ready t refl refl h.listed
 
     tracks' : Tracks dead fewer
     tracks' = tracks_count all dead t.number gone change bs fewer s.blocks h.good h.tracks (λ l. absurd l)
         (λ b y count q. counted_out_tells bs block others here y b (sum_by (direct b) dead) here_is (count ∙ less b) q)
 
-    others' : Others code.instrs dead None stacks'
-    others' = others_back code.instrs all dead t gone change stacks h.others no_stack (in_stacks code.instrs ts t ws activation x h) (λ l. absurd l)
+    others' : Others code.instrs dead s.operations None stacks'
+    others' = others_back code.instrs all dead t gone change s.operations stacks h.others (runs_without all s.operations ready t h.listed) no_stack
+        (in_stacks code.instrs ts t ws activation x h) (λ l. absurd l)
 
     -- nobody is woken
-    quiet : Waits dead → Together code.instrs dead s.blocks ready None stacks' fewer
+    quiet : Waits dead → Together code.instrs dead s.blocks s.operations ready None stacks' fewer
     quiet w = record {
       stacks_are = length-set stacks t.number no_stack ∙ still_stacks code.instrs ts t ws activation x h Ended [];
       blocks_are = length-set bs block.number (Some (record here { count = here.count - 1 })) ∙ h.blocks_are;
@@ -172,24 +173,25 @@ module _ (code : Parts) (bound : ℕ) (s0 : Held) (t : Item) (ws : List Work) (r
           tracks_leave dead next own.owner freed frees fewer left s.blocks good' tracks' block (closes (at dead own.owner).work) same owner_alive
           (λ b ne. ap (λ p. waits_at p b) arrived_is ∙ unequal block.number b.number (other_block block b ne)) refl refl holds refl
 
-      freed_others : Others code.instrs next None stacks'
+      freed_others : Others code.instrs next s.operations None stacks'
       freed_others u _ l =
-          elim (found nobody dead next own.owner freed frees u) as (λ _. Parked code.instrs (at next u) (stack_at stacks' u)) [
+          elim (found nobody dead next own.owner freed frees u) as (λ _. Parked code.instrs (asked_by u s.operations) (at next u) (stack_at stacks' u)) [
             | inl q ↦
                 let p = others' own.owner tt owner_alive in
-                let now : Parked code.instrs freed (stack_at stacks' own.owner) =
+                let now : Parked code.instrs (asked_by own.owner s.operations) freed (stack_at stacks' own.owner) =
                 record { activation = p.activation; place = p.place; operands = p.operands; is = p.is; around = p.around; works = p.works } in
-                subst (λ y. Parked code.instrs y (stack_at stacks' u)) (sym q.1) (subst (λ z. Parked code.instrs freed (stack_at stacks' z)) q.0 now)
-            | inr q ↦ subst (λ y. Parked code.instrs y (stack_at stacks' u)) (sym q.1) (others' u tt (subst (λ (y : Thread). Lives y.phase) q.1 l))
+                subst (λ y. Parked code.instrs (asked_by u s.operations) y (stack_at stacks' u)) (sym q.1)
+                (subst (λ z. Parked code.instrs (asked_by z s.operations) freed (stack_at stacks' z)) q.0 now)
+            | inr q ↦ subst (λ y. Parked code.instrs (asked_by u s.operations) y (stack_at stacks' u)) (sym q.1) (others' u tt (subst (λ (y : Thread). Lives y.phase) q.1 l))
           ]
 
-      awake : Together code.instrs next s.blocks (item own.owner ∷ ready) None stacks' left
+      awake : Together code.instrs next s.blocks s.operations (item own.owner ∷ ready) None stacks' left
       awake = record {
         stacks_are = length-set stacks t.number no_stack ∙ still_stacks code.instrs ts t ws activation x h Ended [] ∙ sym (length-set dead own.owner freed);
         blocks_are = length-set bs block.number None ∙ h.blocks_are;
         good = freed_good all dead t.number gone change s.blocks h.good h.waits x.lives refl empty block others around own none arrived next frees;
         waits = freed_waits all dead t.number gone change s.blocks h.good h.waits x.lives refl empty block others around own none arrived next frees;
-        listed = listed_new dead next own.owner freed frees ready (item own.owner ∷ ready) None None (ap is_counted arrived_is) refl (λ v. omega arith) listed';
+        listed = listed_new dead next own.owner freed frees s.operations ready (item own.owner ∷ ready) None None (ap is_counted arrived_is) refl (λ v. omega arith) listed';
         tracks = freed_tracks;
         others = freed_others;
       }
@@ -202,7 +204,7 @@ module _ (code : Parts) (bound : ℕ) (s0 : Held) (t : Item) (ws : List Work) (r
       activation.around ≡ block ∷ others → FollowsAt code bound R a c s place [] (Dies activation.frame s)
   dies_follow s place block others b is e r = go (nat_eq (here s h block others e r).count 1 && (here s h block others e r).waits) refl
     where
-      h : Together code.instrs all s.blocks ready (Some t) stacks bs
+      h : Together code.instrs all s.blocks s.operations ready (Some t) stacks bs
       h = with_births code.instrs s0 s b h0
 
       ends : (k : ℕ) (q : Bool) → nat_eq (here s h block others e r).count 1 && (here s h block others e r).waits ≡ q →

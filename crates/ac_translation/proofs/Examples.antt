@@ -4,7 +4,7 @@ use Rattle.ac_tree.specs.declared.expr.BinaryOp.TheVariants as b
 use Rattle.ac_tree.specs.declared.expr.UnaryOp.TheVariants as u
 use Rattle.ac_commands.specs.declared.value.Place.TheVariants as p
 use Rattle.ac_commands.specs.declared.value.Array.TheVariants as a
-use Rattle.ac_commands.specs.declared.value.Action.TheVariants.{Call, Recv}
+use Rattle.ac_commands.specs.declared.value.Action.TheVariants.{Call, Send, Recv}
 use Rattle.ac_commands.specs.declared.value.Value.TheVariants as v
 use Rattle.ac_commands.specs.declared.command.Target.TheVariants as t
 use Rattle.stack_code.specs.declared.instr.Instr.{Instr}
@@ -14,6 +14,7 @@ use Rattle.ac_translation.specs.Translation.{unary_code, operator_code, joined_c
 use Rattle.ac_translation.specs.Translation.{link_step, functions_code, no_exits}
 use Rattle.ac_translation.specs.Translation.{functions_from, start_of, ends_of, request_capacity}
 use Rattle.ac_translation.specs.Translation.{lazily, chained_code, action_code, value_step, values_code, command_step, command_code, body_code, last_code, function_code}
+use Rattle.ac_translation.proofs.WellFormed.{takes, fits_step}
 use Rattle.ac_translation.proofs.Codes.{number_code, reference_code, chain_code, act_code, link_is}
 use Rattle.std.specs.Prelude.{codes}
 use Rattle.ac_commands.specs.declared.value.Value.TheOpen.{Value-F}
@@ -150,8 +151,17 @@ pub the_rest_of_a_chain : code_at 4 (chained_code ((b.Add, one (i.Push (pos 2)))
 the_rest_of_a_chain = refl
 
 -- only a call tells how many operands it takes
-pub actions_after_their_operands : action_code (Call 3) 2 ∷ action_code (Recv 3) 1 ∷ [] ≡ i.Call 3 2 ∷ i.Recv 3 ∷ []
+pub actions_after_their_operands : action_code (Call 3) 2 ∷ action_code (Send 3) 1 ∷ action_code (Recv 3) 1 ∷ [] ≡ i.Call 3 2 ∷ i.Send 3 ∷ i.Recv 3 ∷ []
 actions_after_their_operands = refl
+
+-- a call takes any number of operands, and an operation on a channel takes one
+pub how_many_an_action_takes : takes (Call 3) 2 ∷ takes (Send 3) 1 ∷ takes (Send 3) 2 ∷ takes (Recv 3) 0 ∷ [] ≡ true ∷ true ∷ false ∷ false ∷ []
+how_many_an_action_takes = refl
+
+-- of a send with a part that does not fit, and of one with two parts that do
+pub expressions_that_do_not_fit : fits_step (Value-F.Act (Send 3) (true ∷ [])) ∷ fits_step (Value-F.Act (Send 3) (false ∷ [])) ∷ fits_step (Value-F.Act (Send 3) (true ∷ true ∷ [])) ∷ []
+    ≡ true ∷ false ∷ false ∷ []
+expressions_that_do_not_fit = refl
 
 -- -2, and the second of two globals
 pub forms_of_values : (code_at 4 (value_step (Value-F.Unary u.Neg (one (i.Push (pos 2))))) ≡ i.Push (pos 2) ∷ i.Neg ∷ [])

@@ -52,12 +52,13 @@ pub record Around : Type 0 where
   pub threads : List Thread
   pub blocks : List (Option Block)
 
--- it shares what the source shares, and its globals and frames are the same
+-- it shares what the source shares, and its globals, frames and operations are the same
 abbrev pub flat : Around → Held → ℕ → List Cell → ℕ → Flat
 flat a s place operands count =
     record {
       shared = s.shared;
       store = s.store;
+      operations = s.operations;
       running = Some a.running;
       current = thread_in a.activation place operands;
       ready = a.ready;
@@ -66,9 +67,9 @@ flat a s place operands count =
       count = count;
     }
 
--- as many blocks have been born
+-- as many blocks have been born, and the same operations have not ended
 abbrev pub SameBirths : Held → Held → Type 0
-SameBirths s t = t.blocks ≡ s.blocks
+SameBirths s t = (t.blocks ≡ s.blocks) × (t.operations ≡ s.operations)
 
 -- Cores of the source and of the machine are related by R. The source is at this state, but for what it holds and its work.
 module _ (code : Parts) (bound : ℕ) (R : CoreState → Flat → Type 0) (a : Around) (c : CoreState) where

@@ -23,6 +23,8 @@ pub mod Standing
 pub mod Starting
 pub mod Finishing
 pub mod Ending
+pub mod Operating
+pub mod Arriving
 pub mod Cores
 pub mod Agrees
 pub mod Examples

@@ -1,9 +1,10 @@
 -- Where the machine stands that follows a core: its running thread, those that wait, and what holds of all of them.
-use Rattle.std.proofs.Common.{◌≡◌, ◌≢◌, ℕ, ◌<◌, List, [], length, get_or, set, Option, Some, None, inl, inr, refl, sym, ap, ◌∙◌, subst, arith}
+use Rattle.std.proofs.Common.{◌≡◌, ◌≢◌, ℕ, zero, suc, ◌<◌, List, [], length, get_or, set, Option, Some, None, inl, inr, refl, sym, ap, ◌∙◌, subst, arith}
 use Rattle.std.proofs.lemmas.List.{length-set}
 use Rattle.work_item.specs.declared.ids.Item.{Item}
 use Rattle.work_item.specs.declared.ids.BlockId.{BlockId}
 use Rattle.work_item.specs.declared.cell.Cell.{Cell}
+use Rattle.cancel_scope.specs.declared.operation.Operation.{Operation}
 use Rattle.ac_semantics.specs.Held.{Held}
 use Rattle.ac_semantics.specs.Work.{Work, closes}
 use Rattle.ac_semantics.specs.Threads.{Phase, Active, AtFinish, Thread, nobody, CoreState, thread_at, with_phase}
@@ -13,9 +14,9 @@ use Rattle.ac_translation.proofs.Tables.{Changed, set_changed, found, in_table, 
 use Rattle.ac_translation.proofs.Blocks.{Lives, entered, at, Good, Waits}
 use Rattle.ac_translation.proofs.Changes.{direct_change, same_good}
 use Rattle.ac_translation.proofs.Tracks.{Tracks, tracks_same}
-use Rattle.ac_translation.proofs.Wakes.{Listed, listed_same, waits_change}
+use Rattle.ac_translation.proofs.Wakes.{asked_by, Listed, listed_same, waits_change}
 use Rattle.ac_translation.proofs.Keeps.{Activation, called, Around, thread_in, flat, SameBirths}
-use Rattle.ac_translation.proofs.Works.{Works, Relates, works_closes}
+use Rattle.ac_translation.proofs.Works.{Sleeps, Works, Relates, works_closes}
 
 -- ---- cores and machines
 
@@ -35,6 +36,7 @@ halted s ready stacks bs count =
     record {
       shared = s.shared;
       store = s.store;
+      operations = s.operations;
       running = None;
       current = no_stack;
       ready = ready;
@@ -96,49 +98,55 @@ seat_of ts t ws activation active around has =
     never e = cc
 
 module _ (code : List Instr) where
-  -- a thread of the machine stands where one of the source stands
-  pub record Parked (th : Thread) (stack : Stack) : Type 0 where
+  -- the code at this address does this work, or does it with the value of the operation for which the thread waits
+  abbrev pub IsKept : ℕ → Activation → ℕ → List Cell → List Work → Type 0
+  IsKept zero activation place operands ws = Works code activation place operands ws
+  IsKept (suc n) activation place operands ws = Sleeps code activation place operands ws
+
+  -- a thread of the machine, which waits for so many operations, stands where one of the source stands
+  pub record Parked (asked : ℕ) (th : Thread) (stack : Stack) : Type 0 where
     pub activation : Activation
     pub place : ℕ
     pub operands : List Cell
     pub is : stack ≡ thread_in activation place operands
     pub around : activation.around ≡ th.around
-    pub works : Works code activation place operands th.work
+    pub works : IsKept asked activation place operands th.work
 
-  abbrev pub Others : List Thread → Option Item → List Stack → Type 0
-  Others ts running stacks = (u : ℕ) → NotRunning u running → Lives (at ts u).phase → Parked (at ts u) (stack_at stacks u)
+  abbrev pub Others : List Thread → List Operation → Option Item → List Stack → Type 0
+  Others ts operations running stacks = (u : ℕ) → NotRunning u running → Lives (at ts u).phase → Parked (asked_by u operations) (at ts u) (stack_at stacks u)
 
-  -- what holds of all threads and blocks, and where the threads stand that do not run
-  pub record Together (ts : List Thread) (blocks : ℕ) (ready : List Item) (running : Option Item) (stacks : List Stack) (bs : List (Option Block)) : Type 0 where
+  -- what holds of all threads, blocks and operations, and where the threads stand that do not run
+  pub record Together (ts : List Thread) (blocks : ℕ) (operations : List Operation) (ready : List Item) (running : Option Item) (stacks : List Stack) (bs : List (Option Block)) : Type 0 where
     pub stacks_are : length stacks ≡ length ts
     pub blocks_are : length bs ≡ blocks
     pub good : Good ts blocks
     pub waits : Waits ts
-    pub listed : Listed ts ready running
+    pub listed : Listed ts operations ready running
     pub tracks : Tracks ts bs
-    pub others : Others ts running stacks
+    pub others : Others ts operations running stacks
 
-  -- the machine stands where the core stands: each holds what the other holds, and numbers of threads and blocks are the same
+  -- the machine stands where the core stands: each holds what the other holds, also the same operations, and numbers of threads and blocks are the same
   pub data Stands : CoreState → Flat → Type 0 where
-    rests : (s : Held) (ready : List Item) (ts : List Thread) (stacks : List Stack) (bs : List (Option Block)) (count : ℕ) → Together ts s.blocks ready None stacks bs →
+    rests : (s : Held) (ready : List Item) (ts : List Thread) (stacks : List Stack) (bs : List (Option Block)) (count : ℕ) → Together ts s.blocks s.operations ready None stacks bs →
         Stands (resting s ready ts) (halted s ready stacks bs count)
     runs : (s : Held) (t : Item) (ws : List Work) (ready : List Item) (ts : List Thread) (activation : Activation) (place : ℕ) (operands : List Cell) (stacks : List Stack) (bs : List (Option Block))
         (count : ℕ) →
-        (thread_at ts t).phase ≡ Active → activation.around ≡ (thread_at ts t).around → Together (seated ts t ws) s.blocks ready (Some t) stacks bs →
+        (thread_at ts t).phase ≡ Active → activation.around ≡ (thread_at ts t).around → Together (seated ts t ws) s.blocks s.operations ready (Some t) stacks bs →
         Works code activation place operands ws →
         Stands (running s t ws ready ts) (flat (around_of t activation ready stacks bs) s place operands count)
 
-  -- as many blocks were born
+  -- as many blocks were born, and the same operations have not ended
   pub with_births : (s u : Held) {ts : List Thread} {ready : List Item} {running : Option Item} {stacks : List Stack} {bs : List (Option Block)} → SameBirths s u →
-      Together ts s.blocks ready running stacks bs → Together ts u.blocks ready running stacks bs
+      Together ts s.blocks s.operations ready running stacks bs → Together ts u.blocks u.operations ready running stacks bs
   with_births s u {ts} {ready} {running} {stacks} {bs} b h =
-      subst (λ n. Together ts n ready running stacks bs) (sym b) h
+      subst (λ os. Together ts u.blocks os ready running stacks bs) (sym b.1) (subst (λ n. Together ts n s.operations ready running stacks bs) (sym b.0) h)
 
   -- ---- how many there are
 
-  module _ (ts : List Thread) (t : Item) (ws : List Work) (activation : Activation) (x : Seat ts t ws activation) {blocks : ℕ} {ready : List Item} {running : Option Item} {stacks : List Stack}
+  module _ (ts : List Thread) (t : Item) (ws : List Work) (activation : Activation)
+      (x : Seat ts t ws activation) {blocks : ℕ} {operations : List Operation} {ready : List Item} {running : Option Item} {stacks : List Stack}
       {bs : List (Option Block)}
-      (h : Together (seated ts t ws) blocks ready running stacks bs) where
+      (h : Together (seated ts t ws) blocks operations ready running stacks bs) where
     pub still_stacks : (phase : Phase) (work : List Work) → length stacks ≡ length (with_phase ts t phase work)
     still_stacks phase work = h.stacks_are ∙ length-set ts t.number (sitting ts t Active ws) ∙ sym (length-set ts t.number (sitting ts t phase work))
 
@@ -150,31 +158,42 @@ module _ (code : List Instr) where
 
   -- ---- where one thread changes
 
-  module _ (ts ts' : List Thread) (t : Item) (new : Thread) (change : Changed nobody ts ts' t.number new) (stacks : List Stack) (others : Others ts (Some t) stacks) where
+  module _ (ts ts' : List Thread) (t : Item) (new : Thread) (change : Changed nobody ts ts' t.number new) (operations : List Operation) (stacks : List Stack)
+      (others : Others ts operations (Some t) stacks) where
     -- the running thread changes
-    pub others_kept : Others ts' (Some t) stacks
+    pub others_kept : Others ts' operations (Some t) stacks
     others_kept u ne l =
-        elim (found nobody ts ts' t.number new change u) as (λ _. Parked (at ts' u) (stack_at stacks u)) [
+        elim (found nobody ts ts' t.number new change u) as (λ _. Parked (asked_by u operations) (at ts' u) (stack_at stacks u)) [
           | inl q ↦ absurd (ne q.0)
-          | inr q ↦ subst (λ x. Parked x (stack_at stacks u)) (sym q.1) (others u ne (subst (λ (x : Thread). Lives x.phase) q.1 l))
+          | inr q ↦ subst (λ x. Parked (asked_by u operations) x (stack_at stacks u)) (sym q.1) (others u ne (subst (λ (x : Thread). Lives x.phase) q.1 l))
         ]
 
-    -- it runs no more, and is kept so
-    pub others_back : (kept : Stack) → t.number < length stacks → (Lives new.phase → Parked new kept) → Others ts' None (set stacks t.number kept)
-    others_back kept lt mine u ne l =
+    -- it runs no more, and is kept so; it may wait for an operation more, or for one less
+    pub others_put : (operations' : List Operation) → ((u : ℕ) → t.number ≢ u → asked_by u operations' ≡ asked_by u operations) → (kept : Stack) → t.number < length stacks →
+        (Lives new.phase → Parked (asked_by t.number operations') new kept) → Others ts' operations' None (set stacks t.number kept)
+    others_put operations' same kept lt mine u ne l =
         let put = set_changed no_stack stacks t.number kept lt in
-        elim (found nobody ts ts' t.number new change u) as (λ _. Parked (at ts' u) (stack_at (set stacks t.number kept) u)) [
+        elim (found nobody ts ts' t.number new change u) as (λ _. Parked (asked_by u operations') (at ts' u) (stack_at (set stacks t.number kept) u)) [
           | inl q ↦
               let here : stack_at (set stacks t.number kept) u ≡ kept = subst (λ z. stack_at (set stacks t.number kept) z ≡ kept) q.0 put.here in
-              subst (λ x. Parked (at ts' u) x) (sym here) (subst (λ x. Parked x kept) (sym q.1) (mine (subst (λ (x : Thread). Lives x.phase) q.1 l)))
-          | inr q ↦ subst (λ x. Parked (at ts' u) x) (sym (put.there u q.0)) (subst (λ x. Parked x (stack_at stacks u)) (sym q.1) (others u q.0 (subst (λ (x : Thread). Lives x.phase) q.1 l)))
+              let own : Parked (asked_by u operations') new kept = subst (λ z. Parked (asked_by z operations') new kept) q.0 (mine (subst (λ (x : Thread). Lives x.phase) q.1 l)) in
+              subst (λ x. Parked (asked_by u operations') (at ts' u) x) (sym here) (subst (λ x. Parked (asked_by u operations') x kept) (sym q.1) own)
+          | inr q ↦
+              let was = others u q.0 (subst (λ (x : Thread). Lives x.phase) q.1 l) in
+              let now = subst (λ n. Parked n (at ts u) (stack_at stacks u)) (sym (same u q.0)) was in
+              subst (λ x. Parked (asked_by u operations') (at ts' u) x) (sym (put.there u q.0)) (subst (λ x. Parked (asked_by u operations') x (stack_at stacks u)) (sym q.1) now)
         ]
 
+    -- the same where it waits for none
+    pub others_back : asked_by t.number operations ≡ 0 → (kept : Stack) → t.number < length stacks → (Lives new.phase → Parked 0 new kept) → Others ts' operations None (set stacks t.number kept)
+    others_back none kept lt mine = others_put operations (λ u ne. refl) kept lt (λ l. subst (λ n. Parked n new kept) (sym none) (mine l))
+
   -- it goes on, in the same blocks
-  pub on_together : (ts : List Thread) (t : Item) (ws : List Work) (activation : Activation) (x : Seat ts t ws activation) {blocks : ℕ} {ready : List Item} {stacks : List Stack}
+  pub on_together : (ts : List Thread) (t : Item) (ws : List Work) (activation : Activation)
+      (x : Seat ts t ws activation) {blocks : ℕ} {operations : List Operation} {ready : List Item} {stacks : List Stack}
       {bs : List (Option Block)} (work : List Work) → closes work ≡ activation.entered →
-      Together (seated ts t ws) blocks ready (Some t) stacks bs → Together (seated ts t work) blocks ready (Some t) stacks bs
-  on_together ts t ws activation x {blocks} {ready} {stacks} {bs} work same h =
+      Together (seated ts t ws) blocks operations ready (Some t) stacks bs → Together (seated ts t work) blocks operations ready (Some t) stacks bs
+  on_together ts t ws activation x {blocks} {operations} {ready} {stacks} {bs} work same h =
       let all = seated ts t ws in
       let all' = seated ts t work in
       let new = sitting ts t Active work in
@@ -185,15 +204,15 @@ module _ (code : List Instr) where
         blocks_are = h.blocks_are;
         good = same_good all all' t.number new change blocks h.good x.lives tt x.around kept;
         waits = waits_change all all' t.number new change h.waits (direct_change all all' t.number new change x.lives tt x.around) (λ b e. absurd (never_waits b e));
-        listed = listed_same all all' t.number new change ready (Some t) (sym x.active) h.listed;
+        listed = listed_same all all' t.number new change operations ready (Some t) (sym x.active) h.listed;
         tracks = tracks_same all all' t.number new change bs bs blocks h.good h.tracks refl x.lives (sym x.active) x.around kept;
-        others = others_kept all all' t new change stacks h.others;
+        others = others_kept all all' t new change operations stacks h.others;
       }
 
   -- so the relation holds wherever the code stands that does the work
   pub stands_on : (s : Held) (t : Item) (ws : List Work) (ready : List Item) (ts : List Thread) (activation : Activation) (place : ℕ) (operands : List Cell) (stacks : List Stack)
       (bs : List (Option Block)) → (thread_at ts t).phase ≡ Active → activation.around ≡ (thread_at ts t).around →
-      Together (seated ts t ws) s.blocks ready (Some t) stacks bs → Works code activation place operands ws →
+      Together (seated ts t ws) s.blocks s.operations ready (Some t) stacks bs → Works code activation place operands ws →
       Relates code Stands (around_of t activation ready stacks bs) (running s t ws ready ts)
   stands_on s t ws ready ts activation place operands stacks bs active round h w frame callers s' place' operands' ws' count b w' =
       let x = seat_of ts t ws activation active round (works_closes code activation place operands ws w) in

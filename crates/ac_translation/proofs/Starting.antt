@@ -21,7 +21,7 @@ use Rattle.ac_translation.proofs.Blocks.{Lives, alive, entered, head_is, direct,
 use Rattle.ac_translation.proofs.Changes.{direct_change, open_good, start_good}
 use Rattle.ac_translation.proofs.Tracks.{entry, tracks_open, tracks_count}
 use Rattle.ac_translation.proofs.Counts.{counted_in_tells, counted_in_length}
-use Rattle.ac_translation.proofs.Wakes.{active as is_counted, listed_same, listed_new, waits_change, waits_start}
+use Rattle.ac_translation.proofs.Wakes.{active as is_counted, asked_by, runs_without, listed_same, listed_new, waits_change, waits_start}
 use Rattle.ac_translation.proofs.Keeps.{Activation, within, started, thread_in, Around, flat, SameBirths, FollowsAt, turn_follows, turns_or_ends}
 use Rattle.ac_translation.proofs.Works.{Works, works_closes}
 use Rattle.ac_translation.proofs.Turns.{next_block}
@@ -30,7 +30,7 @@ use Rattle.ac_translation.proofs.Standing.{with_births, still_stacks, in_stacks,
 
 module _ (code : Parts) (bound : ℕ) (s0 : Held) (t : Item) (ws : List Work) (ready : List Item) (ts : List Thread) (activation : Activation) (stacks : List Stack)
     (bs : List (Option Block)) (x : Seat ts t ws activation)
-    (h0 : Together code.instrs (seated ts t ws) s0.blocks ready (Some t) stacks bs) where
+    (h0 : Together code.instrs (seated ts t ws) s0.blocks s0.operations ready (Some t) stacks bs) where
   abbrev R : CoreState → Flat → Type 0
   R = Stands code.instrs
 
@@ -66,14 +66,14 @@ module _ (code : Parts) (bound : ℕ) (s0 : Held) (t : Item) (ws : List Work) (r
       let made : Changed None bs bs' s.blocks (Some (entry (first (entered old ++ old.around)) t.number 0 false)) =
       subst (λ n. Changed None bs bs' n (Some (entry (first (entered old ++ old.around)) t.number 0 false))) h.blocks_are
       (subst (λ y. Changed None bs bs' (length bs) (Some (entry y t.number 0 false))) parent pushed) in
-      let together : Together code.instrs ts' s'.blocks ready (Some t) stacks bs' = record {
+      let together : Together code.instrs ts' s'.blocks s'.operations ready (Some t) stacks bs' = record {
         stacks_are = still_stacks code.instrs ts t ws activation x h Active work;
         blocks_are = let n = h.blocks_are in omega (arith, n, length-append bs (Some (entry (first (activation.entered ++ activation.around)) t.number 0 false) ∷ []));
         good = open_good all ts' t.number new change s.blocks h.good block refl x.lives tt x.around opened;
         waits = waits_change all ts' t.number new change h.waits (direct_change all ts' t.number new change x.lives tt x.around) (λ b e. absurd (never_waits b e));
-        listed = listed_same all ts' t.number new change ready (Some t) (sym x.active) h.listed;
+        listed = listed_same all ts' t.number new change s.operations ready (Some t) (sym x.active) h.listed;
         tracks = tracks_open all ts' t.number new change bs bs' s.blocks h.good h.tracks block refl made x.active refl x.around opened;
-        others = others_kept code.instrs all ts' t new change stacks h.others;
+        others = others_kept code.instrs all ts' t new change s.operations stacks h.others;
       } in
       let in_block = λ (n : ℕ). around_of t (within activation (record { number = n } ∷ activation.entered)) ready stacks bs' in
       let numbered = λ (n k : ℕ). flat (in_block n) (with_store s (with_entered s.store activation.frame slot n)) (place + 1) [] (counted k) in
@@ -82,7 +82,7 @@ module _ (code : Parts) (bound : ℕ) (s0 : Held) (t : Item) (ws : List Work) (r
 
   -- a thread that rests stands where it goes on
   stays : (work : List Work) (place : ℕ) → Works code.instrs activation place [] work
-      → Parked code.instrs (record (thread_at ts t) { phase = Active; work = work }) (thread_in activation place [])
+      → Parked code.instrs 0 (record (thread_at ts t) { phase = Active; work = work }) (thread_in activation place [])
   stays work place w = record { activation = activation; place = place; operands = []; is = refl; around = x.was_around; works = w }
 
   pub yields_follow : (s : Held) (place : ℕ) (work : List Work) → SameBirths s0 s → slice_get code.instrs place ≡ Some i.Yield → Works code.instrs activation (place + 1) [] work →
@@ -94,21 +94,22 @@ module _ (code : Parts) (bound : ℕ) (s0 : Held) (t : Item) (ws : List Work) (r
       let ts' = seated ts t work in
       let kept = thread_in activation (place + 1) [] in
       let on = on_together code.instrs ts t ws activation x work (works_closes code.instrs activation (place + 1) [] work w) h in
-      let together : Together code.instrs ts' s.blocks (ready ++ t ∷ []) None (set stacks t.number kept) bs = record {
+      let together : Together code.instrs ts' s.blocks s.operations (ready ++ t ∷ []) None (set stacks t.number kept) bs = record {
         stacks_are = length-set stacks t.number kept ∙ on.stacks_are;
         blocks_are = on.blocks_are;
         good = on.good;
         waits = on.waits;
         listed = λ u. let k = on.listed u in let z = occ_append (λ (x : Item). x.number) u ready (t ∷ []) in omega (arith, k, z);
         tracks = on.tracks;
-        others = others_back code.instrs all ts' t new change stacks h.others kept (in_stacks code.instrs ts t ws activation x h) (λ l. stays work (place + 1) w);
+        others = others_back code.instrs all ts' t new change s.operations stacks h.others (runs_without all s.operations ready t h.listed) kept
+            (in_stacks code.instrs ts t ws activation x h) (λ l. stays work (place + 1) w);
       } in
       turn_follows code bound R a c i.Yield (resting s (ready ++ t ∷ []) ts') (λ k. halted s (ready ++ t ∷ []) (set stacks t.number kept) bs (counted k)) is refl (λ k. refl)
       (λ k. rests s (ready ++ t ∷ []) ts' (set stacks t.number kept) bs (counted k) together)
 
   -- ---- a thread is started
 
-  module _ (u : Held) (h : Together code.instrs all u.blocks ready (Some t) stacks bs) (frame : FrameId) (to place : ℕ) (work own : List Work)
+  module _ (u : Held) (h : Together code.instrs all u.blocks u.operations ready (Some t) stacks bs) (frame : FrameId) (to place : ℕ) (work own : List Work)
       (w : Works code.instrs activation to [] work) (w' : Works code.instrs (started activation frame) place [] own) where
     -- the thread that is born, as it is kept and in its place
     abbrev kept_born : Thread
@@ -141,7 +142,7 @@ module _ (code : Parts) (bound : ℕ) (s0 : Held) (t : Item) (ws : List Work) (r
     abbrev bs' : List (Option Block)
     bs' = counted_in bs (first path)
 
-    on : Together code.instrs before_it u.blocks ready (Some t) stacks bs
+    on : Together code.instrs before_it u.blocks u.operations ready (Some t) stacks bs
     on = on_together code.instrs ts t ws activation x work (works_closes code.instrs activation to [] work w) h
 
     path_is : closes work ++ (thread_at ts t).around ≡ path
@@ -169,16 +170,18 @@ module _ (code : Parts) (bound : ℕ) (s0 : Held) (t : Item) (ws : List Work) (r
         let p : head_is b (closes work ++ (thread_at ts t).around) ≡ head_is b path = ap (head_is b) path_is in
         counted_in_tells bs path b (sum_by (direct b) with_it) y (omega (arith, k, z, p, count)) q
 
-    others_stay : Others code.instrs with_it (Some new_item) stacks'
+    others_stay : Others code.instrs with_it u.operations (Some new_item) stacks'
     others_stay v ne l =
         let here = grows.there v ne in
-        let back = others_back code.instrs all before_it t (sitting ts t Active work) (x.changed Active work) stacks h.others creator (in_stacks code.instrs ts t ws activation x h)
+        let back = others_back code.instrs all before_it t (sitting ts t Active work) (x.changed Active work) u.operations stacks h.others
+        (runs_without all u.operations ready t h.listed) creator (in_stacks code.instrs ts t ws activation x h)
         (λ _. stays work to w) v tt (subst (λ (y : Thread). Lives y.phase) here l) in
         let n : length (set stacks t.number creator) ≡ length before_it = length-set stacks t.number creator ∙ on.stacks_are in
         let stack = (pushed_changed no_stack (set stacks t.number creator) no_stack).there v (λ e. ne (sym n ∙ e)) in
-        subst (Parked code.instrs (at with_it v)) (sym stack) (subst (λ y. Parked code.instrs y (stack_at (set stacks t.number creator) v)) (sym here) back)
+        subst (Parked code.instrs (asked_by v u.operations) (at with_it v)) (sym stack)
+        (subst (λ y. Parked code.instrs (asked_by v u.operations) y (stack_at (set stacks t.number creator) v)) (sym here) back)
 
-    together : Together code.instrs with_it u.blocks (t ∷ ready) (Some new_item) stacks' bs'
+    together : Together code.instrs with_it u.blocks u.operations (t ∷ ready) (Some new_item) stacks' bs'
     together =
         let creator_is = (x.changed Active work).here in
         let lives = subst (λ (y : Thread). Lives y.phase) (sym creator_is) tt in
@@ -189,7 +192,7 @@ module _ (code : Parts) (bound : ℕ) (s0 : Held) (t : Item) (ws : List Work) (r
           blocks_are = counted_in_length bs (first path) ∙ h.blocks_are;
           good = start_good before_it with_it (length before_it) born grows u.blocks on.good t.number lives gone empty around;
           waits = waits_start before_it with_it (length before_it) born grows gone refl on.waits;
-          listed = listed_new before_it with_it (length before_it) born grows ready (t ∷ ready) (Some t) (Some new_item) (ap is_counted gone) refl (λ v. refl) on.listed;
+          listed = listed_new before_it with_it (length before_it) born grows u.operations ready (t ∷ ready) (Some t) (Some new_item) (ap is_counted gone) refl (λ v. refl) on.listed;
           tracks = tracks_count before_it with_it (length before_it) born grows bs bs' u.blocks on.good on.tracks (λ _. empty) counts;
           others = others_stay;
         }
@@ -198,8 +201,8 @@ module _ (code : Parts) (bound : ℕ) (s0 : Held) (t : Item) (ws : List Work) (r
     started_stands : (k : ℕ) → R (starts c t u own work) (flat (around_of (record { number = length stacks }) (started activation frame) (t ∷ ready) stacks' bs') u place [] k)
     started_stands k =
         let there = λ (n : ℕ). flat (around_of (record { number = n }) (started activation frame) (t ∷ ready) stacks' bs') u place [] k in
-        let sits : Together code.instrs (seated kept_it new_item own) u.blocks (t ∷ ready) (Some new_item) stacks' bs' =
-        subst (λ ts'. Together code.instrs ts' u.blocks (t ∷ ready) (Some new_item) stacks' bs') (sym seat_is) together in
+        let sits : Together code.instrs (seated kept_it new_item own) u.blocks u.operations (t ∷ ready) (Some new_item) stacks' bs' =
+        subst (λ ts'. Together code.instrs ts' u.blocks u.operations (t ∷ ready) (Some new_item) stacks' bs') (sym seat_is) together in
         let active = ap (λ (y : Thread). y.phase) kept_is in
         let around = sym path_is ∙ ap (λ (y : Thread). y.around) (sym kept_is) in
         subst (λ n. R (running u (record { number = n }) own (t ∷ ready) kept_it) (there (length stacks))) (length-set ts t.number (sitting ts t Active work))

@@ -16,7 +16,7 @@ use Rattle.ac_commands.specs.declared.command.Command.TheOpen.{Command-F}
 use Rattle.ac_commands.specs.declared.program.Resolved.{Resolved}
 use Rattle.ac_semantics.specs.Held.{Held, with_shared, with_store, entered}
 use Rattle.ac_semantics.specs.Work.{Work, Turn, Close, End, before, past_loop, at_turn}
-use Rattle.ac_semantics.specs.Statements.{Next, Goes, Starts, Yields, Stays, or_trap, some_operand, operands_of, last_of, with_variable, put_in}
+use Rattle.ac_semantics.specs.Statements.{Next, Goes, Starts, Yields, Stays, or_trap, some_operand, target_operands, operands_of, last_of, with_variable, put_in}
 use Rattle.ac_semantics.specs.Statements.{returns, value_or_zero, some_body, test_or_true, loops, finish_form}
 use Rattle.ac_semantics.specs.Threads.{CoreState}
 use Rattle.stack_code.specs.declared.instr.Instr.{Instr}
@@ -25,13 +25,13 @@ use Rattle.stack_code.specs.Parts.{Parts}
 use Rattle.stack_code.specs.Machine.{Flat, on_many, with_shared as shares, goes, text_at, or_trap as or_end}
 use Rattle.ac_translation.specs.Pieces.{Exits, Piece, no_code, one, ◌⨾◌, over, out_past, out_turn, loop_exits, loop}
 use Rattle.ac_translation.specs.Translation.{array_code, value_code, values_code, target_code, test_code, at_loop, at_next, command_step, command_code, body_code}
-use Rattle.ac_translation.proofs.WellFormed.{in_loop, in_block, well_formed_step, is_well_formed, are_well_formed, IsWellFormed}
+use Rattle.ac_translation.proofs.WellFormed.{both_true, in_loop, in_block, placed_step, is_well_formed, are_well_formed, IsWellFormed}
 use Rattle.ac_translation.proofs.Sized.{IsSized, no_sized, one_sized, over_sized, value_sized, values_sized, test_sized, body_sized}
 use Rattle.ac_translation.proofs.Codes.{reference_code}
 use Rattle.ac_translation.proofs.Placed.{Placed, first_part, other_part, both_parts, Jumps, here, jump, LoopAt, loop_at}
 use Rattle.ac_translation.proofs.Functions.{IsCodeOf}
 use Rattle.ac_translation.proofs.Keeps.{within, started, Around, flat, SameBirths, FollowsAt, KeepsAt, keeps, one_follows, piece_follows, stays_follow, computes}
-use Rattle.ac_translation.proofs.Works.{both_true, Scope, round_of, looped, blocked, exits_in, exits_of, pieces_of, tests_of, Does, Works, works, Relates}
+use Rattle.ac_translation.proofs.Works.{Scope, round_of, looped, blocked, exits_in, exits_of, pieces_of, tests_of, Does, Works, works, Relates}
 use Rattle.ac_translation.proofs.Works.{does_in_block, jumps_do, before_does, zero_works, break_works, continue_works}
 use Rattle.ac_translation.proofs.Turns.{next_block, Turns}
 use Rattle.ac_translation.proofs.Calls.{many_are, lands, lands_in, returns_follow}
@@ -47,7 +47,7 @@ module _ (code : List Instr) where
   one_operand x h = both_parts code (value_code x) no_code (value_sized x) h (record { has = tt; ends = omega arith })
 
   target_operands_at : (x : Value) (target : Target) {exits : Exits} {place to : ℕ} → Placed code (value_code x ⨾ target_code target) exits place to →
-      Placed code (values_code (operands_of (Command-F.Set target x))) exits place (place + size_of (operands_of (Command-F.Set target x)))
+      Placed code (values_code (x ∷ target_operands target)) exits place (place + size_of (x ∷ target_operands target))
   target_operands_at x (t.Variable place) h = one_operand x (first_part code (value_code x) (target_code (t.Variable place)) h)
   target_operands_at x (t.Element whole index) {exits} {place} h =
       let all = λ (p : Piece). value_code x ⨾ p ⨾ value_code index ⨾ no_code in
@@ -151,8 +151,8 @@ module _ (code : Parts) (program : Resolved) (same : IsCodeOf code program) (fin
   -- ---- assignments and output
 
   set_finishes : (target : Target) (value : Value) (values : List Cell) {exits : Exits} {at to : ℕ} (s : Held) (ws : List Work) (scope : Scope) → Born s →
-      Placed code.instrs (one i.Step ⨾ value_code value ⨾ target_code target) exits at to → length values ≡ length (operands_of (Command-F.Set target value)) → DoesAt scope to ws →
-      FinishesAt s (at + 1 + size_of (operands_of (Command-F.Set target value))) values (or_trap s (put_in target values a.activation.frame s.store) (λ store. Goes (with_store s store) ws))
+      Placed code.instrs (one i.Step ⨾ value_code value ⨾ target_code target) exits at to → length values ≡ length (value ∷ target_operands target) → DoesAt scope to ws →
+      FinishesAt s (at + 1 + size_of (value ∷ target_operands target)) values (or_trap s (put_in target values a.activation.frame s.store) (λ store. Goes (with_store s store) ws))
   set_finishes (t.Variable (pl.Global slot)) value values {exits} {at} {to} s ws scope b h e d =
       let value_at = other_part code.instrs (one i.Step) (value_code value ⨾ one (i.StoreG slot)) (one_sized i.Step) h in
       let store_at = other_part code.instrs (value_code value) (one (i.StoreG slot)) (value_sized value) value_at in
@@ -176,7 +176,7 @@ module _ (code : Parts) (program : Resolved) (same : IsCodeOf code program) (fin
       let whole_at = other_part code.instrs (value_code value) rest (value_sized value) value_at in
       let index_at = other_part code.instrs (one (array_code whole)) (value_code index ⨾ last) (one_sized (array_code whole)) whole_at in
       let set_at = other_part code.instrs (value_code index) last (value_sized index) index_at in
-      let all = operands_of (Command-F.Set (t.Element whole index) value) in
+      let all = value ∷ target_operands (t.Element whole index) in
       let one_is = ap (λ (p : Piece). p.size) (reference_code whole) in
       let near : at + 1 + (value_code value).size + 1 + (value_code index).size ≡ at + 1 + size_of all = omega (arith, one_is) in
       three_finish s (at + 1 + size_of all) values (λ vs. or_trap s (put_in (t.Element whole index) vs a.activation.frame s.store) (λ store. Goes (with_store s store) ws)) e (λ z y x.
@@ -377,7 +377,7 @@ module _ (code : Parts) (program : Resolved) (same : IsCodeOf code program) (fin
 
   pub form_finishes : (self : Command) (ws : List Work) (scope : Scope) {at to : ℕ} (s : Held) → Born s → Placed code.instrs (command_code self) scope.exits at to →
       is_well_formed self (round_of scope) ≡ true → DoesAt scope to ws →
-      (x : Command-F Command) → out-Command self ≡ x → Placed code.instrs (command_step (pieces_of x)) scope.exits at to → well_formed_step (tests_of x) (round_of scope) ≡ true →
+      (x : Command-F Command) → out-Command self ≡ x → Placed code.instrs (command_step (pieces_of x)) scope.exits at to → placed_step (tests_of x) (round_of scope) ≡ true →
       (values : List Cell) → length values ≡ length (operands_of x) → FinishesAt s (at + 1 + size_of (operands_of x)) values (finish_form program self x values a.activation.frame ws s)
   form_finishes self ws scope {at} {to} s b whole form d Command-F.Nothing e h g values n =
       none_finish values s at (Goes s ws) n (subst (λ p. At s p [] (Goes s ws)) (sym h.ends) (lands_here s to ws scope b d))

@@ -20,14 +20,14 @@ use Rattle.stack_code.specs.Parts.{Parts}
 use Rattle.stack_code.specs.Machine.{Flat}
 use Rattle.ac_translation.specs.Pieces.{Exits, one}
 use Rattle.ac_translation.specs.Translation.{values_code, command_step, command_code}
-use Rattle.ac_translation.proofs.WellFormed.{is_well_formed, IsWellFormed}
+use Rattle.ac_translation.proofs.WellFormed.{all_fit, is_well_formed, IsWellFormed}
 use Rattle.ac_translation.proofs.Sized.{one_sized}
 use Rattle.ac_translation.proofs.Placed.{Placed, other_part}
 use Rattle.ac_translation.proofs.Functions.{IsCodeOf}
 use Rattle.ac_translation.proofs.Keeps.{within, Around, SameBirths, FollowsAt, KeepsAt, keeps, one_follows, ends_follows, jumps_follow}
 use Rattle.ac_translation.proofs.Contexts.{HeadAt, Waits}
 use Rattle.ac_translation.proofs.Values.{resumes_on, operands_follow}
-use Rattle.ac_translation.proofs.Works.{Scope, round_of, pieces_of, code_by_form, test_by_form, LastAt, TailAt, Does, Works, works, wakes, Relates, ahead_does}
+use Rattle.ac_translation.proofs.Works.{Scope, round_of, pieces_of, code_by_form, parts_by_form, LastAt, TailAt, Does, Works, works, wakes, Relates, ahead_does}
 use Rattle.ac_translation.proofs.Turns.{Turns}
 use Rattle.ac_translation.proofs.Calls.{acts_follow, returns_follow}
 use Rattle.ac_translation.proofs.Statements.{size_of, operands_at, FinishesAt, form_finishes}
@@ -75,14 +75,14 @@ module _ (code : Parts) (program : Resolved) (same : IsCodeOf code program) (fin
         FinishesAt code program same fine bound R a c stands turns s place values (finish program x values a.activation.frame ws s)
     tail_finishes values place count many t =
         let stands_at = subst (λ p. Placed code.instrs p scope.exits t.at t.to) (code_by_form x) t.stands in
-        let form = subst (λ f. f (round_of scope) ≡ true) (test_by_form x) t.form in
+        let form = (parts_by_form x (round_of scope) t.form).1 in
         subst (λ n. FinishesAt code program same fine bound R a c stands turns s n values (finish program x values a.activation.frame ws s)) (sym t.is)
         (form_finishes code program same fine bound R a c stands turns x ws scope s b t.stands t.form t.rest (out-Command x) refl stands_at form values (sym many ∙ t.all))
 
     stops : (head : Head) (values : List Cell) (around : List Context) (place count : ℕ) (below : List Cell) → count ≡ length values →
         HeadAt code.instrs head place count below (λ to under. Waits code.instrs around to under Last) Last → FollowsAt code bound R a c s place (values ++ below) (settle (Stops head values around))
     stops (Acting action) values around place count below many w =
-        acts_follow code program same fine bound R a c stands action count x around ws s place values below b w.0 many (record { own_is = refl; scope = scope; waits = w.1 })
+        acts_follow code program same fine bound R a c stands turns action count x around ws s place values below b w.0 many w.1 (record { own_is = refl; scope = scope; waits = w.2 })
     stops Ending values around place count below many w =
         let some = w.1 in
         subst (λ l. FollowsAt code bound R a c s place (values ++ l) (settle (Stops Ending values around))) (sym w.0)
@@ -95,17 +95,18 @@ module _ (code : Parts) (program : Resolved) (same : IsCodeOf code program) (fin
     wakes_follow around place below value w = resumes_on code bound R a c s settle Last (λ trap. refl) stops around place below w value
 
     -- its operands are computed, and then it has its effect
-    operands_keep : (xs : List Value) {exits : Exits} {place : ℕ} → Placed code.instrs (values_code xs) exits place (place + size_of xs) → Last (place + size_of xs) (length xs) →
+    operands_keep : (xs : List Value) → all_fit xs ≡ true → {exits : Exits} {place : ℕ} → Placed code.instrs (values_code xs) exits place (place + size_of xs) → Last (place + size_of xs) (length xs) →
         At s place [] (settle (row_goes s.store a.activation.frame Ending [] xs []))
-    operands_keep [] {place = place} h last =
+    operands_keep [] fit {place = place} h last =
         let near : place + 0 ≡ place = omega arith in
         subst (λ n. At s n [] (settle (Stops Ending [] []))) near (tail_finishes [] (place + 0) 0 refl last)
-    operands_keep (y ∷ ys) h last = keeps code bound R a c (operands_follow code bound R a c s settle Last (λ trap. refl) stops y ys h last)
+    operands_keep (y ∷ ys) fit h last = keeps code bound R a c (operands_follow code bound R a c s settle Last (λ trap. refl) stops y ys fit h last)
 
     form_keeps : {at to : ℕ} → Placed code.instrs (command_code x) scope.exits at to → is_well_formed x (round_of scope) ≡ true → DoesAt scope to ws →
         Placed code.instrs (command_step (pieces_of (out-Command x))) scope.exits at to → At s (at + 1) [] (does program x a.activation.frame ws s)
     form_keeps {at} {to} whole form d h =
-        operands_keep (operands_of (out-Command x)) (operands_at code.instrs (out-Command x) h) (record { at = at; to = to; stands = whole; form = form; is = refl; all = refl; rest = d })
+        operands_keep (operands_of (out-Command x)) (parts_by_form x (round_of scope) form).0 (operands_at code.instrs (out-Command x) h)
+        (record { at = at; to = to; stands = whole; form = form; is = refl; all = refl; rest = d })
 
   -- ---- steps
 

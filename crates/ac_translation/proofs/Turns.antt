@@ -1,18 +1,22 @@
--- What a thread asks of its core: blocks, other threads, and its own end.
+-- What a thread asks of its core: blocks, other threads, operations, and its own end.
 use Rattle.std.proofs.Common.{◌≡◌, ℕ, ◌+◌, List, [], ◌∷◌, replicate, Some}
 use Rattle.std.specs.Prelude.{slice_get}
 use Rattle.work_item.specs.declared.ids.BlockId.{BlockId}
 use Rattle.work_item.specs.Store.{no_int, next_frame}
+use Rattle.work_item.specs.declared.cell.Cell.{Cell}
+use Rattle.cancel_scope.specs.declared.operation.Asked.{Asked}
+use Rattle.core_state.specs.Moves.{On}
 use Rattle.core_state.specs.Frames.{begun}
 use Rattle.ac_semantics.specs.Held.{Held, with_store, entered}
 use Rattle.ac_semantics.specs.Work.{Work}
-use Rattle.ac_semantics.specs.Statements.{Goes, Starts, Yields, Arrives, Dies, or_trap}
+use Rattle.ac_semantics.specs.Statements.{Goes, Starts, Yields, Arrives, Operates, Dies, or_trap}
 use Rattle.ac_semantics.specs.Threads.{CoreState}
+use Rattle.stack_code.specs.declared.instr.Instr.{Instr}
 use Rattle.stack_code.specs.declared.instr.Instr.TheVariants as i
 use Rattle.stack_code.specs.Parts.{Parts}
-use Rattle.stack_code.specs.Machine.{Flat}
-use Rattle.ac_translation.proofs.Keeps.{within, started, Around, SameBirths, FollowsAt}
-use Rattle.ac_translation.proofs.Works.{Works}
+use Rattle.stack_code.specs.Machine.{Flat, begin, operates}
+use Rattle.ac_translation.proofs.Keeps.{within, started, Around, flat, SameBirths, FollowsAt}
+use Rattle.ac_translation.proofs.Works.{Sleeps, Works}
 
 -- the next block
 abbrev pub next_block : Held → BlockId
@@ -30,6 +34,10 @@ pub record Turns (code : Parts) (bound : ℕ) (R : CoreState → Flat → Type 0
       FollowsAt code bound R a c s place [] (or_trap s (begun s.store (Some a.activation.frame) (replicate slots no_int)) (λ t. Starts (with_store s t) (next_frame s.store) own ws))
   pub yields : (s : Held) (place : ℕ) (ws : List Work) → SameBirths c.held s → slice_get code.instrs place ≡ Some i.Yield → Works code.instrs a.activation (place + 1) [] ws →
       FollowsAt code bound R a c s place [] (Yields s ws)
+  pub waits : (link : ℕ) (asked : Asked) (instr : Instr) (s : Held) (place : ℕ) (value : Cell) (below : List Cell) (ws : List Work) → SameBirths c.held s →
+      slice_get code.instrs place ≡ Some instr →
+      ((k : ℕ) → begin code bound (flat a s place (value ∷ below) k) a.running (Some instr) ≡ On (operates (flat a s place (value ∷ below) k) a.running link asked below)) →
+      Sleeps code.instrs a.activation (place + 1) below ws → FollowsAt code bound R a c s place (value ∷ below) (Operates link asked s ws)
   pub dies : (s : Held) (place : ℕ) (block : BlockId) (others : List BlockId) → SameBirths c.held s → slice_get code.instrs place ≡ Some i.End → a.activation.entered ≡ [] →
       a.activation.around ≡ block ∷ others →
       FollowsAt code bound R a c s place [] (Dies a.activation.frame s)

@@ -1,5 +1,5 @@
 -- The code of an expression follows what the expression comes to, whatever is round it.
-use Rattle.std.proofs.Common.{◌≡◌, ℕ, zero, suc, ◌+◌, List, [], ◌∷◌, ◌++◌, length, map, Some, refl, sym, subst, arith}
+use Rattle.std.proofs.Common.{◌≡◌, ℕ, zero, suc, ◌+◌, List, [], ◌∷◌, ◌++◌, length, map, Some, Bool, true, refl, sym, ap, ◌∙◌, subst, arith}
 use Rattle.std.specs.Prelude.{slice_get, ℤ, pos, negsuc, Result, Ok, Err}
 use Rattle.std.proofs.lemmas.List.{length-map}
 use Rattle.ac_base.specs.declared.ends.Trap.{Trap}
@@ -32,6 +32,7 @@ use Rattle.stack_code.specs.Parts.{Parts}
 use Rattle.stack_code.specs.Machine.{Flat}
 use Rattle.ac_translation.specs.Pieces.{Exits, Piece, one, ◌⨾◌, over}
 use Rattle.ac_translation.specs.Translation.{unary_code, operator_code, lazily, joined_code, chained_code, array_code, value_step, link_step, value_code, link_code, values_code, action_code}
+use Rattle.ac_translation.proofs.WellFormed.{takes, fits_step, fits, link_fits, all_fit, links_fit, both_true, fits_form, link_fits_form}
 use Rattle.ac_translation.proofs.Sized.{IsSized, one_sized, both_sized, over_sized, joined_sized, value_sized, values_sized}
 use Rattle.ac_translation.proofs.Placed.{Placed, first_part, other_part}
 use Rattle.ac_translation.proofs.Keeps.{Around, FollowsAt, KeepsAt, keeps, one_follows, piece_follows, computes}
@@ -133,7 +134,7 @@ module _ (code : Parts) (bound : ℕ) (R : CoreState → Flat → Type 0) (a : A
     means x = goes s.store a.activation.frame x
 
     abbrev IsFollowed : Value → Type 0
-    IsFollowed x = Evaluates (value_code x) (means x)
+    IsFollowed x = fits x ≡ true → Evaluates (value_code x) (means x)
 
     abbrev AllFollow : List Value → Type 0
     AllFollow [] = Unit {0}
@@ -204,7 +205,7 @@ module _ (code : Parts) (bound : ℕ) (R : CoreState → Flat → Type 0) (a : A
           (subst (λ ops. FollowsTo place (y ∷ ops) (then_goes (then_int r h) f)) (sym w.lies.1) run)
 
       first_on : (links : List ValueLink) → ChainOn links → GoesOn (First links ∷ around) (λ x. then_goes (gives s.store a.activation.frame (First links) x around) f)
-      first_on links more place operands w x = more.by {exits = w.exits} x w.stands w.rest
+      first_on links more place operands w x = more.by {exits = w.1.exits} x w.1.stands w.1.rest
 
       -- a row of operands, of which these are computed
       pub record RowOn (head : Head) (values : List Cell) (xs : List Value) : Type 0 where
@@ -229,18 +230,20 @@ module _ (code : Parts) (bound : ℕ) (R : CoreState → Flat → Type 0) (a : A
       right_goes x op y links = then_goes (means y (Right x op links ∷ around)) (after_right x op links)
 
       -- a right operand, and what is done with it
-      right_follows : (op : BinaryOp) (y : Value) (links : List ValueLink) → IsFollowed y → ChainOn around f g links → (x : ℤ) {exits : Exits} {place to : ℕ} {operands : List Cell} →
+      right_follows : (op : BinaryOp) (y : Value) (links : List ValueLink) → Evaluates (value_code y) (means y) → ChainOn around f g links →
+          (x : ℤ) {exits : Exits} {place to : ℕ} {operands : List Cell} →
           Placed code.instrs (value_code y) exits place to → Open (Right x op links ∷ around) to operands → FollowsTo place operands (then_goes (right_goes x op y links) f)
       right_follows op y links e more x {exits} {place} {to} {operands} h w =
           subst (FollowsTo place operands) (sym (then_then (means y (Right x op links ∷ around)) (after_right x op links) f))
           (e.by (Right x op links ∷ around) (λ v. then_goes (after_right x op links v) f) h w (right_on around f g x op links more))
 
       -- an operator and its right operand, before the rest of a chain
-      joined_on : (op : BinaryOp) (y : Value) (links : List ValueLink) → IsFollowed y → ChainOn around f g links → (x : Cell) {exits : Exits} {place to : ℕ} {operands : List Cell} →
+      joined_on : (op : BinaryOp) (y : Value) (links : List ValueLink) → Evaluates (value_code y) (means y) → links_fit links ≡ true → ChainOn around f g links →
+          (x : Cell) {exits : Exits} {place to : ℕ} {operands : List Cell} →
           Placed code.instrs (joined_code op (value_code y) ⨾ chained_code (map link_code links)) exits place to → Open around to operands →
           FollowsTo place (x ∷ operands) (then_goes
           (unless_decided op (int_in x) (λ v. chain_goes s.store a.activation.frame (cell.Int v) links around) (right_goes (int_in x) op y links)) f)
-      joined_on b.Or y links e more x {exits} {place} {to} {operands} h w =
+      joined_on b.Or y links e fit more x {exits} {place} {to} {operands} h w =
           let right = value_code y in
           let others = chained_code (map link_code links) in
           let lazy = lazy_at code i.Jnz (pos 1) right (value_sized y) (first_part code.instrs (joined_code b.Or right) others h) in
@@ -250,10 +253,10 @@ module _ (code : Parts) (bound : ℕ) (R : CoreState → Flat → Type 0) (a : A
           subst (FollowsAt code bound R a c s place (x ∷ operands)) (sym (then_zero (int_in x) (right_goes (int_in x) b.Or y links) one_is f settle))
           (jnz_follows x (int_in x) refl h.has.0
           (keeps code bound R a c (right_follows b.Or y links e more (int_in x) lazy.right_at
-          (record { exits = exits; after = _; to = to; below = operands; operator = lazy.end_at; others = others_at; lies = refl; rest = w })))
+          (record { exits = exits; after = _; to = to; below = operands; operator = lazy.end_at; others = others_at; fit = fit; lies = refl; rest = w })))
           (keeps code bound R a c (subst (λ n. FollowsTo n operands (then_goes one_is f)) past
           (decided_follows {exits = exits} (pos 1) lazy.end_at (keeps code bound R a c (more.by (cell.Int (pos 1)) others_at w))))))
-      joined_on b.And y links e more x {exits} {place} {to} {operands} h w =
+      joined_on b.And y links e fit more x {exits} {place} {to} {operands} h w =
           let right = value_code y in
           let others = chained_code (map link_code links) in
           let lazy = lazy_at code i.Jz (pos 0) right (value_sized y) (first_part code.instrs (joined_code b.And right) others h) in
@@ -265,8 +268,8 @@ module _ (code : Parts) (bound : ℕ) (R : CoreState → Flat → Type 0) (a : A
           (keeps code bound R a c (subst (λ n. FollowsTo n operands (then_goes nought_is f)) past
           (decided_follows {exits = exits} (pos 0) lazy.end_at (keeps code bound R a c (more.by (cell.Int (pos 0)) others_at w)))))
           (keeps code bound R a c (right_follows b.And y links e more (int_in x) lazy.right_at
-          (record { exits = exits; after = _; to = to; below = operands; operator = lazy.end_at; others = others_at; lies = refl; rest = w }))))
-      joined_on op y links e more x {exits} {place} {to} {operands} h w =
+          (record { exits = exits; after = _; to = to; below = operands; operator = lazy.end_at; others = others_at; fit = fit; lies = refl; rest = w }))))
+      joined_on op y links e fit more x {exits} {place} {to} {operands} h w =
           let right = value_code y in
           let last = one (operator_code op) in
           let others = chained_code (map link_code links) in
@@ -279,50 +282,54 @@ module _ (code : Parts) (bound : ℕ) (R : CoreState → Flat → Type 0) (a : A
             below = operands;
             operator = other_part code.instrs right last (value_sized y) both_at;
             others = other_part code.instrs (right ⨾ last) others (both_sized right last (value_sized y) (one_sized (operator_code op))) h;
+            fit = fit;
             lies = (x, refl, refl);
             rest = w;
           })
 
-      chain_on : (links : List ValueLink) → LinksFollow links → ChainOn around f g links
-      chain_on [] all = record {
+      chain_on : (links : List ValueLink) → LinksFollow links → links_fit links ≡ true → ChainOn around f g links
+      chain_on [] all fit = record {
         by = λ {exits} {place} {to} {operands} x h w.
             let ends = h.ends in
             let same : to ≡ place = omega (arith, ends) in
             subst (λ n. FollowsTo n (x ∷ operands) (f x)) same (g to operands w x);
       }
-      chain_on (l ∷ links) all = record {
+      chain_on (l ∷ links) all fit = record {
         by = λ {exits} {place} {to} {operands} x h w.
+            let both = both_true (link_fits l) (links_fit links) fit in
             let others = chained_code (map link_code links) in
             let now = subst (λ (q : BinaryOp × Piece). Placed code.instrs (joined_code q.0 q.1 ⨾ others) exits place to) (link_is l) h in
             subst (λ o. FollowsTo place (x ∷ operands) (then_goes o f)) (sym (link_goes s.store a.activation.frame x l links around))
-            (joined_on l.op l.operand links all.0 (chain_on links all.1) x now w);
+            (joined_on l.op l.operand links (all.0 (sym (link_fits_form l) ∙ both.0)) both.1 (chain_on links all.1 both.1) x now w);
       }
 
       -- ---- operands
 
-      row_on : (head : Head) (values : List Cell) (xs : List Value) → AllFollow xs → RowOn around f g head values xs
-      row_on head values [] all = record {
+      row_on : (head : Head) (values : List Cell) (xs : List Value) → AllFollow xs → all_fit xs ≡ true → RowOn around f g head values xs
+      row_on head values [] all fit = record {
         by = λ {exits} {place} {to} {count} below e h w.
             let ends = h.ends in
             let same : to ≡ place = omega (arith, ends) in
             let many : count ≡ length values = omega (arith, e) in
             subst (λ n. FollowsTo n (values ++ below) (Stops head values around)) same (stops head values around to count below many w);
       }
-      row_on head values (x ∷ xs) all = record {
+      row_on head values (x ∷ xs) all fit = record {
         by = λ {exits} {place} {to} {count} below e h w.
+            let both = both_true (fits x) (all_fit xs) fit in
             let others = values_code xs in
             let many : count ≡ length values + 1 + length xs = omega (arith, e) in
             let meant = λ (v : Cell). gives s.store a.activation.frame (Operands head values xs) v around in
             subst (λ o. FollowsTo place (values ++ below) (then_goes o f)) (sym (operand_goes s.store a.activation.frame head values x xs around))
             (subst (FollowsTo place (values ++ below)) (sym (then_then (means x (Operands head values xs ∷ around)) meant f))
-            (all.0.by (Operands head values xs ∷ around) (λ v. then_goes (meant v) f) (first_part code.instrs (value_code x) others h) (record {
+            ((all.0 both.0).by (Operands head values xs ∷ around) (λ v. then_goes (meant v) f) (first_part code.instrs (value_code x) others h) (record {
               exits = exits;
               to = to;
               below = below;
               stands = other_part code.instrs (value_code x) others (value_sized x) h;
+              fit = both.1;
               lies = refl;
               rest = subst (λ n. HeadAt code.instrs head to n below (λ q under. Open around q under) Last) many w;
-            }) (operands_on around f g head values xs (λ v. row_on head (v ∷ values) xs all.1))));
+            }) (operands_on around f g head values xs (λ v. row_on head (v ∷ values) xs all.1 both.1))));
       }
 
     -- ---- all values
@@ -348,25 +355,26 @@ module _ (code : Parts) (bound : ℕ) (R : CoreState → Flat → Type 0) (a : A
     values_follow (x ∷ xs) = (x.1, values_follow xs)
 
     abbrev Layer : Value-F Value ValueLink → Type 0
-    Layer x = Evaluates (value_step (map-Value Value ValueLink Piece (BinaryOp × Piece) value_code link_code x)) (form_goes s.store a.activation.frame x)
+    Layer x = fits_step (map-Value Value ValueLink Bool Bool fits link_fits x) ≡ true → Evaluates (value_step (map-Value Value ValueLink Piece (BinaryOp × Piece) value_code link_code x))
+        (form_goes s.store a.activation.frame x)
 
     layer : (y : Value-F Value_ Link_) → Layer (map-Value Value_ Link_ Value ValueLink (λ x. x.0) (λ l. l.0) y)
-    layer (Value-F.Number n) = record {
+    layer (Value-F.Number n) fit = record {
       by = λ {exits} {place} {to} {operands} around f h w g. piece_follows code bound R a c {exits = exits} (i.Push n) h (keeps code bound R a c (g to operands w (cell.Int n))) (λ k. refl);
     }
-    layer (Value-F.Variable (pl.Global slot)) = record {
+    layer (Value-F.Variable (pl.Global slot)) fit = record {
       by = λ {exits} {place} {to} {operands} around f h w g.
           piece_follows code bound R a c {exits = exits} (i.LoadG slot) h (keeps code bound R a c (g to operands w (variable s.store a.activation.frame (pl.Global slot)))) (λ k. refl);
     }
-    layer (Value-F.Variable (pl.Local level slot)) = record {
+    layer (Value-F.Variable (pl.Local level slot)) fit = record {
       by = λ {exits} {place} {to} {operands} around f h w g.
           piece_follows code bound R a c {exits = exits} (i.Load level slot) h (keeps code bound R a c (g to operands w (variable s.store a.activation.frame (pl.Local level slot)))) (λ k. refl);
     }
-    layer (Value-F.Reference whole) = record {
+    layer (Value-F.Reference whole) fit = record {
       by = λ {exits} {place} {to} {operands} around f h w g.
           reference_follows {exits = exits} whole h (keeps code bound R a c (g to operands w (reference s.store a.activation.frame whole)));
     }
-    layer (Value-F.Element whole index) = record {
+    layer (Value-F.Element whole index) fit = record {
       by = λ {exits} {place} {to} {operands} around f h w g.
           let o = reference s.store a.activation.frame whole in
           let inner = value_code index.0 in
@@ -374,7 +382,7 @@ module _ (code : Parts) (bound : ℕ) (R : CoreState → Flat → Type 0) (a : A
           let meant = λ (v : Cell). gives s.store a.activation.frame (ElementAt (place_in o)) v around in
           reference_follows {exits = exits} whole (first_part code.instrs (one (array_code whole)) (inner ⨾ one i.Elem) h)
           (keeps code bound R a c (subst (FollowsTo (place + 1) (o ∷ operands)) (sym (then_then (means index.0 (ElementAt (place_in o) ∷ around)) meant f))
-          (index.1.by (ElementAt (place_in o) ∷ around) (λ v. then_goes (meant v) f) (first_part code.instrs inner (one i.Elem) index_at) (record {
+          ((index.1 fit).by (ElementAt (place_in o) ∷ around) (λ v. then_goes (meant v) f) (first_part code.instrs inner (one i.Elem) index_at) (record {
             exits = exits;
             to = to;
             below = operands;
@@ -383,7 +391,7 @@ module _ (code : Parts) (bound : ℕ) (R : CoreState → Flat → Type 0) (a : A
             rest = w;
           }) (element_on around f g (place_in o)))));
     }
-    layer (Value-F.Part whole index) = record {
+    layer (Value-F.Part whole index) fit = record {
       by = λ {exits} {place} {to} {operands} around f h w g.
           let o = reference s.store a.activation.frame whole in
           let inner = value_code index.0 in
@@ -391,7 +399,7 @@ module _ (code : Parts) (bound : ℕ) (R : CoreState → Flat → Type 0) (a : A
           let meant = λ (v : Cell). gives s.store a.activation.frame (PartAt (place_in o)) v around in
           reference_follows {exits = exits} whole (first_part code.instrs (one (array_code whole)) (inner ⨾ one i.Place) h)
           (keeps code bound R a c (subst (FollowsTo (place + 1) (o ∷ operands)) (sym (then_then (means index.0 (PartAt (place_in o) ∷ around)) meant f))
-          (index.1.by (PartAt (place_in o) ∷ around) (λ v. then_goes (meant v) f) (first_part code.instrs inner (one i.Place) index_at) (record {
+          ((index.1 fit).by (PartAt (place_in o) ∷ around) (λ v. then_goes (meant v) f) (first_part code.instrs inner (one i.Place) index_at) (record {
             exits = exits;
             to = to;
             below = operands;
@@ -400,40 +408,46 @@ module _ (code : Parts) (bound : ℕ) (R : CoreState → Flat → Type 0) (a : A
             rest = w;
           }) (part_on around f g (place_in o)))));
     }
-    layer (Value-F.Unary op operand) = record {
+    layer (Value-F.Unary op operand) fit = record {
       by = λ {exits} {place} {to} {operands} around f h w g.
           let inner = value_code operand.0 in
           let meant = λ (v : Cell). gives s.store a.activation.frame (Operand op) v around in
           subst (FollowsTo place operands) (sym (then_then (means operand.0 (Operand op ∷ around)) meant f))
-          (operand.1.by (Operand op ∷ around) (λ v. then_goes (meant v) f) (first_part code.instrs inner (one (unary_code op)) h) (record {
+          ((operand.1 fit).by (Operand op ∷ around) (λ v. then_goes (meant v) f) (first_part code.instrs inner (one (unary_code op)) h) (record {
             exits = exits;
             to = to;
             stands = other_part code.instrs inner (one (unary_code op)) (value_sized operand.0) h;
             rest = w;
           }) (operand_on around f g op));
     }
-    layer (Value-F.Chain first rest) = record {
+    layer (Value-F.Chain first rest) fit = record {
       by = λ {exits} {place} {to} {operands} around f h w g.
           let links = links_of rest in
+          let both = both_true (fits first.0) (links_fit links) fit in
           let left = value_code first.0 in
           let right = chained_code (map link_code links) in
           let meant = λ (v : Cell). gives s.store a.activation.frame (First links) v around in
           subst (FollowsTo place operands) (sym (then_then (means first.0 (First links ∷ around)) meant f))
-          (first.1.by (First links ∷ around) (λ v. then_goes (meant v) f) (first_part code.instrs left right h) (record {
-            exits = exits;
-            to = to;
-            stands = other_part code.instrs left right (value_sized first.0) h;
-            rest = w;
-          }) (first_on around f g links (chain_on around f g links (links_follow rest))));
+          ((first.1 both.0).by (First links ∷ around) (λ v. then_goes (meant v) f) (first_part code.instrs left right h) (
+            both.1,
+            record {
+              exits = exits;
+              to = to;
+              stands = other_part code.instrs left right (value_sized first.0) h;
+              rest = w;
+            },
+          ) (first_on around f g links (chain_on around f g links (links_follow rest) both.1)));
     }
-    layer (Value-F.Act action operands) = record {
+    layer (Value-F.Act action operands) fit = record {
       by = λ {exits} {place} {to} {operands = below} around f h w g.
           let xs = values_of operands in
           let last = one (action_code action (length (map value_code xs))) in
           let act_at = other_part code.instrs (values_code xs) last (values_sized xs) h in
           let same_length = length-map xs value_code in
-          (row_on around f g (Acting action) [] xs (values_follow operands)).by below (omega (arith, same_length)) (first_part code.instrs (values_code xs) last h)
-          (act_at.has.0, subst (λ n. Open around n below) (sym act_at.ends) w);
+          let both = both_true (takes action (length (map fits xs))) (all_fit xs) fit in
+          let taken : takes action (length (map value_code xs)) ≡ true = ap (takes action) (same_length ∙ sym (length-map xs fits)) ∙ both.0 in
+          (row_on around f g (Acting action) [] xs (values_follow operands) both.1).by below (omega (arith, same_length)) (first_part code.instrs (values_code xs) last h)
+          (act_at.has.0, taken, subst (λ n. Open around n below) (sym act_at.ends) w);
     }
 
     evaluates_as : {p p' : Piece} {g g' : Goes} → p ≡ p' → ((around : List Context) → g around ≡ g' around) → Evaluates p' g' → Evaluates p g
@@ -445,7 +459,8 @@ module _ (code : Parts) (bound : ℕ) (R : CoreState → Flat → Type 0) (a : A
     pub value_follows : (x : Value) → IsFollowed x
     value_follows =
         ind-Value IsFollowed (λ l. IsFollowed l.operand)
-        (λ x y is. evaluates_as (fold-roll-Value Piece (BinaryOp × Piece) value_step link_step x) (goes_form s.store a.activation.frame x) (subst Layer is (layer y)))
+        (λ x y is fit. evaluates_as (fold-roll-Value Piece (BinaryOp × Piece) value_step link_step x) (goes_form s.store a.activation.frame x)
+        (subst Layer is (layer y) (sym (fits_form x) ∙ fit)))
         (λ x y is. subst (λ (z : ValueLink-F Value ValueLink). IsFollowed z.operand) is y.operand.1)
 
     all_links : (links : List ValueLink) → LinksFollow links
@@ -459,12 +474,15 @@ module _ (code : Parts) (bound : ℕ) (R : CoreState → Flat → Type 0) (a : A
     -- ---- going on
 
     gives_on : (x : Context) (around : List Context) (f : Cell → Outcome) (g : GoesOn around f) → GoesOn (x ∷ around) (λ v. then_goes (gives s.store a.activation.frame x v around) f)
-    gives_on (ElementAt whole) around f g = element_on around f g whole
-    gives_on (PartAt whole) around f g = part_on around f g whole
-    gives_on (Operand op) around f g = operand_on around f g op
-    gives_on (First links) around f g = first_on around f g links (chain_on around f g links (all_links links))
-    gives_on (Right x op links) around f g = right_on around f g x op links (chain_on around f g links (all_links links))
-    gives_on (Operands head values xs) around f g = operands_on around f g head values xs (λ v. row_on around f g head (v ∷ values) xs (all_values xs))
+    gives_on (ElementAt whole) around f g place operands w v = element_on around f g whole place operands w v
+    gives_on (PartAt whole) around f g place operands w v = part_on around f g whole place operands w v
+    gives_on (Operand op) around f g place operands w v = operand_on around f g op place operands w v
+    gives_on (First links) around f g place operands w v =
+        first_on around f g links (chain_on around f g links (all_links links) w.0) place operands w v
+    gives_on (Right x op links) around f g place operands w v =
+        right_on around f g x op links (chain_on around f g links (all_links links) w.fit) place operands w v
+    gives_on (Operands head values xs) around f g place operands w v =
+        operands_on around f g head values xs (λ u. row_on around f g head (u ∷ values) xs (all_values xs) w.fit) place operands w v
 
     pub resumes_on : (around : List Context) → GoesOn around (λ v. resumes s.store a.activation.frame around v)
     resumes_on [] place operands w v = absurd w
@@ -472,9 +490,10 @@ module _ (code : Parts) (bound : ℕ) (R : CoreState → Flat → Type 0) (a : A
 
     -- ---- the operands of a statement
 
-    pub operands_follow : (x : Value) (xs : List Value) {exits : Exits} {place to : ℕ} → Placed code.instrs (values_code (x ∷ xs)) exits place to → Last to (length (x ∷ xs)) →
+    pub operands_follow : (x : Value) (xs : List Value) → all_fit (x ∷ xs) ≡ true → {exits : Exits} {place to : ℕ} → Placed code.instrs (values_code (x ∷ xs)) exits place to → Last to
+        (length (x ∷ xs)) →
         FollowsTo place [] (row_goes s.store a.activation.frame Ending [] (x ∷ xs) [])
-    operands_follow x xs {place = place} {to = to} h last =
+    operands_follow x xs fit {place = place} {to = to} h last =
         let count : length (x ∷ xs) ≡ 0 + length (x ∷ xs) = omega arith in
         subst (FollowsTo place []) (then_itself (row_goes s.store a.activation.frame Ending [] (x ∷ xs) []))
-        ((row_on [] Comes (λ p operands w v. absurd w) Ending [] (x ∷ xs) (all_values (x ∷ xs))).by [] count h (refl, omega arith, last))
+        ((row_on [] Comes (λ p operands w v. absurd w) Ending [] (x ∷ xs) (all_values (x ∷ xs)) fit).by [] count h (refl, omega arith, last))

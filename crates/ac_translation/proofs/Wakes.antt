@@ -3,6 +3,7 @@ use Rattle.std.proofs.Common.{◌≡◌, ◌≢◌, ℕ, zero, suc, ◌+◌, ◌
 use Rattle.std.specs.List.{sum_by}
 use Rattle.work_item.specs.declared.ids.Item.{Item}
 use Rattle.work_item.specs.declared.ids.BlockId.{BlockId}
+use Rattle.cancel_scope.specs.declared.operation.Operation.{Operation}
 use Rattle.ac_semantics.specs.Threads.{Phase, Active, AtFinish, Ended, Thread, nobody, none_within, may_pass, woken}
 use Rattle.ac_translation.proofs.Tables.{Changed, found, one, occ, one_same, one_other}
 use Rattle.ac_translation.proofs.Blocks.{alive, head_is, direct, at, Waits}
@@ -68,22 +69,41 @@ running_is u (Some t) = one u t.number
 abbrev pub listed_as : ℕ → List Item → ℕ
 listed_as u ready = occ (λ (x : Item). x.number) u ready
 
--- just the active threads run or are ready, each once
-abbrev pub Listed : List Thread → List Item → Option Item → Type 0
-Listed ts ready running = (u : ℕ) → running_is u running + listed_as u ready ≡ active (at ts u).phase
+-- for how many operations the thread of that number waits
+abbrev pub asked_by : ℕ → List Operation → ℕ
+asked_by u operations = occ (λ (o : Operation). o.item.number) u operations
+
+-- just the active threads run, are ready or wait for the end of an operation, each once
+abbrev pub Listed : List Thread → List Operation → List Item → Option Item → Type 0
+Listed ts operations ready running = (u : ℕ) → running_is u running + listed_as u ready + asked_by u operations ≡ active (at ts u).phase
+
+small : (p : Phase) → active p ≤ 1
+small Active = omega arith
+small (AtFinish b) = omega arith
+small Ended = omega arith
+
+-- the running thread waits for none
+pub runs_without : (ts : List Thread) (operations : List Operation) (ready : List Item) (t : Item) → Listed ts operations ready (Some t) → asked_by t.number operations ≡ 0
+runs_without ts operations ready t h =
+    let k = h t.number in
+    let o = one_same t.number in
+    let le = small (at ts t.number).phase in
+    omega (arith, k, o, le)
 
 module _ (ts ts' : List Thread) (t : ℕ) (new : Thread) (change : Changed nobody ts ts' t new) where
-  pub listed_same : (ready : List Item) (running : Option Item) → new.phase ≡ (at ts t).phase → Listed ts ready running → Listed ts' ready running
-  listed_same ready running p h u =
-      elim (found nobody ts ts' t new change u) as (λ _. running_is u running + listed_as u ready ≡ active (at ts' u).phase) [
+  pub listed_same : (operations : List Operation) (ready : List Item) (running : Option Item) → new.phase ≡ (at ts t).phase → Listed ts operations ready running
+      → Listed ts' operations ready running
+  listed_same operations ready running p h u =
+      elim (found nobody ts ts' t new change u) as (λ _. running_is u running + listed_as u ready + asked_by u operations ≡ active (at ts' u).phase) [
         | inl q ↦ h u ∙ ap (λ z. active (at ts z).phase) (sym q.0) ∙ ap active (sym p) ∙ ap (λ (x : Thread). active x.phase) (sym q.1)
         | inr q ↦ h u ∙ ap (λ (x : Thread). active x.phase) (sym q.1)
       ]
 
   -- the running thread runs no more
-  pub listed_gone : (ready : List Item) (running : Item) → running.number ≡ t → active new.phase ≡ 0 → Listed ts ready (Some running) → Listed ts' ready None
-  listed_gone ready running is p h u =
-      elim (found nobody ts ts' t new change u) as (λ _. 0 + listed_as u ready ≡ active (at ts' u).phase) [
+  pub listed_gone : (operations : List Operation) (ready : List Item) (running : Item) → running.number ≡ t → active new.phase ≡ 0 → Listed ts operations ready (Some running)
+      → Listed ts' operations ready None
+  listed_gone operations ready running is p h u =
+      elim (found nobody ts ts' t new change u) as (λ _. 0 + listed_as u ready + asked_by u operations ≡ active (at ts' u).phase) [
         | inl q ↦
             let x = h u in
             let k : one u running.number ≡ 1 = subst (λ z. one u z ≡ 1) (sym (is ∙ q.0)) (one_same u) in
@@ -97,17 +117,12 @@ module _ (ts ts' : List Thread) (t : ℕ) (new : Thread) (change : Changed nobod
             let a = ap (λ (x : Thread). active x.phase) q.1 in
             omega (arith, x, k, a)
       ]
-    where
-      small : (p : Phase) → active p ≤ 1
-      small Active = omega arith
-      small (AtFinish b) = omega arith
-      small Ended = omega arith
 
   -- a thread is born or wakes, and is put in front of a list or runs
-  pub listed_new : (ready ready' : List Item) (was now : Option Item) → active (at ts t).phase ≡ 0 → active new.phase ≡ 1
-      → ((u : ℕ) → running_is u now + listed_as u ready' ≡ one u t + (running_is u was + listed_as u ready)) → Listed ts ready was → Listed ts' ready' now
-  listed_new ready ready' was now p pn more h u =
-      elim (found nobody ts ts' t new change u) as (λ _. running_is u now + listed_as u ready' ≡ active (at ts' u).phase) [
+  pub listed_new : (operations : List Operation) (ready ready' : List Item) (was now : Option Item) → active (at ts t).phase ≡ 0 → active new.phase ≡ 1
+      → ((u : ℕ) → running_is u now + listed_as u ready' ≡ one u t + (running_is u was + listed_as u ready)) → Listed ts operations ready was → Listed ts' operations ready' now
+  listed_new operations ready ready' was now p pn more h u =
+      elim (found nobody ts ts' t new change u) as (λ _. running_is u now + listed_as u ready' + asked_by u operations ≡ active (at ts' u).phase) [
         | inl q ↦
             let x = h u in
             let m = more u in

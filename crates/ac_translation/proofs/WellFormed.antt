@@ -1,9 +1,65 @@
--- Programs that are well formed: each statement stands within what it needs round it.
-use Rattle.std.specs.Prelude.{◌≡◌, ℕ, List, [], ◌∷◌, map, Option, Some, None, Bool, true, false, not, ◌&&◌, slice_get}
+-- Programs that are well formed: each statement stands within what it needs round it, and each operation on a channel has one operand.
+use Rattle.std.proofs.Common.{refl}
+use Rattle.std.specs.Prelude.{◌≡◌, ℕ, List, [], ◌∷◌, length, map, Option, Some, None, Bool, true, false, not, ◌&&◌, nat_eq, slice_get}
+use Rattle.ac_commands.specs.declared.value.Action.{Action}
+use Rattle.ac_commands.specs.declared.value.Action.TheVariants.{Send, Recv}
+use Rattle.ac_commands.specs.declared.value.Value.{Value, roll-Value, map-Value, fold-Value, fold-roll-Value}
+use Rattle.ac_commands.specs.declared.value.ValueLink.{ValueLink, fold-ValueLink, fold-roll-ValueLink}
+use Rattle.ac_commands.specs.declared.value.Value.TheOpen.{Value-F, ValueLink-F}
 use Rattle.ac_commands.specs.declared.command.Command.{Command, fold-Command}
 use Rattle.ac_commands.specs.declared.command.Command.TheOpen.{Command-F}
 use Rattle.ac_commands.specs.declared.program.Function.{Function}
 use Rattle.ac_commands.specs.declared.program.Resolved.{Resolved}
+use Rattle.ac_semantics.specs.Statements.{operands_of}
+
+-- ---- expressions
+
+-- an operation on a channel takes one operand
+abbrev pub takes : Action → ℕ → Bool
+takes (Send channel) count = nat_eq count 1
+takes (Recv channel) count = nat_eq count 1
+takes _ count = true
+
+abbrev pub all_true : List Bool → Bool
+all_true [] = true
+all_true (x ∷ xs) = x && all_true xs
+
+-- each action in an expression has as many operands as it takes
+abbrev pub fits_step : Value-F Bool Bool → Bool
+fits_step (Value-F.Element array index) = index
+fits_step (Value-F.Part array index) = index
+fits_step (Value-F.Unary op operand) = operand
+fits_step (Value-F.Chain first rest) = first && all_true rest
+fits_step (Value-F.Act action operands) = takes action (length operands) && all_true operands
+fits_step _ = true
+
+abbrev pub link_fits_step : ValueLink-F Bool Bool → Bool
+link_fits_step link = link.operand
+
+abbrev pub fits : Value → Bool
+fits = fold-Value Bool Bool fits_step link_fits_step
+
+abbrev pub link_fits : ValueLink → Bool
+link_fits = fold-ValueLink Bool Bool fits_step link_fits_step
+
+abbrev pub all_fit : List Value → Bool
+all_fit xs = all_true (map fits xs)
+
+abbrev pub links_fit : List ValueLink → Bool
+links_fit links = all_true (map link_fits links)
+
+-- they go by the form of an expression, and a right operand fits as an expression does
+pub fits_form : (x : Value-F Value ValueLink) → fits (roll-Value x) ≡ fits_step (map-Value Value ValueLink Bool Bool fits link_fits x)
+fits_form = fold-roll-Value Bool Bool fits_step link_fits_step
+
+pub link_fits_form : (l : ValueLink) → link_fits l ≡ fits l.operand
+link_fits_form l = fold-roll-ValueLink Bool Bool fits_step link_fits_step (record { op = l.op; operand = l.operand })
+
+pub both_true : (a b : Bool) → a && b ≡ true → (a ≡ true) × (b ≡ true)
+both_true true b e = (refl, e)
+both_true false b e = cc
+
+-- ---- statements
 
 -- what is round a statement: a loop that stands in the same body, and a `do` of its function
 pub record Round : Type 0 where
@@ -29,16 +85,19 @@ each_other None round = true
 each_other (Some xs) round = each xs round
 
 -- A statement in what is round it: `break` and `continue` stand in loops, `async` stands in a `do`, and `return` in none.
+abbrev pub placed_step : Command-F (Round → Bool) → Round → Bool
+placed_step (Command-F.If test body other) round = each body round && each_other other round
+placed_step (Command-F.While test body) round = each body (in_loop round)
+placed_step (Command-F.For test next body) round = each body (in_loop round) && each next round
+placed_step Command-F.Break round = round.loop
+placed_step Command-F.Continue round = round.loop
+placed_step (Command-F.Return value) round = not round.block
+placed_step (Command-F.Do slot body) round = each body in_block
+placed_step (Command-F.Async slots body) round = round.block && each body in_block
+placed_step _ round = true
+
 abbrev pub well_formed_step : Command-F (Round → Bool) → Round → Bool
-well_formed_step (Command-F.If test body other) round = each body round && each_other other round
-well_formed_step (Command-F.While test body) round = each body (in_loop round)
-well_formed_step (Command-F.For test next body) round = each body (in_loop round) && each next round
-well_formed_step Command-F.Break round = round.loop
-well_formed_step Command-F.Continue round = round.loop
-well_formed_step (Command-F.Return value) round = not round.block
-well_formed_step (Command-F.Do slot body) round = each body in_block
-well_formed_step (Command-F.Async slots body) round = round.block && each body in_block
-well_formed_step _ round = true
+well_formed_step x round = all_fit (operands_of x) && placed_step x round
 
 abbrev pub is_well_formed : Command → Round → Bool
 is_well_formed = fold-Command (Round → Bool) well_formed_step

@@ -1,6 +1,6 @@
 -- Where the code stands that does what a thread has still to do.
 use Rattle.std.proofs.Common.{◌≡◌, ℕ, zero, suc, ◌+◌, List, [], ◌∷◌, ◌++◌, length, Some, Bool, true, false, refl, sym, ap, ◌∙◌, subst, arith}
-use Rattle.std.specs.Prelude.{slice_get, ◌&&◌, ℤ, pos, negsuc}
+use Rattle.std.specs.Prelude.{slice_get, ℤ, pos, negsuc}
 use Rattle.work_item.specs.declared.ids.FrameId.{FrameId}
 use Rattle.work_item.specs.declared.ids.BlockId.{BlockId}
 use Rattle.work_item.specs.declared.cell.Cell.{Cell}
@@ -17,15 +17,11 @@ use Rattle.stack_code.specs.declared.instr.Instr.TheVariants as i
 use Rattle.stack_code.specs.Machine.{Caller, Flat}
 use Rattle.ac_translation.specs.Pieces.{Exits, Piece, no_code, one, ◌⨾◌, all, loop_exits}
 use Rattle.ac_translation.specs.Translation.{values_code, test_code, at_loop, at_next, command_step, command_code, body_code, last_code, no_exits}
-use Rattle.ac_translation.proofs.WellFormed.{Round, in_loop, well_formed_step, is_well_formed, are_well_formed}
+use Rattle.ac_translation.proofs.WellFormed.{all_fit, both_true, Round, in_loop, placed_step, well_formed_step, is_well_formed, are_well_formed}
 use Rattle.ac_translation.proofs.Sized.{test_sized, command_sized, body_sized}
 use Rattle.ac_translation.proofs.Contexts.{Waits, taken_at}
 use Rattle.ac_translation.proofs.Keeps.{Activation, called, within, Around, flat, SameBirths}
 use Rattle.ac_translation.proofs.Placed.{Placed, first_part, other_part, Jumps, here, jump, jumps_on, loop_at}
-
-pub both_true : (a b : Bool) → a && b ≡ true → (a ≡ true) × (b ≡ true)
-both_true true b e = (refl, e)
-both_true false b e = cc
 
 -- What is round a place in the code of a function: the exits with which it is translated, whether they are those of a loop of the same body,
 -- and whether a `do` is round it.
@@ -65,8 +61,23 @@ tests_of x = map-Command Command (Round → Bool) is_well_formed x
 pub code_by_form : (c : Command) → command_code c ≡ command_step (pieces_of (out-Command c))
 code_by_form c = fold_out-Command Piece command_step c
 
-pub test_by_form : (c : Command) → is_well_formed c ≡ well_formed_step (tests_of (out-Command c))
+test_by_form : (c : Command) → is_well_formed c ≡ well_formed_step (tests_of (out-Command c))
 test_by_form c = fold_out-Command (Round → Bool) well_formed_step c
+
+same_operands : (x : Command-F Command) → operands_of (tests_of x) ≡ operands_of x
+same_operands (Command-F.Set target value) = refl
+same_operands (Command-F.For test next body) = refl
+same_operands (Command-F.If test body other) = refl
+same_operands (Command-F.While test body) = refl
+same_operands x = refl
+
+-- where a command is well formed, its operands are, and it stands within what it needs
+pub parts_by_form : (c : Command) (round : Round) → is_well_formed c round ≡ true
+    → (all_fit (operands_of (out-Command c)) ≡ true) × (placed_step (tests_of (out-Command c)) round ≡ true)
+parts_by_form c round form =
+    let x = out-Command c in
+    let parts = both_true (all_fit (operands_of (tests_of x))) (placed_step (tests_of x) round) (ap (λ (f : Round → Bool). f round) (sym (test_by_form c)) ∙ form) in
+    (subst (λ xs. all_fit xs ≡ true) (same_operands x) parts.0, parts.1)
 
 abbrev pub exits_of : Command → ℕ → Exits
 exits_of c place = exits_in (pieces_of (out-Command c)) place
@@ -322,7 +333,7 @@ module _ (code : List Instr) where
 
     -- the next part of a loop, and then the loop again
     turn_does : (c : Command) (ws : List Work) (outer : Scope) (x : Command-F Command) {place at to : ℕ} → Placed code (command_step (pieces_of x)) outer.exits at to
-        → well_formed_step (tests_of x) (round_of outer) ≡ true →
+        → placed_step (tests_of x) (round_of outer) ≡ true →
         Jumps code place (exits_in (pieces_of x) at).turn → Does outer activation at (Do activation.frame c ∷ ws)
         → Does outer activation place (before activation.frame (next_in x) (Do activation.frame c ∷ ws))
     turn_does c ws outer (Command-F.For test next body) {at = at} h f j d =
@@ -337,7 +348,7 @@ module _ (code : List Instr) where
         → Does d.outer activation place (before activation.frame (next_part c) (Do activation.frame c ∷ ws))
     ahead_does c ws d =
         turn_does c ws d.outer (out-Command c) (subst (λ p. Placed code p d.outer.exits d.at d.to) (code_by_form c) d.stands)
-        (subst (λ t. t (round_of d.outer) ≡ true) (test_by_form c) d.form) d.jumps
+        (parts_by_form c (round_of d.outer) d.form).1 d.jumps
         (record { at = d.at; to = d.to; jumps = here; stands = d.stands; form = d.form; own_is = refl; rest = d.rest })
 
   -- ---- blocks
@@ -355,7 +366,7 @@ module _ (code : List Instr) where
     does_closes scope activation place (Leave ∷ ws) d = ap closes d.nothing ∙ sym d.entered
     does_closes scope activation place (End own ∷ ws) d = ap closes d.nothing ∙ sym d.entered
 
-    sleeps_closes : (activation : Activation) (place : ℕ) (operands : List Cell) (ws : List Work) → Sleeps activation place operands ws → closes ws ≡ activation.entered
+    pub sleeps_closes : (activation : Activation) (place : ℕ) (operands : List Cell) (ws : List Work) → Sleeps activation place operands ws → closes ws ≡ activation.entered
     sleeps_closes activation place operands (Pend own c around ∷ ws) d =
         let tail = taken_at code around place operands (λ to count. TailAt d.scope c to count (λ past. Does d.scope activation past ws)) d.waits in
         does_closes d.scope activation tail.2.to ws tail.2.rest

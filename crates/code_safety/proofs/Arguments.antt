@@ -1,12 +1,12 @@
 -- What the slots of a new frame hold.
-use Rattle.std.proofs.Common.{◌≡◌, ◌⊎◌, ℕ, zero, suc, ◌+◌, ◌-◌, ◌≤◌, ◌<◌, List, [], ◌∷◌, ◌++◌, length, take, length-append, Option, Some, None, Bool, true, false, refl, sym, ap, ◌∙◌, subst, inl, inr}
+use Rattle.std.proofs.Common.{◌≡◌, ◌⊎◌, ℕ, zero, suc, ◌+◌, ◌-◌, ◌≤◌, List, [], ◌∷◌, ◌++◌, length, take, length-append, Some, None, Bool, true, false, refl, sym, ap, ◌∙◌, subst, inl, inr}
 use Rattle.std.proofs.Common.{arith}
 use Rattle.std.specs.Prelude.{map, reverse, replicate, slice_get, unwrap_or, pos}
 use Rattle.std.proofs.lemmas.List.{reverse-append, length-reverse, length-map, length-replicate}
 use Rattle.std.proofs.lemmas.Option.{slice_get_past}
 use Rattle.work_item.specs.declared.cell.Cell.{Cell}
 use Rattle.work_item.specs.declared.cell.Cell.TheVariants as cell
-use Rattle.work_item.specs.Store.{place_in, no_int}
+use Rattle.work_item.specs.Store.{no_int}
 use Rattle.core_state.specs.Frames.{argument, arguments, first_cells}
 use Rattle.stack_code.specs.declared.shape.Kind.TheVariants as kind
 use Rattle.stack_code.specs.declared.shape.Home.{Home}
@@ -14,7 +14,7 @@ use Rattle.stack_code.specs.declared.shape.Want.{Want}
 use Rattle.stack_code.specs.Parts.{Parts}
 use Rattle.stack_code.specs.Shapes as shapes
 use Rattle.stack_code.specs.Shapes.{want_of, params_of, is_array}
-use Rattle.stack_code.specs.Valid.{Uses, AsInt, HasOneUse}
+use Rattle.stack_code.specs.Valid.{AsInt, HasOneUse}
 use Rattle.code_safety.specs.Fit.{Birth, is_int, HasKind, IsSlot, AreSlots}
 use Rattle.code_safety.proofs.Taken.{IsWanted, AreWanted}
 use Rattle.code_safety.proofs.Settings.{no_array, int_slot}

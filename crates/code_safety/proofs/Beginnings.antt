@@ -1,20 +1,19 @@
 -- The first state of valid code is fit, and from a fit state on a core comes to one end and to no other.
-use Rattle.std.proofs.Common.{◌≡◌, ◌⊎◌, ℕ, zero, suc, ◌+◌, ◌≤◌, ◌<◌, ◌^◌, List, [], ◌∷◌, length, Option, Some, None, Result, Ok, Err, Bool, true, false, refl, sym, ap, ◌∙◌, subst, inl, inr, arith}
-use Rattle.std.specs.Prelude.{ℤ, pos, slice_get, slice_index_or, slice_set, replicate, nat_le, if◌then◌else◌}
+use Rattle.std.proofs.Common.{◌≡◌, ℕ, zero, suc, ◌+◌, ◌≤◌, ◌<◌, List, [], ◌∷◌, length, Some, None, Bool, true, false, refl, sym, ap, ◌∙◌, subst, arith}
+use Rattle.std.specs.Prelude.{ℤ, pos, slice_index_or, slice_set, replicate, nat_le}
 use Rattle.std.proofs.lemmas.Bool.Decides.{nat_tests}
 use Rattle.std.proofs.lemmas.List.{length-set, length-replicate}
-use Rattle.std.proofs.lemmas.Option.{slice_get_within, get_or_from_slice_get, slice_get-get_or}
-use Rattle.ac_base.specs.declared.ends.Trap.{Trap}
+use Rattle.std.proofs.lemmas.List.Elements.{All-nil}
+use Rattle.std.proofs.lemmas.Option.{slice_get_within, get_or_from_slice_get}
 use Rattle.ac_base.specs.declared.ends.Trap.TheVariants.{StackFull}
 use Rattle.ac_base.specs.declared.ends.EndWord.TheVariants as word
 use Rattle.ac_base.specs.declared.entry.Entry.{Entry}
 use Rattle.work_item.specs.declared.ids.Item.{Item}
-use Rattle.work_item.specs.declared.ids.FrameId.{FrameId}
-use Rattle.work_item.specs.declared.ids.BlockId.{BlockId}
 use Rattle.work_item.specs.declared.cell.Cell.{Cell}
-use Rattle.work_item.specs.Store.{Store, Frame, frame_at, made, no_int, live_words}
-use Rattle.core_state.specs.Moves.{Move, On, Over, moves, and_then, EndsAs, GoesOn, ComesTo}
-use Rattle.core_state.specs.Frames.{begun, first_store, first_frame, has_words}
+use Rattle.work_item.specs.Store.{Store, Frame, made, no_int}
+use Rattle.cancel_scope.specs.declared.operation.Operation.{Operation}
+use Rattle.core_state.specs.Moves.{Move, On, Over, moves, and_then, EndsAs, ComesTo}
+use Rattle.core_state.specs.Frames.{first_store, first_frame, has_words}
 use Rattle.core_state.specs.Shared.{Shared, first_shared, seen}
 use Rattle.core_state.proofs.Runs.{GoesOn-none}
 use Rattle.stack_code.specs.declared.parts.Entered.{Entered}
@@ -24,10 +23,10 @@ use Rattle.stack_code.specs.Parts.{Parts, Begins}
 use Rattle.stack_code.specs.Shapes.{first, params_of, params_in}
 use Rattle.stack_code.specs.Valid.{IsValid, IsEntry, begins}
 use Rattle.stack_code.specs.Kept.{IsRanked}
-use Rattle.stack_code.specs.Alone.{IsAlone}
-use Rattle.stack_code.specs.Machine.{Flat, FlatEnd, Thread, Block, nobody, exec, told, thread_at, block_at, with_starts, first_globals, first_item, first_core, first_flat, Runs}
-use Rattle.code_safety.specs.Fit.{Birth, Born, AreSlots, IsFrame, IsStore, last, bottom, HasEntered, outside, IsThread, Phase, Gone, Going, AtFinish, Life, no_life, life_at, is_living, is_going}
-use Rattle.code_safety.specs.Fit.{IsBlock, IsAlive, IsFit, one_if, one_at, occurs}
+use Rattle.stack_code.specs.Meant.{IsMeant}
+use Rattle.stack_code.specs.Machine.{Flat, FlatEnd, Thread, nobody, exec, told, with_starts, first_globals, first_item, first_core, first_flat}
+use Rattle.code_safety.specs.Fit.{Birth, IsStore, last, bottom, outside, IsThread, Going, AtFinish, Life, no_life, life_at, is_living, is_going}
+use Rattle.code_safety.specs.Fit.{IsAlive, IsAsked, IsFit, one_if, one_at}
 use Rattle.code_safety.specs.Left.{left}
 use Rattle.code_safety.proofs.Plain.{Onward}
 use Rattle.code_safety.proofs.Arguments.{slots_of_body}
@@ -61,7 +60,7 @@ module _ (code : Parts) (v : IsValid code) (core : ℕ) (function : Entered) (b 
   cells = replicate function.words no_int
 
   abbrev birth : Birth
-  birth = record { home = home.Function b.entry; item = first_item }
+  birth = record { home = home.Function b.entry; slots = function.words; item = first_item }
 
   abbrev births : List Birth
   births = birth ∷ []
@@ -92,7 +91,8 @@ module _ (code : Parts) (v : IsValid code) (core : ℕ) (function : Entered) (b 
     }
 
     is_store : IsStore code births store
-    is_store = made_store code [] bare bare_store None cells birth (slots_of_body code births (home.Function b.entry) function.words v.one_use no_params) (let l = few in omega (arith, l))
+    is_store = made_store code [] bare bare_store None cells birth (slots_of_body code births (home.Function b.entry) function.words v.one_use no_params)
+        (length-replicate function.words no_int) (let l = few in omega (arith, l))
 
     abbrev frame : Frame
     frame = record { parent = None; cells = cells; over = false }
@@ -137,12 +137,13 @@ module _ (code : Parts) (v : IsValid code) (core : ℕ) (function : Entered) (b 
       first = refl;
       free = refl;
       listed = listed;
+      asks = All-nil (λ (o : Operation). IsAsked code births o.asked);
       many = refl;
       current = λ t e. let no : None ≡ Some t = e in absurd (cc);
       parked = λ t l not. parked t.number l;
     }
       where
-        listed : (u : ℕ) → 0 + (one_at u first_item + 0) ≡ one_if (is_going (life_at lives (record { number = u })).phase)
+        listed : (u : ℕ) → 0 + ((one_at u first_item + 0) + 0) ≡ one_if (is_going (life_at lives (record { number = u })).phase)
         listed zero =
             let o : one_at 0 first_item ≡ 1 = refl in
             let g : one_if (is_going (life_at lives (record { number = 0 })).phase) ≡ 1 = refl in
@@ -158,10 +159,10 @@ module _ (code : Parts) (v : IsValid code) (core : ℕ) (function : Entered) (b 
 
 -- ---- the end
 
-module _ (code : Parts) (bound : ℕ) (v : IsValid code) (alone : IsAlone code) (ranks : List ℕ) (ranked : IsRanked code ranks) where
+module _ (code : Parts) (bound : ℕ) (v : IsValid code) (meant : IsMeant code) (ranks : List ℕ) (ranked : IsRanked code ranks) where
   pub ends_from : (n : ℕ) (m : Flat) → IsFit code m → left ranks bound m < n → (e : FlatEnd) × EndsAs (exec code bound) m e
   ends_from zero m fit lt = absurd (omega (arith, lt))
-  ends_from (suc n) m fit lt = go (λ next f l. ends_from n next f l) (exec code bound m) refl (moves_on code bound v alone ranks ranked m fit)
+  ends_from (suc n) m fit lt = go (λ next f l. ends_from n next f l) (exec code bound m) refl (moves_on code bound v meant ranks ranked m fit)
     where
       go : ((next : Flat) → IsFit code next → left ranks bound next < n → (e : FlatEnd) × EndsAs (exec code bound) next e) → (x : Move Flat FlatEnd) → exec code bound m ≡ x
           → Onward (λ next. IsFit code next × (left ranks bound next < left ranks bound m)) x → (e : FlatEnd) × EndsAs (exec code bound) m e
@@ -182,7 +183,7 @@ module _ (code : Parts) (bound : ℕ) (v : IsValid code) (alone : IsAlone code) 
             let r = ends_from (suc (left ranks bound m)) m fit (omega arith) in
             (r.0, (r.1.0, rw room (sym r.1.1)))
         go false room = (
-          told 0 (seen (word.Trapped StackFull) false (first_globals code) (first_shared journal)),
+          told 0 (seen (word.Trapped StackFull) false (first_globals code) [] (first_shared journal)),
           rw room
-              (GoesOn-none (exec code bound) (Over (told 0 (seen (word.Trapped StackFull) false (first_globals code) (first_shared journal))))),
+              (GoesOn-none (exec code bound) (Over (told 0 (seen (word.Trapped StackFull) false (first_globals code) [] (first_shared journal))))),
         )

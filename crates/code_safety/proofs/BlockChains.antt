@@ -35,9 +35,9 @@ use Rattle.code_safety.proofs.LivingThreads.{is_life, not_running, start_same}
 use Rattle.code_safety.proofs.LinkedFrames.{SameFrames, same_frames, cell_frames, linked_same}
 use Rattle.code_safety.proofs.Stacks.{KeepsStart, Finishes, stack_kept, has_stack_kept, stack_entered, stack_finished}
 use Rattle.code_safety.proofs.OwnChains as own_chains
-use Rattle.code_safety.proofs.OwnChains.{KeepsWaiting, own_chained, active_on, blocks_same, extends_same}
+use Rattle.code_safety.proofs.OwnChains.{KeepsWaiting, own_chained, active_on, extends_same}
 use Rattle.code_safety.proofs.StopChains as stop_chains
-use Rattle.code_safety.proofs.StopChains.{Waits, KeepsLiving, stop_chained, stop_active, own_thread}
+use Rattle.code_safety.proofs.StopChains.{Waits, KeepsLiving, stop_chained, stop_active, still_asks, own_thread}
 
 module _ (code : Parts) (bound : ℕ) (m : Flat) (v : IsValid code) (fit : IsFit code m) (chained : AreChained code m) (t : Item) (run : m.running ≡ Some t) where
   abbrev own : IsThread code fit.births m.store m.blocks t (life_at fit.lives t).start m.current
@@ -220,7 +220,7 @@ module _ (code : Parts) (bound : ℕ) (m : Flat) (v : IsValid code) (fit : IsFit
     noted = with_block m.blocks gone (Some waiting)
 
     abbrev stopped : Flat
-    stopped = stop_chains.next code m fit chained t run m.store after m.ready noted (counted m.count)
+    stopped = stop_chains.next code m fit chained t run m.store m.operations after m.ready noted (counted m.count)
 
     waits_there : (u : Item) (c : BlockId) → (u ≡ t → ⊥) → Waits m.blocks u c → Waits noted u c
     waits_there u c ne w = record {
@@ -236,11 +236,13 @@ module _ (code : Parts) (bound : ℕ) (m : Flat) (v : IsValid code) (fit : IsFit
       | inr p ↦ record { block = w.block; here = p.1; owner = w.owner; waits = w.waits }
     ]
 
-    living : KeepsLiving code m fit chained t run m.store after m.ready noted (counted m.count)
+    living : KeepsLiving code m fit chained t run m.store m.operations after m.ready noted (counted m.count)
     living = record {
       ready_back = λ u ne some. as_ready u some;
+      operates_back = λ u ne some. some;
       waits_back = waits_here;
       ready_on = λ u ne some. some;
+      operates_on = λ u ne some. some;
       waits_on = λ u c ne w. inl (waits_there u c ne w);
     }
 
@@ -265,15 +267,17 @@ module _ (code : Parts) (bound : ℕ) (m : Flat) (v : IsValid code) (fit : IsFit
     now_active f has = record {
       item = t;
       thread = after;
-      living = subst (LivesAs stopped t) (own_thread code m fit chained t run m.store after m.ready noted (counted m.count)) (as_waiting t gone waiting noted_there n.owner refl);
+      living = subst (LivesAs stopped t) (own_thread code m fit chained t run m.store m.operations after m.ready noted (counted m.count)) (as_waiting t gone waiting noted_there n.owner refl);
       has = has;
     }
 
     waits_chained : AreChained code stopped
-    waits_chained = stop_chained code m fit chained t run m.store after m.ready noted (counted m.count) living chained.long (chained.many ∙ sym (length-set m.blocks gone.number (Some waiting)))
+    waits_chained = stop_chained code m fit chained t run m.store m.operations after m.ready noted (counted m.count) living chained.long
+        (chained.many ∙ sym (length-set m.blocks gone.number (Some waiting)))
         (linked_same chained.origins m stopped (same_frames chained.origins m.store)
-        (λ f a. stop_active code m fit chained t run m.store after m.ready noted (counted m.count) living f (now_active f) a) chained.frames) (λ l. left_stack (Some waiting) (starts_noted mine.start))
-        waits_own (λ u h l ne. others (Some waiting) u ne (block_bound h.block)) (λ u h l ne. starts_noted (life_at fit.lives u).start)
+        (λ f a. stop_active code m fit chained t run m.store m.operations after m.ready noted (counted m.count) living f (now_active f) a) chained.frames)
+        (λ l. left_stack (Some waiting) (starts_noted mine.start)) (still_asks code m fit chained t run m.store m.operations after m.ready noted (counted m.count)) waits_own
+        (λ u h l ne. others (Some waiting) u ne (block_bound h.block)) (λ u h l ne. starts_noted (life_at fit.lives u).start)
 
     arrived : Onward (AreChained code) (arrives m t m.current.block)
     arrived = subst (λ o. Onward (AreChained code) (arrives m t o)) (sym n.is) (subst (λ o. Onward (AreChained code) (arrives_in m t gone o)) (sym n.here) (go (nat_eq x.count 0) refl))

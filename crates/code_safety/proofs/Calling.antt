@@ -1,7 +1,7 @@
 -- A state stays fit at a call and at a return.
-use Rattle.std.proofs.Common.{◌≡◌, ◌⊎◌, ℕ, zero, suc, ◌+◌, ◌≤◌, ◌<◌, ◌^◌, List, [], ◌∷◌, ◌++◌, length, take, drop, Option, Some, None, Result, Ok, Err, Bool, true, false, refl, sym, ap, ◌∙◌, subst}
+use Rattle.std.proofs.Common.{◌≡◌, ℕ, suc, ◌+◌, ◌≤◌, ◌<◌, ◌^◌, List, [], ◌∷◌, ◌++◌, length, take, drop, Option, Some, None, Result, Ok, Err, Bool, true, false, refl, sym, ap, ◌∙◌, subst}
 use Rattle.std.proofs.Common.{inl, inr, arith}
-use Rattle.std.specs.Prelude.{slice_get, slice_index_or, reverse, map, nat_eq, nat_le, nat_lt, ◌&&◌, if◌then◌else◌}
+use Rattle.std.specs.Prelude.{slice_get, reverse, map, nat_eq, ◌&&◌, if◌then◌else◌}
 use Rattle.std.proofs.lemmas.Bool.{and_parts}
 use Rattle.std.proofs.lemmas.Bool.Decides.{nat_tests}
 use Rattle.std.proofs.lemmas.List.{length-reverse, length-map}
@@ -10,13 +10,11 @@ use Rattle.ac_base.specs.declared.ends.Trap.{Trap}
 use Rattle.ac_base.specs.declared.ends.Trap.TheVariants.{StackFull}
 use Rattle.work_item.specs.declared.ids.FrameId.{FrameId}
 use Rattle.work_item.specs.declared.ids.Item.{Item}
-use Rattle.work_item.specs.declared.ids.BlockId.{BlockId}
 use Rattle.work_item.specs.declared.cell.Cell.{Cell}
 use Rattle.work_item.specs.declared.cell.Cell.TheVariants as cell
 use Rattle.work_item.specs.Store.{Store, Frame, made, released, next_frame, live_words, int_in, frame_at}
-use Rattle.core_state.specs.Moves.{Move, On, Over}
-use Rattle.core_state.specs.Frames.{begun, begun_with, has_words, word_limit, first_cells, arguments}
-use Rattle.stack_code.specs.declared.instr.Instr.{Instr}
+use Rattle.core_state.specs.Moves.{Move, On}
+use Rattle.core_state.specs.Frames.{begun, has_words, first_cells, arguments}
 use Rattle.stack_code.specs.declared.instr.Instr.TheVariants as i
 use Rattle.stack_code.specs.declared.parts.Entered.{Entered}
 use Rattle.stack_code.specs.declared.shape.Kind.{Kind}
@@ -25,17 +23,16 @@ use Rattle.stack_code.specs.declared.shape.Home.TheVariants as home
 use Rattle.stack_code.specs.declared.shape.Shape.{Shape}
 use Rattle.stack_code.specs.declared.shape.OpenBlock.{OpenBlock}
 use Rattle.stack_code.specs.declared.shape.Leads.{Leads}
-use Rattle.stack_code.specs.declared.shape.Leads.TheVariants.{Stop, One, Two}
+use Rattle.stack_code.specs.declared.shape.Leads.TheVariants.{Stop, Two}
 use Rattle.stack_code.specs.Parts.{Parts}
 use Rattle.stack_code.specs.Shapes as shapes
 use Rattle.stack_code.specs.Shapes.{pushed, after, with_operands, first, want_of, is_int_alone, can_return, effect, params_in, LeadsTo}
 use Rattle.stack_code.specs.Valid as valid
 use Rattle.stack_code.specs.Valid.{IsValid, HasRoom, Goes}
-use Rattle.stack_code.specs.Machine as flat
-use Rattle.stack_code.specs.Machine.{Flat, FlatEnd, Caller, Thread, begin, counted, on_top, on_many, or_trap, calls, returns}
-use Rattle.code_safety.specs.Fit.{Birth, Born, HasKind, HaveKinds, AreSlots, AreBodies, last, IsActivation, IsCaller, AreCallers, bottom, above, HasEntered, IsThread, IsFit, own_blocks, own_in}
-use Rattle.code_safety.specs.Fit.{life_at, IsStore}
-use Rattle.code_safety.proofs.Taken.{on_some_is, if_is, after_is, after_leads, Many, many_of, Top, top_of}
+use Rattle.stack_code.specs.Machine.{Flat, FlatEnd, Caller, Thread, begin, counted, calls, returns}
+use Rattle.code_safety.specs.Fit.{Birth, Born, HasKind, HaveKinds, AreSlots, last, IsCaller, AreCallers, bottom, above, HasEntered, IsThread, IsFit, own_blocks, own_in}
+use Rattle.code_safety.specs.Fit.{life_at}
+use Rattle.code_safety.proofs.Taken.{on_some_is, if_is, after_is, many_of}
 use Rattle.code_safety.proofs.Plain.{Onward, top_on, many_on, trap_on}
 use Rattle.code_safety.proofs.Lasting.{Grown, Carries, kinds_grown, all_bodies_carried, goes_carried, activation_carried, callers_carried, callers_as}
 use Rattle.code_safety.proofs.Making.{grown_one, new_born, new_there, there_within, made_store, made_carries, left_carries, left_store}
@@ -82,7 +79,7 @@ module _ (code : Parts) (bound : ℕ) (m : Flat) (fit : IsFit code m) (t : Item)
   module _ (number count : ℕ) (here : slice_get code.instrs place ≡ Some (i.Call number count)) (function : Entered) (is : slice_get code.functions number ≡ Some function) (kinds : List Kind)
       (ways : effect code place (i.Call number count) s ≡ Some (Two (place + 1) (pushed kind.Int (with_operands s kinds)) function.at (first number function))) (args below : List Cell) where
     abbrev birth : Birth
-    birth = record { home = home.Function number; item = t }
+    birth = record { home = home.Function number; slots = function.words; item = t }
 
     abbrev births : List Birth
     births = fit.births ++ birth ∷ []
@@ -130,10 +127,10 @@ module _ (code : Parts) (bound : ℕ) (m : Flat) (fit : IsFit code m) (t : Item)
           length-first_cells (arguments function.params args) function.words (omega (arith, long, r))
 
       abbrev carries : Carries m.store store (λ f. Unit {0})
-      carries = made_carries code fit.births m.store fit.store None cells birth slots short
+      carries = made_carries code fit.births m.store fit.store None cells birth slots slots_long short
 
       born : Born births frame birth
-      born = new_born code fit.births m.store fit.store None cells birth slots short
+      born = new_born code fit.births m.store fit.store None cells birth slots slots_long short
 
       abbrev new : Frame
       new = record { parent = None; cells = cells; over = false }
@@ -177,7 +174,7 @@ module _ (code : Parts) (bound : ℕ) (m : Flat) (fit : IsFit code m) (t : Item)
       }
 
       call_made : IsFit code (record m { store = store; current = called; count = counted m.count })
-      call_made = own_fit code m fit t run births grown store (λ f. Unit {0}) carries (made_store code fit.births m.store fit.store None cells birth slots short) (λ g b born ne. tt)
+      call_made = own_fit code m fit t run births grown store (λ f. Unit {0}) carries (made_store code fit.births m.store fit.store None cells birth slots slots_long short) (λ g b born ne. tt)
           m.shared called (counted m.count) called_thread refl
 
     call_on : (wanted : AreArguments code births function.params args) (have : HaveKinds code births kinds below) → Fits (calls m (Some function) args below)
@@ -206,8 +203,8 @@ module _ (code : Parts) (bound : ℕ) (m : Flat) (fit : IsFit code m) (t : Item)
       let c = if_is (nat_eq count (length function.params)) (after (shapes.arguments function.params) s ways) leads f.1.1 in
       let many : count ≡ length function.params = let b = c.0 in grind (arith, nat_tests) in
       let a = after_is (shapes.arguments function.params) s ways leads c.1 in
-      let births = fit.births ++ record { home = home.Function number; item = t } ∷ [] in
-      let grown = grown_one fit.births (record { home = home.Function number; item = t }) in
+      let births = fit.births ++ record { home = home.Function number; slots = function.words; item = t } ∷ [] in
+      let grown = grown_one fit.births (record { home = home.Function number; slots = function.words; item = t }) in
       let o = many_of code births (shapes.arguments function.params) s.operands a.0 ops a.1.0 (kinds_grown code fit.births births grown s.operands ops h.top.have) in
       let long : length (shapes.arguments function.params) ≡ count = length_wanted function.params ∙ sym many in
       let enough = call_enough number count leads finds in

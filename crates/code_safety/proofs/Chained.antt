@@ -7,8 +7,11 @@ use Rattle.work_item.specs.declared.cell.Cell.{Cell}
 use Rattle.work_item.specs.declared.cell.Cell.TheVariants as cell
 use Rattle.work_item.specs.Store.{Store, Frame, frame_at, above, parent_or, parent_is, no_int, place_in, cleared, cleared_front}
 use Rattle.work_item.specs.Conditions.{Lives}
+use Rattle.cancel_scope.specs.declared.operation.Asked.{Asked}
+use Rattle.cancel_scope.specs.declared.operation.Asked.TheVariants as asked
 use Rattle.core_state.specs.Frames.{argument, arguments}
-use Rattle.code_safety.specs.Chains.{Origin, AtEntry, CalledIn, StartedIn, link_of, parent_of, Came, OnChain, itself, further, LiesIn, directly, deeper, HomeOnChain, Names, AllName}
+use Rattle.code_safety.specs.Chains.{Origin, AtEntry, CalledIn, StartedIn, link_of, parent_of, Came, OnChain, itself, further, LiesIn, directly, deeper}
+use Rattle.code_safety.specs.Chains.{HomeOnChain, Names, AllName, AskedOnChain}
 
 -- ---- one origin more
 
@@ -97,21 +100,25 @@ lies_between origins _ _ h (deeper f p g came rest) second free =
       | inr l ↦ lies_between origins p g h rest (subst (λ z. LiesIn origins z h) same l) free
     ]
 
--- ---- what cells name
+-- ---- what cells name, and what operations ask for
 
 module _ (old new : List Origin) (f h : FrameId) (onto : (g : FrameId) → OnChain old f g → OnChain new h g) where
+  home_onto : (home : Option FrameId) → HomeOnChain old f home → HomeOnChain new h home
+  home_onto None n = tt
+  home_onto (Some g) n = onto g n
+
   pub name_onto : (x : Cell) → Names old f x → Names new h x
   name_onto (cell.Int v) n = tt
   name_onto (cell.Block b) n = tt
-  name_onto (cell.Array place) n = go place.home n
-    where
-      go : (home : Option FrameId) → HomeOnChain old f home → HomeOnChain new h home
-      go None n = tt
-      go (Some g) n = onto g n
+  name_onto (cell.Array place) n = home_onto place.home n
 
   pub names_onto : (xs : List Cell) → AllName old f xs → AllName new h xs
   names_onto [] n = tt
   names_onto (x ∷ xs) n = (name_onto x n.0, names_onto xs n.1)
+
+  pub asked_onto : (a : Asked) → AskedOnChain old f a → AskedOnChain new h a
+  asked_onto (asked.Send value) n = tt
+  asked_onto (asked.Recv place) n = home_onto place.home n
 
 module _ (origins : List Origin) (f : FrameId) where
   pub name_at : (xs : List Cell) (n : ℕ) → AllName origins f xs → Names origins f (slice_index_or xs n no_int)

@@ -1,6 +1,6 @@
 -- A state stays fit where its thread ends, which may wake the owner of its block.
-use Rattle.std.proofs.Common.{◌≡◌, ◌⊎◌, ℕ, zero, suc, ◌+◌, ◌-◌, ◌≤◌, ◌<◌, List, [], ◌∷◌, ◌++◌, length, Option, Some, None, IsSome, Bool, true, false, refl, sym, ap, ◌∙◌, subst, inl, inr, arith}
-use Rattle.std.specs.Prelude.{slice_get, slice_index_or, slice_set, nat_eq, nat_lt, not, ◌&&◌, ◌||◌, if◌then◌else◌}
+use Rattle.std.proofs.Common.{◌≡◌, ◌⊎◌, ℕ, ◌+◌, ◌-◌, ◌≤◌, ◌<◌, List, [], ◌∷◌, length, Option, Some, None, IsSome, Bool, true, false, refl, sym, ap, ◌∙◌, subst, inl, inr, arith}
+use Rattle.std.specs.Prelude.{slice_get, slice_set, nat_eq, nat_lt, not, ◌&&◌, ◌||◌, if◌then◌else◌}
 use Rattle.std.specs.List.{list_any}
 use Rattle.std.proofs.lemmas.Bool.{and_parts, eqb-true, cases_eq}
 use Rattle.std.proofs.lemmas.Bool.Decides.{nat_tests}
@@ -9,7 +9,6 @@ use Rattle.work_item.specs.declared.ids.Item.{Item}
 use Rattle.work_item.specs.declared.ids.FrameId.{FrameId}
 use Rattle.work_item.specs.declared.ids.BlockId.{BlockId}
 use Rattle.work_item.specs.Store.{Store, released}
-use Rattle.core_state.specs.Moves.{Move, On}
 use Rattle.stack_code.specs.declared.instr.Instr.TheVariants as i
 use Rattle.stack_code.specs.declared.shape.OpenBlock.{OpenBlock}
 use Rattle.stack_code.specs.declared.shape.Shape.{Shape}
@@ -17,17 +16,17 @@ use Rattle.stack_code.specs.declared.shape.Leads.{Leads}
 use Rattle.stack_code.specs.declared.shape.Leads.TheVariants.{Stop}
 use Rattle.stack_code.specs.Parts.{Parts}
 use Rattle.stack_code.specs.Shapes.{effect, can_end, has_own}
-use Rattle.stack_code.specs.Machine.{Flat, FlatEnd, Thread, Block, Caller, begin, counted, block_at, with_block, with_store, nobody, stops, dies, dies_in, counted_out}
+use Rattle.stack_code.specs.Machine.{Flat, Thread, Block, Caller, begin, counted, block_at, with_block, with_store, nobody, stops, dies, dies_in, counted_out}
 use Rattle.code_safety.specs.Fit.{Birth, Born, AreCallers, bottom, above, HasEntered, outside, inside, IsThread, Phase, Gone, Going, AtFinish, Life, no_life, life_at, is_living, is_going, is_at}
 use Rattle.code_safety.specs.Fit.{starts_in, total}
-use Rattle.code_safety.specs.Fit.{innermost, innermost_in, IsBlock, IsStarted, IsWaiting, IsAlive, IsFit, IsStore, one_if, one_at, own_blocks, own_in, runs, occurs}
+use Rattle.code_safety.specs.Fit.{innermost, innermost_in, IsBlock, IsAlive, IsFit, one_if, one_at, own_blocks, own_in, occurs, items_of}
 use Rattle.code_safety.proofs.Taken.{if_is}
-use Rattle.code_safety.proofs.Lasting.{KeepsBlocks, IsBefore, Carries, entered_kept, thread_kept}
+use Rattle.code_safety.proofs.Lasting.{IsBefore, thread_kept}
 use Rattle.code_safety.proofs.Plain.{Onward}
 use Rattle.code_safety.proofs.Making.{left_carries, left_store}
-use Rattle.code_safety.proofs.Lives.{one_same, one_other, same_block, same_item, life_cases, life_same, living_within, total_set, total_same, starts_one, starts_none, one_counts}
+use Rattle.code_safety.proofs.Lives.{one_same, one_other, same_item, life_cases, living_within, total_set, total_same, starts_one, starts_none, one_counts}
 use Rattle.code_safety.proofs.Own.{rooted_of, phase_of, lives_of, within_of, thread_of, block_bound, is_bound}
-use Rattle.code_safety.proofs.Turns.{alive_kept, stops_fit, listed_other, running_once}
+use Rattle.code_safety.proofs.Turns.{alive_kept, stops_fit, listed_other, running_rests, resting}
 use Rattle.code_safety.proofs.Removing.{same_or_not, same_or_other, set_aside, set_there, set_is, stays, keeps_others, keeps_before, other_blocks}
 
 none_own : (n : ℕ) (blocks : List OpenBlock) → list_any (λ (block : OpenBlock). nat_eq block.bodies n) blocks ≡ false → own_in n blocks ≡ 0
@@ -130,7 +129,7 @@ module _ (code : Parts) (bound : ℕ) (m : Flat) (fit : IsFit code m) (t : Item)
     not_first : t ≡ zeroth → ⊥
     not_first e = let no : None ≡ Some b = sym fit.free ∙ ap (λ k. (life_at fit.lives k).start) (sym e) ∙ start in cc
 
-    going_left : (u : ℕ) → (t.number ≡ u → ⊥) → occurs u m.ready ≡ one_if (is_going (life_at fit.lives (record { number = u })).phase)
+    going_left : (u : ℕ) → (t.number ≡ u → ⊥) → resting m u ≡ one_if (is_going (life_at fit.lives (record { number = u })).phase)
     going_left u ne =
         let l = listed_other code m fit t run u in
         let z : one_at u t ≡ 0 = one_other u t.number (λ q. ne (sym q)) in
@@ -227,14 +226,14 @@ module _ (code : Parts) (bound : ℕ) (m : Flat) (fit : IsFit code m) (t : Item)
           (fit.alive u (sym (ap (λ (q : Life). is_living q.phase) same) ∙ e)))
 
       ends_fit : IsFit code (stops (with_store m store) t nobody m.ready blocks)
-      ends_fit = stops_fit code m fit t run fit.births left m.shared store (left_store code fit.births m.store gone fit.store) nobody m.ready blocks (counted m.count) alive all_blocks
-          (ap (λ (q : Life). is_living q.phase) (left_other zeroth not_first) ∙ fit.first) (ap (λ (q : Life). q.start) (left_other zeroth not_first) ∙ fit.free) listed
-          (length-set fit.lives t.number no_life) (λ e. absurd (left_lives t e refl)) others
+      ends_fit = stops_fit code m fit t run fit.births left m.shared store (left_store code fit.births m.store gone fit.store) m.operations nobody m.ready blocks (counted m.count) alive all_blocks
+          (ap (λ (q : Life). is_living q.phase) (left_other zeroth not_first) ∙ fit.first) (ap (λ (q : Life). q.start) (left_other zeroth not_first) ∙ fit.free) listed fit.asks
+          (length-set fit.lives t.number no_life) (λ e. absurd (left_lives t e refl)) (λ u h ne. refl) others
         where
-          listed : (u : ℕ) → occurs u m.ready ≡ one_if (is_going (life_at left (record { number = u })).phase)
-          listed u = elim (cases_eq t.number u) as (λ _. occurs u m.ready ≡ one_if (is_going (life_at left (record { number = u })).phase)) [
-            | inl e ↦ subst (λ k. occurs k m.ready ≡ one_if (is_going (life_at left (record { number = k })).phase)) e
-                (running_once code m fit t run ∙ sym (ap (λ (q : Life). one_if (is_going q.phase)) left_own))
+          listed : (u : ℕ) → resting m u ≡ one_if (is_going (life_at left (record { number = u })).phase)
+          listed u = elim (cases_eq t.number u) as (λ _. resting m u ≡ one_if (is_going (life_at left (record { number = u })).phase)) [
+            | inl e ↦ subst (λ k. resting m k ≡ one_if (is_going (life_at left (record { number = k })).phase)) e
+                (running_rests code m fit t run ∙ sym (ap (λ (q : Life). one_if (is_going q.phase)) left_own))
             | inr ne ↦ going_left u ne ∙ sym (ap (λ (q : Life). one_if (is_going q.phase)) (left_other (record { number = u }) (λ q. ne (ap (λ (z : Item). z.number) q))))
           ]
 
@@ -396,28 +395,29 @@ module _ (code : Parts) (bound : ℕ) (m : Flat) (fit : IsFit code m) (t : Item)
       ]
 
       wakes_fit : IsFit code (stops (with_store m store) t nobody (x.owner ∷ m.ready) table)
-      wakes_fit = stops_fit code m fit t run fit.births lives m.shared store (left_store code fit.births m.store gone fit.store) nobody (x.owner ∷ m.ready) table
+      wakes_fit = stops_fit code m fit t run fit.births lives m.shared store (left_store code fit.births m.store gone fit.store) m.operations nobody (x.owner ∷ m.ready) table
           (counted m.count) alive_now table_blocks
-          (first_of (λ (q : Life). is_living q.phase) (sym owner_alive) ∙ fit.first) (first_of (λ (q : Life). q.start) refl ∙ fit.free) listed
+          (first_of (λ (q : Life). is_living q.phase) (sym owner_alive) ∙ fit.first) (first_of (λ (q : Life). q.start) refl ∙ fit.free) listed fit.asks
           (length-set left o.number woken ∙ length-set fit.lives t.number no_life)
-          (λ e. absurd (let no : false ≡ true = sym (ap (λ (q : Life). is_living q.phase) lives_gone) ∙ e in cc)) others
+          (λ e. absurd (let no : false ≡ true = sym (ap (λ (q : Life). is_living q.phase) lives_gone) ∙ e in cc)) (λ u h ne. refl) others
         where
-          listed : (u : ℕ) → one_at u o + occurs u m.ready ≡ one_if (is_going (life_at lives (record { number = u })).phase)
-          listed u = elim (cases_eq t.number u) as (λ _. one_at u o + occurs u m.ready ≡ one_if (is_going (life_at lives (record { number = u })).phase)) [
+          listed : (u : ℕ) → (one_at u o + occurs u m.ready) + occurs u (items_of m.operations) ≡ one_if (is_going (life_at lives (record { number = u })).phase)
+          listed u = elim (cases_eq t.number u) as (λ _. (one_at u o + occurs u m.ready) + occurs u (items_of m.operations) ≡ one_if (is_going (life_at lives (record { number = u })).phase)) [
             | inl e ↦
                 let z : one_at t.number o ≡ 0 = one_other t.number o.number (λ q. differ (same_item t o q)) in
-                let r = running_once code m fit t run in
+                let r = running_rests code m fit t run in
                 let g : one_if (is_going (life_at lives t).phase) ≡ 0 = ap (λ (q : Life). one_if (is_going q.phase)) lives_gone in
-                let all : one_at t.number o + occurs t.number m.ready ≡ one_if (is_going (life_at lives t).phase) = omega (arith, z, r, g) in
-                subst (λ k. one_at k o + occurs k m.ready ≡ one_if (is_going (life_at lives (record { number = k })).phase)) e all
-            | inr ne ↦ elim (cases_eq o.number u) as (λ _. one_at u o + occurs u m.ready ≡ one_if (is_going (life_at lives (record { number = u })).phase)) [
+                let all : (one_at t.number o + occurs t.number m.ready) + occurs t.number (items_of m.operations) ≡ one_if (is_going (life_at lives t).phase) = omega (arith, z, r, g) in
+                subst (λ k. (one_at k o + occurs k m.ready) + occurs k (items_of m.operations) ≡ one_if (is_going (life_at lives (record { number = k })).phase)) e all
+            | inr ne ↦ elim (cases_eq o.number u) as (λ _. (one_at u o + occurs u m.ready) + occurs u (items_of m.operations) ≡ one_if (is_going (life_at lives (record { number = u })).phase)) [
               | inl e ↦
                   let one : one_at o.number o ≡ 1 = one_same o.number in
-                  let was_out : occurs o.number m.ready ≡ one_if (is_going slept.phase) = going_left o.number (λ q. differ (same_item t o q)) in
+                  let was_out : resting m o.number ≡ one_if (is_going slept.phase) = going_left o.number (λ q. differ (same_item t o q)) in
                   let none : one_if (is_going slept.phase) ≡ 0 = ap (λ p. one_if (is_going p)) asleep in
                   let g : one_if (is_going (life_at lives o).phase) ≡ 1 = ap (λ (q : Life). one_if (is_going q.phase)) lives_own in
-                  let all : one_at o.number o + occurs o.number m.ready ≡ one_if (is_going (life_at lives o).phase) = omega (arith, one, was_out, none, g) in
-                  subst (λ k. one_at k o + occurs k m.ready ≡ one_if (is_going (life_at lives (record { number = k })).phase)) e all
+                  let all : (one_at o.number o + occurs o.number m.ready) + occurs o.number (items_of m.operations) ≡ one_if (is_going (life_at lives o).phase) =
+                  omega (arith, one, was_out, none, g) in
+                  subst (λ k. (one_at k o + occurs k m.ready) + occurs k (items_of m.operations) ≡ one_if (is_going (life_at lives (record { number = k })).phase)) e all
               | inr away ↦
                   let z : one_at u o ≡ 0 = one_other u o.number (λ q. away (sym q)) in
                   let g = going_left u ne in

@@ -16,8 +16,8 @@ use Rattle.stack_code.specs.Parts.{Parts}
 use Rattle.stack_code.specs.Shapes.{effect, can_end, has_own}
 use Rattle.stack_code.specs.Valid.{IsValid}
 use Rattle.stack_code.specs.Machine.{Thread, Block, Flat, begin, counted, block_at, with_block, with_store, thread_at, nobody, dies, dies_in, counted_out}
-use Rattle.code_safety.specs.Fit.{IsThread, Life, no_life, life_at, is_living, starts_in, total, one_at, occurs, IsFit}
-use Rattle.code_safety.specs.Living.{LivesAs, as_running, as_ready, as_waiting, IsOfCaller, HasFrame}
+use Rattle.code_safety.specs.Fit.{IsThread, Life, no_life, life_at, is_living, starts_in, total, one_at, occurs, items_of, IsFit}
+use Rattle.code_safety.specs.Living.{LivesAs, as_running, as_ready, as_operating, as_waiting, IsOfCaller, HasFrame}
 use Rattle.code_safety.specs.Chains.{StartedIn, parent_of, IsStartedIn, Starts, HasStack, AreChained}
 use Rattle.code_safety.proofs.Taken.{if_is}
 use Rattle.code_safety.proofs.Lasting.{KeepsBlocks}
@@ -28,11 +28,11 @@ use Rattle.code_safety.proofs.Turns.{running_once}
 use Rattle.code_safety.proofs.Removing.{same_or_not, same_or_other, set_aside, set_there, set_is}
 use Rattle.code_safety.proofs.Dying.{leaving}
 use Rattle.code_safety.proofs.Chained.{lies_next}
-use Rattle.code_safety.proofs.LivingThreads.{is_life, not_running, start_same}
+use Rattle.code_safety.proofs.LivingThreads.{is_life, not_running, operating_once, start_same}
 use Rattle.code_safety.proofs.Releasing.{was, length_left, linked_released}
 use Rattle.code_safety.proofs.Stacks.{KeepsStart, stack_starts}
 use Rattle.code_safety.proofs.StopChains as stop_chains
-use Rattle.code_safety.proofs.StopChains.{Waits, KeepsLiving, stop_chained, stop_active}
+use Rattle.code_safety.proofs.StopChains.{Waits, KeepsLiving, stop_chained, stop_active, still_asks}
 use Rattle.code_safety.proofs.StartChains.{no_callers}
 
 module _ (code : Parts) (bound : ℕ) (m : Flat) (v : IsValid code) (fit : IsFit code m) (chained : AreChained code m) (t : Item) (run : m.running ≡ Some t) where
@@ -69,8 +69,8 @@ module _ (code : Parts) (bound : ℕ) (m : Flat) (v : IsValid code) (fit : IsFit
         let no : None ≡ Some p.0 = sym up ∙ w.parent ∙ i.parent ∙ ap parent_of same in
         cc
 
-    only_top : (f : FrameId) → HasFrame m.current f → f ≡ top
-    only_top f has = elim has as (λ _. f ≡ top) [ inl e ↦ sym e | inr k ↦ absurd (subst (λ cs. IsOfCaller cs f) bare k) ]
+    other_frame : (f : FrameId) → (f.number ≡ top.number → ⊥) → HasFrame m.current f → ⊥
+    other_frame f ne has = elim has as (λ _. ⊥) [ inl e ↦ ne (ap (λ (z : FrameId). z.number) (sym e)) | inr k ↦ subst (λ cs. IsOfCaller cs f) bare k ]
 
     -- ---- blocks; another one is set in its place
 
@@ -84,6 +84,9 @@ module _ (code : Parts) (bound : ℕ) (m : Flat) (v : IsValid code) (fit : IsFit
     theirs : (c : BlockId) (y : Block) → block_at m.blocks c ≡ Some y → (y.owner ≡ x.owner → ⊥) → b ≡ c → ⊥
     theirs c y e ne same = let is : x ≡ y = let both : Some x ≡ Some y = sym here ∙ ap (block_at m.blocks) same ∙ e in cc in ne (ap (λ (z : Block). z.owner) (sym is))
 
+    no_operation : (u : Item) → 0 < occurs u.number (items_of m.operations) → u ≡ t → ⊥
+    no_operation u some q = (operating_once code m fit u some).1.1 (run ∙ ap (λ z. Some z) (sym q))
+
     -- ---- no owner wakes
 
     module _ (still_some : x.count ≡ 1 → x.waits ≡ true → ⊥) where
@@ -94,7 +97,7 @@ module _ (code : Parts) (bound : ℕ) (m : Flat) (v : IsValid code) (fit : IsFit
       blocks = with_block m.blocks b (Some less)
 
       abbrev next : Flat
-      next = stop_chains.next code m fit chained t run store nobody m.ready blocks (counted m.count)
+      next = stop_chains.next code m fit chained t run store m.operations nobody m.ready blocks (counted m.count)
 
       there : (c : BlockId) (y : Block) → block_at m.blocks c ≡ Some y → (z : Block) × ((block_at blocks c ≡ Some z) × ((z.owner ≡ y.owner) × ((z.parent ≡ y.parent) × (z.waits ≡ y.waits))))
       there c y e = elim (same_or_not b c) as (λ _. (z : Block) × ((block_at blocks c ≡ Some z) × ((z.owner ≡ y.owner) × ((z.parent ≡ y.parent) × (z.waits ≡ y.waits))))) [
@@ -117,11 +120,13 @@ module _ (code : Parts) (bound : ℕ) (m : Flat) (v : IsValid code) (fit : IsFit
         | inr p ↦ record { block = w.block; here = p.1; owner = w.owner; waits = w.waits }
       ]
 
-      living : KeepsLiving code m fit chained t run store nobody m.ready blocks (counted m.count)
+      living : KeepsLiving code m fit chained t run store m.operations nobody m.ready blocks (counted m.count)
       living = record {
         ready_back = λ u ne some. as_ready u some;
+        operates_back = λ u ne some. some;
         waits_back = λ u c ne w. back u c w;
         ready_on = λ u ne some. some;
+        operates_on = λ u ne some. some;
         waits_on = λ u c ne w. let z = there c w.block w.here in inl (record { block = z.0; here = z.1.0; owner = z.1.1.0 ∙ w.owner; waits = z.1.1.1.1 ∙ w.waits });
       }
 
@@ -131,17 +136,19 @@ module _ (code : Parts) (bound : ℕ) (m : Flat) (v : IsValid code) (fit : IsFit
       gone : (u : Item) (h : Thread) → LivesAs next u h → u ≡ t → ⊥
       gone _ _ (as_running u e) q = let no : None ≡ Some u = e in cc
       gone _ _ (as_ready u some) q = let k = ap (λ (z : Item). occurs z.number m.ready) q in let r = running_once code m fit t run in omega (arith, some, k, r)
+      gone _ _ (as_operating u some) q = no_operation u some q
       gone _ _ (as_waiting u c y e owner w) q = no_wait c (record { block = y; here = e; owner = owner ∙ q; waits = w })
 
       keeps_start : (z : Option BlockId) → KeepsStart m.blocks blocks z
       keeps_start z c y q e = let k = there c y e in (k.0, (k.1.0, k.1.1.0))
 
       pub ends_chained : AreChained code next
-      ends_chained = stop_chained code m fit chained t run store nobody m.ready blocks (counted m.count) living (chained.long ∙ sym (length_left m.store top))
+      ends_chained = stop_chained code m fit chained t run store m.operations nobody m.ready blocks (counted m.count) living (chained.long ∙ sym (length_left m.store top))
           (chained.many ∙ sym (length-set m.blocks b.number (Some less)))
           (linked_released code m fit chained t run next refl
-          (λ f ne a. stop_active code m fit chained t run store nobody m.ready blocks (counted m.count) living f (λ has. absurd (ne (ap (λ (z : FrameId). z.number) (only_top f has)))) a) has_parent)
-          (λ l. absurd (gone t nobody l refl)) (λ c w. absurd (no_wait c w)) (λ u h l ne c y e owner lt. let z = there c y e in (z.0, (z.1.0, (z.1.1.0, z.1.1.1.0))))
+          (λ f ne a. stop_active code m fit chained t run store m.operations nobody m.ready blocks (counted m.count) living f (λ has. absurd (other_frame f ne has)) a) has_parent)
+          (λ l. absurd (gone t nobody l refl)) (still_asks code m fit chained t run store m.operations nobody m.ready blocks (counted m.count)) (λ c w. absurd (no_wait c w))
+          (λ u h l ne c y e owner lt. let z = there c y e in (z.0, (z.1.0, (z.1.1.0, z.1.1.1.0))))
           (λ u h l ne. keeps_start (life_at fit.lives u).start)
 
     -- ---- the owner wakes
@@ -154,7 +161,7 @@ module _ (code : Parts) (bound : ℕ) (m : Flat) (v : IsValid code) (fit : IsFit
       removed = with_block m.blocks b None
 
       abbrev woken : Flat
-      woken = stop_chains.next code m fit chained t run store nobody ready removed (counted m.count)
+      woken = stop_chains.next code m fit chained t run store m.operations nobody ready removed (counted m.count)
 
       was_there : (c : BlockId) (y : Block) → block_at removed c ≡ Some y → block_at m.blocks c ≡ Some y
       was_there c y e = elim (set_is m.blocks b None x here c y e) as (λ _. block_at m.blocks c ≡ Some y) [ inl p ↦ let no : None ≡ Some y = p.1 in absurd (cc) | inr p ↦ p.1 ]
@@ -168,11 +175,13 @@ module _ (code : Parts) (bound : ℕ) (m : Flat) (v : IsValid code) (fit : IsFit
       owner_ready : (u : Item) → u ≡ x.owner → 0 < occurs u.number ready
       owner_ready u e = let one : one_at u.number x.owner ≡ 1 = ap (λ (z : Item). one_at z.number x.owner) e ∙ one_same x.owner.number in omega (arith, one)
 
-      now_living : KeepsLiving code m fit chained t run store nobody ready removed (counted m.count)
+      now_living : KeepsLiving code m fit chained t run store m.operations nobody ready removed (counted m.count)
       now_living = record {
         ready_back = λ u ne some. elim (is_owner u some) as (λ _. LivesAs m u (thread_at m.threads u)) [ inl e ↦ as_waiting u b x here (sym e) waits | inr k ↦ as_ready u k ];
+        operates_back = λ u ne some. some;
         waits_back = λ u c ne w. record { block = w.block; here = was_there c w.block w.here; owner = w.owner; waits = w.waits };
         ready_on = λ u ne some. omega (arith, some);
+        operates_on = λ u ne some. some;
         waits_on = λ u c ne w. elim (same_or_other u x.owner) as (λ _. (Waits removed u c) ⊎ (0 < occurs u.number ready)) [
           | inl e ↦ inr (owner_ready u e)
           | inr other ↦ inl (record {
@@ -193,6 +202,7 @@ module _ (code : Parts) (bound : ℕ) (m : Flat) (v : IsValid code) (fit : IsFit
         | inl e ↦ owner_other (sym e ∙ q)
         | inr more ↦ let k = ap (λ (z : Item). occurs z.number m.ready) q in let r = running_once code m fit t run in omega (arith, more, k, r)
       ]
+      gone_too _ _ (as_operating u some) q = no_operation u some q
       gone_too _ _ (as_waiting u c y e owner w) q = no_one_waits c (record { block = y; here = e; owner = owner ∙ q; waits = w })
 
       -- it was the last that was started in the block
@@ -218,7 +228,7 @@ module _ (code : Parts) (bound : ℕ) (m : Flat) (v : IsValid code) (fit : IsFit
           let at = (fit.block b x here).waits waits in
           let w = (fit.alive x.owner i.0).waiting b at in
           let is : w.block ≡ x = let both : Some w.block ≡ Some x = sym w.here ∙ here in cc in
-          let round : h.block ≡ x.parent = ap (λ (z : Thread). z.block) (sym i.1) ∙ w.round ∙ ap (λ (z : Block). z.parent) is in
+          let round : h.block ≡ x.parent = sym i.1.block ∙ w.round ∙ ap (λ (z : Block). z.parent) is in
           let less : block_bound x.parent ≤ b.number = bound_below x.parent b.number (λ p e. rooted_of code m fit b x p here e) in
           let n = ap block_bound round in
           let k = ap (λ (z : BlockId). z.number) same in
@@ -237,12 +247,12 @@ module _ (code : Parts) (bound : ℕ) (m : Flat) (v : IsValid code) (fit : IsFit
       )
 
       pub wakes_chained : AreChained code woken
-      wakes_chained = stop_chained code m fit chained t run store nobody ready removed (counted m.count) now_living (chained.long ∙ sym (length_left m.store top))
+      wakes_chained = stop_chained code m fit chained t run store m.operations nobody ready removed (counted m.count) now_living (chained.long ∙ sym (length_left m.store top))
           (chained.many ∙ sym (length-set m.blocks b.number None))
           (linked_released code m fit chained t run woken refl
-          (λ f ne a. stop_active code m fit chained t run store nobody ready removed (counted m.count) now_living f (λ has. absurd (ne (ap (λ (z : FrameId). z.number) (only_top f has)))) a)
-          has_parent)
-          (λ l. absurd (gone_too t nobody l refl)) (λ c w. absurd (no_one_waits c w)) keeps start_kept
+          (λ f ne a. stop_active code m fit chained t run store m.operations nobody ready removed (counted m.count) now_living f (λ has. absurd (other_frame f ne has)) a) has_parent)
+          (λ l. absurd (gone_too t nobody l refl)) (still_asks code m fit chained t run store m.operations nobody ready removed (counted m.count))
+          (λ c w. absurd (no_one_waits c w)) keeps start_kept
 
     dies_there : m.current.block ≡ Some b → AreChained code (dies (with_store m store) t m.current.block)
     dies_there block = subst (λ z. AreChained code (dies (with_store m store) t z)) (sym block)

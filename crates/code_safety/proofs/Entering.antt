@@ -1,13 +1,12 @@
 -- A state stays fit where its thread enters a block.
-use Rattle.std.proofs.Common.{◌≡◌, ◌⊎◌, ℕ, zero, suc, ◌+◌, ◌≤◌, ◌<◌, List, [], ◌∷◌, ◌++◌, length, Option, Some, None, Bool, true, false, refl, sym, ap, ◌∙◌, subst, inl, inr, arith}
-use Rattle.std.specs.Prelude.{slice_get, slice_index_or, slice_set, nat_eq, if◌then◌else◌}
+use Rattle.std.proofs.Common.{◌≡◌, ◌⊎◌, ℕ, ◌+◌, ◌≤◌, ◌<◌, List, [], ◌∷◌, ◌++◌, length, Option, Some, None, true, false, refl, sym, ap, ◌∙◌, subst, inl, inr, arith}
+use Rattle.std.specs.Prelude.{slice_get, slice_set, nat_eq, if◌then◌else◌}
 use Rattle.std.proofs.lemmas.List.{length-set}
 use Rattle.work_item.specs.declared.ids.Item.{Item}
 use Rattle.work_item.specs.declared.ids.FrameId.{FrameId}
 use Rattle.work_item.specs.declared.ids.BlockId.{BlockId}
 use Rattle.work_item.specs.declared.cell.Cell.TheVariants as cell
 use Rattle.work_item.specs.Store.{Store}
-use Rattle.core_state.specs.Moves.{Move, On}
 use Rattle.core_state.specs.Frames.{with_entered}
 use Rattle.stack_code.specs.declared.instr.Instr.TheVariants as i
 use Rattle.stack_code.specs.declared.shape.Home.{Home}
@@ -20,10 +19,10 @@ use Rattle.stack_code.specs.Shapes as shapes
 use Rattle.stack_code.specs.Shapes.{effect, entered, body_with, is_entered}
 use Rattle.stack_code.specs.Valid as valid
 use Rattle.stack_code.specs.Valid.{IsValid, Goes, Uses, AsBlock}
-use Rattle.stack_code.specs.Machine.{Flat, Thread, Block, begin, counted, block_at, thread_at}
-use Rattle.code_safety.specs.Fit.{Birth, Born, IsSlot, AreBodies, last, more, AreInBodies, HasEntered, outside, inside, IsThread, Phase, Gone, Going, AtFinish, Life, no_life, life_at, is_living}
+use Rattle.stack_code.specs.Machine.{Flat, Thread, Block, counted, block_at, thread_at}
+use Rattle.code_safety.specs.Fit.{Birth, Born, IsSlot, AreBodies, last, more, HasEntered, outside, inside, IsThread, Going, AtFinish, Life, no_life, life_at, is_living}
 use Rattle.code_safety.specs.Fit.{is_going, starts_in, total}
-use Rattle.code_safety.specs.Fit.{innermost, innermost_in, IsBlock, IsStarted, IsWaiting, IsAlive, IsFit, one_if, own_blocks, own_in, runs, occurs}
+use Rattle.code_safety.specs.Fit.{innermost, innermost_in, IsBlock, IsAlive, IsFit, one_if, own_blocks, own_in, going_on}
 use Rattle.code_safety.proofs.Taken.{on_some_is, if_not_is}
 use Rattle.code_safety.proofs.Lasting.{KeepsBlocks, entered_kept, thread_kept}
 use Rattle.code_safety.proofs.Settings.{KeepsStore, set_slot, used_as_block}
@@ -242,6 +241,7 @@ module _ (code : Parts) (bound : ℕ) (m : Flat) (fit : IsFit code m) (t : Item)
       listed = λ u. fit.listed u ∙ ap (λ p. one_if (is_going p)) (sym (phase_same (record { number = u })));
       many = length-set fit.lives t.number now ∙ fit.many;
       current = λ u e. own_current u e;
+      asks = fit.asks;
       parked = λ u l not. own_parked u l not;
     }
       where
@@ -251,8 +251,8 @@ module _ (code : Parts) (bound : ℕ) (m : Flat) (fit : IsFit code m) (t : Item)
           | inr p ↦ absurd (let both : Some t ≡ Some u = sym run ∙ e in p.0 (cc))
         ]
 
-        own_parked : (u : Item) → is_living (life_at lives u).phase ≡ true → (m.running ≡ Some u → ⊥) → thread_at m.threads u ≡ (life_at lives u).thread
-        own_parked u l not = elim (life_cases fit.lives t u now within) as (λ _. thread_at m.threads u ≡ (life_at lives u).thread) [
+        own_parked : (u : Item) → is_living (life_at lives u).phase ≡ true → (m.running ≡ Some u → ⊥) → going_on m.operations u (thread_at m.threads u) ≡ (life_at lives u).thread
+        own_parked u l not = elim (life_cases fit.lives t u now within) as (λ _. going_on m.operations u (thread_at m.threads u) ≡ (life_at lives u).thread) [
           | inl p ↦ absurd (not (run ∙ ap (λ x. Some x) p.0))
           | inr p ↦ fit.parked u (sym (ap is_living (phase_same u)) ∙ l) not ∙ sym (ap (λ (x : Life). x.thread) p.1)
         ]

@@ -1,16 +1,17 @@
 -- What a core can still do becomes less with each move of its code.
-use Rattle.std.proofs.Common.{◌≡◌, ◌⊎◌, ℕ, zero, suc, ◌+◌, ◌-◌, ◌*◌, ◌≤◌, ◌<◌, List, [], ◌∷◌, ◌++◌, length, take, drop, Option, Some, None, Result, Bool, true, false, refl, sym, ap, ◌∙◌, subst, inl}
+use Rattle.std.proofs.Common.{◌≡◌, ℕ, ◌+◌, ◌-◌, ◌*◌, ◌<◌, List, [], ◌∷◌, ◌++◌, length, take, drop, Option, Some, None, Bool, true, false, refl, sym, ap, ◌∙◌, subst, inl}
 use Rattle.std.proofs.Common.{inr, arith}
-use Rattle.std.specs.Prelude.{sum, slice_get, slice_index, slice_index_or, slice_set, nat_eq, nat_le, reverse, replicate, ◌&&◌, if◌then◌else◌}
-use Rattle.std.proofs.lemmas.Bool.{cases_eq}
+use Rattle.std.specs.Prelude.{sum, slice_get, slice_index, slice_index_or, slice_set, nat_eq, reverse, replicate, ◌&&◌, if◌then◌else◌}
 use Rattle.std.proofs.lemmas.List.{length-set, get_or-set_same, get_or-set_other, get_or_append_left}
-use Rattle.ac_base.specs.declared.ends.Trap.{Trap}
 use Rattle.work_item.specs.declared.ids.Item.{Item}
 use Rattle.work_item.specs.declared.ids.BlockId.{BlockId}
 use Rattle.work_item.specs.declared.cell.Cell.{Cell}
 use Rattle.work_item.specs.declared.cell.Cell.TheVariants as cell
-use Rattle.work_item.specs.Store.{Store, int_in, no_int, released, next_frame}
-use Rattle.core_state.specs.Moves.{Move, On}
+use Rattle.work_item.specs.Store.{Store, int_in, place_in, no_int, released, next_frame}
+use Rattle.cancel_scope.specs.declared.operation.Asked.{Asked}
+use Rattle.cancel_scope.specs.declared.operation.Asked.TheVariants as asked
+use Rattle.cancel_scope.specs.Outstanding.{started}
+use Rattle.core_state.specs.Moves.{On}
 use Rattle.core_state.specs.Frames.{begun, begun_with}
 use Rattle.core_state.specs.Shared.{Shared}
 use Rattle.stack_code.specs.declared.instr.Instr.{Instr}
@@ -18,62 +19,66 @@ use Rattle.stack_code.specs.declared.instr.Instr.TheVariants as i
 use Rattle.stack_code.specs.declared.parts.Entered.{Entered}
 use Rattle.stack_code.specs.declared.shape.Kind.TheVariants as kind
 use Rattle.stack_code.specs.declared.shape.Shape.{Shape}
+use Rattle.stack_code.specs.declared.shape.Want.{Want}
+use Rattle.stack_code.specs.declared.shape.Want.TheVariants as want
 use Rattle.stack_code.specs.declared.shape.Leads.{Leads}
-use Rattle.stack_code.specs.declared.shape.Leads.TheVariants.{Stop, One, Two}
+use Rattle.stack_code.specs.declared.shape.Leads.TheVariants.{One, Two}
 use Rattle.stack_code.specs.Parts.{Parts}
 use Rattle.stack_code.specs.Shapes as shapes
-use Rattle.stack_code.specs.Shapes.{effect, after, pushed, first, entered, finished, inner, can_start, body_with, is_entered, LeadsTo}
-use Rattle.stack_code.specs.Valid.{IsValid, Goes, Quiet}
+use Rattle.stack_code.specs.Shapes.{effect, after, pushed, with_operands, first, entered, finished, inner, can_start, body_with, is_entered, LeadsTo}
+use Rattle.stack_code.specs.Valid.{IsValid, Goes}
 use Rattle.stack_code.specs.Kept.{IsRanked}
-use Rattle.stack_code.specs.Machine.{Flat, FlatEnd, Thread, Block, Caller, begin, counted, block_at, with_block, with_store, thread_at, nobody, stops, starts, one_more, counted_in}
-use Rattle.stack_code.specs.Machine.{calls, returns, arrives, arrives_in, arrives_at, dies, dies_in, counted_out, on_many}
-use Rattle.code_safety.specs.Fit.{IsThread, Phase, Gone, Going, AtFinish, Life, life_at, is_living, is_going, total, one_if, one_at, occurs, runs, innermost_in, IsFit}
-use Rattle.code_safety.specs.Left.{grown, at_weight, callers_weight, thread_weight, parked_weight, ready_weight, owner_weight, waiting_weight, running_weight, left}
+use Rattle.stack_code.specs.Machine.{Flat, Thread, Block, Caller, at, operates, begin, counted, block_at, with_block, with_store, thread_at, nobody, stops, starts, one_more, counted_in}
+use Rattle.stack_code.specs.Machine.{calls, returns, arrives, arrives_in, arrives_at, dies, dies_in, counted_out}
+use Rattle.code_safety.specs.Fit.{IsThread, Phase, Gone, Going, AtFinish, life_at, is_living, is_going, one_if, occurs, innermost_in, IsFit, items_of}
+use Rattle.code_safety.specs.Left.{grown, at_weight, callers_weight, thread_weight, parked_weight, ready_weight, operation_weight, operations_weight, owner_weight, waiting_weight}
+use Rattle.code_safety.specs.Left.{running_weight, left}
 use Rattle.code_safety.proofs.Taken.{on_some_is, if_is, if_not_is, after_is}
 use Rattle.code_safety.proofs.Plain.{Onward, Next, Spends, one, none, trap_on, top_on, many_on}
-use Rattle.code_safety.proofs.Lives.{one_same, one_other, one_is, one_true, one_at_most, same_item, living_within, total_set, total_append}
+use Rattle.code_safety.proofs.Lives.{same_item, living_within, total_set, total_append}
 use Rattle.code_safety.proofs.Making.{there_within}
-use Rattle.code_safety.proofs.Own.{phase_of, lives_of, within_of, thread_of}
+use Rattle.code_safety.proofs.Own.{phase_of, within_of, thread_of}
 use Rattle.code_safety.proofs.Calling.{call_enough, return_top}
 use Rattle.code_safety.proofs.Finishing.{arrival}
+use Rattle.code_safety.proofs.Operating.{Operates, operating}
 use Rattle.code_safety.proofs.Starting.{starting}
 use Rattle.code_safety.proofs.Dying.{leaving}
-use Rattle.code_safety.proofs.Turns.{running_once}
-use Rattle.code_safety.proofs.Weights.{grown_some, grown_one, grown_two, weight_within, step_falls, ready_same, waiting_same, ready_append}
+use Rattle.code_safety.proofs.Turns.{resting, running_once, running_free, front_goes, front_once}
+use Rattle.code_safety.proofs.Weights.{one_or_two, grown_some, grown_one, grown_two, weight_within, step_falls, ready_same, operations_same, waiting_same, ready_append}
 
 module _ (code : Parts) (bound : ℕ) (m : Flat) (fit : IsFit code m) (v : IsValid code) (ranks : List ℕ) (ranked : IsRanked code ranks) where
   abbrev Less : Flat → Type 0
   Less n = left ranks bound n < left ranks bound m
 
+  abbrev resting_weight : Flat → ℕ
+  resting_weight n = ready_weight ranks n.threads n.ready + (operations_weight ranks n.threads n.operations + waiting_weight ranks n.threads n.blocks)
+
   -- ---- a dispatch
 
   module _ (idle : m.running ≡ None) (t : Item) (ready : List Item) (first : m.ready ≡ t ∷ ready) where
-    listed : one_at t.number t + occurs t.number ready ≡ one_if (is_going (life_at fit.lives t).phase)
-    listed =
-        let l : 0 + (one_at t.number t + occurs t.number ready) ≡ one_if (is_going (life_at fit.lives t).phase) =
-        ap (λ o. runs t.number o + occurs t.number (t ∷ ready)) (sym idle) ∙ ap (λ r. runs t.number m.running + occurs t.number r) (sym first) ∙ fit.listed t.number in
-        omega (arith, l)
-
-    once : occurs t.number ready ≡ 0
-    once = let l = listed in let one = one_same t.number in let most = one_at_most (is_going (life_at fit.lives t).phase) in omega (arith, l, one, most)
-
-    going : is_going (life_at fit.lives t).phase ≡ true
-    going = let l = listed in let one = one_same t.number in let most = one_at_most (is_going (life_at fit.lives t).phase) in
-        one_true (is_going (life_at fit.lives t).phase) (omega (arith, l, one, most))
-
-    aside : (u : Item) → (u.number ≡ t.number → ⊥) → thread_at (slice_set m.threads t.number nobody) u ≡ thread_at m.threads u
-    aside u ne = get_or-set_other m.threads t.number u.number nobody nobody ne
+    aside : (u : Item) → (u.number ≡ t.number → ⊥) → thread_weight ranks (thread_at (slice_set m.threads t.number nobody) u) ≡ thread_weight ranks (thread_at m.threads u)
+    aside u ne = ap (thread_weight ranks) (get_or-set_other m.threads t.number u.number nobody nobody ne)
 
     ready_stays : ready_weight ranks (slice_set m.threads t.number nobody) ready ≡ ready_weight ranks m.threads ready
     ready_stays = ready_same ranks m.threads (slice_set m.threads t.number nobody) ready
-        (λ u some. aside u (λ e. let o : occurs u.number ready ≡ occurs t.number ready = ap (λ n. occurs n ready) e in let z = once in omega (arith, some, o, z)))
+        (λ u some. aside u (λ e.
+        let o : occurs u.number ready ≡ occurs t.number ready = ap (λ n. occurs n ready) e in
+        let z = (front_once code m fit idle t ready first).0 in
+        omega (arith, some, o, z)))
+
+    operations_stay : operations_weight ranks (slice_set m.threads t.number nobody) m.operations ≡ operations_weight ranks m.threads m.operations
+    operations_stay = operations_same ranks m.threads (slice_set m.threads t.number nobody) m.operations
+        (λ u some. aside u (λ e.
+        let o : occurs u.number (items_of m.operations) ≡ occurs t.number (items_of m.operations) = ap (λ n. occurs n (items_of m.operations)) e in
+        let z = (front_once code m fit idle t ready first).1 in
+        omega (arith, some, o, z)))
 
     waiting_stays : waiting_weight ranks (slice_set m.threads t.number nobody) m.blocks ≡ waiting_weight ranks m.threads m.blocks
     waiting_stays = waiting_same ranks m.threads (slice_set m.threads t.number nobody) m.blocks
         (λ n x e w. aside x.owner (λ same.
         let there = (fit.block (record { number = n }) x e).waits w in
         let mine : (life_at fit.lives t).phase ≡ AtFinish (record { number = n }) = ap (λ (u : Item). (life_at fit.lives u).phase) (same_item t x.owner (sym same)) ∙ there in
-        let no : false ≡ true = sym (ap is_going mine) ∙ going in cc))
+        let no : false ≡ true = sym (ap is_going mine) ∙ front_goes code m fit idle t ready first in cc))
 
     pub dispatch_falls : (shared : Shared) → shared.steps ≡ m.shared.steps
         → Less (record m { shared = shared; running = Some t; current = thread_at m.threads t; ready = ready; threads = slice_set m.threads t.number nobody })
@@ -82,8 +87,9 @@ module _ (code : Parts) (bound : ℕ) (m : Flat) (fit : IsFit code m) (v : IsVal
         let q : ready_weight ranks m.threads m.ready ≡ (1 + thread_weight ranks (thread_at m.threads t)) + ready_weight ranks m.threads ready = ap (ready_weight ranks m.threads) first in
         let s : (bound - shared.steps) * grown (sum ranks) ≡ (bound - m.shared.steps) * grown (sum ranks) = ap (λ k. (bound - k) * grown (sum ranks)) steps in
         let a = ready_stays in
+        let o = operations_stay in
         let w = waiting_stays in
-        omega (arith, r, q, s, a, w)
+        omega (arith, r, q, s, a, o, w)
 
   module _ (t : Item) (run : m.running ≡ Some t) where
     abbrev h : IsThread code fit.births m.store m.blocks t (life_at fit.lives t).start m.current
@@ -108,7 +114,7 @@ module _ (code : Parts) (bound : ℕ) (m : Flat) (fit : IsFit code m) (v : IsVal
           no_step = λ e. other (let both : Some instr ≡ Some i.Step = sym here ∙ e in cc);
         })
 
-    one_falls : (instr : Instr) → slice_get code.instrs place ≡ Some instr → (instr ≡ i.Step → ⊥) → (to : ℕ) (u : Shape) → Goes code place s to u → 1 + at_weight ranks to < at_weight ranks place
+    one_falls : (instr : Instr) → slice_get code.instrs place ≡ Some instr → (instr ≡ i.Step → ⊥) → (to : ℕ) (u : Shape) → Goes code place s to u → 3 + at_weight ranks to < at_weight ranks place
     one_falls instr here other to u goes = grown_one (slice_index ranks to) (slice_index ranks place) (rank_falls instr here other to u goes)
 
     -- ---- in the same activation
@@ -122,29 +128,29 @@ module _ (code : Parts) (bound : ℕ) (m : Flat) (fit : IsFit code m) (v : IsVal
             let c : next.current.callers ≡ m.current.callers = ap (λ (f : Flat). f.current.callers) n.others in
             ap (running_weight ranks next.current) r ∙ ap (λ cs. at_weight ranks next.current.place + callers_weight ranks cs) c
 
-        ready_next : ready_weight ranks next.threads next.ready + waiting_weight ranks next.threads next.blocks ≡ ready_weight ranks m.threads m.ready + waiting_weight ranks m.threads m.blocks
-        ready_next = ap (λ (f : Flat). ready_weight ranks f.threads f.ready + waiting_weight ranks f.threads f.blocks) n.others
+        resting_next : resting_weight next ≡ resting_weight m
+        resting_next = ap resting_weight n.others
 
         go : Spends bound instr m.shared.steps next.shared.steps → Less next
         go (one is lt e) =
             let f = step_falls bound m.shared.steps (grown (sum ranks)) (at_weight ranks next.current.place) (at_weight ranks place)
-            (callers_weight ranks m.current.callers + (ready_weight ranks m.threads m.ready + waiting_weight ranks m.threads m.blocks)) lt
+            (callers_weight ranks m.current.callers + resting_weight m) lt
             (weight_within ranks next.current.place) (grown_some (slice_index ranks place)) in
             let a = run_next in
-            let b = ready_next in
+            let b = resting_next in
             let c = runs_now in
             let k : (bound - next.shared.steps) * grown (sum ranks) ≡ (bound - (m.shared.steps + 1)) * grown (sum ranks) = ap (λ q. (bound - q) * grown (sum ranks)) e in
             omega (arith, f, a, b, c, k)
         go (none other e) =
             let f = one_falls instr here other next.current.place n.shape n.goes in
             let a = run_next in
-            let b = ready_next in
+            let b = resting_next in
             let c = runs_now in
             let k : (bound - next.shared.steps) * grown (sum ranks) ≡ (bound - m.shared.steps) * grown (sum ranks) = ap (λ q. (bound - q) * grown (sum ranks)) e in
             omega (arith, f, a, b, c, k)
 
     -- the running thread alone has changed
-    own_falls : (next : Flat) (w : ℕ) → left ranks bound next ≡ (bound - m.shared.steps) * grown (sum ranks) + (w + (ready_weight ranks m.threads m.ready + waiting_weight ranks m.threads m.blocks))
+    own_falls : (next : Flat) (w : ℕ) → left ranks bound next ≡ (bound - m.shared.steps) * grown (sum ranks) + (w + resting_weight m)
         → w < at_weight ranks place + callers_weight ranks m.current.callers → Less next
     own_falls next w e lt = let c = runs_now in omega (arith, e, lt, c)
 
@@ -237,6 +243,12 @@ module _ (code : Parts) (bound : ℕ) (m : Flat) (fit : IsFit code m) (v : IsVal
     ready_other u lt e = let k = running_once code m fit t run in let n : occurs u.number m.ready ≡ occurs t.number m.ready = ap (λ (z : Item). occurs z.number m.ready) (sym e) in
         omega (arith, lt, k, n)
 
+    operating_other : (u : Item) → 0 < occurs u.number (items_of m.operations) → t ≡ u → ⊥
+    operating_other u lt e =
+        let k = running_free code m fit t run in
+        let n : occurs u.number (items_of m.operations) ≡ occurs t.number (items_of m.operations) = ap (λ (z : Item). occurs z.number (items_of m.operations)) (sym e) in
+        omega (arith, lt, k, n)
+
     waiting_other : (n : ℕ) (x : Block) → slice_index_or m.blocks n None ≡ Some x → x.waits ≡ true → t ≡ x.owner → ⊥
     waiting_other n x e w same =
         let phase = (fit.block (record { number = n }) x e).waits w in
@@ -244,10 +256,13 @@ module _ (code : Parts) (bound : ℕ) (m : Flat) (fit : IsFit code m) (v : IsVal
         cc
 
     ready_kept : (kept : Thread) → ready_weight ranks (slice_set m.threads t.number kept) m.ready ≡ ready_weight ranks m.threads m.ready
-    ready_kept kept = ready_same ranks m.threads (slice_set m.threads t.number kept) m.ready (λ u lt. other_thread kept u (ready_other u lt))
+    ready_kept kept = ready_same ranks m.threads (slice_set m.threads t.number kept) m.ready (λ u lt. ap (thread_weight ranks) (other_thread kept u (ready_other u lt)))
+
+    operations_kept : (kept : Thread) → operations_weight ranks (slice_set m.threads t.number kept) m.operations ≡ operations_weight ranks m.threads m.operations
+    operations_kept kept = operations_same ranks m.threads (slice_set m.threads t.number kept) m.operations (λ u lt. ap (thread_weight ranks) (other_thread kept u (operating_other u lt)))
 
     waiting_kept : (kept : Thread) → waiting_weight ranks (slice_set m.threads t.number kept) m.blocks ≡ waiting_weight ranks m.threads m.blocks
-    waiting_kept kept = waiting_same ranks m.threads (slice_set m.threads t.number kept) m.blocks (λ n x e w. other_thread kept x.owner (waiting_other n x e w))
+    waiting_kept kept = waiting_same ranks m.threads (slice_set m.threads t.number kept) m.blocks (λ n x e w. ap (thread_weight ranks) (other_thread kept x.owner (waiting_other n x e w)))
 
     pub yield_falls : slice_get code.instrs place ≡ Some i.Yield → Onward Less (begin code bound m t (Some i.Yield))
     yield_falls here =
@@ -258,9 +273,41 @@ module _ (code : Parts) (bound : ℕ) (m : Flat) (fit : IsFit code m) (v : IsVal
         let own : parked_weight ranks (slice_set m.threads t.number kept) t ≡ 1 + (at_weight ranks (place + 1) + callers_weight ranks m.current.callers) =
         ap (λ h. 1 + thread_weight ranks h) (own_thread kept) in
         let r = ready_kept kept in
+        let q = operations_kept kept in
         let w = waiting_kept kept in
         let c = runs_now in
-        omega (arith, lt, a, own, r, w, c)
+        omega (arith, lt, a, own, r, q, w, c)
+
+    -- ---- an operation starts
+
+    operates_falls : (w : Want) (instr : Instr) → slice_get code.instrs place ≡ Some instr → (instr ≡ i.Step → ⊥) → (z : Operates code bound m fit t run w instr) → (link : ℕ) (a : Asked)
+        → Less (operates m t link a z.below)
+    operates_falls w instr here other z link a =
+        let lt = one_falls instr here other (place + 1) (pushed kind.Int (with_operands s z.kinds)) z.goes in
+        let kept = at m.current (place + 1) z.below in
+        let new = started link a t in
+        let threads = slice_set m.threads t.number kept in
+        let all : operations_weight ranks threads (m.operations ++ new ∷ []) ≡ operations_weight ranks threads m.operations + (operation_weight ranks threads new + 0) =
+        total_append (operation_weight ranks threads) m.operations (new ∷ []) in
+        let most = (one_or_two new).1 in
+        let own : parked_weight ranks threads t ≡ 1 + (at_weight ranks (place + 1) + callers_weight ranks m.current.callers) = ap (λ h. 1 + thread_weight ranks h) (own_thread kept) in
+        let r = ready_kept kept in
+        let q = operations_kept kept in
+        let w = waiting_kept kept in
+        let c = runs_now in
+        omega (arith, lt, all, most, own, r, q, w, c)
+
+    pub send_falls : (channel : ℕ) (leads : Leads) → slice_get code.instrs place ≡ Some (i.Send channel) → effect code place (i.Send channel) s ≡ Some leads
+        → Onward Less (begin code bound m t (Some (i.Send channel)))
+    send_falls channel leads here finds =
+        let z = operating code bound m fit t run want.Int (i.Send channel) channel leads here refl finds in
+        top_on Less m _ m.current.operands z.top z.below z.is (operates_falls want.Int (i.Send channel) here (λ e. cc) z channel (asked.Send (int_in z.top)))
+
+    pub receive_falls : (channel : ℕ) (leads : Leads) → slice_get code.instrs place ≡ Some (i.Recv channel) → effect code place (i.Recv channel) s ≡ Some leads
+        → Onward Less (begin code bound m t (Some (i.Recv channel)))
+    receive_falls channel leads here finds =
+        let z = operating code bound m fit t run want.One (i.Recv channel) channel leads here refl finds in
+        top_on Less m _ m.current.operands z.top z.below z.is (operates_falls want.One (i.Recv channel) here (λ e. cc) z channel (asked.Recv (place_in z.top)))
 
     -- ---- an arrival
 
@@ -273,7 +320,7 @@ module _ (code : Parts) (bound : ℕ) (m : Flat) (fit : IsFit code m) (v : IsVal
         let n = a.innermost in
         subst (λ o. Onward Less (arrives m t o)) (sym n.is) (subst (λ o. Onward Less (arrives_in m t n.b o)) (sym n.here) (go n.b n.x n.here n.owner lt (nat_eq n.x.count 0)))
       where
-        go : (b : BlockId) (x : Block) → block_at m.blocks b ≡ Some x → x.owner ≡ t → 1 + at_weight ranks (place + 1) < at_weight ranks place → (z : Bool) → Onward Less (arrives_at z m t b x)
+        go : (b : BlockId) (x : Block) → block_at m.blocks b ≡ Some x → x.owner ≡ t → 3 + at_weight ranks (place + 1) < at_weight ranks place → (z : Bool) → Onward Less (arrives_at z m t b x)
         go b x at owner lt true =
             let set = total_set (owner_weight ranks m.threads) m.blocks b.number None None (there_within m.blocks b.number x at) in
             let w : waiting_weight ranks m.threads (with_block m.blocks b None) + owner_weight ranks m.threads (block_at m.blocks b) ≡ waiting_weight ranks m.threads m.blocks + 0 = set in
@@ -290,9 +337,10 @@ module _ (code : Parts) (bound : ℕ) (m : Flat) (fit : IsFit code m) (v : IsVal
             let own : parked_weight ranks threads x.owner ≡ 1 + (at_weight ranks (place + 1) + callers_weight ranks m.current.callers) =
             ap (parked_weight ranks threads) owner ∙ ap (λ h. 1 + thread_weight ranks h) (own_thread kept) in
             let r = ready_kept kept in
+            let q = operations_kept kept in
             let w = waiting_kept kept in
             let c = runs_now in
-            omega (arith, lt, set, own, r, w, c)
+            omega (arith, lt, set, own, r, q, w, c)
 
     -- ---- a thread is started
 
@@ -319,9 +367,11 @@ module _ (code : Parts) (bound : ℕ) (m : Flat) (fit : IsFit code m) (v : IsVal
             let still = (λ (u : Item) (lt : u.number < length m.threads). let e : thread_at threads u ≡ thread_at front u = get_or_append_left front (nobody ∷ []) nobody u.number
             (omega (arith, lt, long)) in e) in
             let r : ready_weight ranks threads m.ready ≡ ready_weight ranks m.threads m.ready =
-            ready_same ranks m.threads threads m.ready (λ u lt. still u (ready_within u lt) ∙ other_thread creator u (ready_other u lt)) in
+            ready_same ranks m.threads threads m.ready (λ u lt. ap (thread_weight ranks) (still u (ready_within u lt) ∙ other_thread creator u (ready_other u lt))) in
+            let q : operations_weight ranks threads m.operations ≡ operations_weight ranks m.threads m.operations =
+            operations_same ranks m.threads threads m.operations (λ u lt. ap (thread_weight ranks) (still u (operating_within u lt) ∙ other_thread creator u (operating_other u lt))) in
             let w : waiting_weight ranks threads m.blocks ≡ waiting_weight ranks m.threads m.blocks =
-            waiting_same ranks m.threads threads m.blocks (λ n y e k. still y.owner (owner_within n y e) ∙ other_thread creator y.owner (waiting_other n y e k)) in
+            waiting_same ranks m.threads threads m.blocks (λ n y e k. ap (thread_weight ranks) (still y.owner (owner_within n y e) ∙ other_thread creator y.owner (waiting_other n y e k))) in
             let t_within : t.number < length m.threads = let lt = within_of code m fit t run in let k = fit.many in omega (arith, lt, k) in
             let own : parked_weight ranks threads t ≡ 1 + (at_weight ranks to + callers_weight ranks m.current.callers) = ap (λ h. 1 + thread_weight ranks h) (still t t_within ∙ own_thread creator) in
             let more : counted_in m.blocks m.current.block ≡ with_block m.blocks b (Some (record x { count = x.count + 1 })) = ap (counted_in m.blocks) is
@@ -333,10 +383,10 @@ module _ (code : Parts) (bound : ℕ) (m : Flat) (fit : IsFit code m) (v : IsVal
             let all : waiting_weight ranks threads (counted_in m.blocks m.current.block) ≡ waiting_weight ranks threads (with_block m.blocks b (Some (record x { count = x.count + 1 }))) =
             ap (waiting_weight ranks threads) more in
             let c = runs_now in
-            omega (arith, r, w, own, set, same, all, c, both)
+            omega (arith, r, q, w, own, set, same, all, c, both)
           where
-            ready_within : (u : Item) → 0 < occurs u.number m.ready → u.number < length m.threads
-            ready_within u lt =
+            rests_within : (u : Item) → 0 < resting m u.number → u.number < length m.threads
+            rests_within u lt =
                 let l = fit.listed u.number in
                 let living = some_going (life_at fit.lives u).phase (omega (arith, l, lt)) in
                 let k = living_within fit.lives u living in
@@ -347,6 +397,12 @@ module _ (code : Parts) (bound : ℕ) (m : Flat) (fit : IsFit code m) (v : IsVal
                 some_going Gone e = absurd (omega (arith, e))
                 some_going Going e = refl
                 some_going (AtFinish c) e = refl
+
+            ready_within : (u : Item) → 0 < occurs u.number m.ready → u.number < length m.threads
+            ready_within u lt = rests_within u (omega (arith, lt))
+
+            operating_within : (u : Item) → 0 < occurs u.number (items_of m.operations) → u.number < length m.threads
+            operating_within u lt = rests_within u (omega (arith, lt))
 
             owner_within : (n : ℕ) (y : Block) → slice_index_or m.blocks n None ≡ Some y → y.owner.number < length m.threads
             owner_within n y e =
@@ -380,10 +436,11 @@ module _ (code : Parts) (bound : ℕ) (m : Flat) (fit : IsFit code m) (v : IsVal
                 total_set (owner_weight ranks threads) m.blocks b.number (Some (record x { count = x.count - 1 })) None (there_within m.blocks b.number x at) in
                 let same : owner_weight ranks threads (block_at m.blocks b) ≡ owner_weight ranks threads (Some x) = ap (owner_weight ranks threads) at in
                 let r = ready_kept nobody in
+                let q = operations_kept nobody in
                 let w = waiting_kept nobody in
                 let c = runs_now in
                 let some = grown_some (slice_index ranks place) in
-                omega (arith, set, same, r, w, c, some)
+                omega (arith, set, same, r, q, w, c, some)
 
             wakes : x.waits ≡ true → Less (stops (with_store m (released m.store m.current.frame)) t nobody (x.owner ∷ m.ready) (with_block m.blocks b None))
             wakes k =
@@ -393,10 +450,11 @@ module _ (code : Parts) (bound : ℕ) (m : Flat) (fit : IsFit code m) (v : IsVal
                 let same : owner_weight ranks threads (block_at m.blocks b) ≡ parked_weight ranks threads x.owner = ap (owner_weight ranks threads) at
                 ∙ ap (λ z. if z then parked_weight ranks threads x.owner else 0) k in
                 let r = ready_kept nobody in
+                let q = operations_kept nobody in
                 let w = waiting_kept nobody in
                 let c = runs_now in
                 let some = grown_some (slice_index ranks place) in
-                omega (arith, set, same, r, w, c, some)
+                omega (arith, set, same, r, q, w, c, some)
 
             by : (p q : Bool) → x.waits ≡ q → Less (counted_out (p && q) (with_store m (released m.store m.current.frame)) t b x)
             by true true k = wakes k

@@ -1,12 +1,11 @@
 -- A state stays fit where its thread arrives at the finish of its innermost block.
-use Rattle.std.proofs.Common.{◌≡◌, ◌⊎◌, ℕ, zero, suc, ◌+◌, ◌≤◌, ◌<◌, List, [], ◌∷◌, ◌++◌, length, Option, Some, None, Bool, true, false, refl, sym, ap, ◌∙◌, subst, inl, inr, arith}
-use Rattle.std.specs.Prelude.{slice_get, slice_index_or, slice_set, nat_eq, ◌&&◌, if◌then◌else◌}
+use Rattle.std.proofs.Common.{◌≡◌, ◌⊎◌, ℕ, ◌+◌, ◌<◌, List, [], ◌∷◌, length, Option, Some, None, Bool, true, false, refl, sym, ap, ◌∙◌, subst, inl, inr, arith}
+use Rattle.std.specs.Prelude.{slice_get, slice_set, nat_eq}
 use Rattle.std.proofs.lemmas.Bool.{and_parts, eqb-true}
 use Rattle.std.proofs.lemmas.Bool.Decides.{nat_tests}
 use Rattle.std.proofs.lemmas.List.{length-set, get_or-set_same}
 use Rattle.work_item.specs.declared.ids.Item.{Item}
 use Rattle.work_item.specs.declared.ids.BlockId.{BlockId}
-use Rattle.core_state.specs.Moves.{Move, On}
 use Rattle.stack_code.specs.declared.instr.Instr.TheVariants as i
 use Rattle.stack_code.specs.declared.shape.OpenBlock.{OpenBlock}
 use Rattle.stack_code.specs.declared.shape.Shape.{Shape}
@@ -16,17 +15,17 @@ use Rattle.stack_code.specs.Parts.{Parts}
 use Rattle.stack_code.specs.Shapes as shapes
 use Rattle.stack_code.specs.Shapes.{effect, finished, finished_in, is_block}
 use Rattle.stack_code.specs.Valid.{Goes}
-use Rattle.stack_code.specs.Machine.{Flat, FlatEnd, Thread, Block, begin, counted, block_at, with_block, thread_at, stops, arrives, arrives_in, arrives_at}
+use Rattle.stack_code.specs.Machine.{Flat, Thread, Block, begin, counted, block_at, with_block, thread_at, stops, arrives, arrives_in, arrives_at}
 use Rattle.code_safety.specs.Fit.{AreInBodies, HasEntered, outside, inside, IsThread, Phase, Gone, Going, AtFinish, Life, no_life, life_at, is_living, is_going, starts_in, total}
-use Rattle.code_safety.specs.Fit.{innermost, innermost_in, IsBlock, IsStarted, IsWaiting, IsAlive, IsFit, one_if, one_at, own_blocks, own_in, runs, occurs}
+use Rattle.code_safety.specs.Fit.{innermost, innermost_in, IsBlock, IsAlive, IsFit, one_if, one_at, own_blocks, own_in, going_on}
 use Rattle.code_safety.proofs.Taken.{on_some_is, if_is}
-use Rattle.code_safety.proofs.Lasting.{KeepsBlocks, IsBefore, entered_kept, thread_kept}
-use Rattle.code_safety.proofs.Settings.{KeepsStore, same_store}
+use Rattle.code_safety.proofs.Lasting.{KeepsBlocks, IsBefore, entered_kept}
+use Rattle.code_safety.proofs.Settings.{same_store}
 use Rattle.code_safety.proofs.Plain.{Onward}
-use Rattle.code_safety.proofs.Lives.{one_same, one_other, same_block, life_cases, life_same, total_same, one_counts}
+use Rattle.code_safety.proofs.Lives.{one_same, one_other, life_cases, life_same, total_same, one_counts}
 use Rattle.code_safety.proofs.Own.{rooted_of, phase_of, lives_of, within_of, thread_of, block_bound, is_bound}
-use Rattle.code_safety.proofs.Turns.{alive_kept, next_thread, stops_fit, listed_other, running_once}
-use Rattle.code_safety.proofs.Removing.{same_or_not, set_aside, set_there, set_is, was_there, stays, keeps_others, keeps_before, other_blocks}
+use Rattle.code_safety.proofs.Turns.{alive_kept, next_thread, stops_fit, listed_other, running_rests, resting, going_free}
+use Rattle.code_safety.proofs.Removing.{same_or_not, set_aside, set_there, set_is, stays, keeps_others, keeps_before, other_blocks}
 
 -- the innermost block that was entered
 pub record Innermost (blocks : List (Option Block)) (t : Item) (start : Option BlockId) (n : ℕ) (o : Option BlockId) : Type 0 where
@@ -220,6 +219,7 @@ module _ (code : Parts) (bound : ℕ) (m : Flat) (fit : IsFit code m) (t : Item)
         listed = λ k. fit.listed k ∙ ap (λ p. one_if (is_going p)) (sym (phase_same (record { number = k })));
         many = length-set fit.lives t.number now ∙ fit.many;
         current = λ k e. own_current k e;
+        asks = fit.asks;
         parked = λ k l not. own_parked k l not;
       }
         where
@@ -229,8 +229,8 @@ module _ (code : Parts) (bound : ℕ) (m : Flat) (fit : IsFit code m) (t : Item)
             | inr p ↦ absurd (let both : Some t ≡ Some k = sym run ∙ e in p.0 (cc))
           ]
 
-          own_parked : (k : Item) → is_living (life_at lives k).phase ≡ true → (m.running ≡ Some k → ⊥) → thread_at m.threads k ≡ (life_at lives k).thread
-          own_parked k l not = elim (life_cases fit.lives t k now within) as (λ _. thread_at m.threads k ≡ (life_at lives k).thread) [
+          own_parked : (k : Item) → is_living (life_at lives k).phase ≡ true → (m.running ≡ Some k → ⊥) → going_on m.operations k (thread_at m.threads k) ≡ (life_at lives k).thread
+          own_parked k l not = elim (life_cases fit.lives t k now within) as (λ _. going_on m.operations k (thread_at m.threads k) ≡ (life_at lives k).thread) [
             | inl p ↦ absurd (not (run ∙ ap (λ z. Some z) p.0))
             | inr p ↦ fit.parked k (sym (ap is_living (phase_same k)) ∙ l) not ∙ sym (ap (λ (z : Life). z.thread) p.1)
           ]
@@ -391,25 +391,25 @@ module _ (code : Parts) (bound : ℕ) (m : Flat) (fit : IsFit code m) (t : Item)
               (fit.alive k (sym (living_same k) ∙ e))
 
       pub waits_fit : IsFit code (stops m t current m.ready table)
-      waits_fit = stops_fit code m fit t run fit.births later m.shared m.store fit.store current m.ready table (counted m.count) later_alive later_block
-          (living_same (record { number = 0 }) ∙ fit.first) (start_still (record { number = 0 }) ∙ fit.free) listed (length-set fit.lives t.number asleep) own others
+      waits_fit = stops_fit code m fit t run fit.births later m.shared m.store fit.store m.operations current m.ready table (counted m.count) later_alive later_block
+          (living_same (record { number = 0 }) ∙ fit.first) (start_still (record { number = 0 }) ∙ fit.free) listed fit.asks (length-set fit.lives t.number asleep) own (λ k h ne. refl) others
         where
-          listed : (k : ℕ) → occurs k m.ready ≡ one_if (is_going (life_at later (record { number = k })).phase)
+          listed : (k : ℕ) → resting m k ≡ one_if (is_going (life_at later (record { number = k })).phase)
           listed k =
               let l = listed_other code m fit t run k in
-              elim (life_cases fit.lives t (record { number = k }) asleep within) as (λ _. occurs k m.ready ≡ one_if (is_going (life_at later (record { number = k })).phase)) [
+              elim (life_cases fit.lives t (record { number = k }) asleep within) as (λ _. resting m k ≡ one_if (is_going (life_at later (record { number = k })).phase)) [
                 | inl p ↦
                     let num : t.number ≡ k = ap (λ (z : Item). z.number) p.0 in
-                    subst (λ j. occurs j m.ready ≡ one_if (is_going (life_at later (record { number = k })).phase)) num
-                    (running_once code m fit t run ∙ sym (ap (λ (l : Life). one_if (is_going l.phase)) p.1))
+                    subst (λ j. resting m j ≡ one_if (is_going (life_at later (record { number = k })).phase)) num
+                    (running_rests code m fit t run ∙ sym (ap (λ (l : Life). one_if (is_going l.phase)) p.1))
                 | inr p ↦
                     let z : one_at k t ≡ 0 = one_other k t.number (λ q. p.0 (ap (λ j. record { number = j }) (sym q))) in
-                    let e : occurs k m.ready ≡ one_at k t + occurs k m.ready = omega (arith, z) in
+                    let e : resting m k ≡ one_at k t + resting m k = omega (arith, z) in
                     e ∙ l ∙ ap (λ (l : Life). one_if (is_going l.phase)) (sym p.1)
               ]
 
-          own : is_living (life_at later t).phase ≡ true → current ≡ (life_at later t).thread
-          own e = sym (ap (λ (l : Life). l.thread) (get_or-set_same fit.lives t.number asleep no_life within))
+          own : is_living (life_at later t).phase ≡ true → going_on m.operations t current ≡ (life_at later t).thread
+          own e = going_free code m fit t run current ∙ sym (ap (λ (l : Life). l.thread) (get_or-set_same fit.lives t.number asleep no_life within))
 
           others : (k : Item) → (t ≡ k → ⊥) → is_living (life_at later k).phase ≡ true → (is_living (life_at fit.lives k).phase ≡ true) × ((life_at fit.lives k).thread ≡ (life_at later k).thread)
           others k ne e = elim (life_cases fit.lives t k asleep within) as (λ _. (is_living (life_at fit.lives k).phase ≡ true) × ((life_at fit.lives k).thread ≡ (life_at later k).thread)) [

@@ -1,29 +1,29 @@
--- What a state fits by, in small states.
-use Rattle.std.proofs.Common.{◌≡◌, refl, ℕ, zero, suc, pos, List, [], ◌∷◌, Option, Some, None, Bool, true, false, arith, codes}
-use Rattle.std.specs.Prelude.{negsuc, Ok, Err, ◌++◌}
-use Rattle.stack_code.specs.declared.instr.Instr.TheVariants as i
+-- What a state fits by, and what is left to do in it, in small states.
+use Rattle.std.proofs.Common.{◌≡◌, refl, sym, subst, ℕ, zero, suc, ◌<◌, ◌≤◌, pos, List, [], ◌∷◌, codes, Option, Some, None, true, false, arith}
 use Rattle.stack_code.specs.declared.shape.Kind.TheVariants as kind
 use Rattle.stack_code.specs.declared.shape.Home.TheVariants as home
-use Rattle.stack_code.specs.Machine.{Flat, FlatEnd, with_starts, first_globals, first_item, first_core, Caller, one_operand, block_at, one_more, told, text_at, dispatched, calls}
-use Rattle.stack_code.specs.Machine.{thread_at, with_block, stops, counted_in, arrives_at, arrives_in, counted_out, dies_in, dies, begin, exec_of}
-use Rattle.stack_code.specs.Machine.{Block, nobody, seen_of, with_shared, with_store, goes_to, or_trap, on_top, on_two, on_three, on_many, two_operands, always}
-use Rattle.work_item.specs.declared.ids.FrameId.{FrameId}
+use Rattle.stack_code.specs.Parts.{Parts}
+use Rattle.stack_code.specs.Shapes.{is_array}
+use Rattle.stack_code.specs.Machine.{Block, Thread, nobody}
 use Rattle.work_item.specs.declared.ids.Item.{Item}
 use Rattle.work_item.specs.declared.ids.BlockId.{BlockId}
 use Rattle.work_item.specs.declared.cell.Cell.{Cell}
 use Rattle.work_item.specs.declared.cell.Cell.TheVariants as cell
-use Rattle.work_item.specs.Store.{no_frames}
+use Rattle.cancel_scope.specs.declared.operation.Asked.TheVariants as asked
+use Rattle.cancel_scope.specs.declared.operation.Operation.{Operation}
+use Rattle.cancel_scope.specs.Outstanding.{offered_as, started}
 use Rattle.code_safety.specs.Fit.{Birth, Born, is_int, HoldsInts, HasKind, HaveKinds, AreSlots, AreInBodies, one_if, own_in, own_blocks, Phase, Gone, Going, AtFinish}
-use Rattle.code_safety.specs.Fit.{runs, total, HasEntered, outside, inside}
+use Rattle.code_safety.specs.Fit.{runs, total, HasEntered, outside, inside, items_of, going_on, IsAsked}
+use Rattle.code_safety.specs.Left.{entries_left, grown, operation_weight, operations_weight}
 use Rattle.code_safety.specs.Fit.{Life, no_life, life_at, is_living, is_going, is_at, starts_in, innermost_in, innermost, IsStarted, one_at, occurs}
-use Rattle.stack_code.proofs.Examples.{code_of, code, entered, small, start, in_block, in_async, it_is_loaded}
+use Rattle.stack_code.proofs.Examples.{small, start, in_block, in_async, it_is_loaded}
 use Rattle.stack_code.proofs.MachineExamples.{item, frame, block, int, owned}
 
 -- ---- what a state fits by
 
 -- the frame 0 is of the function 0, in which the thread 0 goes
 abbrev pub birth : Birth
-birth = record { home = home.Function 0; item = item 0 }
+birth = record { home = home.Function 0; slots = 1; item = item 0 }
 
 pub it_was_born : Born (birth ∷ []) (frame 0) birth
 it_was_born = refl
@@ -38,6 +38,29 @@ globals_are_ints = omega arith
 pub no_third_global_is : HoldsInts small (birth ∷ []) None 1 2 → ⊥
 no_third_global_is h = omega (arith, h)
 
+-- its one slot
+pub an_int_in_its_frame : HoldsInts small (birth ∷ []) (Some (frame 0)) 0 1
+an_int_in_its_frame = record { birth = birth; born = refl; inside = omega arith; plain = λ slot lo hi. none slot (omega (arith, hi)) }
+  where
+    none : (slot : ℕ) → slot < 1 → is_array small birth.home slot ≡ false
+    none slot lt = refl
+
+pub no_two_ints_in_its_frame : HoldsInts small (birth ∷ []) (Some (frame 0)) 0 2 → ⊥
+no_two_ints_in_its_frame h =
+    let same : h.birth ≡ birth = let both : Some h.birth ≡ Some birth = sym h.born in cc in
+    let le : 2 ≤ 1 = subst (λ (b : Birth). 2 ≤ b.slots) same h.inside in
+    omega (arith, le)
+
+-- the parameter of that function is an array
+abbrev pub of_an_array : Parts
+of_an_array = record small { functions = record { name = codes "f"; at = 0; params = true ∷ []; words = 1 } ∷ [] }
+
+pub no_int_in_a_parameter : HoldsInts of_an_array (birth ∷ []) (Some (frame 0)) 0 1 → ⊥
+no_int_in_a_parameter h =
+    let same : h.birth ≡ birth = let both : Some h.birth ≡ Some birth = sym h.born in cc in
+    let no : true ≡ false = subst (λ (b : Birth). is_array of_an_array b.home 0 ≡ false) same (h.plain 0 (omega arith) (omega arith)) in
+    cc
+
 pub ints_are_told_from_arrays : is_int (int 5) ∷ is_int (cell.Array (record { home = None; start = 0; len = 2 })) ∷ [] ≡ true ∷ false ∷ []
 ints_are_told_from_arrays = refl
 
@@ -45,10 +68,19 @@ abbrev pub both_globals : Cell
 both_globals = cell.Array (record { home = None; start = 0; len = 2 })
 
 pub operands_have_their_kinds : HasKind small [] kind.Int (int 5) × HaveKinds small [] (kind.Int ∷ kind.Reference false ∷ []) (int 5 ∷ both_globals ∷ [])
-operands_have_their_kinds = (tt, (tt, (record { short = omega arith; ints = omega arith }, tt)))
+operands_have_their_kinds = (tt, (tt, (record { short = omega arith; ints = omega arith; single = λ e. cc }, tt)))
 
 pub an_array_is_no_int : HasKind small [] kind.Int both_globals → ⊥
 an_array_is_no_int h = h
+
+abbrev pub one_global : Cell
+one_global = cell.Array (record { home = None; start = 1; len = 1 })
+
+pub one_global_is_one_int : HasKind small [] (kind.Reference true) one_global
+one_global_is_one_int = record { short = omega arith; ints = omega arith; single = λ e. refl }
+
+pub two_are_not : HasKind small [] (kind.Reference true) both_globals → ⊥
+two_are_not h = let one : 2 ≡ 1 = h.single refl in omega (arith, one)
 
 pub an_operand_is_missing : HaveKinds small [] (kind.Int ∷ kind.Int ∷ []) (int 5 ∷ []) → ⊥
 an_operand_is_missing h = h.1
@@ -112,3 +144,47 @@ where_it_is blocks t start b n e (inside m c x here owner rest) = absurd (omega 
 
 pub no_block_was_entered : HasEntered (Some (owned 1 false) ∷ []) (item 0) None 0 (Some (block 0)) → ⊥
 no_block_was_entered h = let e : Some (block 0) ≡ None = where_it_is (Some (owned 1 false) ∷ []) (item 0) None (Some (block 0)) 0 refl h in cc
+
+-- ---- operations
+
+-- the thread 1 sends 5, and the thread 2 receives into a global
+abbrev pub sends : Operation
+sends = started 0 (asked.Send (pos 5)) (item 1)
+
+abbrev pub receives : Operation
+receives = started 1 (asked.Recv (record { home = None; start = 1; len = 1 })) (item 2)
+
+pub two_threads_wait_for_an_end : items_of (sends ∷ receives ∷ []) ≡ item 1 ∷ item 2 ∷ []
+two_threads_wait_for_an_end = refl
+
+-- an int comes on top of its operands
+pub as_it_will_go_on : (going_on (sends ∷ receives ∷ []) (item 2) (record nobody { operands = int 7 ∷ [] })).operands ≡ int 0 ∷ int 7 ∷ []
+as_it_will_go_on = refl
+
+pub another_goes_on_as_it_is : (going_on (sends ∷ receives ∷ []) (item 3) (record nobody { operands = int 7 ∷ [] })).operands ≡ int 7 ∷ []
+another_goes_on_as_it_is = refl
+
+pub a_message_goes_into_one_int : IsAsked small [] sends.asked × IsAsked small [] receives.asked
+a_message_goes_into_one_int = (tt, one_global_is_one_int)
+
+pub it_does_not_go_into_two : IsAsked small [] (asked.Recv (record { home = None; start = 0; len = 2 })) → ⊥
+it_does_not_go_into_two h = two_are_not h
+
+-- ---- what is left to do
+
+-- an offer and an end are still to come, an end alone, and a message
+pub entries_before_an_end : entries_left sends ∷ entries_left (offered_as 3 sends) ∷ entries_left receives ∷ [] ≡ 2 ∷ 1 ∷ 1 ∷ []
+entries_before_an_end = refl
+
+pub weights_of_ranks : grown 0 ∷ grown 1 ∷ grown 2 ∷ [] ≡ 2 ∷ 6 ∷ 14 ∷ []
+weights_of_ranks = refl
+
+-- the threads stand at the address 1, whose rank is 1: each has a dispatch before it, and then 6
+abbrev pub threads : List Thread
+threads = nobody ∷ record nobody { place = 1 } ∷ record nobody { place = 1 } ∷ []
+
+pub weights_of_operations : operation_weight (2 ∷ 1 ∷ []) threads sends ∷ operation_weight (2 ∷ 1 ∷ []) threads receives ∷ [] ≡ 9 ∷ 8 ∷ []
+weights_of_operations = refl
+
+pub the_weight_of_both : operations_weight (2 ∷ 1 ∷ []) threads (sends ∷ receives ∷ []) ≡ 17
+the_weight_of_both = refl

@@ -1,6 +1,7 @@
--- A run goes the same way where one more entry of its journal is still to come, and no instruction concerns the journal.
-use Rattle.std.proofs.Common.{◌≡◌, ℕ, zero, suc, ◌+◌, List, [], ◌∷◌, ◌++◌, length, map, Option, Some, None, Result, Ok, Err, Bool, true, false, refl, sym, ap, ◌∙◌, subst}
+-- No instruction concerns the journal; a run goes the same way where one more entry is still to come, and that entry is the next to come in.
+use Rattle.std.proofs.Common.{◌≡◌, ℕ, zero, suc, ◌+◌, ◌≤◌, List, [], ◌∷◌, ◌++◌, length, map, Option, Some, None, Result, Ok, Err, Bool, true, false, refl, sym, ap, ◌∙◌, subst, arith}
 use Rattle.std.specs.Prelude.{ℤ, reverse, take, drop, replicate, nat_le, nat_lt, nat_eq, slice_get, ◌&&◌, ◌^◌, ◌-◌, if◌then◌else◌, slice_set}
+use Rattle.std.proofs.lemmas.Bool.{eqb-true, eq-eqb}
 use Rattle.ac_base.specs.declared.ends.Trap.{Trap}
 use Rattle.ac_base.specs.declared.ends.Trap.TheVariants.{OutputFull}
 use Rattle.ac_base.specs.declared.ends.EndWord.TheVariants as word
@@ -9,18 +10,22 @@ use Rattle.work_item.specs.declared.ids.Item.{Item}
 use Rattle.work_item.specs.declared.ids.BlockId.{BlockId}
 use Rattle.work_item.specs.declared.cell.Cell.{Cell}
 use Rattle.work_item.specs.declared.cell.Cell.TheVariants as cell
-use Rattle.work_item.specs.Store.{Store, int_in, place_in, no_int, released, with_cell_at, with_global}
+use Rattle.work_item.specs.Store.{Store, int_in, place_in, no_int, released}
 use Rattle.core_state.specs.Moves.{Move, On, Over, moves, and_then, GoesOn}
-use Rattle.core_state.specs.Arithmetic.{Computed, at_zero, negated, not_true, flipped, truth, sum_of, difference_of, product_of, quotient, remainder}
+use Rattle.core_state.specs.Arithmetic.{Computed, negated, not_true, flipped, truth, sum_of, difference_of, product_of, quotient, remainder}
 use Rattle.core_state.specs.Arithmetic.{shifted_left, shifted_right, is_equal, is_not_equal, is_less, is_at_most, both_bits, either_bits, differing_bits}
 use Rattle.core_state.specs.Frames.{element, set_element, part_at, begun, begun_with, first_store}
-use Rattle.core_state.specs.Shared.{Shared, first_shared, begins_with, with_step, with_turn, printed, formatted, output_limit, seen}
+use Rattle.core_state.specs.Arrivals as arrivals
+use Rattle.core_state.specs.Arrivals.{Arrival, at_point, comes_in, ok}
+use Rattle.core_state.specs.Shared.{Shared, first_shared, begins_with, with_entry, with_step, with_turn, printed, formatted, output_limit, seen}
+use Rattle.core_state.proofs.Runs.{GoesOn-more}
 use Rattle.stack_code.specs.declared.instr.Instr.{Instr}
 use Rattle.stack_code.specs.declared.instr.Instr.TheVariants as i
 use Rattle.stack_code.specs.declared.parts.Entered.{Entered}
 use Rattle.stack_code.specs.Parts.{Parts}
 use Rattle.stack_code.specs.Machine as flat
-use Rattle.stack_code.specs.Machine.{Flat, FlatEnd, nobody, Caller, Block, begin, exec, exec_of, dispatched, told, with_store, with_shared, or_trap, on_top, on_two, on_three, on_many, one_operand}
+use Rattle.stack_code.specs.Machine.{Flat, FlatEnd, nobody, Caller, Block, arrived, resumed, begin, exec, exec_of, dispatched, told, with_store, with_shared, or_trap, on_top, on_two, on_three}
+use Rattle.stack_code.specs.Machine.{on_many, one_operand}
 use Rattle.stack_code.specs.Machine.{two_operands, always, text_at}
 use Rattle.stack_code.specs.Machine.{calls, returns, starts, arrives, arrives_in, arrives_at, dies, dies_in, counted_out, block_at, first_flat, first_core, first_globals, thread_at}
 
@@ -184,76 +189,156 @@ module _ (e : Entry) (m : Flat) where
     begin_too (Some i.End) = dies_too (released m.store m.current.frame) t m.current.block
     begin_too (Some (i.Cancel level slot)) = (refl, kept)
     begin_too (Some i.Yield) = (refl, kept)
-    begin_too (Some (i.Send channel)) = (refl, kept)
-    begin_too (Some (i.Recv channel)) = (refl, kept)
+    begin_too (Some (i.Send channel)) = top_too _ _ m.current.operands (λ x below. (refl, kept))
+    begin_too (Some (i.Recv channel)) = top_too _ _ m.current.operands (λ x below. (refl, kept))
     begin_too (Some (i.Read file)) = (refl, kept)
     begin_too (Some (i.Write file)) = (refl, kept)
 
 -- ---- a move
 
--- a move leads on just as with that entry
-abbrev pub Alike : Entry → Move Flat FlatEnd → Move Flat FlatEnd → Type 0
-Alike e (On next) r = r ≡ On (more_to_come e next)
-Alike e (Over x) r = Unit {0}
+-- no move takes the turn back, and one to a state whose turn is at most that of the entry leads there also with the entry
+abbrev pub Follows : Entry → ℕ → Move Flat FlatEnd → Move Flat FlatEnd → Type 0
+Follows e turn (On next) r = (turn ≤ next.shared.turn) × (next.shared.turn ≤ e.turn → r ≡ On (more_to_come e next))
+Follows e turn (Over x) r = Unit {0}
 
-alike_of : (e : Entry) (m : Flat) (a b : Move Flat FlatEnd) → Too e m a b → Alike e a b
-alike_of e m (On next) b h = h.0
-alike_of e m (Over x) b h = tt
+follows_of : (e : Entry) (m : Flat) (a b : Move Flat FlatEnd) → Too e m a b → Follows e m.shared.turn a b
+follows_of e m (On next) b h = let same = h.1.turn in (omega (arith, same), λ le. h.0)
+follows_of e m (Over x) b h = tt
+
+follows_from : (e : Entry) (n k : ℕ) (a b : Move Flat FlatEnd) → n ≤ k → Follows e k a b → Follows e n a b
+follows_from e n k (On next) b le h = let l = h.0 in (omega (arith, le, l), h.1)
+follows_from e n k (Over x) b le h = tt
+
+-- where the turn rises before the entry can come in, it is still to come
+follows_past : (e : Entry) (turn : ℕ) (a b c : Move Flat FlatEnd) → Follows e (turn + 1) a b → Follows e turn a (if nat_eq e.turn turn then c else b)
+follows_past e turn (Over x) b c h = tt
+follows_past e turn (On next) b c h = let l = h.0 in (omega (arith, l), λ le. ap (λ (z : Bool). if z then c else b) (no_more le) ∙ h.1 le)
+  where
+    no_more : next.shared.turn ≤ e.turn → nat_eq e.turn turn ≡ false
+    no_more le = go (nat_eq e.turn turn) refl
+      where
+        go : (z : Bool) → nat_eq e.turn turn ≡ z → nat_eq e.turn turn ≡ false
+        go true q = absurd (let same = eqb-true e.turn turn q in let l = h.0 in omega (arith, same, l, le))
+        go false q = q
 
 module _ (code : Parts) (bound : ℕ) (e : Entry) where
-  dispatched_alike : (m : Flat) (ready : List Item) → Alike e (dispatched m ready) (dispatched (more_to_come e m) ready)
-  dispatched_alike m [] = tt
-  dispatched_alike m (t ∷ ready) =
-      by (nat_lt m.shared.turn (2 ^ 64 - 1)) (told m.count (seen word.OutOfSteps false m.store.globals m.shared)) (told m.count (seen word.OutOfSteps false m.store.globals (more_shared e m.shared)))
-    where
-      by : (b : Bool) (x y : FlatEnd) →
-          Alike e (if b then On (record m { shared = with_turn m.shared; running = Some t; current = thread_at m.threads t; ready = ready; threads = slice_set m.threads t.number nobody }) else Over x)
-          (if b then On (record m {
-            shared = with_turn
-                (more_shared e m.shared);
-            running = Some t;
-            current = thread_at m.threads t;
-            ready = ready;
-            threads = slice_set m.threads t.number nobody;
-          }) else Over y)
-      by true x y = refl
-      by false x y = tt
+  -- ---- a dispatch point
 
-  exec_alike : (m : Flat) → Alike e (exec code bound m) (exec code bound (more_to_come e m))
-  exec_alike m = by m.running
-    where
-      by : (o : Option Item) → Alike e (exec_of code bound m o) (exec_of code bound (more_to_come e m) o)
-      by None = dispatched_alike m m.ready
-      by (Some t) = alike_of e m _ _ (begin_too e m code bound t (slice_get code.instrs m.current.place))
+  module _ (m : Flat) where
+    abbrev more : Flat
+    more = more_to_come e m
 
-  -- so many moves
-  moves_alike : (k : ℕ) (m : Flat) → Alike e (moves (exec code bound) k m) (moves (exec code bound) k (more_to_come e m))
-  moves_alike zero m = refl
-  moves_alike (suc k) m = by (λ next. moves_alike k next) (exec code bound m) (exec code bound (more_to_come e m)) (exec_alike m)
-    where
-      by : ((next : Flat) → Alike e (moves (exec code bound) k next) (moves (exec code bound) k (more_to_come e next))) → (a b : Move Flat FlatEnd) → Alike e a b
-          → Alike e (and_then a (moves (exec code bound) k)) (and_then b (moves (exec code bound) k))
-      by later (Over x) b h = tt
-      by later (On next) b h = subst (λ r. Alike e (moves (exec code bound) k next) (and_then r (moves (exec code bound) k))) (sym h) (later next)
+    -- the turn rises
+    dispatched_follows : (ready : List Item) → Follows e (m.shared.turn + 1) (dispatched m ready) (dispatched more ready)
+    dispatched_follows [] = tt
+    dispatched_follows (t ∷ ready) =
+        by (nat_lt m.shared.turn (2 ^ 64 - 1)) (told m.count (seen word.OutOfSteps false m.store.globals m.operations m.shared))
+        (told m.count (seen word.OutOfSteps false m.store.globals m.operations (more_shared e m.shared)))
+      where
+        by : (b : Bool) (x y : FlatEnd) →
+            Follows e (m.shared.turn + 1)
+            (if b then On (record m { shared = with_turn m.shared; running = Some t; current = thread_at m.threads t; ready = ready; threads = slice_set m.threads t.number nobody }) else Over x)
+            (if b then On (record m {
+              shared = with_turn (more_shared e m.shared);
+              running = Some t;
+              current = thread_at m.threads t;
+              ready = ready;
+              threads = slice_set m.threads t.number nobody;
+            }) else Over y)
+        by true x y = (omega arith, λ le. refl)
+        by false x y = tt
 
-  first_alike : (function : Entered) (journal : List Entry) → Alike e (first_flat code function journal) (first_flat code function (journal ++ e ∷ []))
-  first_alike function journal = by (begun (first_store (first_globals code)) None (replicate function.words no_int))
+    -- another entry comes in
+    enters_follows : (first : Entry) (rest : List Entry) (o : Option Arrival) → Follows e m.shared.turn
+        (comes_in (told m.count) (λ x. On (arrived m (with_entry m.shared first rest) x)) o)
+        (comes_in (told m.count) (λ x. On (arrived more (with_entry (more_shared e m.shared) first (rest ++ e ∷ [])) x)) o)
+    enters_follows first rest None = tt
+    enters_follows first rest (Some x) = by x.woken
+      where
+        by : (o : Option Item) → Follows e m.shared.turn
+            (On (resumed (record m { shared = with_entry m.shared first rest; store = x.store; operations = x.operations }) ok o))
+            (On (resumed (record m { shared = with_entry (more_shared e m.shared) first (rest ++ e ∷ []); store = x.store; operations = x.operations }) ok o))
+        by None = (omega arith, λ le. refl)
+        by (Some t) = (omega arith, λ le. refl)
+
+    abbrev at_rest : Flat → List Entry → Move Flat FlatEnd
+    at_rest n todo = at_point (told m.count) n.shared m.store m.operations (λ shared x. On (arrived n shared x)) (dispatched n m.ready) todo
+
+    rests_follow : (todo : List Entry) → Follows e m.shared.turn (at_rest m todo) (at_rest more (todo ++ e ∷ []))
+    rests_follow [] = follows_past e m.shared.turn (dispatched m m.ready) (dispatched more m.ready)
+        (comes_in (told m.count) (λ x. On (arrived more (with_entry (more_shared e m.shared) e []) x)) (arrivals.arrives m.shared.past m.store m.operations e.event)) (dispatched_follows m.ready)
+    rests_follow (first ∷ rest) = by (nat_eq first.turn m.shared.turn)
+      where
+        by : (b : Bool) → Follows e m.shared.turn
+            (if b then comes_in (told m.count) (λ x. On (arrived m (with_entry m.shared first rest) x)) (arrivals.arrives m.shared.past m.store m.operations first.event) else dispatched m m.ready)
+            (if b
+            then comes_in (told m.count) (λ x. On (arrived more (with_entry (more_shared e m.shared) first (rest ++ e ∷ [])) x))
+            (arrivals.arrives m.shared.past m.store m.operations first.event)
+            else dispatched more m.ready)
+        by true = enters_follows first rest (arrivals.arrives m.shared.past m.store m.operations first.event)
+        by false = follows_from e m.shared.turn (m.shared.turn + 1) (dispatched m m.ready) (dispatched more m.ready) (omega arith) (dispatched_follows m.ready)
+
+  exec_follows : (m : Flat) → Follows e m.shared.turn (exec code bound m) (exec code bound (more_to_come e m))
+  exec_follows m = by m.running
+    where
+      by : (o : Option Item) → Follows e m.shared.turn (exec_of code bound m o) (exec_of code bound (more_to_come e m) o)
+      by None = rests_follow m m.shared.todo
+      by (Some t) = follows_of e m _ _ (begin_too e m code bound t (slice_get code.instrs m.current.place))
+
+  -- ---- so many moves
+
+  then_follows : (k turn : ℕ) → ((next : Flat) → Follows e next.shared.turn (moves (exec code bound) k next) (moves (exec code bound) k (more_to_come e next))) → (a b : Move Flat FlatEnd)
+      → Follows e turn a b → Follows e turn (and_then a (moves (exec code bound) k)) (and_then b (moves (exec code bound) k))
+  then_follows k turn later (Over x) b h = tt
+  then_follows k turn later (On next) b h = by (moves (exec code bound) k next) (later next)
+    where
+      by : (a : Move Flat FlatEnd) → Follows e next.shared.turn a (moves (exec code bound) k (more_to_come e next)) → Follows e turn a (and_then b (moves (exec code bound) k))
+      by (Over x) f = tt
+      by (On last) f =
+          let before = h.0 in
+          let after = f.0 in
+          (omega (arith, before, after), λ le. ap (λ r. and_then r (moves (exec code bound) k)) (h.1 (omega (arith, after, le))) ∙ f.1 le)
+
+  moves_follow : (k : ℕ) (m : Flat) → Follows e m.shared.turn (moves (exec code bound) k m) (moves (exec code bound) k (more_to_come e m))
+  moves_follow zero m = (omega arith, λ le. refl)
+  moves_follow (suc k) m = then_follows k m.shared.turn (λ next. moves_follow k next) (exec code bound m) (exec code bound (more_to_come e m)) (exec_follows m)
+
+  first_follows : (function : Entered) (journal : List Entry) → Follows e 0 (first_flat code function journal) (first_flat code function (journal ++ e ∷ []))
+  first_follows function journal = by (begun (first_store (first_globals code)) None (replicate function.words no_int))
     where
       by : (r : Result Store Trap) →
-          Alike e (begins_with (told 0) (first_globals code) (first_shared journal) r (λ store. On (first_core function (first_shared journal) store)))
+          Follows e 0 (begins_with (told 0) (first_globals code) (first_shared journal) r (λ store. On (first_core function (first_shared journal) store)))
           (begins_with (told 0) (first_globals code) (first_shared (journal ++ e ∷ [])) r (λ store. On (first_core function (first_shared (journal ++ e ∷ [])) store)))
-      by (Ok store) = refl
+      by (Ok store) = (omega arith, λ le. refl)
       by (Err trap) = tt
 
-  -- a run to a state is also a run to that state with one more entry to come
-  pub run_more : (function : Entered) (journal : List Entry) (m : Flat) → GoesOn (exec code bound) (first_flat code function journal) (On m)
-      → GoesOn (exec code bound) (first_flat code function (journal ++ e ∷ [])) (On (more_to_come e m))
-  run_more function journal m h = (h.0, by (first_flat code function journal) (first_flat code function (journal ++ e ∷ [])) (first_alike function journal) h.1)
+  -- at a dispatch point with no entry to come, one of its turn that fits is the next that comes in
+  pub comes_next : (m : Flat) (x : Arrival) → m.running ≡ None → m.shared.todo ≡ [] → e.turn ≡ m.shared.turn → arrivals.arrives m.shared.past m.store m.operations e.event ≡ Some x
+      → exec code bound (more_to_come e m) ≡ On (arrived m (with_entry m.shared e []) x)
+  comes_next m x idle none now fits =
+      ap (exec_of code bound (more_to_come e m)) idle ∙ ap (λ todo. at_rest m (more_to_come e m) (todo ++ e ∷ [])) none
+      ∙ ap (λ (b : Bool). if b then comes_in (told m.count) go (arrivals.arrives m.shared.past m.store m.operations e.event) else dispatched (more_to_come e m) m.ready)
+      (eq-eqb e.turn m.shared.turn now)
+      ∙ ap (comes_in (told m.count) go) fits
     where
-      at_end : (x r : Move Flat FlatEnd) → On m ≡ x → Alike e x r → On (more_to_come e m) ≡ r
-      at_end x r same a = let k : Alike e (On m) r = subst (λ z. Alike e z r) (sym same) a in sym k
+      go : Arrival → Move Flat FlatEnd
+      go y = On (arrived (more_to_come e m) (with_entry (more_shared e m.shared) e []) y)
 
-      by : (a b : Move Flat FlatEnd) → Alike e a b → On m ≡ and_then a (moves (exec code bound) h.0) → On (more_to_come e m) ≡ and_then b (moves (exec code bound) h.0)
-      by (Over x) b k same = let no : On m ≡ Over x = same in cc
-      by (On s) b k same = at_end (moves (exec code bound) h.0 s) (and_then b (moves (exec code bound) h.0)) same
-          (subst (λ r. Alike e (moves (exec code bound) h.0 s) (and_then r (moves (exec code bound) h.0))) (sym k) (moves_alike h.0 s))
+  -- ---- a run
+
+  module _ (function : Entered) (journal : List Entry) (m : Flat) (run : GoesOn (exec code bound) (first_flat code function journal) (On m)) where
+    abbrev longer : Move Flat FlatEnd
+    longer = first_flat code function (journal ++ e ∷ [])
+
+    -- a run to a state is also a run to it with one more entry still to come, where its turn is that of the state or a later one
+    pub run_more : m.shared.turn ≤ e.turn → GoesOn (exec code bound) longer (On (more_to_come e m))
+    run_more le =
+        let f = then_follows run.0 0 (λ next. moves_follow run.0 next) (first_flat code function journal) longer (first_follows function journal) in
+        let g : Follows e 0 (On m) (and_then longer (moves (exec code bound) run.0)) = subst (λ a. Follows e 0 a (and_then longer (moves (exec code bound) run.0))) (sym run.1) f in
+        (run.0, sym (g.1 le))
+
+    -- and where it comes in, the run goes on to what it makes of the state
+    pub run_arrives : (x : Arrival) → m.running ≡ None → m.shared.todo ≡ [] → e.turn ≡ m.shared.turn → arrivals.arrives m.shared.past m.store m.operations e.event ≡ Some x
+        → GoesOn (exec code bound) longer (On (arrived m (with_entry m.shared e []) x))
+    run_arrives x idle none now fits =
+        subst (GoesOn (exec code bound) longer) (comes_next m x idle none now fits) (GoesOn-more (exec code bound) longer (more_to_come e m) (run_more (omega (arith, now))))

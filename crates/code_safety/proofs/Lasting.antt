@@ -1,5 +1,5 @@
 -- What a thread keeps when births, frames and blocks change that are not its own.
-use Rattle.std.proofs.Common.{◌≡◌, ℕ, zero, suc, ◌+◌, ◌≤◌, ◌<◌, List, [], ◌∷◌, ◌++◌, length, Option, Some, None, IsSome, Bool, true, false, refl, sym, ap, ◌∙◌, subst, inl, inr, arith}
+use Rattle.std.proofs.Common.{◌≡◌, ℕ, ◌+◌, ◌≤◌, ◌<◌, List, [], ◌∷◌, length, Option, Some, None, true, false, refl, sym, ap, ◌∙◌, subst, arith}
 use Rattle.std.specs.Prelude.{slice_get}
 use Rattle.work_item.specs.declared.ids.FrameId.{FrameId}
 use Rattle.work_item.specs.declared.ids.Item.{Item}
@@ -7,6 +7,8 @@ use Rattle.work_item.specs.declared.ids.BlockId.{BlockId}
 use Rattle.work_item.specs.declared.cell.Cell.{Cell}
 use Rattle.work_item.specs.declared.cell.Cell.TheVariants as cell
 use Rattle.work_item.specs.Store.{Store, Frame, frame_at}
+use Rattle.cancel_scope.specs.declared.operation.Asked.{Asked}
+use Rattle.cancel_scope.specs.declared.operation.Asked.TheVariants as asked
 use Rattle.stack_code.specs.declared.shape.Kind.{Kind}
 use Rattle.stack_code.specs.declared.shape.Kind.TheVariants as kind
 use Rattle.stack_code.specs.declared.shape.Home.{Home}
@@ -15,7 +17,7 @@ use Rattle.stack_code.specs.declared.shape.Shape.{Shape}
 use Rattle.stack_code.specs.Parts.{Parts}
 use Rattle.stack_code.specs.Machine.{Caller, Thread, Block, block_at}
 use Rattle.code_safety.specs.Fit.{Birth, Born, HoldsInts, HasKind, HaveKinds, AreSlots, IsFrame, IsBody, AreBodies, last, more, Goes, own_blocks}
-use Rattle.code_safety.specs.Fit.{IsActivation, IsCaller, AreCallers, bottom, above, HasEntered, outside, inside, IsThread}
+use Rattle.code_safety.specs.Fit.{IsActivation, IsCaller, AreCallers, bottom, above, HasEntered, outside, inside, IsThread, IsAsked}
 
 -- ---- births
 
@@ -26,14 +28,14 @@ Grown old new = (n : ℕ) (b : Birth) → slice_get old n ≡ Some b → slice_g
 module _ (code : Parts) (old new : List Birth) (grown : Grown old new) where
   ints_grown : (home : Option FrameId) (start len : ℕ) → HoldsInts code old home start len → HoldsInts code new home start len
   ints_grown None start len h = h
-  ints_grown (Some f) start len h = (h.0, (grown f.number h.0 h.1.0, h.1.1))
+  ints_grown (Some f) start len h = record { birth = h.birth; born = grown f.number h.birth h.born; inside = h.inside; plain = h.plain }
 
   pub kind_grown : (k : Kind) (x : Cell) → HasKind code old k x → HasKind code new k x
   kind_grown kind.Int (cell.Int v) h = tt
   kind_grown kind.Int (cell.Array place) h = absurd h
   kind_grown kind.Int (cell.Block b) h = absurd h
   kind_grown (kind.Reference one) (cell.Int v) h = absurd h
-  kind_grown (kind.Reference one) (cell.Array place) h = record { short = h.short; ints = ints_grown place.home place.start place.len h.ints }
+  kind_grown (kind.Reference one) (cell.Array place) h = record { short = h.short; ints = ints_grown place.home place.start place.len h.ints; single = h.single }
   kind_grown (kind.Reference one) (cell.Block b) h = absurd h
 
   pub kinds_grown : (kinds : List Kind) (operands : List Cell) → HaveKinds code old kinds operands → HaveKinds code new kinds operands
@@ -42,13 +44,17 @@ module _ (code : Parts) (old new : List Birth) (grown : Grown old new) where
   kinds_grown (k ∷ kinds) [] h = absurd h
   kinds_grown (k ∷ kinds) (x ∷ operands) h = (kind_grown k x h.0, kinds_grown kinds operands h.1)
 
+  pub asked_grown : (a : Asked) → IsAsked code old a → IsAsked code new a
+  asked_grown (asked.Send value) h = tt
+  asked_grown (asked.Recv place) h = kind_grown (kind.Reference true) (cell.Array place) h
+
   pub slots_grown : (home : Home) (cells : List Cell) → AreSlots code old home cells → AreSlots code new home cells
   slots_grown home cells h slot x e =
       let i = h slot x e in
       record { array = λ a. kind_grown (kind.Reference false) x (i.array a); int = i.int }
 
   pub frame_grown : (f : FrameId) (x : Frame) → IsFrame code old f x → IsFrame code new f x
-  frame_grown f x h = record { birth = h.birth; born = grown f.number h.birth h.born; slots = slots_grown h.birth.home x.cells h.slots; short = h.short }
+  frame_grown f x h = record { birth = h.birth; born = grown f.number h.birth h.born; slots = slots_grown h.birth.home x.cells h.slots; long = h.long; short = h.short }
 
 -- ---- frames
 

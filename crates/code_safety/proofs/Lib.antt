@@ -3,11 +3,14 @@ pub mod Taken
 pub mod Settings
 pub mod Plain
 pub mod Lives
+pub mod Waiting
 pub mod Own
 pub mod Making
 pub mod Arguments
 pub mod Calling
 pub mod Turns
+pub mod Operating
+pub mod Arriving
 pub mod Entering
 pub mod Removing
 pub mod Finishing
@@ -15,7 +18,10 @@ pub mod Starting
 pub mod Dying
 pub mod Weights
 pub mod Falling
+pub mod ArrivalWeights
 pub mod Moving
+pub mod NoEntries
+pub mod NoStall
 pub mod Beginnings
 pub mod Journal
 pub mod OneEnd
@@ -33,6 +39,9 @@ pub mod TurnChains
 pub mod CallChains
 pub mod StartChains
 pub mod EndChains
+pub mod OperationChains
+pub mod ArrivalChains
 pub mod NoDangling
+pub mod ArrayFrames
 pub mod FitExamples
 pub mod LivingExamples

@@ -106,7 +106,7 @@ module _ (origins : List Origin) (s : Store) where
   cleared_frames f slot len = cells_frames origins s f (cleared slot len (cells_of s f))
       (λ x e a. names_cleared origins f slot len (cells_of s f) (subst (AllName origins f) (sym (ap no_cells e)) a))
 
-  int_frames : (home : Option FrameId) (slot : ℕ) (value : ℤ) → SameFrames origins s (with_int_from s home slot value)
+  pub int_frames : (home : Option FrameId) (slot : ℕ) (value : ℤ) → SameFrames origins s (with_int_from s home slot value)
   int_frames None slot value = global_frames origins s slot value
   int_frames (Some f) slot value = cell_frames f slot (cell.Int value) (λ g. (tt, tt))
 

@@ -5,7 +5,7 @@ use Rattle.std.proofs.lemmas.Bool.{cases_eq, cases_lt, eqb-true, eq-eqb}
 use Rattle.std.proofs.lemmas.List.{get_or-set_same, get_or-set_other, get_or_past}
 use Rattle.work_item.specs.declared.ids.Item.{Item}
 use Rattle.work_item.specs.declared.ids.BlockId.{BlockId}
-use Rattle.code_safety.specs.Fit.{Life, no_life, life_at, Phase, Gone, Going, AtFinish, is_living, is_going, one_if, one_at, occurs, runs, total, is_at, starts_in}
+use Rattle.code_safety.specs.Fit.{Life, no_life, life_at, Phase, Gone, Going, AtFinish, is_living, is_going, one_if, occurs, total, is_at, starts_in}
 
 -- ---- sums
 

@@ -1,5 +1,5 @@
 -- States in which no reference dangles, states in which one does, and chains of frames.
-use Rattle.std.proofs.Common.{◌≡◌, ℕ, zero, suc, ◌<◌, List, [], ◌∷◌, pos, Option, Some, None, true, false, inl, inr, refl, sym, ap, ◌∙◌, subst, arith}
+use Rattle.std.proofs.Common.{◌≡◌, ℕ, zero, suc, ◌<◌, ◌≤◌, List, [], ◌∷◌, pos, Option, Some, None, true, false, inl, inr, refl, sym, ap, ◌∙◌, subst, arith}
 use Rattle.std.specs.Prelude.{slice_get, slice_index_or}
 use Rattle.work_item.specs.declared.ids.FrameId.{FrameId}
 use Rattle.work_item.specs.declared.ids.Item.{Item}
@@ -8,11 +8,16 @@ use Rattle.work_item.specs.declared.cell.Cell.{Cell}
 use Rattle.work_item.specs.declared.cell.Cell.TheVariants as cell
 use Rattle.work_item.specs.Store.{Frame}
 use Rattle.work_item.specs.Conditions.{ParentLives}
+use Rattle.work_item.specs.declared.cell.Place.{Place}
+use Rattle.cancel_scope.specs.declared.operation.Asked.TheVariants.{Send, Recv}
+use Rattle.cancel_scope.specs.declared.operation.Operation.{Operation}
+use Rattle.cancel_scope.specs.Outstanding.{started}
 use Rattle.core_state.specs.Shared.{first_shared}
 use Rattle.stack_code.specs.Machine.{Thread, Block, Flat, nobody}
-use Rattle.code_safety.specs.Living.{LivesAs, as_running, as_ready, as_waiting, IsOfCaller, HasFrame, RefersToLiving, AllReferToLiving, ActivationLives, CallersLive, NamesLiving}
+use Rattle.code_safety.specs.Living.{LivesAs, as_running, as_ready, as_operating, as_waiting, IsOfCaller, HasFrame, RefersToLiving, AllReferToLiving, ActivationLives, CallersLive}
+use Rattle.code_safety.specs.Living.{AskedLives, NamesLiving, HasSlots, LiesThere, ArrayLiesThere}
 use Rattle.code_safety.specs.Chains.{Origin, AtEntry, CalledIn, StartedIn, link_of, parent_of, Came, OnChain, itself, further, LiesIn, directly, deeper}
-use Rattle.code_safety.specs.Chains.{HomeOnChain, AllName, HasEnteredIn, none_in, one_in, Starts}
+use Rattle.code_safety.specs.Chains.{HomeOnChain, AllName, AskedOnChain, HasEnteredIn, none_in, one_in, Starts}
 
 -- ---- references
 
@@ -26,8 +31,11 @@ abbrev first : Item
 first = record { number = 0 }
 
 -- the two slots of the outer frame, as an array
+abbrev place : Place
+place = record { home = Some outer; start = 0; len = 2 }
+
 abbrev array : Cell
-array = cell.Array (record { home = Some outer; start = 0; len = 2 })
+array = cell.Array place
 
 abbrev outer_frame : Frame
 outer_frame = record { parent = None; cells = cell.Int (pos 5) ∷ cell.Int (pos 6) ∷ []; over = false }
@@ -41,6 +49,7 @@ abbrev reading : Option Frame → Flat
 reading caller = record {
   shared = first_shared [];
   store = record { globals = []; frames = caller ∷ Some called_frame ∷ [] };
+  operations = [];
   running = Some first;
   current = record { place = 7; frame = called; operands = cell.Int (pos 1) ∷ array ∷ []; callers = record { place = 3; frame = outer; operands = [] } ∷ []; block = None };
   ready = [];
@@ -55,6 +64,7 @@ whole = reading (Some outer_frame)
 whole_threads : (t : Item) (h : Thread) → LivesAs whole t h → ActivationLives whole.store h.frame h.operands × CallersLive whole.store h.callers
 whole_threads _ _ (as_running t e) = ((refl, (tt, (refl, tt))), ((refl, tt), tt))
 whole_threads _ _ (as_ready t some) = absurd (omega (arith, some))
+whole_threads _ _ (as_operating t some) = absurd (omega (arith, some))
 whole_threads _ _ (as_waiting t b x here owner w) = let no : None ≡ Some x = here in absurd (cc)
 
 whole_frames : (n : ℕ) (x : Frame) → slice_index_or whole.store.frames n None ≡ Some x → ParentLives whole.store x.parent × AllReferToLiving whole.store x.cells
@@ -68,6 +78,7 @@ the_caller_lives = record {
   threads = whole_threads;
   parents = λ f x e. (whole_frames f.number x e).0;
   cells = λ f x e. (whole_frames f.number x e).1;
+  operations = λ k d lt. absurd (omega (arith, lt));
 }
 
 -- and here it is gone
@@ -81,6 +92,18 @@ what_refers_to_a_living_frame = (refl, tt)
 
 pub what_dangles : RefersToLiving (reading None).store array → ⊥
 what_dangles h = let no : false ≡ true = h in cc
+
+-- ---- arrays
+
+pub it_lies_in_its_frame : ArrayLiesThere whole.store array
+it_lies_in_its_frame = λ lives. omega arith
+
+-- the frame has no third slot
+pub three_slots_do_not : LiesThere whole.store (record place { len = 3 }) → ⊥
+three_slots_do_not h = let le : 3 ≤ 2 = h refl in omega (arith, le)
+
+pub no_global_is_there : HasSlots whole.store None 0 × (HasSlots whole.store None 1 → ⊥)
+no_global_is_there = (omega arith, λ le. omega (arith, le))
 
 -- ---- threads
 
@@ -102,7 +125,39 @@ no_second_thread h l = by (record { number = 1 }) h refl l
         let z = ap (λ (u : Item). u.number) same in
         omega (arith, z, q)
     by _ _ q (as_ready t some) = omega (arith, some)
+    by _ _ q (as_operating t some) = omega (arith, some)
     by _ _ q (as_waiting t b x here owner w) = let no : None ≡ Some x = here in cc
+
+-- ---- operations
+
+-- the function has asked for a message into the array, and waits for it
+abbrev receiving : Option Frame → List Operation → Flat
+receiving caller operations = record (reading caller) { operations = operations; running = None; current = nobody; threads = (reading caller).current ∷ [] }
+
+abbrev into_the_array : List Operation
+into_the_array = started 0 (Recv place) first ∷ []
+
+pub its_thread_lives : LivesAs (receiving (Some outer_frame) into_the_array) first whole.current
+its_thread_lives = as_operating first (omega arith)
+
+pub a_thread_without_an_operation_does_not : (h : Thread) → LivesAs (receiving (Some outer_frame) []) first h → ⊥
+a_thread_without_an_operation_does_not h l = by first h l
+  where
+    by : (t : Item) (h : Thread) → LivesAs (receiving (Some outer_frame) []) t h → ⊥
+    by _ _ (as_running t e) = let no : None ≡ Some t = e in cc
+    by _ _ (as_ready t some) = omega (arith, some)
+    by _ _ (as_operating t some) = omega (arith, some)
+    by _ _ (as_waiting t b x here owner w) = let no : None ≡ Some x = here in cc
+
+pub what_is_received_into_a_living_frame : AskedLives whole.store (Recv place) × AskedLives (reading None).store (Send (pos 5))
+what_is_received_into_a_living_frame = (refl, tt)
+
+pub what_is_received_into_no_frame : AskedLives (reading None).store (Recv place) → ⊥
+what_is_received_into_no_frame h = let no : false ≡ true = h in cc
+
+-- a state in which the frame for a message is gone
+pub no_frame_for_the_message : NamesLiving (receiving None into_the_array) → ⊥
+no_frame_for_the_message n = what_is_received_into_no_frame (n.operations 0 (started 0 (Recv place) first) (omega arith))
 
 -- ---- chains
 
@@ -160,6 +215,12 @@ the_body_names_an_array_of_the_entry = (out_to_the_entry, (out_to_the_entry, (tt
 
 pub the_entry_names_none_of_the_body : AllName origins outer (cell.Array (record { home = Some body; start = 0; len = 1 }) ∷ []) → ⊥
 the_entry_names_none_of_the_body h = not_inwards h.0
+
+pub the_body_receives_into_the_entry : AskedOnChain origins body (Recv place) × AskedOnChain origins outer (Send (pos 5))
+the_body_receives_into_the_entry = (out_to_the_entry, tt)
+
+pub the_entry_receives_into_no_body : AskedOnChain origins outer (Recv (record { home = Some body; start = 0; len = 1 })) → ⊥
+the_entry_receives_into_no_body h = not_inwards h
 
 -- ---- blocks and threads
 

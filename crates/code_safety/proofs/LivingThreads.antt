@@ -1,20 +1,22 @@
 -- The threads that live are those that a fit state says live; and where their blocks were entered.
-use Rattle.std.proofs.Common.{◌≡◌, ◌⊎◌, ℕ, zero, suc, ◌+◌, ◌≤◌, ◌<◌, List, [], ◌∷◌, Option, Some, None, true, false, refl, sym, ap, ◌∙◌, subst, inl, inr, arith}
-use Rattle.std.specs.Prelude.{slice_get}
+use Rattle.std.proofs.Common.{◌≡◌, ◌⊎◌, ℕ, zero, suc, ◌+◌, ◌≤◌, ◌<◌, List, [], ◌∷◌, length, Option, Some, None, Bool, true, false, refl, sym, ap, ◌∙◌, subst, inl, inr, arith}
+use Rattle.std.specs.Prelude.{slice_get, slice_index_or, nat_eq, if◌then◌else◌}
 use Rattle.std.proofs.lemmas.Bool.{cases_eq}
 use Rattle.work_item.specs.declared.ids.Item.{Item}
 use Rattle.work_item.specs.declared.ids.FrameId.{FrameId}
 use Rattle.work_item.specs.declared.ids.BlockId.{BlockId}
 use Rattle.work_item.specs.declared.cell.Cell.{Cell}
+use Rattle.work_item.specs.Store.{no_int}
+use Rattle.cancel_scope.specs.declared.operation.Operation.{Operation}
 use Rattle.stack_code.specs.declared.shape.Shape.{Shape}
 use Rattle.stack_code.specs.Parts.{Parts}
 use Rattle.stack_code.specs.Valid.{Reaches, IsShaped}
-use Rattle.stack_code.specs.Machine.{Caller, Thread, Block, Flat, block_at, thread_at}
+use Rattle.stack_code.specs.Machine.{Caller, Thread, Block, Flat, block_at, thread_at, given}
 use Rattle.code_safety.specs.Fit.{Birth, Goes, AreCallers, bottom, above, HasEntered, outside, inside, IsThread, Phase, Gone, Going, AtFinish, life_at, is_living, is_going}
-use Rattle.code_safety.specs.Fit.{innermost_in, IsFit, one_if, occurs, runs, own_blocks}
-use Rattle.code_safety.specs.Living.{LivesAs, as_running, as_ready, as_waiting, IsOfCaller, HasFrame}
+use Rattle.code_safety.specs.Fit.{innermost_in, IsFit, one_if, one_at, occurs, runs, items_of, going_on, own_blocks}
+use Rattle.code_safety.specs.Living.{LivesAs, as_running, as_ready, as_operating, as_waiting, IsOfCaller, HasFrame}
 use Rattle.code_safety.specs.Chains.{Origin, HasEnteredIn, none_in, one_in, Starts, IsStack, outermost, called, HasStack, AreChained}
-use Rattle.code_safety.proofs.Lives.{one_same, one_is, one_true, one_at_most, same_block, going_is, going_lives}
+use Rattle.code_safety.proofs.Lives.{one_same, one_other, one_true, one_at_most, same_block, going_is, going_lives}
 use Rattle.code_safety.proofs.Own.{phase_of, lives_of}
 
 -- ---- the blocks of the innermost activation
@@ -31,6 +33,33 @@ module _ (code : Parts) (origins : List Origin) (blocks : List (Option Block)) (
 
 -- ---- which threads live
 
+-- the thread of an operation waits for its end
+pub waits_there : (os : List Operation) (k : ℕ) (d : Operation) → k < length os → 0 < occurs (slice_index_or os k d).item.number (items_of os)
+waits_there [] k d lt = absurd (omega (arith, lt))
+waits_there (o ∷ os) zero d lt = let one : one_at o.item.number o.item ≡ 1 = one_same o.item.number in omega (arith, one)
+waits_there (o ∷ os) (suc k) d lt = let h = waits_there os k d (omega (arith, lt)) in omega (arith, h)
+
+-- a thread with the same activations, in the same block, whatever its operands are
+pub record StandsAs (h k : Thread) : Type 0 where
+  pub frame : h.frame ≡ k.frame
+  pub callers : h.callers ≡ k.callers
+  pub block : h.block ≡ k.block
+
+stands : (h : Thread) → StandsAs h h
+stands h = record { frame = refl; callers = refl; block = refl }
+
+-- as it goes on it stands where it was
+stands_on : (os : List Operation) (t : Item) (h : Thread) → StandsAs (going_on os t h) h
+stands_on [] t h = stands h
+stands_on (o ∷ os) t h = by (stands_on os t h) (nat_eq t.number o.item.number)
+  where
+    by : StandsAs (going_on os t h) h → (b : Bool) → StandsAs (if b then given no_int h else going_on os t h) h
+    by rest true = record { frame = refl; callers = refl; block = refl }
+    by rest false = rest
+
+has_frame_as : (h k : Thread) → StandsAs h k → (g : FrameId) → HasFrame k g → HasFrame h g
+has_frame_as h k s g has = elim has as (λ _. HasFrame h g) [ inl e ↦ inl (s.frame ∙ e) | inr c ↦ inr (subst (λ cs. IsOfCaller cs g) (sym s.callers) c) ]
+
 module _ (code : Parts) (m : Flat) (fit : IsFit code m) where
   -- an owner that waits does not run
   pub not_running : (t : Item) (b : BlockId) (x : Block) → block_at m.blocks b ≡ Some x → x.owner ≡ t → x.waits ≡ true → m.running ≡ Some t → ⊥
@@ -39,9 +68,10 @@ module _ (code : Parts) (m : Flat) (fit : IsFit code m) where
       let no : Going ≡ AtFinish b = sym (phase_of code m fit t run) ∙ at in
       cc
 
-  -- one that is ready does not run either, and is so once
-  pub ready_once : (t : Item) → 0 < occurs t.number m.ready → (is_going (life_at fit.lives t).phase ≡ true) × ((occurs t.number m.ready ≡ 1) × (m.running ≡ Some t → ⊥))
-  ready_once t some =
+  -- one that runs, is ready or waits for an operation goes, and does no two of them
+  pub one_listed : (t : Item) → 0 < occurs t.number m.ready + occurs t.number (items_of m.operations)
+      → (is_going (life_at fit.lives t).phase ≡ true) × ((occurs t.number m.ready + occurs t.number (items_of m.operations) ≡ 1) × (m.running ≡ Some t → ⊥))
+  one_listed t some =
       let l = fit.listed t.number in
       let most = one_at_most (is_going (life_at fit.lives t).phase) in
       let one : one_if (is_going (life_at fit.lives t).phase) ≡ 1 = omega (arith, l, most, some) in (
@@ -52,67 +82,92 @@ module _ (code : Parts) (m : Flat) (fit : IsFit code m) where
         ),
       )
 
-  -- one that waits is not ready
-  pub not_ready : (t : Item) (b : BlockId) (x : Block) → block_at m.blocks b ≡ Some x → x.owner ≡ t → x.waits ≡ true → 0 < occurs t.number m.ready → ⊥
-  not_ready t b x here owner w some =
+  -- one that is ready does not run either, and is so once
+  pub ready_once : (t : Item) → 0 < occurs t.number m.ready → (is_going (life_at fit.lives t).phase ≡ true) × ((occurs t.number m.ready ≡ 1) × (m.running ≡ Some t → ⊥))
+  ready_once t some = let o = one_listed t (omega (arith, some)) in (o.0, (let one = o.1.0 in omega (arith, one, some), o.1.1))
+
+  -- and so with one that waits for an operation
+  pub operating_once : (t : Item) → 0 < occurs t.number (items_of m.operations)
+      → (is_going (life_at fit.lives t).phase ≡ true) × ((occurs t.number (items_of m.operations) ≡ 1) × (m.running ≡ Some t → ⊥))
+  operating_once t some = let o = one_listed t (omega (arith, some)) in (o.0, (let one = o.1.0 in omega (arith, one, some), o.1.1))
+
+  pub not_both : (t : Item) → 0 < occurs t.number m.ready → 0 < occurs t.number (items_of m.operations) → ⊥
+  not_both t ready operating = let o = one_listed t (omega (arith, ready)) in let one = o.1.0 in omega (arith, one, ready, operating)
+
+  -- an owner that waits at a finish does not go
+  pub not_going : (t : Item) (b : BlockId) (x : Block) → block_at m.blocks b ≡ Some x → x.owner ≡ t → x.waits ≡ true → is_going (life_at fit.lives t).phase ≡ true → ⊥
+  not_going t b x here owner w go =
       let at : (life_at fit.lives t).phase ≡ AtFinish b = ap (λ z. (life_at fit.lives z).phase) (sym owner) ∙ (fit.block b x here).waits w in
-      let go : is_going (life_at fit.lives t).phase ≡ true = (ready_once t some).0 in
       let no : false ≡ true = sym (ap is_going at) ∙ go in
       cc
 
-  pub is_life : (t : Item) (h : Thread) → LivesAs m t h → (is_living (life_at fit.lives t).phase ≡ true) × ((life_at fit.lives t).thread ≡ h)
-  is_life _ _ (as_running t run) = (lives_of code m fit t run, sym (fit.current t run))
+  parked_as : (t : Item) → is_living (life_at fit.lives t).phase ≡ true → (m.running ≡ Some t → ⊥) → StandsAs (life_at fit.lives t).thread (thread_at m.threads t)
+  parked_as t l not = subst (λ h. StandsAs h (thread_at m.threads t)) (fit.parked t l not) (stands_on m.operations t (thread_at m.threads t))
+
+  current_as : (t : Item) → m.running ≡ Some t → StandsAs (life_at fit.lives t).thread m.current
+  current_as t run = subst (λ h. StandsAs h m.current) (fit.current t run) (stands m.current)
+
+  pub is_life : (t : Item) (h : Thread) → LivesAs m t h → (is_living (life_at fit.lives t).phase ≡ true) × StandsAs (life_at fit.lives t).thread h
+  is_life _ _ (as_running t run) = (lives_of code m fit t run, current_as t run)
   is_life _ _ (as_ready t some) =
       let r = ready_once t some in
       let l = going_lives (life_at fit.lives t).phase (going_is (life_at fit.lives t).phase r.0) in
-      (l, sym (fit.parked t l r.1.1))
+      (l, parked_as t l r.1.1)
+  is_life _ _ (as_operating t some) =
+      let r = operating_once t some in
+      let l = going_lives (life_at fit.lives t).phase (going_is (life_at fit.lives t).phase r.0) in
+      (l, parked_as t l r.1.1)
   is_life _ _ (as_waiting t b x here owner w) =
       let at : (life_at fit.lives t).phase ≡ AtFinish b = ap (λ z. (life_at fit.lives z).phase) (sym owner) ∙ (fit.block b x here).waits w in
       let l : is_living (life_at fit.lives t).phase ≡ true = ap is_living at in
-      (l, sym (fit.parked t l (not_running t b x here owner w)))
+      (l, parked_as t l (not_running t b x here owner w))
 
-  pub lives_as : (t : Item) → is_living (life_at fit.lives t).phase ≡ true → LivesAs m t (life_at fit.lives t).thread
+  -- a thread that lives, as it stands
+  pub record Standing (t : Item) : Type 0 where
+    pub thread : Thread
+    pub lives : LivesAs m t thread
+    pub same : StandsAs (life_at fit.lives t).thread thread
+
+  lives_as : (t : Item) → is_living (life_at fit.lives t).phase ≡ true → Standing t
   lives_as t l = go (life_at fit.lives t).phase refl l
     where
-      running_or : (o : Option Item) → m.running ≡ o → runs t.number o + occurs t.number m.ready ≡ 1 → is_going (life_at fit.lives t).phase ≡ true → LivesAs m t (life_at fit.lives t).thread
-      running_or None run one g =
-          let some : 0 < occurs t.number m.ready = omega (arith, one) in
-          let p = fit.parked t l (λ e. let no : None ≡ Some t = sym run ∙ e in cc) in
-          subst (LivesAs m t) p (as_ready t some)
-      running_or (Some u) run one g = elim (cases_eq t.number u.number) as (λ _. LivesAs m t (life_at fit.lives t).thread) [
+      parked : (m.running ≡ Some t → ⊥) → LivesAs m t (thread_at m.threads t) → Standing t
+      parked not a = record { thread = thread_at m.threads t; lives = a; same = parked_as t l not }
+
+      cases_some : (n : ℕ) → (0 < n) ⊎ (n ≡ 0)
+      cases_some zero = inr refl
+      cases_some (suc n) = inl (omega arith)
+
+      ready_or : (m.running ≡ Some t → ⊥) → occurs t.number m.ready + occurs t.number (items_of m.operations) ≡ 1 → Standing t
+      ready_or not one = elim (cases_some (occurs t.number m.ready)) as (λ _. Standing t) [
+        | inl some ↦ parked not (as_ready t some)
+        | inr none ↦ parked not (as_operating t (omega (arith, one, none)))
+      ]
+
+      running_or : (o : Option Item) → m.running ≡ o → runs t.number o + (occurs t.number m.ready + occurs t.number (items_of m.operations)) ≡ 1 → Standing t
+      running_or None run one = ready_or (λ e. let no : None ≡ Some t = sym run ∙ e in cc) (omega (arith, one))
+      running_or (Some u) run one = elim (cases_eq t.number u.number) as (λ _. Standing t) [
         | inl e ↦
             let make : ℕ → Item = λ n. record { number = n } in
             let same : Some u ≡ Some t = ap (λ n. Some (make n)) (sym e) in
-            subst (LivesAs m t) (fit.current t (run ∙ same)) (as_running t (run ∙ same))
+            record { thread = m.current; lives = as_running t (run ∙ same); same = current_as t (run ∙ same) }
         | inr ne ↦
-            elim (cases_some (occurs t.number m.ready)) as (λ _. LivesAs m t (life_at fit.lives t).thread) [
-              | inl some ↦
-                  let p = fit.parked t l (λ e. let both : Some u ≡ Some t = sym run ∙ e in ne (let q : u ≡ t = cc in ap (λ (z : Item). z.number) (sym q))) in
-                  subst (LivesAs m t) p (as_ready t some)
-              | inr zero_ready ↦ absurd (ne (one_is_run u (omega (arith, one, zero_ready))))
-            ]
+            let none : runs t.number (Some u) ≡ 0 = one_other t.number u.number ne in
+            ready_or (λ e. let both : Some u ≡ Some t = sym run ∙ e in ne (let q : u ≡ t = cc in ap (λ (z : Item). z.number) (sym q))) (omega (arith, one, none))
       ]
-        where
-          cases_some : (n : ℕ) → (0 < n) ⊎ (n ≡ 0)
-          cases_some zero = inr refl
-          cases_some (suc n) = inl (omega arith)
 
-          one_is_run : (u : Item) → 1 ≤ runs t.number (Some u) → t.number ≡ u.number
-          one_is_run u h = one_is t.number u.number h
-
-      go : (p : Phase) → (life_at fit.lives t).phase ≡ p → is_living p ≡ true → LivesAs m t (life_at fit.lives t).thread
+      go : (p : Phase) → (life_at fit.lives t).phase ≡ p → is_living p ≡ true → Standing t
       go Gone e h = let no : false ≡ true = h in absurd (cc)
       go Going e h =
           let g : is_going (life_at fit.lives t).phase ≡ true = ap is_going e in
-          running_or m.running refl (fit.listed t.number ∙ ap one_if g) g
+          running_or m.running refl (fit.listed t.number ∙ ap one_if g)
       go (AtFinish b) e h =
           let w = (fit.alive t l).waiting b e in
-          let p = fit.parked t l (λ run. let no : Going ≡ AtFinish b = sym (phase_of code m fit t run) ∙ e in cc) in
-          subst (LivesAs m t) p (as_waiting t b w.block w.here w.owner w.waits)
+          parked (λ run. let no : Going ≡ AtFinish b = sym (phase_of code m fit t run) ∙ e in cc) (as_waiting t b w.block w.here w.owner w.waits)
 
-  -- what is fit of it
-  pub thread_as : (t : Item) (h : Thread) → LivesAs m t h → IsThread code fit.births m.store m.blocks t (life_at fit.lives t).start h
-  thread_as t h l = let i = is_life t h l in subst (IsThread code fit.births m.store m.blocks t (life_at fit.lives t).start) i.1 (fit.alive t i.0).thread
+  -- what is fit of it, as it goes on
+  thread_as : (t : Item) (h : Thread) → LivesAs m t h → IsThread code fit.births m.store m.blocks t (life_at fit.lives t).start (life_at fit.lives t).thread
+  thread_as t h l = (fit.alive t (is_life t h l).0).thread
 
   caller_goes : (t : Item) (start : Option BlockId) (f : FrameId) (shape : Shape) (callers : List Caller) (n : ℕ) → AreCallers code fit.births m.store t start f shape callers n → (g : FrameId)
       → IsOfCaller callers g → (g.number < f.number) × Goes fit.births m.store t g
@@ -124,16 +179,24 @@ module _ (code : Parts) (m : Flat) (fit : IsFit code m) where
       ]
 
   pub callers_older : (t : Item) (h : Thread) → LivesAs m t h → (g : FrameId) → IsOfCaller h.callers g → g.number < h.frame.number
-  callers_older t h l g has = let i = thread_as t h l in (caller_goes t (life_at fit.lives t).start h.frame i.shape h.callers i.below i.callers g has).0
+  callers_older t h l g has =
+      let i = thread_as t h l in
+      let k = (is_life t h l).1 in
+      let own = (life_at fit.lives t).thread in
+      let lt = (caller_goes t (life_at fit.lives t).start own.frame i.shape own.callers i.below i.callers g (subst (λ cs. IsOfCaller cs g) (sym k.callers) has)).0 in
+      subst (λ (z : FrameId). g.number < z.number) k.frame lt
 
   -- the frames of its activations, none of which has ended
   pub frame_goes : (t : Item) (h : Thread) → LivesAs m t h → (g : FrameId) → HasFrame h g → (g.number ≤ h.frame.number) × Goes fit.births m.store t g
   frame_goes t h l g has =
       let i = thread_as t h l in
-      elim has as (λ _. (g.number ≤ h.frame.number) × Goes fit.births m.store t g) [
-        | inl e ↦ (subst (λ (z : FrameId). z.number ≤ h.frame.number) e (omega arith), subst (Goes fit.births m.store t) e i.top.goes)
-        | inr k ↦ let r = caller_goes t (life_at fit.lives t).start h.frame i.shape h.callers i.below i.callers g k in let lt = r.0 in (omega (arith, lt), r.1)
-      ]
+      let k = (is_life t h l).1 in
+      let own = (life_at fit.lives t).thread in
+      subst (λ (z : FrameId). (g.number ≤ z.number) × Goes fit.births m.store t g) k.frame
+      (elim (has_frame_as own h k g has) as (λ _. (g.number ≤ own.frame.number) × Goes fit.births m.store t g) [
+        | inl e ↦ (subst (λ (z : FrameId). z.number ≤ own.frame.number) e (omega arith), subst (Goes fit.births m.store t) e i.top.goes)
+        | inr c ↦ let r = caller_goes t (life_at fit.lives t).start own.frame i.shape own.callers i.below i.callers g c in let lt = r.0 in (omega (arith, lt), r.1)
+      ])
 
   -- a frame is of one thread
   pub one_owner : (t u : Item) (g k : FrameId) → g.number ≡ k.number → Goes fit.births m.store t g → Goes fit.births m.store u k → t ≡ u
@@ -205,7 +268,8 @@ module _ (code : Parts) (m : Flat) (fit : IsFit code m) where
         let lt = st.older in
         let o : st.block.owner.number ≡ t.number = ap (λ (w : Block). w.owner.number) is ∙ ap (λ (w : Item). w.number) owner in
         omega (arith, lt, o))
-        h.place h.frame h.operands h.callers h.block z.stack (own_blocks th.shape + th.below) th.entered
+        h.place h.frame h.operands h.callers h.block z.stack (own_blocks th.shape + th.below)
+        (subst (HasEntered m.blocks t (life_at fit.lives t).start (own_blocks th.shape + th.below)) i.1.block th.entered)
 
     -- ---- where a block was entered
 
@@ -285,21 +349,20 @@ module _ (code : Parts) (m : Flat) (fit : IsFit code m) where
         pub at : slice_get sites b.number ≡ Some site
         pub has : HasFrame thread site
 
-      abbrev own_thread : Thread
-      own_thread = (life_at fit.lives x.owner).thread
+      owner_stands : Standing x.owner
+      owner_stands = lives_as x.owner owner_lives
 
-      abbrev own_lives : LivesAs m x.owner own_thread
-      own_lives = lives_as x.owner owner_lives
-
-      site_within : Within own_thread.block → Site
+      site_within : Within (life_at fit.lives x.owner).thread.block → Site
       site_within w =
-          let f = stack_found own_thread own_lives (origins_sites.threads x.owner own_thread own_lives) w in
+          let own = owner_stands in
+          let f = stack_found own.thread own.lives (origins_sites.threads x.owner own.thread own.lives)
+          (record { inner = w.inner; is = sym own.same.block ∙ w.is; le = w.le }) in
           record {
-            thread = own_thread;
-            lives = own_lives;
+            thread = own.thread;
+            lives = own.lives;
             site = f.site;
             at = f.at;
-            has = elim f.has as (λ _. HasFrame own_thread f.site) [ inl k ↦ inl k.1 | inr k ↦ inr k ];
+            has = elim f.has as (λ _. HasFrame own.thread f.site) [ inl k ↦ inl k.1 | inr k ↦ inr k ];
           }
 
       pub block_site : Site
@@ -311,18 +374,20 @@ module _ (code : Parts) (m : Flat) (fit : IsFit code m) where
           go (AtFinish c) e =
               let i = fit.block b x here in
               let w = (fit.alive x.owner owner_lives).waiting c e in
-              let same : i.inner ≡ c = let both : Some i.inner ≡ Some c = sym i.innermost ∙ ap (λ p. innermost_in p own_thread.block) e in cc in
+              let same : i.inner ≡ c = let both : Some i.inner ≡ Some c = sym i.innermost ∙ ap (λ p. innermost_in p (life_at fit.lives x.owner).thread.block) e in cc in
               let le : b.number ≤ c.number = subst (λ (z : BlockId). b.number ≤ z.number) same i.within in
               elim (cases_eq b.number c.number) as (λ _. Site) [
                 | inl k ↦
                     let is : c ≡ b = same_block c b (sym k) in
                     let at = origins_sites.waiting c w.block w.here w.waits in
-                    let parked = fit.parked x.owner owner_lives (not_running x.owner c w.block w.here w.owner w.waits) in
-                    let frame : (thread_at m.threads w.block.owner).frame ≡ own_thread.frame = ap (λ z. (thread_at m.threads z).frame) w.owner ∙ ap (λ (z : Thread). z.frame) parked in
+                    let kept = parked_as x.owner owner_lives (not_running x.owner c w.block w.here w.owner w.waits) in
+                    let own = owner_stands in
+                    let frame : (thread_at m.threads w.block.owner).frame ≡ own.thread.frame =
+                    ap (λ z. (thread_at m.threads z).frame) w.owner ∙ sym kept.frame ∙ own.same.frame in
                     record {
-                      thread = own_thread;
-                      lives = own_lives;
-                      site = own_thread.frame;
+                      thread = own.thread;
+                      lives = own.lives;
+                      site = own.thread.frame;
                       at = ap (λ (z : BlockId). slice_get sites z.number) (sym is) ∙ at ∙ ap (λ z. Some z) frame;
                       has = inl refl;
                     }

@@ -1,9 +1,9 @@
 -- New frames, and what of the others is kept when one is given back.
-use Rattle.std.proofs.Common.{◌≡◌, ◌⊎◌, ℕ, zero, suc, ◌+◌, ◌-◌, ◌≤◌, ◌<◌, ◌^◌, List, [], ◌∷◌, ◌++◌, length, length-append, drop, Option, Some, None, Bool, true, false, refl, sym, ap, ◌∙◌, subst, inl}
+use Rattle.std.proofs.Common.{◌≡◌, ◌⊎◌, ℕ, zero, suc, ◌+◌, ◌-◌, ◌<◌, ◌^◌, List, [], ◌∷◌, ◌++◌, length, length-append, drop, Option, Some, None, Bool, true, false, refl, sym, ap, ◌∙◌, subst, inl}
 use Rattle.std.proofs.Common.{inr, arith}
-use Rattle.std.specs.Prelude.{slice_get, slice_index_or, slice_set, nat_eq, not, ◌&&◌, ◌||◌, if◌then◌else◌}
+use Rattle.std.specs.Prelude.{slice_get, slice_index_or, slice_set, not, ◌&&◌, ◌||◌, if◌then◌else◌}
 use Rattle.std.proofs.lemmas.Bool.{cases_eq, cases_lt, eq-eqb}
-use Rattle.std.proofs.lemmas.List.{length-set, get_or-set_other, get_or-set_same, get_or_past, get_or-drop, get_or_append_left}
+use Rattle.std.proofs.lemmas.List.{length-set, get_or-set_other, get_or-set_same, get_or-drop}
 use Rattle.work_item.specs.declared.ids.FrameId.{FrameId}
 use Rattle.work_item.specs.declared.cell.Cell.{Cell}
 use Rattle.work_item.specs.Store.{Store, Frame, frame_at, next_frame, made, released, is_number, is_parent, any_in, kept_one, kept, some_over}
@@ -53,7 +53,7 @@ there_within (z ∷ xs) (suc n) y e = let r = there_within xs n y e in omega (ar
 -- ---- a new frame
 
 module _ (code : Parts) (births : List Birth) (s : Store) (h : IsStore code births s) (parent : Option FrameId) (cells : List Cell) (birth : Birth)
-    (slots : AreSlots code (births ++ birth ∷ []) birth.home cells) (short : length cells < 2 ^ 32) where
+    (slots : AreSlots code (births ++ birth ∷ []) birth.home cells) (long : length cells ≡ birth.slots) (short : length cells < 2 ^ 32) where
   abbrev pub new_frame : Frame
   new_frame = record { parent = parent; cells = cells; over = false }
 
@@ -78,6 +78,7 @@ module _ (code : Parts) (births : List Birth) (s : Store) (h : IsStore code birt
           birth = birth;
           born = subst (λ n. slice_get (births ++ birth ∷ []) n ≡ Some birth) (sym p.0) new_born;
           slots = slots;
+          long = long;
           short = short;
         })
       ]
@@ -212,6 +213,7 @@ left_store code births s f h = record {
         birth = i.birth;
         born = i.born;
         slots = subst (AreSlots code births i.birth.home) (sym w.1.1) i.slots;
+        long = subst (λ (cells : List Cell). length cells ≡ i.birth.slots) (sym w.1.1) i.long;
         short = subst (λ (cells : List Cell). length cells < 2 ^ 32) (sym w.1.1) i.short;
       };
 }

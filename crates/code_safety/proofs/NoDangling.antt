@@ -1,6 +1,6 @@
 -- No reference dangles: not in the first state, and after no move; so whatever is named is in a frame that lives.
 use Rattle.std.proofs.Common.{◌≡◌, ◌⊎◌, ℕ, zero, suc, ◌+◌, List, [], ◌∷◌, Option, Some, None, Bool, true, false, refl, sym, ap, ◌∙◌, subst, inl, inr, arith}
-use Rattle.std.specs.Prelude.{slice_get, slice_index_or, slice_set, replicate, nat_lt, ◌^◌, ◌-◌, if◌then◌else◌}
+use Rattle.std.specs.Prelude.{All, slice_get, slice_index_or, slice_set, replicate, nat_lt, ◌^◌, ◌-◌, if◌then◌else◌}
 use Rattle.std.proofs.lemmas.Option.{slice_get_within, get_or_from_slice_get}
 use Rattle.ac_base.specs.declared.ends.EndWord.TheVariants as word
 use Rattle.work_item.specs.declared.ids.Item.{Item}
@@ -10,6 +10,9 @@ use Rattle.work_item.specs.declared.cell.Cell.{Cell}
 use Rattle.work_item.specs.declared.cell.Cell.TheVariants as cell
 use Rattle.work_item.specs.Store.{Frame, frame_at, made, no_int}
 use Rattle.work_item.specs.Conditions.{Lives, ParentLives, HomeLives}
+use Rattle.cancel_scope.specs.declared.operation.Asked.{Asked}
+use Rattle.cancel_scope.specs.declared.operation.Asked.TheVariants as asked
+use Rattle.cancel_scope.specs.declared.operation.Operation.{Operation}
 use Rattle.core_state.specs.Moves.{On, Over}
 use Rattle.core_state.specs.Frames.{first_store, first_frame}
 use Rattle.core_state.specs.Shared.{Shared, with_turn, seen}
@@ -21,17 +24,18 @@ use Rattle.stack_code.specs.declared.shape.Leads.{Leads}
 use Rattle.stack_code.specs.Parts.{Parts, Begins}
 use Rattle.stack_code.specs.Shapes.{effect, first}
 use Rattle.stack_code.specs.Valid.{IsValid, Fits, begins}
-use Rattle.stack_code.specs.Alone.{is_alone, IsAlone}
+use Rattle.stack_code.specs.Meant.{has_meaning, IsMeant}
 use Rattle.stack_code.specs.Machine.{Flat, FlatEnd, Thread, Caller, begin, exec, exec_of, dispatched, told, nobody, thread_at, first_globals, first_item, first_core}
 use Rattle.code_safety.specs.Fit.{IsThread, life_at, one_at, IsFit}
-use Rattle.code_safety.specs.Living.{LivesAs, as_running, as_ready, as_waiting, IsOfCaller, HasFrame, RefersToLiving, AllReferToLiving, ActivationLives, CallersLive, NamesLiving}
-use Rattle.code_safety.specs.Chains.{Origin, AtEntry, link_of, Came, HomeOnChain, Names, AllName, none_in, IsLevel, IsStack, outermost, called, HasStack, IsActive, IsLinked, AreChained}
+use Rattle.code_safety.specs.Living.{LivesAs, as_running, as_ready, as_operating, as_waiting, IsOfCaller, HasFrame, RefersToLiving, AllReferToLiving, ActivationLives, CallersLive}
+use Rattle.code_safety.specs.Living.{AskedLives, NamesLiving}
+use Rattle.code_safety.specs.Chains.{Origin, AtEntry, link_of, Came, HomeOnChain, Names, AllName, AskedOnChain, none_in, IsLevel, IsStack, outermost, called, HasStack, IsActive, IsLinked, AreChained}
 use Rattle.code_safety.proofs.Plain.{Onward}
 use Rattle.code_safety.proofs.Lives.{one_is, same_item}
 use Rattle.code_safety.proofs.Own.{thread_of}
 use Rattle.code_safety.proofs.Chained.{chain_lives, no_names}
 use Rattle.code_safety.proofs.Childless.{body_origin}
-use Rattle.code_safety.proofs.LivingThreads.{frame_goes}
+use Rattle.code_safety.proofs.LivingThreads.{waits_there, frame_goes}
 use Rattle.code_safety.proofs.LinkedFrames.{same_frame, lives_there, there_lives}
 use Rattle.code_safety.proofs.OwnChains.{plain_chained}
 use Rattle.code_safety.proofs.BlockChains.{enter_chained, finish_chained}
@@ -39,10 +43,12 @@ use Rattle.code_safety.proofs.TurnChains.{yield_chained, turn_chained}
 use Rattle.code_safety.proofs.CallChains.{call_chained, return_chained}
 use Rattle.code_safety.proofs.StartChains.{async_chained}
 use Rattle.code_safety.proofs.EndChains.{end_chained}
+use Rattle.code_safety.proofs.OperationChains.{send_chained, receive_chained}
+use Rattle.code_safety.proofs.ArrivalChains.{rests_chained}
 
 -- ---- one move
 
-module _ (code : Parts) (bound : ℕ) (m : Flat) (v : IsValid code) (alone : IsAlone code) (fit : IsFit code m) (chained : AreChained code m) where
+module _ (code : Parts) (bound : ℕ) (m : Flat) (v : IsValid code) (meant : IsMeant code) (fit : IsFit code m) (chained : AreChained code m) where
   module _ (t : Item) (run : m.running ≡ Some t) where
     abbrev own : IsThread code fit.births m.store m.blocks t (life_at fit.lives t).start m.current
     own = thread_of code m fit t run
@@ -53,7 +59,7 @@ module _ (code : Parts) (bound : ℕ) (m : Flat) (v : IsValid code) (alone : IsA
     abbrev place : ℕ
     place = m.current.place
 
-    by_instr : (instr : Instr) (leads : Leads) → slice_get code.instrs place ≡ Some instr → effect code place instr s ≡ Some leads → is_alone instr ≡ true
+    by_instr : (instr : Instr) (leads : Leads) → slice_get code.instrs place ≡ Some instr → effect code place instr s ≡ Some leads → has_meaning instr ≡ true
         → Onward (AreChained code) (begin code bound m t (Some instr))
     by_instr (i.Call number count) leads here finds a = call_chained code bound m v fit chained t run number count leads here finds
     by_instr i.Ret leads here finds a = return_chained code bound m v fit chained t run leads finds
@@ -63,8 +69,8 @@ module _ (code : Parts) (bound : ℕ) (m : Flat) (v : IsValid code) (alone : IsA
     by_instr i.End leads here finds a = end_chained code bound m v fit chained t run leads finds
     by_instr i.Yield leads here finds a = yield_chained code bound m v fit chained t run here
     by_instr (i.Cancel level slot) leads here finds a = let no : false ≡ true = a in absurd (cc)
-    by_instr (i.Send channel) leads here finds a = let no : false ≡ true = a in absurd (cc)
-    by_instr (i.Recv channel) leads here finds a = let no : false ≡ true = a in absurd (cc)
+    by_instr (i.Send channel) leads here finds a = send_chained code bound m v fit chained t run channel leads here finds
+    by_instr (i.Recv channel) leads here finds a = receive_chained code bound m v fit chained t run channel leads here finds
     by_instr (i.Read file) leads here finds a = let no : false ≡ true = a in absurd (cc)
     by_instr (i.Write file) leads here finds a = let no : false ≡ true = a in absurd (cc)
     by_instr instr leads here finds a = plain_chained code bound m v fit chained t run instr leads here finds refl
@@ -76,12 +82,12 @@ module _ (code : Parts) (bound : ℕ) (m : Flat) (v : IsValid code) (alone : IsA
     runs_on =
         let within = slice_get_within code.instrs place there.instr there.here in
         let one = get_or_from_slice_get code.instrs place there.instr there.instr there.here in
-        let a : is_alone there.instr ≡ true = subst (λ x. is_alone x ≡ true) one (alone place there.instr within) in
+        let a : has_meaning there.instr ≡ true = subst (λ x. has_meaning x ≡ true) one (meant place there.instr within) in
         subst (λ o. Onward (AreChained code) (begin code bound m t o)) (sym there.here) (by_instr there.instr there.leads there.here there.finds a)
 
   dispatches : m.running ≡ None → (ready : List Item) → m.ready ≡ ready → Onward (AreChained code) (dispatched m ready)
   dispatches idle [] e = tt
-  dispatches idle (t ∷ ready) e = go (nat_lt m.shared.turn (2 ^ 64 - 1)) (told m.count (seen word.OutOfSteps false m.store.globals m.shared))
+  dispatches idle (t ∷ ready) e = go (nat_lt m.shared.turn (2 ^ 64 - 1)) (told m.count (seen word.OutOfSteps false m.store.globals m.operations m.shared))
     where
       go : (b : Bool) (end : FlatEnd)
           → Onward (AreChained code) (if b then On
@@ -93,7 +99,7 @@ module _ (code : Parts) (bound : ℕ) (m : Flat) (v : IsValid code) (alone : IsA
   chained_on = go m.running refl
     where
       go : (o : Option Item) → m.running ≡ o → Onward (AreChained code) (exec_of code bound m o)
-      go None e = dispatches e m.ready refl
+      go None e = rests_chained code m fit chained e (dispatches e m.ready refl)
       go (Some t) e = runs_on t e
 
 -- ---- the first state
@@ -123,6 +129,7 @@ module _ (code : Parts) (core : ℕ) (function : Entered) (b : Begins code core 
       let n : t.number ≡ 0 = one_is t.number 0 (let k : one_at t.number first_item + 0 ≡ one_at t.number first_item = omega arith in omega (arith, some, k)) in
       let same : first_item ≡ t = same_item first_item t (sym n) in
       subst (λ z. HasStack code origins [] [] z (thread_at initial.threads z)) same first_stack
+  first_threads _ _ (as_operating t some) = absurd (omega (arith, some))
   first_threads _ _ (as_waiting t c x here owner w) = let no : None ≡ Some x = here in absurd (cc)
 
   first_active : (f : FrameId) → f.number ≡ 0 → IsActive initial f
@@ -159,6 +166,7 @@ module _ (code : Parts) (core : ℕ) (function : Entered) (b : Begins code core 
     frames = first_linked;
     threads = first_threads;
     waiting = λ c x here w. let no : None ≡ Some x = here in absurd (cc);
+    operations = λ k d lt. absurd (omega (arith, lt));
   }
 
 -- ---- whatever is named is in a frame that lives
@@ -202,6 +210,17 @@ module _ (code : Parts) (m : Flat) (fit : IsFit code m) (chained : AreChained co
       let k = chained.frames f x e in
       k.link p (ap link_of (body_origin k.origin p (sym k.parent ∙ q)))
 
+  -- the thread of an operation lives, and so does the frame of its chain into which it receives
+  asked_lives : (a : Asked) (f : FrameId) → Lives m.store f → AskedOnChain chained.origins f a → AskedLives m.store a
+  asked_lives (asked.Send value) f l n = tt
+  asked_lives (asked.Recv place) f l n = home_lives f l place.home n
+
+  operations_live : All (λ (o : Operation). AskedLives m.store o.asked) m.operations
+  operations_live k d lt =
+      let o = slice_index_or m.operations k d in
+      let h = thread_at m.threads o.item in
+      asked_lives o.asked h.frame (frame_lives o.item h (as_operating o.item (waits_there m.operations k d lt)) h.frame (inl refl)) (chained.operations k d lt)
+
   pub names_living : NamesLiving m
   names_living = record {
     threads = λ t h l.
@@ -209,4 +228,5 @@ module _ (code : Parts) (m : Flat) (fit : IsFit code m) (chained : AreChained co
         stack_lives t z.start h.place h.frame h.operands h.callers h.block z.stack (frame_lives t h l);
     parents = λ f x e. parent_lives f x e x.parent refl;
     cells = λ f x e. all_refer f (there_lives m.store f x e) x.cells (chained.frames f x e).names;
+    operations = operations_live;
   }

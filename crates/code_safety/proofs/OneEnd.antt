@@ -1,15 +1,15 @@
--- The core of a valid code without cancel and operations comes to one end and to no other.
-use Rattle.std.proofs.Common.{◌≡◌, ℕ, ◌<◌, List, length, Some, refl, sym, ap, ◌∙◌, subst}
+-- The core of a valid code each of whose instructions has a meaning comes to one end and to no other, for every journal.
+use Rattle.std.proofs.Common.{◌≡◌, ℕ, ◌<◌, List, length, Some, sym, ap, ◌∙◌, subst}
 use Rattle.std.specs.Prelude.{slice_get, slice_index_or}
 use Rattle.std.proofs.lemmas.Option.{slice_get-get_or}
 use Rattle.ac_base.specs.declared.entry.Entry.{Entry}
-use Rattle.core_state.specs.Moves.{Move, On, Over, EndsAs, ComesTo}
+use Rattle.core_state.specs.Moves.{Move, On, Over, ComesTo}
 use Rattle.core_state.proofs.Simulation.{one_end}
 use Rattle.stack_code.specs.declared.parts.Entered.{Entered}
 use Rattle.stack_code.specs.Parts.{Parts, Begins}
 use Rattle.stack_code.specs.Valid.{IsValid}
 use Rattle.stack_code.specs.Kept.{IsRanked}
-use Rattle.stack_code.specs.Alone.{IsAlone}
+use Rattle.stack_code.specs.Meant.{IsMeant}
 use Rattle.stack_code.specs.Machine.{Flat, FlatEnd, exec, first_flat, Runs}
 use Rattle.code_safety.specs.Ends.{EndsOnlySo}
 use Rattle.code_safety.proofs.Beginnings.{comes_to}
@@ -35,11 +35,11 @@ module _ (code : Parts) (v : IsValid code) (core : ℕ) (lt : core < length code
       let e = v.lists.cores.enters core 0 lt in
       (e.function, record { entry = entry; entry_is = slice_get-get_or code.entries core 0 lt; function_is = e.is })
 
-  module _ (alone : IsAlone code) (ranks : List ℕ) (ranked : IsRanked code ranks) (bound : ℕ) (journal : List Entry) where
+  module _ (meant : IsMeant code) (ranks : List ℕ) (ranked : IsRanked code ranks) (bound : ℕ) (journal : List Entry) where
     pub ends_only_so : (end : FlatEnd) × EndsOnlySo code core bound journal end
     ends_only_so =
         let b = begins_with_one in
-        let c = comes_to code bound v alone ranks ranked core b.0 b.1 journal in
+        let c = comes_to code bound v meant ranks ranked core b.0 b.1 journal in
         let runs : Runs code core bound journal c.0 = record { function = b.0; begins = b.1; comes = c.1 } in (
           c.0,
           record {

@@ -1,7 +1,6 @@
 -- A state stays fit where only the running thread's activation changes, with what it sets and the frames that are its own.
-use Rattle.std.proofs.Common.{◌≡◌, ◌⊎◌, ℕ, zero, suc, ◌+◌, ◌≤◌, ◌<◌, List, [], ◌∷◌, ◌++◌, length, Option, Some, None, Bool, true, false, refl, sym, ap, ◌∙◌, subst, inl, inr, arith}
-use Rattle.std.specs.Prelude.{slice_index_or, slice_set, nat_eq, if◌then◌else◌}
-use Rattle.std.proofs.lemmas.Bool.{eq-eqb}
+use Rattle.std.proofs.Common.{◌≡◌, ◌⊎◌, ℕ, suc, ◌≤◌, ◌<◌, List, length, Option, Some, None, Bool, true, false, refl, sym, ap, ◌∙◌, subst, inl, inr, arith}
+use Rattle.std.specs.Prelude.{slice_set}
 use Rattle.std.proofs.lemmas.List.{length-set}
 use Rattle.work_item.specs.declared.ids.Item.{Item}
 use Rattle.work_item.specs.declared.ids.FrameId.{FrameId}
@@ -9,11 +8,12 @@ use Rattle.work_item.specs.declared.ids.BlockId.{BlockId}
 use Rattle.work_item.specs.Store.{Store}
 use Rattle.core_state.specs.Shared.{Shared}
 use Rattle.stack_code.specs.Parts.{Parts}
-use Rattle.stack_code.specs.Machine.{Thread, Block, Flat, block_at, thread_at}
-use Rattle.code_safety.specs.Fit.{Birth, Born, IsStore, IsThread, Phase, Gone, Going, AtFinish, Life, no_life, life_at, is_living, is_going, starts_in, total, innermost, innermost_in}
-use Rattle.code_safety.specs.Fit.{IsBlock, IsStarted, IsWaiting, IsAlive, IsFit, one_if, one_at, occurs, runs}
+use Rattle.stack_code.specs.Machine.{Thread, Block, Flat, thread_at}
+use Rattle.code_safety.specs.Fit.{Birth, Born, IsStore, IsThread, Going, AtFinish, Life, no_life, life_at, is_living, is_going, starts_in, total, innermost, innermost_in}
+use Rattle.code_safety.specs.Fit.{IsBlock, IsAlive, IsFit, one_if, runs, going_on}
 use Rattle.code_safety.proofs.Lasting.{Grown, Carries, KeepsBlocks, IsBefore, AreRooted, thread_kept}
-use Rattle.code_safety.proofs.Lives.{total_same, same_item, one_same, one_true, life_cases, living_within, going_is, going_lives}
+use Rattle.code_safety.proofs.Waiting.{asks_grown}
+use Rattle.code_safety.proofs.Lives.{total_same, one_same, one_true, life_cases, living_within, going_is, going_lives}
 
 -- ---- what a fit state says of its running thread
 
@@ -168,6 +168,7 @@ module _ (code : Parts) (m : Flat) (fit : IsFit code m) (t : Item) (run : m.runn
     listed = λ u. fit.listed u ∙ ap (λ p. one_if (is_going p)) (sym (phase_same (record { number = u })));
     many = length-set fit.lives t.number now ∙ fit.many;
     current = λ u e. own_current u e;
+    asks = asks_grown code fit.births births grown m.operations fit.asks;
     parked = λ u h not. own_parked u h not;
   }
     where
@@ -177,8 +178,8 @@ module _ (code : Parts) (m : Flat) (fit : IsFit code m) (t : Item) (run : m.runn
         | inr p ↦ absurd (let both : Some t ≡ Some u = sym run ∙ e in p.0 (cc))
       ]
 
-      own_parked : (u : Item) → is_living (life_at lives u).phase ≡ true → (m.running ≡ Some u → ⊥) → thread_at m.threads u ≡ (life_at lives u).thread
-      own_parked u h not = elim (life_cases fit.lives t u now within) as (λ _. thread_at m.threads u ≡ (life_at lives u).thread) [
+      own_parked : (u : Item) → is_living (life_at lives u).phase ≡ true → (m.running ≡ Some u → ⊥) → going_on m.operations u (thread_at m.threads u) ≡ (life_at lives u).thread
+      own_parked u h not = elim (life_cases fit.lives t u now within) as (λ _. going_on m.operations u (thread_at m.threads u) ≡ (life_at lives u).thread) [
         | inl p ↦ absurd (not (run ∙ ap (λ x. Some x) p.0))
         | inr p ↦ fit.parked u (sym (ap is_living (phase_same u)) ∙ h) not ∙ sym (ap (λ (l : Life). l.thread) p.1)
       ]

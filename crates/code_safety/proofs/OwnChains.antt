@@ -1,10 +1,12 @@
 -- No reference dangles where the running thread goes on.
 use Rattle.std.proofs.Common.{◌≡◌, ◌⊎◌, ℕ, ◌<◌, List, length, Option, Some, true, refl, sym, ap, ◌∙◌, subst, inl, inr}
 use Rattle.std.specs.Prelude.{slice_get}
+use Rattle.std.proofs.lemmas.List.Elements.{All-weaker}
 use Rattle.work_item.specs.declared.ids.Item.{Item}
 use Rattle.work_item.specs.declared.ids.FrameId.{FrameId}
 use Rattle.work_item.specs.declared.ids.BlockId.{BlockId}
 use Rattle.work_item.specs.Store.{Store, Frame, frame_at}
+use Rattle.cancel_scope.specs.declared.operation.Operation.{Operation}
 use Rattle.core_state.specs.Moves.{Move, On, Over}
 use Rattle.core_state.specs.Shared.{Shared}
 use Rattle.stack_code.specs.declared.instr.Instr.{Instr}
@@ -16,13 +18,13 @@ use Rattle.stack_code.specs.Valid as valid
 use Rattle.stack_code.specs.Valid.{Reaches, IsValid}
 use Rattle.stack_code.specs.Machine.{Thread, Block, Flat, FlatEnd, begin, at, block_at, thread_at}
 use Rattle.code_safety.specs.Fit.{IsThread, life_at, own_blocks, own_in, IsFit}
-use Rattle.code_safety.specs.Living.{LivesAs, as_running, as_ready, as_waiting, HasFrame}
-use Rattle.code_safety.specs.Chains.{Origin, link_of, Came, HasStack, IsActive, IsLinked, AreChained}
+use Rattle.code_safety.specs.Living.{LivesAs, as_running, as_ready, as_operating, as_waiting, HasFrame}
+use Rattle.code_safety.specs.Chains.{Origin, link_of, Came, AskedOnChain, HasStack, IsActive, IsLinked, AreChained}
 use Rattle.code_safety.proofs.Lasting.{KeepsBlocks}
 use Rattle.code_safety.proofs.Own.{rooted_of, thread_of, all_kept, block_bound}
 use Rattle.code_safety.proofs.Plain.{is_plain, Onward, Next, onward}
-use Rattle.code_safety.proofs.Chained.{Extends}
-use Rattle.code_safety.proofs.LivingThreads.{not_running, ready_once, start_same}
+use Rattle.code_safety.proofs.Chained.{Extends, chain_grown, asked_onto}
+use Rattle.code_safety.proofs.LivingThreads.{not_running, ready_once, operating_once, start_same}
 use Rattle.code_safety.proofs.LinkedFrames.{linked_same}
 use Rattle.code_safety.proofs.Stacks.{KeepsStart, has_stack_kept, stack_at, top_names}
 use Rattle.code_safety.proofs.NamesKept.{KeepsNames, keeps_names}
@@ -42,6 +44,7 @@ module _ (code : Parts) (m : Flat) (fit : IsFit code m) (chained : AreChained co
   own_back : (u : Item) (h : Thread) → LivesAs next u h → ((u ≡ t) × (h ≡ current)) ⊎ ((u ≡ t → ⊥) × LivesAs m u h)
   own_back _ _ (as_running u e) = inl (same_item_of m.running t u run e, refl)
   own_back _ _ (as_ready u some) = inr (λ e. (ready_once code m fit u some).1.1 (run ∙ ap (λ z. Some z) (sym e)), as_ready u some)
+  own_back _ _ (as_operating u some) = inr (λ e. (operating_once code m fit u some).1.1 (run ∙ ap (λ z. Some z) (sym e)), as_operating u some)
   own_back _ _ (as_waiting u c y here owner w) =
       let x = back c y here w in
       let of : x.0.owner ≡ u = x.1.1.0 ∙ owner in
@@ -50,6 +53,7 @@ module _ (code : Parts) (m : Flat) (fit : IsFit code m) (chained : AreChained co
   own_on : (u : Item) (h : Thread) → LivesAs m u h → ((u ≡ t) × (h ≡ m.current)) ⊎ LivesAs next u h
   own_on _ _ (as_running u e) = inl (same_item_of m.running t u run e, refl)
   own_on _ _ (as_ready u some) = inr (as_ready u some)
+  own_on _ _ (as_operating u some) = inr (as_operating u some)
   own_on _ _ (as_waiting u c x here owner w) = let y = on c x here w in inr (as_waiting u c y.0 y.1.0 (y.1.1.0 ∙ owner) y.1.1.1)
 
   pub active_on : (f : FrameId) → (HasFrame m.current f → HasFrame current f) → IsActive m f → IsActive next f
@@ -82,6 +86,10 @@ module _ (code : Parts) (m : Flat) (fit : IsFit code m) (chained : AreChained co
           let x = back b y here w in
           wider b.number (thread_at m.threads y.owner).frame
           (subst (λ (o : Item). slice_get chained.sites b.number ≡ Some (thread_at m.threads o).frame) x.1.1.0 (chained.waiting b x.0 x.1.0 x.1.1.1));
+      operations = All-weaker (λ (o : Operation). AskedOnChain chained.origins (thread_at m.threads o.item).frame o.asked)
+          (λ (o : Operation). AskedOnChain origins (thread_at m.threads o.item).frame o.asked)
+          (λ o. let f = (thread_at m.threads o.item).frame in asked_onto chained.origins origins f f (λ g c. chain_grown chained.origins origins grown f g c) o.asked)
+          m.operations chained.operations;
     }
 
 pub waits_on : (blocks : List (Option Block)) → KeepsWaiting blocks blocks

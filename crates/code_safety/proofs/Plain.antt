@@ -2,6 +2,7 @@
 use Rattle.std.proofs.Common.{◌≡◌, ℕ, zero, suc, ◌+◌, ◌≤◌, ◌<◌, ◌^◌, List, [], ◌∷◌, ◌++◌, length, take, drop, map, Option}
 use Rattle.std.proofs.Common.{Some, None, Result, Ok, Err, Bool, true, false, refl, sym, ap, ◌∙◌, subst, inl, inr, arith}
 use Rattle.std.specs.Prelude.{if◌then◌else◌, ℤ, pos, negsuc, slice_get, slice_index_or, nat_le, nat_lt, nat_eq, replicate, reverse, option_map}
+use Rattle.std.proofs.lemmas.Bool.{eqb-true}
 use Rattle.std.proofs.lemmas.Bool.Decides.{nat_tests}
 use Rattle.std.proofs.lemmas.List.{length-replicate}
 use Rattle.std.proofs.lemmas.Option.{slice_get-get_or}
@@ -13,7 +14,7 @@ use Rattle.work_item.specs.declared.ids.FrameId.{FrameId}
 use Rattle.work_item.specs.declared.cell.Cell.{Cell}
 use Rattle.work_item.specs.declared.cell.Cell.TheVariants as cell
 use Rattle.work_item.specs.declared.cell.Place.{Place}
-use Rattle.work_item.specs.Store.{Store, Frame, cells_of, no_cells, cell_at, place_in, int_in, no_int, global_at, with_int_at, with_cell_at, with_global, with_cleared, above, parent_or, parent_is}
+use Rattle.work_item.specs.Store.{Store, cells_of, no_cells, cell_at, place_in, int_in, no_int, global_at, with_int_at, with_cell_at, with_global, with_cleared, above, parent_or, parent_is}
 use Rattle.work_item.specs.Store.{frame_at}
 use Rattle.core_state.specs.Moves.{Move, On, Over}
 use Rattle.core_state.specs.Arithmetic.{Computed, at_zero, bind, truth, negated, not_true, flipped, sum_of, difference_of, product_of, quotient, remainder}
@@ -37,7 +38,7 @@ use Rattle.stack_code.specs.Valid.{Goes, Uses, AsInt, Slots, HasOneUse, home_at,
 use Rattle.stack_code.specs.Machine as flat
 use Rattle.stack_code.specs.Machine.{Flat, FlatEnd, seen_of, with_shared, with_store, begin, counted, at, or_trap, on_top}
 use Rattle.stack_code.specs.Machine.{on_two, on_three, on_many, one_operand, two_operands, text_at, always}
-use Rattle.code_safety.specs.Fit.{Birth, Born, HasKind, HaveKinds, IsIntArray, HoldsInts, IsSlot, IsFrame, IsStore, IsBody, AreBodies, last, more, IsActivation, is_int}
+use Rattle.code_safety.specs.Fit.{Birth, Born, HasKind, HaveKinds, IsIntArray, HoldsInts, IsSlot, IsStore, IsBody, AreBodies, last, more, IsActivation, is_int}
 use Rattle.code_safety.proofs.Taken.{on_some_is, if_is, after_is, after_leads, none_wanted, top_of, many_of, int_kind}
 use Rattle.code_safety.proofs.Settings.{KeepsStore, same_store, set_global, set_slot, clear_slots, set_element_at, used_as_int, no_array}
 
@@ -61,6 +62,14 @@ is_plain _ = true
 abbrev pub Onward : (Flat → Type 0) → Move Flat FlatEnd → Type 0
 Onward P (On m) = P m
 Onward P (Over e) = Unit {0}
+
+pub on_both : (P Q : Flat → Type 0) (x : Move Flat FlatEnd) → Onward P x → Onward Q x → Onward (λ n. P n × Q n) x
+on_both P Q (On m) p q = (p, q)
+on_both P Q (Over e) p q = tt
+
+pub on_each : (P Q : Flat → Type 0) (x : Move Flat FlatEnd) → ((n : Flat) → P n → Q n) → Onward P x → Onward Q x
+on_each P Q (On m) f p = f m p
+on_each P Q (Over e) f p = tt
 
 -- a `Step` uses one of the steps, and nothing else does
 pub data Spends (bound : ℕ) (instr : Instr) (before after : ℕ) : Type 0 where
@@ -250,11 +259,14 @@ module _ (code : Parts) (bound : ℕ) (m : Flat) (births : List Birth) (t : Item
         let room : slot + len ≤ body.slots = there.slots in
         let slots : length up.frame.cells ≡ body.slots = up.slots in
         let short : slot + len < 2 ^ 32 = omega (arith, few, room, slots) in
+        let all : length up.frame.cells ≡ up.birth.slots =
+        f.long ∙ ap (λ (x : Birth). x.slots) (at_same_birth births (above store m.current.frame level) f.birth up.birth f.born up.born) in
+        let inside : slot + len ≤ up.birth.slots = omega (arith, room, slots, all) in
         let free = (λ (x : ℕ) (lo : slot ≤ x) (hi : x < slot + len).
         let u : Uses code body.home x AsInt = valid.sets place s instr (record { level = level; slot = slot; len = len }) fit.reached here (ap ints_of is) there.home lo hi in
         subst (λ (h : Home). is_array code h x ≡ false) (sym up.home) (no_array code single body.home x AsInt u (λ n. cc))) in
         pushed_on (kind.Reference (nat_eq len 1)) (cell.Array (record { home = Some (above store m.current.frame level); start = slot; len = len })) e
-        (record { short = short; ints = (up.birth, (up.born, free)) })
+        (record { short = short; ints = record { birth = up.birth; born = up.born; inside = inside; plain = free }; single = λ t. eqb-true len 1 t })
 
     -- a slot of a frame round the thread that the instruction sets
     sets_int : (level slot len : ℕ) (body : Body) (at : ℕ) (birth : Birth) (v : ℤ) → ints_of instr ≡ Some (record { level = level; slot = slot; len = len }) →
@@ -307,11 +319,13 @@ module _ (code : Parts) (bound : ℕ) (m : Flat) (births : List Birth) (t : Item
     part_kind (cell.Array place) index h lt =
         let all : place.start + place.len < 2 ^ 32 = h.short in
         let short : place.start + index + 1 < 2 ^ 32 = omega (arith, all, lt) in
-        record { short = short; ints = go place.home h.ints }
+        record { short = short; ints = go place.home h.ints; single = λ t. refl }
       where
         go : (home : Option FrameId) → HoldsInts code births home place.start place.len → HoldsInts code births home (place.start + index) 1
         go None l = omega (arith, l, lt)
-        go (Some f) l = (l.0, (l.1.0, λ x lo hi. l.1.1 x (omega (arith, lo)) (omega (arith, hi, lt))))
+        go (Some f) l =
+            let inside = l.inside in
+            record { birth = l.birth; born = l.born; inside = omega (arith, inside, lt); plain = λ x lo hi. l.plain x (omega (arith, lo)) (omega (arith, hi, lt)) }
 
     part_on : (place : Place) (index : ℤ) (next : Place → Move Flat FlatEnd) → ((n : ℕ) → within place index ≡ Ok n → Goal (next (one_place place n))) → Goal (or_trap m (part_at place index) next)
     part_on place index next h = go (within place index) refl
@@ -334,18 +348,18 @@ module _ (code : Parts) (bound : ℕ) (m : Flat) (births : List Birth) (t : Item
         (same ∙ after_leads (want.Int ∷ want.Reference ∷ []) s a.0 (pushes place (kind.Reference true)) a.1.0) (none_wanted code births p.kinds a.0 p.below p.taken p.have) (lies index w)))
 
     -- what is set of an array leaves the sizes
-    array_in : (x : Cell) → HasKind code births (kind.Reference false) x → IsIntArray code births (place_in x)
+    array_in : (x : Cell) → HasKind code births (kind.Reference false) x → IsIntArray code births false (place_in x)
     array_in (cell.Int v) h = absurd h
     array_in (cell.Array p) h = h
     array_in (cell.Block b) h = absurd h
 
-    set_elem_to : (at : Place) (index value : ℤ) (kept : Store) → IsIntArray code births at → set_element store at index value ≡ Ok kept → KeepsStore code births store kept
+    set_elem_to : (at : Place) (index value : ℤ) (kept : Store) → IsIntArray code births false at → set_element store at index value ≡ Ok kept → KeepsStore code births store kept
     set_elem_to at index value kept a e = go (within at index) refl e
       where
         go : (r : Result ℕ Trap) → within at index ≡ r → bind r (λ i. Ok (with_int_at store at i value)) ≡ Ok kept → KeepsStore code births store kept
         go (Err trap) w e = absurd (cc)
         go (Ok i) w e = let is : with_int_at store at i value ≡ kept = cc in
-            subst (KeepsStore code births store) is (set_element_at code births store single st at i value (below_len at index i w) a)
+            subst (KeepsStore code births store) is (set_element_at code births store single st false at i value (below_len at index i w) a)
 
     set_elem_on : (leads : Leads) → effect code place instr s ≡ after (want.Int ∷ want.Reference ∷ want.Int ∷ []) s (goes place) → effect code place instr s ≡ Some leads →
         Goal (on_three m (λ x y z below. or_trap m (set_element store (place_in y) (int_in z) (int_in x)) (λ h. flat.goes (with_store m h) below)) ops)
@@ -455,7 +469,8 @@ module _ (code : Parts) (bound : ℕ) (m : Flat) (births : List Birth) (t : Item
       let room : slot + len ≤ code.globals = let t = b.0 in grind (arith, nat_tests) in
       let few : code.globals < 2 ^ 32 = st.few in
       let short : slot + len < 2 ^ 32 = omega (arith, room, few) in
-      pushed_on (i.ArrG slot len) here (λ no. cc) (kind.Reference (nat_eq len 1)) (cell.Array (record { home = None; start = slot; len = len })) b.1.0 (record { short = short; ints = room })
+      pushed_on (i.ArrG slot len) here (λ no. cc) (kind.Reference (nat_eq len 1)) (cell.Array (record { home = None; start = slot; len = len })) b.1.0
+      (record { short = short; ints = room; single = λ t. eqb-true len 1 t })
   onward item i.Elem leads here e q = elem_on i.Elem here (λ no. cc) leads refl e
   onward item i.SetElem leads here e q = set_elem_on i.SetElem here (λ no. cc) leads refl e
   onward item i.Place leads here e q = place_on i.Place here (λ no. cc) leads refl e

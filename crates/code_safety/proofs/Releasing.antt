@@ -12,12 +12,12 @@ use Rattle.work_item.specs.Conditions.{Lives}
 use Rattle.stack_code.specs.Parts.{Parts}
 use Rattle.stack_code.specs.Machine.{Caller, Thread, Block, Flat}
 use Rattle.code_safety.specs.Fit.{IsFit}
-use Rattle.code_safety.specs.Living.{LivesAs, as_running, IsOfCaller}
+use Rattle.code_safety.specs.Living.{LivesAs, as_running, as_ready, as_operating, as_waiting, IsOfCaller}
 use Rattle.code_safety.specs.Chains.{Origin, AtEntry, CalledIn, StartedIn, link_of, parent_of, Came, AllName, LiesIn, directly, deeper, Starts, IsStack}
 use Rattle.code_safety.specs.Chains.{outermost, called, IsActive, IsLinked, AreChained}
 use Rattle.code_safety.proofs.Making.{noted, noted_of, kept_first, kept_is, was_there, length-kept, there_within, left_carries}
 use Rattle.code_safety.proofs.LinkedFrames.{same_frame, lives_there, there_lives}
-use Rattle.code_safety.proofs.LivingThreads.{is_life, frame_goes, callers_older, one_owner}
+use Rattle.code_safety.proofs.LivingThreads.{not_running, ready_once, operating_once, frame_goes, callers_older, one_owner}
 
 -- ---- which frames are left
 
@@ -119,7 +119,13 @@ module _ (code : Parts) (m : Flat) (fit : IsFit code m) (chained : AreChained co
   top = m.current.frame
 
   pub is_current : (h : Thread) → LivesAs m t h → h ≡ m.current
-  is_current h l = sym (is_life code m fit t h l).1 ∙ sym (fit.current t run)
+  is_current h l = by t h l run
+    where
+      by : (u : Item) (h : Thread) → LivesAs m u h → m.running ≡ Some u → h ≡ m.current
+      by _ _ (as_running u e) r = refl
+      by _ _ (as_ready u some) r = absurd ((ready_once code m fit u some).1.1 r)
+      by _ _ (as_operating u some) r = absurd ((operating_once code m fit u some).1.1 r)
+      by _ _ (as_waiting u c x here owner w) r = absurd (not_running code m fit u c x here owner w r)
 
   -- the caller's frame goes on, and is not that of the innermost activation
   pub record CallerGoes (p : FrameId) : Type 0 where

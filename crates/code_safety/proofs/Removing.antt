@@ -1,12 +1,11 @@
 -- What holds of the other blocks where one is given back in which no thread lives.
-use Rattle.std.proofs.Common.{◌≡◌, ◌⊎◌, ℕ, zero, suc, ◌+◌, ◌≤◌, ◌<◌, List, length, Option, Some, None, Bool, true, false, refl, sym, ap, ◌∙◌, subst, inl, inr, arith}
-use Rattle.std.specs.Prelude.{slice_index_or, slice_set}
-use Rattle.std.proofs.lemmas.Bool.{cases_eq, cases_lt}
-use Rattle.std.proofs.lemmas.List.{get_or-set_same, get_or-set_other, get_or_past, set_past}
+use Rattle.std.proofs.Common.{◌≡◌, ◌⊎◌, ℕ, ◌≤◌, ◌<◌, List, Option, Some, None, true, refl, sym, ap, ◌∙◌, subst, inl, inr, arith}
+use Rattle.std.proofs.lemmas.Bool.{cases_eq}
+use Rattle.std.proofs.lemmas.List.{get_or-set_same, get_or-set_other}
 use Rattle.work_item.specs.declared.ids.Item.{Item}
 use Rattle.work_item.specs.declared.ids.BlockId.{BlockId}
 use Rattle.stack_code.specs.Machine.{Block, block_at, with_block}
-use Rattle.code_safety.specs.Fit.{Life, life_at, starts_in, total, innermost, Phase, AtFinish, IsBlock}
+use Rattle.code_safety.specs.Fit.{Life, life_at, starts_in, total, innermost, AtFinish, IsBlock}
 use Rattle.code_safety.proofs.Lasting.{KeepsBlocks}
 use Rattle.code_safety.proofs.Lives.{same_item, same_block}
 use Rattle.code_safety.proofs.Making.{there_within}

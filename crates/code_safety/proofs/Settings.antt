@@ -11,13 +11,12 @@ use Rattle.work_item.specs.declared.cell.Cell.TheVariants as cell
 use Rattle.work_item.specs.declared.cell.Place.{Place}
 use Rattle.work_item.specs.Store.{Store, Frame, frame_at, no_cells, cells_of, some_with, with_cells, with_cell, with_global, with_int_from, with_int_at, no_int, cleared, cleared_front, with_cleared}
 use Rattle.work_item.proofs.Clearing.{length-cleared}
-use Rattle.stack_code.specs.declared.shape.Kind.TheVariants as kind
 use Rattle.stack_code.specs.declared.shape.Home.{Home}
 use Rattle.stack_code.specs.Parts.{Parts}
 use Rattle.stack_code.specs.Shapes.{is_array, params_of}
 use Rattle.stack_code.specs.Valid as valid
 use Rattle.stack_code.specs.Valid.{Use, Uses, AsInt, AsReference, AsBlock, HasOneUse, use_of}
-use Rattle.code_safety.specs.Fit.{Birth, Born, is_int, HoldsInts, IsIntArray, IsSlot, AreSlots, IsFrame, IsStore}
+use Rattle.code_safety.specs.Fit.{Birth, Born, HoldsInts, IsIntArray, IsSlot, AreSlots, IsFrame, IsStore}
 use Rattle.code_safety.proofs.Lasting.{Outline, Carries}
 
 -- ---- uses
@@ -125,7 +124,13 @@ module _ (code : Parts) (births : List Birth) (s : Store) (g : FrameId) (cells :
     frame_kept f x q e =
         let i = h.frames f x e in
         let k = fits x (there f x q e) in
-        record { birth = i.birth; born = i.born; slots = k.1 i.birth (ap (λ n. slice_get births n) q ∙ i.born); short = subst (λ n. n < 2 ^ 32) (sym k.0) i.short }
+        record {
+          birth = i.birth;
+          born = i.born;
+          slots = k.1 i.birth (ap (λ n. slice_get births n) q ∙ i.born);
+          long = k.0 ∙ i.long;
+          short = subst (λ n. n < 2 ^ 32) (sym k.0) i.short;
+        }
 
     frames_kept : (f : FrameId) (y : Frame) → frame_at after f ≡ Some y → IsFrame code births f y
     frames_kept f y e = elim (back_to f y e) as (λ _. IsFrame code births f y) [
@@ -217,14 +222,14 @@ module _ (code : Parts) (births : List Birth) (s : Store) (h : IsStore code birt
       ))
 
 -- an element of an array of ints
-pub set_element_at : (code : Parts) (births : List Birth) (s : Store) → HasOneUse code → IsStore code births s → (place : Place) (index : ℕ) (value : ℤ) → index < place.len
-    → IsIntArray code births place
+pub set_element_at : (code : Parts) (births : List Birth) (s : Store) → HasOneUse code → IsStore code births s → (b : Bool) (place : Place) (index : ℕ) (value : ℤ) → index < place.len
+    → IsIntArray code births b place
     → KeepsStore code births s (with_int_at s place index value)
-set_element_at code births s one h place index value lt a = go place.home a.ints
+set_element_at code births s one h b place index value lt a = go place.home a.ints
   where
     go : (home : Option FrameId) → HoldsInts code births home place.start place.len → KeepsStore code births s (with_int_from s home (place.start + index) value)
     go None i = set_global code births s (place.start + index) value h
     go (Some f) i = set_slot code births s h f (place.start + index) (cell.Int value) (λ birth born.
-        let same : i.0 ≡ birth = let both : Some i.0 ≡ Some birth = sym i.1.0 ∙ born in cc in
-        let free = i.1.1 (place.start + index) (omega arith) (omega (arith, lt)) in
+        let same : i.birth ≡ birth = let both : Some i.birth ≡ Some birth = sym i.born ∙ born in cc in
+        let free = i.plain (place.start + index) (omega arith) (omega (arith, lt)) in
         int_slot code one birth.home (place.start + index) births value (subst (λ (b : Birth). is_array code b.home (place.start + index) ≡ false) same free))

@@ -1,6 +1,6 @@
 -- No reference dangles where a thread is started: the body lies in the frame of its creator, and in that which entered its block.
 use Rattle.std.proofs.Common.{◌≡◌, ◌⊎◌, ℕ, ◌+◌, ◌<◌, List, [], ◌∷◌, ◌++◌, length, Option, Some, true, refl, sym, ap, ◌∙◌, subst, inl, inr, arith}
-use Rattle.std.specs.Prelude.{slice_get, slice_set, nat_eq, nat_lt, replicate}
+use Rattle.std.specs.Prelude.{slice_get, slice_index_or, slice_set, nat_eq, nat_lt, replicate}
 use Rattle.std.proofs.lemmas.Bool.{and_parts}
 use Rattle.std.proofs.lemmas.Bool.Decides.{nat_tests}
 use Rattle.std.proofs.lemmas.List.{length-set, get_or-set_same, get_or-set_other, get_or_append_left}
@@ -21,9 +21,10 @@ use Rattle.stack_code.specs.Shapes.{effect, inner, can_start, LeadsTo}
 use Rattle.stack_code.specs.Valid as valid
 use Rattle.stack_code.specs.Valid.{Reaches, IsValid}
 use Rattle.stack_code.specs.Machine.{Thread, Caller, Block, Flat, begin, counted, block_at, with_block, thread_at, nobody, one_more, starts, counted_in}
-use Rattle.code_safety.specs.Fit.{AreCallers, bottom, above, IsThread, life_at, own_blocks, own_in, one_at, IsFit}
-use Rattle.code_safety.specs.Living.{LivesAs, as_running, as_ready, as_waiting, HasFrame}
-use Rattle.code_safety.specs.Chains.{Origin, StartedIn, link_of, Came, LiesIn, directly, deeper, HasEnteredIn, none_in, IsLevel, IsStartedIn, Starts, outermost, HasStack, IsActive, AreChained}
+use Rattle.code_safety.specs.Fit.{AreCallers, bottom, above, IsThread, life_at, own_blocks, own_in, one_at, occurs, items_of, IsFit}
+use Rattle.code_safety.specs.Living.{LivesAs, as_running, as_ready, as_operating, as_waiting, HasFrame}
+use Rattle.code_safety.specs.Chains.{Origin, StartedIn, link_of, Came, LiesIn, directly, deeper, AskedOnChain}
+use Rattle.code_safety.specs.Chains.{HasEnteredIn, none_in, IsLevel, IsStartedIn, Starts, outermost, HasStack, IsActive, AreChained}
 use Rattle.code_safety.proofs.Taken.{if_is}
 use Rattle.code_safety.proofs.Lasting.{KeepsBlocks}
 use Rattle.code_safety.proofs.Lives.{one_same, one_other, same_item, living_within}
@@ -33,8 +34,8 @@ use Rattle.code_safety.proofs.Making.{there_within}
 use Rattle.code_safety.proofs.Removing.{same_or_not, same_or_other, set_aside, set_there, set_is}
 use Rattle.code_safety.proofs.Calling.{is_made}
 use Rattle.code_safety.proofs.Starting.{starting, none_own, two_bodies}
-use Rattle.code_safety.proofs.Chained.{Extends, extends_one, extends_last, lies_grown, no_names}
-use Rattle.code_safety.proofs.LivingThreads.{is_life, not_running, ready_once, block_site}
+use Rattle.code_safety.proofs.Chained.{Extends, extends_one, extends_last, chain_grown, lies_grown, asked_onto, no_names}
+use Rattle.code_safety.proofs.LivingThreads.{waits_there, is_life, not_running, ready_once, operating_once, block_site}
 use Rattle.code_safety.proofs.LinkedFrames.{there_lives, linked_made, older_made, long_made}
 use Rattle.code_safety.proofs.Stacks.{KeepsStart, has_stack_kept, stack_at, stack_site, top_names}
 use Rattle.code_safety.proofs.OwnChains.{KeepsWaiting, blocks_same, same_item_of, extends_same}
@@ -91,7 +92,17 @@ module _ (code : Parts) (bound : ℕ) (m : Flat) (v : IsValid code) (fit : IsFit
     threads = slice_set m.threads t.number creator ++ nobody ∷ []
 
     abbrev next : Flat
-    next = record { shared = m.shared; store = store; running = Some fresh; current = started; ready = t ∷ m.ready; threads = threads; blocks = blocks; count = counted m.count }
+    next = record {
+      shared = m.shared;
+      store = store;
+      operations = m.operations;
+      running = Some fresh;
+      current = started;
+      ready = t ∷ m.ready;
+      threads = threads;
+      blocks = blocks;
+      count = counted m.count;
+    }
 
     abbrev origin : Origin
     origin = StartedIn top
@@ -148,6 +159,11 @@ module _ (code : Parts) (bound : ℕ) (m : Flat) (v : IsValid code) (fit : IsFit
     own_thread : thread_at threads t ≡ creator
     own_thread = let w = within t m.current (as_running t run) in old_thread t w ∙ get_or-set_same m.threads t.number creator nobody w
 
+    operating_thread : (u : Item) → 0 < occurs u.number (items_of m.operations) → thread_at threads u ≡ thread_at m.threads u
+    operating_thread u some =
+        let ne : u ≡ t → ⊥ = (λ e. (operating_once code m fit u some).1.1 (run ∙ ap (λ z. Some z) (sym e))) in
+        other_thread u (within u (thread_at m.threads u) (as_operating u some)) ne
+
     start_back : (u : Item) (h : Thread) → LivesAs next u h → ((u ≡ fresh) × (h ≡ started)) ⊎ (((u ≡ t) × (h ≡ creator)) ⊎ LivesAs m u h)
     start_back _ _ (as_running u e) = let same : fresh ≡ u = cc in inl (sym same, refl)
     start_back _ _ (as_ready u some) =
@@ -158,6 +174,7 @@ module _ (code : Parts) (bound : ℕ) (m : Flat) (v : IsValid code) (fit : IsFit
               let l = as_ready u (omega (arith, some, z)) in
               inr (inr (subst (LivesAs m u) (sym (other_thread u (within u (thread_at m.threads u) l) ne)) l))
         ]
+    start_back _ _ (as_operating u some) = inr (inr (subst (LivesAs m u) (sym (operating_thread u some)) (as_operating u some)))
     start_back _ _ (as_waiting u c y e owner w) =
         let z = back c y e w in
         let l = as_waiting u c z.0 z.1.0 (z.1.1.0 ∙ owner) z.1.1.1 in
@@ -172,6 +189,7 @@ module _ (code : Parts) (bound : ℕ) (m : Flat) (v : IsValid code) (fit : IsFit
     start_on _ _ (as_ready u some) =
         let ne : u ≡ t → ⊥ = (λ e. (ready_once code m fit u some).1.1 (run ∙ ap (λ z. Some z) (sym e))) in
         inr (subst (LivesAs next u) (other_thread u (within u (thread_at m.threads u) (as_ready u some)) ne) (as_ready u (omega (arith, some))))
+    start_on _ _ (as_operating u some) = inr (subst (LivesAs next u) (operating_thread u some) (as_operating u some))
     start_on _ _ (as_waiting u c y e owner w) =
         let z = there c y e in
         let ne : u ≡ t → ⊥ = (λ q. not_running code m fit u c y e owner w (run ∙ ap (λ k. Some k) (sym q))) in
@@ -273,6 +291,11 @@ module _ (code : Parts) (bound : ℕ) (m : Flat) (v : IsValid code) (fit : IsFit
           let ne : y.owner ≡ t → ⊥ = (λ q. not_running code m fit y.owner c z.0 z.1.0 z.1.1.0 z.1.1.1 (run ∙ ap (λ k. Some k) (sym q))) in
           let same = other_thread y.owner (within y.owner (thread_at m.threads y.owner) l) ne in
           chained.waiting c z.0 z.1.0 z.1.1.1 ∙ ap (λ (h : Thread). Some h.frame) (ap (thread_at m.threads) z.1.1.0 ∙ sym same);
+      operations = λ k d lt.
+          let o = slice_index_or m.operations k d in
+          let f = (thread_at m.threads o.item).frame in
+          subst (λ (h : Thread). AskedOnChain origins h.frame o.asked) (sym (operating_thread o.item (waits_there m.operations k d lt)))
+          (asked_onto chained.origins origins f f (λ g c. chain_grown chained.origins origins grown f g c) o.asked (chained.operations k d lt));
     }
 
     counted_is : counted_in m.blocks m.current.block ≡ blocks

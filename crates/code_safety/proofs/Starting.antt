@@ -1,7 +1,7 @@
 -- A state stays fit where its thread starts another one.
-use Rattle.std.proofs.Common.{◌≡◌, ◌⊎◌, ℕ, zero, suc, ◌+◌, ◌≤◌, ◌<◌, ◌^◌, List, [], ◌∷◌, ◌++◌, length, length-append, Option, Some, None, IsSome, Result, Ok, Bool, true, false, refl, sym, ap, ◌∙◌}
+use Rattle.std.proofs.Common.{◌≡◌, ◌⊎◌, ℕ, zero, suc, ◌+◌, ◌≤◌, ◌<◌, ◌^◌, List, [], ◌∷◌, ◌++◌, length, length-append, Option, Some, None, IsSome, true, false, refl, sym, ap, ◌∙◌}
 use Rattle.std.proofs.Common.{subst, inl, inr, arith}
-use Rattle.std.specs.Prelude.{slice_get, slice_index_or, slice_set, nat_eq, nat_lt, ◌&&◌, if◌then◌else◌, replicate}
+use Rattle.std.specs.Prelude.{slice_get, slice_index_or, slice_set, nat_eq, nat_lt, replicate}
 use Rattle.std.proofs.lemmas.Bool.{and_parts, cases_eq, eq-eqb}
 use Rattle.std.proofs.lemmas.Bool.Decides.{nat_tests}
 use Rattle.std.proofs.lemmas.List.{length-set, length-replicate, get_or-set_same, get_or-set_other, get_or_append_left, get_or_past}
@@ -10,7 +10,7 @@ use Rattle.work_item.specs.declared.ids.FrameId.{FrameId}
 use Rattle.work_item.specs.declared.ids.BlockId.{BlockId}
 use Rattle.work_item.specs.declared.cell.Cell.{Cell}
 use Rattle.work_item.specs.Store.{Store, Frame, frame_at, made, next_frame, no_int}
-use Rattle.core_state.specs.Moves.{Move, On}
+use Rattle.core_state.specs.Moves.{On}
 use Rattle.core_state.specs.Frames.{begun}
 use Rattle.stack_code.specs.declared.instr.Instr.TheVariants as i
 use Rattle.stack_code.specs.declared.shape.Home.TheVariants as home
@@ -23,21 +23,21 @@ use Rattle.stack_code.specs.Parts.{Parts}
 use Rattle.stack_code.specs.Shapes.{effect, inner, can_start, LeadsTo}
 use Rattle.stack_code.specs.Valid as valid
 use Rattle.stack_code.specs.Valid.{IsValid, Goes}
-use Rattle.stack_code.specs.Machine.{Flat, Thread, Block, Caller, begin, counted, block_at, with_block, thread_at, nobody, one_more, starts, counted_in, or_trap}
-use Rattle.code_safety.specs.Fit.{Birth, Born, AreSlots, HaveKinds, IsBody, AreBodies, last, more, AreInBodies, AreCallers, bottom, above, HasEntered, outside, inside, IsThread, Phase, Gone, Going}
+use Rattle.stack_code.specs.Machine.{Flat, Thread, Block, Caller, begin, counted, block_at, with_block, thread_at, nobody, one_more, starts, counted_in}
+use Rattle.code_safety.specs.Fit.{Birth, Born, AreSlots, HaveKinds, more, AreInBodies, AreCallers, bottom, above, HasEntered, outside, inside, IsThread, Phase, Gone, Going}
 use Rattle.code_safety.specs.Fit.{AtFinish, Life, no_life, life_at}
-use Rattle.code_safety.specs.Fit.{is_living, is_going, is_at, starts_in, total, innermost, innermost_in, IsBlock, IsStarted, IsWaiting, IsAlive, IsFit, one_if, one_at, own_blocks, own_in, runs}
-use Rattle.code_safety.specs.Fit.{occurs}
+use Rattle.code_safety.specs.Fit.{is_living, is_going, is_at, starts_in, total, innermost, innermost_in, IsBlock, IsStarted, IsAlive, IsFit, one_if, one_at, own_blocks, own_in, occurs}
+use Rattle.code_safety.specs.Fit.{items_of, going_on}
 use Rattle.code_safety.proofs.Taken.{if_is}
-use Rattle.code_safety.proofs.Lasting.{Grown, Carries, KeepsBlocks, all_bodies_carried, thread_kept, entered_kept}
+use Rattle.code_safety.proofs.Lasting.{Grown, Carries, KeepsBlocks, all_bodies_carried, thread_kept}
 use Rattle.code_safety.proofs.Plain.{Onward, trap_on}
 use Rattle.code_safety.proofs.Making.{grown_one, made_store, made_carries, new_born, new_there, there_within}
 use Rattle.code_safety.proofs.Arguments.{slots_of_body}
 use Rattle.code_safety.proofs.Calling.{is_made}
 use Rattle.code_safety.proofs.Lives.{one_same, one_other, same_item, same_block, life_cases, life_same, living_within, total_same, total_append}
 use Rattle.code_safety.proofs.Own.{rooted_of, phase_of, lives_of, within_of, thread_of, block_bound, is_bound}
-use Rattle.code_safety.proofs.Entering.{some_body}
-use Rattle.code_safety.proofs.Turns.{alive_kept, next_thread, listed_other}
+use Rattle.code_safety.proofs.Turns.{alive_kept, next_thread, listed_other, going_free}
+use Rattle.code_safety.proofs.Waiting.{asks_grown}
 use Rattle.code_safety.proofs.Removing.{same_or_not, set_aside, set_there, set_is}
 
 -- ---- blocks of bodies
@@ -137,7 +137,7 @@ module _ (code : Parts) (bound : ℕ) (m : Flat) (fit : IsFit code m) (t : Item)
     n = record { number = length m.threads }
 
     abbrev birth : Birth
-    birth = record { home = home.Async place; item = n }
+    birth = record { home = home.Async place; slots = slots; item = n }
 
     abbrev births : List Birth
     births = fit.births ++ birth ∷ []
@@ -285,13 +285,13 @@ module _ (code : Parts) (bound : ℕ) (m : Flat) (fit : IsFit code m) (t : Item)
     slot_fits = slots_of_body code births (home.Async place) slots v.one_use refl
 
     abbrev carries : Carries m.store store (λ f. Unit {0})
-    carries = made_carries code fit.births m.store fit.store (Some m.current.frame) cells birth slot_fits short
+    carries = made_carries code fit.births m.store fit.store (Some m.current.frame) cells birth slot_fits (length-replicate slots no_int) short
 
     abbrev grown : Grown fit.births births
     grown = grown_one fit.births birth
 
     born : Born births frame birth
-    born = new_born code fit.births m.store fit.store (Some m.current.frame) cells birth slot_fits short
+    born = new_born code fit.births m.store fit.store (Some m.current.frame) cells birth slot_fits (length-replicate slots no_int) short
 
     abbrev new_frame : Frame
     new_frame = record { parent = Some m.current.frame; cells = cells; over = false }
@@ -387,10 +387,11 @@ module _ (code : Parts) (bound : ℕ) (m : Flat) (fit : IsFit code m) (t : Item)
     going_same : (u : Item) → is_going (life_at front u).phase ≡ is_going (life_at fit.lives u).phase
     going_same u = life_same fit.lives t now within (λ (q : Life). is_going q.phase) refl u
 
-    listed : (u : ℕ) → one_at u n + (one_at u t + occurs u m.ready) ≡ one_if (is_going (life_at lives (record { number = u })).phase)
+    listed : (u : ℕ) → one_at u n + ((one_at u t + occurs u m.ready) + occurs u (items_of m.operations)) ≡ one_if (is_going (life_at lives (record { number = u })).phase)
     listed u =
         let l = listed_other code m fit t run u in
-        elim (more_lives front new (record { number = u })) as (λ _. one_at u n + (one_at u t + occurs u m.ready) ≡ one_if (is_going (life_at lives (record { number = u })).phase)) [
+        elim (more_lives front new (record { number = u })) as
+        (λ _. one_at u n + ((one_at u t + occurs u m.ready) + occurs u (items_of m.operations)) ≡ one_if (is_going (life_at lives (record { number = u })).phase)) [
           | inl p ↦
               let num : u ≡ length m.threads = p.0 ∙ long in
               let one : one_at u n ≡ 1 = ap (λ k. one_if (nat_eq u k)) (sym num) ∙ one_same u in
@@ -409,6 +410,7 @@ module _ (code : Parts) (bound : ℕ) (m : Flat) (fit : IsFit code m) (t : Item)
         (record {
           shared = m.shared;
           store = store;
+          operations = m.operations;
           running = Some n;
           current = started;
           ready = t ∷ m.ready;
@@ -419,7 +421,7 @@ module _ (code : Parts) (bound : ℕ) (m : Flat) (fit : IsFit code m) (t : Item)
     started_fit = record {
       births = births;
       lives = lives;
-      store = made_store code fit.births m.store fit.store (Some m.current.frame) cells birth slot_fits short;
+      store = made_store code fit.births m.store fit.store (Some m.current.frame) cells birth slot_fits (length-replicate slots no_int) short;
       alive = alive;
       block = all_blocks;
       first = front_same (λ (q : Life). is_living q.phase) refl zeroth fit.first ∙ fit.first;
@@ -428,6 +430,7 @@ module _ (code : Parts) (bound : ℕ) (m : Flat) (fit : IsFit code m) (t : Item)
       many = length-append front (new ∷ []) ∙ ap (λ k. k + 1) (length-set fit.lives t.number now ∙ fit.many ∙ sym (length-set m.threads t.number creator))
           ∙ sym (length-append (slice_set m.threads t.number creator) (nobody ∷ []));
       current = λ u e. new_current u e;
+      asks = asks_grown code fit.births births grown m.operations fit.asks;
       parked = λ u l not. new_parked u l not;
     }
       where
@@ -439,26 +442,29 @@ module _ (code : Parts) (bound : ℕ) (m : Flat) (fit : IsFit code m) (t : Item)
               | inr p ↦ absurd (p.0 (sym (ap (λ (z : Item). z.number) same) ∙ sym long))
             ]
 
-        old_parked : (u : Item) → is_living (life_at front u).phase ≡ true → thread_at (slice_set m.threads t.number creator) u ≡ (life_at front u).thread
-        old_parked u l = elim (life_cases fit.lives t u now within) as (λ _. thread_at (slice_set m.threads t.number creator) u ≡ (life_at front u).thread) [
+        old_parked : (u : Item) → is_living (life_at front u).phase ≡ true → going_on m.operations u (thread_at (slice_set m.threads t.number creator) u) ≡ (life_at front u).thread
+        old_parked u l = elim (life_cases fit.lives t u now within) as (λ _. going_on m.operations u (thread_at (slice_set m.threads t.number creator) u) ≡ (life_at front u).thread) [
           | inl p ↦
               let lt : t.number < length m.threads = let w = within in let k = fit.many in omega (arith, w, k) in
-              subst (λ z. thread_at (slice_set m.threads t.number creator) z ≡ creator) p.0 (get_or-set_same m.threads t.number creator nobody lt) ∙ sym (ap (λ (q : Life). q.thread) p.1)
+              subst (λ z. going_on m.operations z (thread_at (slice_set m.threads t.number creator) z) ≡ creator) p.0
+              (ap (going_on m.operations t) (get_or-set_same m.threads t.number creator nobody lt) ∙ going_free code m fit t run creator) ∙ sym (ap (λ (q : Life). q.thread) p.1)
           | inr p ↦
-              get_or-set_other m.threads t.number u.number creator nobody (λ e. p.0 (same_item t u (sym e)))
+              ap (going_on m.operations u) (get_or-set_other m.threads t.number u.number creator nobody (λ e. p.0 (same_item t u (sym e))))
               ∙ fit.parked u (sym (life_same fit.lives t now within (λ (q : Life). is_living q.phase) refl u) ∙ l) (λ e. let both : Some t ≡ Some u = sym run ∙ e in p.0 (cc))
               ∙ sym (ap (λ (q : Life). q.thread) p.1)
         ]
 
-        new_parked : (u : Item) → is_living (life_at lives u).phase ≡ true → (Some n ≡ Some u → ⊥) → thread_at (slice_set m.threads t.number creator ++ nobody ∷ []) u ≡ (life_at lives u).thread
-        new_parked u l not = elim (more_lives front new u) as (λ _. thread_at (slice_set m.threads t.number creator ++ nobody ∷ []) u ≡ (life_at lives u).thread) [
+        new_parked : (u : Item) → is_living (life_at lives u).phase ≡ true → (Some n ≡ Some u → ⊥)
+            → going_on m.operations u (thread_at (slice_set m.threads t.number creator ++ nobody ∷ []) u) ≡ (life_at lives u).thread
+        new_parked u l not = elim (more_lives front new u) as (λ _. going_on m.operations u (thread_at (slice_set m.threads t.number creator ++ nobody ∷ []) u) ≡ (life_at lives u).thread) [
           | inl p ↦ absurd (not (ap (λ z. Some z) (same_item n u (sym long ∙ sym p.0))))
           | inr p ↦
               let living : is_living (life_at front u).phase ≡ true = sym (ap (λ (q : Life). is_living q.phase) p.1) ∙ l in
               let lt = living_within front u living in
               let k = length-set m.threads t.number creator in
               let e = long in
-              get_or_append_left (slice_set m.threads t.number creator) (nobody ∷ []) nobody u.number (omega (arith, lt, k, e)) ∙ old_parked u living ∙ sym (ap (λ (q : Life). q.thread) p.1)
+              ap (going_on m.operations u) (get_or_append_left (slice_set m.threads t.number creator) (nobody ∷ []) nobody u.number (omega (arith, lt, k, e))) ∙ old_parked u living
+              ∙ sym (ap (λ (q : Life). q.thread) p.1)
         ]
 
     counted_is : counted_in m.blocks m.current.block ≡ blocks

@@ -1,9 +1,8 @@
 -- Operands of the kinds that an instruction asks for.
-use Rattle.std.proofs.Common.{◌≡◌, ℕ, zero, suc, ◌+◌, ◌≤◌, List, [], ◌∷◌, length, take, drop, Option, Some, None, Bool, true, false, refl, sym, ap, subst, arith}
-use Rattle.std.specs.Prelude.{if◌then◌else◌, replicate, reverse, map}
+use Rattle.std.proofs.Common.{◌≡◌, ◌≤◌, List, [], ◌∷◌, length, drop, Option, Some, None, Bool, true, false, refl, ap, subst, arith}
+use Rattle.std.specs.Prelude.{if◌then◌else◌}
 use Rattle.work_item.specs.declared.cell.Cell.{Cell}
 use Rattle.work_item.specs.declared.cell.Cell.TheVariants as cell
-use Rattle.work_item.specs.Store.{place_in}
 use Rattle.stack_code.specs.declared.shape.Kind.{Kind}
 use Rattle.stack_code.specs.declared.shape.Kind.TheVariants as kind
 use Rattle.stack_code.specs.declared.shape.Shape.{Shape}
@@ -12,7 +11,7 @@ use Rattle.stack_code.specs.declared.shape.Want.TheVariants as want
 use Rattle.stack_code.specs.declared.shape.Leads.{Leads}
 use Rattle.stack_code.specs.Parts.{Parts}
 use Rattle.stack_code.specs.Shapes.{on_some, takes, taken, with_operands, after}
-use Rattle.code_safety.specs.Fit.{Birth, is_int, HasKind, HaveKinds, IsIntArray}
+use Rattle.code_safety.specs.Fit.{Birth, is_int, HasKind, HaveKinds}
 
 -- ---- what is there where something was found
 
@@ -42,12 +41,12 @@ module _ (code : Parts) (births : List Birth) where
   abbrev pub IsWanted : Want → Cell → Type 0
   IsWanted want.Int x = is_int x ≡ true
   IsWanted want.Reference x = HasKind code births (kind.Reference false) x
-  IsWanted want.One x = HasKind code births (kind.Reference false) x
+  IsWanted want.One x = HasKind code births (kind.Reference true) x
   IsWanted want.Any x = Unit {0}
 
   reference_is : (one : Bool) (x : Cell) → HasKind code births (kind.Reference one) x → HasKind code births (kind.Reference false) x
   reference_is one (cell.Int v) h = absurd h
-  reference_is one (cell.Array place) h = h
+  reference_is one (cell.Array place) h = record { short = h.short; ints = h.ints; single = λ e. let no : false ≡ true = e in absurd (cc) }
   reference_is one (cell.Block b) h = absurd h
 
   int_is : (x : Cell) → HasKind code births kind.Int x → is_int x ≡ true
@@ -61,7 +60,7 @@ module _ (code : Parts) (births : List Birth) where
   wanted_is want.Reference kind.Int x t h = let no : false ≡ true = t in cc
   wanted_is want.Reference (kind.Reference one) x t h = reference_is one x h
   wanted_is want.One kind.Int x t h = let no : false ≡ true = t in cc
-  wanted_is want.One (kind.Reference one) x t h = reference_is one x h
+  wanted_is want.One (kind.Reference one) x t h = subst (λ b. HasKind code births (kind.Reference b) x) t h
   wanted_is want.Any k x t h = tt
 
   -- the topmost operand is as wanted, and those below it have the kinds that are left

@@ -1,6 +1,6 @@
 -- No reference dangles where a thread yields, and where another one runs.
 use Rattle.std.proofs.Common.{◌≡◌, ℕ, ◌+◌, ◌<◌, List, [], ◌∷◌, ◌++◌, Some, None, true, refl, sym, ap, ◌∙◌, subst, inl, inr, arith}
-use Rattle.std.specs.Prelude.{slice_get, slice_set}
+use Rattle.std.specs.Prelude.{slice_get, slice_index_or, slice_set}
 use Rattle.std.proofs.lemmas.List.{get_or-set_other}
 use Rattle.work_item.specs.declared.ids.Item.{Item}
 use Rattle.work_item.specs.declared.ids.FrameId.{FrameId}
@@ -11,20 +11,20 @@ use Rattle.stack_code.specs.declared.shape.Shape.{Shape}
 use Rattle.stack_code.specs.declared.shape.Leads.TheVariants.{One}
 use Rattle.stack_code.specs.Parts.{Parts}
 use Rattle.stack_code.specs.Valid as valid
-use Rattle.stack_code.specs.Valid.{Reaches, IsValid, Goes}
+use Rattle.stack_code.specs.Valid.{IsValid, Goes}
 use Rattle.stack_code.specs.Machine.{Thread, Block, Flat, block_at, thread_at, nobody, counted}
-use Rattle.code_safety.specs.Fit.{IsThread, life_at, one_at, occurs, IsFit}
-use Rattle.code_safety.specs.Living.{LivesAs, as_running, as_ready, as_waiting, HasFrame}
-use Rattle.code_safety.specs.Chains.{HasStack, IsActive, AreChained}
+use Rattle.code_safety.specs.Fit.{IsThread, life_at, one_at, occurs, items_of, IsFit}
+use Rattle.code_safety.specs.Living.{LivesAs, as_running, as_ready, as_operating, as_waiting, HasFrame}
+use Rattle.code_safety.specs.Chains.{AskedOnChain, HasStack, IsActive, AreChained}
 use Rattle.code_safety.proofs.Lives.{one_same, one_other, same_item, occurs_append}
 use Rattle.code_safety.proofs.Own.{thread_of, all_kept, block_bound}
 use Rattle.code_safety.proofs.Removing.{same_or_other}
-use Rattle.code_safety.proofs.LivingThreads.{not_running, not_ready, ready_once}
+use Rattle.code_safety.proofs.LivingThreads.{waits_there, not_running, not_going, not_both, ready_once}
 use Rattle.code_safety.proofs.LinkedFrames.{same_frames, linked_same}
 use Rattle.code_safety.proofs.Stacks.{stack_at, top_names}
 use Rattle.code_safety.proofs.OwnChains.{blocks_same, starts_on}
 use Rattle.code_safety.proofs.StopChains as stop_chains
-use Rattle.code_safety.proofs.StopChains.{Waits, KeepsLiving, stop_chained, stop_active, own_thread}
+use Rattle.code_safety.proofs.StopChains.{KeepsLiving, stop_chained, stop_active, still_asks, own_thread}
 
 -- ---- yield
 
@@ -43,19 +43,21 @@ module _ (code : Parts) (bound : ℕ) (m : Flat) (v : IsValid code) (fit : IsFit
   ready = m.ready ++ t ∷ []
 
   abbrev next : Flat
-  next = stop_chains.next code m fit chained t run m.store kept ready m.blocks (counted m.count)
+  next = stop_chains.next code m fit chained t run m.store m.operations kept ready m.blocks (counted m.count)
 
   occurs_here : (u : Item) → occurs u.number ready ≡ occurs u.number m.ready + (one_at u.number t + 0)
   occurs_here u = occurs_append u.number m.ready (t ∷ [])
 
-  living : KeepsLiving code m fit chained t run m.store kept ready m.blocks (counted m.count)
+  living : KeepsLiving code m fit chained t run m.store m.operations kept ready m.blocks (counted m.count)
   living = record {
     ready_back = λ u ne some.
         let e = occurs_here u in
         let z : one_at u.number t ≡ 0 = one_other u.number t.number (λ k. ne (same_item u t k)) in
         as_ready u (omega (arith, some, e, z));
+    operates_back = λ u ne some. some;
     waits_back = λ u c ne w. w;
     ready_on = λ u ne some. let e = occurs_here u in omega (arith, some, e);
+    operates_on = λ u ne some. some;
     waits_on = λ u c ne w. inl w;
   }
 
@@ -66,7 +68,7 @@ module _ (code : Parts) (bound : ℕ) (m : Flat) (v : IsValid code) (fit : IsFit
   now_active f has = record {
     item = t;
     thread = kept;
-    living = subst (LivesAs next t) (own_thread code m fit chained t run m.store kept ready m.blocks (counted m.count)) (as_ready t own_ready);
+    living = subst (LivesAs next t) (own_thread code m fit chained t run m.store m.operations kept ready m.blocks (counted m.count)) (as_ready t own_ready);
     has = has;
   }
 
@@ -84,9 +86,10 @@ module _ (code : Parts) (bound : ℕ) (m : Flat) (v : IsValid code) (fit : IsFit
       }
 
   pub yield_chained : AreChained code next
-  yield_chained = stop_chained code m fit chained t run m.store kept ready m.blocks (counted m.count) living chained.long chained.many
+  yield_chained = stop_chained code m fit chained t run m.store m.operations kept ready m.blocks (counted m.count) living chained.long chained.many
       (linked_same chained.origins m next (same_frames chained.origins m.store)
-      (λ f a. stop_active code m fit chained t run m.store kept ready m.blocks (counted m.count) living f (now_active f) a) chained.frames) (λ l. stack)
+      (λ f a. stop_active code m fit chained t run m.store m.operations kept ready m.blocks (counted m.count) living f (now_active f) a) chained.frames) (λ l. stack)
+      (still_asks code m fit chained t run m.store m.operations kept ready m.blocks (counted m.count))
       (λ c w. absurd (not_running code m fit t c w.block w.here w.owner w.waits run)) (λ u h l ne. all_kept m.blocks u (block_bound h.block))
       (λ u h l ne. starts_on m.blocks (life_at fit.lives u).start)
 
@@ -114,11 +117,15 @@ module _ (code : Parts) (m : Flat) (fit : IsFit code m) (chained : AreChained co
   other_thread u ne = get_or-set_other m.threads t.number u.number nobody nobody (λ e. ne (same_item u t e))
 
   not_waiting : (u : Item) (c : BlockId) (x : Block) → block_at m.blocks c ≡ Some x → x.owner ≡ u → x.waits ≡ true → u ≡ t → ⊥
-  not_waiting u c x here owner w e = not_ready code m fit t c x here (owner ∙ e) w is_ready
+  not_waiting u c x here owner w e = not_going code m fit t c x here (owner ∙ e) w (ready_once code m fit t is_ready).0
+
+  not_operating : (u : Item) → 0 < occurs u.number (items_of m.operations) → u ≡ t → ⊥
+  not_operating u some e = not_both code m fit t is_ready (subst (λ (z : Item). 0 < occurs z.number (items_of m.operations)) e some)
 
   turn_back : (u : Item) (h : Thread) → LivesAs turned u h → LivesAs m u h
   turn_back _ _ (as_running u e) = let same : t ≡ u = cc in subst (λ z. LivesAs m z (thread_at m.threads t)) same (as_ready t is_ready)
   turn_back _ _ (as_ready u some) = let e = occurs_first u in subst (LivesAs m u) (sym (other_thread u (not_again u some))) (as_ready u (omega (arith, some, e)))
+  turn_back _ _ (as_operating u some) = subst (LivesAs m u) (sym (other_thread u (not_operating u some))) (as_operating u some)
   turn_back _ _ (as_waiting u c x here owner w) = subst (LivesAs m u) (sym (other_thread u (not_waiting u c x here owner w))) (as_waiting u c x here owner w)
 
   turn_on : (u : Item) (h : Thread) → LivesAs m u h → LivesAs turned u h
@@ -130,6 +137,7 @@ module _ (code : Parts) (m : Flat) (fit : IsFit code m) (chained : AreChained co
         let z : one_at u.number t ≡ 0 = one_other u.number t.number (λ k. ne (same_item u t k)) in
         subst (LivesAs turned u) (other_thread u ne) (as_ready u (omega (arith, some, e, z)))
   ]
+  turn_on _ _ (as_operating u some) = subst (LivesAs turned u) (other_thread u (not_operating u some)) (as_operating u some)
   turn_on _ _ (as_waiting u c x here owner w) = subst (LivesAs turned u) (other_thread u (not_waiting u c x here owner w)) (as_waiting u c x here owner w)
 
   pub turn_chained : AreChained code turned
@@ -143,4 +151,7 @@ module _ (code : Parts) (m : Flat) (fit : IsFit code m) (chained : AreChained co
         (λ f a. record { item = a.item; thread = a.thread; living = turn_on a.item a.thread a.living; has = a.has }) chained.frames;
     threads = λ u h l. chained.threads u h (turn_back u h l);
     waiting = λ c x here w. chained.waiting c x here w ∙ ap (λ (h : Thread). Some h.frame) (sym (other_thread x.owner (not_waiting x.owner c x here refl w)));
+    operations = λ k d lt.
+        let o = slice_index_or m.operations k d in
+        subst (λ (h : Thread). AskedOnChain chained.origins h.frame o.asked) (sym (other_thread o.item (not_operating o.item (waits_there m.operations k d lt)))) (chained.operations k d lt);
   }

@@ -1,19 +1,20 @@
 -- How the bound on what a core can still do changes with its threads.
-use Rattle.std.proofs.Common.{◌≡◌, ◌⊎◌, ℕ, zero, suc, ◌+◌, ◌-◌, ◌*◌, ◌≤◌, ◌<◌, List, [], ◌∷◌, ◌++◌, length, Option, Some, None, Bool, true, false, refl, sym, ap, ◌∙◌, subst, inl, inr, arith}
-use Rattle.std.specs.Prelude.{sum, slice_index, slice_index_or, nat_eq, if◌then◌else◌}
+use Rattle.std.proofs.Common.{◌≡◌, ℕ, zero, suc, ◌+◌, ◌-◌, ◌*◌, ◌≤◌, ◌<◌, List, [], ◌∷◌, ◌++◌, length, Option, Some, None, Bool, true, false, refl, ap, ◌∙◌, inl, inr, arith}
+use Rattle.std.specs.Prelude.{◌&&◌, sum, slice_index, slice_index_or, if◌then◌else◌}
 use Rattle.std.proofs.lemmas.Bool.{cases_lt}
 use Rattle.std.proofs.lemmas.List.{get_or_past}
 use Rattle.std.proofs.lemmas.List.Sums.{get_or-le-sum_by}
 use Rattle.work_item.specs.declared.ids.Item.{Item}
-use Rattle.work_item.specs.declared.ids.BlockId.{BlockId}
+use Rattle.cancel_scope.specs.declared.operation.Operation.{Operation}
+use Rattle.cancel_scope.specs.Outstanding.{is_send, is_waiting}
 use Rattle.stack_code.specs.Machine.{Thread, Block, thread_at}
-use Rattle.code_safety.specs.Fit.{total, one_if, one_at, occurs}
-use Rattle.code_safety.specs.Left.{grown, at_weight, parked_weight, ready_weight, owner_weight, waiting_weight}
+use Rattle.code_safety.specs.Fit.{one_at, occurs, items_of}
+use Rattle.code_safety.specs.Left.{grown, at_weight, thread_weight, parked_weight, ready_weight, entries_left, operation_weight, operations_weight, owner_weight, waiting_weight}
 use Rattle.code_safety.proofs.Lives.{one_same}
 
 -- ---- ranks
 
-pub grown_some : (r : ℕ) → 1 ≤ grown r
+pub grown_some : (r : ℕ) → 2 ≤ grown r
 grown_some zero = omega arith
 grown_some (suc r) = omega arith
 
@@ -22,8 +23,8 @@ grown_le zero r h = grown_some r
 grown_le (suc q) zero h = absurd (omega (arith, h))
 grown_le (suc q) (suc r) h = let x : grown q ≤ grown r = grown_le q r (omega (arith, h)) in omega (arith, x)
 
--- one of lower rank and a dispatch
-pub grown_one : (q r : ℕ) → q < r → 1 + grown q < grown r
+-- one of lower rank, and an operation and a dispatch
+pub grown_one : (q r : ℕ) → q < r → 3 + grown q < grown r
 grown_one q zero h = absurd (omega (arith, h))
 grown_one q (suc r) h = let x : grown q ≤ grown r = grown_le q r (omega (arith, h)) in let s = grown_some q in omega (arith, x, s)
 
@@ -45,29 +46,49 @@ pub weight_within : (ranks : List ℕ) (at : ℕ) → at_weight ranks at ≤ gro
 weight_within ranks at = grown_le (slice_index ranks at) (sum ranks) (rank_within ranks at)
 
 -- a step is used
-pub step_falls : (bound steps all x y rest : ℕ) → steps < bound → x ≤ all → 1 ≤ y → (bound - (steps + 1)) * all + (x + rest) < (bound - steps) * all + (y + rest)
+pub step_falls : (bound steps all x y rest : ℕ) → steps < bound → x ≤ all → 2 ≤ y → (bound - (steps + 1)) * all + (x + rest) < (bound - steps) * all + (y + rest)
 step_falls bound steps all x y rest lt le some = let e : bound - steps ≡ (bound - (steps + 1)) + 1 = omega arith in rw e (omega (arith, le, some))
+
+-- ---- entries
+
+by_two : (b : Bool) → (1 ≤ (if b then 2 else 1)) × ((if b then 2 else 1) ≤ 2)
+by_two true = (omega arith, omega arith)
+by_two false = (omega arith, omega arith)
+
+-- an operation has one or two entries before it
+pub one_or_two : (o : Operation) → (1 ≤ entries_left o) × (entries_left o ≤ 2)
+one_or_two o = by_two (is_send o.asked && is_waiting o.progress)
 
 -- ---- other threads
 
 module _ (ranks : List ℕ) (old new : List Thread) where
-  pub ready_same : (ready : List Item) → ((u : Item) → 0 < occurs u.number ready → thread_at new u ≡ thread_at old u) → ready_weight ranks new ready ≡ ready_weight ranks old ready
+  abbrev Same : Item → Type 0
+  Same u = thread_weight ranks (thread_at new u) ≡ thread_weight ranks (thread_at old u)
+
+  pub ready_same : (ready : List Item) → ((u : Item) → 0 < occurs u.number ready → Same u) → ready_weight ranks new ready ≡ ready_weight ranks old ready
   ready_same [] h = refl
   ready_same (t ∷ ready) h =
       let first = h t (let one = one_same t.number in let o : one_at t.number t ≡ 1 = one in omega (arith, o)) in
       let rest = ready_same ready (λ u lt. h u (omega (arith, lt))) in
-      let a : parked_weight ranks new t ≡ parked_weight ranks old t = rw first refl in
-      omega (arith, a, rest)
+      omega (arith, first, rest)
 
-  owner_same : (o : Option Block) → ((x : Block) → o ≡ Some x → x.waits ≡ true → thread_at new x.owner ≡ thread_at old x.owner) → owner_weight ranks new o ≡ owner_weight ranks old o
+  pub operations_same : (os : List Operation) → ((u : Item) → 0 < occurs u.number (items_of os) → Same u) → operations_weight ranks new os ≡ operations_weight ranks old os
+  operations_same [] h = refl
+  operations_same (x ∷ os) h =
+      let first = h x.item (let one = one_same x.item.number in let o : one_at x.item.number x.item ≡ 1 = one in omega (arith, o)) in
+      let rest = operations_same os (λ u lt. h u (omega (arith, lt))) in
+      let a : operation_weight ranks new x ≡ operation_weight ranks old x = ap (λ w. entries_left x + (1 + w)) first in
+      ap (λ w. w + operations_weight ranks new os) a ∙ ap (λ w. operation_weight ranks old x + w) rest
+
+  owner_same : (o : Option Block) → ((x : Block) → o ≡ Some x → x.waits ≡ true → Same x.owner) → owner_weight ranks new o ≡ owner_weight ranks old o
   owner_same None h = refl
   owner_same (Some x) h = go x.waits refl
     where
       go : (b : Bool) → x.waits ≡ b → (if b then parked_weight ranks new x.owner else 0) ≡ (if b then parked_weight ranks old x.owner else 0)
-      go true e = let s = h x refl e in rw s refl
+      go true e = ap (λ w. 1 + w) (h x refl e)
       go false e = refl
 
-  pub waiting_same : (blocks : List (Option Block)) → ((n : ℕ) (x : Block) → slice_index_or blocks n None ≡ Some x → x.waits ≡ true → thread_at new x.owner ≡ thread_at old x.owner)
+  pub waiting_same : (blocks : List (Option Block)) → ((n : ℕ) (x : Block) → slice_index_or blocks n None ≡ Some x → x.waits ≡ true → Same x.owner)
       → waiting_weight ranks new blocks ≡ waiting_weight ranks old blocks
   waiting_same [] h = refl
   waiting_same (o ∷ blocks) h =

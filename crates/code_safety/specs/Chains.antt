@@ -1,6 +1,6 @@
 -- Why no reference dangles: each is to a frame further out on the dynamic chain of the frame that holds it, and a chain lives as long as
 -- the frame with which it begins, since an activation or a body does not end before the blocks that were entered in it.
-use Rattle.std.specs.Prelude.{◌≡◌, ◌⊎◌, ℕ, ◌+◌, ◌<◌, List, [], ◌∷◌, length, Option, Some, None, true, false, slice_get}
+use Rattle.std.specs.Prelude.{◌≡◌, ◌⊎◌, ℕ, ◌+◌, ◌<◌, List, [], ◌∷◌, length, Option, Some, None, true, false, slice_get, All}
 use Rattle.work_item.specs.declared.ids.FrameId.{FrameId}
 use Rattle.work_item.specs.declared.ids.Item.{Item}
 use Rattle.work_item.specs.declared.ids.BlockId.{BlockId}
@@ -8,6 +8,9 @@ use Rattle.work_item.specs.declared.cell.Cell.{Cell}
 use Rattle.work_item.specs.declared.cell.Cell.TheVariants as cell
 use Rattle.work_item.specs.Store.{Frame, frame_at}
 use Rattle.work_item.specs.Conditions.{Lives}
+use Rattle.cancel_scope.specs.declared.operation.Asked.{Asked}
+use Rattle.cancel_scope.specs.declared.operation.Asked.TheVariants as asked
+use Rattle.cancel_scope.specs.declared.operation.Operation.{Operation}
 use Rattle.stack_code.specs.declared.shape.Shape.{Shape}
 use Rattle.stack_code.specs.Parts.{Parts}
 use Rattle.stack_code.specs.Valid.{Reaches}
@@ -110,6 +113,13 @@ pub record HasStack (code : Parts) (origins : List Origin) (blocks : List (Optio
   pub start : Option BlockId
   pub stack : IsStack code origins blocks sites t start h.place h.frame h.operands h.callers h.block
 
+-- ---- operations
+
+-- where an operation of the activation in that frame puts what it receives
+abbrev pub AskedOnChain : List Origin → FrameId → Asked → Type 0
+AskedOnChain origins f (asked.Send value) = Unit {0}
+AskedOnChain origins f (asked.Recv place) = HomeOnChain origins f place.home
+
 -- ---- the whole
 
 -- the frame is that of an activation of a thread that lives
@@ -143,3 +153,4 @@ pub record AreChained (code : Parts) (m : Flat) : Type 0 where
   -- an owner that waits at a finish stands in the frame in which it entered the block
   pub waiting : (b : BlockId) (x : Block) → block_at m.blocks b ≡ Some x → x.waits ≡ true
       → slice_get sites b.number ≡ Some (thread_at m.threads x.owner).frame
+  pub operations : All (λ (o : Operation). AskedOnChain origins (thread_at m.threads o.item).frame o.asked) m.operations

@@ -1,6 +1,7 @@
--- A state in which valid code can stand: each living thread has what its addresses ask for, and the blocks count just the living threads.
-use Rattle.std.specs.Prelude.{◌≡◌, ◌⊎◌, ℕ, ◌+◌, ◌<◌, ◌≤◌, ◌^◌, List, [], ◌∷◌, ◌++◌, length, Option, Some, None, IsSome, Bool, true, false}
-use Rattle.std.specs.Prelude.{nat_eq}
+-- A state in which valid code can stand: each living thread has what its addresses ask for, the blocks count just the living threads, and
+-- each operation is that of a living thread.
+use Rattle.std.specs.Prelude.{◌≡◌, ◌⊎◌, ℕ, ◌+◌, ◌<◌, ◌≤◌, ◌^◌, List, [], ◌∷◌, length, map, All, Option, Some, None, IsSome, Bool}
+use Rattle.std.specs.Prelude.{true, false, nat_eq}
 use Rattle.std.specs.Prelude.{slice_get, slice_index_or, if◌then◌else◌}
 use Rattle.work_item.specs.declared.ids.FrameId.{FrameId}
 use Rattle.work_item.specs.declared.ids.Item.{Item}
@@ -8,7 +9,10 @@ use Rattle.work_item.specs.declared.ids.BlockId.{BlockId}
 use Rattle.work_item.specs.declared.cell.Cell.{Cell}
 use Rattle.work_item.specs.declared.cell.Cell.TheVariants as cell
 use Rattle.work_item.specs.declared.cell.Place.{Place}
-use Rattle.work_item.specs.Store.{Store, Frame, frame_at}
+use Rattle.work_item.specs.Store.{Store, Frame, frame_at, no_int}
+use Rattle.cancel_scope.specs.declared.operation.Asked.{Asked}
+use Rattle.cancel_scope.specs.declared.operation.Asked.TheVariants as asked
+use Rattle.cancel_scope.specs.declared.operation.Operation.{Operation}
 use Rattle.stack_code.specs.declared.shape.Kind.{Kind}
 use Rattle.stack_code.specs.declared.shape.Kind.TheVariants as kind
 use Rattle.stack_code.specs.declared.shape.Home.{Home}
@@ -18,13 +22,14 @@ use Rattle.stack_code.specs.declared.shape.Shape.{Shape}
 use Rattle.stack_code.specs.Parts.{Parts}
 use Rattle.stack_code.specs.Shapes.{is_array}
 use Rattle.stack_code.specs.Valid.{Reaches, Uses, AsInt}
-use Rattle.stack_code.specs.Machine.{Caller, Thread, Block, Flat, nobody, thread_at, block_at}
+use Rattle.stack_code.specs.Machine.{Caller, Thread, Block, Flat, nobody, thread_at, block_at, given}
 
 -- ---- frames
 
--- what is known of a frame from its birth on: whose body it is for, and the thread that goes there
+-- what is known of a frame from its birth on: whose body it is for, how many slots it has, and the thread that goes there
 pub record Birth : Type 0 where
   pub home : Home
+  pub slots : ℕ
   pub item : Item
 
 abbrev pub Born : List Birth → FrameId → Birth → Type 0
@@ -34,20 +39,28 @@ abbrev pub is_int : Cell → Bool
 is_int (cell.Int value) = true
 is_int _ = false
 
--- no slot of the array is a parameter that is an array itself
+-- so many slots from that one on lie in the frame, and none of them is a parameter that is an array itself
+pub record AreInts (code : Parts) (births : List Birth) (f : FrameId) (start len : ℕ) : Type 0 where
+  pub birth : Birth
+  pub born : Born births f birth
+  pub inside : start + len ≤ birth.slots
+  pub plain : (slot : ℕ) → start ≤ slot → slot < start + len → is_array code birth.home slot ≡ false
+
+-- an array in the globals or in a frame lies there, and its slots are those of ints
 abbrev pub HoldsInts : Parts → List Birth → Option FrameId → ℕ → ℕ → Type 0
 HoldsInts code births None start len = start + len ≤ code.globals
-HoldsInts code births (Some f) start len =
-    (birth : Birth) × (Born births f birth × ((slot : ℕ) → start ≤ slot → slot < start + len → is_array code birth.home slot ≡ false))
+HoldsInts code births (Some f) start len = AreInts code births f start len
 
-pub record IsIntArray (code : Parts) (births : List Birth) (place : Place) : Type 0 where
+-- an array of ints, of one int alone where that is asked
+pub record IsIntArray (code : Parts) (births : List Birth) (one : Bool) (place : Place) : Type 0 where
   pub short : place.start + place.len < 2 ^ 32
   pub ints : HoldsInts code births place.home place.start place.len
+  pub single : one ≡ true → place.len ≡ 1
 
 -- an operand of that kind
 abbrev pub HasKind : Parts → List Birth → Kind → Cell → Type 0
 HasKind code births kind.Int (cell.Int value) = Unit {0}
-HasKind code births (kind.Reference one) (cell.Array place) = IsIntArray code births place
+HasKind code births (kind.Reference one) (cell.Array place) = IsIntArray code births one place
 HasKind code births _ _ = ⊥
 
 abbrev pub HaveKinds : Parts → List Birth → List Kind → List Cell → Type 0
@@ -67,6 +80,7 @@ pub record IsFrame (code : Parts) (births : List Birth) (f : FrameId) (x : Frame
   pub birth : Birth
   pub born : Born births f birth
   pub slots : AreSlots code births birth.home x.cells
+  pub long : length x.cells ≡ birth.slots
   pub short : length x.cells < 2 ^ 32
 
 pub record IsStore (code : Parts) (births : List Birth) (s : Store) : Type 0 where
@@ -255,6 +269,24 @@ abbrev pub runs : ℕ → Option Item → ℕ
 runs u None = 0
 runs u (Some t) = one_at u t
 
+-- ---- operations
+
+-- the threads that wait for their ends
+abbrev pub items_of : List Operation → List Item
+items_of os = map (λ (o : Operation). o.item) os
+
+-- a thread as it will go on: with an int on top, whatever it is, where it waits for the end of an operation
+abbrev pub going_on : List Operation → Item → Thread → Thread
+going_on [] t h = h
+going_on (o ∷ os) t h = if nat_eq t.number o.item.number then given no_int h else going_on os t h
+
+-- a message is received into one int
+abbrev pub IsAsked : Parts → List Birth → Asked → Type 0
+IsAsked code births (asked.Send value) = Unit {0}
+IsAsked code births (asked.Recv place) = IsIntArray code births true place
+
+-- ---- all of it
+
 pub record IsFit (code : Parts) (m : Flat) : Type 0 where
   pub births : List Birth
   pub lives : List Life
@@ -264,9 +296,11 @@ pub record IsFit (code : Parts) (m : Flat) : Type 0 where
   -- the first thread lives until the core ends
   pub first : is_living (life_at lives (record { number = 0 })).phase ≡ true
   pub free : (life_at lives (record { number = 0 })).start ≡ None
-  -- just the threads that go run or are ready, each once
-  pub listed : (u : ℕ) → runs u m.running + occurs u m.ready ≡ one_if (is_going (life_at lives (record { number = u })).phase)
+  -- just the threads that go run, are ready or wait for the end of an operation, each once
+  pub listed : (u : ℕ) → runs u m.running + (occurs u m.ready + occurs u (items_of m.operations))
+      ≡ one_if (is_going (life_at lives (record { number = u })).phase)
+  pub asks : All (λ (o : Operation). IsAsked code births o.asked) m.operations
   pub many : length lives ≡ length m.threads
   pub current : (t : Item) → m.running ≡ Some t → m.current ≡ (life_at lives t).thread
   pub parked : (t : Item) → is_living (life_at lives t).phase ≡ true → (m.running ≡ Some t → ⊥)
-      → thread_at m.threads t ≡ (life_at lives t).thread
+      → going_on m.operations t (thread_at m.threads t) ≡ (life_at lives t).thread

@@ -1,13 +1,16 @@
 -- A bound on what a core can still do before it ends.
-use Rattle.std.specs.Prelude.{ℕ, zero, suc, ◌+◌, ◌-◌, ◌*◌, List, [], ◌∷◌, Option, Some, None, Bool, true, false, sum, slice_index}
-use Rattle.std.specs.Prelude.{if◌then◌else◌}
+use Rattle.std.specs.Prelude.{ℕ, zero, suc, ◌+◌, ◌-◌, ◌*◌, List, [], ◌∷◌, Option, Some, None, sum, slice_index}
+use Rattle.std.specs.Prelude.{if◌then◌else◌, ◌&&◌}
 use Rattle.work_item.specs.declared.ids.Item.{Item}
+use Rattle.cancel_scope.specs.declared.operation.Operation.{Operation}
+use Rattle.cancel_scope.specs.Outstanding.{is_send, is_waiting}
 use Rattle.stack_code.specs.Machine.{Caller, Thread, Block, Flat, thread_at}
 use Rattle.code_safety.specs.Fit.{total}
 
--- twice and two: an address of that rank may be left for two of lower ranks, with a dispatch between
+-- twice and two: an address of that rank may be left for two of lower ranks, with a dispatch between, or for one of a lower rank, with an
+-- operation between
 abbrev pub grown : ℕ → ℕ
-grown zero = 1
+grown zero = 2
 grown (suc r) = 2 * grown r + 2
 
 abbrev pub at_weight : List ℕ → ℕ → ℕ
@@ -28,6 +31,16 @@ abbrev pub ready_weight : List ℕ → List Thread → List Item → ℕ
 ready_weight ranks threads [] = 0
 ready_weight ranks threads (t ∷ ready) = parked_weight ranks threads t + ready_weight ranks threads ready
 
+-- an operation has its end before it, and an offer before that where it is to be offered
+abbrev pub entries_left : Operation → ℕ
+entries_left o = if is_send o.asked && is_waiting o.progress then 2 else 1
+
+abbrev pub operation_weight : List ℕ → List Thread → Operation → ℕ
+operation_weight ranks threads o = entries_left o + parked_weight ranks threads o.item
+
+abbrev pub operations_weight : List ℕ → List Thread → List Operation → ℕ
+operations_weight ranks threads os = total (operation_weight ranks threads) os
+
 abbrev pub owner_weight : List ℕ → List Thread → Option Block → ℕ
 owner_weight ranks threads None = 0
 owner_weight ranks threads (Some x) = if x.waits then parked_weight ranks threads x.owner else 0
@@ -43,4 +56,5 @@ running_weight ranks current (Some t) = thread_weight ranks current
 abbrev pub left : List ℕ → ℕ → Flat → ℕ
 left ranks bound m =
     (bound - m.shared.steps) * grown (sum ranks)
-    + (running_weight ranks m.current m.running + (ready_weight ranks m.threads m.ready + waiting_weight ranks m.threads m.blocks))
+    + (running_weight ranks m.current m.running
+    + (ready_weight ranks m.threads m.ready + (operations_weight ranks m.threads m.operations + waiting_weight ranks m.threads m.blocks)))

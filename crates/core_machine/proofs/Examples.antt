@@ -42,6 +42,7 @@ store = no_frames 2
 abbrev pub running : Flat
 running = record {
   shared = record (first_shared []) { steps = 1; turn = 1 };
+  operations = [];
   store = store;
   running = None;
   current = nobody;
@@ -52,7 +53,7 @@ running = record {
 }
 
 abbrev pub its_end : CoreEnd
-its_end = core_end Stalled false (pos 0 ∷ pos 0 ∷ []) running.shared
+its_end = core_end Stalled false (pos 0 ∷ pos 0 ∷ []) [] running.shared
 
 pub it_is_seen_as_stalled : IsSeen (On running) (record { core = its_end; instructions = 3 })
 it_is_seen_as_stalled = (refl, refl)
@@ -61,7 +62,7 @@ pub with_all_instructions : IsSeen (On running) (record { core = its_end; instru
 with_all_instructions h = let e = h.1 in cc
 
 abbrev pub finished : CoreEnd
-finished = core_end Finished false (pos 0 ∷ pos 0 ∷ []) running.shared
+finished = core_end Finished false (pos 0 ∷ pos 0 ∷ []) [] running.shared
 
 pub it_is_seen_as_finished : IsSeen (Over (record { core = Some finished; count = 4 })) (record { core = finished; instructions = 4 })
 it_is_seen_as_finished = (refl, refl)
@@ -173,6 +174,7 @@ pub the_whole_state : (m : Running) → flat_of (with_fields m)
     ≡ record {
       shared = shared_of (with_fields m);
       store = store;
+      operations = [];
       running = None;
       current = thread_of (with_fields m);
       ready = second ∷ [];
@@ -183,7 +185,7 @@ pub the_whole_state : (m : Running) → flat_of (with_fields m)
 the_whole_state m = refl
 
 pub an_end_or_none : (end_or running None ≡ On running)
-    × (end_or running (Some pause.OutOfSteps) ≡ Over (record { core = Some (core_end OutOfSteps false (pos 0 ∷ pos 0 ∷ []) running.shared); count = 3 }))
+    × (end_or running (Some pause.OutOfSteps) ≡ Over (record { core = Some (core_end OutOfSteps false (pos 0 ∷ pos 0 ∷ []) [] running.shared); count = 3 }))
 an_end_or_none = (refl, refl)
 
 pub it_goes_on_or_is_over : (m : Running) → (state_of (with_fields m) ≡ On (flat_of (with_fields m)))

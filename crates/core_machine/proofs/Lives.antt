@@ -13,14 +13,14 @@ use Rattle.stack_code.specs.Shapes.{effect}
 use Rattle.stack_code.specs.Valid.{IsValid}
 use Rattle.stack_code.specs.Machine.{Flat, Block, block_at}
 use Rattle.code_safety.specs.Fit.{IsThread, Phase, Gone, Going, AtFinish, Life, no_life, life_at, is_living, is_going, is_at, starts_in}
-use Rattle.code_safety.specs.Fit.{total, one_if, one_at, occurs, runs, innermost, innermost_in, own_blocks, IsFit}
+use Rattle.code_safety.specs.Fit.{total, items_of, one_if, one_at, occurs, runs, innermost, innermost_in, own_blocks, IsFit}
 use Rattle.code_safety.proofs.Lives.{total_set, total_one, starts_one, living_within, going_is, going_lives, one_same, one_true, one_at_most, same_item}
 use Rattle.code_safety.proofs.Own.{phase_of, lives_of, within_of, thread_of}
 use Rattle.code_safety.proofs.Entering.{Stands, own, round, stands_in}
 use Rattle.code_safety.proofs.Finishing.{arrival}
 use Rattle.code_safety.proofs.Starting.{starting}
 use Rattle.code_safety.proofs.Dying.{leaving}
-use Rattle.code_safety.proofs.Moving.{never_stalled}
+use Rattle.code_safety.proofs.NoStall.{never_stalled}
 use Rattle.core_machine.specs.inner.Needs.{IsChildless, IsListed, CanFinish, CanStart, CanEnd, HasNext}
 
 -- ---- counts
@@ -138,14 +138,15 @@ module _ (code : Parts) (m : Flat) (fit : IsFit code m) where
 
   -- ---- no thread runs
 
-  pub has_next : m.running ≡ None → HasNext m
-  has_next idle = go m.ready refl
+  pub has_next : m.operations ≡ [] → m.running ≡ None → HasNext m
+  has_next alone idle = go m.ready refl
     where
       go : (ready : List Item) → m.ready ≡ ready → HasNext m
-      go [] e = absurd (never_stalled code m fit idle e)
+      go [] e = absurd (never_stalled code m fit idle e alone)
       go (t ∷ ready) e =
-          let l : 0 + (one_at t.number t + occurs t.number ready) ≡ one_if (is_going (life_at fit.lives t).phase) =
-          ap (λ o. runs t.number o + occurs t.number (t ∷ ready)) (sym idle) ∙ ap (λ r. runs t.number m.running + occurs t.number r) (sym e) ∙ fit.listed t.number in
+          let l : 0 + ((one_at t.number t + occurs t.number ready) + occurs t.number (items_of m.operations)) ≡ one_if (is_going (life_at fit.lives t).phase) =
+          ap (λ o. runs t.number o + (occurs t.number (t ∷ ready) + occurs t.number (items_of m.operations))) (sym idle)
+          ∙ ap (λ r. runs t.number m.running + (occurs t.number r + occurs t.number (items_of m.operations))) (sym e) ∙ fit.listed t.number in
           let one = one_same t.number in
           let most = one_at_most (is_going (life_at fit.lives t).phase) in
           let goes = going_is (life_at fit.lives t).phase (one_true (is_going (life_at fit.lives t).phase) (omega (arith, l, one, most))) in

@@ -15,6 +15,7 @@ use Rattle.code_safety.specs.Left.{left}
 use Rattle.code_safety.specs.Fit.{IsFit}
 use Rattle.code_safety.specs.Chains.{AreChained}
 use Rattle.stack_code.specs.Machine.{Flat, begin, exec, exec_of, first_flat}
+use Rattle.code_safety.proofs.NoStall.{alone_is_meant}
 use Rattle.code_safety.proofs.Plain.{Onward}
 use Rattle.code_safety.proofs.Own.{thread_of}
 use Rattle.code_safety.proofs.Moving.{moves_on}
@@ -77,11 +78,11 @@ module _ (before after : Running) (still : before.ended ≡ None) (sound : IsSou
   better : (ranks : List ℕ) → IsRanked before.code.now ranks → after.ended ≡ None
       → IsFit before.code.now (flat_of after) × (left ranks before.bound (flat_of after) < left ranks before.bound (flat_of before))
   better ranks r e = subst (Onward (λ n. IsFit before.code.now n × (left ranks before.bound n < left ranks before.bound (flat_of before)))) (moved ∙ running (flat_of after) after.ended e)
-      (moves_on before.code.now before.bound sound.valid sound.alone ranks r (flat_of before) fit)
+      (moves_on before.code.now before.bound sound.valid (alone_is_meant before.code.now sound.alone) ranks r (flat_of before) fit)
 
   still_chained : after.ended ≡ None → AreChained before.code.now (flat_of after)
   still_chained e = subst (Onward (AreChained before.code.now)) (moved ∙ running (flat_of after) after.ended e)
-      (chained_on before.code.now before.bound (flat_of before) sound.valid sound.alone fit (sound.chained still))
+      (chained_on before.code.now before.bound (flat_of before) sound.valid (alone_is_meant before.code.now sound.alone) fit (sound.chained still))
 
   pub still_sound : (ranks : List ℕ) → IsRanked before.code.now ranks → IsSound after
   still_sound ranks r = record {

@@ -40,7 +40,7 @@ pub record IsSameCore (before after : Machine) : Type 0 where
 -- what is seen of a machine: its end, or its present state as that of a core that is stalled
 abbrev pub IsSeen : Move Flat FlatEnd → MachineEnd → Type 0
 IsSeen (Over x) end = (x.core ≡ Some end.core) × (x.count ≡ end.instructions)
-IsSeen (On m) end = (core_end Stalled false m.store.globals m.shared ≡ end.core) × (m.count ≡ end.instructions)
+IsSeen (On m) end = (core_end Stalled false m.store.globals m.operations m.shared ≡ end.core) × (m.count ≡ end.instructions)
 
 -- the machine is over, by the end that it came back with
 abbrev pub IsPaused : Move Flat FlatEnd → Pause → Type 0

@@ -24,6 +24,7 @@ flat_of m =
     record {
       shared = shared_of m;
       store = m.frames;
+      operations = [];
       running = m.schedule.running;
       current = thread_of m;
       ready = m.schedule.ready;

@@ -279,8 +279,8 @@ abbrev pub ended_well : CoreEnd
 ended_well = record { word = word.Finished; steps = 3; output = codes "ok"; globals = pos 4 ∷ []; waiting = []; idle = false }
 
 -- nothing is seen while an entry is to come
-pub an_end_is_seen : (entry : Entry) → (seen_left word.Finished false (pos 4 ∷ []) (shared 8 []) [] ≡ Some ended_well)
-    × (seen_left word.Finished false (pos 4 ∷ []) (shared 8 []) (entry ∷ []) ≡ None)
+pub an_end_is_seen : (entry : Entry) → (seen_left word.Finished false (pos 4 ∷ []) [] (shared 8 []) [] ≡ Some ended_well)
+    × (seen_left word.Finished false (pos 4 ∷ []) [] (shared 8 []) (entry ∷ []) ≡ None)
 an_end_is_seen entry = (refl, refl)
 
 -- moves whose ends are what is seen
@@ -288,7 +288,7 @@ abbrev pub Ends : Type 0
 Ends = Move ℕ (Option CoreEnd)
 
 abbrev pub turn_after : ℕ → Ends
-turn_after turn = if_turn (λ seen. seen) (pos 4 ∷ []) (shared turn []) (On 1)
+turn_after turn = if_turn (λ seen. seen) (pos 4 ∷ []) [] (shared turn []) (On 1)
 
 -- a core has 2 ^ 64 - 1 turns
 pub the_last_turn : turn_after 18446744073709551614 ≡ On 1
@@ -321,7 +321,7 @@ one_byte_is_printed = refl
 pub nothing_was_done_at_first : (journal : List Entry) → first_shared journal ≡ record { steps = 0; turn = 0; output = []; past = []; todo = journal }
 nothing_was_done_at_first journal = refl
 
-pub the_whole_of_an_end : (core_end word.Finished false (pos 4 ∷ []) (shared 8 []) ≡ ended_well) × (seen word.Finished false (pos 4 ∷ []) (shared 8 []) ≡ Some ended_well)
+pub the_whole_of_an_end : (core_end word.Finished false (pos 4 ∷ []) [] (shared 8 []) ≡ ended_well) × (seen word.Finished false (pos 4 ∷ []) [] (shared 8 []) ≡ Some ended_well)
 the_whole_of_an_end = (refl, refl)
 
 pub an_end_stays : (and_then {S = ℕ} {T = ℕ} {E = ℕ} (On 3) down ≡ On 2) × (and_then {S = ℕ} {T = ℕ} {E = ℕ} (Over 7) down ≡ Over 7) × (first_frame ≡ frame)

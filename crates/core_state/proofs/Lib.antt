@@ -2,3 +2,4 @@ pub mod Simulation
 pub mod Runs
 pub mod Beginnings
 pub mod Examples
+pub mod ArrivalExamples

@@ -2,3 +2,4 @@ pub mod Moves
 pub mod Arithmetic
 pub mod Frames
 pub mod Shared
+pub mod Arrivals

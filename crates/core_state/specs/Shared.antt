@@ -1,6 +1,6 @@
 -- What the source and the code of a core share, which is what is seen of it but for its globals, and what is seen of it at an end. Globals,
 -- frames, threads and blocks are each meaning's own.
-use Rattle.std.specs.Prelude.{ℕ, ◌+◌, ◌-◌, ◌^◌, ℤ, Bool, true, false, List, [], ◌∷◌, ◌++◌, length, replicate}
+use Rattle.std.specs.Prelude.{ℕ, ◌+◌, ◌-◌, ◌^◌, ℤ, Bool, true, false, List, [], ◌∷◌, ◌++◌, length, map, replicate}
 use Rattle.std.specs.Prelude.{◌==◌, nat_le, nat_lt, Option, Some, None, Result, Ok, Err, if◌then◌else◌}
 use Rattle.std.specs.Fmt.{signed_decimal}
 use Rattle.ac_base.specs.declared.ends.Trap.{Trap}
@@ -10,6 +10,8 @@ use Rattle.ac_base.specs.declared.ends.EndWord.TheVariants as word
 use Rattle.ac_base.specs.declared.ends.CoreEnd.{CoreEnd}
 use Rattle.ac_base.specs.declared.entry.Entry.{Entry}
 use Rattle.work_item.specs.Store.{Store, no_int}
+use Rattle.cancel_scope.specs.declared.operation.Operation.{Operation}
+use Rattle.cancel_scope.specs.Outstanding.{waiting_as}
 use Rattle.core_state.specs.Moves.{Move, Over}
 use Rattle.core_state.specs.Arithmetic.{low_byte}
 use Rattle.core_state.specs.Frames.{begun, first_store}
@@ -27,6 +29,10 @@ with_step s = record s { steps = s.steps + 1 }
 
 abbrev pub with_turn : Shared → Shared
 with_turn s = record s { turn = s.turn + 1 }
+
+-- the next entry has come in, before the others
+abbrev pub with_entry : Shared → Entry → List Entry → Shared
+with_entry s e es = record s { past = s.past ++ e ∷ []; todo = es }
 
 abbrev pub first_shared : List Entry → Shared
 first_shared journal = record { steps = 0; turn = 0; output = []; past = []; todo = journal }
@@ -59,28 +65,29 @@ printed s bytes = if nat_le (length s.output + length bytes) output_limit then O
 
 -- ---- ends
 
--- what is seen of a core whose globals are these
-abbrev pub core_end : EndWord → Bool → List ℤ → Shared → CoreEnd
-core_end word idle globals s =
-    record { word = word; steps = s.steps; output = s.output; globals = globals; waiting = []; idle = idle }
+-- what is seen of a core whose globals are these, and whose operations have not ended
+abbrev pub core_end : EndWord → Bool → List ℤ → List Operation → Shared → CoreEnd
+core_end word idle globals operations s =
+    record { word = word; steps = s.steps; output = s.output; globals = globals; waiting = map waiting_as operations; idle = idle }
 
 -- what is seen of an end: nothing where an entry of the journal is still to come
-abbrev pub seen_left : EndWord → Bool → List ℤ → Shared → List Entry → Option CoreEnd
-seen_left word idle globals s [] = Some (core_end word idle globals s)
-seen_left word idle globals s (_ ∷ _) = None
+abbrev pub seen_left : EndWord → Bool → List ℤ → List Operation → Shared → List Entry → Option CoreEnd
+seen_left word idle globals operations s [] = Some (core_end word idle globals operations s)
+seen_left word idle globals operations s (_ ∷ _) = None
 
-abbrev pub seen : EndWord → Bool → List ℤ → Shared → Option CoreEnd
-seen word idle globals s = seen_left word idle globals s s.todo
+abbrev pub seen : EndWord → Bool → List ℤ → List Operation → Shared → Option CoreEnd
+seen word idle globals operations s = seen_left word idle globals operations s s.todo
 
 -- ---- moves that end a core; each meaning tells an end in its own way
 
 -- with a turn if there is one left, and else out of steps
-abbrev pub if_turn : {S E : Type 0} → (Option CoreEnd → E) → List ℤ → Shared → Move S E → Move S E
-if_turn tell globals s next = if nat_lt s.turn (2 ^ 64 - 1) then next else Over (tell (seen word.OutOfSteps false globals s))
+abbrev pub if_turn : {S E : Type 0} → (Option CoreEnd → E) → List ℤ → List Operation → Shared → Move S E → Move S E
+if_turn tell globals operations s next =
+    if nat_lt s.turn (2 ^ 64 - 1) then next else Over (tell (seen word.OutOfSteps false globals operations s))
 
 abbrev pub begins_with : {S E : Type 0} → (Option CoreEnd → E) → List ℤ → Shared → Result Store Trap → (Store → Move S E) → Move S E
 begins_with tell globals s (Ok store) go = go store
-begins_with tell globals s (Err trap) go = Over (tell (seen (word.Trapped trap) false globals s))
+begins_with tell globals s (Err trap) go = Over (tell (seen (word.Trapped trap) false globals [] s))
 
 -- a core begins with these globals in a frame of so many slots, where there is room for it
 abbrev pub begins : {S E : Type 0} → (Option CoreEnd → E) → List ℤ → Shared → ℕ → (Store → Move S E) → Move S E

@@ -33,6 +33,7 @@ use Rattle.stack_code.specs.Valid.{Use, AsInt, AsReference, AsBlock, use_of, int
 use Rattle.stack_code.specs.Valid.{IsEntry, HasCores, IsCapacity, IsChannel, HasLinks, IsStart, HasStarts, HasRoom, HasLists}
 use Rattle.stack_code.specs.Kept.{Has, IsTable, IsRanked, IsKept}
 use Rattle.stack_code.specs.Alone.{is_alone, IsAlone}
+use Rattle.stack_code.specs.Meant.{has_meaning, IsMeant}
 use Rattle.stack_code.specs.declared.shape.Want.TheVariants as want
 use Rattle.stack_code.specs.Listing.{instr_line, between, function_lines, core_lines, text_lines, listing}
 
@@ -60,7 +61,7 @@ after words instrs bound count = and_then (first_flat (code_of words instrs) (en
 -- the core ended so, after so many steps, having printed this, with these globals and so many instructions
 abbrev pub ended : EndWord → ℕ → List ℕ → List ℤ → ℕ → Move Flat FlatEnd
 ended word steps output globals count =
-    Over (record { core = Some (core_end word false globals (record { steps = steps; turn = 1; output = output; past = []; todo = [] })); count = count })
+    Over (record { core = Some (core_end word false globals [] (record { steps = steps; turn = 1; output = output; past = []; todo = [] })); count = count })
 
 -- ---- runs
 
@@ -76,7 +77,7 @@ abbrev begins_so : (words : ℕ) (instrs : List Instr) → Begins (code_of words
 begins_so words instrs = record { entry = 0; entry_is = refl; function_is = refl }
 
 pub it_is_an_end : Runs (code_of 0 prints_seven) 0 100 []
-    (record { core = Some (core_end Finished false (pos 0 ∷ pos 5 ∷ []) (record { steps = 1; turn = 1; output = codes "7\n"; past = []; todo = [] })); count = 9 })
+    (record { core = Some (core_end Finished false (pos 0 ∷ pos 5 ∷ []) [] (record { steps = 1; turn = 1; output = codes "7\n"; past = []; todo = [] })); count = 9 })
 it_is_an_end = record { function = entered 0; begins = begins_so 0 prints_seven; comes = (10, sym it_prints_seven) }
 
 -- return 0; takes two instructions, and not three
@@ -587,6 +588,15 @@ it_is_alone = All-from_recursion (λ (instr : Instr). is_alone instr ≡ true) k
 
 pub a_send_is_not : IsAlone (code_of 0 (i.Send 0 ∷ i.Ret ∷ [])) → ⊥
 a_send_is_not h = let e = (recursion_from_All (λ (instr : Instr). is_alone instr ≡ true) (i.Send 0 ∷ i.Ret ∷ []) h).0 in cc
+
+pub all_of_it_has_a_meaning : IsMeant small
+all_of_it_has_a_meaning = All-from_recursion (λ (instr : Instr). has_meaning instr ≡ true) keeps_three (refl, (refl, (refl, (refl, tt))))
+
+pub a_send_has_a_meaning : has_meaning (i.Send 0) ∷ has_meaning (i.Cancel 0 0) ∷ has_meaning (i.Read 0) ∷ [] ≡ true ∷ false ∷ false ∷ []
+a_send_has_a_meaning = refl
+
+pub a_cancel_has_none : IsMeant (code_of 0 (i.Cancel 0 0 ∷ i.Ret ∷ [])) → ⊥
+a_cancel_has_none h = let e = (recursion_from_All (λ (instr : Instr). has_meaning instr ≡ true) (i.Cancel 0 0 ∷ i.Ret ∷ []) h).0 in cc
 
 -- ---- what the effects of instructions are made of
 

@@ -10,6 +10,13 @@ use Rattle.stack_code.specs.declared.instr.Instr.TheVariants as i
 use Rattle.stack_code.specs.declared.shape.Kind.TheVariants as kind
 use Rattle.stack_code.specs.declared.shape.Home.TheVariants as home
 use Rattle.stack_code.specs.Machine.{Flat, FlatEnd, with_starts, first_globals, first_item, first_core, Caller, one_operand, block_at, one_more, told, text_at, dispatched, calls}
+use Rattle.stack_code.specs.Machine.{operates, given, resumed, arrived, rests}
+use Rattle.cancel_scope.specs.declared.operation.Asked.TheVariants.{Send, Recv}
+use Rattle.cancel_scope.specs.Outstanding.{started, offered_as}
+use Rattle.ac_base.specs.declared.entry.Event.TheVariants.{Know}
+use Rattle.ac_base.specs.declared.entry.Entry.{Entry}
+use Rattle.ac_base.specs.declared.ends.Phase.TheVariants as phase
+use Rattle.core_state.specs.Arrivals.{goes_on_waiting, has_ended}
 use Rattle.stack_code.specs.Machine.{thread_at, with_block, stops, counted_in, arrives_at, arrives_in, counted_out, dies_in, dies, begin, exec_of}
 use Rattle.stack_code.specs.Machine.{Block, nobody, seen_of, with_shared, with_store, goes_to, or_trap, on_top, on_two, on_three, on_many, two_operands, always}
 use Rattle.work_item.specs.declared.ids.FrameId.{FrameId}
@@ -40,6 +47,7 @@ abbrev pub at_place : ℕ → List Cell → ℕ → Flat
 at_place place operands count = record {
   shared = first_shared [];
   store = no_frames 1;
+  operations = [];
   running = Some (item 0);
   current = record nobody { place = place; operands = operands };
   ready = [];
@@ -52,12 +60,12 @@ abbrev pub here : List Cell → Flat
 here operands = at_place 4 operands 7
 
 abbrev pub over : EndWord → Bool → ℕ → Move Flat FlatEnd
-over word idle count = Over (record { core = Some (core_end word idle (pos 0 ∷ []) (first_shared [])); count = count })
+over word idle count = Over (record { core = Some (core_end word idle (pos 0 ∷ []) [] (first_shared [])); count = count })
 
 pub threads_at_their_numbers : thread_at (nobody ∷ (here []).current ∷ []) (item 1) ∷ thread_at (nobody ∷ []) (item 1) ∷ [] ≡ (here []).current ∷ nobody ∷ []
 threads_at_their_numbers = refl
 
-pub what_is_seen : seen_of Finished true (here []) ≡ Some (core_end Finished true (pos 0 ∷ []) (first_shared []))
+pub what_is_seen : seen_of Finished true (here []) ≡ Some (core_end Finished true (pos 0 ∷ []) [] (first_shared []))
 what_is_seen = refl
 
 pub parts_are_replaced : ((with_shared (here []) (record (first_shared []) { steps = 3 })).shared.steps ≡ 3) × ((with_store (here []) (no_frames 2)).store ≡ no_frames 2)
@@ -165,3 +173,59 @@ pub a_call : (calls (here []) (Some (entered 2)) [] (int 1 ∷ [])
     }))
     × (calls (here []) None [] [] ≡ On (here []))
 a_call = (refl, refl)
+
+-- ---- operations
+
+-- the first thread waits for the end of a send of 5 on the channel 0, with a 1 below the value that will come
+abbrev pub sending : Flat
+sending = record (at_place 0 [] 8) {
+  operations = started 0 (Send (pos 5)) (item 0) ∷ [];
+  running = None;
+  current = nobody;
+  threads = record nobody { place = 5; operands = int 1 ∷ [] } ∷ [];
+}
+
+pub it_waits_for_its_end : (begin code 9 (here (int 5 ∷ int 1 ∷ [])) (item 0) (Some (i.Send 0)) ≡ On sending)
+    × (operates (here []) (item 0) 0 (Send (pos 5)) (int 1 ∷ []) ≡ sending)
+it_waits_for_its_end = (refl, refl)
+
+pub a_receive_names_its_place : begin code 9 (here (cell.Array (record { home = None; start = 0; len = 1 }) ∷ int 1 ∷ [])) (item 0) (Some (i.Recv 0))
+    ≡ On (record sending { operations = started 0 (Recv (record { home = None; start = 0; len = 1 })) (item 0) ∷ [] })
+a_receive_names_its_place = refl
+
+-- nothing is ready, and no entry comes in
+pub it_waits : rests sending ≡ Over (record {
+  core = Some (record {
+    word = Stalled;
+    steps = 0;
+    output = [];
+    globals = pos 0 ∷ [];
+    waiting = record { link = 0; phase = phase.Waiting } ∷ [];
+    idle = true;
+  });
+  count = 8;
+})
+it_waits = refl
+
+-- the send was offered, and an entry tells that it was taken
+abbrev pub offered : List Entry → Flat
+offered todo = record sending {
+  shared = record (first_shared []) { todo = todo };
+  operations = offered_as 3 (started 0 (Send (pos 5)) (item 0)) ∷ [];
+}
+
+abbrev pub known : Entry
+known = record { stamp = 4; turn = 0; event = Know 0 3 }
+
+-- it has ended: its thread is ready, with OK above the 1
+pub the_send_has_ended : rests (offered (known ∷ [])) ≡ On (record sending {
+  shared = record (first_shared []) { past = known ∷ [] };
+  operations = [];
+  ready = item 0 ∷ [];
+  threads = record nobody { place = 5; operands = int 0 ∷ int 1 ∷ [] } ∷ [];
+})
+the_send_has_ended = refl
+
+pub what_an_entry_makes : (arrived sending (first_shared []) (goes_on_waiting (no_frames 1) []) ≡ record sending { operations = [] })
+    × (resumed sending (int 0) None ≡ sending) × ((given (int 0) nobody).operands ≡ int 0 ∷ [])
+what_an_entry_makes = (refl, refl, refl)

@@ -4,5 +4,6 @@ pub mod Shapes
 pub mod Valid
 pub mod Kept
 pub mod inner
+pub mod Meant
 pub mod Alone
 pub mod Listing

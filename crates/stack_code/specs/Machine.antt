@@ -15,12 +15,17 @@ use Rattle.work_item.specs.declared.cell.Cell.{Cell}
 use Rattle.work_item.specs.declared.cell.Cell.TheVariants as cell
 use Rattle.work_item.specs.Store.{Store, above, cell_at, global_at, no_int, int_in, place_in}
 use Rattle.work_item.specs.Store.{next_frame, with_cell_at, with_cleared, with_global, released}
+use Rattle.cancel_scope.specs.declared.operation.Asked.{Asked}
+use Rattle.cancel_scope.specs.declared.operation.Asked.TheVariants as asked
+use Rattle.cancel_scope.specs.declared.operation.Operation.{Operation}
+use Rattle.cancel_scope.specs.Outstanding.{started}
 use Rattle.core_state.specs.Moves.{Move, On, Over, ComesTo}
 use Rattle.core_state.specs.Arithmetic.{Computed, at_zero, truth, negated, not_true, flipped, sum_of, difference_of}
 use Rattle.core_state.specs.Arithmetic.{product_of, quotient, remainder, shifted_left, shifted_right, is_equal}
 use Rattle.core_state.specs.Arithmetic.{is_not_equal, is_less, is_at_most, both_bits, either_bits, differing_bits}
 use Rattle.core_state.specs.Frames.{element, set_element, part_at, begun, begun_with, first_frame, with_entered}
 use Rattle.core_state.specs.Shared.{Shared, with_step, with_turn, first_shared, printed, formatted, seen, if_turn, begins}
+use Rattle.core_state.specs.Arrivals.{Arrival, point, ok}
 use Rattle.stack_code.specs.declared.instr.Instr.{Instr}
 use Rattle.stack_code.specs.declared.instr.Instr.TheVariants as i
 use Rattle.stack_code.specs.declared.parts.Entered.{Entered}
@@ -50,11 +55,13 @@ pub record Block : Type 0 where
   pub count : ℕ
   pub waits : Bool
 
--- a core in the machine: what it shares with its source, what its globals and frames hold, and its threads and blocks at their numbers; the
--- running thread stands beside the table of the others, and the count is that of the instructions begun
+-- a core in the machine: what it shares with its source, what its globals and frames hold, its operations that have not ended, and its
+-- threads
+-- and blocks at their numbers; the running thread stands beside the table of the others, and the count is that of the instructions begun
 pub record Flat : Type 0 where
   pub shared : Shared
   pub store : Store
+  pub operations : List Operation
   pub running : Option Item
   pub current : Thread
   pub ready : List Item
@@ -83,7 +90,7 @@ abbrev pub ends : Option CoreEnd → ℕ → Move Flat FlatEnd
 ends core count = Over (told count core)
 
 abbrev pub seen_of : EndWord → Bool → Flat → Option CoreEnd
-seen_of word idle m = seen word idle m.store.globals m.shared
+seen_of word idle m = seen word idle m.store.globals m.operations m.shared
 
 abbrev pub with_shared : Flat → Shared → Flat
 with_shared m s = record m { shared = s }
@@ -173,6 +180,7 @@ starts m t to store =
     record {
       shared = m.shared;
       store = store;
+      operations = m.operations;
       running = Some (record { number = length m.threads });
       current = record { place = m.current.place + 1; frame = next_frame m.store; operands = []; callers = []; block = m.current.block };
       ready = t ∷ m.ready;
@@ -213,6 +221,28 @@ dies_in m t b (Some x) = counted_out (nat_eq x.count 1 && x.waits) m t b x
 abbrev pub dies : Flat → Item → Option BlockId → Flat
 dies m t None = m
 dies m t (Some b) = dies_in m t b (block_at m.blocks b)
+
+-- ---- operations
+
+-- the running thread waits for the end of an operation on that link, with these operands below its value
+abbrev pub operates : Flat → Item → ℕ → Asked → List Cell → Flat
+operates m t link asked below =
+    record (stops m t (at m.current (m.current.place + 1) below) m.ready m.blocks)
+    { operations = m.operations ++ started link asked t ∷ [] }
+
+-- with the value of its operation on top of its operands
+abbrev pub given : Cell → Thread → Thread
+given value h = record h { operands = value ∷ h.operands }
+
+-- the thread whose operation has ended has its value, and goes to the back
+abbrev pub resumed : Flat → Cell → Option Item → Flat
+resumed m value None = m
+resumed m value (Some t) =
+    record m { ready = m.ready ++ t ∷ []; threads = slice_set m.threads t.number (given value (thread_at m.threads t)) }
+
+-- an entry has come in, which is no instruction
+abbrev pub arrived : Flat → Shared → Arrival → Flat
+arrived m shared x = resumed (record m { shared = shared; store = x.store; operations = x.operations }) ok x.woken
 
 -- ---- calls
 
@@ -318,16 +348,18 @@ begin code bound m t (Some (i.Async slots to)) =
 begin code bound m t (Some i.End) = On (dies (with_store m (released m.store m.current.frame)) t m.current.block)
 begin code bound m t (Some (i.Cancel level slot)) = On m
 begin code bound m t (Some i.Yield) = On (stops m t (record m.current { place = m.current.place + 1 }) (m.ready ++ t ∷ []) m.blocks)
-begin code bound m t (Some (i.Send channel)) = On m
-begin code bound m t (Some (i.Recv channel)) = On m
+begin code bound m t (Some (i.Send channel)) =
+    on_top m (λ x below. On (operates m t channel (asked.Send (int_in x)) below)) m.current.operands
+begin code bound m t (Some (i.Recv channel)) =
+    on_top m (λ x below. On (operates m t channel (asked.Recv (place_in x)) below)) m.current.operands
 begin code bound m t (Some (i.Read file)) = On m
 begin code bound m t (Some (i.Write file)) = On m
 
--- no thread runs: the front of the ready list does, which is no instruction, or the core waits
+-- the front of the ready list runs, which is no instruction, or the core waits
 abbrev pub dispatched : Flat → List Item → Move Flat FlatEnd
 dispatched m [] = ends (seen_of word.Stalled true m) m.count
 dispatched m (t ∷ ready) =
-    if_turn (told m.count) m.store.globals m.shared
+    if_turn (told m.count) m.store.globals m.operations m.shared
     (On (record m {
       shared = with_turn m.shared;
       running = Some t;
@@ -336,9 +368,13 @@ dispatched m (t ∷ ready) =
       threads = slice_set m.threads t.number nobody;
     }))
 
--- one instruction of the running thread, or a dispatch
+-- no thread runs: an entry comes in, or the front of the ready list runs
+abbrev pub rests : Flat → Move Flat FlatEnd
+rests m = point (told m.count) m.shared m.store m.operations (λ shared x. On (arrived m shared x)) (dispatched m m.ready)
+
+-- one instruction of the running thread, or what happens where none runs
 abbrev pub exec_of : Parts → ℕ → Flat → Option Item → Move Flat FlatEnd
-exec_of code bound m None = dispatched m m.ready
+exec_of code bound m None = rests m
 exec_of code bound m (Some t) = begin code bound m t (slice_get code.instrs m.current.place)
 
 abbrev pub exec : Parts → ℕ → Flat → Move Flat FlatEnd
@@ -362,6 +398,7 @@ first_core function s store =
     record {
       shared = s;
       store = store;
+      operations = [];
       running = None;
       current = nobody;
       ready = first_item ∷ [];

@@ -122,19 +122,39 @@ fn a_status_is_the_first_that_a_core_calls_for(rt: HostRuntime) -> Result<(), Fa
     Ok(())
 }
 
-#[test]
-fn lists_boxes_and_journals_take_what_they_are_given(rt: HostRuntime) -> Result<(), Fail> {
-    let alloc = rt.alloc();
+// A copy of a list of this byte.
+fn copied(alloc: Global, byte: u8) -> Result<List<u8>, NoMemory> {
     let mut list = List::new(alloc);
-    list.push(4u8)?;
-    let copy = list.copy(alloc)?;
+    list.push(byte)?;
+    list.copy(alloc)
+}
+
+#[test]
+fn a_copied_list_has_what_the_list_was_given(rt: HostRuntime) -> Result<(), Fail> {
+    let copy = copied(rt.alloc(), 4)?;
     assert_eq!(rt; copy.as_slice(), [4u8].as_slice());
-    let mut draft = Draft::from_list(copy);
+    Ok(())
+}
+
+#[test]
+fn a_draft_goes_on_from_a_list(rt: HostRuntime) -> Result<(), Fail> {
+    let mut draft = Draft::from_list(copied(rt.alloc(), 4)?);
     draft.reserve(1)?;
     draft.push(5);
     assert_eq!(rt; draft.as_slice(), [4u8, 5].as_slice());
-    assert_eq!(rt; *Boxed::new(alloc, 6u8)?.get(), 6);
-    let mut journal = Journal::new(alloc);
+    Ok(())
+}
+
+#[test]
+fn a_box_holds_what_it_was_given(rt: HostRuntime) -> Result<(), Fail> {
+    let six = Boxed::new(rt.alloc(), 6u8)?;
+    assert_eq!(rt; *six.get(), 6);
+    Ok(())
+}
+
+#[test]
+fn a_journal_counts_its_entries(rt: HostRuntime) -> Result<(), Fail> {
+    let mut journal = Journal::new(rt.alloc());
     journal.reserve(1)?;
     journal.push(Entry {
         stamp: 1,

@@ -183,21 +183,35 @@ fn a_failed_write_leaves_its_prefix(rt: HostRuntime) -> Result<(), Fail> {
     Ok(())
 }
 
+fn journal(alloc: Global, first: Entry, second: Entry) -> Result<Journal, NoMemory> {
+    let mut journal = Journal::new(alloc);
+    journal.reserve(2)?;
+    journal.push(first);
+    journal.push(second);
+    Ok(journal)
+}
+
+fn sender(alloc: Global) -> Result<Journal, NoMemory> {
+    let known = Event::Know { link: 0, number: 0 };
+    journal(alloc, entry(1, 1, offer(0, 5)), entry(3, 1, known))
+}
+
+fn receiver(alloc: Global) -> Result<Journal, NoMemory> {
+    let passed = Event::Pass { link: 0, number: 1 };
+    journal(alloc, entry(2, 1, got(0, 5)), entry(3, 2, passed))
+}
+
+// What both noted, in one list.
+fn noted(alloc: Global) -> Result<List<Stamped>, NoMemory> {
+    let mut journals = List::new(alloc);
+    journals.push(sender(alloc)?)?;
+    journals.push(receiver(alloc)?)?;
+    merge(alloc, &journals)
+}
+
 #[test]
 fn journals_are_merged_by_their_stamps(rt: HostRuntime) -> Result<(), Fail> {
-    let alloc = rt.alloc();
-    let mut sender = Journal::new(alloc);
-    sender.reserve(2)?;
-    sender.push(entry(1, 1, offer(0, 5)));
-    sender.push(entry(3, 1, Event::Know { link: 0, number: 0 }));
-    let mut receiver = Journal::new(alloc);
-    receiver.reserve(2)?;
-    receiver.push(entry(2, 1, got(0, 5)));
-    receiver.push(entry(3, 2, Event::Pass { link: 0, number: 1 }));
-    let mut journals = List::new(alloc);
-    journals.push(sender)?;
-    journals.push(receiver)?;
-    let all = merge(alloc, &journals)?;
+    let all = noted(rt.alloc())?;
     assert_eq!(rt; all.len(), 4);
     for (stamped, (party, stamp)) in all.as_slice().iter().zip([(0, 1), (1, 2), (0, 3), (1, 3)]) {
         assert_eq!(rt; stamped.party, party);

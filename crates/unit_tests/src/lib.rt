@@ -8,6 +8,8 @@ mod base;
 #[cfg(test)]
 mod blocks;
 #[cfg(test)]
+mod channels;
+#[cfg(test)]
 mod codes;
 #[cfg(test)]
 mod frames;

@@ -1,8 +1,10 @@
 pub mod Children
 pub mod Sound
 pub mod Places
+pub mod Numbers
 pub mod Stands
 pub mod Clearing
+pub mod Filling
 pub mod Levels
 pub mod Whole
 pub mod Keeping

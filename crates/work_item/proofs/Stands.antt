@@ -1,5 +1,5 @@
 -- What was read or written at the place of a frame.
-use Rattle.std.proofs.Common.{◌≡◌, ℕ, zero, suc, ◌+◌, ◌-◌, ◌<◌, ◌^◌, List, [], ◌∷◌, ◌++◌, length, Option, Some, None, IsSome, IsSomeAnd, IfSome, is_some, Bool, true, false, not}
+use Rattle.std.proofs.Common.{◌≡◌, ℕ, ◌+◌, ◌-◌, ◌<◌, ◌^◌, List, [], ◌∷◌, ◌++◌, length, Option, Some, None, IsSome, IsSomeAnd, IfSome}
 use Rattle.std.proofs.Common.{refl, sym, ap, ◌∙◌, subst, arith, get_or, set}
 use Rattle.std.proofs.lemmas.List.{map-set, length-map}
 use Rattle.std.proofs.Math.ListN.{get_or-append}
@@ -10,14 +10,10 @@ use Rattle.work_item.specs.Table.{at, children_of}
 use Rattle.work_item.specs.inner.Kept.{frame_of, frames_of, live_at, in_place, lives_of, place_at, LivesIn, ArePlaces, IsSound, IsKept}
 use Rattle.work_item.specs.inner.Kept.{one_more, one_less, with_more, with_less, CanCountMore, CanCountLess}
 use Rattle.work_item.proofs.Children.{within, some_of, is_there}
-use Rattle.work_item.proofs.Sound.{frame_is, frames_at, live_there, sound_same, sound_made, sound_gone, can_more, can_less, same_pushed, same_gone}
+use Rattle.work_item.proofs.Numbers.{any_default}
+use Rattle.work_item.proofs.Sound.{frame_is, live_there, sound_same, sound_made, sound_gone, can_more, can_less, same_pushed, same_gone}
 use Rattle.work_item.proofs.Sound.{counted_in, counted_out, CanCountIn, CanCountOut}
 use Rattle.work_item.proofs.Places.{given, by_number, is_at, same_lives, places_same, lives_set, places_set, lives_pushed, places_pushed, lives_gone, places_gone}
-
-pub any_default : {A : Type 0} (xs : List A) (n : ℕ) (v w : A) → n < length xs → get_or xs n v ≡ get_or xs n w
-any_default [] n v w h = absurd (omega arith)
-any_default (x ∷ xs) zero v w h = refl
-any_default (x ∷ xs) (suc n) v w h = any_default xs n v w (omega arith)
 
 -- a frame with a slot lives
 pub lives_by_slot : (o : Option Frame) (slot : ℕ) → slot < length (no_cells o) → IsSome o
@@ -48,14 +44,6 @@ have_places places slots t (Some f) same l = has_place places slots t f.number s
 pub frame_there : (places : List (Option ℕ)) (slots : List (Option Live)) (t : List (Option Frame)) (n : ℕ) (x : Live) → frames_of (lives_of places slots) ≡ t
     → in_place slots (given places n) ≡ Some x → at t n ≡ frame_of (Some x)
 frame_there places slots t n x same e = ap (λ u. at u n) (sym same) ∙ frame_is (lives_of places slots) n x (by_number places slots n ∙ e)
-
--- where a number has no place, there is no frame
-pub no_frame : (places : List (Option ℕ)) (slots : List (Option Live)) (t : List (Option Frame)) (n : ℕ) → frames_of (lives_of places slots) ≡ t → given places n ≡ None → at t n ≡ None
-no_frame places slots t n same e = ap (λ u. at u n) (sym same) ∙ frames_at (lives_of places slots) n ∙ ap frame_of (by_number places slots n ∙ ap (in_place slots) e)
-
-pub none_of : (o : Option ℕ) (b : Bool) → is_some o ≡ not b → b ≡ true → o ≡ None
-none_of None b e h = refl
-none_of (Some p) b e h = let no : true ≡ false = e ∙ ap not h in absurd (cc)
 
 -- what was read at the place of a frame stands there
 pub stands : (places : List (Option ℕ)) (slots : List (Option Live)) (n p : ℕ) (v : Option Live) (x : Live) → ArePlaces places slots → given places n ≡ Some p → v ≡ get_or slots p v → v ≡ Some x
@@ -226,10 +214,11 @@ pub record Takes (places : List (Option ℕ)) (slots : List (Option Live)) (word
   pub left_is : left ≡ set slots p None
   pub outer : q ≡ place_at fewer x.parent
 
-pub takes : (places : List (Option ℕ)) (slots : List (Option Live)) (words n p : ℕ) (x : Live) (o : Option Live) (q : Option ℕ) → IsKept places slots words → given places n ≡ Some p
-    → live_at slots p ≡ Some x → o ≡ None → q ≡ place_at (set places n None) x.parent → Takes places slots words n p x (set places n None) (set slots p o) q
-takes places slots words n p x o q k e is gone outer =
-    record { kept = k; place = e; is = is; fewer_is = refl; left_is = ap (set slots p) gone; outer = outer }
+pub takes : (places : List (Option ℕ)) (slots : List (Option Live)) (words n p : ℕ) (x : Live) (fewer : List (Option ℕ)) (o : Option Live) (q : Option ℕ) → IsKept places slots words →
+    given places n ≡ Some p
+    → live_at slots p ≡ Some x → o ≡ None → fewer ≡ set places n None → q ≡ place_at fewer x.parent → Takes places slots words n p x fewer (set slots p o) q
+takes places slots words n p x fewer o q k e is gone left outer =
+    record { kept = k; place = e; is = is; fewer_is = left; left_is = ap (set slots p) gone; outer = outer }
 
 taken_lives : (places : List (Option ℕ)) (slots : List (Option Live)) (words n p : ℕ) (x : Live) (fewer : List (Option ℕ)) (left : List (Option Live)) (q : Option ℕ)
     → Takes places slots words n p x fewer left q → lives_of fewer left ≡ set (lives_of places slots) n None

@@ -6,7 +6,7 @@ ghost use Rattle.work_item.specs.Store.{all_words, no_cells, no_int, some_with, 
 ghost use Rattle.work_item.specs.Table.{at, children_of};
 ghost use Rattle.work_item.specs.inner.Kept.{parent_at, new_frame, is_done, LivesIn};
 ghost use Rattle.work_item.specs.inner.Kept.{IsRooted, CanCountMore, CanCountLess, with_more, with_less};
-ghost use Rattle.work_item.specs.inner.Kept.{live_at, in_place, place_at};
+ghost use Rattle.work_item.specs.inner.Kept.{live_at, in_place, place_at, places_of};
 
 use crate::cell::Cell;
 use crate::ids::FrameId;
@@ -27,6 +27,9 @@ struct Live {
 // The words of a frame beside its cells.
 const HEAD_WORDS: u64 = 4;
 
+// The place of a frame that is gone.
+const NO_PLACE: u32 = u32::MAX;
+
 // How many lists of cells are kept for frames to come, and the most cells that one of them has room for.
 const SPARES: usize = 64;
 
@@ -39,7 +42,7 @@ const SPARE_CELLS: usize = 64;
 #[derive(Drop)]
 pub struct Table {
     // By number, the place of a frame that lives.
-    places: Vec<Option<u32>>,
+    places: Vec<u32>,
     slots: Vec<Option<Live>>,
     // The words of those that live.
     words: u64,
@@ -53,32 +56,32 @@ impl Model for Table {
 
     ghost Value = { List (Option Frame) };
 
-    ghost use Rattle.work_item.specs.inner.Kept.{frames_of, lives_of, IsKept};
+    ghost use Rattle.work_item.specs.inner.Kept.{frames_of, lives_of, places_of, IsKept};
 
-    ghost view = { λ s. frames_of (lives_of s.places.items s.slots.items) };
+    ghost view = { λ s. frames_of (lives_of (places_of s.places.items) s.slots.items) };
 
-    ghost invariant = { λ s. IsKept s.places.items s.slots.items s.words };
+    ghost invariant = { λ s. IsKept (places_of s.places.items) s.slots.items s.words };
 }
 
 // Counts a frame in at the place of its parent.
-fn count_in(slots: &mut Vec<Option<Live>>, parent: Option<u32>)
+fn count_in(slots: &mut Vec<Option<Live>>, parent: Option<usize>)
     requires { CanCountMore slots.old.items parent }
     ensures { slots.new.items ≡ with_more slots.old.items parent }
 {
     let Some(place) = parent else { return };
-    match &mut slots[place as usize] {
+    match &mut slots[place] {
         Some(live) => live.children += 1,
         None => unreachable!(),
     }
 }
 
 // Counts a frame out at the place of its parent.
-fn count_out(slots: &mut Vec<Option<Live>>, parent: Option<u32>)
+fn count_out(slots: &mut Vec<Option<Live>>, parent: Option<usize>)
     requires { CanCountLess slots.old.items parent }
     ensures { slots.new.items ≡ with_less slots.old.items parent }
 {
     let Some(place) = parent else { return };
-    match &mut slots[place as usize] {
+    match &mut slots[place] {
         Some(live) => live.children -= 1,
         None => unreachable!(),
     }
@@ -102,45 +105,42 @@ fn ends_in_gap(slots: &[Option<Live>]) -> bool
     }
 }
 
-// The place of a frame, if it lives.
-fn find_place(places: &Vec<Option<u32>>, frame: FrameId) -> Option<u32>
-    ensures { result ≡ slice_index_or places.now.items frame.number None }
-{
-    let number = frame.number as usize;
-    if number >= places.len() {
-        return None;
-    }
-    places[number]
-}
-
 // The place of a frame that lives.
-fn place_of(places: &Vec<Option<u32>>, frame: FrameId) -> usize
-    requires { IsSome (slice_index_or places.now.items frame.number None) }
-    ensures { slice_index_or places.now.items frame.number None ≡ Some result }
+fn place_of(places: &Vec<u32>, frame: FrameId) -> usize
+    requires { IsSome (slice_index_or (places_of places.now.items) frame.number None) }
+    ensures { slice_index_or (places_of places.now.items) frame.number None ≡ Some result }
 {
-    match places[frame.number as usize] {
-        Some(place) => place as usize,
-        None => unreachable!(),
-    }
+    places[frame.number as usize] as usize
 }
 
 // The place of a frame that lives, where one is given.
-fn place_or_none(places: &Vec<Option<u32>>, frame: Option<FrameId>) -> Option<u32>
-    requires { IfSome frame (λ f. IsSome (slice_index_or places.now.items f.number None)) }
-    ensures { result ≡ place_at places.now.items frame }
+fn place_or_none(places: &Vec<u32>, frame: Option<FrameId>) -> Option<usize>
+    requires { IfSome frame (λ f. IsSome (slice_index_or (places_of places.now.items) f.number None)) }
+    ensures { result ≡ place_at (places_of places.now.items) frame }
 {
     let Some(frame) = frame else { return None };
-    places[frame.number as usize]
+    Some(place_of(places, frame))
 }
 
 // A frame that lives.
-fn live_of<'a>(places: &Vec<Option<u32>>, slots: &'a Vec<Option<Live>>, frame: FrameId) -> &'a Live
-    requires { IsSome (in_place slots.now.items (slice_index_or places.now.items frame.number None)) }
-    ensures { in_place slots.now.items (slice_index_or places.now.items frame.number None) ≡ Some result.now }
+fn live_of<'a>(places: &Vec<u32>, slots: &'a Vec<Option<Live>>, frame: FrameId) -> &'a Live
+    requires { IsSome (in_place slots.now.items (slice_index_or (places_of places.now.items) frame.number None)) }
+    ensures { in_place slots.now.items (slice_index_or (places_of places.now.items) frame.number None) ≡ Some result.now }
 {
     match &slots[place_of(places, frame)] {
         Some(live) => live,
         None => unreachable!(),
+    }
+}
+
+// A cell of a new frame that begins with these.
+fn first_or_zero(first: &[Cell], index: usize) -> Cell
+    ensures { result ≡ slice_index_or first.now index no_int }
+{
+    if index < first.len() {
+        first[index]
+    } else {
+        Cell::Int(0)
     }
 }
 
@@ -151,8 +151,9 @@ fn fill(cells: &mut Vec<Cell>, first: &[Cell], words: usize) -> Result<(), NoMem
 {
     cells.clear();
     cells.reserve(words)?;
-    cells.extend_from_slice(first)?;
-    cells.resize(words, Cell::Int(0))?;
+    for index in 0..words {
+        cells.push_reserved(first_or_zero(first, index));
+    }
     Ok(())
 }
 
@@ -223,7 +224,7 @@ impl Table {
         let number = self.places.len() as u64;
         let words = cells.len() as u64 + HEAD_WORDS;
         let place = self.slots.len();
-        if place > u32::MAX as usize {
+        if place >= NO_PLACE as usize {
             return Err(NoMemory);
         }
         let outer = place_or_none(&self.places, parent);
@@ -234,7 +235,7 @@ impl Table {
             over: false,
             children: 0,
         }))?;
-        self.places.push_reserved(Some(place as u32));
+        self.places.push_reserved(place as u32);
         self.words += words;
         count_in(&mut self.slots, outer);
         Ok(FrameId { number })
@@ -333,7 +334,7 @@ impl Table {
         ensures gone { self.new ≡ slice_set self.old frame.number None }
     {
         let place = place_of(&self.places, frame);
-        self.places[frame.number as usize] = None;
+        self.places[frame.number as usize] = NO_PLACE;
         match self.slots[place].take() {
             Some(live) => {
                 self.words -= live.cells.len() as u64 + HEAD_WORDS;

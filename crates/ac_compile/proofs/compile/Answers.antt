@@ -14,17 +14,17 @@ returns-clause-code c = IfOk-weaker c.program_code.result _ _ (is_code c.args.ch
 
 pub returns-clause-same : goal.returns-clause-same
 returns-clause-same c =
-    IfOk-weaker c.program_code.result _ _ (is_same c.args.checked.now c.in_ok-program.program c.in_ok-program.ensures.same c.requires c.in_ok-program.ensures.in_place) c.program_code.ensures.same
-
-pub returns-clause-alone : goal.returns-clause-alone
-returns-clause-alone c = IfOk-weaker c.program_code.result _ _ (is_alone c.args.checked.now c.in_ok-program.program c.in_ok-program.ensures.same c.requires) c.program_code.ensures.same
+    IfOk-weaker c.program_code.result _ _ (is_same c.args.checked.now c.in_ok-program.program c.in_ok-program.ensures.same c.in_ok-program.ensures.in_place) c.program_code.ensures.same
 
 pub returns-clause-one_end : goal.returns-clause-one_end
-returns-clause-one_end c =
-    if_both c.program_code.result (is_one_end c.args.checked.now c.in_ok-program.program c.in_ok-program.ensures.same c.requires c.in_ok-program.ensures.in_place c.tree.ensures.small)
+returns-clause-one_end c meant =
+    if_both c.program_code.result (is_one_end c.args.checked.now c.in_ok-program.program c.in_ok-program.ensures.same meant c.in_ok-program.ensures.in_place c.tree.ensures.small)
     c.program_code.ensures.same c.program_code.ensures.ranked
 
 pub returns-clause-one : goal.returns-clause-one
-returns-clause-one c =
-    IfOk-weaker c.program_code.result _ _ (λ code e. has_one_core c.args.checked.now c.in_ok-program.program code c.in_ok-program.ensures.same c.requires c.in_ok-program.ensures.in_place e)
+returns-clause-one c built =
+    IfOk-weaker c.program_code.result _ _ (λ code e. has_one_core c.args.checked.now c.in_ok-program.program code c.in_ok-program.ensures.same built c.in_ok-program.ensures.in_place e)
     c.program_code.ensures.same
+
+pub returns-clause-alone : goal.returns-clause-alone
+returns-clause-alone c built = IfOk-weaker c.program_code.result _ _ (is_alone c.args.checked.now c.in_ok-program.program c.in_ok-program.ensures.same built) c.program_code.ensures.same

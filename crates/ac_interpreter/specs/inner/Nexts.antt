@@ -3,6 +3,7 @@ use Rattle.std.specs.Prelude.{List}
 use Rattle.ac_semantics.specs.Work.{Work}
 use Rattle.ac_semantics.specs.Held.{Held}
 use Rattle.ac_semantics.specs.Statements as s
+use Rattle.ac_interpreter.specs.inner.Operations.{asked_of}
 use Rattle.ac_interpreter.specs.declared.statements.Next.{Next}
 use Rattle.ac_interpreter.specs.declared.statements.Next.TheVariants as n
 
@@ -12,5 +13,6 @@ next_with (n.Ends word) h ws = s.Ends word h
 next_with (n.Starts frame own) h ws = s.Starts h frame own ws
 next_with n.Yields h ws = s.Yields h ws
 next_with (n.Arrives block) h ws = s.Arrives block h ws
+next_with (n.Operates link asked) h ws = s.Operates link (asked_of asked) h ws
 next_with (n.Dies frame) h ws = s.Dies frame h
 next_with n.Stays h ws = s.Stays

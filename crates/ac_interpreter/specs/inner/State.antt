@@ -8,4 +8,4 @@ abbrev pub shared_of : Held → Shared
 shared_of h = record { steps = h.steps; turn = h.turn; output = h.output.items; past = []; todo = [] }
 
 abbrev pub held_of : Held → s.Held
-held_of h = record { shared = shared_of h; store = h.memory; blocks = length h.blocks.items }
+held_of h = record { shared = shared_of h; store = h.memory; blocks = length h.blocks.items; operations = h.operations.items }

@@ -5,6 +5,7 @@ ghost use Rattle.std.specs.Prelude.{◌<◌, length};
 use super::parts::{Lists, USUAL, code_with};
 use stack_code::Instr::{Load, Push, Ret};
 use stack_code::{ChannelEnds, Code, Instr, Kind, Start};
+use std::alloc::Global;
 use std::test::Fail;
 
 const BODY: [Instr; 4] = [Load { level: 0, slot: 0 }, Ret, Push(1), Ret];
@@ -156,25 +157,34 @@ fn first_address(code: &Code, core: u32) -> u32
     code.begin(core).at
 }
 
+// The code of the usual lists.
+fn usual(alloc: Global) -> Result<Code, Fail> {
+    let made = code_with(alloc, &USUAL, &BODY, 2, 0).ok().ok_or("memory")?;
+    Ok(made.ok_or("not valid")?)
+}
+
 #[test]
 fn a_code_gives_its_parts(rt: HostRuntime) -> Result<(), Fail> {
-    let made = code_with(rt.alloc(), &USUAL, &BODY, 2, 0)
-        .ok()
-        .ok_or("memory")?;
-    let code = made.ok_or("not valid")?;
-    assert_eq!(rt; code.instrs(), BODY.as_slice());
+    let code = usual(rt.alloc())?;
     assert_eq!(rt; first_address(&code, 0), 2);
     assert_eq!(rt; code.functions().len(), 2);
     assert_eq!(rt; code.texts().len(), 2);
     assert_eq!(rt; code.names().len(), 2);
     assert_eq!(rt; code.globals(), 3);
     assert_eq!(rt; code.starts(), [Start { slot: 1, value: 5 }].as_slice());
+    assert_eq!(rt; code.ranks().len(), 4);
+    Ok(())
+}
+
+#[test]
+fn a_code_gives_the_shape_of_what_is_reached(rt: HostRuntime) -> Result<(), Fail> {
+    let code = usual(rt.alloc())?;
+    assert_eq!(rt; code.instrs(), BODY.as_slice());
     let shapes = code.shapes();
     assert!(rt; shapes[1].is_none());
     let Some(shape) = &shapes[3] else {
         return Err(Fail::from("no shape"));
     };
     assert_eq!(rt; shape.operands.as_slice(), [Kind::Int].as_slice());
-    assert_eq!(rt; code.ranks().len(), 4);
     Ok(())
 }

@@ -1,6 +1,6 @@
 -- The frames as they are kept, with their words and counts of children.
 use Rattle.std.specs.Prelude.{◌≡◌, ℕ, ◌+◌, ◌-◌, ◌<◌, ◌^◌, List, Option, Some, None, IsSome, IsSomeAnd}
-use Rattle.std.specs.Prelude.{IfSome, Bool, false, ◌&&◌, nat_eq, map, slice_index_or, slice_set}
+use Rattle.std.specs.Prelude.{IfSome, Bool, false, ◌&&◌, nat_eq, nat_lt, if◌then◌else◌, map, slice_index_or, slice_set}
 use Rattle.work_item.specs.Store.{Frame, all_words}
 use Rattle.work_item.specs.declared.ids.FrameId.{FrameId}
 use Rattle.work_item.specs.declared.cell.Cell.{Cell}
@@ -50,6 +50,13 @@ live_at lives number = slice_index_or lives number None
 abbrev pub in_place : List (Option Live) → Option ℕ → Option Live
 in_place slots None = None
 in_place slots (Some place) = live_at slots place
+
+-- the greatest number of 32 bits is no place
+abbrev pub given_place : ℕ → Option ℕ
+given_place place = if nat_lt place 4294967295 then Some place else None
+
+abbrev pub places_of : List ℕ → List (Option ℕ)
+places_of places = map given_place places
 
 -- the frames by number
 abbrev pub lives_of : List (Option ℕ) → List (Option Live) → List (Option Live)

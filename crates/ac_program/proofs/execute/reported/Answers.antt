@@ -4,6 +4,12 @@ use Rattle.ac_program.specs.Run.{IsRunOf}
 use Rattle.ac_program.proofs.Names.{names_are, as_many}
 use Rattle.ac_program.proofs.execute.reported.Goals as goal
 
+pub run-requires-clause-one : goal.run-requires-clause-one
+run-requires-clause-one c = c.in_ok-code.ensures.one c.requires
+
+pub run-requires-clause-alone : goal.run-requires-clause-alone
+run-requires-clause-alone c = c.in_ok-code.ensures.alone c.requires
+
 pub report-requires : goal.report-requires
 report-requires c =
     let made = c.in_ok-code.ensures in

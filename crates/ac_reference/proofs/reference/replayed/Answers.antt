@@ -1,17 +1,22 @@
-use Rattle.std.proofs.Common.{arith}
-use Rattle.ac_reference.proofs.Replays.{it_enters, it_ends, no_replay, is_misfit}
+use Rattle.std.proofs.Common.{◌∙◌, subst}
+use Rattle.ac_reference.specs.Misfits.{IsMisfit}
+use Rattle.ac_reference.proofs.Replays.{it_enters, it_ends, is_misfit, unfit_there, one_place}
 use Rattle.ac_reference.proofs.reference.replayed.Goals as goal
 
-pub entered-requires : goal.entered-requires
-entered-requires c = it_enters c.args.program.now c.args.core c.args.steps c.requires
+pub entered-entered-requires : goal.entered-entered-requires
+entered-entered-requires c = it_enters c.args.program.now c.args.core c.args.steps c.requires
 
 pub new-ending-requires : goal.new-ending-requires
-new-ending-requires c = record { ends = it_ends c.args.program.now c.args.core c.args.steps c.requires c.entered.result.now c.entered.ensures }
+new-ending-requires c = record { ends = it_ends c.args.program.now c.args.core c.args.steps c.requires c.entered-entered.result.now c.entered-entered.ensures c.as_slice.result.now }
 
-pub returns-then-len-gt0-clause-none : goal.returns-then-len-gt0-clause-none
-returns-then-len-gt0-clause-none c = λ place e.
-    no_replay c.args.program.now c.args.core c.args.steps c.args.journal.now.entries (omega (arith, c.if-len-gt0.true, c.len.ensures)) (c.requires c.args.journal.now.entries)
-
-pub returns-then-len-gt0-clause-misfit : goal.returns-then-len-gt0-clause-misfit
-returns-then-len-gt0-clause-misfit c = λ place e.
-    is_misfit c.args.program.now c.args.core c.args.steps c.args.journal.now.entries (omega (arith, c.if-len-gt0.true, c.len.ensures)) place e
+pub returns-in-Misfit-clause-misfit : goal.returns-in-Misfit-clause-misfit
+returns-in-Misfit-clause-misfit c = λ place e.
+    let p = c.args.program.now in
+    let f = c.entered-entered.result.now in
+    let x = c.in-Misfit.place in
+    let journal = c.args.journal.now.entries in
+    let run = c.new-ending.result in
+    let is = c.new-ending.ensures in
+    let unfit = unfit_there p run.program.now f run.function.now c.args.steps run.bound journal run.journal.now x is.program is.function is.bound (is.journal ∙ c.as_slice.ensures)
+    (c.in_ok-end.ensures.unfit x c.in-Misfit.is) in
+    subst (IsMisfit p c.args.core c.args.steps journal) (one_place x place e) (is_misfit p c.args.core c.args.steps c.requires f c.entered-entered.ensures journal x unfit)

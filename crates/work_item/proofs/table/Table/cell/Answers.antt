@@ -1,6 +1,7 @@
 use Rattle.std.proofs.Common.{sym, ap, ◌∙◌, ◌<◌, length, subst, arith, get_or}
 use Rattle.work_item.specs.Store.{no_cells, no_int}
-use Rattle.work_item.proofs.Stands.{any_default, kept_there, frame_there, lives_by_slot}
+use Rattle.work_item.proofs.Numbers.{any_default}
+use Rattle.work_item.proofs.Stands.{kept_there, frame_there, lives_by_slot}
 use Rattle.work_item.proofs.table.Table.cell.Goals as goal
 
 pub live_of-requires : goal.live_of-requires

@@ -3,6 +3,7 @@ use Rattle.work_item.specs.Table.{children_of}
 use Rattle.work_item.specs.inner.Kept.{live_at, in_place, parent_at}
 use Rattle.work_item.proofs.Places.{is_at}
 use Rattle.work_item.proofs.Sound.{words_within}
+use Rattle.work_item.proofs.Numbers.{emptied}
 use Rattle.work_item.proofs.Stands.{has_place, frame_there, is_in, stands, not_gap, takes, taken_outer, taken_can, taken_kept, taken_seen}
 use Rattle.work_item.proofs.table.Table.take_away.Goals as goal
 
@@ -29,27 +30,30 @@ pub place_or_none-outer-requires : goal.place_or_none-outer-requires
 place_or_none-outer-requires c =
     let n = c.args.frame.number in
     let e = stands _ _ n _ _ _ c.self.invariant.placed c.place_of-place.ensures c.index_mut-2.ensures.value (sym c.take.ensures.value ∙ c.in-Some.is) in
-    taken_outer _ _ _ _ _ n _ c.in-Some.live c.self.invariant c.place_of-place.ensures e refl refl
+    taken_outer _ _ _ _ _ n _ c.in-Some.live c.self.invariant c.place_of-place.ensures e (emptied c.self.inside.places.items n) refl
 
 pub count_out-requires : goal.count_out-requires
 count_out-requires c =
     let n = c.args.frame.number in
     let e = stands _ _ n _ _ _ c.self.invariant.placed c.place_of-place.ensures c.index_mut-2.ensures.value (sym c.take.ensures.value ∙ c.in-Some.is) in
-    taken_can _ _ _ n _ c.in-Some.live _ _ _ (takes _ _ _ n _ c.in-Some.live _ _ c.self.invariant c.place_of-place.ensures e c.take.ensures.after c.place_or_none-outer.ensures)
+    taken_can _ _ _ n _ c.in-Some.live _ _ _ (takes _ _ _ n _ c.in-Some.live _ _ _ c.self.invariant c.place_of-place.ensures e c.take.ensures.after
+    (emptied c.self.inside.places.items n) c.place_or_none-outer.ensures)
 
 pub invariant_of-self : goal.invariant_of-self
 invariant_of-self c =
     let n = c.args.frame.number in
     let e = stands _ _ n _ _ _ c.self.invariant.placed c.place_of-place.ensures c.index_mut-2.ensures.value (sym c.take.ensures.value ∙ c.in-Some.is) in
     let alone = subst (λ t. children_of t n ≡ 0) (sym c.self.view_is) c.requires.childless in
-    taken_kept _ _ _ n _ _ c.in-Some.live _ _ _ _ (takes _ _ _ n _ c.in-Some.live _ _ c.self.invariant c.place_of-place.ensures e c.take.ensures.after c.place_or_none-outer.ensures) alone
+    taken_kept _ _ _ n _ _ c.in-Some.live _ _ _ _ (takes _ _ _ n _ c.in-Some.live _ _ _ c.self.invariant c.place_of-place.ensures e c.take.ensures.after
+    (emptied c.self.inside.places.items n) c.place_or_none-outer.ensures) alone
     (λ place. c.drop_gaps.ensures place ∙ ap (λ ls. live_at ls place) c.count_out.ensures) (ap (λ k. k + 4) (c.len.ensures ∙ c.in-Some.live.cells.ok.0))
 
 pub returns-clause-gone : goal.returns-clause-gone
 returns-clause-gone c =
     let n = c.args.frame.number in
     let e = stands _ _ n _ _ _ c.self.invariant.placed c.place_of-place.ensures c.index_mut-2.ensures.value (sym c.take.ensures.value ∙ c.in-Some.is) in
-    taken_seen _ _ _ n _ c.in-Some.live _ _ _ _ (takes _ _ _ n _ c.in-Some.live _ _ c.self.invariant c.place_of-place.ensures e c.take.ensures.after c.place_or_none-outer.ensures)
+    taken_seen _ _ _ n _ c.in-Some.live _ _ _ _ (takes _ _ _ n _ c.in-Some.live _ _ _ c.self.invariant c.place_of-place.ensures e c.take.ensures.after
+    (emptied c.self.inside.places.items n) c.place_or_none-outer.ensures)
     (λ place. c.drop_gaps.ensures place ∙ ap (λ ls. live_at ls place) c.count_out.ensures)
     ∙ ap (λ t. set t n None) c.self.view_is
 

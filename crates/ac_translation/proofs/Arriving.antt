@@ -1,0 +1,205 @@
+-- An entry that comes in, and what it leaves of a core and of its machine.
+use Rattle.std.proofs.Common.{◌≡◌, ℕ, ◌+◌, ◌<◌, List, [], ◌∷◌, ◌++◌, length, set, Option, Some, None, Bool, true, false, refl, sym, ap, ◌∙◌, subst, arith}
+use Rattle.std.specs.Prelude.{ℤ, find, nat_eq, if◌then◌else◌}
+use Rattle.std.proofs.lemmas.List.{length-set}
+use Rattle.ac_base.specs.declared.entry.Entry.{Entry}
+use Rattle.ac_base.specs.declared.entry.Event.{Event}
+use Rattle.ac_base.specs.declared.entry.Event.TheVariants as event
+use Rattle.ac_base.specs.declared.entry.Payload.{Payload}
+use Rattle.work_item.specs.declared.ids.Item.{Item}
+use Rattle.work_item.specs.declared.cell.Cell.{Cell}
+use Rattle.work_item.specs.Store.{Store}
+use Rattle.cancel_scope.specs.declared.operation.Operation.{Operation}
+use Rattle.cancel_scope.specs.Outstanding.{is_to_offer, is_offered, is_to_receive, carries, offered_as, change_first, without_first}
+use Rattle.core_state.specs.Shared.{Shared}
+use Rattle.core_state.specs.Arrivals.{Arrival, goes_on_waiting, offers_on, offers, ends_known, ends_received, arrives, ok}
+use Rattle.ac_semantics.specs.Held.{Held}
+use Rattle.ac_semantics.specs.Work.{Work, Pend, closes, given}
+use Rattle.ac_semantics.specs.Threads.{Phase, Active, Thread, nobody, thread_at, arrived, with_phase}
+use Rattle.stack_code.specs.Parts.{Parts}
+use Rattle.stack_code.specs.declared.instr.Instr.{Instr}
+use Rattle.stack_code.specs.Machine.{Block, Thread as Stack, given as gives, arrived as arrives_there}
+use Rattle.ac_translation.proofs.Tables.{set_changed, in_table, one, one_same, one_other, occ_append}
+use Rattle.ac_translation.proofs.Blocks.{Lives, entered_of, entered, at}
+use Rattle.ac_translation.proofs.Changes.{direct_change, same_good}
+use Rattle.ac_translation.proofs.Tracks.{tracks_same}
+use Rattle.ac_translation.proofs.Wakes.{is_active, active, running_is, asked_by, listed_same, waits_change}
+use Rattle.ac_translation.proofs.Keeps.{Activation}
+use Rattle.ac_translation.proofs.Works.{Sleeps, Works, wakes}
+use Rattle.ac_translation.proofs.Standing.{resting, halted, stack_at, Parked, Together, Stands, rests, others_put, never_waits}
+
+-- ---- who waits for an operation
+
+abbrev who : Operation → ℕ
+who o = o.item.number
+
+-- an operation goes on as another one of the same thread
+changed_asked : (u : ℕ) (test : Operation → Bool) (number : ℕ) (os : List Operation) → asked_by u (change_first test (offered_as number) os) ≡ asked_by u os
+changed_asked u test number [] = refl
+changed_asked u test number (o ∷ os) = go (test o) (changed_asked u test number os)
+  where
+    go : (b : Bool) → asked_by u (change_first test (offered_as number) os) ≡ asked_by u os
+        → asked_by u (if b then offered_as number o ∷ os else o ∷ change_first test (offered_as number) os) ≡ asked_by u (o ∷ os)
+    go true h = refl
+    go false h = ap (λ n. one u (who o) + n) h
+
+-- the first that is found is taken away
+without_asked : (u : ℕ) (test : Operation → Bool) (o : Operation) (os : List Operation) → find test os ≡ Some o → asked_by u os ≡ one u (who o) + asked_by u (without_first test os)
+without_asked u test o [] e = cc
+without_asked u test o (p ∷ os) e = go (test p) refl (without_asked u test o os)
+  where
+    go : (b : Bool) → test p ≡ b → (find test os ≡ Some o → asked_by u os ≡ one u (who o) + asked_by u (without_first test os))
+        → asked_by u (p ∷ os) ≡ one u (who o) + asked_by u (without_first test (p ∷ os))
+    go true t h =
+        let is : Some p ≡ Some o = ap (λ (b : Bool). if b then Some p else find test os) (sym t) ∙ e in
+        let same : p ≡ o = cc in
+        rw t (ap (λ (z : Operation). one u (who z) + asked_by u os) same)
+    go false t h =
+        let is : find test os ≡ Some o = ap (λ (b : Bool). if b then Some p else find test os) (sym t) ∙ e in
+        let k = h is in
+        rw t (omega (arith, k))
+
+-- the thread whose operation has ended waited for it
+pub record Balances (os : List Operation) (x : Arrival) : Type 0 where
+  pub by : (u : ℕ) → asked_by u os ≡ running_is u x.woken + asked_by u x.operations
+
+same_balance : (os : List Operation) (x y : Arrival) → Some y ≡ Some x → Balances os y → Balances os x
+same_balance os x y e h = let same : y ≡ x = cc in subst (Balances os) same h
+
+offers_balance : (store : Store) (os : List Operation) (link number : ℕ) (payload : Payload) (x : Arrival) (found : Option Operation) → offers store os link number payload found ≡ Some x
+    → Balances os x
+offers_balance store os link number payload x None e = cc
+offers_balance store os link number payload x (Some o) e = go (carries o.asked payload) e
+  where
+    go : (b : Bool) → (if b then Some (goes_on_waiting store (change_first (is_to_offer link) (offered_as number) os)) else None) ≡ Some x → Balances os x
+    go true e = same_balance os x (goes_on_waiting store (change_first (is_to_offer link) (offered_as number) os)) e
+        (record { by = λ u. let k = changed_asked u (is_to_offer link) number os in omega (arith, k) })
+    go false e = cc
+
+known_balance : (store : Store) (os : List Operation) (link number : ℕ) (x : Arrival) (found : Option Operation) → find (is_offered link number) os ≡ found
+    → ends_known store os link number found ≡ Some x → Balances os x
+known_balance store os link number x None f e = cc
+known_balance store os link number x (Some o) f e = same_balance os x _ e (record { by = λ u. without_asked u (is_offered link number) o os f })
+
+received_balance : (store : Store) (os : List Operation) (link : ℕ) (value : ℤ) (x : Arrival) (found : Option Operation) → find (is_to_receive link) os ≡ found
+    → ends_received store os link value found ≡ Some x → Balances os x
+received_balance store os link value x None f e = cc
+received_balance store os link value x (Some o) f e = same_balance os x _ e (record { by = λ u. without_asked u (is_to_receive link) o os f })
+
+pub arrival_balance : (past : List Entry) (store : Store) (os : List Operation) (event : Event) (x : Arrival) → arrives past store os event ≡ Some x → Balances os x
+arrival_balance past store os (event.Offer link number payload) x e = go (nat_eq number (offers_on link past)) e
+  where
+    go : (b : Bool) → (if b then offers store os link number payload (find (is_to_offer link) os) else None) ≡ Some x → Balances os x
+    go true e = offers_balance store os link number payload x (find (is_to_offer link) os) e
+    go false e = cc
+arrival_balance past store os (event.Know link number) x e = known_balance store os link number x (find (is_offered link number) os) refl e
+arrival_balance past store os (event.Got link number value) x e = received_balance store os link value x (find (is_to_receive link) os) refl e
+arrival_balance past store os other x e = cc
+
+-- ---- the value of an operation
+
+given_closes : (value : Cell) (ws : List Work) → closes (given value ws) ≡ closes ws
+given_closes value [] = refl
+given_closes value (Pend own c around ∷ ws) = refl
+given_closes value (w ∷ ws) = refl
+
+module _ (code : List Instr) where
+  given_works : (value : Cell) (activation : Activation) (place : ℕ) (operands : List Cell) (ws : List Work) → Sleeps code activation place operands ws
+      → Works code activation place (value ∷ operands) (given value ws)
+  given_works value activation place operands (Pend own c around ∷ ws) d = wakes value own c around d
+  given_works value activation place operands ws d = absurd d
+
+-- ---- the state after it
+
+module _ (code : Parts) (s : Held) (ready : List Item) (ts : List Thread) (stacks : List Stack) (bs : List (Option Block)) (count : ℕ)
+    (h : Together code.instrs ts s.blocks s.operations ready None stacks bs) (shared : Shared) (x : Arrival) (balance : Balances s.operations x) where
+  abbrev then_held : Held
+  then_held = record s { shared = shared; store = x.store; operations = x.operations }
+
+  -- no operation has ended
+  none_woken : x.woken ≡ None → Stands code.instrs (resting then_held ready ts) (halted then_held ready stacks bs count)
+  none_woken e =
+      let same = λ (u : ℕ). balance.by u ∙ ap (λ w. running_is u w + asked_by u x.operations) e in
+      rests then_held ready ts stacks bs count (record {
+        stacks_are = h.stacks_are;
+        blocks_are = h.blocks_are;
+        good = h.good;
+        waits = h.waits;
+        listed = λ u. let k = h.listed u in let z = same u in omega (arith, k, z);
+        tracks = h.tracks;
+        others = λ u ne l. let z : asked_by u s.operations ≡ asked_by u x.operations = (let k = same u in omega (arith, k)) in
+            subst (λ n. Parked code.instrs n (at ts u) (stack_at stacks u)) z (h.others u ne l);
+      })
+
+  -- the operation of this thread has ended
+  module _ (t : Item) (e : x.woken ≡ Some t) where
+    one_less : (u : ℕ) → asked_by u s.operations ≡ one u t.number + asked_by u x.operations
+    one_less u = balance.by u ∙ ap (λ w. running_is u w + asked_by u x.operations) e
+
+    was_active : (thread_at ts t).phase ≡ Active
+    was_active =
+        is_active (thread_at ts t).phase (let k = h.listed t.number in let z = one_less t.number in let o = one_same t.number in omega (arith, k, z, o))
+
+    asked_once : (asked_by t.number s.operations ≡ 1) × (asked_by t.number x.operations ≡ 0)
+    asked_once =
+        let k = h.listed t.number in
+        let a = ap active was_active in
+        let z = one_less t.number in
+        let o = one_same t.number in
+        (omega (arith, k, z, o, a), omega (arith, k, z, o, a))
+
+    lives : Lives (at ts t.number).phase
+    lives = subst Lives (sym was_active) tt
+
+    abbrev new : Thread
+    new = record (thread_at ts t) { phase = Active; work = given ok (thread_at ts t).work }
+
+    abbrev then_threads : List Thread
+    then_threads = with_phase ts t Active (given ok (thread_at ts t).work)
+
+    abbrev kept : Stack
+    kept = gives ok (stack_at stacks t.number)
+
+    sleeper : Parked code.instrs 1 (at ts t.number) (stack_at stacks t.number)
+    sleeper = subst (λ n. Parked code.instrs n (at ts t.number) (stack_at stacks t.number)) asked_once.0 (h.others t.number tt lives)
+
+    awake : Parked code.instrs 0 new kept
+    awake = record {
+      activation = sleeper.activation;
+      place = sleeper.place;
+      operands = ok ∷ sleeper.operands;
+      is = ap (gives ok) sleeper.is;
+      around = sleeper.around;
+      works = given_works code.instrs ok sleeper.activation sleeper.place sleeper.operands (thread_at ts t).work sleeper.works;
+    }
+
+    inside : t.number < length ts
+    inside = in_table (λ (y : Thread). Lives y.phase) nobody ts t.number (λ l. l) lives
+
+    same_entered : entered new ≡ entered (at ts t.number)
+    same_entered = given_closes ok (thread_at ts t).work ∙ ap (λ (p : Phase). entered_of p (closes (thread_at ts t).work)) (sym was_active)
+
+    one_woken : Stands code.instrs (resting then_held (ready ++ t ∷ []) then_threads) (halted then_held (ready ++ t ∷ []) (set stacks t.number kept) bs count)
+    one_woken =
+        let change = set_changed nobody ts t.number new inside in
+        let listed = listed_same ts then_threads t.number new change s.operations ready None (sym was_active) h.listed in
+        let m = h.stacks_are in
+        rests then_held (ready ++ t ∷ []) then_threads (set stacks t.number kept) bs count (record {
+          stacks_are = length-set stacks t.number kept ∙ h.stacks_are ∙ sym (length-set ts t.number new);
+          blocks_are = h.blocks_are;
+          good = same_good ts then_threads t.number new change s.blocks h.good lives tt refl same_entered;
+          waits = waits_change ts then_threads t.number new change h.waits (direct_change ts then_threads t.number new change lives tt refl) (λ b e. absurd (never_waits b e));
+          listed = λ u. let k = listed u in let z = one_less u in let r = occ_append (λ (y : Item). y.number) u ready (t ∷ []) in omega (arith, k, z, r);
+          tracks = tracks_same ts then_threads t.number new change bs bs s.blocks h.good h.tracks refl lives (sym was_active) refl same_entered;
+          others = others_put code.instrs ts then_threads t new change s.operations stacks (λ u ne l. h.others u tt l) x.operations
+              (λ u ne. let z = one_less u in let o = one_other u t.number (λ e. ne (sym e)) in omega (arith, z, o)) kept (let lt = inside in omega (arith, lt, m))
+              (λ l. subst (λ n. Parked code.instrs n new kept) (sym asked_once.1) awake);
+        })
+
+  -- both stand in relation again
+  pub arrival_stands : Stands code.instrs (arrived (resting s ready ts) shared x) (arrives_there (halted s ready stacks bs count) shared x)
+  arrival_stands = go x.woken refl
+    where
+      go : (woken : Option Item) → x.woken ≡ woken → Stands code.instrs (arrived (resting s ready ts) shared x) (arrives_there (halted s ready stacks bs count) shared x)
+      go None e = rw e (none_woken e)
+      go (Some t) e = rw e (one_woken t e)

@@ -1,0 +1,65 @@
+-- A thread starts an operation, and waits for its end.
+use Rattle.std.proofs.Common.{◌≡◌, ℕ, ◌+◌, List, [], ◌∷◌, ◌++◌, set, Option, Some, None, refl, sym, ◌∙◌, subst, arith}
+use Rattle.std.specs.Prelude.{slice_get}
+use Rattle.std.proofs.lemmas.List.{length-set}
+use Rattle.work_item.specs.declared.ids.Item.{Item}
+use Rattle.work_item.specs.declared.cell.Cell.{Cell}
+use Rattle.cancel_scope.specs.declared.operation.Asked.{Asked}
+use Rattle.cancel_scope.specs.declared.operation.Operation.{Operation}
+use Rattle.cancel_scope.specs.Outstanding.{started}
+use Rattle.core_state.specs.Moves.{On}
+use Rattle.ac_semantics.specs.Held.{Held, with_started}
+use Rattle.ac_semantics.specs.Work.{Work}
+use Rattle.ac_semantics.specs.Statements.{Operates}
+use Rattle.ac_semantics.specs.Threads.{Active, Thread, CoreState}
+use Rattle.stack_code.specs.declared.instr.Instr.{Instr}
+use Rattle.stack_code.specs.Parts.{Parts}
+use Rattle.stack_code.specs.Machine.{Block, Flat, Thread as Stack, counted, begin, operates}
+use Rattle.ac_translation.proofs.Tables.{one_same, one_other, occ_append}
+use Rattle.ac_translation.proofs.Wakes.{asked_by, runs_without}
+use Rattle.ac_translation.proofs.Keeps.{Activation, thread_in, Around, flat, SameBirths, FollowsAt, turn_follows}
+use Rattle.ac_translation.proofs.Works.{Sleeps, sleeps_closes}
+use Rattle.ac_translation.proofs.Standing.{running, around_of, resting, halted, seated, sitting, Seat, Parked, Together, Stands, rests, with_births, in_stacks, others_put, on_together}
+
+module _ (code : Parts) (bound : ℕ) (s0 : Held) (t : Item) (ws : List Work) (ready : List Item) (ts : List Thread) (activation : Activation) (stacks : List Stack)
+    (bs : List (Option Block)) (x : Seat ts t ws activation)
+    (h0 : Together code.instrs (seated ts t ws) s0.blocks s0.operations ready (Some t) stacks bs) where
+  abbrev R : CoreState → Flat → Type 0
+  R = Stands code.instrs
+
+  abbrev a : Around
+  a = around_of t activation ready stacks bs
+
+  abbrev c : CoreState
+  c = running s0 t ws ready ts
+
+  pub waits_follow : (link : ℕ) (asked : Asked) (instr : Instr) (s : Held) (place : ℕ) (value : Cell) (below : List Cell) (work : List Work) → SameBirths s0 s →
+      slice_get code.instrs place ≡ Some instr →
+      ((k : ℕ) → begin code bound (flat a s place (value ∷ below) k) t (Some instr) ≡ On (operates (flat a s place (value ∷ below) k) t link asked below)) →
+      Sleeps code.instrs activation (place + 1) below work → FollowsAt code bound R a c s place (value ∷ below) (Operates link asked s work)
+  waits_follow link asked instr s place value below work b is begins w =
+      let h = with_births code.instrs s0 s b h0 in
+      let all = seated ts t ws in
+      let new = sitting ts t Active work in
+      let ts' = seated ts t work in
+      let kept = thread_in activation (place + 1) below in
+      let mine = started link asked t in
+      let operations = s.operations ++ mine ∷ [] in
+      let asked_then = λ (u : ℕ). occ_append (λ (o : Operation). o.item.number) u s.operations (mine ∷ []) in
+      let on = on_together code.instrs ts t ws activation x work (sleeps_closes code.instrs activation (place + 1) below work w) h in
+      let none = runs_without all s.operations ready t h.listed in
+      let once : asked_by t.number operations ≡ 1 = let z = asked_then t.number in let o = one_same t.number in omega (arith, z, o, none) in
+      let parked : Parked code.instrs 1 new kept = record { activation = activation; place = place + 1; operands = below; is = refl; around = x.was_around; works = w } in
+      let together : Together code.instrs ts' s.blocks operations ready None (set stacks t.number kept) bs = record {
+        stacks_are = length-set stacks t.number kept ∙ on.stacks_are;
+        blocks_are = on.blocks_are;
+        good = on.good;
+        waits = on.waits;
+        listed = λ u. let k = on.listed u in let z = asked_then u in omega (arith, k, z);
+        tracks = on.tracks;
+        others = others_put code.instrs all ts' t new (x.changed Active work) s.operations stacks h.others operations
+            (λ u ne. let z = asked_then u in let o = one_other u t.number (λ e. ne (sym e)) in omega (arith, z, o)) kept (in_stacks code.instrs ts t ws activation x h)
+            (λ l. subst (λ n. Parked code.instrs n new kept) (sym once) parked);
+      } in
+      turn_follows code bound R a c instr (resting (with_started s link asked t) ready ts') (λ k. halted (with_started s link asked t) ready (set stacks t.number kept) bs (counted k)) is refl begins
+      (λ k. rests (with_started s link asked t) ready ts' (set stacks t.number kept) bs (counted k) together)

@@ -1,0 +1,72 @@
+-- The operations of a core that have not ended, the oldest first, and which of them an event is about.
+use Rattle.std.specs.Prelude.{ℕ, List, [], ◌∷◌, Bool, true, false, ◌&&◌, nat_eq, if◌then◌else◌}
+use Rattle.std.specs.Ordering.{int_eq}
+use Rattle.ac_base.specs.declared.entry.Payload.{Payload}
+use Rattle.ac_base.specs.declared.entry.Payload.TheVariants as payload
+use Rattle.ac_base.specs.declared.ends.Phase.{Phase}
+use Rattle.ac_base.specs.declared.ends.Phase.TheVariants as phase
+use Rattle.ac_base.specs.declared.ends.Waiting.{Waiting}
+use Rattle.work_item.specs.declared.ids.Item.{Item}
+use Rattle.cancel_scope.specs.declared.operation.Asked.{Asked}
+use Rattle.cancel_scope.specs.declared.operation.Asked.TheVariants as asked
+use Rattle.cancel_scope.specs.declared.operation.Progress.{Progress}
+use Rattle.cancel_scope.specs.declared.operation.Progress.TheVariants as progress
+use Rattle.cancel_scope.specs.declared.operation.Operation.{Operation}
+
+-- ---- one operation
+
+-- one that has just started
+abbrev pub started : ℕ → Asked → Item → Operation
+started link asked item = record { link = link; asked = asked; item = item; progress = progress.Waiting }
+
+abbrev pub offered_as : ℕ → Operation → Operation
+offered_as number o = record o { progress = progress.Offered number }
+
+abbrev pub is_send : Asked → Bool
+is_send (asked.Send value) = true
+is_send (asked.Recv place) = false
+
+abbrev pub is_waiting : Progress → Bool
+is_waiting progress.Waiting = true
+is_waiting (progress.Offered number) = false
+
+abbrev pub is_under : ℕ → Progress → Bool
+is_under number progress.Waiting = false
+is_under number (progress.Offered n) = nat_eq n number
+
+-- it is to be offered on that link
+abbrev pub is_to_offer : ℕ → Operation → Bool
+is_to_offer link o = nat_eq o.link link && (is_send o.asked && is_waiting o.progress)
+
+-- it stands on that link under that number
+abbrev pub is_offered : ℕ → ℕ → Operation → Bool
+is_offered link number o = nat_eq o.link link && is_under number o.progress
+
+-- it waits for a message from that link
+abbrev pub is_to_receive : ℕ → Operation → Bool
+is_to_receive link o = nat_eq o.link link && (if is_send o.asked then false else true)
+
+-- an offer of it carries this
+abbrev pub carries : Asked → Payload → Bool
+carries (asked.Send value) (payload.Int message) = int_eq value message
+carries _ _ = false
+
+-- ---- all of them
+
+-- the first for which the test holds is changed, or is taken away
+abbrev pub change_first : (Operation → Bool) → (Operation → Operation) → List Operation → List Operation
+change_first test change [] = []
+change_first test change (o ∷ os) = if test o then change o ∷ os else o ∷ change_first test change os
+
+abbrev pub without_first : (Operation → Bool) → List Operation → List Operation
+without_first test [] = []
+without_first test (o ∷ os) = if test o then os else o ∷ without_first test os
+
+-- ---- what is seen of them
+
+abbrev pub phase_of : Progress → Phase
+phase_of progress.Waiting = phase.Waiting
+phase_of (progress.Offered number) = phase.Offered
+
+abbrev pub waiting_as : Operation → Waiting
+waiting_as o = record { link = o.link; phase = phase_of o.progress }

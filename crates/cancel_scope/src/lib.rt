@@ -1,0 +1,6 @@
+//! The operations of a core that have not ended, in the order in which they started.
+#![tactic(auto)]
+
+mod operation;
+
+pub use operation::{Asked, Operation, Progress};

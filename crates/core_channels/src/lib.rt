@@ -1,0 +1,13 @@
+//! The links of a run in one thread: what was offered and decided on each.
+#![tactic(auto)]
+
+mod answers;
+mod decision;
+mod kept_link;
+mod law;
+mod links;
+mod offer;
+
+pub use answers::{Arrived, Learning, Offering, Receiving, Withdrawing};
+pub use law::{owner_may_enter, peer_may_enter};
+pub use links::Links;

@@ -1,0 +1,137 @@
+//! All links of a run.
+
+ghost use Rattle.std.specs.Prelude.{◌≡◌, ◌≤◌, ◌<◌, true, false, length, slice_get, OnOk, IfOk};
+ghost use Rattle.std.specs.List.{All};
+ghost use Rattle.ac_links.specs.Payloads.{is_payload};
+ghost use Rattle.ac_links.specs.Views.{may_withdraw};
+ghost use Rattle.ac_links.specs.Noted.{offer_stamp};
+ghost use Rattle.core_channels.specs.LinkViews.{IsLink, link_at, with_link, SameButSpares, SameTerms, AreNew};
+ghost use Rattle.core_channels.specs.Offers.{offering, after_offering, offering_clock};
+ghost use Rattle.core_channels.specs.Learns.{learning, after_learning, learning_clock};
+ghost use Rattle.core_channels.specs.Withdraws.{withdrawing, after_withdrawing, withdrawing_clock};
+ghost use Rattle.core_channels.specs.Takes.{receiving, after_receiving, receiving_clock};
+
+use crate::answers::{Learning, Offering, Receiving, Withdrawing};
+use crate::kept_link::KeptLink;
+use ac_base::{Clock, List, Message, NoMemory, Payload};
+use ac_links::Terms;
+use std::alloc::Global;
+use std::marker::Model;
+
+/// The links of a run with all that was offered and decided on each.
+///
+/// Contracts see of each link its terms, what its owner has offered and knows, what its peer has
+/// decided, and its spare: the number of further offers for which it has a place. Only `new` and
+/// `reserve` take memory.
+#[derive(Drop)]
+pub struct Links {
+    links: Vec<KeptLink>,
+}
+
+impl Model for Links {
+    ghost use Rattle.std.specs.Prelude.{List};
+    ghost use Rattle.std.specs.List.{All};
+    ghost use Rattle.core_channels.specs.LinkViews.{LinkViews, IsLink};
+
+    ghost Value = { List LinkViews };
+
+    ghost view = { λ it. it.links.items };
+
+    ghost invariant = { λ it. All IsLink it.links.items };
+}
+
+impl Links {
+    /// Links of these capacities, on which nothing was offered. The first `channels` of them carry
+    /// messages, and the others requests.
+    pub fn new(alloc: Global, capacities: &List<u32>, channels: u32) -> Result<Links, NoMemory>
+        ensures { IfOk result (AreNew channels capacities.now) }
+    {
+        let mut links = Vec::new(alloc);
+        let mut number = 0u64;
+        for capacity in capacities.as_slice() {
+            let terms = Terms {
+                capacity: *capacity,
+                requests: u64::from(channels) <= number,
+            };
+            links.push(KeptLink::new(alloc, terms))?;
+            number += 1;
+        }
+        Ok(Links { links })
+    }
+
+    /// Makes the spare of each link at least n. After want of memory all but the spares is as before.
+    pub fn reserve(&mut self, n: u32) -> Result<(), NoMemory>
+        ensures same { SameButSpares self.old self.new }
+        ensures ok { OnOk result (All (λ v. n ≤ v.spare) self.new) }
+    {
+        for link in 0..self.links.len() {
+            self.links[link].reserve(n)?;
+        }
+        Ok(())
+    }
+
+    /// The number of links. The two views of each agree, and each carries what was offered on it.
+    pub fn len(&self) -> u64
+        ensures count { result ≡ length self.now }
+        ensures links { All IsLink self.now }
+    {
+        self.links.len() as u64
+    }
+
+    /// Offers the payload on the link. It takes one from the link's spare.
+    ///
+    /// Condition: the link is in range, and carries such a payload.
+    pub fn offer(&mut self, link: u32, payload: Payload, clock: &mut Clock) -> Offering<Payload>
+        requires link { link < length self.old }
+        requires payload { is_payload (link_at self.old link).terms.requests payload ≡ true }
+        ensures answer { result ≡ offering (link_at self.old link) payload clock.old }
+        ensures links { self.new ≡ with_link self.old link (after_offering (link_at self.old link) payload result) }
+        ensures clock { clock.new ≡ offering_clock clock.old result }
+        ensures terms { SameTerms self.old self.new }
+    {
+        self.links[link as usize].offer(payload, clock)
+    }
+
+    /// Withdraws the offer of this number, unless it was decided before.
+    ///
+    /// Condition: the link is in range, the owner has made the offer, has not withdrawn it and knows
+    /// of no decision of it, and the clock's last stamp is at least that of the offer.
+    pub fn withdraw(&mut self, link: u32, number: u64, clock: &mut Clock) -> Withdrawing
+        requires link { link < length self.old }
+        requires open { may_withdraw (slice_get (link_at self.old link).offers number) ≡ true }
+        requires later { offer_stamp (slice_get (link_at self.old link).offers number) ≤ clock.old }
+        ensures answer { result ≡ withdrawing (link_at self.old link) number clock.old }
+        ensures links { self.new ≡ with_link self.old link (after_withdrawing (link_at self.old link) number result) }
+        ensures clock { clock.new ≡ withdrawing_clock clock.old result }
+        ensures terms { SameTerms self.old self.new }
+    {
+        self.links[link as usize].withdraw(number, clock)
+    }
+
+    /// Lets the owner know of the decision of the first of its offers that it does not know of.
+    ///
+    /// Condition: the link is in range.
+    pub fn learn(&mut self, link: u32, clock: &mut Clock) -> Learning
+        requires link { link < length self.old }
+        ensures answer { result ≡ learning (link_at self.old link) clock.old }
+        ensures links { self.new ≡ with_link self.old link (after_learning (link_at self.old link) result) }
+        ensures clock { clock.new ≡ learning_clock clock.old result }
+        ensures terms { SameTerms self.old self.new }
+    {
+        self.links[link as usize].learn(clock)
+    }
+
+    /// Lets the peer take the first offer that is not decided, or pass over it.
+    ///
+    /// Condition: the link is in range, and carries messages.
+    pub fn take(&mut self, link: u32, clock: &mut Clock) -> Receiving<Message>
+        requires link { link < length self.old }
+        requires channel { (link_at self.old link).terms.requests ≡ false }
+        ensures answer { result ≡ receiving (link_at self.old link) clock.old }
+        ensures links { self.new ≡ with_link self.old link (after_receiving (link_at self.old link) result) }
+        ensures clock { clock.new ≡ receiving_clock clock.old result }
+        ensures terms { SameTerms self.old self.new }
+    {
+        self.links[link as usize].take(clock)
+    }
+}

@@ -1,0 +1,117 @@
+-- What the definitions of Arrivals say of a core that sends on channel 0 and receives from channel 1.
+use Rattle.std.proofs.Common.{◌≡◌, refl, ℕ, ℤ, pos, List, [], ◌∷◌, length, None, Some}
+use Rattle.std.specs.Prelude.{Option, true, false}
+use Rattle.ac_base.specs.declared.ends.CoreEnd.{CoreEnd}
+use Rattle.ac_base.specs.declared.entry.Payload.TheVariants.{Int, Read}
+use Rattle.ac_base.specs.declared.entry.Event.{Event}
+use Rattle.ac_base.specs.declared.entry.Event.TheVariants.{Offer, Withdraw, Know, Got}
+use Rattle.ac_base.specs.declared.entry.Entry.{Entry}
+use Rattle.work_item.specs.declared.ids.Item.{Item}
+use Rattle.work_item.specs.declared.cell.Place.{Place}
+use Rattle.work_item.specs.declared.cell.Cell.TheVariants as cell
+use Rattle.work_item.specs.Store.{Store, no_place}
+use Rattle.cancel_scope.specs.declared.operation.Asked.TheVariants.{Send, Recv}
+use Rattle.cancel_scope.specs.declared.operation.Operation.{Operation}
+use Rattle.cancel_scope.specs.Outstanding.{started, offered_as}
+use Rattle.core_state.specs.Moves.{Move, On, Over}
+use Rattle.core_state.specs.Shared.{Shared, with_entry}
+use Rattle.core_state.specs.Arrivals.{ok, is_offer, offers_on, Arrival, goes_on_waiting, has_ended, place_for, with_message}
+use Rattle.core_state.specs.Arrivals.{offers, ends_known, ends_received, arrives, comes_in, at_point, point}
+
+-- ---- a core with two globals, and three operations that have started
+
+abbrev pub thread : ℕ → Item
+thread number = record { number = number }
+
+abbrev pub store : Store
+store = record { globals = pos 7 ∷ pos 8 ∷ []; frames = [] }
+
+-- the second of the two globals
+abbrev pub second : Place
+second = record { home = None; start = 1; len = 1 }
+
+abbrev pub five : Operation
+five = started 0 (Send (pos 5)) (thread 1)
+
+abbrev pub six : Operation
+six = started 0 (Send (pos 6)) (thread 2)
+
+abbrev pub hears : Operation
+hears = started 1 (Recv second) (thread 3)
+
+abbrev pub at_turn : ℕ → Event → Entry
+at_turn turn event = record { stamp = 1; turn = turn; event = event }
+
+abbrev pub offer : ℕ → ℤ → Event
+offer number value = Offer 0 number (Int value)
+
+-- ---- offers
+
+pub one_offer_was_made : offers_on 0 (at_turn 0 (offer 0 (pos 4)) ∷ at_turn 1 (Know 0 0) ∷ at_turn 2 (Offer 1 0 (Int (pos 4))) ∷ []) ≡ 1
+one_offer_was_made = refl
+
+pub an_offer_on_that_link : (is_offer 0 (offer 3 (pos 4)) ≡ true) × (is_offer 1 (offer 3 (pos 4)) ≡ false) × (is_offer 0 (Know 0 3) ≡ false)
+an_offer_on_that_link = (refl, refl, refl)
+
+-- the oldest is offered, and no thread goes on
+pub the_oldest_is_offered : arrives [] store (five ∷ hears ∷ six ∷ []) (offer 0 (pos 5))
+    ≡ Some (goes_on_waiting store (offered_as 0 five ∷ hears ∷ six ∷ []))
+the_oldest_is_offered = refl
+
+pub then_the_next_one : arrives (at_turn 0 (offer 0 (pos 5)) ∷ []) store (offered_as 0 five ∷ hears ∷ six ∷ []) (offer 1 (pos 6))
+    ≡ Some (goes_on_waiting store (offered_as 0 five ∷ hears ∷ offered_as 1 six ∷ []))
+then_the_next_one = refl
+
+-- another number, another value, a request, and a link on which nothing is to be offered
+pub what_is_no_offer : (arrives [] store (five ∷ []) (offer 1 (pos 5)) ≡ None) × (arrives [] store (five ∷ []) (offer 0 (pos 6)) ≡ None)
+    × (arrives [] store (five ∷ []) (Offer 0 0 (Read 0 0 4)) ≡ None) × (arrives [] store (hears ∷ []) (Offer 1 0 (Int (pos 5))) ≡ None)
+what_is_no_offer = (refl, refl, refl, refl)
+
+-- ---- ends
+
+pub a_known_send_has_ended : arrives [] store (offered_as 0 five ∷ hears ∷ offered_as 1 six ∷ []) (Know 0 1)
+    ≡ Some (record { operations = offered_as 0 five ∷ hears ∷ []; store = store; woken = Some (thread 2) })
+a_known_send_has_ended = refl
+
+pub nothing_is_known_of_what_waits : arrives [] store (five ∷ []) (Know 0 0) ≡ None
+nothing_is_known_of_what_waits = refl
+
+pub a_message_has_come : arrives [] store (five ∷ hears ∷ []) (Got 1 9 (pos 3))
+    ≡ Some (record { operations = five ∷ []; store = record { globals = pos 7 ∷ pos 3 ∷ []; frames = [] }; woken = Some (thread 3) })
+a_message_has_come = refl
+
+pub no_one_waits_for_a_message : (arrives [] store (five ∷ []) (Got 1 9 (pos 3)) ≡ None) × (arrives [] store (five ∷ hears ∷ []) (Got 0 9 (pos 3)) ≡ None)
+no_one_waits_for_a_message = (refl, refl)
+
+pub a_withdrawal_needs_a_cancel : arrives [] store (offered_as 0 five ∷ []) (Withdraw 0 0) ≡ None
+a_withdrawal_needs_a_cancel = refl
+
+pub its_parts : (ok ≡ cell.Int (pos 0)) × (place_for (Recv second) ≡ second) × (place_for (Send (pos 5)) ≡ no_place)
+    × (with_message store hears (pos 3) ≡ record { globals = pos 7 ∷ pos 3 ∷ []; frames = [] })
+    × (has_ended store [] five ≡ record { operations = []; store = store; woken = Some (thread 1) })
+its_parts = (refl, refl, refl, refl, refl)
+
+pub where_there_is_one : (offers store (five ∷ []) 0 0 (Int (pos 5)) (Some five) ≡ Some (goes_on_waiting store (offered_as 0 five ∷ [])))
+    × (ends_known store (offered_as 0 five ∷ []) 0 0 (Some (offered_as 0 five)) ≡ Some (has_ended store [] (offered_as 0 five)))
+    × (ends_received store (hears ∷ []) 1 (pos 3) (Some hears) ≡ Some (has_ended (with_message store hears (pos 3)) [] hears))
+where_there_is_one = (refl, refl, refl)
+
+-- ---- dispatch points
+
+abbrev pub shared : List Entry → Shared
+shared todo = record { steps = 0; turn = 4; output = []; past = []; todo = todo }
+
+-- how many operations are left where an entry comes in, and else 9
+abbrev pub left : List Entry → Move ℕ (Option CoreEnd)
+left todo = point (λ seen. seen) (shared todo) store (hears ∷ []) (λ s x. On (length x.operations)) (On 9)
+
+-- an entry of this turn comes in, one of a later turn does not, and one that does not fit leaves no end
+pub at_a_dispatch_point : (left (at_turn 4 (Got 1 0 (pos 3)) ∷ []) ≡ On 0) × (left (at_turn 5 (Got 1 0 (pos 3)) ∷ []) ≡ On 9)
+    × (left (at_turn 4 (Got 0 0 (pos 3)) ∷ []) ≡ Over None) × (left [] ≡ On 9)
+at_a_dispatch_point = (refl, refl, refl, refl)
+
+pub the_entry_has_come_in : (e : Entry)
+    → (with_entry (shared (e ∷ [])) e [] ≡ record { steps = 0; turn = 4; output = []; past = e ∷ []; todo = [] })
+    × (comes_in {S = ℕ} {E = Option CoreEnd} (λ seen. seen) (λ x. On 5) (Some (goes_on_waiting store [])) ≡ On 5)
+    × (at_point {S = ℕ} {E = Option CoreEnd} (λ seen. seen) (shared []) store [] (λ s x. On 5) (On 6) [] ≡ On 6)
+the_entry_has_come_in e = (refl, refl, refl)

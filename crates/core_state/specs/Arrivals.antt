@@ -1,0 +1,110 @@
+-- What comes in at a dispatch point: an entry of the journal, and what it makes of the operations of a core (Harris, Abadi, Isaacs,
+-- McIlroy, OOPSLA 2011, of operations that end by themselves).
+use Rattle.std.specs.Prelude.{ℕ, zero, suc, ◌+◌, ℤ, pos, List, [], ◌∷◌, ◌++◌, find, Option, Some, None}
+use Rattle.std.specs.Prelude.{Bool, true, false, nat_eq, if◌then◌else◌}
+use Rattle.ac_base.specs.declared.entry.Event.{Event}
+use Rattle.ac_base.specs.declared.entry.Event.TheVariants as event
+use Rattle.ac_base.specs.declared.entry.Payload.{Payload}
+use Rattle.ac_base.specs.declared.entry.Entry.{Entry}
+use Rattle.ac_base.specs.declared.ends.CoreEnd.{CoreEnd}
+use Rattle.work_item.specs.declared.ids.Item.{Item}
+use Rattle.work_item.specs.declared.cell.Place.{Place}
+use Rattle.work_item.specs.declared.cell.Cell.{Cell}
+use Rattle.work_item.specs.declared.cell.Cell.TheVariants as cell
+use Rattle.work_item.specs.Store.{Store, no_place, with_int_at}
+use Rattle.cancel_scope.specs.declared.operation.Asked.{Asked}
+use Rattle.cancel_scope.specs.declared.operation.Asked.TheVariants as asked
+use Rattle.cancel_scope.specs.declared.operation.Operation.{Operation}
+use Rattle.cancel_scope.specs.Outstanding.{is_to_offer, is_offered, is_to_receive, carries, offered_as, change_first, without_first}
+use Rattle.core_state.specs.Moves.{Move, Over}
+use Rattle.core_state.specs.Shared.{Shared, with_entry}
+
+-- ---- the value of an operation that has ended
+
+-- the named results of the language
+abbrev pub ok : Cell
+ok = cell.Int (pos 0)
+
+-- ---- numbers of offers
+
+-- whether an entry is an offer on that link
+abbrev pub is_offer : ℕ → Event → Bool
+is_offer link (event.Offer l number payload) = nat_eq l link
+is_offer link _ = false
+
+-- how many offers on that link these entries make
+abbrev pub offers_on : ℕ → List Entry → ℕ
+offers_on link [] = 0
+offers_on link (e ∷ es) = if is_offer link e.event then 1 + offers_on link es else offers_on link es
+
+-- ---- an event
+
+-- the operations that are left, what the globals and the frames hold, and the thread that goes on with a value, where one has ended
+pub record Arrival : Type 0 where
+  pub operations : List Operation
+  pub store : Store
+  pub woken : Option Item
+
+-- an operation goes on, and its thread waits
+abbrev pub goes_on_waiting : Store → List Operation → Arrival
+goes_on_waiting store operations = record { operations = operations; store = store; woken = None }
+
+-- an operation has ended
+abbrev pub has_ended : Store → List Operation → Operation → Arrival
+has_ended store operations o = record { operations = operations; store = store; woken = Some o.item }
+
+-- where an operation puts what it receives
+abbrev pub place_for : Asked → Place
+place_for (asked.Recv place) = place
+place_for (asked.Send value) = no_place
+
+abbrev pub with_message : Store → Operation → ℤ → Store
+with_message store o value = with_int_at store (place_for o.asked) 0 value
+
+-- the oldest operation that is to be offered on a link is offered, by an offer that carries what it sends
+abbrev pub offers : Store → List Operation → ℕ → ℕ → Payload → Option Operation → Option Arrival
+offers store os link number payload None = None
+offers store os link number payload (Some o) =
+    if carries o.asked payload
+    then Some (goes_on_waiting store (change_first (is_to_offer link) (offered_as number) os))
+    else None
+
+-- an offer that was taken has ended
+abbrev pub ends_known : Store → List Operation → ℕ → ℕ → Option Operation → Option Arrival
+ends_known store os link number None = None
+ends_known store os link number (Some o) = Some (has_ended store (without_first (is_offered link number) os) o)
+
+-- the oldest that waits for a message from a link puts it into its place, and has ended
+abbrev pub ends_received : Store → List Operation → ℕ → ℤ → Option Operation → Option Arrival
+ends_received store os link value None = None
+ends_received store os link value (Some o) = Some (has_ended (with_message store o value) (without_first (is_to_receive link) os) o)
+
+-- what an event makes of a core whose journal had these entries before; none where it does not fit. What has no case here comes of
+-- instructions that are not built
+abbrev pub arrives : List Entry → Store → List Operation → Event → Option Arrival
+arrives past store os (event.Offer link number payload) =
+    if nat_eq number (offers_on link past) then offers store os link number payload (find (is_to_offer link) os) else None
+arrives past store os (event.Know link number) = ends_known store os link number (find (is_offered link number) os)
+arrives past store os (event.Got link number value) = ends_received store os link value (find (is_to_receive link) os)
+arrives past store os _ = None
+
+-- ---- a dispatch point
+
+-- an entry that does not fit leaves the core without an end
+abbrev pub comes_in : {S E : Type 0} → (Option CoreEnd → E) → (Arrival → Move S E) → Option Arrival → Move S E
+comes_in tell go None = Over (tell None)
+comes_in tell go (Some x) = go x
+
+-- the next entry comes in where it is of this turn, and else the core goes on without it
+abbrev pub at_point : {S E : Type 0} → (Option CoreEnd → E) → Shared → Store → List Operation → (Shared → Arrival → Move S E) → Move S E →
+    List Entry
+    → Move S E
+at_point tell s store os go others [] = others
+at_point tell s store os go others (e ∷ es) =
+    if nat_eq e.turn s.turn
+    then comes_in tell (go (with_entry s e es)) (arrives s.past store os e.event)
+    else others
+
+abbrev pub point : {S E : Type 0} → (Option CoreEnd → E) → Shared → Store → List Operation → (Shared → Arrival → Move S E) → Move S E →
+    Move S E
+point tell s store os go others = at_point tell s store os go others s.todo
