@@ -13,8 +13,12 @@ use Rattle.ac_translation.specs.Same.{IsSame}
 use Rattle.ac_translation.proofs.Agrees.{code_same}
 use Rattle.ac_compile.specs.Unbuilt.{unbuilt_nodes, meaningless_nodes}
 use Rattle.ac_compile.specs.Compiled.{IsCodeOf}
-use Rattle.stack_code.specs.Alone.{IsAlone}
-use Rattle.stack_code.specs.Meant.{IsMeant}
+use Rattle.code_meaning.specs.Alone.{IsAlone}
+use Rattle.code_meaning.specs.Meant.{IsMeant}
+use Rattle.ac_tree.specs.Shape.{HasShape}
+use Rattle.ac_types.specs.Reached.{BreaksNone}
+use Rattle.code_safety.specs.KeptEnds.{KeepsEnds}
+use Rattle.ac_compile.proofs.EndsKept.{keeps_ends}
 use Rattle.ac_compile.proofs.Weights.{code_small, links_small}
 use Rattle.ac_compile.proofs.Alone.{code_alone, code_meant}
 use Rattle.ac_compile.specs.OneEnd.{HasOneEnd}
@@ -36,6 +40,9 @@ module _ (p : Program) (r : Resolved) (is : r ≡ resolved p) where
   pub is_same : IsInPlace r → (code : Parts) → code ≡ code_of r → IsSame code (resolved p)
   is_same place code e =
       subst (λ (x : Parts). IsSame x (resolved p)) (sym (is_code code e)) (code_same (resolved p) (well_formed (resolved p) (subst IsInPlace is place)))
+
+  pub is_at_ends : BreaksNone p.items → HasShape p → (code : Parts) → code ≡ code_of r → KeepsEnds code
+  is_at_ends none shaped code e = subst KeepsEnds (sym (is_code code e)) (keeps_ends p none shaped)
 
   pub is_alone : unbuilt_nodes p.items ≡ [] → (code : Parts) → code ≡ code_of r → IsAlone code
   is_alone built code e = subst IsAlone (sym (is_code code e)) (code_alone p built)

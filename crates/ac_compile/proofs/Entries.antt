@@ -119,10 +119,10 @@ module _ (code : Parts) (program : Resolved) (m : Belongs code program) where
     abbrev size : ℕ
     size = (body_code f.body).size
 
-    function_points : ℕ → List Point
+    pub function_points : ℕ → List Point
     function_points place = body_fit.points place ++ (point bare ∷ point with_int ∷ [])
 
-    function_long : (place : ℕ) → length (function_points place) ≡ (function_code f).size
+    pub function_long : (place : ℕ) → length (function_points place) ≡ (function_code f).size
     unfolding function_points
     function_long place = length-append (body_fit.points place) (point bare ∷ point with_int ∷ []) ∙ omega (arith, body_fit.long place)
 
@@ -146,7 +146,7 @@ module _ (code : Parts) (program : Resolved) (m : Belongs code program) where
     function_begins : (t : Table) (place : ℕ) → Stands t.points place (function_points place) → ShapeAt t place bare
     function_begins t place h = let l = owns t place h in body_fit.begins t place (place + size) l.body_stands refl l.at_end
 
-    function_fine : (t : Table) (place to : ℕ) → Placed code.instrs (function_code f) no_exits place to → Stands t.points place (function_points place) → Knows code homes round.frames t
+    pub function_fine : (t : Table) (place to : ℕ) → Placed code.instrs (function_code f) no_exits place to → Stands t.points place (function_points place) → Knows code homes round.frames t
         → Range code t place to
     function_fine t place to p h k =
         let l = owns t place h in
@@ -165,7 +165,7 @@ module _ (code : Parts) (program : Resolved) (m : Belongs code program) where
     begins_as : (at : ℕ) → bare ≡ first number (entered_as f at)
     begins_as at = ap (λ n. record { bodies = (record { home = home.Function number; slots = n }) ∷ []; blocks = []; operands = [] }) (uses_many program f d)
 
-    knows_own : (t : Table) (at : ℕ) → AreCalled code t → slice_get code.functions number ≡ Some (entered_as f at) → slice_get t.functions number ≡ Some (uses_of program f d)
+    pub knows_own : (t : Table) (at : ℕ) → AreCalled code t → slice_get code.functions number ≡ Some (entered_as f at) → slice_get t.functions number ≡ Some (uses_of program f d)
         → Knows code homes round.frames t
     knows_own t at c e u = record {
       called = c;
@@ -193,11 +193,11 @@ module _ (code : Parts) (program : Resolved) (m : Belongs code program) where
 
   -- the first of the functions, and the others, in the table
   module _ (t : Table) (number place : ℕ) (f : Function) (fs : List Function) (d : AreFunctions program (f ∷ fs)) (h : Stands t.points place (all_points number place (f ∷ fs) d)) where
-    first_stands : Stands t.points place (function_points number f d.0 place)
+    pub first_stands : Stands t.points place (function_points number f d.0 place)
     unfolding all_points
     first_stands = first_stand t.points place (function_points number f d.0 place) (all_points (suc number) (place + (function_code f).size) fs d.1) h
 
-    others_stand : Stands t.points (place + (function_code f).size) (all_points (suc number) (place + (function_code f).size) fs d.1)
+    pub others_stand : Stands t.points (place + (function_code f).size) (all_points (suc number) (place + (function_code f).size) fs d.1)
     unfolding all_points
     others_stand =
         other_stand t.points place (place + (function_code f).size) (function_points number f d.0 place) (all_points (suc number) (place + (function_code f).size) fs d.1)
@@ -255,7 +255,7 @@ module _ (code : Parts) (program : Resolved) (m : Belongs code program) where
   table fs d = record { points = all_points 0 0 fs d; functions = all_uses program fs d }
 
   module _ (fs : List Function) (d : AreFunctions program fs) (p : Placed code.instrs (functions_code fs) no_exits 0 (length code.instrs)) (functions_are : code.functions ≡ functions_from 0 fs) where
-    all_stand : Stands (all_points 0 0 fs d) 0 (all_points 0 0 fs d)
+    pub all_stand : Stands (all_points 0 0 fs d) 0 (all_points 0 0 fs d)
     all_stand = stand_all (all_points 0 0 fs d) []
 
     pub table_long : length (table fs d).points ≡ (functions_code fs).size

@@ -8,6 +8,7 @@ pub mod Values
 pub mod Directives
 pub mod Statements
 pub mod Entries
+pub mod Ranges
 pub mod Circles
 pub mod Reached
 pub mod Validity
@@ -23,7 +24,10 @@ pub mod Loops
 pub mod Making
 pub mod Never
 pub mod Weights
+pub mod Instructions
 pub mod Tested
+pub mod OwnActions
+pub mod EndsKept
 pub mod Alone
 pub mod Formed
 pub mod OneEnd

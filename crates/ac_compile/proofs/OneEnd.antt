@@ -6,8 +6,8 @@ use Rattle.ac_commands.specs.declared.program.Resolved.{Resolved}
 use Rattle.ac_semantics.specs.Replay.{Replays}
 use Rattle.stack_code.specs.Parts.{Parts}
 use Rattle.stack_code.specs.Valid.{IsValid}
-use Rattle.stack_code.specs.Meant.{IsMeant}
-use Rattle.stack_code.specs.Machine.{FlatEnd, Runs}
+use Rattle.code_meaning.specs.Meant.{IsMeant}
+use Rattle.code_meaning.specs.Machine.{FlatEnd, Runs}
 use Rattle.code_safety.specs.Ends.{EndsOnlySo}
 use Rattle.code_safety.proofs.OneEnd.{ends_only_so}
 use Rattle.ac_translation.specs.Same.{IsSame}

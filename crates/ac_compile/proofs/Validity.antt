@@ -16,14 +16,15 @@ use Rattle.stack_code.specs.declared.shape.Home.TheVariants as home
 use Rattle.stack_code.specs.Parts.{Parts}
 use Rattle.stack_code.specs.Shapes.{params_in, params_of}
 use Rattle.stack_code.specs.Valid as valid
-use Rattle.stack_code.specs.Valid.{HasCores, HasLinks, IsCapacity, IsStart, HasStarts, HasRoom, IsValid, IsEntry}
+use Rattle.stack_code.specs.Valid.{HasCores, HasLinks, IsCapacity, IsStart, HasStarts, HasRoom, IsShaped, IsValid, IsEntry}
 use Rattle.ac_resolve.specs.InPlace.{Use, use_of, IsFunction, AreStarts, IsInPlace}
 use Rattle.ac_translation.specs.Translation.{function_code, functions_code, functions_from, start_of, ends_of, request_capacity, no_exits, code_of}
 use Rattle.ac_translation.proofs.Sized.{functions_sized}
 use Rattle.ac_translation.proofs.Placed.{Placed, has_all}
-use Rattle.ac_compile.proofs.Points.{Table, uses_in, HasUse, stack_use}
+use Rattle.ac_compile.proofs.Points.{Table, uses_in, HasUse, stack_use, AreCalled}
 use Rattle.ac_compile.proofs.Known.{Belongs, entered_as}
-use Rattle.ac_compile.proofs.Entries.{AreFunctions, all_uses, table, table_long, table_called, table_fine}
+use Rattle.ac_compile.proofs.Entries.{AreFunctions, all_uses, table, all_stand, table_long, table_called, table_fine}
+use Rattle.ac_compile.proofs.Ranges.{Section, section_from}
 use Rattle.ac_compile.proofs.Reached.{shaped, takes_steps, one_use}
 
 -- ---- lists
@@ -84,6 +85,9 @@ param_use [] others slot array e = let no : ◌≡◌ {A = Option Bool} None (So
 param_use (p ∷ params) others zero array e = let same : p ≡ array = cc in ap (λ x. Some (use_of x)) same
 param_use (p ∷ params) others (suc slot) array e = param_use params others slot array e
 
+zero_on : (n : ℕ) → 0 + n ≡ n
+zero_on n = omega arith
+
 -- ---- the program
 
 module _ (program : Resolved) (p : IsInPlace program) where
@@ -102,7 +106,7 @@ module _ (program : Resolved) (p : IsInPlace program) where
   entries_are : length code.entries ≡ length program.cores
   entries_are = length-map program.cores (λ (core : Core). core.entry)
 
-  belongs : Belongs code program
+  pub belongs : Belongs code program
   belongs = record {
     globals = refl;
     texts = refl;
@@ -111,7 +115,7 @@ module _ (program : Resolved) (p : IsInPlace program) where
     functions = λ number f e. there_from program.functions 0 number f e;
   }
 
-  functions : AreFunctions program program.functions
+  pub functions : AreFunctions program program.functions
   functions = functions_are program program.functions p.functions
 
   placed : Placed code.instrs (functions_code program.functions) no_exits 0 (length code.instrs)
@@ -182,10 +186,36 @@ module _ (program : Resolved) (p : IsInPlace program) where
   rooms_from (f ∷ fs) d at zero e lt = let n = d.0.slots in omega (arith, n)
   rooms_from (f ∷ fs) d at (suc k) e lt = rooms_from fs d.1 (at + (function_code f).size) k e (omega (arith, lt))
 
+  -- ---- what is reached
+
+  pub code_called : AreCalled code points
+  code_called = table_called code program belongs program.functions functions placed refl
+
+  pub code_shaped : IsShaped code
+  code_shaped = shaped code points long code_called (table_fine code program belongs program.functions functions placed refl)
+
+  -- the table, and each function in it
+  pub section_at : (t : Table) × (AreCalled code t × ((number : ℕ) (e : Entered) → slice_get code.functions number ≡ Some e → Section code program belongs t number))
+  section_at = (
+    points,
+    (
+      code_called,
+      λ number e is.
+          let n : 0 + number ≡ number = omega arith in
+          subst (Section code program belongs points) n
+          (section_from code program belongs points 0 0 (length code.instrs) number program.functions functions placed
+          (all_stand code program belongs program.functions functions placed refl)
+          (λ j. ap (slice_get program.functions) (zero_on j)) (λ j. ap (slice_get code.functions) (zero_on j)) (λ j. ap (slice_get points.functions) (zero_on j)) e
+          (ap (slice_get code.functions) n ∙ is)),
+    ),
+  )
+
+  -- ---- the whole
+
   -- its addresses, and its links, are numbers of 32 bits
   pub code_valid : (functions_code program.functions).size < 2 ^ 32 → length program.channels + length program.cores < 2 ^ 32 → IsValid code
   code_valid short few =
-      let called = table_called code program belongs program.functions functions placed refl in
+      let called = code_called in
       let fine = table_fine code program belongs program.functions functions placed refl in
       record {
         lists = record {
@@ -195,7 +225,7 @@ module _ (program : Resolved) (p : IsInPlace program) where
           starts = has_starts code program.starts refl p.starts;
           functions = rooms_from program.functions functions 0;
         };
-        shaped = shaped code points long called fine;
+        shaped = code_shaped;
         one_use = one_use code points long called fine params_well;
         steps = takes_steps code points long called fine;
       }

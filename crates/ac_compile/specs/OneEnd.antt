@@ -5,7 +5,7 @@ use Rattle.ac_base.specs.declared.entry.Entry.{Entry}
 use Rattle.ac_commands.specs.declared.program.Resolved.{Resolved}
 use Rattle.ac_semantics.specs.Replay.{Replays}
 use Rattle.stack_code.specs.Parts.{Parts}
-use Rattle.stack_code.specs.Machine.{FlatEnd, Runs}
+use Rattle.code_meaning.specs.Machine.{FlatEnd, Runs}
 
 -- there is one, and it is the only one
 pub record IsOnly {E : Type 0} (P : E → Type 0) : Type 0 where

@@ -9,6 +9,8 @@ pub mod Parties
 pub mod PartiesExamples
 pub mod Parts
 pub mod Putting
+pub mod QuietExamples
+pub mod Quietness
 pub mod Running
 pub mod Runtime
 pub mod Steps

@@ -17,13 +17,14 @@ use Rattle.ac_links.specs.Link.{link_after, link_of}
 use Rattle.ac_links.specs.Journals.{LinkAgrees}
 use Rattle.ac_links.specs.Views.{OwnerOffer, PeerDecision, owner_fits, owner_after, peer_fits, decision_of, OwnerRuns, PeerRuns}
 use Rattle.ac_links.specs.Noted.{seen_of, request_of}
+use Rattle.ac_links.specs.Combined.{link_after_all, combine}
 use Rattle.ac_history.specs.Merged.{all_from, merged}
 use Rattle.ac_history.specs.History.{terms_of, makes, may_make, IsLegal, start}
 use Rattle.ac_history.specs.Files.{deeds, deeds_by}
 use Rattle.ac_history.specs.Agreement.{InRange, AllMade, link_part, AllStamps}
 use Rattle.ac_history.specs.Network.{Pair, entries_at, IsPeer, PairAgrees, seen_by, request_by, worker_entries, NetworkAgrees}
 use Rattle.ac_links.proofs.Sorting.{rises_filter}
-use Rattle.ac_links.proofs.Pair.{owner_first, peer_first}
+use Rattle.ac_links.proofs.Pair.{owner_first, peer_first, owner_first_ends, peer_first_ends}
 use Rattle.ac_links.proofs.Told.{told_owner, told_peer}
 use Rattle.ac_links.proofs.Parted.{by_link, kept}
 use Rattle.ac_links.proofs.Growth.{both_true}
@@ -231,18 +232,35 @@ module _ (capacities : List ℕ) (cores : ℕ) (mine : ℕ → Event → ℕ) (p
   rises_at : (l p : ℕ) → Rises stamp_of (entries_at l js p)
   rises_at l p = rises_filter stamp_of (is_of_link l) (of_party p (get_or js p [])) (rises_party (seen_by pairs) 0 p (get_or js p []) (stamps_at (seen_by pairs) js right p))
 
+  -- the entries of a link are those of its two ends, one after the other
+  of_both : (l : ℕ) (w : PairAgrees cores mine js l (pairs l)) (goal : List Stamped → Type 0)
+      → goal (entries_at l js (pairs l).owner ++ entries_at l js (pairs l).peer) → goal (entries_at l js (pairs l).peer ++ entries_at l js (pairs l).owner)
+      → goal (filter (is_of_link l) (all_from 0 js))
+  of_both l w goal forth back =
+      let a = (pairs l).owner in
+      let b = (pairs l).peer in
+      elim (leb_tells b a) [
+        | inl v ↦ subst goal (sym (parts_two l 0 js b b a a (omega arith) (omega arith) (let ne = w.apart in let le = v.1 in strict b a le ne) (λ m p e n o. subst (λ k. part l p
+            (get_or js k []) ≡ []) (zero_sum p m e) (w.others p o n)))) back
+        | inr v ↦ subst goal (sym (parts_two l 0 js a a b b (omega arith) (omega arith) v.1 (λ m p e n o. subst (λ k. part l p (get_or js k []) ≡ []) (zero_sum p m e) (w.others p n o)))) forth
+      ]
+
   ends_agree : (l : ℕ) → (w : PairAgrees cores mine js l (pairs l)) → LinkAgrees (seen_of (pairs l).offers (pairs l).decisions) (request_of (pairs l).offers) (pairs l).terms [] (link_part l js)
   ends_agree l w =
       let a = (pairs l).owner in
       let b = (pairs l).peer in
-      let goal : List Stamped → Type 0 = λ xs. LinkAgrees (seen_of (pairs l).offers (pairs l).decisions) (request_of (pairs l).offers) (pairs l).terms [] (in_order stamp_of xs) in
-      elim (leb_tells b a) [
-        | inl v ↦ subst goal (sym (parts_two l 0 js b b a a (omega arith) (omega arith) (let ne = w.apart in let le = v.1 in strict b a le ne) (λ m p e n o. subst (λ k. part l p
-            (get_or js k []) ≡ []) (zero_sum p m e) (w.others p o n))))
-            (peer_first (pairs l).terms (pairs l).offers (pairs l).decisions w.both (mine a) (mine b) (entries_at l js a) (entries_at l js b) w.owner w.peer (rises_at l a) (rises_at l b))
-        | inr v ↦ subst goal (sym (parts_two l 0 js a a b b (omega arith) (omega arith) v.1 (λ m p e n o. subst (λ k. part l p (get_or js k []) ≡ []) (zero_sum p m e) (w.others p n o))))
-            (owner_first (pairs l).terms (pairs l).offers (pairs l).decisions w.both (mine a) (mine b) (entries_at l js a) (entries_at l js b) w.owner w.peer (rises_at l a) (rises_at l b))
-      ]
+      of_both l w (λ xs. LinkAgrees (seen_of (pairs l).offers (pairs l).decisions) (request_of (pairs l).offers) (pairs l).terms [] (in_order stamp_of xs))
+      (owner_first (pairs l).terms (pairs l).offers (pairs l).decisions w.both (mine a) (mine b) (entries_at l js a) (entries_at l js b) w.owner w.peer (rises_at l a) (rises_at l b))
+      (peer_first (pairs l).terms (pairs l).offers (pairs l).decisions w.both (mine a) (mine b) (entries_at l js a) (entries_at l js b) w.owner w.peer (rises_at l a) (rises_at l b))
+
+  -- after all its entries a link is what its two views make it
+  pub pair_ends : (l : ℕ) → (w : PairAgrees cores mine js l (pairs l)) → link_after_all [] (link_part l js) ≡ combine (pairs l).offers (pairs l).decisions
+  pair_ends l w =
+      let a = (pairs l).owner in
+      let b = (pairs l).peer in
+      of_both l w (λ xs. link_after_all [] (in_order stamp_of xs) ≡ combine (pairs l).offers (pairs l).decisions)
+      (owner_first_ends (pairs l).terms (pairs l).offers (pairs l).decisions w.both (mine a) (mine b) (entries_at l js a) (entries_at l js b) w.owner w.peer (rises_at l a) (rises_at l b))
+      (peer_first_ends (pairs l).terms (pairs l).offers (pairs l).decisions w.both (mine a) (mine b) (entries_at l js a) (entries_at l js b) w.owner w.peer (rises_at l a) (rises_at l b))
 
   paid_at : (l : ℕ) (e : Event) → link_of e ≡ l → request_by pairs e ≡ request_of (pairs l).offers e
   paid_at l e h = ap (λ k. request_of (pairs k).offers e) h

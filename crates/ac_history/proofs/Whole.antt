@@ -20,7 +20,7 @@ use Rattle.ac_links.proofs.Growth.{both_true}
 use Rattle.ac_history.proofs.Parts.{is_of_party, filter_party, rises_party, stamps_at, each_in_order, each_append, rising_merged}
 use Rattle.ac_history.proofs.Steps.{PartyStamps, Placed, Good, legal_from, deeds_from}
 
-first_of_same : {X : Type 0} (n k : ℕ) (d : X) → get_or (replicate n d) k d ≡ d
+pub first_of_same : {X : Type 0} (n k : ℕ) (d : X) → get_or (replicate n d) k d ≡ d
 first_of_same zero k d = refl
 first_of_same (suc n) zero d = refl
 first_of_same (suc n) (suc k) d = first_of_same n k d

@@ -6,6 +6,7 @@ use Rattle.ac_base.specs.declared.entry.Answer.{Answer}
 use Rattle.ac_base.specs.declared.entry.Event.{Event}
 use Rattle.ac_base.specs.declared.entry.Entry.{Entry}
 use Rattle.ac_base.specs.declared.entry.Stamped.{Stamped}
+use Rattle.ac_base.specs.declared.ends.CoreEnd.{CoreEnd}
 use Rattle.ac_links.specs.declared.payloads.Terms.{Terms}
 use Rattle.ac_links.specs.Journals.{LinkAgrees}
 use Rattle.ac_links.specs.Views.{Response, OwnerOffer, PeerDecision}
@@ -17,6 +18,7 @@ use Rattle.ac_history.specs.Served.{HistoryState, begun, IsHistory, after_all}
 use Rattle.ac_history.specs.Agreement.{AllStamps, AllMade, InRange, link_part}
 use Rattle.ac_history.specs.Network.{Pair, NetworkAgrees, DiskAgrees, request_by, worker_entries}
 use Rattle.ac_history.specs.Parties.{PartiesAgree, pair_of}
+use Rattle.ac_history.specs.Quiet.{after_all_of, IsQuiet, PartiesRest}
 use Rattle.ac_history.specs.Working.{WorkerLink, WorkerDisk, WorkerAnswers, WorkerGoesOn}
 
 -- ---- the merged history is legal
@@ -47,6 +49,15 @@ PartiesAreANetwork = (capacities : List ℕ) (cores : ℕ) (owner peer : ℕ →
 abbrev pub StampsAreFew : Type 0
 StampsAreFew = (capacities : List ℕ) (cores : ℕ) (es : List Stamped) → IsLegal (start capacities cores) es
     → AllByRecursion (λ e. e.entry.stamp ≤ length es) es
+
+-- ---- the end of a run
+
+-- where each party rests by what is known of its links, the run is quiet
+abbrev pub PartiesAtRestAreQuiet : Type 0
+PartiesAtRestAreQuiet = (capacities : List ℕ) (cores : ℕ) (owner peer : ℕ → ℕ) (ends : ℕ → ℕ → LinkEnd)
+    (offers : ℕ → List OwnerOffer) (decisions : ℕ → List PeerDecision) (js : List (List Entry)) (stops : List CoreEnd)
+    → PartiesAgree capacities cores owner peer ends offers decisions js → PartiesRest capacities cores owner peer offers decisions stops
+    → IsQuiet owner peer (after_all_of (start capacities cores) (merged js)) stops
 
 -- ---- the files
 

@@ -5,5 +5,6 @@ pub mod Laws
 pub mod Merged
 pub mod Network
 pub mod Parties
+pub mod Quiet
 pub mod Served
 pub mod Working

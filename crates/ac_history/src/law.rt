@@ -2,7 +2,7 @@
 
 ghost use Rattle.ac_history.specs.Laws.{MergedIsLegal, NetworkIsLegal, PartiesAreANetwork, StampsAreFew, DeedsAreTheWorkers};
 ghost use Rattle.ac_history.specs.Laws.{NetworkIsServed, NetworkIsAHistory, HistoryIsLegalAndServed, LegalAndServedIsAHistory};
-ghost use Rattle.ac_history.specs.Laws.{FilesAreTheContents, TheWorkerGoesOn};
+ghost use Rattle.ac_history.specs.Laws.{FilesAreTheContents, TheWorkerGoesOn, PartiesAtRestAreQuiet};
 
 /// Where the entries of each link are right by themselves, and the stamps and makers of each
 /// journal, the merged history is legal.
@@ -24,6 +24,11 @@ pub fn parties_are_a_network()
 /// In a legal history no stamp is above the number of entries.
 pub fn stamps_are_few()
     ensures { StampsAreFew }
+{}
+
+/// Where each party rests by what the two ends of its links know, the run is quiet.
+pub fn parties_at_rest_are_quiet()
+    ensures { PartiesAtRestAreQuiet }
 {}
 
 /// What was done in the merged history is what the worker's journal says, in its order, of the

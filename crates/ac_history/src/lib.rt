@@ -9,7 +9,8 @@ mod merging;
 
 pub use law::{
     deeds_are_the_workers, histories_are_legal_and_served, merged_is_legal, network_is_a_history,
-    network_is_legal, network_is_served, parties_are_a_network, stamps_are_few, the_worker_goes_on,
+    network_is_legal, network_is_served, parties_are_a_network, parties_at_rest_are_quiet,
+    stamps_are_few, the_worker_goes_on,
 };
 pub use legal::Legal;
 pub use merging::merge;

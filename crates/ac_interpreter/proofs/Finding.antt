@@ -1,10 +1,11 @@
 -- The first of a list for which a test holds, and its place.
-use Rattle.std.proofs.Common.{◌≡◌, ℕ, suc, ◌+◌, ◌<◌, List, [], ◌∷◌, length, get_or, set, refl, sym, ap, ◌∙◌, subst, arith}
+use Rattle.std.proofs.Common.{◌≡◌, ℕ, pos, suc, ◌+◌, ◌<◌, List, [], ◌∷◌, length, get_or, set, refl, sym, ap, ◌∙◌, subst, arith}
 use Rattle.std.specs.Prelude.{Option, Some, None, Bool, true, false, cond, find, position, if◌then◌else◌}
 use Rattle.std.specs.List.{remove, position_from}
 use Rattle.std.proofs.lemmas.Iterator.Adapters.{position_from-zero}
 use Rattle.cancel_scope.specs.declared.operation.Operation.{Operation}
-use Rattle.cancel_scope.specs.Outstanding.{change_first, without_first}
+use Rattle.cancel_scope.specs.declared.operation.Asked.TheVariants as asked
+use Rattle.cancel_scope.specs.Outstanding.{started, change_first, without_first}
 
 -- ---- there is none
 
@@ -92,3 +93,11 @@ module _ (test : Operation → Bool) (xs ys : List Operation) (i : ℕ) (o : Ope
 
   pub without_at : without_first test xs ≡ remove xs i
   without_at = it_is.without
+
+-- an operation, whatever it is
+abbrev any : Operation
+any = started 0 (asked.Send (pos 0)) (record { number = 0 })
+
+-- where one of them stands, it is found
+pub one_found : (test : Operation → Bool) (xs ys : List Operation) (i : ℕ) → Some i ≡ position test ys → ys ≡ xs → find test xs ≡ Some (get_or xs i any)
+one_found test xs ys i at same = (it_is test xs ys i any at same).found

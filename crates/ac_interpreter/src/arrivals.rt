@@ -104,7 +104,7 @@ fn offers_on(link: u32, past: &[Entry]) -> usize
 }
 
 impl Held {
-    ghost use Rattle.core_state.specs.Arrivals.{offers, ends_known, ends_received, arrives};
+    ghost use Rattle.core_state.specs.Arrivals.{offers, ends_known, ends_received, passes_over, arrives};
     ghost use Rattle.ac_interpreter.specs.inner.Arrivals.{arrival_of};
 
     // An operation is offered.
@@ -159,6 +159,22 @@ impl Held {
         }
     }
 
+    // A withdrawn offer is passed over, and the operation that waits for a message goes on waiting.
+    fn pass_over(&mut self, link: u32) -> Result<Option<Item>, Unfit>
+        ensures fits { MatchResult result
+            (λ woken. passes_over self.old.memory self.old.operations.items
+            (find (is_to_receive link) self.old.operations.items) ≡ Some (arrival_of self.new woken))
+            (λ e. passes_over self.old.memory self.old.operations.items
+            (find (is_to_receive link) self.old.operations.items) ≡ None) }
+        ensures held { held_of self.new
+            ≡ record (held_of self.old) { store = self.new.memory; operations = self.new.operations.items } }
+    {
+        match first_to_receive(self.operations.as_slice(), link) {
+            Some(_) => Ok(None),
+            None => Err(Unfit),
+        }
+    }
+
     /// What an event makes of a core whose journal had these entries before, and the thread that goes on where an operation
     /// has ended.
     pub fn take_in(&mut self, past: &[Entry], event: &Event) -> Result<Option<Item>, Unfit>
@@ -181,6 +197,7 @@ impl Held {
             }
             Event::Know { link, number } => self.end_offered(*link, *number),
             Event::Got { link, value, .. } => self.end_received(*link, *value),
+            Event::Pass { link, .. } => self.pass_over(*link),
             _ => Err(Unfit),
         }
     }

@@ -1,45 +1,11 @@
--- The link as the two views of its sides make it.
+-- How the link that two views make changes with them.
 use Rattle.std.proofs.Common.{◌≡◌, ℕ, zero, suc, ◌≤◌, List, [], ◌∷◌, ◌++◌, Option, Some, None, cond, refl, ap, ◌∙◌, subst, arith, length}
 use Rattle.std.specs.Prelude.{slice_get, is_some}
-use Rattle.ac_base.specs.declared.entry.Answer.{Answer}
-use Rattle.ac_links.specs.declared.offer.Standing.{Standing}
-use Rattle.ac_links.specs.declared.offer.Standing.TheVariants.{Offered, Taken, Withdrawn, Passed}
 use Rattle.ac_links.specs.declared.offer.LinkOffer.{LinkOffer}
-use Rattle.ac_links.specs.Payloads.{Taking, answer_of}
+use Rattle.ac_links.specs.Payloads.{Taking}
 use Rattle.ac_links.specs.Link.{front_of, known_lead, changed}
 use Rattle.ac_links.specs.Views.{OwnerOffer, PeerDecision, owner_lead, altered}
-
-abbrev pub undecided_standing : Option ℕ → Standing
-undecided_standing None = Offered
-undecided_standing (Some w) = Withdrawn
-
-abbrev pub undecided_stamp : ℕ → Option ℕ → ℕ
-undecided_stamp s None = s
-undecided_stamp s (Some w) = w
-
-abbrev pub decided_standing : Option Taking → Standing
-decided_standing None = Passed
-decided_standing (Some g) = Taken
-
-abbrev pub decided_answer : Option Taking → Option Answer
-decided_answer None = None
-decided_answer (Some g) = answer_of g
-
-abbrev pub link_offer_of : OwnerOffer → Option PeerDecision → LinkOffer
-link_offer_of o None = record {
-  payload = o.payload;
-  standing = undecided_standing o.withdrawn;
-  stamp = undecided_stamp o.stamp o.withdrawn;
-  known = is_some o.known;
-  answer = None;
-  replied = is_some o.reply;
-}
-link_offer_of o (Some d) = record { payload = o.payload; standing = decided_standing d.value; stamp = d.stamp; known = is_some o.known; answer = decided_answer d.value; replied = is_some o.reply }
-
-abbrev pub combine : List OwnerOffer → List PeerDecision → List LinkOffer
-combine [] ds = []
-combine (o ∷ os) [] = link_offer_of o None ∷ combine os []
-combine (o ∷ os) (d ∷ ds) = link_offer_of o (Some d) ∷ combine os ds
+use Rattle.ac_links.specs.Combined.{link_offer_of, combine}
 
 changed_cons : (p : LinkOffer) (ps : List LinkOffer) (n : ℕ) (f : LinkOffer → LinkOffer) (q : Option LinkOffer) → changed (p ∷ ps) (suc n) f q ≡ p ∷ changed ps n f q
 changed_cons p ps n f None = refl

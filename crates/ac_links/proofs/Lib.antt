@@ -10,6 +10,8 @@ pub mod Parted
 pub mod PartExamples
 pub mod Party
 pub mod Push
+pub mod Resting
+pub mod RestExamples
 pub mod Sorting
 pub mod Told
 pub mod Waiting

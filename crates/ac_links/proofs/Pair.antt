@@ -21,8 +21,8 @@ use Rattle.ac_links.specs.Journals.{LinkAgrees}
 use Rattle.ac_links.specs.Views.{OwnerOffer, PeerDecision, Response, IsReplyTo, owner_fits, owner_after, altered, withdrawn_at, known_at, replied_with, peer_fits, decision_of, OwnerRuns, PeerRuns}
 use Rattle.ac_links.specs.Views.{DecisionFits, OfferAgrees, ViewsAgree}
 use Rattle.ac_links.specs.Noted.{offer_stamp, withdrawal_stamp, or_zero, decision_stamp, seen_of, offer_payload, request_of}
-use Rattle.ac_links.proofs.Combine.{undecided_standing, undecided_stamp, decided_standing, decided_answer, link_offer_of, combine, changed_is, length_combine, lead_combine, get_combine}
-use Rattle.ac_links.proofs.Combine.{altered_combine, decide_combine, push_combine, front_combine}
+use Rattle.ac_links.specs.Combined.{undecided_standing, undecided_stamp, decided_standing, decided_answer, link_offer_of, combine, link_after_all}
+use Rattle.ac_links.proofs.Combine.{changed_is, length_combine, lead_combine, get_combine, altered_combine, decide_combine, push_combine, front_combine}
 use Rattle.ac_links.proofs.Mixing.{Mix, mix_in_order}
 use Rattle.ac_links.proofs.Growth.{cases_opt, OptGrows, Grows, Before, BeforeD, both_true, may_withdraw_is, may_free_is, may_reply_is, some_one, before_of, before_at, before_new, altered_at}
 use Rattle.ac_links.proofs.Growth.{decision_stamp_is, beforeD_of, beforeD_at, beforeD_new, beforeD_next, none_past, some_within, agree_at, agree_owner, agree_known, agree_replied}
@@ -50,7 +50,8 @@ length_altered [] n g = refl
 length_altered (o ∷ os) zero g = refl
 length_altered (o ∷ os) (suc n) g = ap suc (length_altered os n g)
 
-taken_of : (p : Payload) (t : ℕ) (g : PeerDecision) (s : ℕ) (q : Option ℕ) → DecisionFits p t g q → OptGrows s None q → g.answers < g.stamp → g.stamp < s → is_taken (decided_standing g.value) ≡ true
+taken_of : (p : Payload) (t : ℕ) (g : PeerDecision) (s : ℕ) (q : Option ℕ) → DecisionFits p t g q → OptGrows s None q → g.answers < g.stamp → g.stamp < s →
+    is_taken (decided_standing g.value) ≡ true
 taken_of p t g s None d h lt l = ap (λ v. is_taken (decided_standing v)) d.1
 taken_of p t g s (Some w) d h lt l = let up = d.1 in absurd (omega arith)
 
@@ -338,39 +339,53 @@ module _ (terms : Terms) (fs : List OwnerOffer) (gs : List PeerDecision) (agree 
       (before_of terms h.entry.stamp mine os us fs o.owner a)
       (beforeD_of terms h.entry.stamp yours (ds ++ decision_of h.entry.stamp (yours h.entry.event) h.entry.event ∷ []) bs gs o.peer.2 o.peer_rises.0)
 
-  go : (hs : List Stamped) (os : List OwnerOffer) (ds : List PeerDecision) (us bs : List Stamped) → State os ds us bs → Mix us bs hs
-      → LinkAgrees (seen_of fs gs) (request_of fs) terms (combine os ds) hs
-  go [] os ds us bs o m = tt
+  after_owner : (os : List OwnerOffer) (ds : List PeerDecision) (h : Stamped) (us bs : List Stamped) → State os ds (h ∷ us) bs → AllFrom stamp_of h.entry.stamp bs
+      → State (owner_after os h.entry.stamp (mine h.entry.event) h.entry.event) ds us bs
+  after_owner os ds h us bs o a = record {
+    short = (from_owner os ds h us bs o a).short;
+    owner = o.owner.2;
+    peer = o.peer;
+    owner_rises = o.owner_rises.1;
+    peer_rises = o.peer_rises;
+    low = low_next h.entry.stamp us ds o.owner_rises.0 o.low;
+  }
+
+  after_peer : (os : List OwnerOffer) (ds : List PeerDecision) (h : Stamped) (us bs : List Stamped) → State os ds us (h ∷ bs) → AllFrom stamp_of h.entry.stamp us
+      → State os (ds ++ decision_of h.entry.stamp (yours h.entry.event) h.entry.event ∷ []) us bs
+  after_peer os ds h us bs o a = record {
+    short = (from_peer os ds h us bs o a).short;
+    owner = o.owner;
+    peer = o.peer.2;
+    owner_rises = o.owner_rises;
+    peer_rises = o.peer_rises.1;
+    low = low_push h.entry.stamp us ds (decision_of h.entry.stamp (yours h.entry.event) h.entry.event) (decision_stamp_is h.entry.stamp (yours h.entry.event) h.entry.event) a o.low;
+  }
+
+  -- each entry is right on the link, which ends as what the two views make
+  record Ends (os : List OwnerOffer) (ds : List PeerDecision) (hs : List Stamped) : Type 0 where
+    agrees : LinkAgrees (seen_of fs gs) (request_of fs) terms (combine os ds) hs
+    link : link_after_all (combine os ds) hs ≡ combine fs gs
+
+  ends_after : (os os' : List OwnerOffer) (ds ds' : List PeerDecision) (h : Stamped) (hs : List Stamped) → Step terms fs gs h.entry.stamp os ds h.entry.event os' ds' → Ends os' ds' hs →
+      Ends os ds (h ∷ hs)
+  ends_after os os' ds ds' h hs t x = record {
+    agrees = (t.fit, t.answer, t.asks, subst (λ ps. LinkAgrees (seen_of fs gs) (request_of fs) terms ps hs) (sym t.next) x.agrees);
+    link = ap (λ ps. link_after_all ps hs) t.next ∙ x.link;
+  }
+
+  go : (hs : List Stamped) (os : List OwnerOffer) (ds : List PeerDecision) (us bs : List Stamped) → State os ds us bs → Mix us bs hs → Ends os ds hs
+  go [] os ds us bs o m =
+      let a : fs ≡ os = subst (λ x. OwnerRuns terms mine os x fs) m.0 o.owner in
+      let b : gs ≡ ds = subst (λ x. PeerRuns terms yours ds x gs) m.1 o.peer in
+      record { agrees = tt; link = sym (ap (λ x. combine x gs) a ∙ ap (combine os) b) }
   go (h ∷ hs) os ds us bs o (inl w) =
       let o' = subst (λ x. State os ds x bs) w.1 o in
-      let t = from_owner os ds h w.0 bs o' w.2 in (
-        t.fit,
-        t.answer,
-        t.asks,
-        subst (λ ps. LinkAgrees (seen_of fs gs) (request_of fs) terms ps hs) (sym t.next) (go hs (owner_after os h.entry.stamp (mine h.entry.event) h.entry.event) ds w.0 bs (record {
-          short = t.short;
-          owner = o'.owner.2;
-          peer = o'.peer;
-          owner_rises = o'.owner_rises.1;
-          peer_rises = o'.peer_rises;
-          low = low_next h.entry.stamp w.0 ds o'.owner_rises.0 o'.low;
-        }) w.3),
-      )
+      ends_after os (owner_after os h.entry.stamp (mine h.entry.event) h.entry.event) ds ds h hs (from_owner os ds h w.0 bs o' w.2)
+      (go hs (owner_after os h.entry.stamp (mine h.entry.event) h.entry.event) ds w.0 bs (after_owner os ds h w.0 bs o' w.2) w.3)
   go (h ∷ hs) os ds us bs o (inr w) =
       let o' = subst (λ x. State os ds us x) w.1 o in
-      let t = from_peer os ds h us w.0 o' w.2 in (
-        t.fit,
-        t.answer,
-        t.asks,
-        subst (λ ps. LinkAgrees (seen_of fs gs) (request_of fs) terms ps hs) (sym t.next) (go hs os (ds ++ decision_of h.entry.stamp (yours h.entry.event) h.entry.event ∷ []) us w.0 (record {
-          short = t.short;
-          owner = o'.owner;
-          peer = o'.peer.2;
-          owner_rises = o'.owner_rises;
-          peer_rises = o'.peer_rises.1;
-          low = low_push h.entry.stamp us ds (decision_of h.entry.stamp (yours h.entry.event) h.entry.event) (decision_stamp_is h.entry.stamp (yours h.entry.event) h.entry.event) w.2 o'.low;
-        }) w.3),
-      )
+      ends_after os os ds (ds ++ decision_of h.entry.stamp (yours h.entry.event) h.entry.event ∷ []) h hs (from_peer os ds h us w.0 o' w.2)
+      (go hs os (ds ++ decision_of h.entry.stamp (yours h.entry.event) h.entry.event ∷ []) us w.0 (after_peer os ds h us w.0 o' w.2) w.3)
 
   mix_swap : (hs us bs : List Stamped) → Mix us bs hs → Mix bs us hs
   mix_swap [] us bs m = (m.1, m.0)
@@ -386,8 +401,20 @@ module _ (terms : Terms) (fs : List OwnerOffer) (gs : List PeerDecision) (agree 
         low_none (u ∷ us) = tt
 
     -- the owner is the earlier party, or the later
+    by_owner : Ends [] [] (in_order stamp_of (us ++ bs))
+    by_owner = go (in_order stamp_of (us ++ bs)) [] [] us bs nothing_yet (mix_in_order us bs up up')
+
+    by_peer : Ends [] [] (in_order stamp_of (bs ++ us))
+    by_peer = go (in_order stamp_of (bs ++ us)) [] [] us bs nothing_yet (mix_swap (in_order stamp_of (bs ++ us)) bs us (mix_in_order bs us up' up))
+
     pub owner_first : LinkAgrees (seen_of fs gs) (request_of fs) terms [] (in_order stamp_of (us ++ bs))
-    owner_first = go (in_order stamp_of (us ++ bs)) [] [] us bs nothing_yet (mix_in_order us bs up up')
+    owner_first = by_owner.agrees
 
     pub peer_first : LinkAgrees (seen_of fs gs) (request_of fs) terms [] (in_order stamp_of (bs ++ us))
-    peer_first = go (in_order stamp_of (bs ++ us)) [] [] us bs nothing_yet (mix_swap (in_order stamp_of (bs ++ us)) bs us (mix_in_order bs us up' up))
+    peer_first = by_peer.agrees
+
+    pub owner_first_ends : link_after_all [] (in_order stamp_of (us ++ bs)) ≡ combine fs gs
+    owner_first_ends = by_owner.link
+
+    pub peer_first_ends : link_after_all [] (in_order stamp_of (bs ++ us)) ≡ combine fs gs
+    peer_first_ends = by_peer.link

@@ -1,5 +1,5 @@
 -- What holds of the two views of every link, of its ring of replies, and of every party with its journal.
-use Rattle.std.specs.Prelude.{◌≡◌, ℕ, ◌≤◌, List, [], ◌∷◌, ◌++◌, length, slice_get, Some, None}
+use Rattle.std.specs.Prelude.{◌≡◌, ℕ, ◌≤◌, List, [], ◌∷◌, ◌++◌, length, slice_get, Some, None, Bool}
 use Rattle.ac_base.specs.declared.entry.Answer.{Answer}
 use Rattle.ac_base.specs.declared.entry.Event.{Event}
 use Rattle.ac_base.specs.declared.entry.Entry.{Entry}
@@ -13,6 +13,8 @@ use Rattle.ac_links.specs.Views.{Response, OwnerOffer, PeerDecision, altered, wi
 use Rattle.ac_links.specs.Views.{OwnerRuns, PeerRuns, OfferAgrees, ViewsAgree}
 use Rattle.ac_links.specs.Noted.{seen_of, request_of}
 use Rattle.ac_links.specs.Replies.{response_of, responses, waiting_replies, least_open, NoMessages, replies_had, AreInTurn, TakesReply}
+use Rattle.ac_links.specs.Combined.{link_after_all, combine}
+use Rattle.ac_links.specs.AtRest.{OwnerHasNothing, PeerHasNothing, OwnerRests, PeerRests}
 use Rattle.ac_links.specs.Party.{LinkEnd, end_after, with_end, PartyAgrees, MayEnter}
 
 -- ---- from two views to one link
@@ -25,6 +27,25 @@ TwoViewsMakeALink = (terms : Terms) (offers : List OwnerOffer) (decisions : List
     → Rises stamp_of os → Rises stamp_of ds
     → LinkAgrees (seen_of offers decisions) (request_of offers) terms [] (in_order stamp_of (os ++ ds))
     × LinkAgrees (seen_of offers decisions) (request_of offers) terms [] (in_order stamp_of (ds ++ os))
+
+-- after all of them, the link is what the two views make it
+abbrev pub TwoViewsEndAsALink : Type 0
+TwoViewsEndAsALink = (terms : Terms) (offers : List OwnerOffer) (decisions : List PeerDecision)
+    (mine yours : Event → ℕ) (os ds : List Stamped)
+    → ViewsAgree offers decisions → OwnerRuns terms mine [] os offers → PeerRuns terms yours [] ds decisions
+    → Rises stamp_of os → Rises stamp_of ds
+    → (link_after_all [] (in_order stamp_of (os ++ ds)) ≡ combine offers decisions)
+    × (link_after_all [] (in_order stamp_of (ds ++ os)) ≡ combine offers decisions)
+
+-- ---- what the views tell of rest holds of the link
+
+abbrev pub OwnerAtRest : Type 0
+OwnerAtRest = (terms : Terms) (waits : Bool) (offers : List OwnerOffer) (decisions : List PeerDecision)
+    → OwnerRests terms waits offers decisions → OwnerHasNothing terms waits (combine offers decisions)
+
+abbrev pub PeerAtRest : Type 0
+PeerAtRest = (waits : Bool) (offers : List OwnerOffer) (decisions : List PeerDecision) → ViewsAgree offers decisions
+    → PeerRests waits offers decisions → PeerHasNothing waits (combine offers decisions)
 
 -- ---- what keeps two views in agreement
 

@@ -1,3 +1,5 @@
+pub mod AtRest
+pub mod Combined
 pub mod Journals
 pub mod Laws
 pub mod Link

@@ -1,13 +1,22 @@
 //! What the two views of a link mean together, and what keeps them so.
 
-ghost use Rattle.ac_links.specs.Laws.{TwoViewsMakeALink, OfferKeeps, DecideKeeps, WithdrawKeeps, LearnKeeps, ReplyKeeps};
+ghost use Rattle.ac_links.specs.Laws.{TwoViewsMakeALink, TwoViewsEndAsALink, OwnerAtRest, PeerAtRest};
+ghost use Rattle.ac_links.specs.Laws.{OfferKeeps, DecideKeeps, WithdrawKeeps, LearnKeeps, ReplyKeeps};
 ghost use Rattle.ac_links.specs.Laws.{FrontIsTheNext, NoneIsLost, DecideAdds, OfferAddsNone, WithdrawAddsNone, LearnAddsNone};
 ghost use Rattle.ac_links.specs.Laws.{OfferKeepsTurn, WithdrawKeepsTurn, LearnKeepsTurn, ReplyKeepsTurn, PartyGoesOn};
 
 /// Where two views of a link agree, the entries by which its sides came to them are, in order of
-/// their stamps, entries that the link allows, and each answers what its side noted.
+/// their stamps, entries that the link allows, and each answers what its side noted. After all of
+/// them the link is what the views make it.
 pub fn two_views_make_a_link()
-    ensures { TwoViewsMakeALink }
+    ensures fits { TwoViewsMakeALink }
+    ensures link { TwoViewsEndAsALink }
+{}
+
+/// Where a side of a link rests by the two views, the link that they make has nothing for it.
+pub fn sides_at_rest_have_nothing()
+    ensures owner { OwnerAtRest }
+    ensures peer { PeerAtRest }
 {}
 
 /// Each change that a side may make keeps the two views in agreement.

@@ -10,7 +10,7 @@ use Rattle.ac_program.specs.declared.words.Task.{Task}
 use Rattle.ac_program.specs.declared.words.Task.TheVariants as t
 use Rattle.ac_resolve.specs.Resolution.{resolved}
 use Rattle.ac_translation.specs.Translation.{code_of}
-use Rattle.stack_code.specs.Listing.{listing}
+use Rattle.code_listing.specs.Listing.{listing}
 use Rattle.ac_compile.specs.Unbuilt.{unbuilt_nodes}
 use Rattle.ac_program.specs.Lines.{accepted_line, refusal_status}
 use Rattle.ac_program.specs.Words.{IsCall}

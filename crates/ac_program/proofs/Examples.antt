@@ -59,7 +59,7 @@ use Rattle.ac_semantics.proofs.Examples.{form, finish_by, a_sum}
 use Rattle.ac_semantics.specs.Replay.{Replays}
 use Rattle.stack_code.specs.declared.parts.Entered.{Entered}
 use Rattle.stack_code.specs.Parts.{Parts}
-use Rattle.stack_code.specs.Machine.{exec, first_flat, Runs}
+use Rattle.code_meaning.specs.Machine.{exec, first_flat, Runs}
 use Rattle.ac_translation.specs.Translation.{code_of}
 use Rattle.ac_compile.proofs.Examples.{two, two_parts, two_is_compiled}
 use Rattle.ac_program.specs.declared.refusal.Refusal.TheVariants as r

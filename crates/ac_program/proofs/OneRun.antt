@@ -9,7 +9,7 @@ use Rattle.ac_base.specs.declared.ends.MachineEnd.{MachineEnd}
 use Rattle.ac_tree.specs.declared.item.Program.{Program}
 use Rattle.ac_resolve.specs.Resolution.{resolved}
 use Rattle.ac_semantics.specs.Replay.{Replays}
-use Rattle.stack_code.specs.Machine.{Runs}
+use Rattle.code_meaning.specs.Machine.{Runs}
 use Rattle.ac_translation.specs.Translation.{code_of}
 use Rattle.code_safety.proofs.NoEntries.{alone_takes_none}
 use Rattle.ac_compile.specs.Unbuilt.{unbuilt_nodes}

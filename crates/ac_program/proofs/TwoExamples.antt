@@ -13,7 +13,7 @@ use Rattle.ac_resolve.proofs.ProgramInPlace.{all_in_place}
 use Rattle.ac_semantics.proofs.Examples.{form}
 use Rattle.stack_code.specs.declared.parts.Entered.{Entered}
 use Rattle.stack_code.specs.Parts.{Parts}
-use Rattle.stack_code.specs.Machine.{exec, first_flat, Runs}
+use Rattle.code_meaning.specs.Machine.{exec, first_flat, Runs}
 use Rattle.ac_compile.proofs.Examples.{two, two_parts, two_is_compiled}
 use Rattle.ac_program.specs.declared.refusal.Refusal.TheVariants as r
 use Rattle.ac_program.specs.declared.words.Task.{Task}
@@ -30,9 +30,9 @@ use Rattle.ac_translation.specs.Same.{IsSame}
 use Rattle.ac_compile.proofs.Compiling.{is_same}
 use Rattle.stack_code.specs.declared.instr.Instr.{Instr}
 use Rattle.stack_code.specs.declared.instr.Instr.TheVariants as i
-use Rattle.stack_code.specs.Machine.{Flat, FlatEnd}
-use Rattle.stack_code.specs.Alone.{is_alone, IsAlone}
-use Rattle.stack_code.specs.Listing.{listing}
+use Rattle.code_meaning.specs.Machine.{Flat, FlatEnd}
+use Rattle.code_meaning.specs.Alone.{is_alone, IsAlone}
+use Rattle.code_listing.specs.Listing.{listing}
 use Rattle.core_machine.specs.Machine.{Machine, IsFirst, IsOnItsWay, IsSameCore}
 use Rattle.ac_tree.specs.declared.stmt.Stmt.TheVariants as s
 use Rattle.ac_program.proofs.Reasons.{is_decided}

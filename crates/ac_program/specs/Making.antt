@@ -5,7 +5,7 @@ use Rattle.ac_base.specs.Report.{report_of, status_of}
 use Rattle.ac_tree.specs.declared.item.Program.{Program}
 use Rattle.ac_resolve.specs.Resolution.{resolved}
 use Rattle.ac_translation.specs.Translation.{code_of}
-use Rattle.stack_code.specs.Listing.{listing}
+use Rattle.code_listing.specs.Listing.{listing}
 use Rattle.ac_program.specs.declared.words.Task.{Task}
 use Rattle.ac_program.specs.declared.words.Task.TheVariants as t
 use Rattle.ac_program.specs.declared.execute.Done.{Done}

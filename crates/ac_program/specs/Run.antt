@@ -8,7 +8,7 @@ use Rattle.ac_base.specs.declared.ends.MachineEnd.{MachineEnd}
 use Rattle.ac_tree.specs.declared.item.Program.{Program}
 use Rattle.ac_resolve.specs.Resolution.{resolved}
 use Rattle.ac_semantics.specs.Replay.{Replays}
-use Rattle.stack_code.specs.Machine.{Runs}
+use Rattle.code_meaning.specs.Machine.{Runs}
 use Rattle.ac_translation.specs.Translation.{code_of}
 use Rattle.ac_history.specs.Merged.{merged, entries_of}
 use Rattle.ac_history.specs.History.{Past, start, IsLegal}
@@ -44,7 +44,7 @@ history_of journals = merged (map entries_of journals)
 abbrev pub nothing_yet : Program → Past
 nothing_yet program = start (code_of (resolved program)).capacities (length (resolved program).cores)
 
--- Every core has ended or is idle, and nothing can arrive. No program of this language has a link on which something could.
+-- Every core has ended or is idle, and nothing can arrive. No program that runs today has an operation for which something could.
 pub record IsQuiet (ends : List MachineEnd) (history : List Stamped) : Type 0 where
   pub cores : All (λ end. HasEnded end.core.word ⊎ (end.core.idle ≡ true)) ends
 

@@ -4,7 +4,7 @@ ghost use Rattle.std.specs.Prelude.{◌≡◌, ◌≤◌, [], length, IfOk};
 ghost use Rattle.ac_compile.specs.Unbuilt.{unbuilt_nodes};
 ghost use Rattle.ac_resolve.specs.Resolution.{resolved};
 ghost use Rattle.ac_translation.specs.Translation.{code_of};
-ghost use Rattle.stack_code.specs.Listing.{listing};
+ghost use Rattle.code_listing.specs.Listing.{listing};
 ghost use Rattle.ac_program.specs.Lines.{accepted_line};
 ghost use Rattle.ac_program.specs.Source.{missing};
 ghost use Rattle.ac_program.specs.Making.{IsReported, IsTold, Makes};
@@ -17,7 +17,7 @@ use crate::words::Task;
 use ac_base::{Bytes, List, NoMemory, Status, report, status};
 use ac_compile::compile;
 use ac_types::Checked;
-use stack_code::listing;
+use code_listing::listing;
 use std::alloc::Global;
 
 /// What is made of a source: a run, if there is one, a text that is written, and a status.

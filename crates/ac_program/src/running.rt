@@ -4,7 +4,7 @@ ghost use Rattle.std.specs.Prelude.{◌≡◌, [], ◌∷◌, length, IfOk};
 ghost use Rattle.ac_tree.specs.declared.item.Program.{Program};
 ghost use Rattle.ac_resolve.specs.Resolution.{resolved};
 ghost use Rattle.ac_compile.specs.Compiled.{IsCodeOf};
-ghost use Rattle.stack_code.specs.Alone.{IsAlone};
+ghost use Rattle.code_meaning.specs.Alone.{IsAlone};
 ghost use Rattle.ac_translation.specs.Same.{IsSame};
 ghost use Rattle.ac_program.specs.Run.{HaveEnded, IsRunOf};
 ghost use Rattle.ac_program.specs.inner.Journals.{AreWithWorker};

@@ -5,7 +5,7 @@ use Rattle.ac_base.specs.declared.ends.CoreEnd.{CoreEnd}
 use Rattle.ac_base.specs.declared.ends.Phase.TheVariants as phase
 use Rattle.ac_base.specs.declared.entry.Entry.{Entry}
 use Rattle.ac_base.specs.declared.entry.Event.{Event}
-use Rattle.ac_base.specs.declared.entry.Event.TheVariants.{Offer, Know, Got}
+use Rattle.ac_base.specs.declared.entry.Event.TheVariants.{Offer, Know, Got, Pass}
 use Rattle.ac_base.specs.declared.entry.Payload.TheVariants.{Int}
 use Rattle.work_item.specs.declared.cell.Cell.TheVariants as cell
 use Rattle.work_item.specs.Store.{Store}
@@ -118,6 +118,14 @@ the_ready_one_runs_before_it = refl
 
 pub an_entry_that_does_not_fit : (rests (core (at_turn 0 (Know 0 3) ∷ []) (offered_as 2 five ∷ [])) ≡ Over None) × (rests (core (at_turn 0 (Got 0 0 (pos 1)) ∷ []) (five ∷ [])) ≡ Over None)
 an_entry_that_does_not_fit = (refl, refl)
+
+-- a withdrawn offer is passed over, and its thread waits on for a message
+abbrev pub hears : Operation
+hears = started 1 (asked.Recv both_globals) (item 0)
+
+pub a_pass_ends_nothing : rests (core (at_turn 0 (Pass 1 0) ∷ []) (hears ∷ []))
+    ≡ On (record (core [] []) { held = record held { shared = record (first_shared []) { past = at_turn 0 (Pass 1 0) ∷ [] }; operations = hears ∷ [] } })
+a_pass_ends_nothing = refl
 
 pub no_entry_comes : rests (core [] (five ∷ []))
     ≡ Over (Some (record { word = Stalled; steps = 0; output = []; globals = pos 8 ∷ pos 9 ∷ []; waiting = record { link = 0; phase = phase.Waiting } ∷ []; idle = true }))

@@ -17,7 +17,7 @@ use Rattle.ac_semantics.specs.Threads.{step, with_starts, first_globals, first_s
 use Rattle.ac_semantics.specs.Replay.{Enters, Replays}
 use Rattle.stack_code.specs.declared.parts.Entered.{Entered}
 use Rattle.stack_code.specs.Parts.{Parts}
-use Rattle.stack_code.specs.Machine.{FlatEnd, told, exec, with_starts as starts_made, first_globals as globals_made, first_core as first_machine, first_flat, Runs}
+use Rattle.code_meaning.specs.Machine.{FlatEnd, told, exec, with_starts as starts_made, first_globals as globals_made, first_core as first_machine, first_flat, Runs}
 use Rattle.ac_translation.specs.Translation.{body_code, last_code, functions_code, no_exits, start_of, code_of}
 use Rattle.ac_translation.proofs.WellFormed.{in_function, are_well_formed, IsWellFormed}
 use Rattle.ac_translation.specs.Same.{IsSame}

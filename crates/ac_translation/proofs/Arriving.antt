@@ -12,13 +12,13 @@ use Rattle.work_item.specs.Store.{Store}
 use Rattle.cancel_scope.specs.declared.operation.Operation.{Operation}
 use Rattle.cancel_scope.specs.Outstanding.{is_to_offer, is_offered, is_to_receive, carries, offered_as, change_first, without_first}
 use Rattle.core_state.specs.Shared.{Shared}
-use Rattle.core_state.specs.Arrivals.{Arrival, goes_on_waiting, offers_on, offers, ends_known, ends_received, arrives, ok}
+use Rattle.core_state.specs.Arrivals.{Arrival, goes_on_waiting, offers_on, offers, ends_known, ends_received, passes_over, arrives, ok}
 use Rattle.ac_semantics.specs.Held.{Held}
 use Rattle.ac_semantics.specs.Work.{Work, Pend, closes, given}
 use Rattle.ac_semantics.specs.Threads.{Phase, Active, Thread, nobody, thread_at, arrived, with_phase}
 use Rattle.stack_code.specs.Parts.{Parts}
 use Rattle.stack_code.specs.declared.instr.Instr.{Instr}
-use Rattle.stack_code.specs.Machine.{Block, Thread as Stack, given as gives, arrived as arrives_there}
+use Rattle.code_meaning.specs.Machine.{Block, Thread as Stack, given as gives, arrived as arrives_there}
 use Rattle.ac_translation.proofs.Tables.{set_changed, in_table, one, one_same, one_other, occ_append}
 use Rattle.ac_translation.proofs.Blocks.{Lives, entered_of, entered, at}
 use Rattle.ac_translation.proofs.Changes.{direct_change, same_good}
@@ -86,6 +86,10 @@ received_balance : (store : Store) (os : List Operation) (link : ℕ) (value : �
 received_balance store os link value x None f e = cc
 received_balance store os link value x (Some o) f e = same_balance os x _ e (record { by = λ u. without_asked u (is_to_receive link) o os f })
 
+passed_balance : (store : Store) (os : List Operation) (x : Arrival) (found : Option Operation) → passes_over store os found ≡ Some x → Balances os x
+passed_balance store os x None e = cc
+passed_balance store os x (Some o) e = same_balance os x (goes_on_waiting store os) e (record { by = λ u. omega arith })
+
 pub arrival_balance : (past : List Entry) (store : Store) (os : List Operation) (event : Event) (x : Arrival) → arrives past store os event ≡ Some x → Balances os x
 arrival_balance past store os (event.Offer link number payload) x e = go (nat_eq number (offers_on link past)) e
   where
@@ -94,6 +98,7 @@ arrival_balance past store os (event.Offer link number payload) x e = go (nat_eq
     go false e = cc
 arrival_balance past store os (event.Know link number) x e = known_balance store os link number x (find (is_offered link number) os) refl e
 arrival_balance past store os (event.Got link number value) x e = received_balance store os link value x (find (is_to_receive link) os) refl e
+arrival_balance past store os (event.Pass link number) x e = passed_balance store os x (find (is_to_receive link) os) e
 arrival_balance past store os other x e = cc
 
 -- ---- the value of an operation

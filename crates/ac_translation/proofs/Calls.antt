@@ -26,7 +26,7 @@ use Rattle.ac_semantics.specs.Threads.{CoreState, goes_on}
 use Rattle.stack_code.specs.declared.instr.Instr.TheVariants as i
 use Rattle.stack_code.specs.declared.parts.Entered.{Entered}
 use Rattle.stack_code.specs.Parts.{Parts}
-use Rattle.stack_code.specs.Machine.{Caller, Flat, FlatEnd, counted, on_many, or_trap as or_end, calls as enters, returns as gives_back}
+use Rattle.code_meaning.specs.Machine.{Caller, Flat, FlatEnd, counted, on_many, or_trap as or_end, calls as enters, returns as gives_back}
 use Rattle.ac_translation.specs.Translation.{action_code, body_code, last_code}
 use Rattle.ac_translation.proofs.WellFormed.{takes, in_function, are_well_formed, IsWellFormed}
 use Rattle.ac_translation.proofs.Sized.{body_sized}

@@ -24,8 +24,8 @@ use Rattle.ac_semantics.specs.Statements.{next_of}
 use Rattle.ac_semantics.specs.Threads.{applied, Phase, Active, AtFinish, Ended, Thread, nobody, CoreState, thread_at, arrived, dispatched, step, first_item, first_core}
 use Rattle.stack_code.specs.declared.parts.Entered.{Entered}
 use Rattle.stack_code.specs.Parts.{Parts}
-use Rattle.stack_code.specs.Machine.{Block, Flat, FlatEnd, Thread as Stack, nobody as no_stack}
-use Rattle.stack_code.specs.Machine.{thread_at as stack_of, told, arrived as arrives_there, dispatched as dispatched_there, exec, first_core as first_machine}
+use Rattle.code_meaning.specs.Machine.{Block, Flat, FlatEnd, Thread as Stack, nobody as no_stack}
+use Rattle.code_meaning.specs.Machine.{thread_at as stack_of, told, arrived as arrives_there, dispatched as dispatched_there, exec, first_core as first_machine}
 use Rattle.ac_translation.proofs.WellFormed.{IsWellFormed}
 use Rattle.ac_translation.proofs.Functions.{IsCodeOf}
 use Rattle.ac_translation.proofs.Tables.{total_one, one_same, one_other}

@@ -3,7 +3,7 @@ use Rattle.std.proofs.Common.{◌≡◌, ◌≢◌, ℕ, ◌+◌, ◌-◌, ◌<�
 use Rattle.std.proofs.lemmas.Bool.{cases_eq}
 use Rattle.std.proofs.lemmas.List.{get_or-set_other, length-set}
 use Rattle.work_item.specs.declared.ids.BlockId.{BlockId}
-use Rattle.stack_code.specs.Machine.{Block, block_at, with_block, one_more, counted_in}
+use Rattle.code_meaning.specs.Machine.{Block, block_at, with_block, one_more, counted_in}
 use Rattle.ac_translation.proofs.Tables.{Changed, set_changed, in_table, first, one, one_same, one_other}
 use Rattle.ac_translation.proofs.Blocks.{same_block, head_is}
 

@@ -15,7 +15,7 @@ use Rattle.ac_semantics.specs.Statements.{Dies}
 use Rattle.ac_semantics.specs.Threads.{Active, AtFinish, Ended, Thread, nobody, CoreState, with_phase, woken, wakes}
 use Rattle.stack_code.specs.declared.instr.Instr.TheVariants as i
 use Rattle.stack_code.specs.Parts.{Parts}
-use Rattle.stack_code.specs.Machine.{Block, Flat, FlatEnd, Thread as Stack, nobody as no_stack, block_at, with_block, counted, counted_out, dies_in, dies as dies_there}
+use Rattle.code_meaning.specs.Machine.{Block, Flat, FlatEnd, Thread as Stack, nobody as no_stack, block_at, with_block, counted, counted_out, dies_in, dies as dies_there}
 use Rattle.ac_translation.proofs.Tables.{Changed, set_changed, found, in_table, first, one_same}
 use Rattle.ac_translation.proofs.Blocks.{other_block, Lives, entered, head_is, direct, at, OwnerOf, Good, Waits}
 use Rattle.ac_translation.proofs.Tracks.{SameBut, waits_at, told, Tracks, changed_same, unequal, tracks_leave, tracks_count}

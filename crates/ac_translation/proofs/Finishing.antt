@@ -12,7 +12,7 @@ use Rattle.ac_semantics.specs.Statements.{Arrives}
 use Rattle.ac_semantics.specs.Threads.{Active, AtFinish, Thread, CoreState, thread_at, with_phase, is_among, is_living, none_within, arrives}
 use Rattle.stack_code.specs.declared.instr.Instr.TheVariants as i
 use Rattle.stack_code.specs.Parts.{Parts}
-use Rattle.stack_code.specs.Machine.{Block, Flat, FlatEnd, Thread as Stack, block_at, with_block, counted, arrives_at, arrives_in, arrives as arrives_there}
+use Rattle.code_meaning.specs.Machine.{Block, Flat, FlatEnd, Thread as Stack, block_at, with_block, counted, arrives_at, arrives_in, arrives as arrives_there}
 use Rattle.ac_translation.proofs.Tables.{first}
 use Rattle.ac_translation.proofs.Blocks.{entered, direct, at, none_set, direct_lives, count_tells}
 use Rattle.ac_translation.proofs.Changes.{direct_change, same_good, leave_good}

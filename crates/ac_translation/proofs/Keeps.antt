@@ -15,7 +15,7 @@ use Rattle.ac_semantics.specs.Threads.{CoreState, applied}
 use Rattle.stack_code.specs.declared.instr.Instr.{Instr}
 use Rattle.stack_code.specs.declared.instr.Instr.TheVariants as i
 use Rattle.stack_code.specs.Parts.{Parts}
-use Rattle.stack_code.specs.Machine.{Caller, Thread, Block, Flat, counted, ends, or_trap as or_end, begin, exec}
+use Rattle.code_meaning.specs.Machine.{Caller, Thread, Block, Flat, counted, ends, or_trap as or_end, begin, exec}
 use Rattle.ac_translation.specs.Pieces.{Exits, one as one_code}
 use Rattle.ac_translation.proofs.Tables.{first}
 use Rattle.ac_translation.proofs.Placed.{Placed, Jumps, here, jump}

@@ -14,7 +14,7 @@ use Rattle.ac_semantics.specs.Statements.{Operates}
 use Rattle.ac_semantics.specs.Threads.{Active, Thread, CoreState}
 use Rattle.stack_code.specs.declared.instr.Instr.{Instr}
 use Rattle.stack_code.specs.Parts.{Parts}
-use Rattle.stack_code.specs.Machine.{Block, Flat, Thread as Stack, counted, begin, operates}
+use Rattle.code_meaning.specs.Machine.{Block, Flat, Thread as Stack, counted, begin, operates}
 use Rattle.ac_translation.proofs.Tables.{one_same, one_other, occ_append}
 use Rattle.ac_translation.proofs.Wakes.{asked_by, runs_without}
 use Rattle.ac_translation.proofs.Keeps.{Activation, thread_in, Around, flat, SameBirths, FollowsAt, turn_follows}

@@ -9,7 +9,7 @@ use Rattle.ac_semantics.specs.Held.{Held}
 use Rattle.ac_semantics.specs.Work.{Work, closes}
 use Rattle.ac_semantics.specs.Threads.{Phase, Active, AtFinish, Thread, nobody, CoreState, thread_at, with_phase}
 use Rattle.stack_code.specs.declared.instr.Instr.{Instr}
-use Rattle.stack_code.specs.Machine.{Block, Flat, Thread as Stack, nobody as no_stack}
+use Rattle.code_meaning.specs.Machine.{Block, Flat, Thread as Stack, nobody as no_stack}
 use Rattle.ac_translation.proofs.Tables.{Changed, set_changed, found, in_table, set_again}
 use Rattle.ac_translation.proofs.Blocks.{Lives, entered, at, Good, Waits}
 use Rattle.ac_translation.proofs.Changes.{direct_change, same_good}

@@ -15,7 +15,7 @@ use Rattle.ac_semantics.specs.Statements.{Goes, Starts, Yields, or_trap}
 use Rattle.ac_semantics.specs.Threads.{Active, Ended, Thread, nobody, CoreState, thread_at, starts}
 use Rattle.stack_code.specs.declared.instr.Instr.TheVariants as i
 use Rattle.stack_code.specs.Parts.{Parts}
-use Rattle.stack_code.specs.Machine.{Block, Flat, Thread as Stack, nobody as no_stack, block_at, counted_in, counted}
+use Rattle.code_meaning.specs.Machine.{Block, Flat, Thread as Stack, nobody as no_stack, block_at, counted_in, counted}
 use Rattle.ac_translation.proofs.Tables.{Changed, pushed_changed, first, occ_append}
 use Rattle.ac_translation.proofs.Blocks.{Lives, alive, entered, head_is, direct, at}
 use Rattle.ac_translation.proofs.Changes.{direct_change, open_good, start_good}

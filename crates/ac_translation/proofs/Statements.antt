@@ -22,7 +22,7 @@ use Rattle.ac_semantics.specs.Threads.{CoreState}
 use Rattle.stack_code.specs.declared.instr.Instr.{Instr}
 use Rattle.stack_code.specs.declared.instr.Instr.TheVariants as i
 use Rattle.stack_code.specs.Parts.{Parts}
-use Rattle.stack_code.specs.Machine.{Flat, on_many, with_shared as shares, goes, text_at, or_trap as or_end}
+use Rattle.code_meaning.specs.Machine.{Flat, on_many, with_shared as shares, goes, text_at, or_trap as or_end}
 use Rattle.ac_translation.specs.Pieces.{Exits, Piece, no_code, one, ◌⨾◌, over, out_past, out_turn, loop_exits, loop}
 use Rattle.ac_translation.specs.Translation.{array_code, value_code, values_code, target_code, test_code, at_loop, at_next, command_step, command_code, body_code}
 use Rattle.ac_translation.proofs.WellFormed.{both_true, in_loop, in_block, placed_step, is_well_formed, are_well_formed, IsWellFormed}

@@ -17,7 +17,7 @@ use Rattle.ac_semantics.specs.Threads.{CoreState}
 use Rattle.stack_code.specs.declared.instr.Instr.{Instr}
 use Rattle.stack_code.specs.declared.instr.Instr.TheVariants as i
 use Rattle.stack_code.specs.Parts.{Parts}
-use Rattle.stack_code.specs.Machine.{Flat}
+use Rattle.code_meaning.specs.Machine.{Flat}
 use Rattle.ac_translation.specs.Pieces.{Exits, one}
 use Rattle.ac_translation.specs.Translation.{values_code, command_step, command_code}
 use Rattle.ac_translation.proofs.WellFormed.{all_fit, is_well_formed, IsWellFormed}

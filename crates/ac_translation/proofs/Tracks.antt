@@ -5,7 +5,7 @@ use Rattle.std.proofs.lemmas.Bool.{cases_lt, eq-eqb}
 use Rattle.std.proofs.lemmas.Bool.Decides.{nat_tests}
 use Rattle.work_item.specs.declared.ids.BlockId.{BlockId}
 use Rattle.ac_semantics.specs.Threads.{Phase, Active, AtFinish, Ended, Thread, nobody, none_within}
-use Rattle.stack_code.specs.Machine.{Block, block_at}
+use Rattle.code_meaning.specs.Machine.{Block, block_at}
 use Rattle.ac_translation.proofs.Tables.{Changed, found, first, total_one, total_two, total_some, one, one_same, one_is, occ_append}
 use Rattle.ac_translation.proofs.Blocks.{number, other_block, among, Lives, entered, head_is, held, direct, at, Good, alive_is, alive_lives, held_at, count_tells}
 use Rattle.ac_translation.proofs.Changes.{none_full, direct_change}

@@ -14,7 +14,7 @@ use Rattle.ac_semantics.specs.Threads.{CoreState}
 use Rattle.stack_code.specs.declared.instr.Instr.{Instr}
 use Rattle.stack_code.specs.declared.instr.Instr.TheVariants as i
 use Rattle.stack_code.specs.Parts.{Parts}
-use Rattle.stack_code.specs.Machine.{Flat, begin, operates}
+use Rattle.code_meaning.specs.Machine.{Flat, begin, operates}
 use Rattle.ac_translation.proofs.Keeps.{within, started, Around, flat, SameBirths, FollowsAt}
 use Rattle.ac_translation.proofs.Works.{Sleeps, Works}
 

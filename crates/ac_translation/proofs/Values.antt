@@ -29,7 +29,7 @@ use Rattle.ac_semantics.proofs.Forms.{then_then, then_itself, form_goes, goes_fo
 use Rattle.stack_code.specs.declared.instr.Instr.{Instr}
 use Rattle.stack_code.specs.declared.instr.Instr.TheVariants as i
 use Rattle.stack_code.specs.Parts.{Parts}
-use Rattle.stack_code.specs.Machine.{Flat}
+use Rattle.code_meaning.specs.Machine.{Flat}
 use Rattle.ac_translation.specs.Pieces.{Exits, Piece, one, ◌⨾◌, over}
 use Rattle.ac_translation.specs.Translation.{unary_code, operator_code, lazily, joined_code, chained_code, array_code, value_step, link_step, value_code, link_code, values_code, action_code}
 use Rattle.ac_translation.proofs.WellFormed.{takes, fits_step, fits, link_fits, all_fit, links_fit, both_true, fits_form, link_fits_form}

@@ -14,7 +14,7 @@ use Rattle.ac_semantics.specs.Statements.{operands_of}
 use Rattle.ac_semantics.specs.Threads.{CoreState, goes_on}
 use Rattle.stack_code.specs.declared.instr.Instr.{Instr}
 use Rattle.stack_code.specs.declared.instr.Instr.TheVariants as i
-use Rattle.stack_code.specs.Machine.{Caller, Flat}
+use Rattle.code_meaning.specs.Machine.{Caller, Flat}
 use Rattle.ac_translation.specs.Pieces.{Exits, Piece, no_code, one, ◌⨾◌, all, loop_exits}
 use Rattle.ac_translation.specs.Translation.{values_code, test_code, at_loop, at_next, command_step, command_code, body_code, last_code, no_exits}
 use Rattle.ac_translation.proofs.WellFormed.{all_fit, both_true, Round, in_loop, placed_step, well_formed_step, is_well_formed, are_well_formed}

@@ -5,7 +5,7 @@ use Rattle.ac_base.specs.declared.entry.Entry.{Entry}
 use Rattle.ac_commands.specs.declared.program.Resolved.{Resolved}
 use Rattle.ac_semantics.specs.Replay.{Replays}
 use Rattle.stack_code.specs.Parts.{Parts}
-use Rattle.stack_code.specs.Machine.{Runs}
+use Rattle.code_meaning.specs.Machine.{Runs}
 
 -- each core of the code comes to just the ends that it comes to in the source, with every bound on steps and under every journal
 abbrev pub IsSame : Parts → Resolved → Type 0

@@ -1,5 +1,5 @@
 -- What the definitions of Outstanding say of a send and of a receive.
-use Rattle.std.proofs.Common.{◌≡◌, refl, ℕ, pos, List, [], ◌∷◌, None}
+use Rattle.std.proofs.Common.{◌≡◌, refl, ℕ, pos, [], ◌∷◌, None}
 use Rattle.std.specs.Prelude.{true, false}
 use Rattle.ac_base.specs.declared.entry.Payload.TheVariants as payload
 use Rattle.ac_base.specs.declared.ends.Phase.TheVariants as phase
@@ -8,7 +8,8 @@ use Rattle.work_item.specs.declared.cell.Place.{Place}
 use Rattle.cancel_scope.specs.declared.operation.Asked.TheVariants.{Send, Recv}
 use Rattle.cancel_scope.specs.declared.operation.Progress.TheVariants.{Waiting, Offered}
 use Rattle.cancel_scope.specs.declared.operation.Operation.{Operation}
-use Rattle.cancel_scope.specs.Outstanding.{started, offered_as, is_send, is_waiting, is_under, is_to_offer, is_offered, is_to_receive, carries, change_first, without_first, phase_of, waiting_as}
+use Rattle.cancel_scope.specs.Outstanding.{started, offered_as, is_send, is_waiting, is_under, is_to_offer, is_offered, is_to_receive}
+use Rattle.cancel_scope.specs.Outstanding.{carries, change_first, without_first, phase_of, waiting_as, is_unoffered, waits_on}
 
 abbrev pub thread : ℕ → Item
 thread number = record { number = number }
@@ -50,3 +51,8 @@ what_is_seen_of_them = (refl, refl)
 pub parts_of_the_tests : (is_send (Send (pos 5)) ≡ true) × (is_send (Recv here) ≡ false) × (is_waiting Waiting ≡ true) × (is_waiting (Offered 3) ≡ false)
     × (is_under 3 (Offered 3) ≡ true) × (is_under 3 Waiting ≡ false) × (phase_of (Offered 3) ≡ phase.Offered)
 parts_of_the_tests = (refl, refl, refl, refl, refl, refl, refl)
+
+-- on its link, as long as it is not offered
+pub one_that_waits : (waits_on 0 (waiting_as five) ≡ true) × (waits_on 1 (waiting_as five) ≡ false) × (waits_on 0 (waiting_as (offered_as 3 five)) ≡ false) × (is_unoffered phase.Waiting ≡ true)
+    × (is_unoffered phase.Started ≡ false)
+one_that_waits = (refl, refl, refl, refl, refl)

@@ -70,3 +70,11 @@ phase_of (progress.Offered number) = phase.Offered
 
 abbrev pub waiting_as : Operation → Waiting
 waiting_as o = record { link = o.link; phase = phase_of o.progress }
+
+-- whether what is seen is an operation on that link of which only its core knows
+abbrev pub is_unoffered : Phase → Bool
+is_unoffered phase.Waiting = true
+is_unoffered _ = false
+
+abbrev pub waits_on : ℕ → Waiting → Bool
+waits_on link w = nat_eq w.link link && is_unoffered w.phase

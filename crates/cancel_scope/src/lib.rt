@@ -2,5 +2,7 @@
 #![tactic(auto)]
 
 mod operation;
+mod outstanding;
 
 pub use operation::{Asked, Operation, Progress};
+pub use outstanding::Outstanding;

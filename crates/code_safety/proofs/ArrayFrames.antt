@@ -16,7 +16,7 @@ use Rattle.stack_code.specs.declared.shape.Kind.{Kind}
 use Rattle.stack_code.specs.declared.shape.Kind.TheVariants as kind
 use Rattle.stack_code.specs.declared.shape.Shape.{Shape}
 use Rattle.stack_code.specs.Parts.{Parts}
-use Rattle.stack_code.specs.Machine.{Caller, Thread, Flat, thread_at, given}
+use Rattle.code_meaning.specs.Machine.{Caller, Thread, Flat, thread_at, given}
 use Rattle.code_safety.specs.Fit.{Birth, HoldsInts, HasKind, HaveKinds, IsStore, IsAsked, AreCallers, bottom, above, IsFit, life_at, is_living, going_on}
 use Rattle.code_safety.specs.Living.{LivesAs, as_running, as_ready, as_operating, as_waiting, HasSlots, LiesThere, ArrayLiesThere}
 use Rattle.code_safety.proofs.Plain.{at_same_birth}

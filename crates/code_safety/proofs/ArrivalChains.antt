@@ -15,14 +15,14 @@ use Rattle.core_state.specs.Shared.{Shared, with_entry}
 use Rattle.core_state.specs.Arrivals as arrivals
 use Rattle.core_state.specs.Arrivals.{ok, Arrival, goes_on_waiting, has_ended, comes_in, at_point}
 use Rattle.stack_code.specs.Parts.{Parts}
-use Rattle.stack_code.specs.Machine.{Thread, Block, Flat, given, block_at, thread_at, nobody, told, arrived, dispatched, rests}
+use Rattle.code_meaning.specs.Machine.{Thread, Block, Flat, given, block_at, thread_at, nobody, told, arrived, dispatched, rests}
 use Rattle.code_safety.specs.Fit.{life_at, one_at, occurs, items_of, IsFit}
 use Rattle.code_safety.specs.Living.{LivesAs, as_running, as_ready, as_operating, as_waiting, HasFrame}
 use Rattle.code_safety.specs.Chains.{AskedOnChain, HasStack, IsActive, AreChained}
 use Rattle.code_safety.proofs.Lives.{one_same, one_other, same_item, occurs_append, living_within, going_is, going_lives}
 use Rattle.code_safety.proofs.Waiting.{occurs_between, all_others, one_of_all, all_between}
 use Rattle.code_safety.proofs.Plain.{Onward}
-use Rattle.code_safety.proofs.Arriving.{Comes, offered, known, received, comes_of}
+use Rattle.code_safety.proofs.Arriving.{Comes, offered, known, received, passed, comes_of}
 use Rattle.code_safety.proofs.Removing.{same_or_other}
 use Rattle.code_safety.proofs.LivingThreads.{not_going, not_both, operating_once}
 use Rattle.code_safety.proofs.LinkedFrames.{SameFrames, same_frames, int_frames, linked_same}
@@ -69,6 +69,37 @@ module _ (code : Parts) (m : Flat) (fit : IsFit code m) (chained : AreChained co
       waiting = chained.waiting;
       operations = let all = subst (All Asks) is chained.operations in all_between Asks back now_offered front (all_others Asks back o front all) (one_of_all Asks back o front all);
     }
+
+  -- ---- an operation goes on waiting
+
+  abbrev passing : Flat
+  passing = arrived m shared (goes_on_waiting m.store m.operations)
+
+  passed_back : (u : Item) (h : Thread) → LivesAs passing u h → LivesAs m u h
+  passed_back _ _ (as_running u e) = as_running u e
+  passed_back _ _ (as_ready u some) = as_ready u some
+  passed_back _ _ (as_operating u some) = as_operating u some
+  passed_back _ _ (as_waiting u c x here owner w) = as_waiting u c x here owner w
+
+  passed_on : (u : Item) (h : Thread) → LivesAs m u h → LivesAs passing u h
+  passed_on _ _ (as_running u e) = as_running u e
+  passed_on _ _ (as_ready u some) = as_ready u some
+  passed_on _ _ (as_operating u some) = as_operating u some
+  passed_on _ _ (as_waiting u c x here owner w) = as_waiting u c x here owner w
+
+  passed_chained : AreChained code passing
+  passed_chained = record {
+    origins = chained.origins;
+    sites = chained.sites;
+    long = chained.long;
+    many = chained.many;
+    older = chained.older;
+    frames = linked_same chained.origins m passing (same_frames chained.origins m.store)
+        (λ f a. record { item = a.item; thread = a.thread; living = passed_on a.item a.thread a.living; has = a.has }) chained.frames;
+    threads = λ u h l. chained.threads u h (passed_back u h l);
+    waiting = chained.waiting;
+    operations = chained.operations;
+  }
 
   -- ---- an operation ends
 
@@ -193,7 +224,8 @@ module _ (code : Parts) (m : Flat) (fit : IsFit code m) (chained : AreChained co
 
   -- ---- any entry
 
-  comes_chained : (x : Arrival) → Comes m.store m.operations x → AreChained code (arrived m shared x)
+  pub comes_chained : (x : Arrival) → Comes m.store m.operations x → AreChained code (arrived m shared x)
+  comes_chained _ (passed front back o is) = passed_chained
   comes_chained _ (offered front back o number is test) = offered_chained front back o is number
   comes_chained _ (known front back o is) = ended_chained front back o is m.store (same_frames chained.origins m.store)
   comes_chained _ (received front back o place value is a) =

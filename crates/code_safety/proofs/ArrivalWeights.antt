@@ -1,5 +1,5 @@
--- An entry that comes in leaves less to do.
-use Rattle.std.proofs.Common.{◌≡◌, ℕ, ◌+◌, ◌-◌, ◌*◌, ◌<◌, List, [], ◌∷◌, ◌++◌, None, Bool, true, false, refl, sym, ap, ◌∙◌, subst, inl, inr, arith}
+-- An entry that comes in leaves no more to do.
+use Rattle.std.proofs.Common.{◌≡◌, ℕ, ◌+◌, ◌-◌, ◌*◌, ◌<◌, ◌≤◌, List, [], ◌∷◌, ◌++◌, None, Bool, true, false, refl, sym, ap, ◌∙◌, subst, inl, inr, arith}
 use Rattle.std.specs.Prelude.{sum, slice_set, if◌then◌else◌, ◌&&◌}
 use Rattle.std.proofs.lemmas.Bool.{cases_eq}
 use Rattle.std.proofs.lemmas.List.{get_or-set_same, get_or-set_other}
@@ -10,10 +10,10 @@ use Rattle.cancel_scope.specs.Outstanding.{is_send, is_waiting, offered_as}
 use Rattle.core_state.specs.Arrivals.{Arrival, goes_on_waiting, has_ended, ok}
 use Rattle.core_state.specs.Shared.{Shared}
 use Rattle.stack_code.specs.Parts.{Parts}
-use Rattle.stack_code.specs.Machine.{Flat, arrived, given, nobody, thread_at}
+use Rattle.code_meaning.specs.Machine.{Flat, arrived, given, nobody, thread_at}
 use Rattle.code_safety.specs.Fit.{IsFit}
 use Rattle.code_safety.specs.Left.{entries_left, grown, left, operation_weight, operations_weight, parked_weight, running_weight, thread_weight}
-use Rattle.code_safety.proofs.Arriving.{Comes, offered, known, received, within_threads}
+use Rattle.code_safety.proofs.Arriving.{Comes, offered, known, received, passed, within_threads}
 use Rattle.code_safety.proofs.Lives.{same_item}
 use Rattle.code_safety.proofs.Waiting.{total_between}
 use Rattle.code_safety.proofs.Weights.{one_or_two, operations_same, ready_append, ready_same, waiting_same}
@@ -72,7 +72,8 @@ module _ (code : Parts) (bound : ℕ) (m : Flat) (fit : IsFit code m) (idle : m.
               | inr ne ↦ ap (thread_weight ranks) (get_or-set_other m.threads o.item.number u.number (given ok (thread_at m.threads o.item)) nobody (λ e. ne (sym e)))
             ]
 
-  pub arrived_falls : (x : Arrival) → Comes m.store m.operations x → Less (arrived m shared x)
-  arrived_falls _ (offered front back o number is waits) = offered_falls front back o is number waits
-  arrived_falls _ (known front back o is) = ended_falls front back o is m.store
-  arrived_falls _ (received front back o place value is asks) = ended_falls front back o is (with_int_at m.store place 0 value)
+  pub arrived_falls : (x : Arrival) → Comes m.store m.operations x → left ranks bound (arrived m shared x) ≤ left ranks bound m
+  arrived_falls _ (offered front back o number is waits) = let f = offered_falls front back o is number waits in omega (arith, f)
+  arrived_falls _ (known front back o is) = let f = ended_falls front back o is m.store in omega (arith, f)
+  arrived_falls _ (received front back o place value is asks) = let f = ended_falls front back o is (with_int_at m.store place 0 value) in omega (arith, f)
+  arrived_falls _ (passed front back o is) = let s = steps_left in omega (arith, s)

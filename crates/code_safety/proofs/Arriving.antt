@@ -18,13 +18,13 @@ use Rattle.cancel_scope.specs.declared.operation.Asked.TheVariants as asked
 use Rattle.cancel_scope.specs.declared.operation.Operation.{Operation}
 use Rattle.cancel_scope.specs.Outstanding.{carries, change_first, is_offered, is_send, is_to_offer, is_to_receive, is_waiting, offered_as, without_first}
 use Rattle.core_state.specs.Arrivals as arrivals
-use Rattle.core_state.specs.Arrivals.{Arrival, ends_known, ends_received, goes_on_waiting, has_ended, offers, offers_on, with_message}
+use Rattle.core_state.specs.Arrivals.{Arrival, ends_known, ends_received, goes_on_waiting, has_ended, offers, offers_on, passes_over, with_message}
 use Rattle.core_state.specs.Shared.{Shared}
 use Rattle.stack_code.specs.declared.shape.Kind.{Kind}
 use Rattle.stack_code.specs.declared.shape.Kind.TheVariants as kind
 use Rattle.stack_code.specs.Parts.{Parts}
 use Rattle.stack_code.specs.Valid.{HasOneUse}
-use Rattle.stack_code.specs.Machine.{Block, Flat, Thread, arrived, given, nobody, thread_at}
+use Rattle.code_meaning.specs.Machine.{Block, Flat, Thread, arrived, given, nobody, thread_at}
 use Rattle.code_safety.specs.Fit.{AtFinish, Birth, Going, HasKind, HaveKinds, IsAlive, IsAsked, IsFit, IsThread, Life, going_on, innermost, innermost_in, is_going, is_living, items_of, life_at}
 use Rattle.code_safety.specs.Fit.{occurs, one_at, one_if, runs}
 use Rattle.code_safety.proofs.Lives.{going_is, going_lives, life_cases, living_within, occurs_append, one_at_most, one_same, one_true, same_item}
@@ -35,13 +35,14 @@ use Rattle.code_safety.proofs.Waiting.{IsFound, all_between, all_others, found_a
 
 -- ---- what can come in
 
--- one of the operations is offered, or has ended and had received nothing or a message
+-- one of the operations is offered, or has ended and had received nothing or a message, or goes on waiting
 pub data Comes (store : Store) (os : List Operation) : Arrival → Type 0 where
   offered : (front back : List Operation) (o : Operation) (number : ℕ) → os ≡ front ++ o ∷ back → (is_send o.asked && is_waiting o.progress) ≡ true
       → Comes store os (goes_on_waiting store (front ++ offered_as number o ∷ back))
   known : (front back : List Operation) (o : Operation) → os ≡ front ++ o ∷ back → Comes store os (has_ended store (front ++ back) o)
   received : (front back : List Operation) (o : Operation) (place : Place) (value : ℤ) → os ≡ front ++ o ∷ back → o.asked ≡ asked.Recv place
       → Comes store os (has_ended (with_int_at store place 0 value) (front ++ back) o)
+  passed : (front back : List Operation) (o : Operation) → os ≡ front ++ o ∷ back → Comes store os (goes_on_waiting store os)
 
 module _ (store : Store) (os : List Operation) (x : Arrival) where
   offers_come : (link number : ℕ) (payload : Payload) (o : Option Operation) → find (is_to_offer link) os ≡ o → offers store os link number payload o ≡ Some x → Comes store os x
@@ -78,6 +79,13 @@ module _ (store : Store) (os : List Operation) (x : Arrival) where
           let here : with_message store o value ≡ with_int_at store place 0 value = ap (λ a. with_int_at store (arrivals.place_for a) 0 value) e in
           subst (Comes store os) (ap (λ s. has_ended s (f.front ++ f.back) o) (sym here) ∙ same) (received f.front f.back o place value f.is e)
 
+  passed_comes : (link : ℕ) (o : Option Operation) → find (is_to_receive link) os ≡ o → passes_over store os o ≡ Some x → Comes store os x
+  passed_comes link None e h = let no : None ≡ Some x = h in absurd (cc)
+  passed_comes link (Some o) e h =
+      let f = found_at (is_to_receive link) os o e in
+      let same : goes_on_waiting store os ≡ x = cc in
+      subst (Comes store os) same (passed f.front f.back o f.is)
+
   pub comes_of : (past : List Entry) (v : Event) → arrivals.arrives past store os v ≡ Some x → Comes store os x
   comes_of past (event.Offer link number payload) h = go (nat_eq number (offers_on link past)) h
     where
@@ -86,6 +94,7 @@ module _ (store : Store) (os : List Operation) (x : Arrival) where
       go false k = let no : None ≡ Some x = k in absurd (cc)
   comes_of past (event.Know link number) h = known_comes link number (find (is_offered link number) os) refl h
   comes_of past (event.Got link number value) h = received_comes link value (find (is_to_receive link) os) refl h
+  comes_of past (event.Pass link number) h = passed_comes link (find (is_to_receive link) os) refl h
   comes_of past v h = let no : None ≡ Some x = h in absurd (cc)
 
 -- ---- another int in the place of the one that is awaited
@@ -285,7 +294,24 @@ module _ (code : Parts) (m : Flat) (fit : IsFit code m) (idle : m.running ≡ No
 -- ---- what comes in
 
 module _ (code : Parts) (m : Flat) (fit : IsFit code m) (idle : m.running ≡ None) (one : HasOneUse code) (shared : Shared) where
+  passed_fit : IsFit code (arrived m shared (goes_on_waiting m.store m.operations))
+  passed_fit = record {
+    births = fit.births;
+    lives = fit.lives;
+    store = fit.store;
+    alive = fit.alive;
+    block = fit.block;
+    first = fit.first;
+    free = fit.free;
+    listed = fit.listed;
+    asks = fit.asks;
+    many = fit.many;
+    current = fit.current;
+    parked = fit.parked;
+  }
+
   pub arrived_fit : (x : Arrival) → Comes m.store m.operations x → IsFit code (arrived m shared x)
+  arrived_fit _ (passed front back o is) = passed_fit
   arrived_fit _ (offered front back o number is waiting) = offered_fit code m fit idle shared front back o is number
   arrived_fit _ (known front back o is) = ended_fit code m fit idle shared front back o is m.store (same_store code fit.births m.store fit.store) (pos 0)
   arrived_fit _ (received front back o place value is asks) =

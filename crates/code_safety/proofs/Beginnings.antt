@@ -23,11 +23,11 @@ use Rattle.stack_code.specs.Parts.{Parts, Begins}
 use Rattle.stack_code.specs.Shapes.{first, params_of, params_in}
 use Rattle.stack_code.specs.Valid.{IsValid, IsEntry, begins}
 use Rattle.stack_code.specs.Kept.{IsRanked}
-use Rattle.stack_code.specs.Meant.{IsMeant}
-use Rattle.stack_code.specs.Machine.{Flat, FlatEnd, Thread, nobody, exec, told, with_starts, first_globals, first_item, first_core, first_flat}
+use Rattle.code_meaning.specs.Meant.{IsMeant}
+use Rattle.code_meaning.specs.Machine.{Flat, FlatEnd, Thread, nobody, exec, told, with_starts, first_globals, first_item, first_core, first_flat}
 use Rattle.code_safety.specs.Fit.{Birth, IsStore, last, bottom, outside, IsThread, Going, AtFinish, Life, no_life, life_at, is_living, is_going}
 use Rattle.code_safety.specs.Fit.{IsAlive, IsAsked, IsFit, one_if, one_at}
-use Rattle.code_safety.specs.Left.{left}
+use Rattle.code_safety.specs.Left.{left_to_come}
 use Rattle.code_safety.proofs.Plain.{Onward}
 use Rattle.code_safety.proofs.Arguments.{slots_of_body}
 use Rattle.code_safety.proofs.Lives.{one_other}
@@ -160,12 +160,12 @@ module _ (code : Parts) (v : IsValid code) (core : ℕ) (function : Entered) (b 
 -- ---- the end
 
 module _ (code : Parts) (bound : ℕ) (v : IsValid code) (meant : IsMeant code) (ranks : List ℕ) (ranked : IsRanked code ranks) where
-  pub ends_from : (n : ℕ) (m : Flat) → IsFit code m → left ranks bound m < n → (e : FlatEnd) × EndsAs (exec code bound) m e
+  pub ends_from : (n : ℕ) (m : Flat) → IsFit code m → left_to_come ranks bound m < n → (e : FlatEnd) × EndsAs (exec code bound) m e
   ends_from zero m fit lt = absurd (omega (arith, lt))
   ends_from (suc n) m fit lt = go (λ next f l. ends_from n next f l) (exec code bound m) refl (moves_on code bound v meant ranks ranked m fit)
     where
-      go : ((next : Flat) → IsFit code next → left ranks bound next < n → (e : FlatEnd) × EndsAs (exec code bound) next e) → (x : Move Flat FlatEnd) → exec code bound m ≡ x
-          → Onward (λ next. IsFit code next × (left ranks bound next < left ranks bound m)) x → (e : FlatEnd) × EndsAs (exec code bound) m e
+      go : ((next : Flat) → IsFit code next → left_to_come ranks bound next < n → (e : FlatEnd) × EndsAs (exec code bound) next e) → (x : Move Flat FlatEnd) → exec code bound m ≡ x
+          → Onward (λ next. IsFit code next × (left_to_come ranks bound next < left_to_come ranks bound m)) x → (e : FlatEnd) × EndsAs (exec code bound) m e
       go later (Over e) same o = (e, (suc zero, ap (λ x. and_then x (moves (exec code bound) zero)) same))
       go later (On next) same o =
           let less = o.1 in
@@ -180,7 +180,7 @@ module _ (code : Parts) (bound : ℕ) (v : IsValid code) (meant : IsMeant code) 
         go true room =
             let fit = first_fit code v core function b (first_shared journal) room in
             let m = first_core function (first_shared journal) (made (first_store (first_globals code)) None (replicate function.words no_int)) in
-            let r = ends_from (suc (left ranks bound m)) m fit (omega arith) in
+            let r = ends_from (suc (left_to_come ranks bound m)) m fit (omega arith) in
             (r.0, (r.1.0, rw room (sym r.1.1)))
         go false room = (
           told 0 (seen (word.Trapped StackFull) false (first_globals code) [] (first_shared journal)),

@@ -18,7 +18,7 @@ use Rattle.stack_code.specs.Shapes as shapes
 use Rattle.stack_code.specs.Shapes.{effect, entered, is_entered, body_with}
 use Rattle.stack_code.specs.Valid as valid
 use Rattle.stack_code.specs.Valid.{Reaches, IsValid, Goes}
-use Rattle.stack_code.specs.Machine.{Thread, Block, Flat, begin, counted, block_at, with_block, arrives, arrives_in, arrives_at}
+use Rattle.code_meaning.specs.Machine.{Thread, Block, Flat, begin, counted, block_at, with_block, arrives, arrives_in, arrives_at}
 use Rattle.code_safety.specs.Fit.{IsThread, life_at, own_blocks, own_in, one_if, IsFit}
 use Rattle.code_safety.specs.Living.{LivesAs, as_running, as_ready, as_waiting, HasFrame}
 use Rattle.code_safety.specs.Chains.{HasStack, IsActive, AreChained}

@@ -29,7 +29,7 @@ use Rattle.stack_code.specs.Shapes as shapes
 use Rattle.stack_code.specs.Shapes.{pushed, after, with_operands, first, want_of, is_int_alone, can_return, effect, params_in, LeadsTo}
 use Rattle.stack_code.specs.Valid as valid
 use Rattle.stack_code.specs.Valid.{IsValid, HasRoom, Goes}
-use Rattle.stack_code.specs.Machine.{Flat, FlatEnd, Caller, Thread, begin, counted, calls, returns}
+use Rattle.code_meaning.specs.Machine.{Flat, FlatEnd, Caller, Thread, begin, counted, calls, returns}
 use Rattle.code_safety.specs.Fit.{Birth, Born, HasKind, HaveKinds, AreSlots, last, IsCaller, AreCallers, bottom, above, HasEntered, IsThread, IsFit, own_blocks, own_in}
 use Rattle.code_safety.specs.Fit.{life_at}
 use Rattle.code_safety.proofs.Taken.{on_some_is, if_is, after_is, many_of}

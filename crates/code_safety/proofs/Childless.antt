@@ -9,7 +9,7 @@ use Rattle.work_item.specs.Store.{Frame, frame_at}
 use Rattle.stack_code.specs.declared.shape.Shape.{Shape}
 use Rattle.stack_code.specs.Parts.{Parts}
 use Rattle.stack_code.specs.Valid.{Reaches, IsValid}
-use Rattle.stack_code.specs.Machine.{Caller, Thread, Block, Flat, block_at}
+use Rattle.code_meaning.specs.Machine.{Caller, Thread, Block, Flat, block_at}
 use Rattle.code_safety.specs.Fit.{IsFit, life_at, own_blocks}
 use Rattle.code_safety.specs.Living.{LivesAs, as_running, IsOfCaller, HasFrame}
 use Rattle.code_safety.specs.Chains.{Origin, AtEntry, CalledIn, StartedIn, parent_of, Came, LiesIn, directly, deeper, IsStartedIn, Starts, IsStack, outermost, called, AreChained}

@@ -16,7 +16,7 @@ use Rattle.stack_code.specs.declared.shape.Leads.{Leads}
 use Rattle.stack_code.specs.declared.shape.Leads.TheVariants.{Stop}
 use Rattle.stack_code.specs.Parts.{Parts}
 use Rattle.stack_code.specs.Shapes.{effect, can_end, has_own}
-use Rattle.stack_code.specs.Machine.{Flat, Thread, Block, Caller, begin, counted, block_at, with_block, with_store, nobody, stops, dies, dies_in, counted_out}
+use Rattle.code_meaning.specs.Machine.{Flat, Thread, Block, Caller, begin, counted, block_at, with_block, with_store, nobody, stops, dies, dies_in, counted_out}
 use Rattle.code_safety.specs.Fit.{Birth, Born, AreCallers, bottom, above, HasEntered, outside, inside, IsThread, Phase, Gone, Going, AtFinish, Life, no_life, life_at, is_living, is_going, is_at}
 use Rattle.code_safety.specs.Fit.{starts_in, total}
 use Rattle.code_safety.specs.Fit.{innermost, innermost_in, IsBlock, IsAlive, IsFit, one_if, one_at, own_blocks, own_in, occurs, items_of}

@@ -15,7 +15,7 @@ use Rattle.stack_code.specs.declared.shape.Leads.TheVariants.{Stop}
 use Rattle.stack_code.specs.Parts.{Parts}
 use Rattle.stack_code.specs.Shapes.{effect, can_end, has_own}
 use Rattle.stack_code.specs.Valid.{IsValid}
-use Rattle.stack_code.specs.Machine.{Thread, Block, Flat, begin, counted, block_at, with_block, with_store, thread_at, nobody, dies, dies_in, counted_out}
+use Rattle.code_meaning.specs.Machine.{Thread, Block, Flat, begin, counted, block_at, with_block, with_store, thread_at, nobody, dies, dies_in, counted_out}
 use Rattle.code_safety.specs.Fit.{IsThread, Life, no_life, life_at, is_living, starts_in, total, one_at, occurs, items_of, IsFit}
 use Rattle.code_safety.specs.Living.{LivesAs, as_running, as_ready, as_operating, as_waiting, IsOfCaller, HasFrame}
 use Rattle.code_safety.specs.Chains.{StartedIn, parent_of, IsStartedIn, Starts, HasStack, AreChained}

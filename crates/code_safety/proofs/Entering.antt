@@ -19,7 +19,7 @@ use Rattle.stack_code.specs.Shapes as shapes
 use Rattle.stack_code.specs.Shapes.{effect, entered, body_with, is_entered}
 use Rattle.stack_code.specs.Valid as valid
 use Rattle.stack_code.specs.Valid.{IsValid, Goes, Uses, AsBlock}
-use Rattle.stack_code.specs.Machine.{Flat, Thread, Block, counted, block_at, thread_at}
+use Rattle.code_meaning.specs.Machine.{Flat, Thread, Block, counted, block_at, thread_at}
 use Rattle.code_safety.specs.Fit.{Birth, Born, IsSlot, AreBodies, last, more, HasEntered, outside, inside, IsThread, Going, AtFinish, Life, no_life, life_at, is_living}
 use Rattle.code_safety.specs.Fit.{is_going, starts_in, total}
 use Rattle.code_safety.specs.Fit.{innermost, innermost_in, IsBlock, IsAlive, IsFit, one_if, own_blocks, own_in, going_on}

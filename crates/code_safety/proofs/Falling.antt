@@ -28,8 +28,8 @@ use Rattle.stack_code.specs.Shapes as shapes
 use Rattle.stack_code.specs.Shapes.{effect, after, pushed, with_operands, first, entered, finished, inner, can_start, body_with, is_entered, LeadsTo}
 use Rattle.stack_code.specs.Valid.{IsValid, Goes}
 use Rattle.stack_code.specs.Kept.{IsRanked}
-use Rattle.stack_code.specs.Machine.{Flat, Thread, Block, Caller, at, operates, begin, counted, block_at, with_block, with_store, thread_at, nobody, stops, starts, one_more, counted_in}
-use Rattle.stack_code.specs.Machine.{calls, returns, arrives, arrives_in, arrives_at, dies, dies_in, counted_out}
+use Rattle.code_meaning.specs.Machine.{Flat, Thread, Block, Caller, at, operates, begin, counted, block_at, with_block, with_store, thread_at, nobody, stops, starts, one_more, counted_in}
+use Rattle.code_meaning.specs.Machine.{calls, returns, arrives, arrives_in, arrives_at, dies, dies_in, counted_out}
 use Rattle.code_safety.specs.Fit.{IsThread, Phase, Gone, Going, AtFinish, life_at, is_living, is_going, one_if, occurs, innermost_in, IsFit, items_of}
 use Rattle.code_safety.specs.Left.{grown, at_weight, callers_weight, thread_weight, parked_weight, ready_weight, operation_weight, operations_weight, owner_weight, waiting_weight}
 use Rattle.code_safety.specs.Left.{running_weight, left}

@@ -15,7 +15,7 @@ use Rattle.stack_code.specs.Parts.{Parts}
 use Rattle.stack_code.specs.Shapes as shapes
 use Rattle.stack_code.specs.Shapes.{effect, finished, finished_in, is_block}
 use Rattle.stack_code.specs.Valid.{Goes}
-use Rattle.stack_code.specs.Machine.{Flat, Thread, Block, begin, counted, block_at, with_block, thread_at, stops, arrives, arrives_in, arrives_at}
+use Rattle.code_meaning.specs.Machine.{Flat, Thread, Block, begin, counted, block_at, with_block, thread_at, stops, arrives, arrives_in, arrives_at}
 use Rattle.code_safety.specs.Fit.{AreInBodies, HasEntered, outside, inside, IsThread, Phase, Gone, Going, AtFinish, Life, no_life, life_at, is_living, is_going, starts_in, total}
 use Rattle.code_safety.specs.Fit.{innermost, innermost_in, IsBlock, IsAlive, IsFit, one_if, one_at, own_blocks, own_in, going_on}
 use Rattle.code_safety.proofs.Taken.{on_some_is, if_is}

@@ -4,7 +4,7 @@ use Rattle.stack_code.specs.declared.shape.Kind.TheVariants as kind
 use Rattle.stack_code.specs.declared.shape.Home.TheVariants as home
 use Rattle.stack_code.specs.Parts.{Parts}
 use Rattle.stack_code.specs.Shapes.{is_array}
-use Rattle.stack_code.specs.Machine.{Block, Thread, nobody}
+use Rattle.code_meaning.specs.Machine.{Block, Thread, nobody}
 use Rattle.work_item.specs.declared.ids.Item.{Item}
 use Rattle.work_item.specs.declared.ids.BlockId.{BlockId}
 use Rattle.work_item.specs.declared.cell.Cell.{Cell}
@@ -14,10 +14,10 @@ use Rattle.cancel_scope.specs.declared.operation.Operation.{Operation}
 use Rattle.cancel_scope.specs.Outstanding.{offered_as, started}
 use Rattle.code_safety.specs.Fit.{Birth, Born, is_int, HoldsInts, HasKind, HaveKinds, AreSlots, AreInBodies, one_if, own_in, own_blocks, Phase, Gone, Going, AtFinish}
 use Rattle.code_safety.specs.Fit.{runs, total, HasEntered, outside, inside, items_of, going_on, IsAsked}
-use Rattle.code_safety.specs.Left.{entries_left, grown, operation_weight, operations_weight}
+use Rattle.code_safety.specs.Left.{entries_left, grown, operation_weight, operations_weight, left, left_to_come}
 use Rattle.code_safety.specs.Fit.{Life, no_life, life_at, is_living, is_going, is_at, starts_in, innermost_in, innermost, IsStarted, one_at, occurs}
 use Rattle.stack_code.proofs.Examples.{small, start, in_block, in_async, it_is_loaded}
-use Rattle.stack_code.proofs.MachineExamples.{item, frame, block, int, owned}
+use Rattle.code_meaning.proofs.MachineExamples.{item, frame, block, int, owned, known, offered}
 
 -- ---- what a state fits by
 
@@ -188,3 +188,10 @@ weights_of_operations = refl
 
 pub the_weight_of_both : operations_weight (2 ∷ 1 ∷ []) threads (sends ∷ receives ∷ []) ≡ 17
 the_weight_of_both = refl
+
+-- its thread stands at the address 5, whose rank is 1; an end is left to it, with a dispatch and then 6; and one entry is to come
+abbrev ranks_of_six : List ℕ
+ranks_of_six = 0 ∷ 0 ∷ 0 ∷ 0 ∷ 0 ∷ 1 ∷ []
+
+pub one_entry_is_to_come : (left ranks_of_six 0 (offered (known ∷ [])) ≡ 8) × (left_to_come ranks_of_six 0 (offered (known ∷ [])) ≡ 9)
+one_entry_is_to_come = (refl, refl)

@@ -15,7 +15,7 @@ use Rattle.stack_code.specs.declared.shape.Home.{Home}
 use Rattle.stack_code.specs.declared.shape.Body.{Body}
 use Rattle.stack_code.specs.declared.shape.Shape.{Shape}
 use Rattle.stack_code.specs.Parts.{Parts}
-use Rattle.stack_code.specs.Machine.{Caller, Thread, Block, block_at}
+use Rattle.code_meaning.specs.Machine.{Caller, Thread, Block, block_at}
 use Rattle.code_safety.specs.Fit.{Birth, Born, HoldsInts, HasKind, HaveKinds, AreSlots, IsFrame, IsBody, AreBodies, last, more, Goes, own_blocks}
 use Rattle.code_safety.specs.Fit.{IsActivation, IsCaller, AreCallers, bottom, above, HasEntered, outside, inside, IsThread, IsAsked}
 

@@ -22,6 +22,9 @@ pub mod ArrivalWeights
 pub mod Moving
 pub mod NoEntries
 pub mod NoStall
+pub mod OwnFunction
+pub mod EachAs
+pub mod OwnEnds
 pub mod Beginnings
 pub mod Journal
 pub mod OneEnd
@@ -43,5 +46,6 @@ pub mod OperationChains
 pub mod ArrivalChains
 pub mod NoDangling
 pub mod ArrayFrames
+pub mod EndsExamples
 pub mod FitExamples
 pub mod LivingExamples

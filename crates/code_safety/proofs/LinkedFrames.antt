@@ -12,7 +12,7 @@ use Rattle.work_item.specs.Store.{Store, Frame, frame_at, no_cells, cells_of, so
 use Rattle.work_item.specs.Conditions.{Lives}
 use Rattle.core_state.specs.Arithmetic.{bind}
 use Rattle.core_state.specs.Frames.{within, set_element}
-use Rattle.stack_code.specs.Machine.{Flat}
+use Rattle.code_meaning.specs.Machine.{Flat}
 use Rattle.code_safety.specs.Chains.{Origin, link_of, parent_of, Came, AllName, IsActive, IsLinked}
 use Rattle.code_safety.proofs.Settings.{at_set}
 use Rattle.code_safety.proofs.Making.{at_end, still_there}

@@ -13,7 +13,7 @@ use Rattle.cancel_scope.specs.declared.operation.Asked.TheVariants.{Send, Recv}
 use Rattle.cancel_scope.specs.declared.operation.Operation.{Operation}
 use Rattle.cancel_scope.specs.Outstanding.{started}
 use Rattle.core_state.specs.Shared.{first_shared}
-use Rattle.stack_code.specs.Machine.{Thread, Block, Flat, nobody}
+use Rattle.code_meaning.specs.Machine.{Thread, Block, Flat, nobody}
 use Rattle.code_safety.specs.Living.{LivesAs, as_running, as_ready, as_operating, as_waiting, IsOfCaller, HasFrame, RefersToLiving, AllReferToLiving, ActivationLives, CallersLive}
 use Rattle.code_safety.specs.Living.{AskedLives, NamesLiving, HasSlots, LiesThere, ArrayLiesThere}
 use Rattle.code_safety.specs.Chains.{Origin, AtEntry, CalledIn, StartedIn, link_of, parent_of, Came, OnChain, itself, further, LiesIn, directly, deeper}

@@ -11,7 +11,7 @@ use Rattle.cancel_scope.specs.declared.operation.Operation.{Operation}
 use Rattle.stack_code.specs.declared.shape.Shape.{Shape}
 use Rattle.stack_code.specs.Parts.{Parts}
 use Rattle.stack_code.specs.Valid.{Reaches, IsShaped}
-use Rattle.stack_code.specs.Machine.{Caller, Thread, Block, Flat, block_at, thread_at, given}
+use Rattle.code_meaning.specs.Machine.{Caller, Thread, Block, Flat, block_at, thread_at, given}
 use Rattle.code_safety.specs.Fit.{Birth, Goes, AreCallers, bottom, above, HasEntered, outside, inside, IsThread, Phase, Gone, Going, AtFinish, life_at, is_living, is_going}
 use Rattle.code_safety.specs.Fit.{innermost_in, IsFit, one_if, one_at, occurs, runs, items_of, going_on, own_blocks}
 use Rattle.code_safety.specs.Living.{LivesAs, as_running, as_ready, as_operating, as_waiting, IsOfCaller, HasFrame}

@@ -1,14 +1,15 @@
--- Each move of valid code leads from a fit state to a fit state in which less is left to do, or to an end.
-use Rattle.std.proofs.Common.{◌≡◌, ℕ, ◌+◌, ◌<◌, List, [], ◌∷◌, length, Option, Some, None, Bool, true, false, refl, sym, ap, ◌∙◌, subst, arith}
+-- Each move of valid code leads from a fit state to a fit state in which less is left to do or to come, or to an end.
+use Rattle.std.proofs.Common.{◌≡◌, ℕ, suc, ◌+◌, ◌<◌, List, [], ◌∷◌, length, Option, Some, None, Bool, true, false, refl, sym, ap, ◌∙◌, subst, arith}
 use Rattle.std.specs.Prelude.{slice_get, slice_set, nat_eq, nat_lt, ◌^◌, ◌-◌, if◌then◌else◌}
 use Rattle.std.proofs.lemmas.Option.{slice_get_within, get_or_from_slice_get}
+use Rattle.ac_base.specs.declared.entry.Event.TheVariants as event
 use Rattle.ac_base.specs.declared.entry.Entry.{Entry}
 use Rattle.ac_base.specs.declared.ends.EndWord.TheVariants as word
 use Rattle.work_item.specs.declared.ids.Item.{Item}
-use Rattle.core_state.specs.Moves.{On, Over}
+use Rattle.core_state.specs.Moves.{Move, On, Over}
 use Rattle.core_state.specs.Arrivals as arrivals
-use Rattle.core_state.specs.Arrivals.{Arrival, at_point, comes_in}
-use Rattle.core_state.specs.Shared.{with_entry, with_turn, seen}
+use Rattle.core_state.specs.Arrivals.{Arrival, at_point, comes_in, ok}
+use Rattle.core_state.specs.Shared.{Shared, with_entry, with_turn, seen}
 use Rattle.stack_code.specs.declared.instr.Instr.{Instr}
 use Rattle.stack_code.specs.declared.instr.Instr.TheVariants as i
 use Rattle.stack_code.specs.declared.shape.Shape.{Shape}
@@ -18,11 +19,12 @@ use Rattle.stack_code.specs.Shapes.{effect}
 use Rattle.stack_code.specs.Valid as valid
 use Rattle.stack_code.specs.Valid.{IsValid, Fits, Goes}
 use Rattle.stack_code.specs.Kept.{IsRanked}
-use Rattle.stack_code.specs.Meant.{has_meaning, IsMeant}
-use Rattle.stack_code.specs.Machine.{Flat, FlatEnd, Thread, arrived, begin, exec, exec_of, dispatched, told, at, nobody, thread_at}
+use Rattle.code_meaning.specs.Meant.{has_meaning, IsMeant}
+use Rattle.code_meaning.specs.Machine.{Flat, FlatEnd, Thread, arrived, resumed, begin, exec, exec_of, dispatched, told, at, nobody, thread_at}
 use Rattle.code_safety.specs.Fit.{HasEntered, IsThread, life_at}
 use Rattle.code_safety.specs.Fit.{own_blocks, own_in, IsFit}
-use Rattle.code_safety.specs.Left.{left}
+use Rattle.code_safety.specs.Left.{left, left_to_come}
+use Rattle.code_safety.proofs.Journal.{Too, more_to_come, begin_too}
 use Rattle.code_safety.proofs.Plain.{is_plain, Onward, on_both, on_each, Next, onward}
 use Rattle.code_safety.proofs.Lasting.{all_bodies_carried, goes_carried, callers_as, callers_carried}
 use Rattle.code_safety.proofs.Own.{thread_of, own_fit}
@@ -76,12 +78,19 @@ module _ (code : Parts) (bound : ℕ) (m : Flat) (fit : IsFit code m) (t : Item)
     plain_fit = subst (IsFit code) (sym n.others)
         (own_fit code m fit t run fit.births (λ j b e. e) next.store (λ f. Unit {0}) n.store.carries n.store.store (λ g b born ne. tt) next.shared current next.count thread refl)
 
+-- an entry, whatever it is
+abbrev any : Entry
+any = record { stamp = 0; turn = 0; event = event.Know 0 0 }
+
 module _ (code : Parts) (bound : ℕ) (v : IsValid code) (meant : IsMeant code) (ranks : List ℕ) (ranked : IsRanked code ranks) (m : Flat) (fit : IsFit code m) where
   abbrev Less : Flat → Type 0
   Less n = left ranks bound n < left ranks bound m
 
   abbrev Better : Flat → Type 0
   Better n = IsFit code n × Less n
+
+  abbrev BetterToCome : Flat → Type 0
+  BetterToCome n = IsFit code n × (left_to_come ranks bound n < left_to_come ranks bound m)
 
   module _ (t : Item) (run : m.running ≡ Some t) where
     abbrev h : IsThread code fit.births m.store m.blocks t (life_at fit.lives t).start m.current
@@ -132,39 +141,67 @@ module _ (code : Parts) (bound : ℕ) (v : IsValid code) (meant : IsMeant code) 
         let a : has_meaning there.instr ≡ true = subst (λ x. has_meaning x ≡ true) one (meant place there.instr within) in
         subst (λ o. Onward Better (begin code bound m t o)) (sym there.here) (by_instr there.instr there.leads there.here there.finds a)
 
+    -- and the entries to come are those, whatever comes after them
+    abbrev SameToCome : Flat → Type 0
+    SameToCome n = n.shared.todo ≡ m.shared.todo
+
+    of_too : (e : Entry) (x y : Move Flat FlatEnd) → Too e m x y → Onward SameToCome x
+    of_too e (On n) y k = k.1.todo
+    of_too e (Over end) y k = tt
+
+    to_come_stays : (o : Option Instr) → Onward SameToCome (begin code bound m t o)
+    to_come_stays o = of_too any (begin code bound m t o) (begin code bound (more_to_come any m) t o) (begin_too any m code bound t o)
+
+    moves_better : Onward BetterToCome (begin code bound m t (slice_get code.instrs place))
+    moves_better =
+        let next = begin code bound m t (slice_get code.instrs place) in
+        on_each (λ n. Better n × SameToCome n) BetterToCome next
+        (λ n k. let f = k.0.1 in let e : length n.shared.todo ≡ length m.shared.todo = ap length k.1 in (k.0.0, omega (arith, f, e)))
+        (on_both Better SameToCome next runs_on (to_come_stays (slice_get code.instrs place)))
+
   module _ (idle : m.running ≡ None) where
-    dispatches : (ready : List Item) → m.ready ≡ ready → Onward Better (dispatched m ready)
+    dispatches : (ready : List Item) → m.ready ≡ ready → Onward BetterToCome (dispatched m ready)
     dispatches [] e = tt
     dispatches (t ∷ ready) e = go (nat_lt m.shared.turn (2 ^ 64 - 1)) (told m.count (seen word.OutOfSteps false m.store.globals m.operations m.shared))
       where
         go : (b : Bool) (end : FlatEnd)
-            → Onward Better (if b then On
+            → Onward BetterToCome (if b then On
             (record m { shared = with_turn m.shared; running = Some t; current = thread_at m.threads t; ready = ready; threads = slice_set m.threads t.number nobody }) else Over end)
-        go true end = (dispatch_fit code m fit idle t ready e (with_turn m.shared), dispatch_falls code bound m fit v ranks ranked idle t ready e (with_turn m.shared) refl)
+        go true end = (
+          dispatch_fit code m fit idle t ready e (with_turn m.shared),
+          (let f = dispatch_falls code bound m fit v ranks ranked idle t ready e (with_turn m.shared) refl in omega (arith, f)),
+        )
         go false end = tt
 
-    enters : (e : Entry) (es : List Entry) (o : Option Arrival) → arrivals.arrives m.shared.past m.store m.operations e.event ≡ o
-        → Onward Better (comes_in (told m.count) (λ x. On (arrived m (with_entry m.shared e es) x)) o)
-    enters e es None k = tt
-    enters e es (Some x) k =
+    enters : (e : Entry) (es : List Entry) → m.shared.todo ≡ e ∷ es → (o : Option Arrival) → arrivals.arrives m.shared.past m.store m.operations e.event ≡ o
+        → Onward BetterToCome (comes_in (told m.count) (λ x. On (arrived m (with_entry m.shared e es) x)) o)
+    enters e es all None k = tt
+    enters e es all (Some x) k =
         let comes = comes_of m.store m.operations x m.shared.past e.event k in
-        (arrived_fit code m fit idle v.one_use (with_entry m.shared e es) x comes, arrived_falls code bound m fit idle ranks (with_entry m.shared e es) refl x comes)
-
-    at_rest : (todo : List Entry) → Onward Better
-        (at_point (told m.count) m.shared m.store m.operations (λ shared x. On (arrived m shared x)) (dispatched m m.ready) todo)
-    at_rest [] = dispatches m.ready refl
-    at_rest (e ∷ es) = go (nat_eq e.turn m.shared.turn)
+        let falls = arrived_falls code bound m fit idle ranks (with_entry m.shared e es) refl x comes in
+        let before : length m.shared.todo ≡ suc (length es) = ap length all in
+        let after : length (arrived m (with_entry m.shared e es) x).shared.todo ≡ length es = ap (λ (s : Shared). length s.todo) (arrived_shared x.woken) in
+        (arrived_fit code m fit idle v.one_use (with_entry m.shared e es) x comes, omega (arith, falls, before, after))
       where
-        go : (b : Bool) → Onward Better
+        arrived_shared : (o : Option Item) → (resumed (record m { shared = with_entry m.shared e es; store = x.store; operations = x.operations }) ok o).shared ≡ with_entry m.shared e es
+        arrived_shared None = refl
+        arrived_shared (Some t) = refl
+
+    at_rest : (todo : List Entry) → m.shared.todo ≡ todo → Onward BetterToCome
+        (at_point (told m.count) m.shared m.store m.operations (λ shared x. On (arrived m shared x)) (dispatched m m.ready) todo)
+    at_rest [] all = dispatches m.ready refl
+    at_rest (e ∷ es) all = go (nat_eq e.turn m.shared.turn)
+      where
+        go : (b : Bool) → Onward BetterToCome
             (if b
             then comes_in (told m.count) (λ x. On (arrived m (with_entry m.shared e es) x)) (arrivals.arrives m.shared.past m.store m.operations e.event)
             else dispatched m m.ready)
-        go true = enters e es (arrivals.arrives m.shared.past m.store m.operations e.event) refl
+        go true = enters e es all (arrivals.arrives m.shared.past m.store m.operations e.event) refl
         go false = dispatches m.ready refl
 
-  pub moves_on : Onward Better (exec code bound m)
+  pub moves_on : Onward BetterToCome (exec code bound m)
   moves_on = go m.running refl
     where
-      go : (o : Option Item) → m.running ≡ o → Onward Better (exec_of code bound m o)
-      go None e = at_rest e m.shared.todo
-      go (Some t) e = runs_on t e
+      go : (o : Option Item) → m.running ≡ o → Onward BetterToCome (exec_of code bound m o)
+      go None e = at_rest e m.shared.todo refl
+      go (Some t) e = moves_better t e

@@ -16,8 +16,8 @@ use Rattle.core_state.specs.Shared.{Shared, with_step, printed, formatted}
 use Rattle.stack_code.specs.declared.instr.Instr.{Instr}
 use Rattle.stack_code.specs.declared.instr.Instr.TheVariants as i
 use Rattle.stack_code.specs.Parts.{Parts}
-use Rattle.stack_code.specs.Machine as flat
-use Rattle.stack_code.specs.Machine.{Flat, FlatEnd, seen_of, with_shared, with_store, begin, or_trap, on_top, on_two, on_three, on_many, one_operand, two_operands, text_at, always}
+use Rattle.code_meaning.specs.Machine as flat
+use Rattle.code_meaning.specs.Machine.{Flat, FlatEnd, seen_of, with_shared, with_store, begin, or_trap, on_top, on_two, on_three, on_many, one_operand, two_operands, text_at, always}
 use Rattle.code_safety.specs.Chains.{Origin, parent_of, Came, OnChain, Names, AllName}
 use Rattle.code_safety.proofs.Plain.{is_plain, Onward, trap_on}
 use Rattle.code_safety.proofs.Chained.{chain_on, above_on, name_onto, name_at, names_drop, place_on}

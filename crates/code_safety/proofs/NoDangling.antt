@@ -24,8 +24,8 @@ use Rattle.stack_code.specs.declared.shape.Leads.{Leads}
 use Rattle.stack_code.specs.Parts.{Parts, Begins}
 use Rattle.stack_code.specs.Shapes.{effect, first}
 use Rattle.stack_code.specs.Valid.{IsValid, Fits, begins}
-use Rattle.stack_code.specs.Meant.{has_meaning, IsMeant}
-use Rattle.stack_code.specs.Machine.{Flat, FlatEnd, Thread, Caller, begin, exec, exec_of, dispatched, told, nobody, thread_at, first_globals, first_item, first_core}
+use Rattle.code_meaning.specs.Meant.{has_meaning, IsMeant}
+use Rattle.code_meaning.specs.Machine.{Flat, FlatEnd, Thread, Caller, begin, exec, exec_of, dispatched, told, nobody, thread_at, first_globals, first_item, first_core}
 use Rattle.code_safety.specs.Fit.{IsThread, life_at, one_at, IsFit}
 use Rattle.code_safety.specs.Living.{LivesAs, as_running, as_ready, as_operating, as_waiting, IsOfCaller, HasFrame, RefersToLiving, AllReferToLiving, ActivationLives, CallersLive}
 use Rattle.code_safety.specs.Living.{AskedLives, NamesLiving}

@@ -24,12 +24,12 @@ use Rattle.stack_code.specs.declared.instr.Instr.{Instr}
 use Rattle.stack_code.specs.declared.instr.Instr.TheVariants as i
 use Rattle.stack_code.specs.declared.parts.Entered.{Entered}
 use Rattle.stack_code.specs.Parts.{Parts}
-use Rattle.stack_code.specs.Alone.{is_alone, IsAlone}
-use Rattle.stack_code.specs.Machine as flat
-use Rattle.stack_code.specs.Machine.{Flat, FlatEnd, Caller, Block, nobody, arrived, begin, exec, exec_of, dispatched, told, with_store, with_shared, or_trap, on_top, on_two, on_three, on_many}
-use Rattle.stack_code.specs.Machine.{one_operand, two_operands, always, text_at, calls, returns, starts, arrives, arrives_in, arrives_at, dies, dies_in, counted_out, block_at, thread_at}
-use Rattle.stack_code.specs.Machine.{first_flat, first_core, first_globals, Runs}
-use Rattle.code_safety.proofs.Arriving.{Comes, comes_of, known, offered, received}
+use Rattle.code_meaning.specs.Alone.{is_alone, IsAlone}
+use Rattle.code_meaning.specs.Machine as flat
+use Rattle.code_meaning.specs.Machine.{Flat, FlatEnd, Caller, Block, nobody, arrived, begin, exec, exec_of, dispatched, told, with_store, with_shared, or_trap, on_top, on_two, on_three, on_many}
+use Rattle.code_meaning.specs.Machine.{one_operand, two_operands, always, text_at, calls, returns, starts, arrives, arrives_in, arrives_at, dies, dies_in, counted_out, block_at, thread_at}
+use Rattle.code_meaning.specs.Machine.{first_flat, first_core, first_globals, Runs}
+use Rattle.code_safety.proofs.Arriving.{Comes, comes_of, known, offered, received, passed}
 use Rattle.code_safety.proofs.Plain.{Onward}
 
 -- ---- an instruction
@@ -128,7 +128,7 @@ module _ (m : Flat) where
         by true = same
         by false = unseen word.OutOfSteps false
 
-    begin_leaves : (instr : Instr) → is_alone instr ≡ true → L (begin code bound m t (Some instr))
+    pub begin_leaves : (instr : Instr) → is_alone instr ≡ true → L (begin code bound m t (Some instr))
     begin_leaves i.Step a = step_leaves
     begin_leaves (i.Push v) a = same
     begin_leaves (i.Load level slot) a = same
@@ -186,10 +186,11 @@ none_of_none [] back o e = cc
 none_of_none (x ∷ front) back o e = cc
 
 -- where no operation has still to end, nothing can come in
-nothing_comes : (store : Store) (os : List Operation) (x : Arrival) → os ≡ [] → Comes store os x → ⊥
+pub nothing_comes : (store : Store) (os : List Operation) (x : Arrival) → os ≡ [] → Comes store os x → ⊥
 nothing_comes store os _ none (offered front back o number is waits) = none_of_none front back o (sym none ∙ is)
 nothing_comes store os _ none (known front back o is) = none_of_none front back o (sym none ∙ is)
 nothing_comes store os _ none (received front back o place value is asks) = none_of_none front back o (sym none ∙ is)
+nothing_comes store os _ none (passed front back o is) = none_of_none front back o (sym none ∙ is)
 
 abbrev pub IsFree : Flat → Type 0
 IsFree m = m.operations ≡ []

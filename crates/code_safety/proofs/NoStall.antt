@@ -1,20 +1,14 @@
--- Where no operation has still to end, no thread waits for ever; and each move of code that is alone leads on, and starts none.
-use Rattle.std.proofs.Common.{◌≡◌, ℕ, zero, suc, ◌+◌, ◌<◌, ◌≤◌, List, [], length, Some, None, true, false, refl, sym, ap, ◌∙◌, subst, arith}
+-- Where no operation has still to end, no thread waits for ever; and code that is alone has a meaning.
+use Rattle.std.proofs.Common.{◌≡◌, ℕ, zero, suc, ◌+◌, ◌<◌, ◌≤◌, [], length, Some, None, true, false, refl, sym, ap, ◌∙◌, subst, arith}
 use Rattle.work_item.specs.declared.ids.Item.{Item}
 use Rattle.stack_code.specs.declared.instr.Instr.{Instr}
 use Rattle.stack_code.specs.declared.instr.Instr.TheVariants as i
 use Rattle.stack_code.specs.Parts.{Parts}
-use Rattle.stack_code.specs.Valid.{IsValid}
-use Rattle.stack_code.specs.Alone.{is_alone, IsAlone}
-use Rattle.stack_code.specs.Kept.{IsRanked}
-use Rattle.stack_code.specs.Meant.{has_meaning, IsMeant}
-use Rattle.stack_code.specs.Machine.{Block, Flat, exec}
+use Rattle.code_meaning.specs.Alone.{is_alone, IsAlone}
+use Rattle.code_meaning.specs.Meant.{has_meaning, IsMeant}
+use Rattle.code_meaning.specs.Machine.{Block, Flat}
 use Rattle.code_safety.specs.Fit.{AtFinish, Going, Gone, IsFit, Phase, is_going, is_living, items_of, life_at, no_life, occurs, one_if, runs, starts_in}
-use Rattle.code_safety.specs.Left.{left}
 use Rattle.code_safety.proofs.Lives.{living_within, starts_is, total_some}
-use Rattle.code_safety.proofs.Moving.{moves_on}
-use Rattle.code_safety.proofs.NoEntries.{IsFree, stays_free}
-use Rattle.code_safety.proofs.Plain.{Onward, on_both}
 
 -- ---- where no operation has still to end, no thread waits for ever
 
@@ -54,7 +48,7 @@ module _ (code : Parts) (m : Flat) (fit : IsFit code m) (idle : m.running ≡ No
   pub never_stalled : ⊥
   never_stalled = climb (length fit.lives) (record { number = 0 }) fit.first (omega arith)
 
--- ---- each move of code that is alone leads on as any that has a meaning
+-- ---- code that is alone has a meaning
 
 has_meaning_too : (instr : Instr) → is_alone instr ≡ true → has_meaning instr ≡ true
 has_meaning_too (i.Cancel level slot) a = let no : false ≡ true = a in absurd (cc)
@@ -64,8 +58,3 @@ has_meaning_too instr a = refl
 
 pub alone_is_meant : (code : Parts) → IsAlone code → IsMeant code
 alone_is_meant code alone k d lt = has_meaning_too _ (alone k d lt)
-
-module _ (code : Parts) (bound : ℕ) (v : IsValid code) (alone : IsAlone code) (ranks : List ℕ) (ranked : IsRanked code ranks) (m : Flat) (fit : IsFit code m) (free : IsFree m) where
-  pub alone_moves_on : Onward (λ n. (IsFit code n × (left ranks bound n < left ranks bound m)) × IsFree n) (exec code bound m)
-  alone_moves_on = on_both (λ n. IsFit code n × (left ranks bound n < left ranks bound m)) IsFree (exec code bound m)
-      (moves_on code bound v (alone_is_meant code alone) ranks ranked m fit) (stays_free code bound alone m free)

@@ -9,8 +9,8 @@ use Rattle.stack_code.specs.declared.parts.Entered.{Entered}
 use Rattle.stack_code.specs.Parts.{Parts, Begins}
 use Rattle.stack_code.specs.Valid.{IsValid}
 use Rattle.stack_code.specs.Kept.{IsRanked}
-use Rattle.stack_code.specs.Meant.{IsMeant}
-use Rattle.stack_code.specs.Machine.{Flat, FlatEnd, exec, first_flat, Runs}
+use Rattle.code_meaning.specs.Meant.{IsMeant}
+use Rattle.code_meaning.specs.Machine.{Flat, FlatEnd, exec, first_flat, Runs}
 use Rattle.code_safety.specs.Ends.{EndsOnlySo}
 use Rattle.code_safety.proofs.Beginnings.{comes_to}
 

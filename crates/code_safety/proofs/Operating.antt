@@ -24,7 +24,7 @@ use Rattle.stack_code.specs.Parts.{Parts}
 use Rattle.stack_code.specs.Shapes.{after, channels_of, effect, pushed, pushes, with_operands}
 use Rattle.stack_code.specs.Valid as valid
 use Rattle.stack_code.specs.Valid.{Goes}
-use Rattle.stack_code.specs.Machine.{Flat, Thread, at, begin, given, operates}
+use Rattle.code_meaning.specs.Machine.{Flat, Thread, at, begin, given, operates}
 use Rattle.code_safety.specs.Fit.{HaveKinds, IsAsked, IsFit, IsThread, going_on, items_of, life_at, occurs, one_at}
 use Rattle.code_safety.proofs.Lasting.{callers_as}
 use Rattle.code_safety.proofs.Lives.{same_item}

@@ -21,7 +21,7 @@ use Rattle.stack_code.specs.Parts.{Parts}
 use Rattle.stack_code.specs.Shapes.{effect, pushed, with_operands}
 use Rattle.stack_code.specs.Valid as valid
 use Rattle.stack_code.specs.Valid.{Reaches, IsValid}
-use Rattle.stack_code.specs.Machine.{Thread, Flat, begin, at, counted, operates, thread_at}
+use Rattle.code_meaning.specs.Machine.{Thread, Flat, begin, at, counted, operates, thread_at}
 use Rattle.code_safety.specs.Fit.{IsThread, life_at, one_at, occurs, items_of, IsFit}
 use Rattle.code_safety.specs.Living.{LivesAs, as_running, as_ready, as_operating, HasFrame}
 use Rattle.code_safety.specs.Chains.{AllName, AskedOnChain, HasStack, IsActive, AreChained}

@@ -8,7 +8,7 @@ use Rattle.work_item.specs.declared.ids.BlockId.{BlockId}
 use Rattle.work_item.specs.Store.{Store}
 use Rattle.core_state.specs.Shared.{Shared}
 use Rattle.stack_code.specs.Parts.{Parts}
-use Rattle.stack_code.specs.Machine.{Thread, Block, Flat, thread_at}
+use Rattle.code_meaning.specs.Machine.{Thread, Block, Flat, thread_at}
 use Rattle.code_safety.specs.Fit.{Birth, Born, IsStore, IsThread, Going, AtFinish, Life, no_life, life_at, is_living, is_going, starts_in, total, innermost, innermost_in}
 use Rattle.code_safety.specs.Fit.{IsBlock, IsAlive, IsFit, one_if, runs, going_on}
 use Rattle.code_safety.proofs.Lasting.{Grown, Carries, KeepsBlocks, IsBefore, AreRooted, thread_kept}

@@ -16,7 +16,7 @@ use Rattle.stack_code.specs.Parts.{Parts}
 use Rattle.stack_code.specs.Shapes.{effect}
 use Rattle.stack_code.specs.Valid as valid
 use Rattle.stack_code.specs.Valid.{Reaches, IsValid}
-use Rattle.stack_code.specs.Machine.{Thread, Block, Flat, FlatEnd, begin, at, block_at, thread_at}
+use Rattle.code_meaning.specs.Machine.{Thread, Block, Flat, FlatEnd, begin, at, block_at, thread_at}
 use Rattle.code_safety.specs.Fit.{IsThread, life_at, own_blocks, own_in, IsFit}
 use Rattle.code_safety.specs.Living.{LivesAs, as_running, as_ready, as_operating, as_waiting, HasFrame}
 use Rattle.code_safety.specs.Chains.{Origin, link_of, Came, AskedOnChain, HasStack, IsActive, IsLinked, AreChained}

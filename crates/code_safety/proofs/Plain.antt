@@ -35,9 +35,9 @@ use Rattle.stack_code.specs.Parts.{Parts}
 use Rattle.stack_code.specs.Shapes.{on_some, after, body_with, pushed, pushes, goes, with_operands, loaded, is_array, directives_in, effect, LeadsTo}
 use Rattle.stack_code.specs.Valid as valid
 use Rattle.stack_code.specs.Valid.{Goes, Uses, AsInt, Slots, HasOneUse, home_at, use_of, ints_of}
-use Rattle.stack_code.specs.Machine as flat
-use Rattle.stack_code.specs.Machine.{Flat, FlatEnd, seen_of, with_shared, with_store, begin, counted, at, or_trap, on_top}
-use Rattle.stack_code.specs.Machine.{on_two, on_three, on_many, one_operand, two_operands, text_at, always}
+use Rattle.code_meaning.specs.Machine as flat
+use Rattle.code_meaning.specs.Machine.{Flat, FlatEnd, seen_of, with_shared, with_store, begin, counted, at, or_trap, on_top}
+use Rattle.code_meaning.specs.Machine.{on_two, on_three, on_many, one_operand, two_operands, text_at, always}
 use Rattle.code_safety.specs.Fit.{Birth, Born, HasKind, HaveKinds, IsIntArray, HoldsInts, IsSlot, IsStore, IsBody, AreBodies, last, more, IsActivation, is_int}
 use Rattle.code_safety.proofs.Taken.{on_some_is, if_is, after_is, after_leads, none_wanted, top_of, many_of, int_kind}
 use Rattle.code_safety.proofs.Settings.{KeepsStore, same_store, set_global, set_slot, clear_slots, set_element_at, used_as_int, no_array}

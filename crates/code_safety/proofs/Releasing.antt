@@ -10,7 +10,7 @@ use Rattle.work_item.specs.declared.cell.Cell.{Cell}
 use Rattle.work_item.specs.Store.{Store, Frame, frame_at, released, is_number, is_parent, any_in, kept_one, kept, some_over}
 use Rattle.work_item.specs.Conditions.{Lives}
 use Rattle.stack_code.specs.Parts.{Parts}
-use Rattle.stack_code.specs.Machine.{Caller, Thread, Block, Flat}
+use Rattle.code_meaning.specs.Machine.{Caller, Thread, Block, Flat}
 use Rattle.code_safety.specs.Fit.{IsFit}
 use Rattle.code_safety.specs.Living.{LivesAs, as_running, as_ready, as_operating, as_waiting, IsOfCaller}
 use Rattle.code_safety.specs.Chains.{Origin, AtEntry, CalledIn, StartedIn, link_of, parent_of, Came, AllName, LiesIn, directly, deeper, Starts, IsStack}

@@ -4,7 +4,7 @@ use Rattle.std.proofs.lemmas.Bool.{cases_eq}
 use Rattle.std.proofs.lemmas.List.{get_or-set_same, get_or-set_other}
 use Rattle.work_item.specs.declared.ids.Item.{Item}
 use Rattle.work_item.specs.declared.ids.BlockId.{BlockId}
-use Rattle.stack_code.specs.Machine.{Block, block_at, with_block}
+use Rattle.code_meaning.specs.Machine.{Block, block_at, with_block}
 use Rattle.code_safety.specs.Fit.{Life, life_at, starts_in, total, innermost, AtFinish, IsBlock}
 use Rattle.code_safety.proofs.Lasting.{KeepsBlocks}
 use Rattle.code_safety.proofs.Lives.{same_item, same_block}

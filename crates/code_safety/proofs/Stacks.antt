@@ -8,7 +8,7 @@ use Rattle.work_item.specs.declared.cell.Cell.{Cell}
 use Rattle.stack_code.specs.declared.shape.Shape.{Shape}
 use Rattle.stack_code.specs.Parts.{Parts}
 use Rattle.stack_code.specs.Valid.{Reaches}
-use Rattle.stack_code.specs.Machine.{Caller, Thread, Block, block_at}
+use Rattle.code_meaning.specs.Machine.{Caller, Thread, Block, block_at}
 use Rattle.code_safety.specs.Fit.{own_blocks}
 use Rattle.code_safety.specs.Chains.{Origin, AtEntry, CalledIn, Came, LiesIn, Names, AllName, HasEnteredIn, none_in, one_in, IsLevel, Starts, IsStack, outermost, called, HasStack}
 use Rattle.code_safety.proofs.Lasting.{KeepsBlocks, IsBefore, AreRooted}

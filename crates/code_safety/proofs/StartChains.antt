@@ -20,7 +20,7 @@ use Rattle.stack_code.specs.Parts.{Parts}
 use Rattle.stack_code.specs.Shapes.{effect, inner, can_start, LeadsTo}
 use Rattle.stack_code.specs.Valid as valid
 use Rattle.stack_code.specs.Valid.{Reaches, IsValid}
-use Rattle.stack_code.specs.Machine.{Thread, Caller, Block, Flat, begin, counted, block_at, with_block, thread_at, nobody, one_more, starts, counted_in}
+use Rattle.code_meaning.specs.Machine.{Thread, Caller, Block, Flat, begin, counted, block_at, with_block, thread_at, nobody, one_more, starts, counted_in}
 use Rattle.code_safety.specs.Fit.{AreCallers, bottom, above, IsThread, life_at, own_blocks, own_in, one_at, occurs, items_of, IsFit}
 use Rattle.code_safety.specs.Living.{LivesAs, as_running, as_ready, as_operating, as_waiting, HasFrame}
 use Rattle.code_safety.specs.Chains.{Origin, StartedIn, link_of, Came, LiesIn, directly, deeper, AskedOnChain}

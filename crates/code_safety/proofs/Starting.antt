@@ -23,7 +23,7 @@ use Rattle.stack_code.specs.Parts.{Parts}
 use Rattle.stack_code.specs.Shapes.{effect, inner, can_start, LeadsTo}
 use Rattle.stack_code.specs.Valid as valid
 use Rattle.stack_code.specs.Valid.{IsValid, Goes}
-use Rattle.stack_code.specs.Machine.{Flat, Thread, Block, Caller, begin, counted, block_at, with_block, thread_at, nobody, one_more, starts, counted_in}
+use Rattle.code_meaning.specs.Machine.{Flat, Thread, Block, Caller, begin, counted, block_at, with_block, thread_at, nobody, one_more, starts, counted_in}
 use Rattle.code_safety.specs.Fit.{Birth, Born, AreSlots, HaveKinds, more, AreInBodies, AreCallers, bottom, above, HasEntered, outside, inside, IsThread, Phase, Gone, Going}
 use Rattle.code_safety.specs.Fit.{AtFinish, Life, no_life, life_at}
 use Rattle.code_safety.specs.Fit.{is_living, is_going, is_at, starts_in, total, innermost, innermost_in, IsBlock, IsStarted, IsAlive, IsFit, one_if, one_at, own_blocks, own_in, occurs}

@@ -8,7 +8,7 @@ use Rattle.work_item.specs.declared.ids.BlockId.{BlockId}
 use Rattle.work_item.specs.Store.{Store, Frame, frame_at}
 use Rattle.cancel_scope.specs.declared.operation.Operation.{Operation}
 use Rattle.stack_code.specs.Parts.{Parts}
-use Rattle.stack_code.specs.Machine.{Thread, Block, Flat, block_at, thread_at, nobody}
+use Rattle.code_meaning.specs.Machine.{Thread, Block, Flat, block_at, thread_at, nobody}
 use Rattle.code_safety.specs.Fit.{life_at, IsFit, occurs, items_of}
 use Rattle.code_safety.specs.Living.{LivesAs, as_running, as_ready, as_operating, as_waiting, HasFrame}
 use Rattle.code_safety.specs.Chains.{AskedOnChain, HasStack, IsActive, IsLinked, AreChained}

@@ -12,7 +12,7 @@ use Rattle.stack_code.specs.declared.shape.Leads.TheVariants.{One}
 use Rattle.stack_code.specs.Parts.{Parts}
 use Rattle.stack_code.specs.Valid as valid
 use Rattle.stack_code.specs.Valid.{IsValid, Goes}
-use Rattle.stack_code.specs.Machine.{Thread, Block, Flat, block_at, thread_at, nobody, counted}
+use Rattle.code_meaning.specs.Machine.{Thread, Block, Flat, block_at, thread_at, nobody, counted}
 use Rattle.code_safety.specs.Fit.{IsThread, life_at, one_at, occurs, items_of, IsFit}
 use Rattle.code_safety.specs.Living.{LivesAs, as_running, as_ready, as_operating, as_waiting, HasFrame}
 use Rattle.code_safety.specs.Chains.{AskedOnChain, HasStack, IsActive, AreChained}

@@ -15,7 +15,7 @@ use Rattle.stack_code.specs.Parts.{Parts}
 use Rattle.stack_code.specs.declared.shape.Leads.TheVariants.{One}
 use Rattle.stack_code.specs.Valid as valid
 use Rattle.stack_code.specs.Valid.{Goes}
-use Rattle.stack_code.specs.Machine.{Thread, Block, Flat, block_at, thread_at, nobody, counted, stops}
+use Rattle.code_meaning.specs.Machine.{Thread, Block, Flat, block_at, thread_at, nobody, counted, stops}
 use Rattle.code_safety.specs.Fit.{Birth, Born, IsStore, IsThread, HaveKinds, Going, AtFinish, Life, no_life, life_at, is_living, is_going, innermost}
 use Rattle.code_safety.specs.Fit.{innermost_in}
 use Rattle.code_safety.specs.Fit.{AreInBodies, HasEntered, IsBlock, IsWaiting, IsAlive, IsFit, one_if, one_at, occurs, runs, own_blocks, items_of, going_on, IsAsked}

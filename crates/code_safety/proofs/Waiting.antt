@@ -8,7 +8,7 @@ use Rattle.work_item.specs.Store.{no_int}
 use Rattle.cancel_scope.specs.declared.operation.Operation.{Operation}
 use Rattle.cancel_scope.specs.Outstanding.{change_first, without_first}
 use Rattle.stack_code.specs.Parts.{Parts}
-use Rattle.stack_code.specs.Machine.{Thread, given}
+use Rattle.code_meaning.specs.Machine.{Thread, given}
 use Rattle.code_safety.specs.Fit.{Birth, IsAsked, one_if, one_at, occurs, items_of, going_on, total}
 use Rattle.code_safety.proofs.Lasting.{Grown, asked_grown}
 use Rattle.code_safety.proofs.Lives.{one_same}

@@ -7,7 +7,7 @@ use Rattle.std.proofs.lemmas.List.Sums.{get_or-le-sum_by}
 use Rattle.work_item.specs.declared.ids.Item.{Item}
 use Rattle.cancel_scope.specs.declared.operation.Operation.{Operation}
 use Rattle.cancel_scope.specs.Outstanding.{is_send, is_waiting}
-use Rattle.stack_code.specs.Machine.{Thread, Block, thread_at}
+use Rattle.code_meaning.specs.Machine.{Thread, Block, thread_at}
 use Rattle.code_safety.specs.Fit.{one_at, occurs, items_of}
 use Rattle.code_safety.specs.Left.{grown, at_weight, thread_weight, parked_weight, ready_weight, entries_left, operation_weight, operations_weight, owner_weight, waiting_weight}
 use Rattle.code_safety.proofs.Lives.{one_same}

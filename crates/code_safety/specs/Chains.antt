@@ -14,7 +14,7 @@ use Rattle.cancel_scope.specs.declared.operation.Operation.{Operation}
 use Rattle.stack_code.specs.declared.shape.Shape.{Shape}
 use Rattle.stack_code.specs.Parts.{Parts}
 use Rattle.stack_code.specs.Valid.{Reaches}
-use Rattle.stack_code.specs.Machine.{Caller, Thread, Block, Flat, block_at, thread_at}
+use Rattle.code_meaning.specs.Machine.{Caller, Thread, Block, Flat, block_at, thread_at}
 use Rattle.code_safety.specs.Fit.{own_blocks}
 use Rattle.code_safety.specs.Living.{LivesAs, HasFrame}
 

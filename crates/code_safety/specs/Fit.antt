@@ -22,7 +22,7 @@ use Rattle.stack_code.specs.declared.shape.Shape.{Shape}
 use Rattle.stack_code.specs.Parts.{Parts}
 use Rattle.stack_code.specs.Shapes.{is_array}
 use Rattle.stack_code.specs.Valid.{Reaches, Uses, AsInt}
-use Rattle.stack_code.specs.Machine.{Caller, Thread, Block, Flat, nobody, thread_at, block_at, given}
+use Rattle.code_meaning.specs.Machine.{Caller, Thread, Block, Flat, nobody, thread_at, block_at, given}
 
 -- ---- frames
 

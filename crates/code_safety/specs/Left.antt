@@ -1,10 +1,10 @@
 -- A bound on what a core can still do before it ends.
-use Rattle.std.specs.Prelude.{ℕ, zero, suc, ◌+◌, ◌-◌, ◌*◌, List, [], ◌∷◌, Option, Some, None, sum, slice_index}
+use Rattle.std.specs.Prelude.{ℕ, zero, suc, ◌+◌, ◌-◌, ◌*◌, List, [], ◌∷◌, length, Option, Some, None, sum, slice_index}
 use Rattle.std.specs.Prelude.{if◌then◌else◌, ◌&&◌}
 use Rattle.work_item.specs.declared.ids.Item.{Item}
 use Rattle.cancel_scope.specs.declared.operation.Operation.{Operation}
 use Rattle.cancel_scope.specs.Outstanding.{is_send, is_waiting}
-use Rattle.stack_code.specs.Machine.{Caller, Thread, Block, Flat, thread_at}
+use Rattle.code_meaning.specs.Machine.{Caller, Thread, Block, Flat, thread_at}
 use Rattle.code_safety.specs.Fit.{total}
 
 -- twice and two: an address of that rank may be left for two of lower ranks, with a dispatch between, or for one of a lower rank, with an
@@ -58,3 +58,7 @@ left ranks bound m =
     (bound - m.shared.steps) * grown (sum ranks)
     + (running_weight ranks m.current m.running
     + (ready_weight ranks m.threads m.ready + (operations_weight ranks m.threads m.operations + waiting_weight ranks m.threads m.blocks)))
+
+-- and the entries that are still to come, of which some end no operation
+abbrev pub left_to_come : List ℕ → ℕ → Flat → ℕ
+left_to_come ranks bound m = left ranks bound m + length m.shared.todo

@@ -3,3 +3,4 @@ pub mod Left
 pub mod Ends
 pub mod Living
 pub mod Chains
+pub mod KeptEnds

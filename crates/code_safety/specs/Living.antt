@@ -11,7 +11,7 @@ use Rattle.work_item.specs.Conditions.{Lives, ParentLives, HomeLives}
 use Rattle.cancel_scope.specs.declared.operation.Asked.{Asked}
 use Rattle.cancel_scope.specs.declared.operation.Asked.TheVariants as asked
 use Rattle.cancel_scope.specs.declared.operation.Operation.{Operation}
-use Rattle.stack_code.specs.Machine.{Caller, Thread, Block, Flat, thread_at, block_at}
+use Rattle.code_meaning.specs.Machine.{Caller, Thread, Block, Flat, thread_at, block_at}
 use Rattle.code_safety.specs.Fit.{occurs, items_of}
 
 -- ---- the threads that live

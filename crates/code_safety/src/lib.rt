@@ -1,2 +1,3 @@
-//! A core that runs valid code is never stuck, comes to one end, and names nothing that is gone: definitions and laws.
+//! A core that runs valid code is never stuck, comes to one end, names nothing that is gone, and uses channels only at its own ends:
+//! definitions and laws.
 #![tactic(auto)]

@@ -11,7 +11,9 @@ use Rattle.core_channels.specs.declared.answers.Offering.TheVariants.{Offered, N
 use Rattle.core_channels.specs.declared.answers.Learning.TheVariants as learn
 use Rattle.core_channels.specs.declared.answers.Withdrawing.TheVariants as withdraw
 use Rattle.core_channels.specs.declared.answers.Receiving.TheVariants as take
-use Rattle.core_channels.specs.LinkViews.{LinkViews, IsOffer, IsLink, no_link, link_at, with_link, without_spare, SameButSpares, SameTerms, new_link, terms_at, AreNew}
+use Rattle.core_channels.specs.declared.counts.Call.TheVariants.{OwnerLooks, OwnerTries, PeerLooks}
+use Rattle.core_channels.specs.Counts.{counted, no_calls, counts_after}
+use Rattle.core_channels.specs.LinkViews.{LinkViews, IsOffer, IsLink, no_link, link_at, with_link, with_call, without_spare, SameButSpares, SameTerms, new_link, terms_at, AreNew}
 use Rattle.core_channels.specs.Offers.{has_room, offering, after_offering, offering_clock}
 use Rattle.core_channels.specs.Learns.{learning, with_known, after_learning, learning_clock}
 use Rattle.core_channels.specs.Withdraws.{withdrawing, after_withdrawing, withdrawing_clock}
@@ -25,7 +27,7 @@ abbrev pub five : OwnerOffer
 five = owner_offer (Int (pos 5)) 1
 
 abbrev pub fresh : LinkViews
-fresh = record { terms = for_one; offers = []; decisions = []; spare = 1 }
+fresh = record { terms = for_one; offers = []; decisions = []; spare = 1; counts = no_calls }
 
 abbrev pub offered : LinkViews
 offered = record fresh { offers = five ∷ []; spare = 0 }
@@ -44,7 +46,7 @@ passed = record withdrawn { decisions = passed_decision 3 2 ∷ [] }
 
 -- two were offered on a channel for two
 abbrev pub both : LinkViews
-both = record { terms = record { capacity = 2; requests = false }; offers = five ∷ owner_offer (Int (pos 6)) 2 ∷ []; decisions = []; spare = 0 }
+both = record { terms = record { capacity = 2; requests = false }; offers = five ∷ owner_offer (Int (pos 6)) 2 ∷ []; decisions = []; spare = 0; counts = no_calls }
 
 abbrev pub last_stamp : ℕ
 last_stamp = 1152921504606846975
@@ -185,6 +187,18 @@ after_its_passing = refl
 
 pub the_clock_of_the_receiver : receiving_clock 3 (take.Took 0 (pos 5) 4) ∷ receiving_clock 0 (take.Passed 0 3) ∷ receiving_clock 3 take.Nothing ∷ [] ≡ 4 ∷ 3 ∷ 3 ∷ []
 the_clock_of_the_receiver = refl
+
+-- ---- counts of calls
+
+pub counts_stay_at_the_last_value : counted 0 ∷ counted 18446744073709551614 ∷ counted 18446744073709551615 ∷ [] ≡ 1 ∷ 18446744073709551615 ∷ 18446744073709551615 ∷ []
+counts_stay_at_the_last_value = refl
+
+pub each_call_has_its_count : counts_after no_calls OwnerLooks ∷ counts_after no_calls OwnerTries ∷ counts_after no_calls PeerLooks ∷ []
+    ≡ record { owner_looks = 1; owner_tries = 0; peer_looks = 0 } ∷ record { owner_looks = 0; owner_tries = 1; peer_looks = 0 } ∷ record { owner_looks = 0; owner_tries = 0; peer_looks = 1 } ∷ []
+each_call_has_its_count = refl
+
+pub a_look_is_counted : with_call offered PeerLooks ≡ record offered { counts = record { owner_looks = 0; owner_tries = 0; peer_looks = 1 } }
+a_look_is_counted = refl
 
 -- ---- links and tables of them
 

@@ -4,13 +4,18 @@ use Rattle.std.specs.List.{All}
 use Rattle.ac_links.specs.declared.payloads.Terms.{Terms}
 use Rattle.ac_links.specs.Payloads.{is_payload}
 use Rattle.ac_links.specs.Views.{OwnerOffer, PeerDecision, ViewsAgree}
+use Rattle.core_channels.specs.declared.counts.Call.{Call}
+use Rattle.core_channels.specs.declared.counts.Counts.{Counts}
+use Rattle.core_channels.specs.Counts.{no_calls, counts_after}
 
--- one link: its terms, what its owner has offered and knows, what its peer has decided, and for how many more offers it has a place
+-- one link: its terms, what its owner has offered and knows, what its peer has decided, for how many more offers it has a place,
+-- and how often its sides have called
 pub record LinkViews : Type 0 where
   pub terms : Terms
   pub offers : List OwnerOffer
   pub decisions : List PeerDecision
   pub spare : ℕ
+  pub counts : Counts
 
 -- an offer is of a payload that its link carries, and was withdrawn after it was made
 pub record IsOffer (requests : Bool) (o : OwnerOffer) : Type 0 where
@@ -27,13 +32,17 @@ abbrev pub IsLink : LinkViews → Type 0
 IsLink v = AreViews v.terms.requests v.offers v.decisions
 
 abbrev pub no_link : LinkViews
-no_link = record { terms = record { capacity = 0; requests = false }; offers = []; decisions = []; spare = 0 }
+no_link = record { terms = record { capacity = 0; requests = false }; offers = []; decisions = []; spare = 0; counts = no_calls }
 
 abbrev pub link_at : List LinkViews → ℕ → LinkViews
 link_at links l = slice_index_or links l no_link
 
 abbrev pub with_link : List LinkViews → ℕ → LinkViews → List LinkViews
 with_link links l v = slice_set links l v
+
+-- the link once one more call is counted
+abbrev pub with_call : LinkViews → Call → LinkViews
+with_call v call = record v { counts = counts_after v.counts call }
 
 -- ---- what a call leaves as it was
 
@@ -53,7 +62,7 @@ pub record SameTerms (old new : List LinkViews) : Type 0 where
 
 -- a link on which nothing was offered
 abbrev pub new_link : Terms → LinkViews
-new_link terms = record { terms = terms; offers = []; decisions = []; spare = 0 }
+new_link terms = record { terms = terms; offers = []; decisions = []; spare = 0; counts = no_calls }
 
 -- the terms of link l: those below `channels` carry messages, and the others requests
 abbrev pub terms_at : ℕ → List ℕ → ℕ → Terms

@@ -3,7 +3,7 @@
 ghost use Rattle.std.specs.Prelude.{◌≡◌, ◌≤◌, OnOk, true, false, nat_lt, slice_get, length, ◌<◌, [], ◌∷◌, ◌++◌, vec_len, vec_capacity};
 ghost use Rattle.ac_links.specs.Payloads.{is_payload};
 ghost use Rattle.ac_links.specs.Views.{owner_lead, may_withdraw, altered, known_at, withdrawn_at};
-ghost use Rattle.core_channels.specs.LinkViews.{IsLink, AreViews, without_spare, new_link};
+ghost use Rattle.core_channels.specs.LinkViews.{IsLink, AreViews, without_spare, new_link, with_call};
 ghost use Rattle.core_channels.specs.Offers.{has_room, offering, after_offering, offering_clock};
 ghost use Rattle.ac_links.specs.Noted.{decision_stamp, offer_stamp};
 ghost use Rattle.core_channels.specs.Learns.{with_known, learning, after_learning, learning_clock};
@@ -11,6 +11,7 @@ ghost use Rattle.core_channels.specs.Withdraws.{withdrawing, after_withdrawing, 
 ghost use Rattle.core_channels.specs.Takes.{message_of, with_decision, receiving, after_receiving, receiving_clock};
 
 use crate::answers::{Learning, Offering, Receiving, Withdrawing};
+use crate::counts::{Call, Counts};
 use crate::decision::Decision;
 use crate::offer::Offer;
 use ac_base::{Clock, Message, NoMemory, Payload};
@@ -70,6 +71,7 @@ pub struct KeptLink {
     decisions: Vec<Decision>,
     /// How many offers there are before the first that is not known.
     lead: usize,
+    counts: Counts,
 }
 
 impl Model for KeptLink {
@@ -85,6 +87,7 @@ impl Model for KeptLink {
       offers = it.offers.items;
       decisions = it.decisions.items;
       spare = min (vec_capacity it.offers) (vec_capacity it.decisions) - vec_len it.offers;
+      counts = it.counts;
     } };
 
     ghost invariant = { IsKept };
@@ -100,6 +103,7 @@ impl KeptLink {
             offers: Vec::new(alloc),
             decisions: Vec::new(alloc),
             lead: 0,
+            counts: Counts::none(),
         }
     }
 
@@ -115,6 +119,14 @@ impl KeptLink {
         self.decisions
             .reserve(self.offers.len() - self.decisions.len() + n)?;
         Ok(())
+    }
+
+    /// Counts one more call of this kind.
+    pub fn count(&mut self, call: Call)
+        ensures views { self.new ≡ with_call self.old call }
+        ensures link { IsLink self.new }
+    {
+        self.counts.count(call);
     }
 
     #[tactic(auto, using(crate::proofs::Leads::lead_within))]

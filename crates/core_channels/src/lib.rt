@@ -2,6 +2,7 @@
 #![tactic(auto)]
 
 mod answers;
+mod counts;
 mod decision;
 mod kept_link;
 mod law;
@@ -9,5 +10,6 @@ mod links;
 mod offer;
 
 pub use answers::{Arrived, Learning, Offering, Receiving, Withdrawing};
+pub use counts::Call;
 pub use law::{owner_may_enter, peer_may_enter};
 pub use links::Links;

@@ -5,13 +5,14 @@ ghost use Rattle.std.specs.List.{All};
 ghost use Rattle.ac_links.specs.Payloads.{is_payload};
 ghost use Rattle.ac_links.specs.Views.{may_withdraw};
 ghost use Rattle.ac_links.specs.Noted.{offer_stamp};
-ghost use Rattle.core_channels.specs.LinkViews.{IsLink, link_at, with_link, SameButSpares, SameTerms, AreNew};
+ghost use Rattle.core_channels.specs.LinkViews.{IsLink, link_at, with_link, with_call, SameButSpares, SameTerms, AreNew};
 ghost use Rattle.core_channels.specs.Offers.{offering, after_offering, offering_clock};
 ghost use Rattle.core_channels.specs.Learns.{learning, after_learning, learning_clock};
 ghost use Rattle.core_channels.specs.Withdraws.{withdrawing, after_withdrawing, withdrawing_clock};
 ghost use Rattle.core_channels.specs.Takes.{receiving, after_receiving, receiving_clock};
 
 use crate::answers::{Learning, Offering, Receiving, Withdrawing};
+use crate::counts::Call;
 use crate::kept_link::KeptLink;
 use ac_base::{Clock, List, Message, NoMemory, Payload};
 use ac_links::Terms;
@@ -21,8 +22,8 @@ use std::marker::Model;
 /// The links of a run with all that was offered and decided on each.
 ///
 /// Contracts see of each link its terms, what its owner has offered and knows, what its peer has
-/// decided, and its spare: the number of further offers for which it has a place. Only `new` and
-/// `reserve` take memory.
+/// decided, its spare, which is the number of further offers for which it has a place, and the counts
+/// of the calls that were counted. Only `new` and `reserve` take memory.
 #[derive(Drop)]
 pub struct Links {
     links: Vec<KeptLink>,
@@ -76,6 +77,17 @@ impl Links {
         ensures links { All IsLink self.now }
     {
         self.links.len() as u64
+    }
+
+    /// Counts one more call of this kind on the link.
+    ///
+    /// Condition: the link is in range.
+    pub fn count(&mut self, link: u32, call: Call)
+        requires { link < length self.old }
+        ensures links { self.new ≡ with_link self.old link (with_call (link_at self.old link) call) }
+        ensures terms { SameTerms self.old self.new }
+    {
+        self.links[link as usize].count(call);
     }
 
     /// Offers the payload on the link. It takes one from the link's spare.

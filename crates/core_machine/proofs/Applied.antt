@@ -10,7 +10,7 @@ use Rattle.core_state.specs.Arithmetic.{is_equal, is_not_equal, is_less, is_at_m
 use Rattle.stack_code.specs.declared.instr.Instr.{Instr}
 use Rattle.stack_code.specs.declared.instr.Instr.TheVariants as i
 use Rattle.stack_code.specs.Parts.{Parts}
-use Rattle.stack_code.specs.Machine.{Flat, begin, always, goes, two_operands, on_two, or_trap}
+use Rattle.code_meaning.specs.Machine.{Flat, begin, always, goes, two_operands, on_two, or_trap}
 use Rattle.core_machine.specs.inner.Operators.{binary}
 use Rattle.core_machine.specs.inner.Needs.{HasInts, Finds}
 

@@ -2,7 +2,11 @@
 use Rattle.std.proofs.Common.{◌≡◌, ℕ, List, [], ◌∷◌, length, Option, Some, None, Ok, Err, Bool, true, false, refl, sym, ap, ◌∙◌, subst}
 use Rattle.std.specs.Prelude.{ℤ, pos, replicate, if◌then◌else◌}
 use Rattle.std.proofs.lemmas.List.{length-replicate}
+use Rattle.std.proofs.lemmas.List.Elements.{All-nil}
 use Rattle.ac_base.specs.declared.ends.Trap.TheVariants.{StackFull}
+use Rattle.ac_base.specs.declared.entry.Entry.{Entry}
+use Rattle.cancel_scope.specs.declared.operation.Operation.{Operation}
+use Rattle.cancel_scope.specs.Outstanding.{is_send, is_waiting}
 use Rattle.work_item.specs.Store.{Store, Frame, made, no_frames, no_int}
 use Rattle.core_state.specs.Moves.{Move, On, GoesOn}
 use Rattle.core_state.proofs.Runs.{GoesOn-none}
@@ -12,18 +16,19 @@ use Rattle.stack_code.specs.declared.parts.Entered.{Entered}
 use Rattle.stack_code.specs.declared.parts.Start.{Start}
 use Rattle.stack_code.specs.Parts.{Parts, Begins}
 use Rattle.stack_code.specs.Valid.{IsValid}
-use Rattle.stack_code.specs.Alone.{IsAlone}
-use Rattle.stack_code.specs.Machine.{Flat, FlatEnd, nobody, exec, first_flat, first_item, first_core, with_starts, first_globals}
+use Rattle.code_meaning.specs.Meant.{IsMeant}
+use Rattle.code_meaning.specs.Machine.{Flat, FlatEnd, nobody, exec, first_flat, first_item, first_core, with_starts, first_globals}
 use Rattle.code_safety.specs.Fit.{IsFit}
 use Rattle.code_safety.specs.Chains.{AreChained}
 use Rattle.code_safety.proofs.Beginnings.{first_fit}
 use Rattle.code_safety.proofs.NoDangling.{first_chained}
-use Rattle.core_machine.specs.declared.pause.Pause.{Pause}
-use Rattle.core_machine.specs.declared.pause.Pause.TheVariants.{Trapped}
+use Rattle.core_machine.specs.declared.ending.Ending.{Ending}
+use Rattle.core_machine.specs.declared.ending.Ending.TheVariants.{Trapped}
 use Rattle.core_machine.specs.declared.running.Running.{Running}
 use Rattle.core_machine.specs.inner.Beginning.{HasBegun}
 use Rattle.core_machine.specs.Machine.{IsFirst, IsOnItsWay}
 use Rattle.core_machine.specs.State.{flat_of, end_or, state_of, machine_of, IsSound}
+use Rattle.core_machine.specs.Tracks.{is_withdrawal, Tracks}
 
 -- ---- the frame
 
@@ -46,12 +51,13 @@ framed code function = made (bare code) None (replicate function.words no_int)
 -- ---- the state
 
 -- no thread runs, the first one is ready, and nothing has been done
-pub first_stands : (m : Running) (function : Entered) → m.schedule.running ≡ None → m.schedule.ready ≡ first_item ∷ [] → m.threads.items ≡ record nobody { place = function.at } ∷ []
+pub first_stands : (m : Running) (function : Entered) → m.outstanding.operations ≡ [] → m.schedule.running ≡ None → m.schedule.ready ≡ first_item ∷ []
+    → m.threads.threads ≡ record nobody { place = function.at } ∷ []
     → m.blocks.blocks ≡ []
     → m.place ≡ 0 → m.frame ≡ first_frame → m.operands ≡ [] → m.callers ≡ [] → m.block ≡ None → m.journal.entries ≡ [] → m.output.items ≡ [] → m.steps ≡ 0 → m.turn ≡ 0 → m.count ≡ 0
     → flat_of m ≡ first_core function (first_shared []) m.frames
-first_stands m function running ready threads blocks place frame operands callers block journal output steps turn count =
-    rw (running, ready, threads, blocks, place, frame, operands, callers, block, journal, output, steps, turn, count) refl
+first_stands m function operations running ready threads blocks place frame operands callers block journal output steps turn count =
+    rw (operations, running, ready, threads, blocks, place, frame, operands, callers, block, journal, output, steps, turn, count) refl
 
 module _ (m : Running) (function : Entered) (b : Begins m.code.now m.core function) (journal : m.journal.entries ≡ []) (first : flat_of m ≡ first_core function (first_shared []) m.frames) where
   abbrev start : Move Flat FlatEnd
@@ -81,9 +87,9 @@ module _ (m : Running) (function : Entered) (b : Begins m.code.now m.core functi
     state_first : state_of m ≡ start
     state_first = go m.ended refl begun
       where
-        go : (o : Option Pause) → m.ended ≡ o → HasBegun (bare m.code.now) m.frames function.words o → state_of m ≡ start
+        go : (o : Option Ending) → m.ended ≡ o → HasBegun (bare m.code.now) m.frames function.words o → state_of m ≡ start
         go None e h = stands_first e h.1 h.0
-        go (Some pause) e h = ends_first (e ∙ ap (λ p. Some p) h.2) h.1 h.0
+        go (Some ending) e h = ends_first (e ∙ ap (λ p. Some p) h.2) h.1 h.0
 
     pub first_of : IsFirst (machine_of m)
     first_of = record { function = function; begins = b; state = state_first }
@@ -91,25 +97,37 @@ module _ (m : Running) (function : Entered) (b : Begins m.code.now m.core functi
     pub run_of : IsOnItsWay (machine_of m)
     run_of = record { function = function; begins = b; goes = subst (GoesOn (exec m.code.now m.bound) start) (sym state_first) (GoesOn-none (exec m.code.now m.bound) start) }
 
-    pub sound_first : IsValid m.code.now → IsAlone m.code.now → IsSound m
-    sound_first v alone = record {
+    pub sound_first : IsValid m.code.now → IsMeant m.code.now → m.threads.pending ≡ false → IsSound m
+    sound_first v meant none = record {
       fit = λ still. go m.ended still begun;
       chained = λ still. chains m.ended still begun;
+      tracks = λ still. subst (λ os. Tracks m.journal.entries os) (sym no_operations) (subst (λ past. Tracks past []) (sym journal) tracks_none);
+      free = λ still alone. no_operations;
+      settled = λ runs. none;
       valid = v;
-      alone = alone;
-      quiet = journal;
+      meant = meant;
       ran = run_of;
     }
       where
+        no_operations : m.outstanding.operations ≡ []
+        no_operations = ap (λ (f : Flat). f.operations) first
+
+        tracks_none : Tracks [] []
+        tracks_none = record {
+          each = λ l n. refl;
+          receives = All-nil (λ (o : Operation). is_send o.asked ≡ false → is_waiting o.progress ≡ true);
+          withdrawn = All-nil (λ (e : Entry). is_withdrawal e.event ≡ false);
+        }
+
         stands : m.frames ≡ framed m.code.now function → has_words (bare m.code.now) function.words ≡ true → IsFit m.code.now (flat_of m)
         stands store room =
             let long : has_words (bare m.code.now) (length (replicate function.words no_int)) ≡ true = ap (has_words (bare m.code.now)) (length-replicate function.words no_int) ∙ room in
             subst (IsFit m.code.now) (sym (first ∙ ap (first_core function (first_shared [])) store)) (first_fit m.code.now v m.core function b (first_shared []) long)
 
-        chains : (o : Option Pause) → o ≡ None → HasBegun (bare m.code.now) m.frames function.words o → AreChained m.code.now (flat_of m)
+        chains : (o : Option Ending) → o ≡ None → HasBegun (bare m.code.now) m.frames function.words o → AreChained m.code.now (flat_of m)
         chains None e h = subst (AreChained m.code.now) (sym (first ∙ ap (first_core function (first_shared [])) h.1)) (first_chained m.code.now m.core function b (first_shared []))
-        chains (Some pause) e h = let no : Some pause ≡ None = e in absurd (cc)
+        chains (Some ending) e h = let no : Some ending ≡ None = e in absurd (cc)
 
-        go : (o : Option Pause) → o ≡ None → HasBegun (bare m.code.now) m.frames function.words o → IsFit m.code.now (flat_of m)
+        go : (o : Option Ending) → o ≡ None → HasBegun (bare m.code.now) m.frames function.words o → IsFit m.code.now (flat_of m)
         go None e h = stands h.1 h.0
-        go (Some pause) e h = let no : Some pause ≡ None = e in absurd (cc)
+        go (Some ending) e h = let no : Some ending ≡ None = e in absurd (cc)

@@ -8,7 +8,7 @@ use Rattle.finish_block.specs.declared.blocks.Arrival.TheVariants.{Passes, Waits
 use Rattle.finish_block.specs.Table as table
 use Rattle.finish_block.specs.Table.{arrival, arrival_at, left_at, one_more, one_less, wakes, woken, woken_by, parent_at}
 use Rattle.finish_block.specs.Conditions.{Childless}
-use Rattle.stack_code.specs.Machine.{Block, block_at, with_block}
+use Rattle.code_meaning.specs.Machine.{Block, block_at, with_block}
 use Rattle.core_machine.specs.Blocks.{block_of, blocks_of}
 use Rattle.core_machine.specs.inner.Needs.{IsChildless}
 

@@ -1,6 +1,6 @@
 -- What the instructions on blocks and threads make of a running core.
-use Rattle.std.proofs.Common.{◌≡◌, ℕ, ◌+◌, ◌<◌, List, [], ◌∷◌, ◌++◌, length, Option, Some, None, Bool, true, false, refl, sym, ap, ◌∙◌, subst}
-use Rattle.std.specs.Prelude.{slice_set, replicate, nat_eq, ◌&&◌, if◌then◌else◌, IfSome, Result, Ok, Err}
+use Rattle.std.proofs.Common.{◌≡◌, ℕ, ◌+◌, ◌<◌, ◌^◌, List, [], ◌∷◌, ◌++◌, length, Option, Some, None, Bool, true, false, refl, sym, ap, ◌∙◌, subst, arith}
+use Rattle.std.specs.Prelude.{slice_set, replicate, nat_eq, ◌&&◌, if◌then◌else◌, IfSome, IsSomeAnd, Result, Ok, Err}
 use Rattle.std.proofs.lemmas.List.{length-replicate, set-append_left}
 use Rattle.ac_base.specs.declared.ends.Trap.{Trap}
 use Rattle.ac_base.specs.declared.ends.Trap.TheVariants.{StackFull}
@@ -12,11 +12,11 @@ use Rattle.core_state.specs.Moves.{On}
 use Rattle.core_state.specs.Frames.{has_words}
 use Rattle.finish_block.specs.Table as table
 use Rattle.finish_block.specs.Table.{Table, parent_at, arrival, arrived, begun, ended, woken}
-use Rattle.finish_block.specs.Conditions.{Childless, ChildlessAtFinish, ChildlessAtEnd}
+use Rattle.finish_block.specs.Conditions.{Childless, CanCountMore, ChildlessAtFinish, ChildlessAtEnd}
 use Rattle.finish_block.specs.declared.blocks.Arrival.TheVariants.{Passes, Waits}
 use Rattle.stack_code.specs.declared.instr.Instr.TheVariants as i
-use Rattle.stack_code.specs.Machine.{Flat, Thread, Block, begin, nobody, block_at, with_block, counted}
-use Rattle.stack_code.specs.Machine.{arrives, arrives_in, arrives_at, dies, dies_in, counted_out, counted_in, one_more, or_trap, starts, with_store}
+use Rattle.code_meaning.specs.Machine.{Flat, Thread, Block, begin, nobody, block_at, with_block, counted}
+use Rattle.code_meaning.specs.Machine.{arrives, arrives_in, arrives_at, dies, dies_in, counted_out, counted_in, one_more, or_trap, starts, with_store}
 use Rattle.core_machine.specs.declared.running.Running.{Running}
 use Rattle.core_machine.specs.Blocks.{blocks_of}
 use Rattle.core_machine.specs.State.{flat_of, thread_of, end_or, state_of}
@@ -26,10 +26,10 @@ use Rattle.core_machine.proofs.Blocks.{kept_of, childless, parent_is, passes_cou
 
 -- the state with another thread in the place of the running one, which is kept to go on at that address
 abbrev pub parked : Running → Item → ℕ → Thread → Flat
-parked m item place next = record (flat_of m) { current = next; threads = slice_set m.threads.items item.number (record (thread_of m) { place = place }) }
+parked m item place next = record (flat_of m) { current = next; threads = slice_set m.threads.threads item.number (record (thread_of m) { place = place }) }
 
 abbrev pub buried : Running → Item → Flat
-buried m item = record (flat_of m) { current = nobody; threads = slice_set m.threads.items item.number nobody }
+buried m item = record (flat_of m) { current = nobody; threads = slice_set m.threads.threads item.number nobody }
 
 still_on : (m after : Running) (f : Flat) → flat_of after ≡ f → after.ended ≡ None → state_of after ≡ On f
 still_on m after f e over = ap (end_or (flat_of after)) over ∙ ap (λ x. On x) e
@@ -91,21 +91,27 @@ module _ (m : Running) (still : m.ended ≡ None) (item : Item) (run : m.schedul
         let w = waits_count kept.blocks number x there a in
         let is : flat_of after ≡ parked waiting item (m.place + 1) nobody = e ∙ ap (λ y. parked between item (between.place + 1) y) n ∙ ap (λ (y : Running). parked y item (y.place + 1) nobody) b in
         still_on m after (parked waiting item (m.place + 1) nobody) is (over ∙ ap (λ (y : Running). y.ended) b ∙ still)
-        ∙ ap (λ o. On (record (parked waiting item (m.place + 1) nobody) { threads = slice_set m.threads.items item.number (record (thread_of m) { place = m.place + 1; block = o }) })) up_is
+        ∙ ap (λ o. On (record (parked waiting item (m.place + 1) nobody) { threads = slice_set m.threads.threads item.number (record (thread_of m) { place = m.place + 1; block = o }) })) up_is
         ∙ ap (λ bs. On (record (parked waiting item (m.place + 1) nobody) {
-          threads = slice_set m.threads.items item.number (record (thread_of m) { place = m.place + 1; block = x.parent });
+          threads = slice_set m.threads.threads item.number (record (thread_of m) { place = m.place + 1; block = x.parent });
           blocks = bs;
         })) (ap (λ (t : Table). blocks_of t.blocks) arrives ∙ waited kept.blocks number x there w)
         ∙ sym (finish_is slot ∙ ap (λ r. arrives_at r f item number x) w)
 
   -- ---- a thread is started
 
+  pub can_count : x.count + 1 < 2 ^ 64 → CanCountMore kept.blocks number
+  can_count few =
+      let k = kept_of kept.blocks number x there in
+      let count : k.block.count ≡ x.count = ap (λ (y : Block). y.count) k.is in
+      subst (λ o. IsSomeAnd o (λ y. y.count + 1 < 2 ^ 64)) (sym k.there) (omega (arith, few, count))
+
   abbrev pub starting : ℕ → Flat
   starting slots = record f {
     store = made m.frames (Some m.frame) (replicate slots no_int);
-    running = Some (record { number = length m.threads.items });
+    running = Some (record { number = length m.threads.threads });
     ready = item ∷ m.schedule.ready;
-    threads = m.threads.items ++ nobody ∷ [];
+    threads = m.threads.threads ++ nobody ∷ [];
     blocks = blocks_of (begun kept number).blocks;
     count = counted m.count;
   }
@@ -114,8 +120,8 @@ module _ (m : Running) (still : m.ended ≡ None) (item : Item) (run : m.schedul
   born = record nobody { place = m.place + 1; frame = next_frame m.frames; block = m.block }
 
   pub between_is : (slots : ℕ) (store : Store) (reserved schedule : Schedule) (threads : List Thread) (blocks : Table) (next : ℕ) → store ≡ made m.frames (Some m.frame) (replicate slots no_int)
-      → reserved.running ≡ m.schedule.running → reserved.ready ≡ m.schedule.ready → schedule ≡ yielded_to reserved (record { number = next }) → next ≡ length m.threads.items
-      → threads ≡ m.threads.items ++ nobody ∷ [] → blocks ≡ begun kept number
+      → reserved.running ≡ m.schedule.running → reserved.ready ≡ m.schedule.ready → schedule ≡ yielded_to reserved (record { number = next }) → next ≡ length m.threads.threads
+      → threads ≡ m.threads.threads ++ nobody ∷ [] → blocks ≡ begun kept number
       → record f { store = store; running = schedule.running; ready = schedule.ready; threads = threads; blocks = blocks_of blocks.blocks; count = counted m.count } ≡ starting slots
   between_is slots store reserved schedule threads blocks next a b c d e g k =
       let turned : schedule ≡ left_by reserved (Some item) (record { number = next }) = d ∙ ap (λ o. left_by reserved o (record { number = next })) (b ∙ run) in
@@ -129,21 +135,21 @@ module _ (m : Running) (still : m.ended ≡ None) (item : Item) (run : m.schedul
   counted_more : blocks_of (begun kept number).blocks ≡ counted_in (blocks_of kept.blocks) m.block
   counted_more = more kept.blocks number x there ∙ ap (λ o. with_block (blocks_of kept.blocks) number (one_more o)) (sym there) ∙ ap (λ o. counted_in (blocks_of kept.blocks) o) (sym inner)
 
-  pub started : (slots to : ℕ) (between after : Running) (next : Thread) → has_words m.frames slots ≡ true → item.number < length m.threads.items
+  pub started : (slots to : ℕ) (between after : Running) (next : Thread) → has_words m.frames slots ≡ true → item.number < length m.threads.threads
       → flat_of between ≡ starting slots → thread_of between ≡ thread_of m
       → between.ended ≡ m.ended
       → next ≡ born → after.ended ≡ between.ended → flat_of after ≡ parked between item to next → Does m (i.Async slots to) after
   started slots to between after next room lt b t o n over e =
-      let before : between.threads.items ≡ m.threads.items ++ nobody ∷ [] = ap (λ (y : Flat). y.threads) b in
-      let is : flat_of after ≡ record (starting slots) { current = born; threads = slice_set m.threads.items item.number (record (thread_of m) { place = to }) ++ nobody ∷ [] } =
-      e ∙ ap (λ y. parked between item to y) n ∙ ap (λ (y : Flat). record y { current = born; threads = slice_set between.threads.items item.number (record (thread_of between) { place = to }) }) b
-      ∙ ap (λ (y : Thread). record (starting slots) { current = born; threads = slice_set between.threads.items item.number (record y { place = to }) }) t
+      let before : between.threads.threads ≡ m.threads.threads ++ nobody ∷ [] = ap (λ (y : Flat). y.threads) b in
+      let is : flat_of after ≡ record (starting slots) { current = born; threads = slice_set m.threads.threads item.number (record (thread_of m) { place = to }) ++ nobody ∷ [] } =
+      e ∙ ap (λ y. parked between item to y) n ∙ ap (λ (y : Flat). record y { current = born; threads = slice_set between.threads.threads item.number (record (thread_of between) { place = to }) }) b
+      ∙ ap (λ (y : Thread). record (starting slots) { current = born; threads = slice_set between.threads.threads item.number (record y { place = to }) }) t
       ∙ ap (λ ts. record (starting slots) { current = born; threads = ts }) (ap (λ ts. slice_set ts item.number (record (thread_of m) { place = to })) before
-      ∙ set-append_left m.threads.items (nobody ∷ []) item.number (record (thread_of m) { place = to }) lt) in
+      ∙ set-append_left m.threads.threads (nobody ∷ []) item.number (record (thread_of m) { place = to }) lt) in
       let fits : has_words m.frames (length (replicate slots no_int)) ≡ true = ap (has_words m.frames) (length-replicate slots no_int) ∙ room in
       let result : Bool → Result Store Trap = λ b. if b then Ok (made m.frames (Some m.frame) (replicate slots no_int)) else Err StackFull in
       still_on m after _ is (over ∙ o ∙ still)
-      ∙ ap (λ bs. On (record (starting slots) { current = born; threads = slice_set m.threads.items item.number (record (thread_of m) { place = to }) ++ nobody ∷ []; blocks = bs })) counted_more
+      ∙ ap (λ bs. On (record (starting slots) { current = born; threads = slice_set m.threads.threads item.number (record (thread_of m) { place = to }) ++ nobody ∷ []; blocks = bs })) counted_more
       ∙ sym (ap (λ b. or_trap f (result b) (λ store. On (starts f (item_of m.schedule.running) to store))) fits
       ∙ ap (λ o. On (starts f (item_of o) to (made m.frames (Some m.frame) (replicate slots no_int)))) run)
 

@@ -1,5 +1,13 @@
 -- What callers see of a core, and the activations, blocks and threads that stand for those of its code.
-use Rattle.std.proofs.Common.{◌≡◌, ℕ, refl, pos, true, false, List, [], ◌∷◌, Some, None}
+use Rattle.std.proofs.Common.{◌≡◌, ℕ, refl, pos, true, false, List, [], ◌∷◌, Some, None, arith}
+use Rattle.std.proofs.lemmas.List.Elements.{All-nil}
+use Rattle.ac_base.specs.declared.entry.Entry.{Entry}
+use Rattle.ac_base.specs.declared.entry.Event.TheVariants as event
+use Rattle.ac_base.specs.declared.entry.Payload.TheVariants as payload
+use Rattle.ac_base.specs.declared.ends.Phase.TheVariants.{Waiting}
+use Rattle.cancel_scope.specs.declared.operation.Asked.TheVariants.{Send, Recv}
+use Rattle.cancel_scope.specs.declared.operation.Operation.{Operation}
+use Rattle.cancel_scope.specs.Outstanding.{started, offered_as, is_send, is_waiting}
 use Rattle.ac_base.specs.declared.ends.EndWord.TheVariants.{Finished, Trapped, OutOfSteps, Stalled}
 use Rattle.ac_base.specs.declared.ends.Trap.TheVariants.{ZeroDivisor}
 use Rattle.ac_base.specs.declared.ends.CoreEnd.{CoreEnd}
@@ -11,29 +19,38 @@ use Rattle.work_item.specs.Store.{Store, no_frames}
 use Rattle.core_scheduler.specs.Schedule.{Schedule}
 use Rattle.core_state.specs.Moves.{On, Over}
 use Rattle.core_state.specs.Shared.{core_end, first_shared}
-use Rattle.stack_code.specs.Machine.{Caller, Flat, nobody}
-use Rattle.core_machine.specs.declared.callers.Waiting.{Waiting}
+use Rattle.code_meaning.specs.Machine.{Caller, Flat, nobody}
+use Rattle.core_machine.specs.declared.ending.Ending.TheVariants as ending
 use Rattle.core_machine.specs.declared.pause.Pause.TheVariants as pause
-use Rattle.core_machine.specs.Words.{word_of}
-use Rattle.core_machine.specs.Machine.{IsSeen, IsPaused}
-use Rattle.core_machine.specs.Callers.{callers_of, all_below, Popped}
+use Rattle.core_machine.specs.Words.{word_of, pause_of}
+use Rattle.core_machine.specs.Machine.{none_ready, is_resting, is_idle, has_ended, IsSeen, waiting_at_end, waiting_of, waits, HasEnded, IsPaused}
 use Rattle.core_machine.specs.Blocks.{blocks_of, block_of}
+use Rattle.core_machine.specs.Tracks.{is_offer_of, is_end_of, is_withdrawal, offers_of, ends_of, standing_of, Tracks}
 use Rattle.core_machine.specs.inner.Changes.{with_woken, item_of}
 use Rattle.core_machine.specs.declared.running.Running.{Running}
 use Rattle.core_machine.specs.State.{shared_of, thread_of, flat_of, end_or, state_of, machine_of}
 
 -- ---- how a core has come back
 
-pub it_finished : word_of pause.Finished ≡ Finished
+pub it_finished : word_of ending.Finished ≡ Finished
 it_finished = refl
 
-pub it_trapped : word_of (pause.Trapped ZeroDivisor) ≡ Trapped ZeroDivisor
+pub it_trapped : word_of (ending.Trapped ZeroDivisor) ≡ Trapped ZeroDivisor
 it_trapped = refl
 
-pub it_is_out_of_steps : word_of pause.OutOfSteps ≡ OutOfSteps
+pub it_is_out_of_steps : word_of ending.OutOfSteps ≡ OutOfSteps
 it_is_out_of_steps = refl
 
+pub why_it_comes_back : (pause_of ending.Finished ≡ pause.Finished) × (pause_of (ending.Trapped ZeroDivisor) ≡ pause.Trapped ZeroDivisor) × (pause_of ending.OutOfSteps ≡ pause.OutOfSteps)
+why_it_comes_back = (refl, refl, refl)
+
 -- ---- what callers see
+
+abbrev pub first : Item
+first = record { number = 0 }
+
+abbrev pub second : Item
+second = record { number = 1 }
 
 -- a core that has not ended: two globals of 0, one step, three instructions
 abbrev pub store : Store
@@ -53,7 +70,7 @@ running = record {
 }
 
 abbrev pub its_end : CoreEnd
-its_end = core_end Stalled false (pos 0 ∷ pos 0 ∷ []) [] running.shared
+its_end = core_end Stalled true (pos 0 ∷ pos 0 ∷ []) [] running.shared
 
 pub it_is_seen_as_stalled : IsSeen (On running) (record { core = its_end; instructions = 3 })
 it_is_seen_as_stalled = (refl, refl)
@@ -76,50 +93,81 @@ not_out_of_steps e = cc
 pub it_has_not_come_back : IsPaused (On running) pause.Finished → ⊥
 it_has_not_come_back h = h
 
--- ---- activations that wait
+pub its_end_is_its_own : HasEnded (Over (record { core = Some finished; count = 4 })) ending.Finished
+its_end_is_its_own = refl
 
-abbrev pub frame : ℕ → FrameId
-frame n = record { number = n }
+-- nothing runs and nothing is ready
+pub it_came_back_idle : IsPaused (On running) pause.Idle
+it_came_back_idle = refl
 
-abbrev pub inner : Waiting
-inner = record { place = 9; frame = frame 2; below = 1 }
+-- a thread is ready, or it has ended
+pub it_is_not_idle : (IsPaused (On (record running { ready = second ∷ [] })) pause.Idle → ⊥) × (IsPaused (Over (record { core = Some finished; count = 4 })) pause.Idle → ⊥)
+it_is_not_idle = (λ e. cc, λ e. cc)
 
-abbrev pub outer : Waiting
-outer = record { place = 5; frame = frame 1; below = 2 }
+pub whether_it_rests : (is_resting running ≡ true) × (is_resting (record running { running = Some second }) ≡ false) × (none_ready [] ≡ true) × (none_ready (second ∷ []) ≡ false)
+whether_it_rests = (refl, refl, refl, refl)
 
-abbrev pub int : ℕ → Cell
-int n = cell.Int (pos n)
+pub whether_it_is_idle : (is_idle (On running) ≡ true) × (is_idle (On (record running { ready = second ∷ [] })) ≡ false) × (is_idle (Over (record { core = Some finished; count = 4 })) ≡ false)
+whether_it_is_idle = (refl, refl, refl)
 
--- the operand on top of all is that of the innermost
-abbrev pub both : List Caller
-both =
-    (record { place = 9; frame = frame 2; operands = int 3 ∷ [] }) ∷ (record { place = 5; frame = frame 1; operands = int 2 ∷ int 1 ∷ [] }) ∷ []
+pub whether_it_has_ended : (has_ended (On running) ≡ false) × (has_ended (Over (record { core = Some finished; count = 4 })) ≡ true)
+whether_it_has_ended = (refl, refl)
 
-pub each_has_its_own : callers_of (inner ∷ outer ∷ []) (int 3 ∷ int 2 ∷ int 1 ∷ []) ≡ both
-each_has_its_own = refl
+-- ---- operations that have not ended
 
-pub all_of_them : all_below (inner ∷ outer ∷ []) ≡ 3
-all_of_them = refl
+-- on channel 0 a 5 is to be sent, and from channel 1 one is received
+abbrev pub sends : Operation
+sends = started 0 (Send (pos 5)) second
 
-pub innermost_goes_on : Popped both (callers_of (outer ∷ []) (int 2 ∷ int 1 ∷ [])) (int 7) (Some inner) (int 7 ∷ []) (int 7 ∷ int 3 ∷ [])
-innermost_goes_on = (refl, (refl, (refl, refl)))
+abbrev pub hears : Operation
+hears = started 1 (Recv (record { home = None; start = 0; len = 1 })) first
 
-pub value_is_on_top : Popped both (callers_of (outer ∷ []) (int 2 ∷ int 1 ∷ [])) (int 7) (Some inner) (int 7 ∷ []) (int 3 ∷ int 7 ∷ []) → ⊥
-value_is_on_top h = let e = h.1.1.1 in cc
+abbrev pub with_operations : Flat
+with_operations = record running { operations = sends ∷ hears ∷ [] }
 
-pub none_waits : Popped [] [] (int 7) None (int 7 ∷ []) (int 7 ∷ [])
-none_waits = (refl, refl)
+pub both_wait : (waits (On with_operations) 0 ≡ true) × (waits (On with_operations) 1 ≡ true) × (waits (On with_operations) 2 ≡ false)
+both_wait = (refl, refl, refl)
 
-pub none_is_passed_over : Popped both both (int 7) None (int 7 ∷ []) (int 7 ∷ []) → ⊥
-none_is_passed_over h = h
+-- one that is offered does not wait
+pub one_is_offered : (waits (On (record running { operations = offered_as 0 sends ∷ [] })) 0 ≡ false)
+one_is_offered = refl
+
+pub what_has_not_ended : (waiting_of (On with_operations) ≡ (record { link = 0; phase = Waiting }) ∷ (record { link = 1; phase = Waiting }) ∷ [])
+    × (waiting_of (Over (record { core = None; count = 4 })) ≡ []) × (waiting_at_end None ≡ []) × (waiting_at_end (Some finished) ≡ [])
+what_has_not_ended = (refl, refl, refl, refl)
+
+-- ---- offers and operations
+
+abbrev pub offer : Entry
+offer = record { stamp = 1; turn = 0; event = event.Offer 0 0 (payload.Int (pos 5)) }
+
+abbrev pub known : Entry
+known = record { stamp = 3; turn = 1; event = event.Know 0 0 }
+
+pub what_an_entry_is : (is_offer_of 0 0 offer.event ≡ true) × (is_offer_of 0 1 offer.event ≡ false) × (is_offer_of 0 0 known.event ≡ false) × (is_end_of 0 0 known.event ≡ true)
+    × (is_end_of 1 0 known.event ≡ false) × (is_end_of 0 0 (event.Withdraw 0 0) ≡ true) × (is_end_of 0 0 (event.Room 0 0) ≡ false) × (is_withdrawal (event.Withdraw 0 0) ≡ true)
+    × (is_withdrawal known.event ≡ false)
+what_an_entry_is = (refl, refl, refl, refl, refl, refl, refl, refl, refl)
+
+pub how_many_there_are : (offers_of 0 0 (offer ∷ known ∷ []) ≡ 1) × (ends_of 0 0 (offer ∷ known ∷ []) ≡ 1) × (standing_of 0 0 (offered_as 0 sends ∷ hears ∷ []) ≡ 1)
+    × (standing_of 0 0 (sends ∷ []) ≡ 0)
+how_many_there_are = (refl, refl, refl, refl)
+
+-- an offer that has not ended is that of an operation
+pub an_operation_for_none : Tracks [] (offered_as 0 sends ∷ []) → ⊥
+an_operation_for_none h = let e = h.each 0 0 in let no : ◌≡◌ {A = ℕ} 1 0 = e in absurd (omega (arith, no))
+
+pub an_offer_without_its_operation : Tracks (offer ∷ []) [] → ⊥
+an_offer_without_its_operation h = let e = h.each 0 0 in let no : ◌≡◌ {A = ℕ} 0 1 = e in absurd (omega (arith, no))
+
+pub none_of_each : Tracks [] []
+none_of_each = record {
+  each = λ l n. refl;
+  receives = All-nil (λ (o : Operation). is_send o.asked ≡ false → is_waiting o.progress ≡ true);
+  withdrawn = All-nil (λ (e : Entry). is_withdrawal e.event ≡ false);
+}
 
 -- ---- blocks and threads
-
-abbrev pub first : Item
-first = record { number = 0 }
-
-abbrev pub second : Item
-second = record { number = 1 }
 
 -- the mark is not seen
 pub block_is_seen : blocks_of (None ∷ Some (record { parent = None; owner = second; count = 2; waits = true; cancelled = true }) ∷ [])
@@ -144,6 +192,16 @@ one_block_is_seen = (refl, refl)
 
 -- ---- the state that the fields stand for
 
+abbrev pub frame : ℕ → FrameId
+frame n = record { number = n }
+
+abbrev pub int : ℕ → Cell
+int n = cell.Int (pos n)
+
+-- one activation waits
+abbrev pub its_callers : List Caller
+its_callers = (record { place = 9; frame = frame 1; operands = int 2 ∷ [] }) ∷ []
+
 -- three steps and two turns, seven instructions, and a thread at the address 5
 abbrev pub with_fields : Running → Running
 with_fields m = record m {
@@ -151,12 +209,14 @@ with_fields m = record m {
   bound = 9;
   journal = record { entries = []; spare = 0 };
   frames = store;
+  outstanding = record { operations = sends ∷ []; spare = 2 };
   frame = frame 2;
   place = 5;
   operands = int 3 ∷ [];
-  callers = both;
+  callers = its_callers;
   block = None;
   schedule = schedule;
+  threads = record { threads = nobody ∷ []; pending = false; spare = 0 };
   blocks = record { blocks = None ∷ []; spare = 1 };
   steps = 3;
   turn = 2;
@@ -167,29 +227,29 @@ with_fields m = record m {
 pub what_it_shares : (m : Running) → shared_of (with_fields m) ≡ record { steps = 3; turn = 2; output = m.output.items; past = []; todo = [] }
 what_it_shares m = refl
 
-pub the_thread_that_runs : (m : Running) → thread_of (with_fields m) ≡ record { place = 5; frame = frame 2; operands = int 3 ∷ []; callers = both; block = None }
+pub the_thread_that_runs : (m : Running) → thread_of (with_fields m) ≡ record { place = 5; frame = frame 2; operands = int 3 ∷ []; callers = its_callers; block = None }
 the_thread_that_runs m = refl
 
 pub the_whole_state : (m : Running) → flat_of (with_fields m)
     ≡ record {
       shared = shared_of (with_fields m);
       store = store;
-      operations = [];
+      operations = sends ∷ [];
       running = None;
       current = thread_of (with_fields m);
       ready = second ∷ [];
-      threads = m.threads.items;
+      threads = nobody ∷ [];
       blocks = None ∷ [];
       count = 7;
     }
 the_whole_state m = refl
 
 pub an_end_or_none : (end_or running None ≡ On running)
-    × (end_or running (Some pause.OutOfSteps) ≡ Over (record { core = Some (core_end OutOfSteps false (pos 0 ∷ pos 0 ∷ []) [] running.shared); count = 3 }))
+    × (end_or running (Some ending.OutOfSteps) ≡ Over (record { core = Some (core_end OutOfSteps false (pos 0 ∷ pos 0 ∷ []) [] running.shared); count = 3 }))
 an_end_or_none = (refl, refl)
 
 pub it_goes_on_or_is_over : (m : Running) → (state_of (with_fields m) ≡ On (flat_of (with_fields m)))
-    × (state_of (record m { ended = Some pause.Finished }) ≡ end_or (flat_of m) (Some pause.Finished))
+    × (state_of (record m { ended = Some ending.Finished }) ≡ end_or (flat_of m) (Some ending.Finished))
 it_goes_on_or_is_over m = (refl, refl)
 
 pub the_machine : (m : Running) → machine_of (with_fields m) ≡ record { code = m.code.now; core = 1; bound = 9; journal = []; state = On (flat_of (with_fields m)) }

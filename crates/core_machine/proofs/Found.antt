@@ -24,10 +24,10 @@ use Rattle.stack_code.specs.declared.shape.Leads.{Leads}
 use Rattle.stack_code.specs.declared.shape.Leads.TheVariants.{Two}
 use Rattle.stack_code.specs.Parts.{Parts}
 use Rattle.stack_code.specs.Shapes as shapes
-use Rattle.stack_code.specs.Shapes.{after, first, pushed, body_with, pushes, goes, effect, is_int_alone, can_return, directives_in, want_of}
+use Rattle.stack_code.specs.Shapes.{after, channels_of, first, pushed, body_with, pushes, goes, effect, is_int_alone, can_return, directives_in, want_of}
 use Rattle.stack_code.specs.Valid.{IsValid, HasRoom}
-use Rattle.stack_code.specs.Alone.{is_alone}
-use Rattle.stack_code.specs.Machine.{Flat}
+use Rattle.code_meaning.specs.Meant.{has_meaning}
+use Rattle.code_meaning.specs.Machine.{Flat}
 use Rattle.code_safety.specs.Fit.{Birth, is_int, HasKind, HaveKinds, AreBodies, last, more, IsThread, IsFit, life_at}
 use Rattle.code_safety.specs.Living.{as_running, AllReferToLiving, NamesLiving}
 use Rattle.code_safety.proofs.Taken.{on_some_is, if_is, after_is, IsWanted, Top, top_of, many_of}
@@ -35,8 +35,9 @@ use Rattle.code_safety.proofs.Arguments.{AreArguments, arguments_of}
 use Rattle.code_safety.proofs.Plain.{in_frame}
 use Rattle.code_safety.proofs.Own.{thread_of}
 use Rattle.code_safety.proofs.Calling.{call_enough}
-use Rattle.core_machine.specs.inner.Operands.{is_reference, on_top, Stand, second_place}
-use Rattle.core_machine.specs.inner.Needs.{HasInt, HasInts, HasCell, HasArray, HasElement, HasCall, Finds}
+use Rattle.thread_table.specs.Operands.{is_reference, on_top}
+use Rattle.core_machine.specs.inner.Operands.{Stand, second_place}
+use Rattle.core_machine.specs.inner.Needs.{HasInt, HasReference, HasInts, HasCell, HasArray, HasElement, HasCall, Finds}
 use Rattle.core_machine.proofs.Lives.{round_lives, finish_there, start_there, end_there, is_listed}
 
 -- the frames so many levels up live
@@ -128,6 +129,16 @@ module _ (code : Parts) (bound : ℕ) (m : Flat) (fit : IsFit code m) (t : Item)
   reference_there (cell.Array place) h = (refl, h.short)
   reference_there (cell.Block b) h = absurd h
 
+  one_is_reference : (x : Cell) → HasKind code fit.births (kind.Reference true) x → is_reference x ≡ true
+  one_is_reference (cell.Int value) h = absurd h
+  one_is_reference (cell.Array place) h = refl
+  one_is_reference (cell.Block b) h = absurd h
+
+  one_place_there : (go : Shape → Option Leads) (leads : Leads) → after (want.One ∷ []) s go ≡ Some leads → HasReference m
+  one_place_there go leads e =
+      let o = (top_there want.One [] go leads e).1 in
+      subst (λ l. on_top is_reference l ≡ true) (sym o.is) (one_is_reference o.top o.wanted)
+
   array_there : (wants : List Want) (go : Shape → Option Leads) (leads : Leads) → after (want.Int ∷ want.Reference ∷ wants) s go ≡ Some leads → HasArray m
   array_there wants go leads e =
       let t = top_there want.Int (want.Reference ∷ wants) go leads e in
@@ -201,7 +212,7 @@ module _ (code : Parts) (bound : ℕ) (m : Flat) (fit : IsFit code m) (t : Item)
       let lt : slot < code.globals = grind (arith, nat_tests) in
       omega (arith, lt, fit.store.globals)
 
-  pub finds : (instr : Instr) (leads : Leads) → slice_get code.instrs m.current.place ≡ Some instr → effect code m.current.place instr s ≡ Some leads → is_alone instr ≡ true → Finds code m instr
+  pub finds : (instr : Instr) (leads : Leads) → slice_get code.instrs m.current.place ≡ Some instr → effect code m.current.place instr s ≡ Some leads → has_meaning instr ≡ true → Finds code m instr
   finds i.Step leads here e q = tt
   finds (i.Push value) leads here e q = tt
   finds (i.Load level slot) leads here e q =
@@ -258,7 +269,7 @@ module _ (code : Parts) (bound : ℕ) (m : Flat) (fit : IsFit code m) (t : Item)
   finds i.End leads here e q = end_there code bound m fit t run leads e
   finds i.Yield leads here e q = is_listed code m fit t run
   finds (i.Cancel level slot) leads here e q = let no : false ≡ true = q in cc
-  finds (i.Send channel) leads here e q = let no : false ≡ true = q in cc
-  finds (i.Recv channel) leads here e q = let no : false ≡ true = q in cc
+  finds (i.Send channel) leads here e q = (int_there [] (pushes m.current.place kind.Int) leads (if_is (nat_lt channel (channels_of code)) _ leads e).1, is_listed code m fit t run)
+  finds (i.Recv channel) leads here e q = (one_place_there (pushes m.current.place kind.Int) leads (if_is (nat_lt channel (channels_of code)) _ leads e).1, is_listed code m fit t run)
   finds (i.Read file) leads here e q = let no : false ≡ true = q in cc
   finds (i.Write file) leads here e q = let no : false ≡ true = q in cc

@@ -1,10 +1,13 @@
-pub mod Tops
 pub mod Applied
 pub mod Blocks
-pub mod Waiting
 pub mod Does
 pub mod Lives
 pub mod Found
+pub mod Standing
 pub mod Sound
+pub mod Next
+pub mod Entered
+pub mod Received
+pub mod Pausing
 pub mod Begun
 pub mod Examples

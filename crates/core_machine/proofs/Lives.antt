@@ -1,17 +1,18 @@
 -- What a running thread finds of its block and of the table of threads.
 use Rattle.std.proofs.Common.{◌≡◌, ◌⊎◌, ℕ, ◌+◌, ◌≤◌, ◌<◌, List, [], ◌∷◌, length, Option, Some, None, IsSome, Bool, true, false, refl, sym, ap, ◌∙◌, subst, inl, inr, arith}
-use Rattle.std.specs.Prelude.{slice_get, slice_index_or, slice_set, IfSome}
+use Rattle.std.specs.Prelude.{slice_get, slice_index_or, slice_set, IfSome, is_none, ◌&&◌}
 use Rattle.std.proofs.lemmas.Bool.{cases_eq}
 use Rattle.std.proofs.lemmas.List.{length-set, get_or-set_other}
 use Rattle.work_item.specs.declared.ids.Item.{Item}
 use Rattle.work_item.specs.declared.ids.BlockId.{BlockId}
 use Rattle.work_item.specs.Conditions.{Lives, IsGoing}
+use Rattle.core_scheduler.specs.Schedule.{front}
 use Rattle.stack_code.specs.declared.instr.Instr.TheVariants as i
 use Rattle.stack_code.specs.declared.shape.Leads.{Leads}
 use Rattle.stack_code.specs.Parts.{Parts}
 use Rattle.stack_code.specs.Shapes.{effect}
 use Rattle.stack_code.specs.Valid.{IsValid}
-use Rattle.stack_code.specs.Machine.{Flat, Block, block_at}
+use Rattle.code_meaning.specs.Machine.{Flat, Block, block_at}
 use Rattle.code_safety.specs.Fit.{IsThread, Phase, Gone, Going, AtFinish, Life, no_life, life_at, is_living, is_going, is_at, starts_in}
 use Rattle.code_safety.specs.Fit.{total, items_of, one_if, one_at, occurs, runs, innermost, innermost_in, own_blocks, IsFit}
 use Rattle.code_safety.proofs.Lives.{total_set, total_one, starts_one, living_within, going_is, going_lives, one_same, one_true, one_at_most, same_item}
@@ -21,7 +22,14 @@ use Rattle.code_safety.proofs.Finishing.{arrival}
 use Rattle.code_safety.proofs.Starting.{starting}
 use Rattle.code_safety.proofs.Dying.{leaving}
 use Rattle.code_safety.proofs.NoStall.{never_stalled}
+use Rattle.core_machine.specs.Machine.{is_resting, none_ready}
 use Rattle.core_machine.specs.inner.Needs.{IsChildless, IsListed, CanFinish, CanStart, CanEnd, HasNext}
+
+-- ---- whether one is ready
+
+pub none_at_front : (ready : List Item) → is_none (front ready) ≡ none_ready ready
+none_at_front [] = refl
+none_at_front (t ∷ ready) = refl
 
 -- ---- counts
 
@@ -138,12 +146,12 @@ module _ (code : Parts) (m : Flat) (fit : IsFit code m) where
 
   -- ---- no thread runs
 
-  pub has_next : m.operations ≡ [] → m.running ≡ None → HasNext m
-  has_next alone idle = go m.ready refl
+  pub has_next : m.running ≡ None → is_resting m ≡ false → HasNext m
+  has_next idle some = go m.ready refl (sym (ap (λ o. is_none o && none_ready m.ready) idle) ∙ some)
     where
-      go : (ready : List Item) → m.ready ≡ ready → HasNext m
-      go [] e = absurd (never_stalled code m fit idle e alone)
-      go (t ∷ ready) e =
+      go : (ready : List Item) → m.ready ≡ ready → none_ready m.ready ≡ false → HasNext m
+      go [] e still = let both : true ≡ false = sym (ap none_ready e) ∙ still in absurd (cc)
+      go (t ∷ ready) e still =
           let l : 0 + ((one_at t.number t + occurs t.number ready) + occurs t.number (items_of m.operations)) ≡ one_if (is_going (life_at fit.lives t).phase) =
           ap (λ o. runs t.number o + (occurs t.number (t ∷ ready) + occurs t.number (items_of m.operations))) (sym idle)
           ∙ ap (λ r. runs t.number m.running + (occurs t.number r + occurs t.number (items_of m.operations))) (sym e) ∙ fit.listed t.number in
@@ -153,6 +161,15 @@ module _ (code : Parts) (m : Flat) (fit : IsFit code m) where
           let within = living_within fit.lives t (going_lives (life_at fit.lives t).phase goes) in
           let many = fit.many in
           record { next = t; later = ready; is = e; listed = omega (arith, within, many) }
+
+  -- where no operation has still to end, a thread runs or is ready
+  pub never_rests : m.operations ≡ [] → is_resting m ≡ true → ⊥
+  never_rests free rests = by m.running refl m.ready refl
+    where
+      by : (o : Option Item) → m.running ≡ o → (ready : List Item) → m.ready ≡ ready → ⊥
+      by (Some t) e ready r = let no : false ≡ true = sym (ap (λ p. is_none p && none_ready m.ready) e) ∙ rests in cc
+      by None e (t ∷ ready) r = let no : false ≡ true = sym (ap (λ p. is_none p && none_ready m.ready) e ∙ ap none_ready r) ∙ rests in cc
+      by None e [] r = never_stalled code m fit e r free
 
 module _ (code : Parts) (bound : ℕ) (m : Flat) (fit : IsFit code m) (t : Item) (run : m.running ≡ Some t) where
   abbrev here_now : IsThread code fit.births m.store m.blocks t (life_at fit.lives t).start m.current

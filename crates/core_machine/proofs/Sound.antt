@@ -1,33 +1,46 @@
 -- A core stays where its code can stand, and comes to its end.
-use Rattle.std.proofs.Common.{◌≡◌, ℕ, zero, suc, ◌<◌, ◌^◌, List, length, Option, Some, None, IsSome, Bool, true, false, refl, sym, ap, ◌∙◌, subst, arith}
-use Rattle.std.specs.Prelude.{slice_get, slice_index_or, is_none, is_some, not}
+use Rattle.std.proofs.Common.{◌≡◌, ℕ, zero, suc, ◌<◌, ◌≤◌, ◌^◌, List, [], ◌∷◌, ◌++◌, length, Option, Some, None, IsSome, Bool, true, false, refl, sym, ap, ◌∙◌, subst, arith}
+use Rattle.std.specs.Prelude.{slice_get, slice_index_or, is_some, not}
 use Rattle.std.proofs.lemmas.Option.{slice_get_within, get_or_from_slice_get}
+use Rattle.ac_base.specs.declared.entry.Entry.{Entry}
+use Rattle.ac_base.specs.declared.entry.Event.{Event}
 use Rattle.work_item.specs.declared.ids.Item.{Item}
+use Rattle.work_item.specs.declared.cell.Cell.{Cell}
 use Rattle.core_state.specs.Moves.{Move, On, Over, GoesOn, and_then, moves}
+use Rattle.core_state.specs.Arrivals.{ok}
+use Rattle.core_state.specs.Shared.{Shared, with_entry}
 use Rattle.core_state.proofs.Runs.{GoesOn-none, GoesOn-more}
 use Rattle.stack_code.specs.declared.instr.Instr.{Instr}
-use Rattle.stack_code.specs.Parts.{Parts}
+use Rattle.stack_code.specs.declared.parts.Entered.{Entered}
+use Rattle.stack_code.specs.Parts.{Parts, Begins}
 use Rattle.stack_code.specs.Shapes.{effect}
 use Rattle.stack_code.specs.Valid.{Fits, IsValid}
 use Rattle.stack_code.specs.Kept.{IsRanked}
-use Rattle.stack_code.specs.Alone.{is_alone, IsAlone}
-use Rattle.code_safety.specs.Left.{left}
+use Rattle.code_meaning.specs.Alone.{IsAlone}
+use Rattle.code_meaning.specs.Meant.{has_meaning, IsMeant}
+use Rattle.code_safety.specs.Left.{left, left_to_come}
 use Rattle.code_safety.specs.Fit.{IsFit}
 use Rattle.code_safety.specs.Chains.{AreChained}
-use Rattle.stack_code.specs.Machine.{Flat, begin, exec, exec_of, first_flat}
-use Rattle.code_safety.proofs.NoStall.{alone_is_meant}
+use Rattle.code_meaning.specs.Machine.{Flat, FlatEnd, arrived, begin, exec, exec_of, first_flat, resumed}
+use Rattle.code_safety.proofs.ArrivalChains.{comes_chained}
+use Rattle.code_safety.proofs.ArrivalWeights.{arrived_falls}
+use Rattle.code_safety.proofs.Arriving.{Comes, arrived_fit, comes_of}
+use Rattle.code_safety.proofs.Journal.{run_arrives}
+use Rattle.code_safety.proofs.NoEntries.{IsFree, nothing_comes, stays_free}
 use Rattle.code_safety.proofs.Plain.{Onward}
 use Rattle.code_safety.proofs.Own.{thread_of}
 use Rattle.code_safety.proofs.Moving.{moves_on}
 use Rattle.code_safety.proofs.NoDangling.{chained_on, names_living}
-use Rattle.core_machine.specs.declared.pause.Pause.{Pause}
+use Rattle.core_machine.specs.declared.ending.Ending.{Ending}
 use Rattle.core_machine.specs.declared.running.Running.{Running}
 use Rattle.core_machine.specs.inner.Needs.{Finds}
-use Rattle.core_machine.specs.Machine.{Machine, IsOnItsWay, IsSameCore}
-use Rattle.core_machine.specs.State.{flat_of, end_or, state_of, machine_of, IsSound}
+use Rattle.core_machine.specs.Machine.{Machine, IsOnItsWay}
+use Rattle.core_machine.specs.State.{shared_of, flat_of, end_or, state_of, machine_of, IsSound}
+use Rattle.core_machine.specs.Tracks.{Tracks}
 use Rattle.core_machine.specs.inner.Left.{left_from, left_of}
-use Rattle.core_machine.specs.inner.Changes.{Keeps, Does, item_of}
+use Rattle.core_machine.specs.inner.Changes.{IsSameCode, Keeps, Does, Stays, Enters, entry_now, item_of}
 use Rattle.core_machine.proofs.Found.{finds}
+use Rattle.core_machine.proofs.Standing.{Starts, exec_starts, tracks_started, tracks_entered}
 
 -- ---- where the code can stand
 
@@ -41,69 +54,196 @@ module _ (code : Parts) (bound : ℕ) (m : Flat) (fit : IsFit code m) (v : IsVal
   pub inside : m.current.place < 2 ^ 32
   inside = omega (arith, within, v.lists.few)
 
-  pub alone_there : (instr : Instr) → IsAlone code → slice_get code.instrs m.current.place ≡ Some instr → is_alone instr ≡ true
-  alone_there instr q here =
+  meant_there : (instr : Instr) → IsMeant code → slice_get code.instrs m.current.place ≡ Some instr → has_meaning instr ≡ true
+  meant_there instr q here =
       let is : slice_index_or code.instrs m.current.place instr ≡ instr = get_or_from_slice_get code.instrs m.current.place instr instr here in
-      subst (λ x. is_alone x ≡ true) is (q m.current.place instr within)
+      subst (λ x. has_meaning x ≡ true) is (q m.current.place instr within)
 
-  pub finds_there : AreChained code m → (instr : Instr) → IsAlone code → slice_get code.instrs m.current.place ≡ Some instr → Finds code m instr
+  pub finds_there : AreChained code m → (instr : Instr) → IsMeant code → slice_get code.instrs m.current.place ≡ Some instr → Finds code m instr
   finds_there chained instr q here =
       let h = thread_of code m fit t run in
       let same : fits_there.instr ≡ instr = let both : Some fits_there.instr ≡ Some instr = sym fits_there.here ∙ here in cc in
       let found : effect code m.current.place instr h.shape ≡ Some fits_there.leads = subst (λ x. effect code m.current.place x h.shape ≡ Some fits_there.leads) same fits_there.finds in
-      finds code bound m fit t run v (names_living code m fit chained) instr fits_there.leads here found (alone_there instr q here)
+      finds code bound m fit t run v (names_living code m fit chained) instr fits_there.leads here found (meant_there instr q here)
 
 -- ---- a turn of a core
 
-pub running : (m : Flat) (o : Option Pause) → o ≡ None → end_or m o ≡ On m
+pub running : (m : Flat) (o : Option Ending) → o ≡ None → end_or m o ≡ On m
 running m o e = ap (end_or m) e
 
--- one move more of the code's run
-run_on : (m n : Machine) → IsSameCore m n → IsOnItsWay m → (f : Flat) → m.state ≡ On f → n.state ≡ exec m.code m.bound f → IsOnItsWay n
-run_on m n s r f e g =
-    let start = first_flat m.code r.function m.journal in
-    let goes : GoesOn (exec m.code m.bound) start n.state = subst (GoesOn (exec m.code m.bound) start) (sym g)
-    (GoesOn-more (exec m.code m.bound) start f (subst (GoesOn (exec m.code m.bound) start) e r.goes)) in
-    record { function = r.function; begins = rw (s.code, s.core) r.begins; goes = rw (s.code, s.bound, s.journal) goes }
+-- the machine has come to a state to which its code comes
+on_its_way : (n : Machine) (code : Parts) (core bound : ℕ) (journal : List Entry) (state : Move Flat FlatEnd) (function : Entered) → n.code ≡ code → n.core ≡ core → n.bound ≡ bound
+    → n.journal ≡ journal → n.state ≡ state → Begins code core function → GoesOn (exec code bound) (first_flat code function journal) state → IsOnItsWay n
+on_its_way n code core bound journal state function c k d j s b g = record { function = function; begins = rw (c, k) b; goes = rw (c, d, j, s) g }
 
-same_core : (before after : Running) → Keeps before after → IsSameCore (machine_of before) (machine_of after)
-same_core before after k = record { code = k.code; core = k.core; bound = k.bound; journal = k.journal }
+-- where nothing has changed that the code's meaning sees
+pub stays_sound : (before after : Running) → IsSound before → Stays before after → IsSameCode before after → (before.threads.pending ≡ false → after.threads.pending ≡ false) → IsSound after
+stays_sound before after sound stays same settles =
+    let was : after.ended ≡ None → before.ended ≡ None = λ e. sym stays.ended ∙ e in
+    let journal : after.journal.entries ≡ before.journal.entries = ap (λ (f : Flat). f.shared.past) stays.flat in
+    let operations : after.outstanding.operations ≡ before.outstanding.operations = ap (λ (f : Flat). f.operations) stays.flat in
+    let runs : after.schedule.running ≡ before.schedule.running = ap (λ (f : Flat). f.running) stays.flat in
+    let state : state_of after ≡ state_of before = ap (λ f. end_or f after.ended) stays.flat ∙ ap (end_or (flat_of before)) stays.ended in
+    let r = sound.ran in
+    record {
+      fit = λ e. subst (λ code. IsFit code (flat_of after)) (sym same.code) (subst (IsFit before.code.now) (sym stays.flat) (sound.fit (was e)));
+      chained = λ e. subst (λ code. AreChained code (flat_of after)) (sym same.code) (subst (AreChained before.code.now) (sym stays.flat) (sound.chained (was e)));
+      tracks = λ e. subst (λ past. Tracks past after.outstanding.operations) (sym journal) (subst (Tracks before.journal.entries) (sym operations) (sound.tracks (was e)));
+      free = λ e alone. operations ∙ sound.free (was e) (subst IsAlone same.code alone);
+      settled = λ some. settles (sound.settled (subst (λ (o : Option Item). IsSome o) runs some));
+      valid = subst IsValid (sym same.code) sound.valid;
+      meant = subst IsMeant (sym same.code) sound.meant;
+      ran = on_its_way (machine_of after) before.code.now before.core before.bound before.journal.entries (state_of before) r.function
+          same.code same.core same.bound journal state r.begins r.goes;
+    }
 
-module _ (before after : Running) (still : before.ended ≡ None) (sound : IsSound before) (keeps : Keeps before after)
+pub code_of : (before after : Running) → Keeps before after → IsSameCode before after
+code_of before after k = record { code = k.code; core = k.core; bound = k.bound }
+
+-- ---- a move
+
+module _ (before after : Running) (still : before.ended ≡ None) (sound : IsSound before) (keeps : Keeps before after) (none : before.threads.pending ≡ false)
     (moved : exec before.code.now before.bound (flat_of before) ≡ state_of after) where
   abbrev fit : IsFit before.code.now (flat_of before)
   fit = sound.fit still
 
+  leads_on : after.ended ≡ None → exec before.code.now before.bound (flat_of before) ≡ On (flat_of after)
+  leads_on e = moved ∙ running (flat_of after) after.ended e
+
   -- a move leads to a fit state in which less is left to do
   better : (ranks : List ℕ) → IsRanked before.code.now ranks → after.ended ≡ None
       → IsFit before.code.now (flat_of after) × (left ranks before.bound (flat_of after) < left ranks before.bound (flat_of before))
-  better ranks r e = subst (Onward (λ n. IsFit before.code.now n × (left ranks before.bound n < left ranks before.bound (flat_of before)))) (moved ∙ running (flat_of after) after.ended e)
-      (moves_on before.code.now before.bound sound.valid (alone_is_meant before.code.now sound.alone) ranks r (flat_of before) fit)
+  better ranks r e =
+      let b = before.bound in
+      let on = subst (Onward (λ n. IsFit before.code.now n × (left_to_come ranks b n < left_to_come ranks b (flat_of before)))) (leads_on e)
+      (moves_on before.code.now b sound.valid sound.meant ranks r (flat_of before) fit) in
+      let less = on.1 in
+      (on.0, omega (arith, less))
 
   still_chained : after.ended ≡ None → AreChained before.code.now (flat_of after)
-  still_chained e = subst (Onward (AreChained before.code.now)) (moved ∙ running (flat_of after) after.ended e)
-      (chained_on before.code.now before.bound (flat_of before) sound.valid (alone_is_meant before.code.now sound.alone) fit (sound.chained still))
+  still_chained e = subst (Onward (AreChained before.code.now)) (leads_on e)
+      (chained_on before.code.now before.bound (flat_of before) sound.valid sound.meant fit (sound.chained still))
+
+  still_tracks : after.ended ≡ None → Tracks after.journal.entries after.outstanding.operations
+  still_tracks e =
+      let starts = subst (Onward (λ (n : Flat). Starts before.outstanding.operations n.operations)) (leads_on e)
+      (exec_starts (flat_of before) before.code.now before.bound sound.meant refl) in
+      subst (λ past. Tracks past after.outstanding.operations) (sym keeps.journal)
+      (tracks_started before.journal.entries before.outstanding.operations after.outstanding.operations (sound.tracks still) starts)
+
+  still_free : after.ended ≡ None → IsAlone after.code.now → after.outstanding.operations ≡ []
+  still_free e alone =
+      let its : IsAlone before.code.now = subst IsAlone keeps.code alone in
+      subst (Onward IsFree) (leads_on e) (stays_free before.code.now before.bound its (flat_of before) (sound.free still its))
 
   pub still_sound : (ranks : List ℕ) → IsRanked before.code.now ranks → IsSound after
   still_sound ranks r = record {
     fit = λ e. subst (λ code. IsFit code (flat_of after)) (sym keeps.code) (better ranks r e).0;
     chained = λ e. subst (λ code. AreChained code (flat_of after)) (sym keeps.code) (still_chained e);
-    valid = rw keeps.code sound.valid;
-    alone = rw keeps.code sound.alone;
-    quiet = keeps.journal ∙ sound.quiet;
-    ran = run_on (machine_of before) (machine_of after) (same_core before after keeps) sound.ran (flat_of before) (running (flat_of before) before.ended still) (sym moved);
+    tracks = still_tracks;
+    free = still_free;
+    settled = λ some. keeps.pending ∙ none;
+    valid = subst IsValid (sym keeps.code) sound.valid;
+    meant = subst IsMeant (sym keeps.code) sound.meant;
+    ran = on_its_way (machine_of after) before.code.now before.core before.bound before.journal.entries (exec before.code.now before.bound (flat_of before)) sound.ran.function
+        keeps.code keeps.core keeps.bound keeps.journal (sym moved) sound.ran.begins
+        (GoesOn-more (exec before.code.now before.bound) (first_flat before.code.now sound.ran.function before.journal.entries) (flat_of before)
+        (subst (GoesOn (exec before.code.now before.bound) (first_flat before.code.now sound.ran.function before.journal.entries)) (running (flat_of before) before.ended still) sound.ran.goes));
   }
 
-  less_left : (ranks : List ℕ) → IsRanked before.code.now ranks → (o : Option Pause) → after.ended ≡ o
+  less_left : (ranks : List ℕ) → IsRanked before.code.now ranks → (o : Option Ending) → after.ended ≡ o
       → left_from o (left ranks after.bound (flat_of after)) < suc (left ranks before.bound (flat_of before))
   less_left ranks r None e =
       let less = (better ranks r e).1 in
       let same : left ranks after.bound (flat_of after) ≡ left ranks before.bound (flat_of after) = ap (λ bound. left ranks bound (flat_of after)) keeps.bound in
       omega (arith, less, same)
-  less_left ranks r (Some pause) e = omega arith
+  less_left ranks r (Some ending) e = omega arith
 
   pub less : (ranks : List ℕ) → IsRanked before.code.now ranks → left_of ranks after < left_of ranks before
   less ranks r = rw still (less_left ranks r after.ended refl)
+
+-- ---- an entry
+
+resumed_shared : (m : Flat) (v : Cell) (o : Option Item) → (resumed m v o).shared ≡ m.shared
+resumed_shared m v None = refl
+resumed_shared m v (Some t) = refl
+
+resumed_operations : (m : Flat) (v : Cell) (o : Option Item) → (resumed m v o).operations ≡ m.operations
+resumed_operations m v None = refl
+resumed_operations m v (Some t) = refl
+
+resumed_running : (m : Flat) (v : Cell) (o : Option Item) → (resumed m v o).running ≡ m.running
+resumed_running m v None = refl
+resumed_running m v (Some t) = refl
+
+module _ (before after : Running) (event : Event) (stamp : ℕ) (still : before.ended ≡ None) (idle : before.schedule.running ≡ None) (sound : IsSound before) (h : Enters before event stamp after) where
+  abbrev entry : Entry
+  entry = entry_now before event stamp
+
+  abbrev shared : Shared
+  shared = with_entry (shared_of before) entry []
+
+  abbrev code : Parts
+  code = before.code.now
+
+  came : Comes before.frames before.outstanding.operations h.arrival
+  came = comes_of before.frames before.outstanding.operations h.arrival before.journal.entries event h.fits
+
+  pub entered_journal : after.journal.entries ≡ before.journal.entries ++ entry ∷ []
+  entered_journal = ap (λ (f : Flat). f.shared.past) h.flat ∙ ap (λ (s : Shared). s.past)
+      (resumed_shared (record (flat_of before) { shared = shared; store = h.arrival.store; operations = h.arrival.operations }) ok h.arrival.woken)
+
+  entered_operations : after.outstanding.operations ≡ h.arrival.operations
+  entered_operations = ap (λ (f : Flat). f.operations) h.flat
+      ∙ resumed_operations (record (flat_of before) { shared = shared; store = h.arrival.store; operations = h.arrival.operations }) ok h.arrival.woken
+
+  pub entered_idle : after.schedule.running ≡ None
+  entered_idle = ap (λ (f : Flat). f.running) h.flat
+      ∙ resumed_running (record (flat_of before) { shared = shared; store = h.arrival.store; operations = h.arrival.operations }) ok h.arrival.woken ∙ idle
+
+  pub entered_on : after.ended ≡ None
+  entered_on = h.ended ∙ still
+
+  entered_fit : IsFit code (flat_of after)
+  entered_fit = subst (IsFit code) (sym h.flat) (arrived_fit code (flat_of before) (sound.fit still) idle sound.valid.one_use shared h.arrival came)
+
+  entered_chained : AreChained code (flat_of after)
+  entered_chained = subst (AreChained code) (sym h.flat) (comes_chained code (flat_of before) (sound.fit still) (sound.chained still) idle shared h.arrival came)
+
+  entered_tracks : Tracks after.journal.entries after.outstanding.operations
+  entered_tracks =
+      let tracks = tracks_entered before.journal.entries before.outstanding.operations (sound.tracks still) entry before.frames h.arrival event refl h.fits in
+      subst (λ past. Tracks past after.outstanding.operations) (sym entered_journal) (subst (Tracks (before.journal.entries ++ entry ∷ [])) (sym entered_operations) tracks)
+
+  none_started : IsAlone code → ⊥
+  none_started alone = nothing_comes before.frames before.outstanding.operations h.arrival (sound.free still alone) came
+
+  pub entered_sound : IsSound after
+  entered_sound =
+      let r = sound.ran in
+      let run = subst (GoesOn (exec code before.bound) (first_flat code r.function before.journal.entries)) (running (flat_of before) before.ended still) r.goes in
+      let comes = run_arrives code before.bound entry r.function before.journal.entries (flat_of before) run h.arrival idle refl refl h.fits in
+      record {
+        fit = λ e. subst (λ c. IsFit c (flat_of after)) (sym h.same.code) entered_fit;
+        chained = λ e. subst (λ c. AreChained c (flat_of after)) (sym h.same.code) entered_chained;
+        tracks = λ e. entered_tracks;
+        free = λ e alone. absurd (none_started (subst IsAlone h.same.code alone));
+        settled = λ some. let no : false ≡ true = subst (λ (o : Option Item). IsSome o) entered_idle some in absurd (cc);
+        valid = subst IsValid (sym h.same.code) sound.valid;
+        meant = subst IsMeant (sym h.same.code) sound.meant;
+        ran = on_its_way (machine_of after) code before.core before.bound (before.journal.entries ++ entry ∷ []) (On (arrived (flat_of before) shared h.arrival)) r.function
+            h.same.code h.same.core h.same.bound entered_journal (running (flat_of after) after.ended entered_on ∙ ap (λ f. On f) h.flat) r.begins comes;
+      }
+
+  -- no more is left to do
+  pub entered_less : (ranks : List ℕ) → left_of ranks after ≤ left_of ranks before
+  entered_less ranks =
+      let falls = arrived_falls code before.bound (flat_of before) (sound.fit still) idle ranks shared refl h.arrival came in
+      let now : left ranks after.bound (flat_of after) ≡ left ranks before.bound (arrived (flat_of before) shared h.arrival) =
+      ap (λ bound. left ranks bound (flat_of after)) h.same.bound ∙ ap (left ranks before.bound) h.flat in
+      let was : left_of ranks before ≡ suc (left ranks before.bound (flat_of before)) = ap (λ o. left_from o (left ranks before.bound (flat_of before))) still in
+      let is : left_of ranks after ≡ suc (left ranks after.bound (flat_of after)) = ap (λ o. left_from o (left ranks after.bound (flat_of after))) entered_on in
+      omega (arith, falls, now, was, is)
 
 -- an instruction is a move
 pub moved_by : (before after : Running) (t : Item) (instr : Instr) → before.schedule.running ≡ Some t → slice_get before.code.now.instrs before.place ≡ Some instr → Does before instr after
@@ -115,10 +255,13 @@ moved_by before after t instr run here does =
 -- ---- several turns
 
 pub keeps_on : (a b c : Running) → Keeps a b → Keeps b c → Keeps a c
-keeps_on a b c k l = record { code = l.code ∙ k.code; core = l.core ∙ k.core; bound = l.bound ∙ k.bound; journal = l.journal ∙ k.journal }
+keeps_on a b c k l = record { code = l.code ∙ k.code; core = l.core ∙ k.core; bound = l.bound ∙ k.bound; journal = l.journal ∙ k.journal; pending = l.pending ∙ k.pending }
+
+pub codes_on : (a b c : Running) → IsSameCode a b → IsSameCode b c → IsSameCode a c
+codes_on a b c k l = record { code = l.code ∙ k.code; core = l.core ∙ k.core; bound = l.bound ∙ k.bound }
 
 -- one turn more of the same code
-pub goes_on : (a b c : Running) → Keeps a b → b.ended ≡ None → GoesOn (exec a.code.now a.bound) (state_of a) (state_of b) → state_of c ≡ exec b.code.now b.bound (flat_of b)
+pub goes_on : (a b c : Running) → IsSameCode a b → b.ended ≡ None → GoesOn (exec a.code.now a.bound) (state_of a) (state_of b) → state_of c ≡ exec b.code.now b.bound (flat_of b)
     → GoesOn (exec a.code.now a.bound) (state_of a) (state_of c)
 goes_on a b c k still g e =
     let same : state_of c ≡ exec a.code.now a.bound (flat_of b) = e ∙ ap (λ code. exec code b.bound (flat_of b)) k.code ∙ ap (λ n. exec a.code.now n (flat_of b)) k.bound in
@@ -131,23 +274,15 @@ then_moves f a (Over e) c g k h = subst (GoesOn f a) (sym h) g
 then_moves f a (On s) c g zero h = subst (GoesOn f a) (sym h) g
 then_moves f a (On s) c g (suc k) h = then_moves f a (f s) c (GoesOn-more f a s g) k h
 
-pub goes_then : (a b c : Running) → Keeps a b → GoesOn (exec a.code.now a.bound) (state_of a) (state_of b) → GoesOn (exec b.code.now b.bound) (state_of b) (state_of c)
+pub goes_then : (a b c : Running) → IsSameCode a b → GoesOn (exec a.code.now a.bound) (state_of a) (state_of b) → GoesOn (exec b.code.now b.bound) (state_of b) (state_of c)
     → GoesOn (exec a.code.now a.bound) (state_of a) (state_of c)
 goes_then a b c k g h =
     let same : GoesOn (exec a.code.now a.bound) (state_of b) (state_of c) = rw (sym k.code, sym k.bound) h in
     then_moves (exec a.code.now a.bound) (state_of a) (state_of b) (state_of c) g same.0 same.1
 
--- none, and one
+-- none
 pub stays_there : (a b : Running) → state_of b ≡ state_of a → GoesOn (exec a.code.now a.bound) (state_of a) (state_of b)
 stays_there a b e = subst (GoesOn (exec a.code.now a.bound) (state_of a)) (sym e) (GoesOn-none (exec a.code.now a.bound) (state_of a))
-
-pub one_move : (a b : Running) → a.ended ≡ None → state_of b ≡ exec a.code.now a.bound (flat_of a) → GoesOn (exec a.code.now a.bound) (state_of a) (state_of b)
-one_move a b still e =
-    goes_on a a b (record { code = refl; core = refl; bound = refl; journal = refl }) still (GoesOn-none (exec a.code.now a.bound) (state_of a)) e
-
-pub none_of : (o : Option Pause) → is_none o ≡ true → o ≡ None
-none_of None e = refl
-none_of (Some pause) e = let no : false ≡ true = e in cc
 
 -- ---- whether a thread runs
 
@@ -158,3 +293,13 @@ is_item (Some t) h = (t, refl)
 pub none_item : (o : Option Item) (b : Bool) → b ≡ true → is_some o ≡ not b → o ≡ None
 none_item None b e h = refl
 none_item (Some t) b e h = let no : true ≡ false = h ∙ ap not e in absurd (cc)
+
+-- ---- nothing that the code's meaning sees
+
+pub stays_state : (before after : Running) → Stays before after → state_of after ≡ state_of before
+stays_state before after stays = ap (λ f. end_or f after.ended) stays.flat ∙ ap (end_or (flat_of before)) stays.ended
+
+pub stays_left : (before after : Running) → Stays before after → IsSameCode before after → (ranks : List ℕ) → left_of ranks after ≡ left_of ranks before
+stays_left before after stays same ranks =
+    ap (λ o. left_from o (left ranks after.bound (flat_of after))) stays.ended ∙ ap (λ bound. left_from before.ended (left ranks bound (flat_of after))) same.bound
+    ∙ ap (λ f. left_from before.ended (left ranks before.bound f)) stays.flat

@@ -1,7 +1,7 @@
 -- The blocks of a core, as the code's meaning sees them.
 use Rattle.std.specs.Prelude.{List, Option, Some, None, map}
 use Rattle.finish_block.specs.declared.block.Block as kept
-use Rattle.stack_code.specs.Machine.{Block}
+use Rattle.code_meaning.specs.Machine.{Block}
 
 abbrev pub block_of : Option kept.Block → Option Block
 block_of None = None

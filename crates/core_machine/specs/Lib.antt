@@ -1,6 +1,6 @@
 pub mod Words
-pub mod Callers
 pub mod Blocks
+pub mod Tracks
 pub mod Machine
 pub mod State
 pub mod inner

@@ -1,15 +1,23 @@
 -- What contracts see of a core that runs code.
-use Rattle.std.specs.Prelude.{◌≡◌, ℕ, false, List, Some, IfSome}
+use Rattle.std.specs.Prelude.{◌≡◌, ℕ, true, false, Bool, List, [], ◌∷◌, Option, Some, None, IfSome, is_none, ◌&&◌, map}
+use Rattle.std.specs.List.{list_any}
 use Rattle.ac_base.specs.declared.ends.EndWord.TheVariants.{Stalled}
+use Rattle.ac_base.specs.declared.ends.CoreEnd.{CoreEnd}
 use Rattle.ac_base.specs.declared.ends.MachineEnd.{MachineEnd}
+use Rattle.ac_base.specs.declared.ends.Waiting.{Waiting}
 use Rattle.ac_base.specs.declared.entry.Entry.{Entry}
+use Rattle.work_item.specs.declared.ids.Item.{Item}
+use Rattle.cancel_scope.specs.Outstanding.{waiting_as, waits_on}
 use Rattle.core_state.specs.Moves.{Move, On, Over, GoesOn}
 use Rattle.core_state.specs.Shared.{core_end}
+use Rattle.core_machine.specs.declared.ending.Ending.{Ending}
+use Rattle.core_machine.specs.declared.ending.Ending.TheVariants as ending
 use Rattle.core_machine.specs.declared.pause.Pause.{Pause}
+use Rattle.core_machine.specs.declared.pause.Pause.TheVariants.{Finished, Trapped, OutOfSteps, Idle}
 use Rattle.core_machine.specs.Words.{word_of}
 use Rattle.stack_code.specs.declared.parts.Entered.{Entered}
 use Rattle.stack_code.specs.Parts.{Parts, Begins}
-use Rattle.stack_code.specs.Machine.{Flat, FlatEnd, exec, first_flat}
+use Rattle.code_meaning.specs.Machine.{Flat, FlatEnd, exec, first_flat}
 
 pub record Machine : Type 0 where
   pub code : Parts
@@ -37,12 +45,53 @@ pub record IsSameCore (before after : Machine) : Type 0 where
   pub bound : after.bound ≡ before.bound
   pub journal : after.journal ≡ before.journal
 
+-- ---- what is seen
+
+abbrev pub none_ready : List Item → Bool
+none_ready [] = true
+none_ready (t ∷ ready) = false
+
+-- no thread runs, and none is ready
+abbrev pub is_resting : Flat → Bool
+is_resting m = is_none m.running && none_ready m.ready
+
+-- it has not ended, and is idle
+abbrev pub is_idle : Move Flat FlatEnd → Bool
+is_idle (On m) = is_resting m
+is_idle (Over x) = false
+
+abbrev pub has_ended : Move Flat FlatEnd → Bool
+has_ended (On m) = false
+has_ended (Over x) = true
+
 -- what is seen of a machine: its end, or its present state as that of a core that is stalled
 abbrev pub IsSeen : Move Flat FlatEnd → MachineEnd → Type 0
 IsSeen (Over x) end = (x.core ≡ Some end.core) × (x.count ≡ end.instructions)
-IsSeen (On m) end = (core_end Stalled false m.store.globals m.operations m.shared ≡ end.core) × (m.count ≡ end.instructions)
+IsSeen (On m) end =
+    (core_end Stalled (is_resting m) m.store.globals m.operations m.shared ≡ end.core) × (m.count ≡ end.instructions)
 
--- the machine is over, by the end that it came back with
+abbrev pub waiting_at_end : Option CoreEnd → List Waiting
+waiting_at_end None = []
+waiting_at_end (Some end) = end.waiting
+
+-- the operations that have not ended
+abbrev pub waiting_of : Move Flat FlatEnd → List Waiting
+waiting_of (On m) = map waiting_as m.operations
+waiting_of (Over x) = waiting_at_end x.core
+
+-- an operation of the link is only known to its core
+abbrev pub waits : Move Flat FlatEnd → ℕ → Bool
+waits state link = list_any (waits_on link) (waiting_of state)
+
+-- ---- why it has come back
+
+-- the machine is over, by this end
+abbrev pub HasEnded : Move Flat FlatEnd → Ending → Type 0
+HasEnded (On m) ending = ⊥
+HasEnded (Over x) ending = IfSome x.core (λ end. end.word ≡ word_of ending)
+
 abbrev pub IsPaused : Move Flat FlatEnd → Pause → Type 0
-IsPaused (On m) pause = ⊥
-IsPaused (Over x) pause = IfSome x.core (λ end. end.word ≡ word_of pause)
+IsPaused state Finished = HasEnded state ending.Finished
+IsPaused state (Trapped trap) = HasEnded state (ending.Trapped trap)
+IsPaused state OutOfSteps = HasEnded state ending.OutOfSteps
+IsPaused state Idle = is_idle state ≡ true

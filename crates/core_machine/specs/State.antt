@@ -1,18 +1,21 @@
 -- The state that the fields of a running core stand for.
-use Rattle.std.specs.Prelude.{◌≡◌, [], Option, Some, None, false}
-use Rattle.core_machine.specs.declared.pause.Pause.{Pause}
+use Rattle.std.specs.Prelude.{◌≡◌, [], Option, Some, None, false, IsSome}
+use Rattle.core_machine.specs.declared.ending.Ending.{Ending}
 use Rattle.core_machine.specs.Words.{word_of}
 use Rattle.core_state.specs.Moves.{Move, On, Over}
 use Rattle.core_state.specs.Shared.{Shared}
-use Rattle.stack_code.specs.Machine.{Thread, Flat, FlatEnd, seen_of}
+use Rattle.code_meaning.specs.Machine.{Thread, Flat, FlatEnd, seen_of}
 use Rattle.stack_code.specs.Valid.{IsValid}
-use Rattle.stack_code.specs.Alone.{IsAlone}
+use Rattle.code_meaning.specs.Meant.{IsMeant}
+use Rattle.code_meaning.specs.Alone.{IsAlone}
 use Rattle.code_safety.specs.Fit.{IsFit}
 use Rattle.code_safety.specs.Chains.{AreChained}
 use Rattle.core_machine.specs.declared.running.Running.{Running}
 use Rattle.core_machine.specs.Blocks.{blocks_of}
+use Rattle.core_machine.specs.Tracks.{Tracks}
 use Rattle.core_machine.specs.Machine.{Machine, IsOnItsWay}
 
+-- the whole journal has come in
 abbrev pub shared_of : Running → Shared
 shared_of m = record { steps = m.steps; turn = m.turn; output = m.output.items; past = m.journal.entries; todo = [] }
 
@@ -24,18 +27,18 @@ flat_of m =
     record {
       shared = shared_of m;
       store = m.frames;
-      operations = [];
+      operations = m.outstanding.operations;
       running = m.schedule.running;
       current = thread_of m;
       ready = m.schedule.ready;
-      threads = m.threads.items;
+      threads = m.threads.threads;
       blocks = blocks_of m.blocks.blocks;
       count = m.count;
     }
 
-abbrev pub end_or : Flat → Option Pause → Move Flat FlatEnd
+abbrev pub end_or : Flat → Option Ending → Move Flat FlatEnd
 end_or m None = On m
-end_or m (Some pause) = Over (record { core = seen_of (word_of pause) false m; count = m.count })
+end_or m (Some ending) = Over (record { core = seen_of (word_of ending) false m; count = m.count })
 
 abbrev pub state_of : Running → Move Flat FlatEnd
 state_of m = end_or (flat_of m) m.ended
@@ -43,11 +46,14 @@ state_of m = end_or (flat_of m) m.ended
 abbrev pub machine_of : Running → Machine
 machine_of m = record { code = m.code.now; core = m.core; bound = m.bound; journal = m.journal.entries; state = state_of m }
 
--- a core that has not ended stands where its code can stand, and no reference dangles there
+-- a core that has not ended stands where its code can stand, no reference dangles there, and each offer that has not ended is that of an
+-- operation; one of code that is alone has no operations; and the thread that runs needs nothing that was given to another
 pub record IsSound (m : Running) : Type 0 where
   pub fit : m.ended ≡ None → IsFit m.code.now (flat_of m)
   pub chained : m.ended ≡ None → AreChained m.code.now (flat_of m)
+  pub tracks : m.ended ≡ None → Tracks m.journal.entries m.outstanding.operations
+  pub free : m.ended ≡ None → IsAlone m.code.now → m.outstanding.operations ≡ []
+  pub settled : IsSome m.schedule.running → m.threads.pending ≡ false
   pub valid : IsValid m.code.now
-  pub alone : IsAlone m.code.now
-  pub quiet : m.journal.entries ≡ []
+  pub meant : IsMeant m.code.now
   pub ran : IsOnItsWay (machine_of m)

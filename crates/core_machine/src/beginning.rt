@@ -2,11 +2,11 @@
 
 ghost use Rattle.std.specs.Prelude.{◌≡◌, ◌<◌, length, All, IfOk};
 ghost use Rattle.stack_code.specs.declared.parts.Start.{Start};
-ghost use Rattle.stack_code.specs.Machine.{with_starts};
+ghost use Rattle.code_meaning.specs.Machine.{with_starts};
 ghost use Rattle.core_state.specs.Frames.{has_words};
 ghost use Rattle.core_machine.specs.inner.Beginning.{HasBegun};
 
-use crate::pause::Pause;
+use crate::ending::Ending;
 use ac_base::{NoMemory, Trap};
 use stack_code::Start;
 use work_item::Frames;
@@ -35,11 +35,11 @@ pub fn has_room(frames: &Frames, slots: u32) -> bool
 
 /// Makes the frame with which a core begins; where there is no room for it, the core has ended, and
 /// no memory is taken.
-pub fn make_first(frames: &mut Frames, words: u32) -> Result<Option<Pause>, NoMemory>
+pub fn make_first(frames: &mut Frames, words: u32) -> Result<Option<Ending>, NoMemory>
     ensures { IfOk result (λ ended. HasBegun frames.old frames.new words ended) }
 {
     if !has_room(frames, words) {
-        return Ok(Some(Pause::Trapped(Trap::StackFull)));
+        return Ok(Some(Ending::Trapped(Trap::StackFull)));
     }
     frames.make(None, words)?;
     Ok(None)

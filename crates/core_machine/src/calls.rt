@@ -1,7 +1,7 @@
 //! Calls and returns.
 
 use crate::beginning::has_room;
-use crate::pause::Pause;
+use crate::ending::Ending;
 use crate::running::Running;
 use ac_base::{NoMemory, Trap};
 use work_item::Cell;
@@ -11,7 +11,7 @@ impl Running<'_> {
     ghost use Rattle.work_item.specs.Conditions.{IsGoing};
     ghost use Rattle.stack_code.specs.declared.instr.Instr.{Instr};
     ghost use Rattle.code_safety.specs.Fit.{is_int};
-    ghost use Rattle.core_machine.specs.inner.Operands.{on_top};
+    ghost use Rattle.thread_table.specs.Operands.{on_top};
     ghost use Rattle.core_machine.specs.inner.Needs.{HasCall};
     ghost use Rattle.core_machine.specs.inner.Changes.{Keeps, Does, Stays, Continues};
 
@@ -28,7 +28,7 @@ impl Running<'_> {
     {
         let entered = &self.code.functions()[function as usize];
         if !has_room(&self.frames, entered.words) {
-            self.end(Pause::Trapped(Trap::StackFull));
+            self.end(Ending::Trapped(Trap::StackFull));
             return Ok(false);
         }
         self.callers
@@ -63,7 +63,7 @@ impl Running<'_> {
         let value = self.operands.top_int();
         match self.callers.pop(Cell::Int(value), &mut self.operands)? {
             None => {
-                self.end(Pause::Finished);
+                self.end(Ending::Finished);
                 Ok(false)
             }
             Some(caller) => {

@@ -1,14 +1,14 @@
 //! The running core: a machine for stack code, whose state is the code's run.
 #![tactic(auto)]
 
+mod arrivals;
 mod beginning;
-mod callers;
 mod calls;
 mod counter;
+mod ending;
 mod machine;
-mod operands;
 mod operate;
-mod parked;
+mod operations;
 mod pause;
 mod running;
 mod threads;

@@ -1,9 +1,10 @@
 //! Why a core has come back.
 
 ghost use Rattle.std.specs.Prelude.{◌≡◌};
-ghost use Rattle.core_machine.specs.Words.{word_of};
+ghost use Rattle.core_machine.specs.Words.{pause_of};
 
-use ac_base::{EndWord, Trap};
+use crate::ending::Ending;
+use ac_base::Trap;
 
 /// Why `advance` has come back.
 #[derive(Clone, Copy, Debug, PartialEq, Eq)]
@@ -14,15 +15,17 @@ pub enum Pause {
     Trapped(Trap),
     /// All steps are used, and the running thread has a next one; or all turns are used.
     OutOfSteps,
+    /// No thread runs and none is ready.
+    Idle,
 }
 
-/// The end word of a core that has come back so.
-pub fn end_word(pause: Pause) -> EndWord
-    ensures { result ≡ word_of pause }
+/// Why a core has come back that has ended so.
+pub fn at_end(ending: Ending) -> Pause
+    ensures { result ≡ pause_of ending }
 {
-    match pause {
-        Pause::Finished => EndWord::Finished,
-        Pause::Trapped(trap) => EndWord::Trapped(trap),
-        Pause::OutOfSteps => EndWord::OutOfSteps,
+    match ending {
+        Ending::Finished => Pause::Finished,
+        Ending::Trapped(trap) => Pause::Trapped(trap),
+        Ending::OutOfSteps => Pause::OutOfSteps,
     }
 }

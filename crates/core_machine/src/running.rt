@@ -2,24 +2,25 @@
 
 ghost use Rattle.std.specs.Prelude.{◌≡◌};
 
-use crate::callers::Callers;
 use crate::counter::Counter;
-use crate::operands::Operands;
+use crate::ending::Ending;
 use crate::operate::{binary, unary};
-use crate::parked::Parked;
-use crate::pause::Pause;
+use crate::pause::{Pause, at_end};
 use ac_base::{Journal, NoMemory, Trap};
+use cancel_scope::Outstanding;
 use core_scheduler::Scheduler;
 use core_values::{add_formatted, within};
 use finish_block::Blocks;
 use stack_code::{Code, Instr};
 use std::alloc::Global;
+use thread_table::{Callers, Operands, ThreadTable};
 use work_item::{BlockId, Cell, FrameId, Frames, Place};
 
-/// The fields of a core that runs: its globals and frames; the frame, the address, the operands,
-/// the callers and the innermost block of the running thread; which threads run and are ready, the
-/// others at their numbers, and the blocks; the steps and turns that it has used, the bytes that it
-/// has printed, the instructions begun, and how it has ended.
+/// The fields of a core that runs: its journal; its globals and frames, and its operations that have
+/// not ended; the frame, the address, the operands, the callers and the innermost block of the
+/// running thread; which threads run and are ready, the others at their numbers, and the blocks; the
+/// steps and turns that it has used, the bytes that it has printed, the instructions begun, and how
+/// it has ended.
 #[derive(Drop)]
 pub struct Running<'a> {
     pub code: &'a Code,
@@ -27,28 +28,29 @@ pub struct Running<'a> {
     pub bound: u64,
     pub journal: Journal,
     pub frames: Frames,
+    pub outstanding: Outstanding,
     pub frame: FrameId,
     pub place: usize,
     pub operands: Operands,
     pub callers: Callers,
     pub block: Option<BlockId>,
     pub schedule: Scheduler,
-    pub threads: Vec<Parked>,
+    pub threads: ThreadTable,
     pub blocks: Blocks,
     pub steps: u64,
     pub turn: u64,
     pub output: Vec<u8>,
     pub count: Counter,
-    pub ended: Option<Pause>,
+    pub ended: Option<Ending>,
     pub alloc: Global,
 }
 
 impl Running<'_> {
     ghost use Rattle.std.specs.Prelude.{◌≡◌, true, None, Some, ◌+◌, ◌-◌, ◌≤◌, ◌<◌, ◌^◌, min, length};
     ghost use Rattle.stack_code.specs.declared.instr.Instr.{Instr};
-    ghost use Rattle.core_machine.specs.declared.pause.Pause.{Pause};
+    ghost use Rattle.core_machine.specs.declared.ending.Ending.{Ending};
     ghost use Rattle.code_safety.specs.Fit.{is_int};
-    ghost use Rattle.core_machine.specs.inner.Operands.{on_top};
+    ghost use Rattle.thread_table.specs.Operands.{on_top};
     ghost use Rattle.core_machine.specs.inner.Changes.{Keeps, Does, Continues};
 
     /// One instruction more.
@@ -78,11 +80,11 @@ impl Running<'_> {
     }
 
     /// One instruction more, by which the core has ended.
-    pub fn end(&mut self, pause: Pause)
-        ensures { self.new ≡ record self.old { count = min (self.old.count + 1) (2 ^ 64 - 1); ended = Some pause } }
+    pub fn end(&mut self, ending: Ending)
+        ensures { self.new ≡ record self.old { count = min (self.old.count + 1) (2 ^ 64 - 1); ended = Some ending } }
     {
         self.count_one();
-        self.ended = Some(pause);
+        self.ended = Some(ending);
     }
 
     /// Uses a step. It says whether there was one.
@@ -94,7 +96,7 @@ impl Running<'_> {
         ensures continues { result ≡ true → Continues self.old self.new }
     {
         if self.steps >= self.bound {
-            self.ended = Some(Pause::OutOfSteps);
+            self.ended = Some(Ending::OutOfSteps);
             return false;
         }
         self.steps += 1;
@@ -166,7 +168,7 @@ impl Running<'_> {
     ghost use Rattle.work_item.specs.Conditions.{Lives, HasLevel, HasSlot, HasGlobal};
     ghost use Rattle.stack_code.specs.declared.instr.Instr.{Instr};
     ghost use Rattle.code_safety.specs.Fit.{is_int};
-    ghost use Rattle.core_machine.specs.inner.Operands.{on_top};
+    ghost use Rattle.thread_table.specs.Operands.{on_top};
     ghost use Rattle.core_machine.specs.State.{flat_of, state_of};
     ghost use Rattle.core_machine.specs.inner.Changes.{Keeps, Does, Stays, Continues};
 
@@ -308,7 +310,8 @@ impl Running<'_> {
     ghost use Rattle.work_item.specs.Conditions.{HomeLives};
     ghost use Rattle.stack_code.specs.declared.instr.Instr.{Instr};
     ghost use Rattle.code_safety.specs.Fit.{is_int};
-    ghost use Rattle.core_machine.specs.inner.Operands.{is_reference, Stand, second_place};
+    ghost use Rattle.thread_table.specs.Operands.{is_reference};
+    ghost use Rattle.core_machine.specs.inner.Operands.{Stand, second_place};
     ghost use Rattle.core_machine.specs.inner.Changes.{Keeps, Does, Continues};
 
     /// Pops an index, then a reference, and pushes that element. Each of these says whether it did so,
@@ -332,7 +335,7 @@ impl Running<'_> {
                 true
             }
             Err(trap) => {
-                self.end(Pause::Trapped(trap));
+                self.end(Ending::Trapped(trap));
                 false
             }
         }
@@ -358,7 +361,7 @@ impl Running<'_> {
                 true
             }
             Err(trap) => {
-                self.end(Pause::Trapped(trap));
+                self.end(Ending::Trapped(trap));
                 false
             }
         }
@@ -387,7 +390,7 @@ impl Running<'_> {
                 true
             }
             Err(trap) => {
-                self.end(Pause::Trapped(trap));
+                self.end(Ending::Trapped(trap));
                 false
             }
         }
@@ -400,7 +403,8 @@ impl Running<'_> {
     ghost use Rattle.std.specs.Prelude.{◌≡◌, true, None, Some, IsSome, ◌+◌, ◌-◌, ◌≤◌, ◌<◌, ◌^◌, [], ◌∷◌, length};
     ghost use Rattle.stack_code.specs.declared.instr.Instr.{Instr};
     ghost use Rattle.code_safety.specs.Fit.{is_int};
-    ghost use Rattle.core_machine.specs.inner.Operands.{on_top, Stand};
+    ghost use Rattle.thread_table.specs.Operands.{on_top};
+    ghost use Rattle.core_machine.specs.inner.Operands.{Stand};
     ghost use Rattle.core_machine.specs.inner.Operators.{unary, binary};
     ghost use Rattle.core_machine.specs.inner.Changes.{Keeps, Does, Continues};
 
@@ -440,7 +444,7 @@ impl Running<'_> {
                 true
             }
             Err(trap) => {
-                self.end(Pause::Trapped(trap));
+                self.end(Ending::Trapped(trap));
                 false
             }
         }
@@ -474,7 +478,7 @@ impl Running<'_> {
             self.go_on();
             Ok(true)
         } else {
-            self.end(Pause::Trapped(Trap::OutputFull));
+            self.end(Ending::Trapped(Trap::OutputFull));
             Ok(false)
         }
     }
@@ -483,22 +487,26 @@ impl Running<'_> {
 // ---- one instruction after another
 
 impl Running<'_> {
-    ghost use Rattle.std.specs.Prelude.{◌≡◌, None, Some, IsSome, true, ◌<◌, ◌^◌, OnOk, OnErr, IfOk, slice_get};
+    ghost use Rattle.std.specs.Prelude.{◌≡◌, ◌≢◌, None, Some, IsSome, true, false, ◌<◌, ◌^◌, OnOk, OnErr, IfOk, slice_get};
     ghost use Rattle.core_state.specs.Moves.{GoesOn};
     ghost use Rattle.stack_code.specs.Kept.{IsRanked};
-    ghost use Rattle.stack_code.specs.Machine.{exec};
+    ghost use Rattle.code_meaning.specs.Machine.{exec};
+    ghost use Rattle.code_meaning.specs.Alone.{IsAlone};
+    ghost use Rattle.core_machine.specs.declared.pause.Pause.{Pause};
+    ghost use Rattle.core_machine.specs.Machine.{is_resting, is_idle, has_ended, IsPaused};
     ghost use Rattle.core_machine.specs.State.{flat_of, state_of, IsSound};
-    ghost use Rattle.core_machine.specs.inner.Left.{left_of};
+    ghost use Rattle.core_machine.specs.inner.Left.{left_of, may_go};
     ghost use Rattle.core_machine.specs.inner.Needs.{Finds, is_on_threads};
-    ghost use Rattle.core_machine.specs.inner.Changes.{Keeps, Does, Stays, Continues};
+    ghost use Rattle.core_machine.specs.inner.Changes.{IsSameCode, Keeps, Does, Stays, Continues};
 
-    // An instruction on blocks and threads, which finds what it needs.
+    // An instruction on blocks, threads and operations, which finds what it needs.
     fn change_threads(&mut self, instr: Instr) -> Result<(), NoMemory>
         requires running { self.old.ended ≡ None }
         requires runs { IsSome self.old.schedule.running }
         requires inside { self.old.place < 2 ^ 32 }
         requires threads { is_on_threads instr ≡ true }
         requires finds { Finds self.old.code.now (flat_of self.old) instr }
+        requires settled { self.old.threads.pending ≡ false }
         ensures ok { OnOk result (Does self.old instr self.new) }
         ensures err { OnErr result (Stays self.old self.new) }
         ensures keeps { Keeps self.old self.new }
@@ -512,6 +520,8 @@ impl Running<'_> {
             Instr::Async { slots, to } => self.start(slots, to),
             Instr::End => self.end_thread(),
             Instr::Yield => self.yield_now(),
+            Instr::Send { channel } => self.send(channel),
+            Instr::Recv { channel } => self.receive(channel),
             _ => unreachable!(),
         }
     }
@@ -524,6 +534,7 @@ impl Running<'_> {
         requires runs { IsSome self.old.schedule.running }
         requires inside { self.old.place < 2 ^ 32 }
         requires finds { Finds self.old.code.now (flat_of self.old) instr }
+        requires settled { self.old.threads.pending ≡ false }
         ensures ok { OnOk result (Does self.old instr self.new) }
         ensures err { OnErr result (Stays self.old self.new) }
         ensures keeps { Keeps self.old self.new }
@@ -574,7 +585,9 @@ impl Running<'_> {
             | Instr::Finish { .. }
             | Instr::Async { .. }
             | Instr::End
-            | Instr::Yield => {
+            | Instr::Yield
+            | Instr::Send { .. }
+            | Instr::Recv { .. } => {
                 self.change_threads(instr)?;
                 return Ok(false);
             }
@@ -638,50 +651,130 @@ impl Running<'_> {
         }
     }
 
-    // A stretch of a core that has not ended, or the next dispatch.
-    fn turn(&mut self, _ranks: &[u64]) -> Result<(), NoMemory>
+    // What was given to a thread goes onto its operands.
+    fn settle(&mut self) -> Result<(), NoMemory>
+        ensures stays { Stays self.old self.new }
+        ensures same { IsSameCode self.old self.new }
+        ensures schedule { self.new.schedule ≡ self.old.schedule }
+        ensures pending { self.old.threads.pending ≡ false → self.new.threads.pending ≡ false }
+        ensures ok { OnOk result (self.new.threads.pending ≡ false) }
+    {
+        self.threads.settle()
+    }
+
+    // No thread runs: the one at the front of the ready list does.
+    fn start_next(&mut self, _ranks: &[u64]) -> Result<(), NoMemory>
         requires running { self.old.ended ≡ None }
+        requires idle { self.old.schedule.running ≡ None }
+        requires active { is_resting (flat_of self.old) ≡ false }
         requires sound { IsSound self.old }
         requires ranked { IsRanked self.old.code.now _ranks.now }
         ensures goes { GoesOn (exec self.old.code.now self.old.bound) (state_of self.old) (state_of self.new) }
-        ensures keeps { Keeps self.old self.new }
+        ensures same { IsSameCode self.old self.new }
+        ensures journal { self.new.journal.entries ≡ self.old.journal.entries }
+        ensures sound { IsSound self.new }
+        ensures less { OnOk result (left_of _ranks.now self.new < left_of _ranks.now self.old) }
+    {
+        self.settle()?;
+        self.dispatch();
+        Ok(())
+    }
+
+    // A stretch of a core that has not ended, or the next dispatch.
+    fn turn(&mut self, _ranks: &[u64]) -> Result<(), NoMemory>
+        requires running { self.old.ended ≡ None }
+        requires active { is_resting (flat_of self.old) ≡ false }
+        requires sound { IsSound self.old }
+        requires ranked { IsRanked self.old.code.now _ranks.now }
+        ensures goes { GoesOn (exec self.old.code.now self.old.bound) (state_of self.old) (state_of self.new) }
+        ensures same { IsSameCode self.old self.new }
+        ensures journal { self.new.journal.entries ≡ self.old.journal.entries }
         ensures sound { IsSound self.new }
         ensures less { OnOk result (left_of _ranks.now self.new < left_of _ranks.now self.old) }
     {
         if self.schedule.running().is_none() {
-            self.dispatch();
-            return Ok(());
+            return self.start_next(_ranks);
         }
         self.stretch(_ranks)
     }
 
-    // The ranks are there for the proof alone that the core comes to its end.
-    fn run_by(&mut self, _ranks: &[u64]) -> Result<Pause, NoMemory>
-        requires sound { IsSound self.old }
-        requires ranked { IsRanked self.old.code.now _ranks.now }
-        ensures goes { GoesOn (exec self.old.code.now self.old.bound) (state_of self.old) (state_of self.new) }
-        ensures over { IfOk result (λ pause. self.new.ended ≡ Some pause) }
-        ensures keeps { Keeps self.old self.new }
-        ensures sound { IsSound self.new }
+    /// Whether no thread runs, and none is ready.
+    #[tactic(auto, using(crate::proofs::Lives::none_at_front))]
+    pub fn is_resting(&self) -> bool
+        ensures { result ≡ is_resting (flat_of self.now) }
     {
-        'turns: while self.ended.is_none() {
-            self.turn(_ranks)?;
-        }
+        self.schedule.running().is_none() && self.schedule.front().is_none()
+    }
+
+    /// Whether it has not ended, and a thread runs or is ready.
+    pub fn may_go(&self) -> bool
+        ensures { result ≡ may_go self.now }
+    {
         match self.ended {
-            Some(pause) => Ok(pause),
-            None => unreachable!(),
+            None => !self.is_resting(),
+            Some(_) => false,
         }
     }
 
-    /// Runs the core until it has ended.
+    /// Whether it has not ended, no thread runs and none is ready.
+    pub fn is_idle(&self) -> bool
+        ensures { result ≡ is_idle (state_of self.now) }
+    {
+        match self.ended {
+            None => self.is_resting(),
+            Some(_) => false,
+        }
+    }
+
+    /// Whether it has ended.
+    pub fn has_ended(&self) -> bool
+        ensures { result ≡ has_ended (state_of self.now) }
+    {
+        match self.ended {
+            None => false,
+            Some(_) => true,
+        }
+    }
+
+    // The ranks are there for the proof alone that the core comes to its end, or to rest.
+    fn run_by(&mut self, _ranks: &[u64]) -> Result<(), NoMemory>
+        requires sound { IsSound self.old }
+        requires ranked { IsRanked self.old.code.now _ranks.now }
+        ensures goes { GoesOn (exec self.old.code.now self.old.bound) (state_of self.old) (state_of self.new) }
+        ensures rests { OnOk result (may_go self.new ≡ false) }
+        ensures same { IsSameCode self.old self.new }
+        ensures journal { self.new.journal.entries ≡ self.old.journal.entries }
+        ensures sound { IsSound self.new }
+    {
+        'turns: while self.may_go() {
+            self.turn(_ranks)?;
+        }
+        Ok(())
+    }
+
+    // Why it has come back.
+    fn pause(&self) -> Pause
+        requires { may_go self.now ≡ false }
+        ensures { IsPaused (state_of self.now) result }
+    {
+        match self.ended {
+            Some(ending) => at_end(ending),
+            None => Pause::Idle,
+        }
+    }
+
+    /// Runs the core until it has ended or comes to rest.
     pub fn run(&mut self) -> Result<Pause, NoMemory>
         requires { IsSound self.old }
         ensures goes { GoesOn (exec self.old.code.now self.old.bound) (state_of self.old) (state_of self.new) }
-        ensures over { IfOk result (λ pause. self.new.ended ≡ Some pause) }
-        ensures keeps { Keeps self.old self.new }
+        ensures pause { IfOk result (λ pause. IsPaused (state_of self.new) pause) }
+        ensures alone { IsAlone self.old.code.now → IfOk result (λ pause. pause ≢ Pause.Idle) }
+        ensures same { IsSameCode self.old self.new }
+        ensures journal { self.new.journal.entries ≡ self.old.journal.entries }
         ensures sound { IsSound self.new }
     {
         let ranks = self.code.ranks();
-        self.run_by(ranks)
+        self.run_by(ranks)?;
+        Ok(self.pause())
     }
 }

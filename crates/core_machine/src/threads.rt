@@ -1,20 +1,20 @@
 //! Threads and blocks.
 
 use crate::beginning::has_room;
-use crate::parked::Parked;
-use crate::pause::Pause;
+use crate::ending::Ending;
 use crate::running::Running;
 use ac_base::{NoMemory, Trap};
 use finish_block::Arrival;
 use std::mem;
+use thread_table::Parked;
 use work_item::{BlockId, Cell, Item};
 
 impl Running<'_> {
-    ghost use Rattle.std.specs.Prelude.{◌≡◌, ◌+◌, ◌-◌, ◌^◌, min, slice_set, ◌<◌, length, Some, IsSome};
+    ghost use Rattle.std.specs.Prelude.{◌≡◌, ◌+◌, ◌-◌, ◌^◌, min, slice_set, ◌<◌, length, Some, IsSome, false};
     ghost use Rattle.core_scheduler.specs.Schedule.{suspended};
     ghost use Rattle.finish_block.specs.Table.{woken, ended};
     ghost use Rattle.finish_block.specs.Conditions.{HasThread, ChildlessAtEnd};
-    ghost use Rattle.stack_code.specs.Machine.{nobody};
+    ghost use Rattle.code_meaning.specs.Machine.{nobody};
     ghost use Rattle.core_machine.specs.State.{flat_of, thread_of};
     ghost use Rattle.core_machine.specs.inner.Changes.{Keeps, with_woken};
 
@@ -45,34 +45,36 @@ impl Running<'_> {
         }
     }
 
-    // Keeps the running thread in the table, to go on at that address, and lets another one stand
-    // in its place.
-    fn park(&mut self, item: Item, place: usize, next: Parked)
-        requires { item.number < length self.old.threads.items }
+    /// Keeps the running thread in the table, to go on at that address, and lets another one stand
+    /// in its place.
+    pub fn park(&mut self, item: Item, place: usize, next: Parked)
+        requires listed { item.number < length self.old.threads.threads }
+        requires settled { self.old.threads.pending ≡ false }
         ensures flat { flat_of self.new ≡ record (flat_of self.old) {
           current = next;
-          threads = slice_set self.old.threads.items item.number (record (thread_of self.old) { place = place });
+          threads = slice_set self.old.threads.threads item.number (record (thread_of self.old) { place = place });
         } }
         ensures ended { self.new.ended ≡ self.old.ended }
         ensures keeps { Keeps self.old self.new }
     {
         self.place = place;
         let kept = self.stand(next);
-        self.threads[item.number as usize] = kept;
+        self.threads.keep(item, kept);
     }
 
     // No thread stands in the place of the running one, nor in the table.
     fn bury(&mut self, item: Item)
-        requires { item.number < length self.old.threads.items }
+        requires listed { item.number < length self.old.threads.threads }
+        requires settled { self.old.threads.pending ≡ false }
         ensures flat { flat_of self.new ≡ record (flat_of self.old) {
           current = nobody;
-          threads = slice_set self.old.threads.items item.number nobody;
+          threads = slice_set self.old.threads.threads item.number nobody;
         } }
         ensures ended { self.new.ended ≡ self.old.ended }
         ensures keeps { Keeps self.old self.new }
     {
         let _ = self.stand(Parked::nobody(self.alloc));
-        self.threads[item.number as usize] = Parked::nobody(self.alloc);
+        self.threads.keep(item, Parked::nobody(self.alloc));
     }
 
     // The running thread leaves a block for good, and wakes the owner where it is to.
@@ -92,8 +94,8 @@ impl Running<'_> {
         }
     }
 
-    // The running thread.
-    fn item(&self) -> Item
+    /// The running thread.
+    pub fn item(&self) -> Item
         requires { IsSome self.now.schedule.running }
         ensures { self.now.schedule.running ≡ Some result }
     {
@@ -116,9 +118,9 @@ impl Running<'_> {
 }
 
 impl Running<'_> {
-    ghost use Rattle.std.specs.Prelude.{◌≡◌, None, ◌<◌, ◌^◌, IsSome, OnOk, OnErr};
+    ghost use Rattle.std.specs.Prelude.{◌≡◌, None, ◌<◌, ◌^◌, IsSome, OnOk, OnErr, false};
     ghost use Rattle.stack_code.specs.declared.instr.Instr.{Instr};
-    ghost use Rattle.stack_code.specs.Machine.{exec};
+    ghost use Rattle.code_meaning.specs.Machine.{exec};
     ghost use Rattle.core_machine.specs.State.{flat_of, state_of};
     ghost use Rattle.core_machine.specs.inner.Needs.{IsListed, CanEnter, CanFinish, CanStart, CanEnd, HasNext};
     ghost use Rattle.core_machine.specs.inner.Changes.{Keeps, Does, Stays};
@@ -149,6 +151,7 @@ impl Running<'_> {
         requires inside { self.old.place < 2 ^ 32 }
         requires runs { IsSome self.old.schedule.running }
         requires can { CanFinish (flat_of self.old) }
+        requires settled { self.old.threads.pending ≡ false }
         ensures does { Does self.old (Instr.Finish slot) self.new }
         ensures keeps { Keeps self.old self.new }
     {
@@ -172,23 +175,24 @@ impl Running<'_> {
         requires inside { self.old.place < 2 ^ 32 }
         requires runs { IsSome self.old.schedule.running }
         requires can { CanStart (flat_of self.old) }
+        requires settled { self.old.threads.pending ≡ false }
         ensures ok { OnOk result (Does self.old (Instr.Async slots to) self.new) }
         ensures err { OnErr result (Stays self.old self.new) }
         ensures keeps { Keeps self.old self.new }
     {
         if !has_room(&self.frames, slots) {
-            self.end(Pause::Trapped(Trap::StackFull));
+            self.end(Ending::Trapped(Trap::StackFull));
             return Ok(());
         }
         let item = self.item();
         let block = self.innermost();
         self.schedule.reserve(1)?;
-        self.threads.reserve(1)?;
+        self.threads.reserve()?;
         let frame = self.frames.make(Some(self.frame), slots)?;
         let born = Item {
-            number: self.threads.len() as u64,
+            number: self.threads.len(),
         };
-        self.threads.push_reserved(Parked::nobody(self.alloc));
+        self.threads.add();
         self.blocks.begin(block);
         self.schedule.yield_to(born);
         self.count_one();
@@ -203,6 +207,7 @@ impl Running<'_> {
         requires running { self.old.ended ≡ None }
         requires runs { IsSome self.old.schedule.running }
         requires can { CanEnd (flat_of self.old) }
+        requires settled { self.old.threads.pending ≡ false }
         ensures ok { OnOk result (Does self.old Instr.End self.new) }
         ensures err { OnErr result (Stays self.old self.new) }
         ensures keeps { Keeps self.old self.new }
@@ -223,6 +228,7 @@ impl Running<'_> {
         requires inside { self.old.place < 2 ^ 32 }
         requires runs { IsSome self.old.schedule.running }
         requires listed { IsListed (flat_of self.old) }
+        requires settled { self.old.threads.pending ≡ false }
         ensures ok { OnOk result (Does self.old Instr.Yield self.new) }
         ensures err { OnErr result (Stays self.old self.new) }
         ensures keeps { Keeps self.old self.new }
@@ -240,6 +246,7 @@ impl Running<'_> {
         requires running { self.old.ended ≡ None }
         requires idle { self.old.schedule.running ≡ None }
         requires next { HasNext (flat_of self.old) }
+        requires settled { self.old.threads.pending ≡ false }
         ensures does { state_of self.new ≡ exec self.old.code.now self.old.bound (flat_of self.old) }
         ensures keeps { Keeps self.old self.new }
     {
@@ -247,14 +254,11 @@ impl Running<'_> {
             unreachable!()
         };
         if self.turn == u64::MAX {
-            self.ended = Some(Pause::OutOfSteps);
+            self.ended = Some(Ending::OutOfSteps);
             return;
         }
         self.turn += 1;
-        let next = mem::replace(
-            &mut self.threads[item.number as usize],
-            Parked::nobody(self.alloc),
-        );
+        let next = self.threads.take(item);
         let _ = self.stand(next);
     }
 }

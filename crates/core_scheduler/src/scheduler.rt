@@ -49,6 +49,13 @@ impl Scheduler {
         self.running
     }
 
+    /// The thread at the front, if one is ready.
+    pub fn front(&self) -> Option<Item>
+        ensures { result ≡ front self.now.ready }
+    {
+        self.ready.front().copied()
+    }
+
     /// Makes the spare at least n. After want of memory the running thread and the list are as
     /// before.
     pub fn reserve(&mut self, n: u32) -> Result<(), NoMemory>

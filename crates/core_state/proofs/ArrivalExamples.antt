@@ -4,7 +4,7 @@ use Rattle.std.specs.Prelude.{Option, true, false}
 use Rattle.ac_base.specs.declared.ends.CoreEnd.{CoreEnd}
 use Rattle.ac_base.specs.declared.entry.Payload.TheVariants.{Int, Read}
 use Rattle.ac_base.specs.declared.entry.Event.{Event}
-use Rattle.ac_base.specs.declared.entry.Event.TheVariants.{Offer, Withdraw, Know, Got}
+use Rattle.ac_base.specs.declared.entry.Event.TheVariants.{Offer, Withdraw, Know, Got, Pass}
 use Rattle.ac_base.specs.declared.entry.Entry.{Entry}
 use Rattle.work_item.specs.declared.ids.Item.{Item}
 use Rattle.work_item.specs.declared.cell.Place.{Place}
@@ -15,7 +15,7 @@ use Rattle.cancel_scope.specs.declared.operation.Operation.{Operation}
 use Rattle.cancel_scope.specs.Outstanding.{started, offered_as}
 use Rattle.core_state.specs.Moves.{Move, On, Over}
 use Rattle.core_state.specs.Shared.{Shared, with_entry}
-use Rattle.core_state.specs.Arrivals.{ok, is_offer, offers_on, Arrival, goes_on_waiting, has_ended, place_for, with_message}
+use Rattle.core_state.specs.Arrivals.{ok, is_offer, offers_on, goes_on_waiting, has_ended, place_for, with_message, passes_over}
 use Rattle.core_state.specs.Arrivals.{offers, ends_known, ends_received, arrives, comes_in, at_point, point}
 
 -- ---- a core with two globals, and three operations that have started
@@ -83,6 +83,14 @@ a_message_has_come = refl
 pub no_one_waits_for_a_message : (arrives [] store (five ∷ []) (Got 1 9 (pos 3)) ≡ None) × (arrives [] store (five ∷ hears ∷ []) (Got 0 9 (pos 3)) ≡ None)
 no_one_waits_for_a_message = (refl, refl)
 
+-- a withdrawn offer is passed over, and nothing ends
+pub one_is_passed_over : arrives [] store (five ∷ hears ∷ []) (Pass 1 9) ≡ Some (goes_on_waiting store (five ∷ hears ∷ []))
+one_is_passed_over = refl
+
+pub no_one_waits_so_none_is_passed_over : (arrives [] store (five ∷ []) (Pass 1 9) ≡ None) × (arrives [] store (five ∷ hears ∷ []) (Pass 0 9) ≡ None)
+    × (passes_over store (five ∷ []) None ≡ None)
+no_one_waits_so_none_is_passed_over = (refl, refl, refl)
+
 pub a_withdrawal_needs_a_cancel : arrives [] store (offered_as 0 five ∷ []) (Withdraw 0 0) ≡ None
 a_withdrawal_needs_a_cancel = refl
 
@@ -94,7 +102,8 @@ its_parts = (refl, refl, refl, refl, refl)
 pub where_there_is_one : (offers store (five ∷ []) 0 0 (Int (pos 5)) (Some five) ≡ Some (goes_on_waiting store (offered_as 0 five ∷ [])))
     × (ends_known store (offered_as 0 five ∷ []) 0 0 (Some (offered_as 0 five)) ≡ Some (has_ended store [] (offered_as 0 five)))
     × (ends_received store (hears ∷ []) 1 (pos 3) (Some hears) ≡ Some (has_ended (with_message store hears (pos 3)) [] hears))
-where_there_is_one = (refl, refl, refl)
+    × (passes_over store (hears ∷ []) (Some hears) ≡ Some (goes_on_waiting store (hears ∷ [])))
+where_there_is_one = (refl, refl, refl, refl)
 
 -- ---- dispatch points
 

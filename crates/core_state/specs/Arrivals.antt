@@ -1,7 +1,7 @@
 -- What comes in at a dispatch point: an entry of the journal, and what it makes of the operations of a core (Harris, Abadi, Isaacs,
 -- McIlroy, OOPSLA 2011, of operations that end by themselves).
-use Rattle.std.specs.Prelude.{ℕ, zero, suc, ◌+◌, ℤ, pos, List, [], ◌∷◌, ◌++◌, find, Option, Some, None}
-use Rattle.std.specs.Prelude.{Bool, true, false, nat_eq, if◌then◌else◌}
+use Rattle.std.specs.Prelude.{ℕ, ◌+◌, ℤ, pos, List, [], ◌∷◌, find, Option, Some, None}
+use Rattle.std.specs.Prelude.{Bool, false, nat_eq, if◌then◌else◌}
 use Rattle.ac_base.specs.declared.entry.Event.{Event}
 use Rattle.ac_base.specs.declared.entry.Event.TheVariants as event
 use Rattle.ac_base.specs.declared.entry.Payload.{Payload}
@@ -79,6 +79,11 @@ abbrev pub ends_received : Store → List Operation → ℕ → ℤ → Option O
 ends_received store os link value None = None
 ends_received store os link value (Some o) = Some (has_ended (with_message store o value) (without_first (is_to_receive link) os) o)
 
+-- a withdrawn offer is passed over while one waits for a message from the link, and it goes on waiting
+abbrev pub passes_over : Store → List Operation → Option Operation → Option Arrival
+passes_over store os None = None
+passes_over store os (Some o) = Some (goes_on_waiting store os)
+
 -- what an event makes of a core whose journal had these entries before; none where it does not fit. What has no case here comes of
 -- instructions that are not built
 abbrev pub arrives : List Entry → Store → List Operation → Event → Option Arrival
@@ -86,6 +91,7 @@ arrives past store os (event.Offer link number payload) =
     if nat_eq number (offers_on link past) then offers store os link number payload (find (is_to_offer link) os) else None
 arrives past store os (event.Know link number) = ends_known store os link number (find (is_offered link number) os)
 arrives past store os (event.Got link number value) = ends_received store os link value (find (is_to_receive link) os)
+arrives past store os (event.Pass link number) = passes_over store os (find (is_to_receive link) os)
 arrives past store os _ = None
 
 -- ---- a dispatch point

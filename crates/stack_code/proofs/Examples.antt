@@ -1,16 +1,7 @@
--- What instructions do and ask for, the run of short codes, a code that is valid, and codes that are not.
+-- What instructions ask for, a code that is valid, and codes that are not.
 use Rattle.std.proofs.Common.{◌≡◌, refl, sym, ap, subst, ◌∙◌, ℕ, zero, suc, ◌+◌, ◌<◌, ℤ, pos, List, [], ◌∷◌, codes, Option, Some, None, Bool, true, false, inl, inr, arith}
 use Rattle.std.specs.Prelude.{negsuc, slice_get, slice_index, unwrap_or}
-use Rattle.std.proofs.lemmas.List.Elements.{All-from_recursion, recursion_from_All}
-use Rattle.std.proofs.lemmas.Fmt.{decimal_digit}
-use Rattle.std.specs.Fmt.{decimal}
-use Rattle.ac_base.specs.declared.ends.Trap.TheVariants.{ZeroDivisor, Index}
-use Rattle.ac_base.specs.declared.ends.EndWord.{EndWord}
-use Rattle.ac_base.specs.declared.ends.CoreEnd.{CoreEnd}
-use Rattle.ac_base.specs.declared.ends.EndWord.TheVariants.{Finished, Trapped, OutOfSteps}
-use Rattle.core_state.specs.Moves.{Move, On, Over, moves, and_then}
-use Rattle.core_state.specs.Shared.{core_end}
-use Rattle.ac_base.specs.Hexadecimal.{hex_of}
+use Rattle.std.proofs.lemmas.List.Elements.{All-from_recursion}
 use Rattle.stack_code.specs.declared.instr.Instr.{Instr}
 use Rattle.stack_code.specs.declared.instr.Instr.TheVariants as i
 use Rattle.stack_code.specs.declared.parts.Entered.{Entered}
@@ -27,15 +18,11 @@ use Rattle.stack_code.specs.Parts.{Parts, Begins}
 use Rattle.stack_code.specs.Shapes.{first, effect, LeadsTo, params_of, can_end, can_return, directives, directives_in, channels_of, pushes, branches, transfers}
 use Rattle.stack_code.specs.Shapes.{inner, is_entered, one_int, two_ints, is_array, calls, finished, taken, arguments}
 use Rattle.stack_code.specs.Shapes.{on_some, takes, with_operands, pushed, is_int_alone, params_in, loaded, want_of, body_with, is_block, finished_in, has_own, can_start}
-use Rattle.stack_code.specs.Machine.{Flat, FlatEnd, exec, first_flat, Runs}
 use Rattle.stack_code.specs.Valid.{IsValid, Fits, Goes, Reaches, begins, goes, IsShaped, Quiet, QuietWay, one, more, TakesSteps, home_at}
 use Rattle.stack_code.specs.Valid.{Use, AsInt, AsReference, AsBlock, use_of, ints_of, Uses, param, loads, sets, enters, HasOneUse}
 use Rattle.stack_code.specs.Valid.{IsEntry, HasCores, IsCapacity, IsChannel, HasLinks, IsStart, HasStarts, HasRoom, HasLists}
 use Rattle.stack_code.specs.Kept.{Has, IsTable, IsRanked, IsKept}
-use Rattle.stack_code.specs.Alone.{is_alone, IsAlone}
-use Rattle.stack_code.specs.Meant.{has_meaning, IsMeant}
 use Rattle.stack_code.specs.declared.shape.Want.TheVariants as want
-use Rattle.stack_code.specs.Listing.{instr_line, between, function_lines, core_lines, text_lines, listing}
 
 -- a code of one function whose frame has so many slots, which the core `a` enters; it has two globals, of which the second starts with 5
 abbrev pub entered : ℕ → Entered
@@ -54,85 +41,9 @@ code_of words instrs = record {
   starts = record { slot = 1; value = pos 5 } ∷ [];
 }
 
--- what so many moves come to, of which the first is the dispatch of the thread
-abbrev pub after : ℕ → List Instr → ℕ → ℕ → Move Flat FlatEnd
-after words instrs bound count = and_then (first_flat (code_of words instrs) (entered words) []) (moves (exec (code_of words instrs) bound) count)
-
--- the core ended so, after so many steps, having printed this, with these globals and so many instructions
-abbrev pub ended : EndWord → ℕ → List ℕ → List ℤ → ℕ → Move Flat FlatEnd
-ended word steps output globals count =
-    Over (record { core = Some (core_end word false globals [] (record { steps = steps; turn = 1; output = output; past = []; todo = [] })); count = count })
-
--- ---- runs
-
--- printf("%d\n", 1+2*3);
-abbrev pub prints_seven : List Instr
-prints_seven = i.Step ∷ i.Push (pos 1) ∷ i.Push (pos 2) ∷ i.Push (pos 3) ∷ i.Mul ∷ i.Add ∷ i.Print 0 1 ∷ i.Push (pos 0) ∷ i.Ret ∷ []
-
-pub it_prints_seven : after 0 prints_seven 100 10 ≡ ended Finished 1 (codes "7\n") (pos 0 ∷ pos 5 ∷ []) 9
-it_prints_seven = rw (decimal_digit 7 (omega arith)) refl
-
--- the same as an end of the core
-abbrev begins_so : (words : ℕ) (instrs : List Instr) → Begins (code_of words instrs) 0 (entered words)
+-- the core enters its one function
+abbrev pub begins_so : (words : ℕ) (instrs : List Instr) → Begins (code_of words instrs) 0 (entered words)
 begins_so words instrs = record { entry = 0; entry_is = refl; function_is = refl }
-
-pub it_is_an_end : Runs (code_of 0 prints_seven) 0 100 []
-    (record { core = Some (core_end Finished false (pos 0 ∷ pos 5 ∷ []) [] (record { steps = 1; turn = 1; output = codes "7\n"; past = []; todo = [] })); count = 9 })
-it_is_an_end = record { function = entered 0; begins = begins_so 0 prints_seven; comes = (10, sym it_prints_seven) }
-
--- return 0; takes two instructions, and not three
-abbrev pub returns : List Instr
-returns = i.Push (pos 0) ∷ i.Ret ∷ []
-
-abbrev counted : Move Flat FlatEnd → ℕ
-counted (On s) = 0
-counted (Over end) = end.count
-
-pub no_end_with_another_count : (core : Option CoreEnd) → Runs (code_of 0 returns) 0 100 [] (record { core = core; count = 3 }) → ⊥
-no_end_with_another_count core r = no_end r.comes.0 (rw same at r.comes.1) where
-  no_end : (k : ℕ) → Over (record { core = core; count = 3 }) ≡ and_then (first_flat (code_of 0 returns) (entered 0) []) (moves (exec (code_of 0 returns) 100) k) → ⊥
-  no_end zero h = let n : 3 ≡ 0 = ap counted h in omega (arith, n)
-  no_end (suc zero) h = let n : 3 ≡ 0 = ap counted h in omega (arith, n)
-  no_end (suc (suc zero)) h = let n : 3 ≡ 0 = ap counted h in omega (arith, n)
-  no_end (suc (suc (suc k))) h = let n : 3 ≡ 2 = ap counted h in omega (arith, n)
-
-  same_function : (entry : ℕ) (function : Entered) → slice_get (0 ∷ []) 0 ≡ Some entry → slice_get (entered 0 ∷ []) entry ≡ Some function → function ≡ entered 0
-  same_function zero function at_core at_entry = cc
-  same_function (suc n) function at_core at_entry = cc
-
-  same : r.function ≡ entered 0
-  same = same_function r.begins.entry r.function r.begins.entry_is r.begins.function_is
-
--- the `Step` that finds no step left is not counted
-pub it_is_out_of_steps : after 0 prints_seven 0 2 ≡ ended OutOfSteps 0 [] (pos 0 ∷ pos 5 ∷ []) 0
-it_is_out_of_steps = refl
-
--- the right operand is popped first: 1 - 3 is -2
-pub it_subtracts : after 0 (i.Push (pos 1) ∷ i.Push (pos 3) ∷ i.Sub ∷ i.StoreG 0 ∷ i.Push (pos 0) ∷ i.Ret ∷ []) 0 7 ≡ ended Finished 0 [] (negsuc 1 ∷ pos 5 ∷ []) 6
-it_subtracts = refl
-
--- an instruction that traps is counted
-pub it_divides_by_nought : after 0 (i.Step ∷ i.Push (pos 1) ∷ i.Push (pos 0) ∷ i.Div ∷ []) 1 5 ≡ ended (Trapped ZeroDivisor) 1 [] (pos 0 ∷ pos 5 ∷ []) 4
-it_divides_by_nought = refl
-
--- an array of two globals: its second element is 5, and it has no third
-pub it_takes_an_element : after 0 (i.ArrG 0 2 ∷ i.Push (pos 1) ∷ i.Elem ∷ i.StoreG 0 ∷ i.Push (pos 0) ∷ i.Ret ∷ []) 0 7 ≡ ended Finished 0 [] (pos 5 ∷ pos 5 ∷ []) 6
-it_takes_an_element = refl
-
-pub it_finds_no_element : after 0 (i.ArrG 0 2 ∷ i.Push (pos 2) ∷ i.Elem ∷ []) 0 4 ≡ ended (Trapped Index) 0 [] (pos 0 ∷ pos 5 ∷ []) 3
-it_finds_no_element = refl
-
--- the value lies below the reference and the index
-pub it_sets_an_element : after 0 (i.Push (pos 9) ∷ i.ArrG 0 2 ∷ i.Push (pos 1) ∷ i.SetElem ∷ i.Push (pos 0) ∷ i.Ret ∷ []) 0 7 ≡ ended Finished 0 [] (pos 0 ∷ pos 9 ∷ []) 6
-it_sets_an_element = refl
-
--- `Jz` jumps at 0, and `Jnz` does not
-pub it_jumps : after 0 (i.Push (pos 0) ∷ i.Jz 4 ∷ i.Push (pos 7) ∷ i.StoreG 0 ∷ i.Push (pos 0) ∷ i.Jnz 3 ∷ i.Push (pos 0) ∷ i.Ret ∷ []) 0 7 ≡ ended Finished 0 [] (pos 0 ∷ pos 5 ∷ []) 6
-it_jumps = refl
-
--- a slot of the frame, set and cleared
-pub it_clears_slots : after 2 (i.Push (pos 3) ∷ i.Store 0 1 ∷ i.Clear 0 2 ∷ i.Load 0 1 ∷ i.StoreG 1 ∷ i.Push (pos 0) ∷ i.Ret ∷ []) 0 8 ≡ ended Finished 0 [] (pos 0 ∷ pos 0 ∷ []) 7
-it_clears_slots = refl
 
 -- ---- what instructions ask for, at an address 4 in a function with two slots
 
@@ -581,23 +492,6 @@ a_rank_does_not_fall h = let lt = h.falls 0 1 from_push in omega (arith, lt)
 pub not_these_shapes : IsKept small (None ∷ None ∷ None ∷ None ∷ []) (3 ∷ 2 ∷ 1 ∷ 0 ∷ []) → ⊥
 not_these_shapes h = let e = h.tabled.has 0 (holding []) reach_push in cc
 
--- ---- code of a core alone
-
-pub it_is_alone : IsAlone small
-it_is_alone = All-from_recursion (λ (instr : Instr). is_alone instr ≡ true) keeps_three (refl, (refl, (refl, (refl, tt))))
-
-pub a_send_is_not : IsAlone (code_of 0 (i.Send 0 ∷ i.Ret ∷ [])) → ⊥
-a_send_is_not h = let e = (recursion_from_All (λ (instr : Instr). is_alone instr ≡ true) (i.Send 0 ∷ i.Ret ∷ []) h).0 in cc
-
-pub all_of_it_has_a_meaning : IsMeant small
-all_of_it_has_a_meaning = All-from_recursion (λ (instr : Instr). has_meaning instr ≡ true) keeps_three (refl, (refl, (refl, (refl, tt))))
-
-pub a_send_has_a_meaning : has_meaning (i.Send 0) ∷ has_meaning (i.Cancel 0 0) ∷ has_meaning (i.Read 0) ∷ [] ≡ true ∷ false ∷ false ∷ []
-a_send_has_a_meaning = refl
-
-pub a_cancel_has_none : IsMeant (code_of 0 (i.Cancel 0 0 ∷ i.Ret ∷ [])) → ⊥
-a_cancel_has_none h = let e = (recursion_from_All (λ (instr : Instr). has_meaning instr ≡ true) (i.Cancel 0 0 ∷ i.Ret ∷ []) h).0 in cc
-
 -- ---- what the effects of instructions are made of
 
 pub what_is_there_goes_on : (on_some (Some 4) (λ (n : ℕ). Some (n + 1)) ≡ Some 5) × (on_some None (λ (n : ℕ). Some (n + 1)) ≡ None)
@@ -668,63 +562,6 @@ where_effects_lead = (refl, refl, refl)
 pub transfers_to_files : (transfers 4 15 (shape (kind.Reference false ∷ kind.Int ∷ kind.Int ∷ [])) ≡ Some (One 5 (shape (kind.Int ∷ []))))
     × (transfers 4 16 (shape (kind.Reference false ∷ kind.Int ∷ kind.Int ∷ [])) ≡ None)
 transfers_to_files = (refl, refl)
-
--- ---- the listing
-
-nought : decimal 0 ≡ codes "0"
-nought = decimal_digit 0 (omega arith)
-
-one_is : decimal 1 ≡ codes "1"
-one_is = decimal_digit 1 (omega arith)
-
-two_is : decimal 2 ≡ codes "2"
-two_is = decimal_digit 2 (omega arith)
-
-seven_is : decimal 7 ≡ codes "7"
-seven_is = decimal_digit 7 (omega arith)
-
--- a line of each number and kind of operands
-pub lines_without_operands : instr_line 7 i.Step ∷ instr_line 7 i.SetElem ∷ instr_line 7 i.LessEq ∷ instr_line 7 i.End ∷ []
-    ≡ codes "7 Step\n" ∷ codes "7 SetElem\n" ∷ codes "7 LessEq\n" ∷ codes "7 End\n" ∷ []
-lines_without_operands = rw seven_is refl
-
-pub lines_with_a_number : instr_line 7 (i.Push (pos 2)) ∷ instr_line 7 (i.Push (negsuc 1)) ∷ [] ≡ codes "7 Push 2\n" ∷ codes "7 Push -2\n" ∷ []
-lines_with_a_number = rw (seven_is, two_is) refl
-
-pub lines_with_one_operand : instr_line 7 (i.LoadG 2) ∷ instr_line 7 (i.Jz 2) ∷ instr_line 7 (i.Finish 2) ∷ instr_line 7 (i.Recv 2) ∷ instr_line 7 (i.Write 2) ∷ []
-    ≡ codes "7 LoadG 2\n" ∷ codes "7 Jz 2\n" ∷ codes "7 Finish 2\n" ∷ codes "7 Recv 2\n" ∷ codes "7 Write 2\n" ∷ []
-lines_with_one_operand = rw (seven_is, two_is) refl
-
--- the operands stand in their order
-pub lines_with_two_operands :
-    instr_line 7 (i.Store 1 2) ∷ instr_line 7 (i.ArrG 2 1) ∷ instr_line 7 (i.Clear 2 1) ∷ instr_line 7 (i.Print 0 2) ∷ instr_line 7 (i.Call 2 1) ∷ instr_line 7 (i.Async 1 2)
-    ∷ instr_line 7 (i.Cancel 1 0) ∷ []
-    ≡ codes "7 Store 1 2\n" ∷ codes "7 ArrG 2 1\n" ∷ codes "7 Clear 2 1\n" ∷ codes "7 Print 0 2\n" ∷ codes "7 Call 2 1\n" ∷ codes "7 Async 1 2\n" ∷ codes "7 Cancel 1 0\n" ∷ []
-lines_with_two_operands = rw (seven_is, nought, one_is, two_is) refl
-
-pub a_line_with_three_operands : instr_line 7 (i.Arr 0 1 2) ≡ codes "7 Arr 0 1 2\n"
-a_line_with_three_operands = rw (seven_is, nought, one_is, two_is) refl
-
--- bytes in hexadecimal, where none are a dash
-pub bytes_in_hexadecimal : hex_of (0 ∷ 10 ∷ 159 ∷ 255 ∷ []) ∷ hex_of [] ∷ [] ≡ codes "000a9fff" ∷ codes "-" ∷ []
-bytes_in_hexadecimal = refl
-
-pub texts_are_numbered : text_lines 0 (codes "a" ∷ [] ∷ []) ≡ codes "text 0 61\ntext 1 -\n"
-texts_are_numbered = rw (nought, one_is) refl
-
-pub cores_with_their_functions : core_lines (codes "a" ∷ codes "b" ∷ []) (1 ∷ 0 ∷ []) ≡ codes "core a 1\ncore b 0\n"
-cores_with_their_functions = rw (one_is, nought) refl
-
-pub from_one_address_to_another : between 1 2 (i.Step ∷ i.Drop ∷ i.Ret ∷ []) ∷ between 2 2 (i.Step ∷ []) ∷ [] ≡ (i.Drop ∷ []) ∷ [] ∷ []
-from_one_address_to_another = refl
-
--- the first function ends where the second begins
-pub functions_one_after_the_other :
-    function_lines (entered 2 ∷ record { name = codes "g"; at = 1; params = true ∷ []; words = 1 } ∷ []) (i.Yield ∷ i.Ret ∷ []) ≡ codes "function f words 2\n0 Yield\nfunction g words 1\n1 Ret\n"
-functions_one_after_the_other = rw (two_is, nought, one_is) refl
-
-pub a_whole_listing : listing (code_of 0 (i.Push (pos 7) ∷ i.Ret ∷ [])) ≡ codes "core a 0\nfunction f words 0\n0 Push 7\n1 Ret\ntext 0 25640a\n"
-a_whole_listing = rw (seven_is, nought, one_is) refl
 
 -- ---- the wholes of these
 

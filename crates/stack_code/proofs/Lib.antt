@@ -11,5 +11,3 @@ pub mod Apart
 pub mod Steadiness
 pub mod Rising
 pub mod Examples
-pub mod ListingExamples
-pub mod MachineExamples

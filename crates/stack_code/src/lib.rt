@@ -1,11 +1,10 @@
-//! Stack code: its instructions, and what the flat machine does with them, as definitions.
+//! Stack code: its instructions, and the codes that are valid.
 #![tactic(auto)]
 
 mod bodies;
 mod code;
 mod effect;
 mod instr;
-mod lines;
 mod lists;
 mod operands;
 mod parts;
@@ -18,7 +17,6 @@ mod work;
 
 pub use code::Code;
 pub use instr::Instr;
-pub use lines::listing;
 pub use parts::{ChannelEnds, Entered, Start};
 pub use shape::{Body, Home, Kind, OpenBlock, Shape};
 pub use stack::Stack;

@@ -22,6 +22,8 @@ mod links;
 #[cfg(test)]
 mod outside;
 #[cfg(test)]
+mod ports;
+#[cfg(test)]
 mod reach;
 #[cfg(test)]
 mod ready_list;

@@ -1,5 +1,5 @@
 use Rattle.std.proofs.lemmas.Result.{IfOk-weaker}
-use Rattle.ac_compile.proofs.Compiling.{is_short, is_few, is_code, is_same, is_alone, is_one_end, if_both}
+use Rattle.ac_compile.proofs.Compiling.{is_short, is_few, is_code, is_same, is_alone, is_one_end, is_at_ends, if_both}
 use Rattle.ac_compile.proofs.OneCore.{has_one_core}
 use Rattle.ac_compile.proofs.compile.Goals as goal
 
@@ -28,3 +28,7 @@ returns-clause-one c built =
 
 pub returns-clause-alone : goal.returns-clause-alone
 returns-clause-alone c built = IfOk-weaker c.program_code.result _ _ (is_alone c.args.checked.now c.in_ok-program.program c.in_ok-program.ensures.same built) c.program_code.ensures.same
+
+pub returns-clause-ends : goal.returns-clause-ends
+returns-clause-ends c =
+    IfOk-weaker c.program_code.result _ _ (is_at_ends c.args.checked.now c.in_ok-program.program c.in_ok-program.ensures.same c.tree.ensures.clean c.tree.ensures.shaped) c.program_code.ensures.same

@@ -3,10 +3,10 @@ use Rattle.std.specs.Prelude.{◌≡◌, ℕ, Option, Some, None, true, false, r
 use Rattle.ac_base.specs.declared.ends.Trap.TheVariants.{StackFull}
 use Rattle.work_item.specs.Store.{Store, made, no_int}
 use Rattle.core_state.specs.Frames.{has_words}
-use Rattle.core_machine.specs.declared.pause.Pause.{Pause}
-use Rattle.core_machine.specs.declared.pause.Pause.TheVariants.{Trapped}
+use Rattle.core_machine.specs.declared.ending.Ending.{Ending}
+use Rattle.core_machine.specs.declared.ending.Ending.TheVariants.{Trapped}
 
 -- it is made where there is room for it; where there is none, nothing has changed
-abbrev pub HasBegun : Store → Store → ℕ → Option Pause → Type 0
+abbrev pub HasBegun : Store → Store → ℕ → Option Ending → Type 0
 HasBegun before after words None = (has_words before words ≡ true) × (after ≡ made before None (replicate words no_int))
-HasBegun before after words (Some pause) = (has_words before words ≡ false) × (after ≡ before) × (pause ≡ Trapped StackFull)
+HasBegun before after words (Some ending) = (has_words before words ≡ false) × (after ≡ before) × (ending ≡ Trapped StackFull)

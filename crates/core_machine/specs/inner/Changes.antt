@@ -1,18 +1,29 @@
 -- What an instruction changes of a running core.
-use Rattle.std.specs.Prelude.{◌≡◌, Option, Some, None}
+use Rattle.std.specs.Prelude.{◌≡◌, ℕ, [], Option, Some, None}
+use Rattle.ac_base.specs.declared.entry.Entry.{Entry}
+use Rattle.ac_base.specs.declared.entry.Event.{Event}
 use Rattle.work_item.specs.declared.ids.Item.{Item}
 use Rattle.core_scheduler.specs.Schedule.{Schedule, at_front}
+use Rattle.core_state.specs.Shared.{with_entry}
+use Rattle.core_state.specs.Arrivals.{Arrival, arrives}
 use Rattle.stack_code.specs.declared.instr.Instr.{Instr}
-use Rattle.stack_code.specs.Machine.{begin, first_item}
+use Rattle.code_meaning.specs.Machine.{arrived, begin, first_item}
 use Rattle.core_machine.specs.declared.running.Running.{Running}
-use Rattle.core_machine.specs.State.{flat_of, state_of}
+use Rattle.core_machine.specs.State.{shared_of, flat_of, state_of}
 
--- the code, the core, the bound and the journal stay
+-- the code, the core and the bound stay
+pub record IsSameCode (before after : Running) : Type 0 where
+  pub code : after.code.now ≡ before.code.now
+  pub core : after.core ≡ before.core
+  pub bound : after.bound ≡ before.bound
+
+-- these stay and the journal, and so does whether a value is still to be put onto operands
 pub record Keeps (before after : Running) : Type 0 where
   pub code : after.code.now ≡ before.code.now
   pub core : after.core ≡ before.core
   pub bound : after.bound ≡ before.bound
   pub journal : after.journal.entries ≡ before.journal.entries
+  pub pending : after.threads.pending ≡ before.threads.pending
 
 -- whether the core has ended, and which threads run and are ready, stays
 pub record Continues (before after : Running) : Type 0 where
@@ -38,3 +49,17 @@ with_woken s (Some t) = at_front s t
 pub record Stays (before after : Running) : Type 0 where
   pub flat : flat_of after ≡ flat_of before
   pub ended : after.ended ≡ before.ended
+
+-- ---- an entry
+
+-- an entry that is made now
+abbrev pub entry_now : Running → Event → ℕ → Entry
+entry_now m event stamp = record { stamp = stamp; turn = m.turn; event = event }
+
+-- the event has come in, by an entry of this stamp
+pub record Enters (before : Running) (event : Event) (stamp : ℕ) (after : Running) : Type 0 where
+  pub arrival : Arrival
+  pub fits : arrives before.journal.entries before.frames before.outstanding.operations event ≡ Some arrival
+  pub flat : flat_of after ≡ arrived (flat_of before) (with_entry (shared_of before) (entry_now before event stamp) []) arrival
+  pub ended : after.ended ≡ before.ended
+  pub same : IsSameCode before after

@@ -11,9 +11,10 @@ use Rattle.stack_code.specs.declared.instr.Instr.{Instr}
 use Rattle.stack_code.specs.declared.instr.Instr.TheVariants as i
 use Rattle.stack_code.specs.declared.parts.Entered.{Entered}
 use Rattle.stack_code.specs.Parts.{Parts}
-use Rattle.stack_code.specs.Machine.{Flat, Block, block_at}
+use Rattle.code_meaning.specs.Machine.{Flat, Block, block_at}
 use Rattle.code_safety.specs.Fit.{is_int}
-use Rattle.core_machine.specs.inner.Operands.{is_reference, on_top, Stand, second_place}
+use Rattle.thread_table.specs.Operands.{is_reference, on_top}
+use Rattle.core_machine.specs.inner.Operands.{Stand, second_place}
 
 -- its operands, two or one on top, are ints
 abbrev pub HasInt : Flat → Type 0
@@ -21,6 +22,10 @@ HasInt m = on_top is_int m.current.operands ≡ true
 
 abbrev pub HasInts : Flat → Type 0
 HasInts m = Stand (is_int ∷ is_int ∷ []) m.current.operands
+
+-- a reference on top
+abbrev pub HasReference : Flat → Type 0
+HasReference m = on_top is_reference m.current.operands ≡ true
 
 -- the frame so many levels up, with this slot
 abbrev pub HasCell : Flat → ℕ → ℕ → Type 0
@@ -90,13 +95,15 @@ pub record CanEnd (m : Flat) : Type 0 where
   pub frame : IsGoing m.store m.current.frame
   pub listed : IsListed m
 
--- the instruction is one on blocks and threads
+-- the instruction is one on blocks, threads and operations
 abbrev pub is_on_threads : Instr → Bool
 is_on_threads (i.Enter slot) = true
 is_on_threads (i.Finish slot) = true
 is_on_threads (i.Async slots to) = true
 is_on_threads i.End = true
 is_on_threads i.Yield = true
+is_on_threads (i.Send channel) = true
+is_on_threads (i.Recv channel) = true
 is_on_threads _ = false
 
 abbrev pub Finds : Parts → Flat → Instr → Type 0
@@ -144,4 +151,6 @@ Finds code m (i.Finish slot) = CanFinish m
 Finds code m (i.Async slots to) = CanStart m
 Finds code m i.End = CanEnd m
 Finds code m i.Yield = IsListed m
+Finds code m (i.Send channel) = HasInt m × IsListed m
+Finds code m (i.Recv channel) = HasReference m × IsListed m
 Finds code m _ = ⊥

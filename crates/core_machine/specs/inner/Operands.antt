@@ -1,18 +1,9 @@
 -- Tests on the operands on top.
-use Rattle.std.specs.Prelude.{◌≡◌, List, [], ◌∷◌, drop, Bool, true, false, slice_index_or}
+use Rattle.std.specs.Prelude.{◌≡◌, List, [], ◌∷◌, drop, Bool, true, slice_index_or}
 use Rattle.work_item.specs.declared.cell.Cell.{Cell}
-use Rattle.work_item.specs.declared.cell.Cell.TheVariants as cell
 use Rattle.work_item.specs.declared.cell.Place.{Place}
 use Rattle.work_item.specs.Store.{place_in, no_int}
-
-abbrev pub is_reference : Cell → Bool
-is_reference (cell.Array place) = true
-is_reference _ = false
-
--- there is a topmost operand, and it passes the test
-abbrev pub on_top : (Cell → Bool) → List Cell → Bool
-on_top test [] = false
-on_top test (x ∷ below) = test x
+use Rattle.thread_table.specs.Operands.{on_top}
 
 -- there are so many operands, from the top downwards, and each passes its test
 abbrev pub Stand : List (Cell → Bool) → List Cell → Type 0

@@ -5,7 +5,7 @@ use Rattle.core_state.specs.Arithmetic.{product_of, quotient, remainder, shifted
 use Rattle.core_state.specs.Arithmetic.{is_not_equal, is_less, is_at_most, both_bits, either_bits, differing_bits}
 use Rattle.stack_code.specs.declared.instr.Instr.{Instr}
 use Rattle.stack_code.specs.declared.instr.Instr.TheVariants as i
-use Rattle.stack_code.specs.Machine.{always}
+use Rattle.code_meaning.specs.Machine.{always}
 
 -- to one int
 abbrev pub unary : Instr → Option (ℤ → ℤ)

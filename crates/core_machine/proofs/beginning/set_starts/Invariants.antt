@@ -1,5 +1,5 @@
 use Rattle.std.proofs.Common.{◌≡◌, length, drop}
-use Rattle.stack_code.specs.Machine.{with_starts}
+use Rattle.code_meaning.specs.Machine.{with_starts}
 use Rattle.core_machine.proofs.beginning.set_starts.Given as goal
 
 abbrev pub invariant-loop-start : goal.invariant-loop-start

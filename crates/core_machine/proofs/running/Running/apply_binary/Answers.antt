@@ -3,7 +3,7 @@ use Rattle.std.specs.Prelude.{option_map, Ok}
 use Rattle.std.proofs.lemmas.Int.{to_z-of_z}
 use Rattle.work_item.specs.declared.cell.Cell.TheVariants as cell
 use Rattle.core_state.specs.Moves.{On}
-use Rattle.stack_code.specs.Machine.{counted}
+use Rattle.code_meaning.specs.Machine.{counted}
 use Rattle.core_machine.specs.State.{flat_of, thread_of, state_of}
 use Rattle.core_machine.specs.inner.Operators.{binary}
 use Rattle.core_machine.specs.inner.Changes.{item_of}

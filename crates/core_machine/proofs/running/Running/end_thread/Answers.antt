@@ -1,5 +1,5 @@
 use Rattle.std.proofs.Common.{ap, ◌∙◌}
-use Rattle.stack_code.specs.Machine.{counted}
+use Rattle.code_meaning.specs.Machine.{counted}
 use Rattle.core_machine.specs.declared.running.Running.{Running}
 use Rattle.core_machine.proofs.Does.{after_end, ends, childless_at_end}
 use Rattle.core_machine.proofs.running.Running.end_thread.Goals as goal

@@ -1,6 +1,6 @@
 use Rattle.std.proofs.Common.{sym, ap, ◌∙◌, subst}
 use Rattle.stack_code.specs.declared.instr.Instr.TheVariants as i
-use Rattle.stack_code.specs.Machine.{counted}
+use Rattle.code_meaning.specs.Machine.{counted}
 use Rattle.core_machine.specs.inner.Changes.{Does}
 use Rattle.core_machine.proofs.Does.{passes, waits, childless_at_finish}
 use Rattle.core_machine.proofs.running.Running.finish.Goals as goal

@@ -1,5 +1,5 @@
 use Rattle.std.proofs.Common.{◌≡◌}
-use Rattle.stack_code.specs.Machine.{exec}
+use Rattle.code_meaning.specs.Machine.{exec}
 use Rattle.core_machine.specs.State.{flat_of, state_of}
 use Rattle.core_machine.proofs.Sound.{still_sound, less, moved_by, is_item}
 use Rattle.core_machine.proofs.running.Running.one.Goals as goal
@@ -10,7 +10,11 @@ moves c =
     moved_by c.args.self.now c.execute.new.self t.0 c.next_instr-instr.result t.1 c.next_instr-instr.ensures.here c.in_ok-goes.ensures.ok
 
 pub returns-clause-sound : goal.returns-clause-sound
-returns-clause-sound c = still_sound c.args.self.now c.execute.new.self c.requires.running c.requires.sound c.execute.ensures.keeps (moves c) c.args._ranks.now c.requires.ranked
+returns-clause-sound c =
+    still_sound c.args.self.now c.execute.new.self c.requires.running c.requires.sound c.execute.ensures.keeps (c.requires.sound.settled c.requires.runs) (moves c)
+    c.args._ranks.now c.requires.ranked
 
 pub returns-clause-less : goal.returns-clause-less
-returns-clause-less c = less c.args.self.now c.execute.new.self c.requires.running c.requires.sound c.execute.ensures.keeps (moves c) c.args._ranks.now c.requires.ranked
+returns-clause-less c =
+    less c.args.self.now c.execute.new.self c.requires.running c.requires.sound c.execute.ensures.keeps (c.requires.sound.settled c.requires.runs) (moves c)
+    c.args._ranks.now c.requires.ranked

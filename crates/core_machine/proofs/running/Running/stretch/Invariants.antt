@@ -1,6 +1,6 @@
 use Rattle.std.proofs.Common.{◌≡◌, ◌≤◌, None, IsSome}
 use Rattle.core_state.specs.Moves.{GoesOn}
-use Rattle.stack_code.specs.Machine.{exec}
+use Rattle.code_meaning.specs.Machine.{exec}
 use Rattle.core_machine.specs.State.{state_of, IsSound}
 use Rattle.core_machine.specs.inner.Left.{left_of}
 use Rattle.core_machine.specs.inner.Changes.{Keeps}

@@ -1,0 +1,2 @@
+//! What stack code does: the flat machine and the runs of a core, as definitions.
+#![tactic(auto)]

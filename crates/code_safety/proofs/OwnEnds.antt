@@ -1,0 +1,167 @@
+-- The code of a core that keeps its ends starts operations at the core's own ends alone, and each that has not ended is at one of them.
+use Rattle.std.proofs.Common.{◌≡◌, ℕ, zero, suc, ◌<◌, List, [], ◌∷◌, length, Option, Some, None, Bool, true, false, refl, sym, subst}
+use Rattle.std.specs.Prelude.{◌^◌, ◌-◌, All, slice_get, slice_set, nat_eq, nat_lt, replicate, if◌then◌else◌}
+use Rattle.std.proofs.lemmas.List.Elements.{All-nil, All-push}
+use Rattle.std.proofs.lemmas.Option.{slice_get_within}
+use Rattle.ac_base.specs.declared.entry.Entry.{Entry}
+use Rattle.ac_base.specs.declared.ends.EndWord.TheVariants as word
+use Rattle.work_item.specs.declared.ids.Item.{Item}
+use Rattle.work_item.specs.declared.cell.Cell.{Cell}
+use Rattle.work_item.specs.Store.{int_in, place_in, no_int}
+use Rattle.cancel_scope.specs.declared.operation.Asked.{Asked}
+use Rattle.cancel_scope.specs.declared.operation.Asked.TheVariants as asked
+use Rattle.cancel_scope.specs.declared.operation.Operation.{Operation}
+use Rattle.cancel_scope.specs.Outstanding.{started}
+use Rattle.core_state.specs.Moves.{Move, On, Over, and_then, moves, GoesOn}
+use Rattle.core_state.specs.Arrivals as arrivals
+use Rattle.core_state.specs.Arrivals.{Arrival, at_point, comes_in}
+use Rattle.core_state.specs.Frames.{first_store, has_words}
+use Rattle.core_state.specs.Shared.{with_entry, with_turn, first_shared, seen}
+use Rattle.stack_code.specs.declared.instr.Instr.{Instr}
+use Rattle.stack_code.specs.declared.instr.Instr.TheVariants as i
+use Rattle.stack_code.specs.declared.parts.Entered.{Entered}
+use Rattle.stack_code.specs.Parts.{Parts, Begins}
+use Rattle.stack_code.specs.Valid.{IsValid}
+use Rattle.stack_code.specs.Kept.{IsRanked}
+use Rattle.code_meaning.specs.Meant.{IsMeant}
+use Rattle.code_meaning.specs.Machine.{Flat, FlatEnd, arrived, resumed, begin, exec, exec_of, dispatched, told, on_top, operates, nobody, thread_at, first_flat, first_globals}
+use Rattle.code_safety.specs.Fit.{IsFit}
+use Rattle.code_safety.specs.Left as weight
+use Rattle.code_safety.specs.KeptEnds.{ReachesInstr, KeepsEnds, IsAtEnd, AreAtEnds, each_as, KeepsOwnEnds}
+use Rattle.code_safety.proofs.Arriving.{Comes, offered, known, received, passed, comes_of}
+use Rattle.code_safety.proofs.Beginnings.{first_fit}
+use Rattle.code_safety.proofs.EachAs.{valid_too, ranked_too, begins_too, reached_instr}
+use Rattle.code_safety.proofs.Moving.{moves_on}
+use Rattle.code_safety.proofs.NoEntries.{Leaves, begin_leaves}
+use Rattle.code_safety.proofs.Own.{thread_of}
+use Rattle.code_safety.proofs.Plain.{Onward, on_both, on_each}
+use Rattle.code_safety.proofs.Waiting.{all_others, one_of_all, all_between}
+
+module _ (code : Parts) (keeps : KeepsEnds code) (core bound : ℕ) (lt : core < length code.entries) (m : Flat) (s : KeepsOwnEnds code core m) where
+  abbrev At : Operation → Type 0
+  At o = IsAtEnd code core o.link o.asked
+
+  abbrev Ended : Flat → Type 0
+  Ended n = AreAtEnds code core n.operations
+
+  -- ---- an instruction
+
+  -- the thread that runs is where the core comes to
+  reached_here : (t : Item) (instr : Instr) → m.running ≡ Some t → slice_get code.instrs m.current.place ≡ Some instr → ReachesInstr code core instr
+  reached_here t instr run here =
+      let h = thread_of (each_as code core) m s.fit t run in
+      reached_instr code core lt m.current.place h.shape instr h.top.reached here
+
+  one_more : (t : Item) (link : ℕ) (a : Asked) (below : List Cell) → IsAtEnd code core link a → Ended (operates m t link a below)
+  one_more t link a below h = All-push At m.operations (started link a t) s.operations h
+
+  -- where there is no operand, nothing is started
+  topped : (go : Cell → List Cell → Move Flat FlatEnd) (operands : List Cell) → ((x : Cell) (below : List Cell) → Onward Ended (go x below)) → Onward Ended (on_top m go operands)
+  topped go [] h = s.operations
+  topped go (x ∷ below) h = h x below
+
+  left : (x : Move Flat FlatEnd) → Leaves m x → Onward Ended x
+  left (On n) l = subst (AreAtEnds code core) (sym l.0) s.operations
+  left (Over e) l = tt
+
+  begun : (t : Item) (instr : Instr) → m.running ≡ Some t → slice_get code.instrs m.current.place ≡ Some instr → Onward Ended (begin code bound m t (Some instr))
+  begun t (i.Send channel) run here =
+      let own = keeps.sends core channel (reached_here t (i.Send channel) run here) in
+      topped _ m.current.operands (λ x below. one_more t channel (asked.Send (int_in x)) below own)
+  begun t (i.Recv channel) run here =
+      let own = keeps.receives core channel (reached_here t (i.Recv channel) run here) in
+      topped _ m.current.operands (λ x below. one_more t channel (asked.Recv (place_in x)) below own)
+  begun t (i.Cancel level slot) run here = s.operations
+  begun t (i.Read file) run here = s.operations
+  begun t (i.Write file) run here = s.operations
+  begun t instr run here = left (begin code bound m t (Some instr)) (begin_leaves m code bound t instr refl)
+
+  begins_with : (t : Item) (o : Option Instr) → m.running ≡ Some t → slice_get code.instrs m.current.place ≡ o → Onward Ended (begin code bound m t o)
+  begins_with t None run here = s.operations
+  begins_with t (Some instr) run here = begun t instr run here
+
+  -- ---- a dispatch point
+
+  -- what comes in is about operations that are there
+  after : (x : Arrival) → Comes m.store m.operations x → AreAtEnds code core x.operations
+  after _ (offered front back o number is waits) = let all = subst (All At) is s.operations in all_between At back _ front (all_others At back o front all) (one_of_all At back o front all)
+  after _ (known front back o is) = all_others At back o front (subst (All At) is s.operations)
+  after _ (received front back o place value is asks) = all_others At back o front (subst (All At) is s.operations)
+  after _ (passed front back o is) = s.operations
+
+  dispatches : (ready : List Item) → Onward Ended (dispatched m ready)
+  dispatches [] = tt
+  dispatches (t ∷ ready) = go (nat_lt m.shared.turn (2 ^ 64 - 1)) (told m.count (seen word.OutOfSteps false m.store.globals m.operations m.shared))
+    where
+      go : (b : Bool) (end : FlatEnd)
+          → Onward Ended (if b then On
+          (record m { shared = with_turn m.shared; running = Some t; current = thread_at m.threads t; ready = ready; threads = slice_set m.threads t.number nobody }) else Over end)
+      go true end = s.operations
+      go false end = tt
+
+  woken : (x : Arrival) (n : Flat) (o : Option Item) → n.operations ≡ x.operations → AreAtEnds code core x.operations → Ended (resumed n arrivals.ok o)
+  woken x n None e h = subst (AreAtEnds code core) (sym e) h
+  woken x n (Some t) e h = subst (AreAtEnds code core) (sym e) h
+
+  enters : (e : Entry) (es : List Entry) (o : Option Arrival) → arrivals.arrives m.shared.past m.store m.operations e.event ≡ o
+      → Onward Ended (comes_in (told m.count) (λ x. On (arrived m (with_entry m.shared e es) x)) o)
+  enters e es None k = tt
+  enters e es (Some x) k =
+      woken x (record m { shared = with_entry m.shared e es; store = x.store; operations = x.operations }) x.woken refl (after x (comes_of m.store m.operations x m.shared.past e.event k))
+
+  at_rest : (todo : List Entry) → Onward Ended (at_point (told m.count) m.shared m.store m.operations (λ shared x. On (arrived m shared x)) (dispatched m m.ready) todo)
+  at_rest [] = dispatches m.ready
+  at_rest (e ∷ es) = go (nat_eq e.turn m.shared.turn)
+    where
+      go : (b : Bool) → Onward Ended
+          (if b
+          then comes_in (told m.count) (λ x. On (arrived m (with_entry m.shared e es) x)) (arrivals.arrives m.shared.past m.store m.operations e.event)
+          else dispatched m m.ready)
+      go true = enters e es (arrivals.arrives m.shared.past m.store m.operations e.event) refl
+      go false = dispatches m.ready
+
+  -- ---- a move
+
+  ends_on : Onward Ended (exec code bound m)
+  ends_on = go m.running refl
+    where
+      go : (o : Option Item) → m.running ≡ o → Onward Ended (exec_of code bound m o)
+      go None e = at_rest m.shared.todo
+      go (Some t) e = begins_with t (slice_get code.instrs m.current.place) e refl
+
+  module _ (v : IsValid code) (meant : IsMeant code) (ranks : List ℕ) (ranked : IsRanked code ranks) where
+    -- a state in which a core keeps its own ends leads to such a state
+    pub keeps_on : Onward (KeepsOwnEnds code core) (exec code bound m)
+    keeps_on =
+        on_each (λ n. IsFit (each_as code core) n × Ended n) (KeepsOwnEnds code core) (exec code bound m) (λ n h. record { fit = h.0; operations = h.1 })
+        (on_both (IsFit (each_as code core)) Ended (exec code bound m)
+        (on_each (λ n. IsFit (each_as code core) n × (weight.left_to_come ranks bound n < weight.left_to_come ranks bound m)) (IsFit (each_as code core)) (exec code bound m) (λ n h. h.0)
+        (moves_on (each_as code core) bound (valid_too code core lt v) meant ranks (ranked_too code core lt ranks ranked) m s.fit)) ends_on)
+
+-- ---- a run
+
+module _ (code : Parts) (v : IsValid code) (keeps : KeepsEnds code) (core : ℕ) (function : Entered) (b : Begins code core function) where
+  below : core < length code.entries
+  below = slice_get_within code.entries core b.entry b.entry_is
+
+  -- a core begins so
+  pub keeps_first : (journal : List Entry) → Onward (KeepsOwnEnds code core) (first_flat code function journal)
+  keeps_first journal = go (has_words (first_store (first_globals code)) (length (replicate function.words no_int))) refl
+    where
+      go : (room : Bool) → has_words (first_store (first_globals code)) (length (replicate function.words no_int)) ≡ room → Onward (KeepsOwnEnds code core) (first_flat code function journal)
+      go true room = rw room (record {
+        fit = first_fit (each_as code core) (valid_too code core below v) core function (begins_too code core below function b) (first_shared journal) room;
+        operations = All-nil (λ (o : Operation). IsAtEnd code core o.link o.asked);
+      })
+      go false room = rw room tt
+
+  module _ (meant : IsMeant code) (ranks : List ℕ) (ranked : IsRanked code ranks) (bound : ℕ) where
+    -- and goes on so
+    further : (k : ℕ) (a : Move Flat FlatEnd) (n : Flat) → Onward (KeepsOwnEnds code core) a → and_then a (moves (exec code bound) k) ≡ On n → KeepsOwnEnds code core n
+    further k (Over e) n h is = let no : Over e ≡ On n = is in absurd (cc)
+    further zero (On m) n h is = let same : m ≡ n = let both : On m ≡ On n = is in cc in subst (KeepsOwnEnds code core) same h
+    further (suc k) (On m) n h is = further k (exec code bound m) n (keeps_on code keeps core bound below m h v meant ranks ranked) is
+
+    -- in every state of a run, under every journal, each operation that has not ended is at an end of the core
+    pub own_ends : (journal : List Entry) (n : Flat) → GoesOn (exec code bound) (first_flat code function journal) (On n) → AreAtEnds code core n.operations
+    own_ends journal n runs = (further runs.0 (first_flat code function journal) n (keeps_first journal) (sym runs.1)).operations

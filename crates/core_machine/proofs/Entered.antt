@@ -1,0 +1,108 @@
+-- What a core makes of an event that comes in.
+use Rattle.std.proofs.Common.{◌≡◌, ℕ, List, [], ◌∷◌, ◌++◌, Option, Some, None, IsSome, Bool, true, false, refl, sym, ap, ◌∙◌}
+use Rattle.std.specs.Prelude.{ℤ, find, IfSome, if◌then◌else◌}
+use Rattle.std.proofs.lemmas.Bool.{eq-eqb}
+use Rattle.std.proofs.lemmas.Bool.Decides.{Decides-int_eq}
+use Rattle.ac_base.specs.Log.{Log}
+use Rattle.ac_base.specs.declared.entry.Entry.{Entry}
+use Rattle.ac_base.specs.declared.entry.Event.{Event}
+use Rattle.ac_base.specs.declared.entry.Event.TheVariants as event
+use Rattle.ac_base.specs.declared.entry.Payload.TheVariants as payload
+use Rattle.work_item.specs.declared.cell.Place.{Place}
+use Rattle.work_item.specs.Store.{Store, with_int_at}
+use Rattle.cancel_scope.specs.declared.operation.Asked.TheVariants as asked
+use Rattle.cancel_scope.specs.declared.operation.Operation.{Operation}
+use Rattle.cancel_scope.specs.Outstanding.{is_to_offer, is_offered, is_to_receive, carries, offered_as, change_first, without_first}
+use Rattle.cancel_scope.specs.Roomy.{Roomy}
+use Rattle.core_state.specs.Arrivals as arrivals
+use Rattle.core_state.specs.Arrivals.{goes_on_waiting, has_ended, offers, offers_on, ends_known, ends_received, with_message, ok}
+use Rattle.core_state.specs.Shared.{Shared, with_entry}
+use Rattle.code_meaning.specs.Machine.{Flat, resumed}
+use Rattle.core_machine.specs.declared.running.Running.{Running}
+use Rattle.core_machine.specs.State.{shared_of, flat_of}
+use Rattle.core_machine.specs.inner.Changes.{IsSameCode, Enters, entry_now}
+
+module _ (m : Running) (v : Event) (stamp : ℕ) where
+  abbrev entry : Entry
+  entry = entry_now m v stamp
+
+  abbrev shared : Shared
+  shared = with_entry (shared_of m) entry []
+
+  -- with these operations and globals and frames, and the entry in the journal
+  abbrev pub noted : Roomy → Store → Log → Running
+  noted q store j = record m { outstanding = q; frames = store; journal = j }
+
+  noted_is : (b : Running) (q : Roomy) (store store' : Store) (j : Log) (os : List Operation) → b ≡ noted q store' j → q.operations ≡ os → store' ≡ store → j.entries ≡ m.journal.entries ++ entry ∷ []
+      → flat_of b ≡ record (flat_of m) { shared = shared; store = store; operations = os }
+  noted_is b q store store' j os is ops frames entries =
+      ap flat_of is ∙ ap (λ es. record (flat_of m) { shared = record (shared_of m) { past = es }; store = store'; operations = q.operations }) entries
+      ∙ ap (λ s. record (flat_of m) { shared = shared; store = s; operations = q.operations }) frames ∙ ap (λ l. record (flat_of m) { shared = shared; store = store; operations = l }) ops
+
+  -- its operation has ended, and its thread has its value
+  ended_enters : (b after : Running) (q : Roomy) (store store' : Store) (j : Log) (os : List Operation) (o : Operation)
+      → arrivals.arrives m.journal.entries m.frames m.outstanding.operations v ≡ Some (has_ended store os o)
+      → b ≡ noted q store' j → q.operations ≡ os → store' ≡ store → j.entries ≡ m.journal.entries ++ entry ∷ []
+      → flat_of after ≡ resumed (flat_of b) ok (Some o.item) → after.ended ≡ b.ended → IsSameCode b after → Enters m v stamp after
+  ended_enters b after q store store' j os o fits is ops frames entries flat ended same = record {
+    arrival = has_ended store os o;
+    fits = fits;
+    flat = flat ∙ ap (λ (f : Flat). resumed f ok (Some o.item)) (noted_is b q store store' j os is ops frames entries);
+    ended = ended ∙ ap (λ (y : Running). y.ended) is;
+    same = record { code = same.code ∙ ap (λ (y : Running). y.code.now) is; core = same.core ∙ ap (λ (y : Running). y.core) is; bound = same.bound ∙ ap (λ (y : Running). y.bound) is };
+  }
+
+  -- an operation goes on waiting
+  waiting_enters : (after : Running) (q : Roomy) (j : Log) (os : List Operation) → arrivals.arrives m.journal.entries m.frames m.outstanding.operations v ≡ Some (goes_on_waiting m.frames os)
+      → after ≡ noted q m.frames j → q.operations ≡ os → j.entries ≡ m.journal.entries ++ entry ∷ [] → Enters m v stamp after
+  waiting_enters after q j os fits is ops entries = record {
+    arrival = goes_on_waiting m.frames os;
+    fits = fits;
+    flat = noted_is after q m.frames m.frames j os is ops refl entries;
+    ended = ap (λ (y : Running). y.ended) is;
+    same = record { code = ap (λ (y : Running). y.code.now) is; core = ap (λ (y : Running). y.core) is; bound = ap (λ (y : Running). y.bound) is };
+  }
+
+-- ---- an offer
+
+sends_it : (store : Store) (os : List Operation) (link number : ℕ) (value : ℤ) (f : Option Operation) → IsSome f → IfSome f (λ (o : Operation). o.asked ≡ asked.Send value)
+    → offers store os link number (payload.Int value) f ≡ Some (goes_on_waiting store (change_first (is_to_offer link) (offered_as number) os))
+sends_it store os link number value None some e = let no : false ≡ true = some in absurd (cc)
+sends_it store os link number value (Some o) some e =
+    ap (λ a. if carries a (payload.Int value) then Some (goes_on_waiting store (change_first (is_to_offer link) (offered_as number) os)) else None) e
+    ∙ ap (λ b. if b then Some (goes_on_waiting store (change_first (is_to_offer link) (offered_as number) os)) else None) ((Decides-int_eq value value).1 refl)
+
+pub offer_enters : (m after : Running) (q : Roomy) (j : Log) (link number stamp : ℕ) (value : ℤ) → number ≡ offers_on link m.journal.entries → IsSome (find (is_to_offer link) m.outstanding.operations)
+    → IfSome (find (is_to_offer link) m.outstanding.operations) (λ (o : Operation). o.asked ≡ asked.Send value)
+    → after ≡ noted m (event.Offer link number (payload.Int value)) stamp q m.frames j → q.operations ≡ change_first (is_to_offer link) (offered_as number) m.outstanding.operations
+    → j.entries ≡ m.journal.entries ++ entry_now m (event.Offer link number (payload.Int value)) stamp ∷ []
+    → Enters m (event.Offer link number (payload.Int value)) stamp after
+offer_enters m after q j link number stamp value next some sends is ops entries =
+    let os = m.outstanding.operations in
+    let v = event.Offer link number (payload.Int value) in
+    let fits : arrivals.arrives m.journal.entries m.frames os v ≡ Some (goes_on_waiting m.frames (change_first (is_to_offer link) (offered_as number) os)) =
+    ap (λ (b : Bool). if b then offers m.frames os link number (payload.Int value) (find (is_to_offer link) os) else None) (eq-eqb number (offers_on link m.journal.entries) next)
+    ∙ sends_it m.frames os link number value (find (is_to_offer link) os) some sends in
+    waiting_enters m v stamp after q j (change_first (is_to_offer link) (offered_as number) os) fits is ops entries
+
+-- ---- ends
+
+pub know_enters : (m b after : Running) (q : Roomy) (j : Log) (link number stamp : ℕ) (o : Operation) → find (is_offered link number) m.outstanding.operations ≡ Some o
+    → b ≡ noted m (event.Know link number) stamp q m.frames j → q.operations ≡ without_first (is_offered link number) m.outstanding.operations
+    → j.entries ≡ m.journal.entries ++ entry_now m (event.Know link number) stamp ∷ [] → flat_of after ≡ resumed (flat_of b) ok (Some o.item) → after.ended ≡ b.ended → IsSameCode b after
+    → Enters m (event.Know link number) stamp after
+know_enters m b after q j link number stamp o found is ops entries flat ended same =
+    let os = m.outstanding.operations in
+    ended_enters m (event.Know link number) stamp b after q m.frames m.frames j (without_first (is_offered link number) os) o (ap (ends_known m.frames os link number) found)
+    is ops refl entries flat ended same
+
+pub got_enters : (m b after : Running) (q : Roomy) (store : Store) (j : Log) (link number stamp : ℕ) (value : ℤ) (o : Operation) (place : Place)
+    → find (is_to_receive link) m.outstanding.operations ≡ Some o → o.asked ≡ asked.Recv place → b ≡ noted m (event.Got link number value) stamp q store j
+    → q.operations ≡ without_first (is_to_receive link) m.outstanding.operations → store ≡ with_int_at m.frames place 0 value
+    → j.entries ≡ m.journal.entries ++ entry_now m (event.Got link number value) stamp ∷ [] → flat_of after ≡ resumed (flat_of b) ok (Some o.item) → after.ended ≡ b.ended → IsSameCode b after
+    → Enters m (event.Got link number value) stamp after
+got_enters m b after q store j link number stamp value o place found asks is ops frames entries flat ended same =
+    let os = m.outstanding.operations in
+    let put : store ≡ with_message m.frames o value = frames ∙ sym (ap (λ a. with_int_at m.frames (arrivals.place_for a) 0 value) asks) in
+    ended_enters m (event.Got link number value) stamp b after q (with_message m.frames o value) store j (without_first (is_to_receive link) os) o
+    (ap (ends_received m.frames os link value) found) is ops put entries flat ended same

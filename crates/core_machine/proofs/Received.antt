@@ -1,0 +1,42 @@
+-- Where an operation puts what it receives: into one int, in a frame that lives or in the globals.
+use Rattle.std.proofs.Common.{◌≡◌, ℕ, ◌<◌, Some, None, true, false, refl, sym, ap, ◌∙◌, subst, arith}
+use Rattle.std.specs.Prelude.{All, ℤ, find, nat_eq, if◌then◌else◌}
+use Rattle.std.proofs.lemmas.Bool.{and_parts}
+use Rattle.work_item.specs.declared.cell.Place.{Place}
+use Rattle.work_item.specs.Conditions.{HomeLives}
+use Rattle.cancel_scope.specs.declared.operation.Asked.TheVariants as asked
+use Rattle.cancel_scope.specs.declared.operation.Operation.{Operation}
+use Rattle.cancel_scope.specs.Outstanding.{is_send, is_to_receive}
+use Rattle.code_safety.specs.Fit.{IsAsked, IsIntArray}
+use Rattle.code_safety.specs.Living.{AskedLives}
+use Rattle.code_safety.proofs.NoDangling.{names_living}
+use Rattle.code_safety.proofs.Waiting.{IsFound, found_at, one_of_all}
+use Rattle.core_machine.specs.declared.running.Running.{Running}
+use Rattle.core_machine.specs.State.{flat_of, IsSound}
+
+module _ (m : Running) (sound : IsSound m) (still : m.ended ≡ None) (link : ℕ) (o : Operation) (found : find (is_to_receive link) m.outstanding.operations ≡ Some o) where
+  its_place : IsFound (is_to_receive link) m.outstanding.operations o
+  its_place = found_at (is_to_receive link) m.outstanding.operations o found
+
+  of_all : (P : Operation → Type 0) → All P m.outstanding.operations → P o
+  of_all P all = one_of_all P its_place.back o its_place.front (subst (All P) its_place.is all)
+
+  -- it does not send
+  pub sends_nothing : (value : ℤ) → o.asked ≡ asked.Send value → ⊥
+  sends_nothing value e =
+      let passes = (and_parts (nat_eq o.link link) (if is_send o.asked then false else true) its_place.passes).1 in
+      let no : false ≡ true = sym (ap (λ a. if is_send a then false else true) e) ∙ passes in
+      cc
+
+  module _ (place : Place) (asks : o.asked ≡ asked.Recv place) where
+    pub home_there : HomeLives m.frames place.home
+    home_there =
+        let names = names_living m.code.now (flat_of m) (sound.fit still) (sound.chained still) in
+        subst (AskedLives m.frames) asks (of_all (λ (p : Operation). AskedLives m.frames p.asked) names.operations)
+
+    pub one_there : 0 < place.len
+    one_there =
+        let fit = sound.fit still in
+        let ints : IsIntArray m.code.now fit.births true place = subst (IsAsked m.code.now fit.births) asks (of_all (λ (p : Operation). IsAsked m.code.now fit.births p.asked) fit.asks) in
+        let one = ints.single refl in
+        omega (arith, one)

@@ -1,0 +1,107 @@
+//! What comes in at a dispatch point.
+
+use crate::running::Running;
+use ac_base::{Entry, Event, Message, Payload};
+use cancel_scope::Asked;
+use work_item::{Cell, Item};
+
+impl Running<'_> {
+    ghost use Rattle.std.specs.Prelude.{◌≡◌, ◌<◌, Some, None, [], ◌∷◌, ◌++◌, false, find, length, IsSome, IfSome};
+    ghost use Rattle.ac_base.specs.declared.entry.Event.{Event};
+    ghost use Rattle.ac_base.specs.declared.entry.Payload.{Payload};
+    ghost use Rattle.work_item.specs.Store.{int_at};
+    ghost use Rattle.work_item.specs.Conditions.{HomeLives};
+    ghost use Rattle.cancel_scope.specs.declared.operation.Asked.{Asked};
+    ghost use Rattle.cancel_scope.specs.declared.operation.Operation.{Operation};
+    ghost use Rattle.cancel_scope.specs.Outstanding.{is_to_offer, is_offered, is_to_receive};
+    ghost use Rattle.core_state.specs.Arrivals.{offers_on, ok};
+    ghost use Rattle.code_meaning.specs.Machine.{resumed};
+    ghost use Rattle.core_machine.specs.State.{flat_of, IsSound};
+    ghost use Rattle.core_machine.specs.inner.Changes.{entry_now, IsSameCode, Enters};
+
+    // An entry of this turn goes into the journal.
+    fn note(&mut self, event: Event, stamp: u64)
+        requires { 0 < self.old.journal.spare }
+        ensures same { self.new ≡ record self.old { journal = self.new.journal } }
+        ensures entries { self.new.journal.entries ≡ self.old.journal.entries ++ entry_now self.old event stamp ∷ [] }
+    {
+        let turn = self.turn;
+        self.journal.push(Entry { stamp, turn, event });
+    }
+
+    // The thread whose operation has ended has its value, and goes to the back.
+    fn resume(&mut self, item: Item)
+        requires room { 0 < self.old.schedule.spare }
+        requires settled { self.old.threads.pending ≡ false }
+        ensures flat { flat_of self.new ≡ resumed (flat_of self.old) ok (Some item) }
+        ensures ended { self.new.ended ≡ self.old.ended }
+        ensures keeps { IsSameCode self.old self.new }
+    {
+        self.schedule.schedule(item);
+        self.threads.give(item, Cell::Int(0));
+    }
+
+    /// The oldest operation that is to be offered on a link, which sends that value, was offered
+    /// under that number.
+    pub fn offered(&mut self, link: u32, number: u64, value: Message, stamp: u64)
+        requires room { 0 < self.old.journal.spare }
+        requires next { number ≡ offers_on link self.old.journal.entries }
+        requires oldest { IfSome (find (is_to_offer link) self.old.outstanding.operations) (λ o. o.asked ≡ Asked.Send value) }
+        requires some { IsSome (find (is_to_offer link) self.old.outstanding.operations) }
+        ensures enters { Enters self.old (Event.Offer link number (Payload.Int value)) stamp self.new }
+        ensures pending { self.new.threads.pending ≡ self.old.threads.pending }
+    {
+        self.outstanding.offer_oldest(link, number);
+        self.note(
+            Event::Offer {
+                link,
+                number,
+                payload: Payload::Int(value),
+            },
+            stamp,
+        );
+    }
+
+    /// The offer under that number was taken, and its operation has ended.
+    pub fn know(&mut self, link: u32, number: u64, stamp: u64)
+        requires room { 0 < self.old.journal.spare }
+        requires ready { 0 < self.old.schedule.spare }
+        requires settled { self.old.threads.pending ≡ false }
+        requires some { IsSome (find (is_offered link number) self.old.outstanding.operations) }
+        ensures enters { Enters self.old (Event.Know link number) stamp self.new }
+    {
+        let Some(operation) = self.outstanding.end_offered(link, number) else {
+            unreachable!()
+        };
+        self.note(Event::Know { link, number }, stamp);
+        self.resume(operation.item);
+    }
+
+    /// A message has come over a link, for the oldest operation that waits for one, which has ended.
+    pub fn got(&mut self, link: u32, number: u64, value: Message, stamp: u64)
+        requires room { 0 < self.old.journal.spare }
+        requires ready { 0 < self.old.schedule.spare }
+        requires settled { self.old.threads.pending ≡ false }
+        requires some { IsSome (find (is_to_receive link) self.old.outstanding.operations) }
+        requires running { self.old.ended ≡ None }
+        requires sound { IsSound self.old }
+        ensures enters { Enters self.old (Event.Got link number value) stamp self.new }
+    {
+        let Some(operation) = self.outstanding.end_receiving(link) else {
+            unreachable!()
+        };
+        let Asked::Recv(place) = operation.asked else {
+            unreachable!()
+        };
+        self.frames.write_at(place, 0, value);
+        self.note(
+            Event::Got {
+                link,
+                number,
+                value,
+            },
+            stamp,
+        );
+        self.resume(operation.item);
+    }
+}

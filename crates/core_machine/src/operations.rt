@@ -1,0 +1,73 @@
+//! Operations start.
+
+use crate::running::Running;
+use ac_base::NoMemory;
+use cancel_scope::{Asked, Operation};
+use thread_table::Parked;
+use work_item::Item;
+
+impl Running<'_> {
+    ghost use Rattle.std.specs.Prelude.{◌≡◌, true, false, Some, None, ◌<◌, ◌^◌, length, IsSome, OnOk, OnErr};
+    ghost use Rattle.stack_code.specs.declared.instr.Instr.{Instr};
+    ghost use Rattle.code_meaning.specs.Machine.{operates};
+    ghost use Rattle.code_safety.specs.Fit.{is_int};
+    ghost use Rattle.core_machine.specs.State.{flat_of};
+    ghost use Rattle.thread_table.specs.Operands.{is_reference, on_top};
+    ghost use Rattle.core_machine.specs.inner.Needs.{IsListed};
+    ghost use Rattle.core_machine.specs.inner.Changes.{Keeps, Does, Stays};
+
+    // The running thread waits for the end of an operation on that link.
+    fn operate(&mut self, item: Item, link: u32, asked: Asked)
+        requires inside { self.old.place < 2 ^ 32 }
+        requires runs { self.old.schedule.running ≡ Some item }
+        requires listed { item.number < length self.old.threads.threads }
+        requires settled { self.old.threads.pending ≡ false }
+        requires room { 0 < self.old.outstanding.spare }
+        ensures flat { flat_of self.new ≡ operates (flat_of self.old) item link asked self.old.operands }
+        ensures ended { self.new.ended ≡ self.old.ended }
+        ensures keeps { Keeps self.old self.new }
+    {
+        self.schedule.suspend();
+        self.outstanding.add(Operation::start(link, asked, item));
+        self.count_one();
+        self.park(item, self.place + 1, Parked::nobody(self.alloc));
+    }
+
+    /// Starts to send an int, which it pops, over a channel.
+    pub fn send(&mut self, channel: u32) -> Result<(), NoMemory>
+        requires running { self.old.ended ≡ None }
+        requires inside { self.old.place < 2 ^ 32 }
+        requires runs { IsSome self.old.schedule.running }
+        requires listed { IsListed (flat_of self.old) }
+        requires settled { self.old.threads.pending ≡ false }
+        requires int { on_top is_int self.old.operands ≡ true }
+        ensures ok { OnOk result (Does self.old (Instr.Send channel) self.new) }
+        ensures err { OnErr result (Stays self.old self.new) }
+        ensures keeps { Keeps self.old self.new }
+    {
+        let item = self.item();
+        self.outstanding.reserve(1)?;
+        let value = self.operands.pop_int();
+        self.operate(item, channel, Asked::Send(value));
+        Ok(())
+    }
+
+    /// Starts to receive a message from a channel, into the place of a reference, which it pops.
+    pub fn receive(&mut self, channel: u32) -> Result<(), NoMemory>
+        requires running { self.old.ended ≡ None }
+        requires inside { self.old.place < 2 ^ 32 }
+        requires runs { IsSome self.old.schedule.running }
+        requires listed { IsListed (flat_of self.old) }
+        requires settled { self.old.threads.pending ≡ false }
+        requires reference { on_top is_reference self.old.operands ≡ true }
+        ensures ok { OnOk result (Does self.old (Instr.Recv channel) self.new) }
+        ensures err { OnErr result (Stays self.old self.new) }
+        ensures keeps { Keeps self.old self.new }
+    {
+        let item = self.item();
+        self.outstanding.reserve(1)?;
+        let place = self.operands.pop_place();
+        self.operate(item, channel, Asked::Recv(place));
+        Ok(())
+    }
+}

@@ -1,0 +1,6 @@
+pub mod Answers
+pub mod AtHand
+pub mod Counts
+pub mod Ends
+pub mod Laws
+pub mod Tells

@@ -1,0 +1,200 @@
+-- What each call on a link changes, and that what it tells is an entry that the core may make.
+use Rattle.std.proofs.Common.{◌≡◌, ℕ, Option, Bool, true, false, ℤ, refl, sym}
+use Rattle.std.specs.Prelude.{IfSome, IfNone, slice_get}
+use Rattle.ac_base.specs.declared.entry.Payload.{Payload}
+use Rattle.ac_links.specs.declared.payloads.Terms.{Terms}
+use Rattle.ac_links.specs.Payloads.{is_payload}
+use Rattle.ac_links.specs.Link.{link_of}
+use Rattle.ac_links.specs.Views.{may_withdraw}
+use Rattle.ac_links.specs.Party.{LinkEnd}
+use Rattle.ac_links.specs.Party.LinkEnd.{Owns, Decides}
+use Rattle.core_channels.specs.declared.answers.Offering.{Offering}
+use Rattle.core_channels.specs.declared.answers.Offering.TheVariants.{Offered, NoRoom, NotYet, ClockFull}
+use Rattle.core_channels.specs.declared.answers.Learning.{Learning}
+use Rattle.core_channels.specs.declared.answers.Learning.TheVariants as learn
+use Rattle.core_channels.specs.declared.answers.Withdrawing.{Withdrawing}
+use Rattle.core_channels.specs.declared.answers.Withdrawing.TheVariants as withdraw
+use Rattle.core_channels.specs.declared.answers.Receiving.{Receiving}
+use Rattle.core_channels.specs.declared.answers.Receiving.TheVariants as take
+use Rattle.core_channels.specs.declared.counts.Call.TheVariants.{OwnerLooks, OwnerTries, PeerLooks}
+use Rattle.core_channels.specs.LinkViews.{LinkViews, with_call}
+use Rattle.core_channels.specs.Offers.{offering, after_offering, offering_clock}
+use Rattle.core_channels.specs.Learns.{learning, after_learning, learning_clock}
+use Rattle.core_channels.specs.Withdraws.{withdrawing, after_withdrawing, withdrawing_clock}
+use Rattle.core_channels.specs.Takes.{receiving, after_receiving}
+use Rattle.core_channels.specs.Laws.{Told, told_by_offering, told_by_learning, told_by_withdrawing, told_by_receiving, Enters}
+use Rattle.core_channels.proofs.Entering.{offer_enters, learning_enters, withdrawal_enters, take_enters}
+use Rattle.core_ports.specs.Tells.{told_by_arrival}
+use Rattle.core_runner.specs.declared.side.Side.{Side}
+use Rattle.core_runner.specs.declared.side.Side.TheVariants.{Owner, Peer}
+use Rattle.core_runner.specs.Sides.{end_at}
+use Rattle.core_runner.specs.Hands.{hand_at, heard_at}
+use Rattle.core_runner.specs.Lent.{SideStays}
+use Rattle.core_runner.specs.Polls.{learned, received, taking, after_taking, clock_after}
+use Rattle.core_runner.proofs.Telling.{ending_with}
+
+-- what a call leaves as it was
+pub record Leaves (v w : LinkViews) (side : Side) (told : Option Told) : Type 0 where
+  pub terms : w.terms ≡ v.terms
+  pub stays : SideStays v w side
+  pub heard : heard_at w side ≡ heard_at v side
+  pub hand : IfNone told (hand_at w side ≡ hand_at v side)
+
+-- ---- an offer
+
+pub offer_leaves : (v : LinkViews) (l : ℕ) (payload : Payload) (a : Offering Payload) → Leaves v (after_offering (with_call v OwnerTries) payload a) Owner (told_by_offering l payload a)
+offer_leaves v l payload (Offered number s) = record { terms = refl; stays = refl; heard = refl; hand = tt }
+offer_leaves v l payload (NoRoom back) = record { terms = refl; stays = refl; heard = refl; hand = refl }
+offer_leaves v l payload (NotYet back) = record { terms = refl; stays = refl; heard = refl; hand = refl }
+offer_leaves v l payload (ClockFull back) = record { terms = refl; stays = refl; heard = refl; hand = refl }
+
+pub offer_counts : (v : LinkViews) (payload : Payload) (a : Offering Payload) → (after_offering v payload a).counts ≡ v.counts
+offer_counts v payload (Offered number s) = refl
+offer_counts v payload (NoRoom back) = refl
+offer_counts v payload (NotYet back) = refl
+offer_counts v payload (ClockFull back) = refl
+
+pub offer_on : (l : ℕ) (payload : Payload) (a : Offering Payload) → IfSome (told_by_offering l payload a) (λ t. link_of t.event ≡ l)
+offer_on l payload (Offered number s) = refl
+offer_on l payload (NoRoom back) = tt
+offer_on l payload (NotYet back) = tt
+offer_on l payload (ClockFull back) = tt
+
+-- ---- a withdrawal
+
+pub withdrawal_leaves : (v : LinkViews) (l number : ℕ) (a : Withdrawing) → Leaves v (after_withdrawing v number a) Owner (told_by_withdrawing l number a)
+withdrawal_leaves v l number (withdraw.Withdrawn s) = record { terms = refl; stays = refl; heard = refl; hand = tt }
+withdrawal_leaves v l number (withdraw.Taken s) = record { terms = refl; stays = refl; heard = refl; hand = tt }
+withdrawal_leaves v l number withdraw.ClockFull = record { terms = refl; stays = refl; heard = refl; hand = refl }
+
+pub withdrawal_counts : (v : LinkViews) (number : ℕ) (a : Withdrawing) → (after_withdrawing v number a).counts ≡ v.counts
+withdrawal_counts v number (withdraw.Withdrawn s) = refl
+withdrawal_counts v number (withdraw.Taken s) = refl
+withdrawal_counts v number withdraw.ClockFull = refl
+
+pub withdrawal_on : (l number : ℕ) (a : Withdrawing) → IfSome (told_by_withdrawing l number a) (λ t. link_of t.event ≡ l)
+withdrawal_on l number (withdraw.Withdrawn s) = refl
+withdrawal_on l number (withdraw.Taken s) = refl
+withdrawal_on l number withdraw.ClockFull = tt
+
+-- ---- a look of the owner
+
+pub learning_leaves : (v : LinkViews) (l : ℕ) (a : Learning) → Leaves v (after_learning (with_call v OwnerLooks) a) Owner (told_by_arrival l (learned a))
+learning_leaves v l (learn.Know number s) = record { terms = refl; stays = refl; heard = refl; hand = tt }
+learning_leaves v l (learn.Room number s) = record { terms = refl; stays = refl; heard = refl; hand = tt }
+learning_leaves v l learn.Undecided = record { terms = refl; stays = refl; heard = refl; hand = refl }
+learning_leaves v l learn.AllKnown = record { terms = refl; stays = refl; heard = refl; hand = refl }
+learning_leaves v l learn.ClockFull = record { terms = refl; stays = refl; heard = refl; hand = refl }
+
+pub learning_counts : (v : LinkViews) (a : Learning) → (after_learning v a).counts ≡ v.counts
+learning_counts v (learn.Know number s) = refl
+learning_counts v (learn.Room number s) = refl
+learning_counts v learn.Undecided = refl
+learning_counts v learn.AllKnown = refl
+learning_counts v learn.ClockFull = refl
+
+-- ---- a look of the peer
+
+taking_leaves_all : (v : LinkViews) (l : ℕ) (a : Receiving ℤ) → Leaves v (after_receiving (with_call v PeerLooks) a) Peer (told_by_arrival l (received a))
+taking_leaves_all v l (take.Took number value s) = record { terms = refl; stays = (refl, refl); heard = refl; hand = tt }
+taking_leaves_all v l (take.Passed number s) = record { terms = refl; stays = (refl, refl); heard = refl; hand = tt }
+taking_leaves_all v l take.Nothing = record { terms = refl; stays = (refl, refl); heard = refl; hand = refl }
+taking_leaves_all v l take.NotYet = record { terms = refl; stays = (refl, refl); heard = refl; hand = refl }
+taking_leaves_all v l take.ClockFull = record { terms = refl; stays = (refl, refl); heard = refl; hand = refl }
+
+pub taking_leaves : (v : LinkViews) (l last : ℕ) (wants : Bool) → Leaves v (after_taking (with_call v PeerLooks) last wants) Peer (told_by_arrival l (taking v last wants))
+taking_leaves v l last true = taking_leaves_all v l (receiving v last)
+taking_leaves v l last false = record { terms = refl; stays = (refl, refl); heard = refl; hand = refl }
+
+receiving_counts : (v : LinkViews) (a : Receiving ℤ) → (after_receiving v a).counts ≡ v.counts
+receiving_counts v (take.Took number value s) = refl
+receiving_counts v (take.Passed number s) = refl
+receiving_counts v take.Nothing = refl
+receiving_counts v take.NotYet = refl
+receiving_counts v take.ClockFull = refl
+
+pub taking_counts : (v : LinkViews) (last : ℕ) (wants : Bool) → (after_taking v last wants).counts ≡ v.counts
+taking_counts v last true = receiving_counts v (receiving v last)
+taking_counts v last false = refl
+
+-- ---- the clock after each call
+
+pub offering_clock_is : (last l : ℕ) (payload : Payload) (a : Offering Payload) → offering_clock last a ≡ clock_after last (told_by_offering l payload a)
+offering_clock_is last l payload (Offered number s) = refl
+offering_clock_is last l payload (NoRoom back) = refl
+offering_clock_is last l payload (NotYet back) = refl
+offering_clock_is last l payload (ClockFull back) = refl
+
+pub withdrawing_clock_is : (last l number : ℕ) (a : Withdrawing) → withdrawing_clock last a ≡ clock_after last (told_by_withdrawing l number a)
+withdrawing_clock_is last l number (withdraw.Withdrawn s) = refl
+withdrawing_clock_is last l number (withdraw.Taken s) = refl
+withdrawing_clock_is last l number withdraw.ClockFull = refl
+
+pub learning_clock_is : (last l : ℕ) (a : Learning) → learning_clock last a ≡ clock_after last (told_by_arrival l (learned a))
+learning_clock_is last l (learn.Know number s) = refl
+learning_clock_is last l (learn.Room number s) = refl
+learning_clock_is last l learn.Undecided = refl
+learning_clock_is last l learn.AllKnown = refl
+learning_clock_is last l learn.ClockFull = refl
+
+-- ---- what is told is an entry that the core may make
+
+pub arrival_on : (l : ℕ) (a : Learning) → IfSome (told_by_arrival l (learned a)) (λ t. link_of t.event ≡ l)
+arrival_on l (learn.Know number s) = refl
+arrival_on l (learn.Room number s) = refl
+arrival_on l learn.Undecided = tt
+arrival_on l learn.AllKnown = tt
+arrival_on l learn.ClockFull = tt
+
+received_on : (l : ℕ) (a : Receiving ℤ) → IfSome (told_by_arrival l (received a)) (λ t. link_of t.event ≡ l)
+received_on l (take.Took number value s) = refl
+received_on l (take.Passed number s) = refl
+received_on l take.Nothing = tt
+received_on l take.NotYet = tt
+received_on l take.ClockFull = tt
+
+pub arrival_of_taking_on : (v : LinkViews) (l last : ℕ) (wants : Bool) → IfSome (told_by_arrival l (taking v last wants)) (λ t. link_of t.event ≡ l)
+arrival_of_taking_on v l last true = received_on l (receiving v last)
+arrival_of_taking_on v l last false = tt
+
+module _ (terms : ℕ → Terms) (ends : ℕ → LinkEnd) (last l : ℕ) (v : LinkViews) (t : terms l ≡ v.terms) where
+  module _ (h : ends l ≡ Owns v.offers) where
+    offered : (payload : Payload) (a : Offering Payload) → Enters terms ends (ending_with last) 0 l v (told_by_offering l payload a) (Owns (after_offering v payload a).offers)
+        → Enters terms ends (ending_with last) 0 l v (told_by_offering l payload a) (end_at (after_offering (with_call v OwnerTries) payload a) Owner)
+    offered payload (Offered number s) e = e
+    offered payload (NoRoom back) e = e
+    offered payload (NotYet back) e = e
+    offered payload (ClockFull back) e = e
+
+    pub offer_is_entered : (payload : Payload) → is_payload v.terms.requests payload ≡ true
+        → Enters terms ends (ending_with last) 0 l v (told_by_offering l payload (offering v payload last)) (end_at (after_offering (with_call v OwnerTries) payload (offering v payload last)) Owner)
+    offer_is_entered payload fits = offered payload (offering v payload last) (offer_enters terms ends (ending_with last) 0 v l t h payload fits)
+
+    pub withdrawal_is_entered : (number : ℕ) → may_withdraw (slice_get v.offers number) ≡ true
+        → Enters terms ends (ending_with last) 0 l v (told_by_withdrawing l number (withdrawing v number last)) (end_at (after_withdrawing v number (withdrawing v number last)) Owner)
+    withdrawal_is_entered number fits = withdrawal_enters terms ends (ending_with last) 0 v l t h number fits
+
+    known : (a : Learning) → Enters terms ends (ending_with last) 0 l v (told_by_learning l a) (Owns (after_learning v a).offers)
+        → Enters terms ends (ending_with last) 0 l v (told_by_arrival l (learned a)) (end_at (after_learning (with_call v OwnerLooks) a) Owner)
+    known (learn.Know number s) e = e
+    known (learn.Room number s) e = e
+    known learn.Undecided e = e
+    known learn.AllKnown e = e
+    known learn.ClockFull e = e
+
+    pub learning_is_entered : Enters terms ends (ending_with last) 0 l v (told_by_arrival l (learned (learning v last))) (end_at (after_learning (with_call v OwnerLooks) (learning v last)) Owner)
+    learning_is_entered = known (learning v last) (learning_enters terms ends (ending_with last) 0 v l t h)
+
+  module _ (h : ends l ≡ Decides v.decisions) (channel : v.terms.requests ≡ false) where
+    taken : (a : Receiving ℤ) → Enters terms ends (ending_with last) 0 l v (told_by_receiving l a) (Decides (after_receiving v a).decisions)
+        → Enters terms ends (ending_with last) 0 l v (told_by_arrival l (received a)) (Decides (after_receiving (with_call v PeerLooks) a).decisions)
+    taken (take.Took number value s) e = e
+    taken (take.Passed number s) e = e
+    taken take.Nothing e = e
+    taken take.NotYet e = e
+    taken take.ClockFull e = e
+
+    pub taking_is_entered : (wants : Bool)
+        → Enters terms ends (ending_with last) 0 l v (told_by_arrival l (taking v last wants)) (Decides (after_taking (with_call v PeerLooks) last wants).decisions)
+    taking_is_entered true = taken (receiving v last) (take_enters terms ends (ending_with last) 0 v l t h channel)
+    taking_is_entered false = sym h

@@ -1,0 +1,4 @@
+pub mod Hands
+pub mod Lent
+pub mod Polls
+pub mod Sides

@@ -1,0 +1,10 @@
+pub mod Expressions
+pub mod Work
+pub mod Statements
+pub mod Counting
+pub mod Operations
+pub mod Cores
+pub mod Runs
+pub mod Passing
+pub mod Stamps
+pub mod Examples

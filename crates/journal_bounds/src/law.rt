@@ -1,0 +1,15 @@
+//! Bounds on the journals and the stamps of a run, by the steps that its cores may take.
+
+ghost use Rattle.journal_bounds.specs.Laws.{EntriesAreFew, StampsAreSmall};
+
+/// A core that comes to an end has taken in at most two entries for each operation that it may have
+/// started, and with each step it starts no more than one statement has.
+pub fn entries_are_few()
+    ensures { EntriesAreFew }
+{}
+
+/// So no stamp of a legal history is above a bound by the steps of the cores and the entries of the
+/// worker: a clock that counts further is never full.
+pub fn stamps_are_small()
+    ensures { StampsAreSmall }
+{}

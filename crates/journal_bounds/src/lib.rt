@@ -1,0 +1,6 @@
+//! How many entries the journal of a core has, and how great the stamps of a run are: definitions and laws.
+#![tactic(auto)]
+
+mod law;
+
+pub use law::{entries_are_few, stamps_are_small};

@@ -1,6 +1,0 @@
-use Rattle.std.proofs.Common.{◌≡◌, ◌++◌, drop}
-use Rattle.stack_code.specs.Listing.{function_lines}
-use Rattle.stack_code.proofs.lines.add_functions.Given as goal
-
-abbrev pub invariant-loop-place : goal.invariant-loop-place
-invariant-loop-place l = l.text.items ++ function_lines (drop l.place l.functions) l.instrs ≡ l.fn.text.items ++ function_lines l.functions l.instrs

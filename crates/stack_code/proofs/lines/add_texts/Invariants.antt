@@ -1,6 +1,0 @@
-use Rattle.std.proofs.Common.{◌≡◌, ◌++◌, drop}
-use Rattle.stack_code.specs.Listing.{text_lines}
-use Rattle.stack_code.proofs.lines.add_texts.Given as goal
-
-abbrev pub invariant-loop-number : goal.invariant-loop-number
-invariant-loop-number l = l.text.items ++ text_lines l.number (drop l.number l.texts) ≡ l.fn.text.items ++ text_lines 0 l.texts

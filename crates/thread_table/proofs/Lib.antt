@@ -1,0 +1,4 @@
+pub mod Tops
+pub mod Innermost
+pub mod Handed
+pub mod Examples

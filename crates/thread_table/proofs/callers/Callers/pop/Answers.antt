@@ -1,0 +1,30 @@
+use Rattle.std.proofs.Common.{◌≡◌, ◌∷◌, ◌-◌, length, take, drop, refl, sym, ap, ◌∙◌, subst, arith, reverse, Some}
+use Rattle.std.specs.Prelude.{slice_get}
+use Rattle.std.proofs.lemmas.List.{take_rest}
+use Rattle.thread_table.specs.Callers.{Popped, callers_of}
+use Rattle.thread_table.proofs.Innermost.{innermost, innermost_first, last_is}
+use Rattle.thread_table.proofs.callers.Callers.pop.Goals as goal
+
+pub returns-clause-ok : goal.returns-clause-ok
+returns-clause-ok c =
+    let w = c.in-Some.caller in
+    let waiting = c.self.inside.waiting.items in
+    let cells = c.self.inside.cells.items in
+    let end = c.len.result - w.below in
+    let rest = take (length waiting - 1) waiting in
+    let lies : end ≡ length cells - w.below = omega (arith, c.len.ensures, c.self.inside.cells.ok.0) in
+    let here : slice_get waiting (length waiting - 1) ≡ Some w = sym (ap (λ l. slice_get l (length l - 1)) c.deref.ensures.value) ∙ sym c.last.ensures.value ∙ sym c.copied.ensures ∙ c.in-Some.is in
+    let last = last_is waiting w here in
+    let first = innermost_first waiting rest w cells end last c.self.invariant lies in
+    let others = callers_of (reverse rest) (reverse (take end cells)) in
+    let was : c.args.self.now ≡ innermost waiting rest w cells end last c.self.invariant lies ∷ others = sym c.self.view_is ∙ first in
+    subst (λ l. Popped l c.forget.new.self c.args.value (Some w) c.args.operands.now c.restore.new.self) (sym was) (
+      refl,
+      (
+        refl,
+        (
+          c.forget.ensures.one (innermost waiting rest w cells end last c.self.invariant lies) others was,
+          c.in_ok-restore.ensures.ok ∙ ap (λ l. c.args.value ∷ reverse l) (take_rest c.deref-2.result.now end ∙ ap (drop end) c.deref-2.ensures.value),
+        ),
+      ),
+    )
