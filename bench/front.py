@@ -16,6 +16,7 @@ import time
 PROGRAM = pathlib.Path(__file__).resolve().parent.parent / "crates" / "ac" / "out" / "ac"
 GREATEST = 1_048_576
 HEAD = "core a(f); int g; int h[8];\n"
+FILE = 'file log("x");'
 FUNCTION = """int p{n}(int x, int v[]) {{
   for (int i = 0; i < 8 && x != 3; i = i + 1) {{ v[i] = x * (i << 2) - ~g; if (v[i] > 5) continue; else break; }}
   while (x) {{ x = x / 2 | 1; printf("%d %c\\n", x, h[x % 8]); }}
@@ -48,8 +49,8 @@ def filled(head, part, tail, size):
 
 
 def chain(count):
-    """Functions of which each calls the next, reached from sixteen cores."""
-    cores = "".join(f"core {c}(f);" for c in "abcdeghijklmnopq")
+    """Functions of which each calls the next, reached from sixteen cores, and a file, which is not built."""
+    cores = "".join(f"core {c}(f);" for c in "abcdeghijklmnopq") + FILE
     calls = "".join(f"void p{n}(){{p{n + 1}();}}\n" for n in range(count - 1))
     return cores + calls + f"void p{count - 1}(){{}}\nasync void f(){{p0();}}\n"
 
@@ -69,23 +70,21 @@ def refused(file, line):
         sys.exit(f"status {done.returncode} and {done.stdout!r} in place of {line!r}")
 
 
-def timed(folder, name, text, line):
+def timed(folder, name, text, word):
+    """The time in which a text is read, judged and refused for the form that begins with this word."""
     file = pathlib.Path(folder) / f"{name}.ac"
     file.write_text(text)
+    line = f"not built at {text.index(word)}\n"
     return best(lambda: refused(file, line))
 
 
 def main():
     with tempfile.TemporaryDirectory() as folder:
-        function_at = len(HEAD)
         half, whole = (
-            timed(folder, size, filled(HEAD, FUNCTION, TAIL, size), f"not built at {function_at}\n")
+            timed(folder, size, filled(HEAD, FUNCTION, TAIL, size), "cancel")
             for size in (GREATEST // 2, GREATEST)
         )
-        second = len("core a(f);")
-        few, many = (
-            timed(folder, count, chain(count), f"not built at {second}\n") for count in (5_000, 10_000)
-        )
+        few, many = (timed(folder, count, chain(count), FILE) for count in (5_000, 10_000))
     python = filled("", PYTHON, "", GREATEST)
     parsed = best(lambda: ast.parse(python))
     print(f"{GREATEST // 2} bytes: {half * 1000:.1f} ms")

@@ -156,7 +156,7 @@ int sum(int row[], int n) { return n; } async %s h() { int x; int y; int i; int 
 
 
 def forms():
-    """Each form of the page's tables, in a program that has it. The program breaks no rule, and has a second core."""
+    """Each form of the page's tables, in a program that has it. The program breaks no rule, and has a file."""
     text = PAGE.read_text()
     tables = re.findall(r"^\| Form \| Example \|.*?\n\|[-|]+\n((?:\|.*\n)+)", text, re.M)
     items, statements, values = [
@@ -171,7 +171,7 @@ def forms():
 
 def form_tests():
     for name, source in forms():
-        yield name, (["run", "x.ac"], "x.ac", source.encode(), 15, b"not built at 11\n")
+        yield name, (["run", "x.ac"], "x.ac", source.encode(), 15, f"not built at {source.index('file log')}\n".encode())
 
 
 def shown(output):

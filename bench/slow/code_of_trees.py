@@ -41,6 +41,17 @@ class Compiled:
         else:
             self.put("Arr", e.level, d.slot, d.size)
 
+    def reference(self, p):
+        """To the one element into which a receive goes."""
+        if p.kind == "Index":
+            self.array(p)
+            self.expr(p.index)
+            self.put("Place")
+        elif p.decl.owner is None:
+            self.put("ArrG", p.decl.slot, 1)
+        else:
+            self.put("Arr", p.level, p.decl.slot, 1)
+
     def expr(self, e):
         k = e.kind
         if k == "Number":
@@ -65,6 +76,12 @@ class Compiled:
             for a in e.args:
                 self.expr(a)
             self.calls.append((self.put("Call"), e.func))
+        elif k == "Send":
+            self.expr(e.value)
+            self.put("Send", e.link)
+        elif k == "Recv":
+            self.reference(e.place)
+            self.put("Recv", e.link)
         else:
             self.expr(e.first)
             for op, right in e.rest:
@@ -191,8 +208,15 @@ class B:
 
 
 class CodeCore:
+    """A core at a dispatch point, or one that has ended. What was offered stands in a table by link and number, and what still is
+    to be offered or to be received in a queue for each link."""
+
     def __init__(self, compiled, names, core, limit):
-        self.word, self.steps, self.instructions, self.out = None, 0, 0, bytearray()
+        self.word, self.steps, self.instructions, self.out, self.turn = None, 0, 0, bytearray(), 0
+        self.sends = [deque() for _ in names.channels]
+        self.receives = [deque() for _ in names.channels]
+        self.offers = {}
+        self.births = 0
         self.limit = limit
         self.g = [0] * names.slots
         for s, v in compiled.starts.items():
@@ -200,15 +224,14 @@ class CodeCore:
         self.live = names.slots
         self.code, self.texts = compiled.c, compiled.texts
         w = core.func.slots
+        self.ready = deque()
         if self.live + w + 4 > LIMIT:
             self.word = "stack-full"
             return
         self.live += w + 4
         t = T()
         t.pc, t.frame, t.stack, t.callers, t.block, t.home = compiled.at[core.func], F(w, None), [], [], None, None
-        self.first = t
-        self.ready = deque([t])
-        self.run()
+        self.ready.append(t)
 
     def give_back(self, f):
         f.over = True
@@ -227,12 +250,41 @@ class CodeCore:
         if b.count == 0 and b.owner is not None:
             self.ready.appendleft(b.owner)
 
-    def run(self):
-        while self.word is None:
-            if not self.ready:
-                self.word = "stalled"
-                return
-            self.thread(self.ready.popleft())
+    # ---- what may come in at a dispatch point
+
+    def to_offer(self, link):
+        return self.sends[link][0][2] if self.sends[link] else None
+
+    def wants(self, link):
+        return bool(self.receives[link])
+
+    def has_offered(self, link, number):
+        return (link, number) in self.offers
+
+    def offer(self, link, number):
+        self.offers[link, number] = self.sends[link].popleft()
+
+    def know(self, link, number):
+        self.goes_on(self.offers.pop((link, number))[1])
+
+    def got(self, link, value):
+        _, t, (home, s, _) = self.receives[link].popleft()
+        home[s] = value
+        self.goes_on(t)
+
+    def goes_on(self, t):
+        t.stack.append(0)
+        self.ready.append(t)
+
+    def go(self):
+        self.turn += 1
+        self.thread(self.ready.popleft())
+
+    def end(self):
+        """How it ended, with what is seen of it."""
+        waiting = [(o[0], link, "waiting") for q in (self.sends, self.receives) for link, ops in enumerate(q) for o in ops]
+        waiting += [(o[0], link, "offered") for (link, _), o in self.offers.items()]
+        return self.word or "stalled", self.steps, bytes(self.out), self.g, [o[1:] for o in sorted(waiting)]
 
     def thread(self, t):
         code, st, fr = self.code, t.stack, t.frame
@@ -382,6 +434,19 @@ class CodeCore:
             elif op == "Yield":
                 t.pc, t.frame = pc, fr
                 self.ready.append(t)
+                return
+            elif op == "Place":
+                i = st.pop()
+                home, s, n = st.pop()
+                if i < 0 or i >= n:
+                    self.word = "index"
+                    return
+                st.append((home, s + i, 1))
+            elif op in ("Send", "Recv"):
+                t.pc, t.frame = pc, fr
+                queues = self.sends if op == "Send" else self.receives
+                queues[ins[1]].append((self.births, t, st.pop()))
+                self.births += 1
                 return
             else:
                 b = st.pop()

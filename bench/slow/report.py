@@ -1,24 +1,26 @@
 #!/usr/bin/env python3
-"""report.py run FILE [--steps N]: prints the report as `ac run` does; the status is the exit status."""
+"""report.py run FILE [--steps N] [--order SEED]: prints the report as `ac run` does; the status is the exit status.
+
+Several cores run in an order of `ac`, or in the order of a seed, in which arrivals may come late."""
 import sys
 import threading
 
+import cores
+import rules
 import tokens_and_trees as lang
-from code_of_trees import Compiled, CodeCore
-from source import TreeCore
 
 sys.setrecursionlimit(200_000)
 STATUS = {"finished": 0, "stalled": 5, "out-of-steps": 6}
 
 
-def report(cores):
+def report(ends):
     out = bytearray()
-    for name, word, steps, instructions, output in cores:
+    for name, word, steps, instructions, output in ends:
         out += f"{name}: {word} after {steps} steps, {instructions} instructions\n".encode() + output
         if output and not output.endswith(b"\n"):
             out += b"\n"
     status = 0
-    for _, word, *_ in cores:
+    for _, word, *_ in ends:
         s = STATUS.get(word, 4)
         status = min((status, s), key=lambda x: [4, 6, 5, 0].index(x))
     return status, bytes(out)
@@ -29,32 +31,25 @@ def load(text):
     return program, lang.Names(program)
 
 
+def of(names, codes):
+    return report([(c.name, m.end()[0], m.steps, m.instructions, bytes(m.out)) for c, m in zip(names.cores, codes)])
+
+
 def run_code(text, limit):
     """status, bytes of `ac run`"""
     try:
         program, names = load(text)
     except lang.Fault as f:
         return f.status, f.line.encode() + b"\n"
-    compiled = Compiled(names, program)
-    cores = []
-    for c in names.cores:
-        m = CodeCore(compiled, names, c, limit)
-        cores.append((c.name, m.word, m.steps, m.instructions, bytes(m.out)))
-    return report(cores)
+    codes = cores.Program(names, program, limit).codes()
+    cores.Run(names, codes, cores.Order(0, len(codes))).whole()
+    return of(names, codes)
 
 
-def both(text, limit):
-    """The report of the tree and of its code; raises where they differ."""
+def both(text, limit, seed=0, polls=False):
+    """The report of the tree and of its code, in the order of this seed; raises where they differ."""
     program, names = load(text)
-    compiled = Compiled(names, program)
-    cores = []
-    for c in names.cores:
-        a = TreeCore(names, c, limit)
-        b = CodeCore(compiled, names, c, limit)
-        if (a.word, a.steps, a.out) != (b.word, b.steps, b.out):
-            raise AssertionError(f"tree {a.word} {a.steps} {bytes(a.out)[:300]!r}\ncode {b.word} {b.steps} {bytes(b.out)[:300]!r}")
-        cores.append((c.name, b.word, b.steps, b.instructions, bytes(b.out)))
-    return report(cores)
+    return of(names, cores.Program(names, program, limit).run(seed, polls)[0])
 
 
 def deep(act):
@@ -75,18 +70,26 @@ def deep(act):
     return got[0]
 
 
+def option(args, name, other):
+    """The word after this one, both taken out, or another where it is not there."""
+    if name not in args:
+        return other
+    k = args.index(name)
+    value = args[k + 1]
+    del args[k:k + 2]
+    return value
+
+
 def main():
-    limit = 100_000
     args = sys.argv[2:]
-    if "--steps" in args:
-        k = args.index("--steps")
-        limit = int(args[k + 1])
-        del args[k:k + 2]
+    limit, order = int(option(args, "--steps", 100_000)), option(args, "--order", None)
+    seed, polls = (int(order), False) if order else (0, True)
     text = open(args[0], "rb").read()
 
     def go():
         try:
-            return both(text, limit)
+            rules.refusal(text, limit)
+            return both(text, limit, seed, polls)
         except lang.Fault as f:
             return f.status, f.line.encode() + b"\n"
     status, out = deep(go)

@@ -254,10 +254,12 @@ def unbuilt(program):
     """The place of the first node that is not built, or None."""
 
     def expr(e):
-        if e.kind in ("Send", "Recv", "Read", "Write"):
+        if e.kind in ("Read", "Write"):
             raise Unbuilt(e.at)
         if e.kind == "Index":
             expr(e.index)
+        elif e.kind in ("Send", "Recv"):
+            expr(e.value if e.kind == "Send" else e.place)
         elif e.kind in ("Group", "Unary"):
             expr(e.inner)
         elif e.kind == "Chain":
@@ -289,13 +291,8 @@ def unbuilt(program):
             stmt(s.other)
 
     try:
-        core = False
         for i in program.items:
-            if i.kind == "Core":
-                if core:
-                    raise Unbuilt(i.at)
-                core = True
-            elif i.kind in ("Channel", "File"):
+            if i.kind == "File":
                 raise Unbuilt(i.at)
             elif i.kind == "Function":
                 for s in i.body:

@@ -1,4 +1,7 @@
-"""The meaning of trees: what each statement does, step by step. Threads are Python generators."""
+"""The meaning of trees: what each statement does, step by step. Threads are Python generators.
+
+A core stands at a dispatch point, where something may come in, or has ended. `go` runs the front of the ready list until the next
+one."""
 from collections import deque
 
 LIMIT = 4_194_304
@@ -109,42 +112,90 @@ class Thread:
         self.gen = None
 
 
+class Operation:
+    """A send or a receive that has not ended. `number` is that of its offer, where it was offered."""
+
+    def __init__(self, kind, link, thread, what):
+        self.kind, self.link, self.thread, self.what, self.number = kind, link, thread, what, None
+
+
 class TreeCore:
     def __init__(self, names, core, limit):
         self.names, self.limit = names, limit
-        self.steps, self.out, self.live = 0, bytearray(), names.slots
+        self.steps, self.out, self.live, self.turn = 0, bytearray(), names.slots, 0
         self.globals = {}
         for item in names.top.values():
             if item.kind == "Global":
                 self.globals[item] = [item.value] if item.size is None else [0] * item.size
         self.word = None
-        self.ready, self.threads = deque(), set()
+        self.ready, self.threads, self.operations = deque(), set(), []
         try:
             frame = Frame(self, core.func, None)
-            t = Thread(None)
-            t.gen = self.entry(core.func, frame, t)
-            self.threads.add(t)
-            self.ready.append(t)
-            self.loop()
+        except Trap as e:
+            self.word = str(e)
+            return
+        self.first = Thread(None)
+        self.first.gen = self.entry(core.func, frame, self.first)
+        self.threads.add(self.first)
+        self.ready.append(self.first)
+
+    # ---- what may come in at a dispatch point
+
+    def oldest(self, kind, link):
+        """The oldest operation of the link that waits, or None."""
+        for o in self.operations:
+            if (o.kind, o.link, o.number) == (kind, link, None):
+                return o
+        return None
+
+    def to_offer(self, link):
+        o = self.oldest("send", link)
+        return None if o is None else o.what
+
+    def wants(self, link):
+        return self.oldest("receive", link) is not None
+
+    def has_offered(self, link, number):
+        return any((o.link, o.number) == (link, number) for o in self.operations)
+
+    def offer(self, link, number):
+        self.oldest("send", link).number = number
+
+    def know(self, link, number):
+        self.has_ended(next(o for o in self.operations if (o.link, o.number) == (link, number)))
+
+    def got(self, link, value):
+        o = self.oldest("receive", link)
+        cells, index = o.what
+        cells[index] = value
+        self.has_ended(o)
+
+    def has_ended(self, operation):
+        self.operations.remove(operation)
+        self.ready.append(operation.thread)
+
+    def go(self):
+        self.turn += 1
+        try:
+            self.run(self.ready.popleft())
         except Trap as e:
             self.word = str(e)
         except Out:
             self.word = "out-of-steps"
 
-    def loop(self):
-        running = None
-        first = next(iter(self.threads))
+    def end(self):
+        """How it ended, with what is seen of it."""
+        values = [v for cells in self.globals.values() for v in cells]
+        waiting = [(o.link, "waiting" if o.number is None else "offered") for o in self.operations]
+        return self.word or "stalled", self.steps, bytes(self.out), values, waiting
+
+    def run(self, running):
         while True:
-            if running is None:
-                if not self.ready:
-                    self.word = "stalled"
-                    return
-                running = self.ready.popleft()
             try:
                 ask = next(running.gen)
             except StopIteration:
                 self.threads.discard(running)
-                if running is first:
+                if running is self.first:
                     self.word = "finished"
                     return
                 b = running.started_in
@@ -154,19 +205,21 @@ class TreeCore:
                         self.ready.appendleft(b.waiter)
                         b.waiter = None
                     b = b.parent
-                running = None
-                continue
+                return
             if ask[0] == "async":
                 self.ready.appendleft(running)
                 running = ask[1]
                 self.threads.add(running)
             elif ask[0] == "yield":
                 self.ready.append(running)
-                running = None
+                return
             elif ask[0] == "finish":
                 if self.lives_within(ask[1]):
                     ask[1].waiter = running
-                    running = None
+                    return
+            else:
+                self.operations.append(Operation(ask[0], ask[1], running, ask[2]))
+                return
 
     def lives_within(self, block):
         for t in self.threads:
@@ -203,15 +256,15 @@ class TreeCore:
             frame.cells[decl] = [0] * (decl.size if decl.kind == "Array" else 1)
         return frame.cells[decl]
 
-    def set(self, frame, place, value):
+    def place(self, place, frame):
+        """The cells of the place and the index in them."""
         cells = self.cells(frame, place.decl)
         if place.kind == "Name":
-            cells[0] = value
-            return
+            return cells, 0
         i = self.value(place.index, frame)
         if not 0 <= i < len(cells):
             raise Trap("index")
-        cells[i] = value
+        return cells, i
 
     def value(self, e, frame):
         k = e.kind
@@ -252,6 +305,12 @@ class TreeCore:
     def result(self, e, frame, t):
         if e.kind == "Call":
             return (yield from self.call(e, frame, t))
+        if e.kind == "Send":
+            yield ("send", e.link, self.value(e.value, frame))
+            return 0
+        if e.kind == "Recv":
+            yield ("receive", e.link, self.place(e.place, frame))
+            return 0
         return self.value(e, frame)
 
     def body(self, stmts, frame, t):
@@ -288,9 +347,11 @@ class TreeCore:
         elif k == "Array":
             self.cells(frame, s)[:] = [0] * s.size
         elif k == "Assign":
-            self.set(frame, s.place, (yield from self.result(s.value, frame, t)))
+            value = yield from self.result(s.value, frame, t)
+            cells, i = self.place(s.place, frame)
+            cells[i] = value
         elif k == "CallStmt":
-            yield from self.call(s.call, frame, t)
+            yield from self.result(s.call, frame, t)
         elif k == "Print":
             text = printed(s.format, [self.value(a, frame) for a in s.args])
             if len(self.out) + len(text) > LIMIT:

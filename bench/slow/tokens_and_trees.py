@@ -443,8 +443,8 @@ class Names:
         self.top = {}
         self.slots = 0
         self.texts = []
-        self.files = self.channels = self.functions = 0
-        self.cores = []
+        self.functions = 0
+        self.cores, self.channels = [], []
         for item in program.items:
             self.top.setdefault(item.name, item)
             item.owner = None
@@ -455,12 +455,22 @@ class Names:
                 item.number = self.functions
                 self.functions += 1
             elif item.kind == "Core":
+                item.number = len(self.cores)
                 self.cores.append(item)
+            elif item.kind == "Channel":
+                item.number = len(self.channels)
+                self.channels.append(item)
         self.funcs = [i for i in program.items if i.kind == "Function"]
         for f in self.funcs:
             self.function(f)
         for c in self.cores:
             c.func = self.top[c.entry]
+        for c in self.channels:
+            c.sender, c.receiver = self.core_number(c.frm), self.core_number(c.to)
+
+    def core_number(self, name):
+        item = self.top.get(name)
+        return item.number if item is not None and item.kind == "Core" else None
 
     def function(self, f):
         f.slots = 0
@@ -578,5 +588,8 @@ class Names:
             e.func = self.find(e.name)
             for a in e.args:
                 self.expr(a)
+        elif k in ("Send", "Recv"):
+            e.link = self.find(e.channel).number
+            self.expr(e.value if k == "Send" else e.place)
         elif k != "Number":
             raise Fault(15, f"not built at {e.at}")

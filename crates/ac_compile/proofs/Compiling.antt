@@ -11,16 +11,15 @@ use Rattle.stack_code.specs.Valid.{IsValid}
 use Rattle.ac_translation.specs.Translation.{functions_code, code_of}
 use Rattle.ac_translation.specs.Same.{IsSame}
 use Rattle.ac_translation.proofs.Agrees.{code_same}
-use Rattle.ac_compile.specs.Unbuilt.{unbuilt_nodes, meaningless_nodes}
+use Rattle.ac_compile.specs.Unbuilt.{unbuilt_nodes}
 use Rattle.ac_compile.specs.Compiled.{IsCodeOf}
-use Rattle.code_meaning.specs.Alone.{IsAlone}
 use Rattle.code_meaning.specs.Meant.{IsMeant}
 use Rattle.ac_tree.specs.Shape.{HasShape}
 use Rattle.ac_types.specs.Reached.{BreaksNone}
 use Rattle.code_safety.specs.KeptEnds.{KeepsEnds}
 use Rattle.ac_compile.proofs.EndsKept.{keeps_ends}
 use Rattle.ac_compile.proofs.Weights.{code_small, links_small}
-use Rattle.ac_compile.proofs.Alone.{code_alone, code_meant}
+use Rattle.ac_compile.proofs.Meant.{code_meant}
 use Rattle.ac_compile.specs.OneEnd.{HasOneEnd}
 use Rattle.ac_compile.specs.inner.Made.{HasRanks}
 use Rattle.ac_compile.proofs.Formed.{well_formed}
@@ -44,13 +43,13 @@ module _ (p : Program) (r : Resolved) (is : r ≡ resolved p) where
   pub is_at_ends : BreaksNone p.items → HasShape p → (code : Parts) → code ≡ code_of r → KeepsEnds code
   is_at_ends none shaped code e = subst KeepsEnds (sym (is_code code e)) (keeps_ends p none shaped)
 
-  pub is_alone : unbuilt_nodes p.items ≡ [] → (code : Parts) → code ≡ code_of r → IsAlone code
-  is_alone built code e = subst IsAlone (sym (is_code code e)) (code_alone p built)
+  pub is_meant : unbuilt_nodes p.items ≡ [] → (code : Parts) → code ≡ code_of r → IsMeant code
+  is_meant built code e = subst IsMeant (sym (is_code code e)) (code_meant p built)
 
-  pub is_one_end : meaningless_nodes p.items ≡ [] → IsInPlace r → IsSmall p → (code : Parts) → code ≡ code_of r → HasRanks code → HasOneEnd code (resolved p)
-  is_one_end meant place small code e ranks =
+  pub is_one_end : unbuilt_nodes p.items ≡ [] → IsInPlace r → IsSmall p → (code : Parts) → code ≡ code_of r → HasRanks code → HasOneEnd code (resolved p)
+  is_one_end built place small code e ranks =
       has_one_end code (resolved p) (is_same place code e) (subst IsValid (sym e) (code_valid r place (is_short small) (is_few small)))
-      (subst IsMeant (sym (is_code code e)) (code_meant p meant)) ranks
+      (is_meant built code e) ranks
       (ap (λ (x : Parts). length x.entries) e ∙ length-map r.cores _ ∙ ap (λ (x : Resolved). length x.cores) is)
 
 pub if_both : {A E : Type 0} {P Q S : A → Type 0} (r : Result A E) → ((x : A) → P x → Q x → S x) → IfOk r P → IfOk r Q → IfOk r S

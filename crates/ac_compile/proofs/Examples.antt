@@ -28,8 +28,8 @@ use Rattle.ac_resolve.specs.InPlace.{no_operand, one_operand, some_test, to_vari
 use Rattle.ac_resolve.proofs.Examples.{sum, sum_value, with_value, one_core, one_core_resolved, two_ac}
 use Rattle.ac_translation.specs.Translation.{no_exits, value_code, command_code, functions_code, code_of}
 use Rattle.ac_compile.specs.Compiled.{IsCodeOf}
-use Rattle.ac_compile.specs.Unbuilt.{as_list, as_list_with, as_meaningless, link_by, stmt_step, stmt_nodes, unbuilt_nodes, meaningless_nodes, first_unbuilt}
-use Rattle.ac_compile.specs.Unbuilt.{as_first, node_by, all_of, some_of, expr_step, link_step, expr_nodes, exprs_nodes, some_expr, body_nodes, item_nodes, is_late, items_nodes}
+use Rattle.ac_compile.specs.Unbuilt.{as_list, stmt_step, stmt_nodes, unbuilt_nodes, first_unbuilt}
+use Rattle.ac_compile.specs.Unbuilt.{as_first, node_by, all_of, some_of, expr_step, link_step, expr_nodes, exprs_nodes, some_expr, body_nodes, item_nodes, items_nodes}
 use Rattle.ac_compile.proofs.Forms.{number_form, variable_form, reference_form, element_form, act_form, chain_form, link_form, nothing_form, set_form, print_form}
 use Rattle.ac_compile.proofs.Forms.{if_alone_form, if_else_form, while_form, for_form, break_form, continue_form, return_form, do_form, async_form, yield_form}
 use Rattle.ac_compile.proofs.Validity.{code_valid}
@@ -268,21 +268,17 @@ a_return_without_a_value = rw (return_form None) refl
 
 -- ---- what is not built
 
--- a global is, and a second core is not
-pub a_second_core : unbuilt_nodes (i.Core 0 (codes "a") (codes "f") ∷ i.Global 11 (codes "x") None (pos 0) ∷ i.Core 18 (codes "b") (codes "f") ∷ []) ≡ 18 ∷ []
-a_second_core = refl
-
--- cores and a channel have a meaning, and a file has none
+-- cores and a channel are built, and a file is not
 abbrev pub two_cores : List Item
 two_cores = i.Channel 0 (codes "c") (codes "a") (codes "b") (pos 1) ∷ i.Core 22 (codes "a") (codes "f") ∷ i.Core 33 (codes "b") (codes "f") ∷ []
 
-pub all_of_it_has_a_meaning : (meaningless_nodes two_cores ≡ []) × (unbuilt_nodes two_cores ≡ 0 ∷ 33 ∷ [])
-all_of_it_has_a_meaning = (refl, refl)
+pub two_cores_are_built : unbuilt_nodes two_cores ≡ []
+two_cores_are_built = refl
 
-pub a_file_has_none : meaningless_nodes (i.File 0 (codes "d") (codes "d.dat") ∷ two_cores) ≡ 0 ∷ []
-a_file_has_none = refl
+pub a_file_is_not : unbuilt_nodes (i.File 0 (codes "d") (codes "d.dat") ∷ two_cores) ≡ 0 ∷ []
+a_file_is_not = refl
 
-pub the_first_is_told : first_unbuilt (i.Channel 0 (codes "c") (codes "a") (codes "b") (pos 1) ∷ i.Core 22 (codes "a") (codes "f") ∷ i.Core 33 (codes "b") (codes "f") ∷ []) ≡ Some 0
+pub the_first_is_told : first_unbuilt (i.Core 0 (codes "a") (codes "f") ∷ i.File 11 (codes "d") (codes "d.dat") ∷ i.File 28 (codes "e") (codes "e.dat") ∷ []) ≡ Some 11
 the_first_is_told = refl
 
 -- cancel l;
@@ -299,44 +295,43 @@ pub a_node_before_its_parts : (node_by as_list false 5 (7 ∷ []) ∷ node_by as
     × (node_by as_first false 5 (Some 7) ∷ node_by as_first true 5 (Some 7) ∷ node_by as_first true 5 None ∷ [] ≡ Some 5 ∷ Some 7 ∷ None ∷ [])
 a_node_before_its_parts = (refl, refl)
 
-pub a_link_before_its_parts : (link_by as_list false 5 (7 ∷ []) ∷ link_by as_list true 5 (7 ∷ []) ∷ link_by as_meaningless false 5 (7 ∷ []) ∷ [] ≡ (5 ∷ 7 ∷ []) ∷ (7 ∷ []) ∷ (7 ∷ []) ∷ [])
-    × ((as_list_with (λ at. at ∷ at ∷ [])).link 5 ≡ 5 ∷ 5 ∷ [])
-a_link_before_its_parts = (refl, refl)
-
 pub parts_in_their_order : (all_of as_list ((1 ∷ []) ∷ [] ∷ (2 ∷ []) ∷ []) ≡ 1 ∷ 2 ∷ []) × (all_of as_first (None ∷ Some 2 ∷ Some 3 ∷ []) ≡ Some 2)
     × (some_of as_list None ∷ some_of as_list (Some (3 ∷ [])) ∷ [] ≡ [] ∷ (3 ∷ []) ∷ [])
 parts_in_their_order = (refl, refl, refl)
 
--- a send is not built, and a chain and a number are
-pub forms_of_expressions : expr_step as_list (Expr-F.Send 5 (codes "c") (8 ∷ [])) ∷ expr_step as_list (Expr-F.Chain 5 0 (1 ∷ []) ((2 ∷ []) ∷ [])) ∷ expr_step as_list (Expr-F.Number 5 (pos 1)) ∷ []
-    ≡ (5 ∷ 8 ∷ []) ∷ (1 ∷ 2 ∷ []) ∷ [] ∷ []
+-- a read is not built, and a send, a chain and a number are
+pub forms_of_expressions : expr_step as_list (Expr-F.Read 5 (codes "d") (8 ∷ []) (9 ∷ []) (codes "x")) ∷ expr_step as_list (Expr-F.Send 5 (codes "c") (8 ∷ []))
+    ∷ expr_step as_list (Expr-F.Chain 5 0 (1 ∷ []) ((2 ∷ []) ∷ [])) ∷ expr_step as_list (Expr-F.Number 5 (pos 1)) ∷ [] ≡ (5 ∷ 8 ∷ 9 ∷ []) ∷ (8 ∷ []) ∷ (1 ∷ 2 ∷ []) ∷ [] ∷ []
 forms_of_expressions = refl
 
 number_nodes : expr_nodes as_list (expr.Number 12 (pos 1)) ≡ []
 number_nodes = ap (expr_nodes as_list) (sym (expr.rolls-Number 12 (pos 1))) ∙ fold-roll-Expr (List ℕ) (List ℕ) (expr_step as_list) (link_step as_list) (Expr-F.Number 12 (pos 1))
 
--- send(c, 1)
-abbrev pub a_send : Expr
-a_send = expr.Send 5 (codes "c") (expr.Number 12 (pos 1))
+-- Read(d, 1, 1, x)
+abbrev pub a_read : Expr
+a_read = expr.Read 5 (codes "d") (expr.Number 12 (pos 1)) (expr.Number 12 (pos 1)) (codes "x")
 
-pub the_nodes_of_a_send : expr_nodes as_list a_send ≡ 5 ∷ []
+pub the_nodes_of_a_read : expr_nodes as_list a_read ≡ 5 ∷ []
+the_nodes_of_a_read =
+    ap (expr_nodes as_list) (sym (expr.rolls-Read 5 (codes "d") (expr.Number 12 (pos 1)) (expr.Number 12 (pos 1)) (codes "x")))
+    ∙ fold-roll-Expr (List ℕ) (List ℕ) (expr_step as_list) (link_step as_list) (Expr-F.Read 5 (codes "d") (expr.Number 12 (pos 1)) (expr.Number 12 (pos 1)) (codes "x"))
+    ∙ ap (λ (xs : List ℕ). (5 ∷ []) ++ (xs ++ xs)) number_nodes
+
+-- Send(c, 1)
+pub the_nodes_of_a_send : expr_nodes as_list (expr.Send 5 (codes "c") (expr.Number 12 (pos 1))) ≡ []
 the_nodes_of_a_send =
     ap (expr_nodes as_list) (sym (expr.rolls-Send 5 (codes "c") (expr.Number 12 (pos 1))))
     ∙ fold-roll-Expr (List ℕ) (List ℕ) (expr_step as_list) (link_step as_list) (Expr-F.Send 5 (codes "c") (expr.Number 12 (pos 1)))
-    ∙ ap (λ (xs : List ℕ). (5 ∷ []) ++ xs) number_nodes
+    ∙ number_nodes
 
-pub nodes_of_expressions : (exprs_nodes as_list (expr.Number 12 (pos 1) ∷ a_send ∷ []) ≡ 5 ∷ []) × (some_expr as_list (Some a_send) ≡ 5 ∷ []) × (some_expr as_list None ≡ [])
-nodes_of_expressions = (rw (number_nodes, the_nodes_of_a_send) refl, the_nodes_of_a_send, refl)
+pub nodes_of_expressions : (exprs_nodes as_list (expr.Number 12 (pos 1) ∷ a_read ∷ []) ≡ 5 ∷ []) × (some_expr as_list (Some a_read) ≡ 5 ∷ []) × (some_expr as_list None ≡ [])
+nodes_of_expressions = (rw (number_nodes, the_nodes_of_a_read) refl, the_nodes_of_a_read, refl)
 
 pub the_nodes_of_a_body : body_nodes as_list (s.Yield 28 ∷ s.Cancel 28 (codes "l") ∷ s.Yield 28 ∷ []) ≡ 28 ∷ []
 the_nodes_of_a_body = rw (a_yield, a_cancel) refl
 
--- a core is built where none stands before it
-abbrev pub core_at_3 : Item
-core_at_3 = i.Core 3 (codes "a") (codes "f")
-
-pub nodes_of_items : (item_nodes as_list false core_at_3 ∷ item_nodes as_list true core_at_3 ∷ items_nodes as_list false (core_at_3 ∷ core_at_3 ∷ []) ∷ [] ≡ [] ∷ (3 ∷ []) ∷ (3 ∷ []) ∷ [])
-    × (is_late false core_at_3 ∷ is_late false (i.File 3 (codes "d") (codes "d.dat")) ∷ [] ≡ true ∷ false ∷ [])
+pub nodes_of_items : (item_nodes as_list (i.Core 3 (codes "a") (codes "f")) ∷ item_nodes as_list (i.File 3 (codes "d") (codes "d.dat")) ∷ [] ≡ [] ∷ (3 ∷ []) ∷ [])
+    × (items_nodes as_list (i.File 3 (codes "d") (codes "d.dat") ∷ i.Core 24 (codes "a") (codes "f") ∷ i.File 39 (codes "e") (codes "e.dat") ∷ []) ≡ 3 ∷ 39 ∷ [])
 nodes_of_items = (refl, refl)
 
 -- ---- one end

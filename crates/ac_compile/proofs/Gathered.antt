@@ -1,5 +1,5 @@
--- Two ways to gather the nodes of a program give related results, where they give related ones of none, of a node, of a link and of two parts.
-use Rattle.std.proofs.Common.{◌≡◌, ℕ, List, [], ◌∷◌, map, Option, Some, None, Bool, true, false, not, sym, ap, ◌∙◌, subst}
+-- Two ways to gather the nodes of a program give related results, where they give related ones of none, of a node and of two parts.
+use Rattle.std.proofs.Common.{◌≡◌, ℕ, List, [], ◌∷◌, map, Option, Some, None, Bool, true, false, sym, ap, ◌∙◌, subst}
 use Rattle.ac_tree.specs.declared.expr.Expr.{Expr, ind-Expr, fold-roll-Expr, map-Expr}
 use Rattle.ac_tree.specs.declared.expr.Link.{Link, fold-roll-Link}
 use Rattle.ac_tree.specs.declared.expr.Expr.TheOpen.{Expr-F, Link-F}
@@ -8,14 +8,13 @@ use Rattle.ac_tree.specs.declared.stmt.Stmt.TheFolds.{fold-roll-Stmt, ind-Stmt, 
 use Rattle.ac_tree.specs.declared.stmt.Stmt.TheOpen.{Stmt-F}
 use Rattle.ac_tree.specs.declared.item.Item.{Item}
 use Rattle.ac_tree.specs.declared.item.Item.TheVariants as i
-use Rattle.ac_compile.specs.Unbuilt.{Gathers, node_by, link_by, all_of, expr_step, link_step, expr_nodes, link_nodes, exprs_nodes, some_expr}
-use Rattle.ac_compile.specs.Unbuilt.{stmt_step, stmt_nodes, body_nodes, item_nodes, is_late, items_nodes}
+use Rattle.ac_compile.specs.Unbuilt.{Gathers, node_by, all_of, expr_step, link_step, expr_nodes, link_nodes, exprs_nodes, some_expr}
+use Rattle.ac_compile.specs.Unbuilt.{stmt_step, stmt_nodes, body_nodes, item_nodes, items_nodes}
 
 -- the two ways, and what relates their results
 pub record Relation {A B : Type 0} (g : Gathers A) (h : Gathers B) (R : A → B → Type 0) : Type 0 where
   pub none : R g.none h.none
   pub node : (at : ℕ) → R (g.node at) (h.node at)
-  pub link : (at : ℕ) → R (g.link at) (h.link at)
   pub both : (a c : A) (b d : B) → R a b → R c d → R (g.both a c) (h.both b d)
 
 module _ {A B : Type 0} (g : Gathers A) (h : Gathers B) (R : A → B → Type 0) (relates : Relation g h R) where
@@ -28,10 +27,6 @@ module _ {A B : Type 0} (g : Gathers A) (h : Gathers B) (R : A → B → Type 0)
   node_are : (built : Bool) (at : ℕ) {a : A} {b : B} → R a b → R (node_by g built at a) (node_by h built at b)
   node_are true at r = r
   node_are false at r = two (relates.node at) r
-
-  link_are : (built : Bool) (at : ℕ) {a : A} {b : B} → R a b → R (link_by g built at a) (link_by h built at b)
-  link_are true at r = r
-  link_are false at r = two (relates.link at) r
 
   -- ---- expressions
 
@@ -70,8 +65,8 @@ module _ {A B : Type 0} (g : Gathers A) (h : Gathers B) (R : A → B → Type 0)
   layer (Expr-F.Unary at op inner) = inner.1
   layer (Expr-F.Chain at level first rest) = two first.1 (links_are rest)
   layer (Expr-F.Call at name args) = args_are args
-  layer (Expr-F.Send at channel value) = link_are false at value.1
-  layer (Expr-F.Recv at channel place) = link_are false at place.1
+  layer (Expr-F.Send at channel value) = value.1
+  layer (Expr-F.Recv at channel place) = place.1
   layer (Expr-F.Read at file from len array) = node_are false at (two from.1 len.1)
   layer (Expr-F.Write at file from len array) = node_are false at (two from.1 len.1)
 
@@ -143,13 +138,13 @@ module _ {A B : Type 0} (g : Gathers A) (h : Gathers B) (R : A → B → Type 0)
 
   -- ---- items
 
-  item_is : (late : Bool) (x : Item) → R (item_nodes g late x) (item_nodes h late x)
-  item_is late (i.Core at name entry) = link_are (not late) at relates.none
-  item_is late (i.Function f) = body_is f.body
-  item_is late (i.Global at name size value) = relates.none
-  item_is late (i.Channel at name from to cap) = link_are false at relates.none
-  item_is late (i.File at name path) = node_are false at relates.none
+  item_is : (x : Item) → R (item_nodes g x) (item_nodes h x)
+  item_is (i.Core at name entry) = relates.none
+  item_is (i.Function f) = body_is f.body
+  item_is (i.Global at name size value) = relates.none
+  item_is (i.Channel at name from to cap) = relates.none
+  item_is (i.File at name path) = node_are false at relates.none
 
-  pub items_are : (late : Bool) (xs : List Item) → R (items_nodes g late xs) (items_nodes h late xs)
-  items_are late [] = relates.none
-  items_are late (x ∷ xs) = two (item_is late x) (items_are (is_late late x) xs)
+  pub items_are : (xs : List Item) → R (items_nodes g xs) (items_nodes h xs)
+  items_are [] = relates.none
+  items_are (x ∷ xs) = two (item_is x) (items_are xs)

@@ -25,13 +25,12 @@ pub mod Making
 pub mod Never
 pub mod Weights
 pub mod Instructions
-pub mod Tested
+pub mod Meant
+pub mod Alone
 pub mod OwnActions
 pub mod EndsKept
-pub mod Alone
 pub mod Formed
 pub mod OneEnd
 pub mod OnlyEnds
-pub mod OneCore
 pub mod Compiling
 pub mod Examples

@@ -1,7 +1,6 @@
--- The nodes of a program that are not built, by their first bytes in preorder; the first of them; and those of them that have no meaning,
--- which have to do neither with a second core nor with channels. All are one definition, by what is made of a node, of none, and of
--- two parts one after the other.
-use Rattle.std.specs.Prelude.{ℕ, List, [], ◌∷◌, ◌++◌, map, Option, Some, None, Bool, true, false, not}
+-- The nodes of a program that are not built, by their first bytes in preorder, and the first of them. Both are one definition, by what is
+-- made of a node, of none, and of two parts one after the other.
+use Rattle.std.specs.Prelude.{ℕ, List, [], ◌∷◌, ◌++◌, map, Option, Some, None, Bool, true, false}
 use Rattle.ac_tree.specs.declared.expr.Expr.{Expr, fold-Expr}
 use Rattle.ac_tree.specs.declared.expr.Link.{Link, fold-Link}
 use Rattle.ac_tree.specs.declared.expr.Expr.TheOpen.{Expr-F, Link-F}
@@ -12,36 +11,22 @@ use Rattle.ac_tree.specs.declared.item.Item.{Item}
 use Rattle.ac_tree.specs.declared.item.Item.TheVariants as i
 use Rattle.ac_names.specs.Scopes.{or_else}
 
--- what is made of nodes; a link is a node of a second core, of a channel, and of a message that is sent or received
+-- what is made of nodes
 pub record Gathers (A : Type 0) : Type 0 where
   pub none : A
   pub node : ℕ → A
-  pub link : ℕ → A
   pub both : A → A → A
 
--- all of them, with these of a link
-abbrev pub as_list_with : (ℕ → List ℕ) → Gathers (List ℕ)
-as_list_with link = record { none = []; node = λ at. at ∷ []; link = link; both = λ xs ys. xs ++ ys }
-
 abbrev pub as_list : Gathers (List ℕ)
-as_list = as_list_with (λ at. at ∷ [])
-
--- those without a meaning
-abbrev pub as_meaningless : Gathers (List ℕ)
-as_meaningless = as_list_with (λ at. [])
+as_list = record { none = []; node = λ at. at ∷ []; both = λ xs ys. xs ++ ys }
 
 abbrev pub as_first : Gathers (Option ℕ)
-as_first = record { none = None; node = λ at. Some at; link = λ at. Some at; both = or_else }
+as_first = record { none = None; node = λ at. Some at; both = or_else }
 
 -- a node, by whether it is built
 abbrev pub node_by : {A : Type 0} → Gathers A → Bool → ℕ → A → A
 node_by g true at parts = parts
 node_by g false at parts = g.both (g.node at) parts
-
--- the same of a link
-abbrev pub link_by : {A : Type 0} → Gathers A → Bool → ℕ → A → A
-link_by g true at parts = parts
-link_by g false at parts = g.both (g.link at) parts
 
 abbrev pub all_of : {A : Type 0} → Gathers A → List A → A
 all_of g [] = g.none
@@ -51,7 +36,7 @@ abbrev pub some_of : {A : Type 0} → Gathers A → Option A → A
 some_of g None = g.none
 some_of g (Some x) = x
 
--- ---- expressions: an operation is not built
+-- ---- expressions: an operation on a file is not built
 
 abbrev pub expr_step : {A : Type 0} → Gathers A → Expr-F A A → A
 expr_step g (Expr-F.Number at value) = g.none
@@ -62,8 +47,8 @@ expr_step g (Expr-F.Group at inner) = inner
 expr_step g (Expr-F.Unary at op inner) = inner
 expr_step g (Expr-F.Chain at level first rest) = g.both first (all_of g rest)
 expr_step g (Expr-F.Call at name args) = all_of g args
-expr_step g (Expr-F.Send at channel value) = link_by g false at value
-expr_step g (Expr-F.Recv at channel place) = link_by g false at place
+expr_step g (Expr-F.Send at channel value) = value
+expr_step g (Expr-F.Recv at channel place) = place
 expr_step g (Expr-F.Read at file from len array) = node_by g false at (g.both from len)
 expr_step g (Expr-F.Write at file from len array) = node_by g false at (g.both from len)
 
@@ -114,31 +99,21 @@ abbrev pub some_stmt : {A : Type 0} → Gathers A → Option Stmt → A
 some_stmt g None = g.none
 some_stmt g (Some x) = stmt_nodes g x
 
--- ---- items: a second core, a channel and a file are not built
+-- ---- items: a file is not built
 
--- an item, by whether a core stands before it
-abbrev pub item_nodes : {A : Type 0} → Gathers A → Bool → Item → A
-item_nodes g late (i.Core at name entry) = link_by g (not late) at g.none
-item_nodes g late (i.Function f) = body_nodes g f.body
-item_nodes g late (i.Global at name size value) = g.none
-item_nodes g late (i.Channel at name from to cap) = link_by g false at g.none
-item_nodes g late (i.File at name path) = node_by g false at g.none
+abbrev pub item_nodes : {A : Type 0} → Gathers A → Item → A
+item_nodes g (i.Core at name entry) = g.none
+item_nodes g (i.Function f) = body_nodes g f.body
+item_nodes g (i.Global at name size value) = g.none
+item_nodes g (i.Channel at name from to cap) = g.none
+item_nodes g (i.File at name path) = node_by g false at g.none
 
-abbrev pub is_late : Bool → Item → Bool
-is_late late (i.Core at name entry) = true
-is_late late _ = late
-
-abbrev pub items_nodes : {A : Type 0} → Gathers A → Bool → List Item → A
-items_nodes g late [] = g.none
-items_nodes g late (x ∷ xs) = g.both (item_nodes g late x) (items_nodes g (is_late late x) xs)
+abbrev pub items_nodes : {A : Type 0} → Gathers A → List Item → A
+items_nodes g xs = all_of g (map (item_nodes g) xs)
 
 -- the program's own node is built
 abbrev pub unbuilt_nodes : List Item → List ℕ
-unbuilt_nodes items = items_nodes as_list false items
-
--- those of them that have no meaning: a cancel, a file, and what is done with one
-abbrev pub meaningless_nodes : List Item → List ℕ
-meaningless_nodes items = items_nodes as_meaningless false items
+unbuilt_nodes items = items_nodes as_list items
 
 abbrev pub first_unbuilt : List Item → Option ℕ
-first_unbuilt items = items_nodes as_first false items
+first_unbuilt items = items_nodes as_first items

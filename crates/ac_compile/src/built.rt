@@ -1,9 +1,9 @@
 //! What is built.
 
-ghost use Rattle.std.specs.Prelude.{◌≡◌, [], map, None, false, slice_get, IfNone};
+ghost use Rattle.std.specs.Prelude.{◌≡◌, [], map, None, slice_get, IfNone};
 ghost use Rattle.ac_compile.specs.Unbuilt.{as_first, expr_nodes, exprs_nodes, some_expr};
 ghost use Rattle.ac_compile.specs.Unbuilt.{link_nodes, all_of, stmt_nodes, body_nodes, some_stmt};
-ghost use Rattle.ac_compile.specs.Unbuilt.{item_nodes, is_late, items_nodes, unbuilt_nodes, meaningless_nodes};
+ghost use Rattle.ac_compile.specs.Unbuilt.{item_nodes, items_nodes, unbuilt_nodes};
 
 use ac_base::Boxed;
 use ac_tree::{Expr, Item, Link, Stmt};
@@ -41,8 +41,16 @@ fn in_expr(expr: &Expr) -> Option<u32>
             name: _,
             args,
         } => in_exprs(args.as_slice()),
-        Expr::Send { at, .. } => Some(*at),
-        Expr::Recv { at, .. } => Some(*at),
+        Expr::Send {
+            at: _,
+            channel: _,
+            value,
+        } => in_expr(value.get()),
+        Expr::Recv {
+            at: _,
+            channel: _,
+            place,
+        } => in_expr(place.get()),
         Expr::Read { at, .. } => Some(*at),
         Expr::Write { at, .. } => Some(*at),
     }
@@ -178,47 +186,32 @@ fn in_body(body: &[Stmt]) -> Option<u32>
     None
 }
 
-// The first node of an item that is not built, by whether a core stands before the item.
-fn in_item(late: bool, item: &Item) -> Option<u32>
-    ensures { result ≡ item_nodes as_first late item.now }
+// The first node of an item that is not built.
+fn in_item(item: &Item) -> Option<u32>
+    ensures { result ≡ item_nodes as_first item.now }
 {
     match item {
-        Item::Core { at, .. } => { if late { Some(*at) } else { None } }
+        Item::Core { .. } | Item::Global { .. } | Item::Channel { .. } => None,
         Item::Function(function) => in_body(function.body.as_slice()),
-        Item::Global { .. } => None,
-        Item::Channel { at, .. } => Some(*at),
         Item::File { at, .. } => Some(*at),
     }
 }
 
-fn is_late(late: bool, item: &Item) -> bool
-    ensures { result ≡ is_late late item.now }
-{
-    match item {
-        Item::Core { .. } => true,
-        _ => late,
-    }
-}
-
 fn in_items(items: &[Item]) -> Option<u32>
-    ensures { result ≡ items_nodes as_first false items.now }
+    ensures { result ≡ items_nodes as_first items.now }
 {
-    let mut late = false;
     for item in items {
-        if let Some(at) = in_item(late, item) {
+        if let Some(at) = in_item(item) {
             return Some(at);
         }
-        late = is_late(late, item);
     }
     None
 }
 
-/// The first node in preorder that is not built, by its first byte. Where there is none, each node has a meaning. It takes no
-/// memory.
+/// The first node in preorder that is not built, by its first byte. It takes no memory.
 pub fn unbuilt(checked: &Checked) -> Option<u32>
     ensures first { result ≡ slice_get (unbuilt_nodes checked.now.items) 0 }
     ensures none { IfNone result (unbuilt_nodes checked.now.items ≡ []) }
-    ensures meant { IfNone result (meaningless_nodes checked.now.items ≡ []) }
 {
     in_items(checked.tree().items.as_slice())
 }

@@ -1,5 +1,9 @@
--- A text calls for one status.
-use Rattle.std.proofs.Common.{◌≡◌, ℕ, ◌<◌, List, [], length, refl, sym, ◌∙◌, subst, arith}
+-- A text calls for one status, or for several that are those of runs of its program, which has a channel.
+use Rattle.std.proofs.Common.{◌≡◌, ℕ, ◌<◌, ◌≤◌, ◌⊎◌, inl, inr, List, [], ◌∷◌, length, refl, sym, ap, ◌∙◌, subst, arith}
+use Rattle.ac_tree.specs.Shape.{HasShape}
+use Rattle.ac_parser.proofs.Shaped.{spelled_shape}
+use Rattle.ac_commands.specs.declared.program.Channel.{Channel}
+use Rattle.ac_resolve.specs.Resolution.{resolved}
 use Rattle.ac_tree.specs.declared.item.Program.{Program}
 use Rattle.ac_program.specs.declared.refusal.Refusal.{Refusal}
 use Rattle.ac_program.specs.declared.refusal.Refusal.TheVariants as r
@@ -7,8 +11,8 @@ use Rattle.ac_lexer.specs.declared.fault.LexFault.TheVariants as l
 use Rattle.ac_program.specs.Lines.{refusal_status}
 use Rattle.ac_program.specs.declared.words.Task.{Task}
 use Rattle.ac_program.specs.declared.words.Task.TheVariants as t
-use Rattle.ac_program.specs.Source.{missing, IsReady, Refuses}
-use Rattle.ac_program.specs.Headline.{IsShort, GivesStatus, CallsFor}
+use Rattle.ac_program.specs.Source.{IsReady, Refuses}
+use Rattle.ac_program.specs.Headline.{IsShort, HasRun, GivesStatus, CallsFor, AreOfRuns}
 use Rattle.ac_program.specs.Headline.CallsFor.{bad_token, unexpected, broken, over_long, too_deep, too_many, not_built, made}
 use Rattle.ac_program.proofs.Faults.{fault_refuses}
 use Rattle.ac_program.proofs.OneRun.{same_status}
@@ -60,29 +64,52 @@ module _ (text : List ℕ) (task : Task) (status : ℕ) where
   calls_refused r.TooManySteps e s h = too_many e s h
   calls_refused (r.NotBuilt at) e s h = not_built at e s h
 
--- ---- one status
+-- ---- one status, but as the runs of a program with channels differ
 
-gives_once : (task : Task) (program : Program) (m n : ℕ) → missing task program ≡ [] → GivesStatus task program m → GivesStatus task program n → m ≡ n
-gives_once (t.Run steps) program m n built a b = a.status_is ∙ same_status program built steps a.ended b.ended a.is_run b.is_run ∙ sym b.status_is
-gives_once t.Check program m n built a b = a ∙ sym b
-gives_once t.Code program m n built a b = a ∙ sym b
+-- what is ready is in order, and its source spells it
+has_shape : (text : List ℕ) (task : Task) (program : Program) → IsReady text task program → HasShape program
+has_shape text task program k = let tree = k.is_within.is_accepted.spelled.tree in spelled_shape program tree.marks tree.spells
+
+module _ (text : List ℕ) (steps : ℕ) (program : Program) (k : IsReady text (t.Run steps) program) (m n : ℕ) (a : HasRun program steps m) (b : HasRun program steps n) where
+  abbrev One : Type 0
+  One = (n ≡ m) ⊎ AreOfRuns text (t.Run steps) m n
+
+  runs_differ : 1 ≤ length (resolved program).channels → One
+  runs_differ some = inr (record { steps = steps; program = program; is_run = refl; is_ready = k; has_channel = some; one = a; other = b })
+
+  runs_agree : (resolved program).channels ≡ [] → One
+  runs_agree none =
+      let same = same_status program k.is_within.is_accepted.clean (has_shape text (t.Run steps) program k) none k.built steps a.ended b.ended a.is_run b.is_run in
+      inl (b.status_is ∙ sym same ∙ sym a.status_is)
+
+  of_runs : One
+  of_runs = by (resolved program).channels refl where
+    by : (channels : List Channel) → (resolved program).channels ≡ channels → One
+    by [] e = runs_agree e
+    by (channel ∷ channels) e = runs_differ (let many = ap (λ xs. length xs) e in omega (arith, many))
+
+gives_both : (text : List ℕ) (task : Task) (program : Program) (m n : ℕ) → IsReady text task program → GivesStatus task program m → GivesStatus task program n → (n ≡ m) ⊎ AreOfRuns text task m n
+gives_both text (t.Run steps) program m n k a b = of_runs text steps program k m n a b
+gives_both text t.Check program m n k a b = inl (b ∙ sym a)
+gives_both text t.Code program m n k a b = inl (b ∙ sym a)
 
 module _ (text : List ℕ) (task : Task) where
-  made_once : (m n : ℕ) → IsMadeAs m text task → IsMadeAs n text task → m ≡ n
-  made_once m n a b =
+  made_both : (m n : ℕ) → IsMadeAs m text task → IsMadeAs n text task → (n ≡ m) ⊎ AreOfRuns text task m n
+  made_both m n a b =
       let same = same_program text a.program b.program a.is_ready.is_within.is_accepted.spelled b.is_ready.is_within.is_accepted.spelled in
-      gives_once task a.program m n a.is_ready.built a.gives (subst (λ (p : Program). GivesStatus task p n) (sym same) b.gives)
+      gives_both text task a.program m n a.is_ready a.gives (subst (λ (p : Program). GivesStatus task p n) (sym same) b.gives)
 
-  one_way : (m n : ℕ) → Way text task m → Way text task n → m ≡ n
-  one_way m n (is_long e h) (is_long f k) = e ∙ sym f
-  one_way m n (is_long e h) (is_refused s k) = absurd (omega (arith, h, s))
-  one_way m n (is_long e h) (is_made s k) = absurd (omega (arith, h, s))
-  one_way m n (is_refused s h) (is_long e k) = absurd (omega (arith, k, s))
-  one_way m n (is_refused s h) (is_refused u k) = sym h.status_is ∙ refused_once text task s h.refusal k.refusal h.refuses k.refuses ∙ k.status_is
-  one_way m n (is_refused s h) (is_made u k) = absurd (refused_not text task s h.refusal k.program h.refuses k.is_ready)
-  one_way m n (is_made s h) (is_long e k) = absurd (omega (arith, k, s))
-  one_way m n (is_made s h) (is_refused u k) = absurd (refused_not text task u k.refusal h.program k.refuses h.is_ready)
-  one_way m n (is_made s h) (is_made u k) = made_once m n h k
+  both_ways : (m n : ℕ) → Way text task m → Way text task n → (n ≡ m) ⊎ AreOfRuns text task m n
+  both_ways m n (is_long e h) (is_long f k) = inl (f ∙ sym e)
+  both_ways m n (is_long e h) (is_refused s k) = absurd (omega (arith, h, s))
+  both_ways m n (is_long e h) (is_made s k) = absurd (omega (arith, h, s))
+  both_ways m n (is_refused s h) (is_long e k) = absurd (omega (arith, k, s))
+  both_ways m n (is_refused s h) (is_refused u k) = inl (sym k.status_is ∙ refused_once text task s k.refusal h.refusal k.refuses h.refuses ∙ h.status_is)
+  both_ways m n (is_refused s h) (is_made u k) = absurd (refused_not text task s h.refusal k.program h.refuses k.is_ready)
+  both_ways m n (is_made s h) (is_long e k) = absurd (omega (arith, k, s))
+  both_ways m n (is_made s h) (is_refused u k) = absurd (refused_not text task u k.refusal h.program k.refuses h.is_ready)
+  both_ways m n (is_made s h) (is_made u k) = made_both m n h k
 
-  pub calls_once : (m n : ℕ) → CallsFor text task m → CallsFor text task n → m ≡ n
-  calls_once m n a b = one_way m n (way_of text task m a) (way_of text task n b)
+  -- of two statuses that a text calls for, they are the same or both are of runs of its program
+  pub calls_both : (m n : ℕ) → CallsFor text task m → CallsFor text task n → (n ≡ m) ⊎ AreOfRuns text task m n
+  calls_both m n a b = both_ways m n (way_of text task m a) (way_of text task n b)

@@ -4,7 +4,7 @@ use Rattle.ac_base.specs.Report.{report_of, status_of}
 use Rattle.ac_tree.specs.declared.item.Program.{Program}
 use Rattle.ac_outside.specs.Told.{LibraryTold, SinkTold, CountsOne, GrewBy}
 use Rattle.ac_program.specs.declared.refusal.Refusal.{Refusal}
-use Rattle.ac_program.specs.declared.running.Ended.{Ended}
+use Rattle.core_runner.specs.declared.ended.Ended.{Ended}
 use Rattle.ac_program.specs.declared.execute.Done.{Done}
 use Rattle.ac_program.specs.declared.words.Task.{Task}
 use Rattle.ac_program.specs.declared.words.Task.TheVariants as t
@@ -15,9 +15,10 @@ use Rattle.ac_compile.specs.Unbuilt.{unbuilt_nodes}
 use Rattle.ac_program.specs.Lines.{accepted_line, refusal_status}
 use Rattle.ac_program.specs.Words.{IsCall}
 use Rattle.ac_program.specs.Reading.{Gave, TookBytes}
-use Rattle.ac_program.specs.Run.{IsRunOf}
+use Rattle.core_runner.specs.Run.{IsRunOf}
 use Rattle.ac_program.specs.Source.{IsAccepted, IsTooMany, IsNotBuilt, IsReady, Refuses, names_of}
-use Rattle.ac_program.specs.Headline.{IsRead, IsShort, IsDue, IsDueOfFile, TookWhole, GaveUp, TellsUsage, IsOfText, IsDecided, GivesStatus, CallsFor}
+use Rattle.ac_program.proofs.OneStatus.{one_status}
+use Rattle.ac_program.specs.Headline.{IsRead, IsShort, IsDue, IsDueOfFile, TookWhole, GaveUp, TellsUsage, IsOfText, AreOfRuns, IsCalledFor, IsDecided, GivesStatus, CallsFor}
 use Rattle.ac_program.specs.Making.{Makes}
 use Rattle.ac_program.specs.Making.IsDueOf.{refused, made as is_done}
 use Rattle.ac_program.specs.Headline.IsDueOfFile.{library_fault, too_long, source}
@@ -62,7 +63,7 @@ pub record IsRefused (number : ℕ) (words : List (List ℕ)) (before after : Li
 pub record IsRunOnce (program : Program) (steps status : ℕ) (text : List ℕ) (run : Option Ended) : Type 0 where
   pub ended : Ended
   pub kept : run ≡ Some ended
-  pub is_run : IsRunOf program steps [] ended
+  pub is_run : IsRunOf (resolved program) steps [] ended
   pub status_is : status ≡ status_of ended.cores
   pub text_is : text ≡ report_of (names_of program) ended.cores
 
@@ -200,19 +201,28 @@ module _ (words : List (List ℕ)) (before after : LibraryTold) (status : ℕ) (
     of_text : IsOfText status
     of_text = record { usage = λ e. tells_usage.told e task file is_call; library = undisturbed.library; sink = undisturbed.sink; memory = undisturbed.memory }
 
-    exactly : (number : ℕ) → (status ≡ number) ↔ CallsFor text task number
-    exactly = (decided of_text).only task file text is_call told
+    called_for : IsCalledFor text task status
+    called_for = (decided of_text).only task file text is_call told
+
+    -- where its program has no channel, it calls for no other status
+    pub exactly : ((steps : ℕ) (program : Program) → IsReady text (t.Run steps) program → (resolved program).channels ≡ []) → (number : ℕ) → (status ≡ number) ↔ CallsFor text task number
+    exactly none = one_status text task status called_for none
+
+    -- and a status of a refusal is that of no run
+    same_refusal : (number : ℕ) → IsOfRefusal number → (number ≡ status) ⊎ AreOfRuns text task status number → status ≡ number
+    same_refusal number k (inl e) = sym e
+    same_refusal number k (inr r) = absurd (apart number k (subst IsOfCores (sym r.other.status_is) (of_cores r.other.ended.cores)))
 
     refused_way : (number : ℕ) → IsOfRefusal number → number ≢ 10 → Way text task number → (length text ≤ 1048576) × IsRefusedAs number text task
     refused_way number k m (is_long e h) = absurd (m e)
     refused_way number k m (is_refused s h) = (s, h)
     refused_way number k m (is_made s h) = absurd (apart number k (gives_cores task h.program number h.gives))
 
-    refused_then : (number : ℕ) → (length text ≤ 1048576) × IsRefusedAs number text task → status ≡ number
-    refused_then number h = (exactly number).1 (calls_refused text task number h.1.refusal (sym h.1.status_is) h.0 h.1.refuses)
+    refused_then : (number : ℕ) → IsOfRefusal number → (length text ≤ 1048576) × IsRefusedAs number text task → status ≡ number
+    refused_then number k h = same_refusal number k (called_for.only number (calls_refused text task number h.1.refusal (sym h.1.status_is) h.0 h.1.refuses))
 
     only_refused : (number : ℕ) → IsOfRefusal number → number ≢ 10 → (status ≡ number) ↔ ((length text ≤ 1048576) × IsRefusedAs number text task)
-    only_refused number k m = ((λ is. refused_way number k m (way_of text task number ((exactly number).0 is))), refused_then number)
+    only_refused number k m = ((λ is. refused_way number k m (way_of text task number (subst (CallsFor text task) is called_for.calls))), refused_then number k)
 
     pub only_misspelled : (status ≡ 2) ↔ ((length text ≤ 1048576) × IsRefusedAs 2 text task)
     only_misspelled = only_refused 2 (inl refl) (λ e. omega (arith, e))
@@ -229,11 +239,11 @@ module _ (words : List (List ℕ)) (before after : LibraryTold) (status : ℕ) (
     over_way (is_made s h) = absurd (not_above 10 10 (gives_cores task h.program 10 h.gives) refl (omega arith))
 
     over_then : (1048576 < length text) ⊎ ((length text ≤ 1048576) × IsRefusedAs 10 text task) → status ≡ 10
-    over_then (inl h) = (exactly 10).1 (over_long refl h)
-    over_then (inr h) = refused_then 10 h
+    over_then (inl h) = same_refusal 10 (inr (inr (inl refl))) (called_for.only 10 (over_long refl h))
+    over_then (inr h) = refused_then 10 (inr (inr (inl refl))) h
 
     pub only_over : (status ≡ 10) ↔ ((1048576 < length text) ⊎ ((length text ≤ 1048576) × IsRefusedAs 10 text task))
-    only_over = ((λ is. over_way (way_of text task 10 ((exactly 10).0 is))), over_then)
+    only_over = ((λ is. over_way (way_of text task 10 (subst (CallsFor text task) is called_for.calls))), over_then)
 
     reported_way : Way text task status → IsOfCores status → (length text ≤ 1048576) × ((program : Program) × IsReady text task program)
     reported_way (is_long e h) is = absurd (not_above status 10 is e (omega arith))
@@ -246,7 +256,7 @@ module _ (words : List (List ℕ)) (before after : LibraryTold) (status : ℕ) (
     cores_way (is_made s h) k = gives_cores task h.program status h.gives
 
     pub only_reported : IsOfCores status ↔ ((length text ≤ 1048576) × ((program : Program) × IsReady text task program))
-    only_reported = let way = way_of text task status ((exactly status).0 refl) in (reported_way way, cores_way way)
+    only_reported = let way = way_of text task status called_for.calls in (reported_way way, cores_way way)
 
 -- ---- a check, and a listing
 

@@ -1,8 +1,8 @@
 -- What an answer to what is due gives.
-use Rattle.std.proofs.Common.{◌≡◌, ◌≢◌, ◌∙◌, ℕ, List, sym}
+use Rattle.std.proofs.Common.{◌≡◌, ◌≢◌, ℕ, List}
 use Rattle.std.specs.declared.option.Option.{Option}
 use Rattle.ac_outside.specs.Told.{SinkTold, GrewBy}
-use Rattle.ac_program.specs.declared.running.Ended.{Ended}
+use Rattle.core_runner.specs.declared.ended.Ended.{Ended}
 use Rattle.ac_program.specs.Writing.{TookFront}
 use Rattle.ac_program.specs.Headline.{TookWhole, TookPart}
 

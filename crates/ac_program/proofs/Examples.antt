@@ -4,7 +4,7 @@ use Rattle.std.proofs.Common.{map, codes, Option, None, Some, true, false, Resul
 use Rattle.std.specs.Prelude.{slice_get}
 use Rattle.std.specs.Fmt.{signed_decimal}
 use Rattle.std.specs.Str.{bytes_eq}
-use Rattle.std.proofs.lemmas.List.Elements.{All-from_recursion, recursion_from_All}
+use Rattle.std.proofs.lemmas.List.Elements.{All-from_recursion}
 use Rattle.std.proofs.lemmas.Fmt.{decimal_digit, decimal_step}
 use Rattle.ac_base.specs.Log.{Log}
 use Rattle.ac_base.specs.Report.{report_of, status_of}
@@ -38,14 +38,14 @@ use Rattle.ac_reach.specs.Reached.{ReachedFrom, is_entry, is_called, AreRows, Is
 use Rattle.ac_compile.specs.Unbuilt.{unbuilt_nodes}
 use Rattle.ac_program.specs.declared.refusal.BrokenRule.{BrokenRule}
 use Rattle.ac_program.proofs.Answered.{not_unexpected, not_deep}
-use Rattle.ac_program.proofs.Calls.{calls_once}
+use Rattle.ac_program.proofs.Calls.{calls_both}
+use Rattle.ac_program.proofs.Statuses.{IsOfCores, of_cores, other_cores}
 use Rattle.ac_base.specs.declared.entry.Entry.{Entry}
 use Rattle.ac_base.specs.declared.entry.Stamped.{Stamped}
-use Rattle.ac_history.specs.History.{Past, start, fits}
+use Rattle.ac_history.specs.History.{Past, link_at, start, fits}
 use Rattle.ac_base.specs.declared.entry.Event.TheVariants as event
-use Rattle.ac_base.specs.declared.ends.EndWord.TheVariants.{Finished, Stalled}
+use Rattle.ac_base.specs.declared.ends.EndWord.TheVariants.{Finished}
 use Rattle.ac_base.specs.declared.ends.CoreEnd.{CoreEnd}
-use Rattle.ac_base.specs.declared.ends.MachineEnd.{MachineEnd}
 use Rattle.core_state.specs.Moves.{Over, moves, and_then}
 use Rattle.core_state.specs.Shared.{core_end}
 use Rattle.ac_resolve.proofs.Examples.{one_core, sum_value, two_ac}
@@ -64,11 +64,13 @@ use Rattle.ac_translation.specs.Translation.{code_of}
 use Rattle.ac_compile.proofs.Examples.{two, two_parts, two_is_compiled}
 use Rattle.ac_program.specs.declared.refusal.Refusal.TheVariants as r
 use Rattle.ac_program.specs.declared.execute.Done.{Done}
-use Rattle.ac_program.specs.declared.running.Ended.{Ended}
+use Rattle.core_runner.specs.declared.ended.Ended.{Ended}
 use Rattle.ac_program.specs.declared.words.Task.{Task}
 use Rattle.ac_program.specs.declared.words.Task.TheVariants as t
 use Rattle.ac_program.specs.Words.{IsPlain, IsNumber, IsBound, IsArguments, IsTask, IsCall, steps_of, no_more, operand, bound_apart, bound_joined, only_operands}
-use Rattle.ac_program.specs.Run.{HasEnded, HaveEnded, history_of, nothing_yet, IsQuiet, IsCoreRun, IsRunOf}
+use Rattle.ac_history.specs.Quiet.{CoreIsQuiet}
+use Rattle.core_runner.specs.Network.{owner_of, peer_of}
+use Rattle.core_runner.specs.Run.{history_of, nothing_yet, EndsQuiet, IsRunOf}
 use Rattle.ac_program.specs.Source.{HasTokens, HasFault, IsUnexpected, IsTooDeep, IsAccepted, IsBroken, IsTooMany, IsWithin, IsNotBuilt, Refuses}
 use Rattle.ac_program.specs.Source.{IsSpelled, IsReady, all_steps, missing, most_steps, names_of}
 use Rattle.ac_program.specs.Lines.{accepted_line, library_line, limit_source_line, refusal_line, refusal_status}
@@ -77,8 +79,10 @@ use Rattle.ac_program.specs.Reading.{Gave, TookBytes}
 use Rattle.ac_program.specs.Writing.{TookFront}
 use Rattle.ac_program.specs.Making.{IsDone, IsReported, made as is_made}
 use Rattle.ac_program.specs.Headline.{IsNoCall, IsRead, IsShort, IsDue, call, source, TookWhole, TookPart, GaveUp}
-use Rattle.ac_program.specs.Headline.{TellsUsage, TellsLibrary, TellsSink, IsOfText, CallsFor, made, bad_token, unexpected, broken, over_long, too_many, not_built}
+use Rattle.ac_program.specs.Headline.{TellsUsage, TellsLibrary, TellsSink, IsOfText, AreOfRuns, CallsFor, made, bad_token, unexpected, broken, over_long, too_many, not_built}
 use Rattle.ac_tree.specs.declared.stmt.Stmt.TheVariants as s
+use Rattle.ac_resolve.specs.Resolution.{resolved}
+use Rattle.ac_links.specs.AtRest.{has_front}
 use Rattle.ac_program.proofs.TwoRules.{two_tree, two_is_clean, two_is_built}
 
 -- ---- words
@@ -345,7 +349,23 @@ it_replays = record {
 it_runs : Runs two_parts 0 100 [] (record { core = Some its_end; count = 9 })
 it_runs = record { function = e; begins = record { entry = 0; entry_is = refl; function_is = refl }; comes = (10, sym code_prints_seven) }
 
-pub it_is_a_run : IsRunOf two_tree 100 [] its_run
+its_core : (k : ℕ) (end : CoreEnd) → slice_get (its_end ∷ []) k ≡ Some end → CoreIsQuiet (owner_of []) (peer_of [] 1) (nothing_yet two) k end
+its_core zero end h =
+    let same : its_end ≡ end = cc in
+    subst (CoreIsQuiet (owner_of []) (peer_of [] 1) (nothing_yet two) 0) same (record {
+      stopped = refl;
+      owns = λ idle. let no : false ≡ true = idle in cc;
+      decides = λ idle. let no : false ≡ true = idle in cc;
+    })
+its_core (suc k) end h = let no : ◌≡◌ {A = Option CoreEnd} None (Some end) = h in cc
+
+it_is_quiet : EndsQuiet two [] its_run.cores
+it_is_quiet = record { core = its_core; worker = none } where
+  none : (l : ℕ) → l < 1 → 0 ≤ l → has_front (link_at (nothing_yet two) l) ≡ false
+  none zero lt le = refl
+  none (suc l) lt le = refl
+
+pub it_is_a_run : IsRunOf (resolved two_tree) 100 [] its_run
 it_is_a_run = record {
   steps = refl;
   files = refl;
@@ -358,7 +378,7 @@ it_is_a_run = record {
     refl,
   );
   legal = tt;
-  quiet = record { cores = All-from_recursion (λ (end : MachineEnd). HasEnded end.core.word ⊎ (end.core.idle ≡ true)) its_run.cores (inl tt, tt) };
+  quiet = subst (λ (p : Resolved). EndsQuiet p [] its_run.cores) (sym two_ac) it_is_quiet;
 }
 
 -- ---- two.ac, from its text to its report
@@ -431,7 +451,7 @@ one_program : (bytes : List ℕ) (ts : List Token) (tree program : Program) → 
 one_program bytes ts tree program lexed is s =
     is.only program s.tree.marks s.tree.spells (sym s.tree.split ∙ same_tokens (lexed.only (found s.tokens) s.lexed.lexed))
 
-its_only_program : (program : Program) → IsSpelled two_text program → two_tree ≡ program
+pub its_only_program : (program : Program) → IsSpelled two_text program → two_tree ≡ program
 its_only_program program s = one_program two_text two_tokens two_tree program (record { lexed = two_ac_lexed; only = two_ac_only }) two_ac_parsed s
 
 pub none_is_unexpected : (at : ℕ) → IsUnexpected two_text at → ⊥
@@ -602,7 +622,6 @@ its_reporting = record {
   ended = its_run;
   kept = refl;
   is_run = it_is_a_run;
-  ends = All-from_recursion (λ (end : MachineEnd). HasEnded end.core.word) its_run.cores (tt, tt);
   text = sym it_is_reported;
   status = refl;
 }
@@ -689,42 +708,27 @@ pub its_status_is_called_for : CallsFor two_text (t.Run 100) 0
 its_status_is_called_for = made two_tree (omega arith) it_is_ready (record { ended = its_run; is_run = it_is_a_run; status_is = refl })
 
 pub it_calls_for_no_other : CallsFor two_text (t.Run 100) 2 → ⊥
-it_calls_for_no_other h = let e : 0 ≡ 2 = calls_once two_text (t.Run 100) 0 2 its_status_is_called_for h in omega (arith, e)
+it_calls_for_no_other h = other (calls_both two_text (t.Run 100) 0 2 its_status_is_called_for h) where
+  other : (◌≡◌ {A = ℕ} 2 0) ⊎ AreOfRuns two_text (t.Run 100) 0 2 → ⊥
+  other (inl e) = omega (arith, e)
+  other (inr r) = (other_cores 2 (subst IsOfCores (sym r.other.status_is) (of_cores r.other.ended.cores))).0 refl
 
 -- ---- what is none of these
 
--- a run with another bound, and one whose core waits
-pub not_with_another_bound : IsRunOf two_tree 99 [] its_run → ⊥
+-- a run with another bound
+pub not_with_another_bound : IsRunOf (resolved two_tree) 99 [] its_run → ⊥
 not_with_another_bound h = let e = h.steps in omega (arith, e)
 
 -- its one core has a link for requests, on which nothing was offered
-pub before_its_first_entry : nothing_yet two_tree ≡ start (16 ∷ []) 1
+pub before_its_first_entry : nothing_yet (resolved two_tree) ≡ start (16 ∷ []) 1
 before_its_first_entry = ap (λ (p : Resolved). start (code_of p).capacities (length p.cores)) two_ac
 
 -- nor is it a run where the worker has an entry that only a core may make
-pub not_with_an_entry_of_the_worker : IsRunOf two_tree 100 [] (record its_run { journals = journal [] ∷ journal (stamped 1 0 ∷ []) ∷ [] }) → ⊥
+pub not_with_an_entry_of_the_worker : IsRunOf (resolved two_tree) 100 [] (record its_run { journals = journal [] ∷ journal (stamped 1 0 ∷ []) ∷ [] }) → ⊥
 not_with_an_entry_of_the_worker h =
     let e : fits (start (16 ∷ []) 1) (of_party 1 (stamped 1 0)) ≡ true =
     subst (λ (past : Past). fits past (of_party 1 (stamped 1 0)) ≡ true) before_its_first_entry h.legal.0 in
     cc
-
-abbrev pub stalled : MachineEnd
-stalled = record { core = record its_end { word = Stalled }; instructions = 9 }
-
-pub its_core_has_ended : HaveEnded its_run.cores
-its_core_has_ended = All-from_recursion (λ (end : MachineEnd). HasEnded end.core.word) its_run.cores (tt, tt)
-
-pub a_stalled_core_has_not : HaveEnded (stalled ∷ []) → ⊥
-a_stalled_core_has_not h = (recursion_from_All (λ (end : MachineEnd). HasEnded end.core.word) (stalled ∷ []) h).0
-
-pub a_core_that_waits_is_not_quiet : IsQuiet (stalled ∷ []) [] → ⊥
-a_core_that_waits_is_not_quiet h = no (recursion_from_All (λ (end : MachineEnd). HasEnded end.core.word ⊎ (end.core.idle ≡ true)) (stalled ∷ []) h.cores).0 where
-  no : ⊥ ⊎ (false ≡ true) → ⊥
-  no (inl x) = x
-  no (inr e) = cc
-
-pub its_core_is_run : IsCoreRun two_tree 0 100 (journal []) (record { core = its_end; instructions = 9 })
-its_core_is_run = it_is_a_run.cores.0
 
 -- its core cannot have finished and trapped
 pub not_with_another_run : (program : Program) → IsReported program 100 (record its_doing { status = record { number = 4 } }) → ⊥

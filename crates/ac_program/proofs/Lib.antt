@@ -3,10 +3,10 @@ pub mod Calls
 pub mod Consequences
 pub mod Digits
 pub mod Endings
-pub mod Ends
 pub mod Faults
 pub mod Names
 pub mod OneRun
+pub mod OneStatus
 pub mod Reasons
 pub mod Refusals
 pub mod Scans
@@ -15,5 +15,6 @@ pub mod Stopping
 pub mod Streams
 pub mod TwoRules
 pub mod Examples
-pub mod RunExamples
+pub mod LineExamples
+pub mod ChannelExamples
 pub mod TwoExamples

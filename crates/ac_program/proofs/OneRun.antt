@@ -1,4 +1,4 @@
--- Two runs of a program whose nodes are all built, with the same bound, have the same status.
+-- Two runs of a program without channels whose nodes are all built, with the same bound, have the same status.
 use Rattle.std.proofs.Common.{◌≡◌, ℕ, suc, Bool, List, [], ◌∷◌, length, Some, None, refl, sym, ◌∙◌, subst, arith}
 use Rattle.ac_base.specs.Log.{Log}
 use Rattle.ac_base.specs.Report.{any_ends, is_trapped, is_out_of_steps, is_stalled, status_of}
@@ -7,6 +7,9 @@ use Rattle.ac_base.specs.declared.ends.EndWord.{EndWord}
 use Rattle.ac_base.specs.declared.ends.CoreEnd.{CoreEnd}
 use Rattle.ac_base.specs.declared.ends.MachineEnd.{MachineEnd}
 use Rattle.ac_tree.specs.declared.item.Program.{Program}
+use Rattle.ac_tree.specs.Shape.{HasShape}
+use Rattle.ac_types.specs.Reached.{BreaksNone}
+use Rattle.ac_commands.specs.declared.program.Resolved.{Resolved}
 use Rattle.ac_resolve.specs.Resolution.{resolved}
 use Rattle.ac_semantics.specs.Replay.{Replays}
 use Rattle.code_meaning.specs.Machine.{Runs}
@@ -15,25 +18,28 @@ use Rattle.code_safety.proofs.NoEntries.{alone_takes_none}
 use Rattle.ac_compile.specs.Unbuilt.{unbuilt_nodes}
 use Rattle.ac_compile.proofs.Alone.{code_alone}
 use Rattle.ac_compile.proofs.OnlyEnds.{source_only}
-use Rattle.ac_program.specs.declared.running.Ended.{Ended}
-use Rattle.ac_program.specs.Run.{IsCoreRun, AreCoreRuns, IsRunOf}
+use Rattle.core_runner.specs.declared.ended.Ended.{Ended}
+use Rattle.core_runner.specs.Run.{IsCoreRun, AreCoreRuns, IsRunOf}
 
-module _ (program : Program) (built : unbuilt_nodes program.items ≡ []) (bound : ℕ) where
+module _ (p : Program) (clean : BreaksNone p.items) (shaped : HasShape p) (none : (resolved p).channels ≡ []) (built : unbuilt_nodes p.items ≡ []) (bound : ℕ) where
+  abbrev program : Resolved
+  program = resolved p
+
   -- ---- such a program starts no operation, so no entry fits
 
-  none_in : (core : ℕ) (es : List Entry) (end : MachineEnd) → Runs (code_of (resolved program)) core bound es (record { core = Some end.core; count = end.instructions }) → es ≡ []
+  none_in : (core : ℕ) (es : List Entry) (end : MachineEnd) → Runs (code_of program) core bound es (record { core = Some end.core; count = end.instructions }) → es ≡ []
   none_in core [] end h = refl
   none_in core (e ∷ es) end h =
-      let never : Some end.core ≡ None = alone_takes_none (code_of (resolved program)) core bound e es (record { core = Some end.core; count = end.instructions }) (code_alone program built) h in
+      let never : Some end.core ≡ None = alone_takes_none (code_of program) core bound e es (record { core = Some end.core; count = end.instructions }) (code_alone p clean shaped none built) h in
       absurd (cc (never))
 
   -- ---- so each core has one end
 
-  same_core : (core : ℕ) (j k : List Entry) (x y : CoreEnd) → j ≡ [] → k ≡ [] → Replays (resolved program) core bound j (Some x) → Replays (resolved program) core bound k (Some y) → x ≡ y
+  same_core : (core : ℕ) (j k : List Entry) (x y : CoreEnd) → j ≡ [] → k ≡ [] → Replays program core bound j (Some x) → Replays program core bound k (Some y) → x ≡ y
   same_core core j k x y e f h i =
-      let first : Replays (resolved program) core bound [] (Some x) = subst (λ (l : List Entry). Replays (resolved program) core bound l (Some x)) e h in
-      let other : Replays (resolved program) core bound [] (Some y) = subst (λ (l : List Entry). Replays (resolved program) core bound l (Some y)) f i in
-      let same : Some x ≡ Some y = source_only (resolved program) core bound [] (Some x) (Some y) first other in
+      let first : Replays program core bound [] (Some x) = subst (λ (l : List Entry). Replays program core bound l (Some x)) e h in
+      let other : Replays program core bound [] (Some y) = subst (λ (l : List Entry). Replays program core bound l (Some y)) f i in
+      let same : Some x ≡ Some y = source_only program core bound [] (Some x) (Some y) first other in
       cc
 
   same_end : (core : ℕ) (j k : Log) (x y : MachineEnd) → IsCoreRun program core bound j x → IsCoreRun program core bound k y → x.core ≡ y.core

@@ -1,22 +1,20 @@
 -- From what is due to the text that decides it.
-use Rattle.std.proofs.Common.{◌≢◌, ◌≡◌, ℕ, ◌+◌, ◌<◌, ◌↔◌, inl, inr, List, length}
+use Rattle.std.proofs.Common.{◌≢◌, ◌≡◌, ℕ, ◌+◌, ◌<◌, List, length}
 use Rattle.std.proofs.Common.{Option, None, Some, refl, sym, ap, ◌∙◌, subst, arith, length-append}
 use Rattle.ac_outside.specs.Told.{LibraryTold, SinkTold}
-use Rattle.ac_program.specs.declared.running.Ended.{Ended}
+use Rattle.core_runner.specs.declared.ended.Ended.{Ended}
 use Rattle.ac_program.specs.declared.words.Task.{Task}
 use Rattle.ac_program.specs.Words.{IsCall}
 use Rattle.ac_tree.specs.declared.item.Program.{Program}
 use Rattle.ac_program.specs.declared.execute.Done.{Done}
 use Rattle.ac_program.specs.declared.words.Task.TheVariants as t
-use Rattle.ac_program.specs.Lines.{refusal_status}
 use Rattle.ac_program.specs.Making.{Makes}
 use Rattle.ac_program.specs.Reading.{Gave, TookBytes}
-use Rattle.ac_program.specs.Headline.{IsRead, IsDueOfFile, TookWhole, GivesStatus, CallsFor, IsOfText, IsDecided}
+use Rattle.ac_program.specs.Headline.{IsRead, IsDueOfFile, TookWhole, GivesStatus, CallsFor, IsCalledFor, IsOfText, IsDecided}
 use Rattle.ac_program.specs.Making.IsDueOf.{refused, made as is_made}
 use Rattle.ac_program.specs.Headline.IsDueOfFile.{library_fault, too_long, source}
 use Rattle.ac_program.specs.Headline.CallsFor.{over_long, made}
-use Rattle.ac_program.proofs.Statuses.{of_refusal, apart, done_not_stalled}
-use Rattle.ac_program.proofs.Calls.{calls_refused, calls_once}
+use Rattle.ac_program.proofs.Calls.{calls_refused, calls_both}
 
 -- ---- what the library gave
 
@@ -63,45 +61,35 @@ module _ (file : List ℕ) (task : Task) (before after : LibraryTold) (status : 
   found o (source bytes w g s (is_made done n x r d)) =
       record { text = bytes; read = w; gave = g; calls = made d.program s d.is_ready (gives_of task d.program status done n d.makes) }
 
-  stalled_never : IsDueOfFile file task before after status text run → status ≢ 5
-  stalled_never (library_fault n x r j f) e = omega (arith, n, e)
-  stalled_never (too_long n x r w took) e = omega (arith, n, e)
-  stalled_never (source bytes w g s (refused y n x r k)) e = apart (refusal_status y) (of_refusal y) (inr (inr (inl (sym n ∙ e))))
-  stalled_never (source bytes w g s (is_made done n x r d)) e = done_not_stalled bytes task status done n d e
-
 -- ---- what the text decides
 
 module _ (words : List (List ℕ)) (task : Task) (file : List ℕ) (before after : LibraryTold) (status : ℕ) (run : Option Ended) (sink later : SinkTold) (is_call : IsCall words task file)
-    (whole : status ≢ 8 → status ≢ 11 → TookWhole (IsDueOfFile file task before after) status run sink later) where
-  pub never_stalled : status ≢ 5
-  never_stalled is = let w = whole (λ e. omega (arith, e, is)) (λ e. omega (arith, e, is)) in stalled_never file task before after status w.text run w.due is
+    (whole : status ≢ 8 → status ≢ 11 → TookWhole (IsDueOfFile file task before after) status run sink later)
+    (only_call : (asked : Task) (name : List ℕ) → IsCall words asked name → (asked ≡ task) × (name ≡ file)) (o : IsOfText status) where
+  here : IsFound file task before after status
+  here = let w = whole o.sink o.memory in found file task before after status w.text run o w.due
 
-  module _ (only_call : (asked : Task) (name : List ℕ) → IsCall words asked name → (asked ≡ task) × (name ≡ file)) (o : IsOfText status) where
-    here : IsFound file task before after status
-    here = let w = whole o.sink o.memory in found file task before after status w.text run o w.due
+  calls_known : (known : List ℕ) → before.text_at file ≡ Some known → CallsFor known task status
+  calls_known known told = subst (λ (bytes : List ℕ). CallsFor bytes task status) (gave_is (before.text_at file) known here.text told here.gave) here.calls
 
-    calls_known : (known : List ℕ) → before.text_at file ≡ Some known → CallsFor known task status
-    calls_known known told = subst (λ (bytes : List ℕ). CallsFor bytes task status) (gave_is (before.text_at file) known here.text told here.gave) here.calls
+  called : (known : List ℕ) → before.text_at file ≡ Some known → IsCalledFor known task status
+  called known told = record {
+    calls = calls_known known told;
+    only = λ number h. calls_both known task status number (calls_known known told) h;
+  }
 
-    exactly : (known : List ℕ) → before.text_at file ≡ Some known → (number : ℕ) → (status ≡ number) ↔ CallsFor known task number
-    exactly known told number = (
-      (λ e. subst (λ (n : ℕ). CallsFor known task n) e (calls_known known told)),
-      (λ h. calls_once known task status number (calls_known known told) h),
-    )
+  called_at : (asked : Task) (name known : List ℕ) → asked ≡ task → name ≡ file → before.text_at name ≡ Some known → IsCalledFor known asked status
+  called_at asked name known f e told =
+      subst (λ (a : Task). IsCalledFor known a status) (sym f) (called known (subst (λ (n : List ℕ). before.text_at n ≡ Some known) e told))
 
-    exactly_at : (asked : Task) (name known : List ℕ) → asked ≡ task → name ≡ file → before.text_at name ≡ Some known → (number : ℕ) → (status ≡ number) ↔ CallsFor known asked number
-    exactly_at asked name known f e told number =
-        subst (λ (a : Task). (status ≡ number) ↔ CallsFor known a number) (sym f)
-        (exactly known (subst (λ (n : List ℕ). before.text_at n ≡ Some known) e told) number)
-
-    pub is_decided : IsDecided words before after status
-    is_decided = record {
-      task = task;
-      file = file;
-      text = here.text;
-      is_call = is_call;
-      is_read = here.read;
-      gave = here.gave;
-      calls = here.calls;
-      only = λ asked name known call told number. exactly_at asked name known (only_call asked name call).0 (only_call asked name call).1 told number;
-    }
+  pub is_decided : IsDecided words before after status
+  is_decided = record {
+    task = task;
+    file = file;
+    text = here.text;
+    is_call = is_call;
+    is_read = here.read;
+    gave = here.gave;
+    calls = here.calls;
+    only = λ asked name known call told. called_at asked name known (only_call asked name call).0 (only_call asked name call).1 told;
+  }

@@ -1,15 +1,12 @@
 -- Statuses of cores and of refusals.
-use Rattle.std.proofs.Common.{◌≢◌, ◌≡◌, ℕ, suc, ◌≤◌, ◌⊎◌, inl, inr, Bool, true, false, List, [], ◌∷◌, refl, sym, ◌∙◌, subst, arith, if◌then◌else◌}
+use Rattle.std.proofs.Common.{◌≢◌, ◌≡◌, ℕ, ◌≤◌, ◌⊎◌, inl, inr, Bool, true, false, List, refl, sym, ◌∙◌, subst, arith, if◌then◌else◌}
 use Rattle.std.proofs.lemmas.Bool.{cases_lt}
 use Rattle.ac_base.specs.Report.{any_ends, is_trapped, is_out_of_steps, is_stalled, status_of}
-use Rattle.ac_base.specs.declared.ends.EndWord.{EndWord}
-use Rattle.ac_base.specs.declared.ends.EndWord.TheVariants.{Finished, Trapped, OutOfSteps, Stalled}
 use Rattle.ac_base.specs.declared.ends.MachineEnd.{MachineEnd}
 use Rattle.ac_program.specs.declared.refusal.Refusal.{Refusal}
 use Rattle.ac_program.specs.declared.refusal.Refusal.TheVariants as r
 use Rattle.ac_program.specs.declared.execute.Done.{Done}
 use Rattle.ac_program.specs.Lines.{refusal_status}
-use Rattle.ac_program.specs.Run.{HasEnded, HaveEnded}
 use Rattle.ac_tree.specs.declared.item.Program.{Program}
 use Rattle.ac_program.specs.declared.words.Task.{Task}
 use Rattle.ac_program.specs.declared.words.Task.TheVariants as t
@@ -37,33 +34,6 @@ made_status t.Code program status done e d = inl (e ∙ d.status)
 
 pub done_status : (bytes : List ℕ) (task : Task) (status : ℕ) (done : Done) → status ≡ done.status.number → IsDone bytes task done → IsOfCores status
 done_status bytes task status done e d = made_status task d.program status done e d.makes
-
--- no core waits for ever
-not_stalled : (word : EndWord) → HasEnded word → is_stalled word ≡ false
-not_stalled Finished h = refl
-not_stalled (Trapped trap) h = refl
-not_stalled OutOfSteps h = refl
-not_stalled Stalled h = absurd h
-
-none_stalled : (ends : List MachineEnd) → HaveEnded ends → any_ends is_stalled ends ≡ false
-none_stalled [] h = refl
-none_stalled (x ∷ xs) h = rw (not_stalled x.core.word (h 0 x (omega arith)), none_stalled xs (λ k d lt. h (suc k) d (omega (arith, lt))))
-
-five : (status : ℕ) (trapped out stalled : Bool) → stalled ≡ false → status ≡ (if trapped then 4 else (if out then 6 else (if stalled then 5 else 0))) → status ≢ 5
-five status true out stalled e h is = omega (arith, h, is)
-five status false true stalled e h is = omega (arith, h, is)
-five status false false true e h is = cc
-five status false false false e h is = omega (arith, h, is)
-
-made_not_stalled : (task : Task) (program : Program) (status : ℕ) (done : Done) → status ≡ done.status.number → Makes task program done → status ≢ 5
-made_not_stalled (t.Run steps) program status done e d is =
-    let ends = d.ended.cores in
-    five status (any_ends is_trapped ends) (any_ends is_out_of_steps ends) (any_ends is_stalled ends) (none_stalled ends d.ends) (e ∙ d.status) is
-made_not_stalled t.Check program status done e d is = omega (arith, e, d.status, is)
-made_not_stalled t.Code program status done e d is = omega (arith, e, d.status, is)
-
-pub done_not_stalled : (bytes : List ℕ) (task : Task) (status : ℕ) (done : Done) → status ≡ done.status.number → IsDone bytes task done → status ≢ 5
-done_not_stalled bytes task status done e d = made_not_stalled task d.program status done e d.makes
 
 pub small : (status : ℕ) → IsOfCores status → status ≤ 6
 small status (inl e) = omega (arith, e)

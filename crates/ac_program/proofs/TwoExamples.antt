@@ -1,6 +1,6 @@
 -- What is decided of two.ac: by its text, by its code, and by its machine, before the first instruction and at its end.
 use Rattle.std.proofs.Common.{◌≡◌, refl, ap, ◌∙◌, ℕ, zero, suc, pos, List, [], ◌∷◌, ◌++◌, length}
-use Rattle.std.proofs.Common.{codes, Option, None, Some, true, subst, sym, arith}
+use Rattle.std.proofs.Common.{codes, Option, None, Some, true, false, subst, sym, arith}
 use Rattle.std.specs.Prelude.{slice_get}
 use Rattle.std.proofs.lemmas.List.Elements.{All-from_recursion}
 use Rattle.std.proofs.lemmas.Fmt.{decimal_digit}
@@ -10,12 +10,10 @@ use Rattle.ac_parser.proofs.Shaped.{spelled_shape}
 use Rattle.ac_base.specs.declared.ends.CoreEnd.{CoreEnd}
 use Rattle.core_state.specs.Moves.{Move, On, Over, moves, and_then}
 use Rattle.ac_resolve.proofs.ProgramInPlace.{all_in_place}
-use Rattle.ac_semantics.proofs.Examples.{form}
 use Rattle.stack_code.specs.declared.parts.Entered.{Entered}
 use Rattle.stack_code.specs.Parts.{Parts}
 use Rattle.code_meaning.specs.Machine.{exec, first_flat, Runs}
 use Rattle.ac_compile.proofs.Examples.{two, two_parts, two_is_compiled}
-use Rattle.ac_program.specs.declared.refusal.Refusal.TheVariants as r
 use Rattle.ac_program.specs.declared.words.Task.{Task}
 use Rattle.ac_program.specs.declared.words.Task.TheVariants as t
 use Rattle.ac_program.specs.Words.{IsArguments, IsTask, IsCall, no_more, operand, bound_apart, bound_joined, only_operands}
@@ -23,9 +21,10 @@ use Rattle.ac_program.specs.Source.{IsReady}
 use Rattle.ac_program.specs.Lines.{accepted_line}
 use Rattle.ac_program.specs.Making.{IsDone, IsTold, Makes, made as is_made}
 use Rattle.ac_program.specs.Headline.{source}
-use Rattle.ac_program.specs.Headline.{HasRun, GivesStatus, IsDecided}
+use Rattle.ac_program.specs.Headline.{HasRun, GivesStatus, AreOfRuns, IsCalledFor, IsDecided}
 use Rattle.std.specs.Str.Parse.{digits_value}
 use Rattle.ac_resolve.specs.Resolution.{resolved}
+use Rattle.ac_tree.specs.declared.item.Program.{Program}
 use Rattle.ac_translation.specs.Same.{IsSame}
 use Rattle.ac_compile.proofs.Compiling.{is_same}
 use Rattle.stack_code.specs.declared.instr.Instr.{Instr}
@@ -34,10 +33,11 @@ use Rattle.code_meaning.specs.Machine.{Flat, FlatEnd}
 use Rattle.code_meaning.specs.Alone.{is_alone, IsAlone}
 use Rattle.code_listing.specs.Listing.{listing}
 use Rattle.core_machine.specs.Machine.{Machine, IsFirst, IsOnItsWay, IsSameCore}
-use Rattle.ac_tree.specs.declared.stmt.Stmt.TheVariants as s
+use Rattle.ac_program.proofs.OneStatus.{one_status}
 use Rattle.ac_program.proofs.Reasons.{is_decided}
 use Rattle.ac_program.proofs.TwoRules.{two_tree, two_is_clean, two_is_built}
-use Rattle.ac_program.proofs.Examples.{code_prints_seven, e, it_is_a_run, it_is_done, it_is_spelled, it_replays, its_call, its_doing, its_end, its_library, its_library_after, its_reading}
+use Rattle.ac_program.proofs.Examples.{code_prints_seven, e, it_is_a_run, it_is_done, it_is_spelled, it_replays, its_call}
+use Rattle.ac_program.proofs.Examples.{its_doing, its_end, its_library, its_only_program, its_library_after, its_reading}
 use Rattle.ac_program.proofs.Examples.{its_report, its_run, its_sink, its_status_is_called_for, its_words, sink_with}
 
 -- ---- its text decides
@@ -91,10 +91,26 @@ it_is_decided = is_decided its_words (t.Run 100) (codes "two.ac") its_library it
     (λ well kept. record { text = its_report; due = source two_text its_reading refl (omega arith) (is_made its_doing refl refl refl it_is_done); taken = refl })
     its_only_call (record { usage = omega arith; library = omega arith; sink = omega arith; memory = omega arith })
 
+pub it_is_called_for : IsCalledFor two_text (t.Run 100) 0
+it_is_called_for = it_is_decided.only (t.Run 100) (codes "two.ac") two_text its_call refl
+
+-- no two runs of a program without a channel differ
+it_has_no_channel : (steps : ℕ) (program : Program) → IsReady two_text (t.Run steps) program → (resolved program).channels ≡ []
+it_has_no_channel steps program ready = subst (λ (p : Program). (resolved p).channels ≡ []) (its_only_program program ready.is_within.is_accepted.spelled) refl
+
+pub its_runs_do_not_differ : AreOfRuns two_text (t.Run 100) 0 4 → ⊥
+its_runs_do_not_differ r =
+    let ready = subst (λ (a : Task). IsReady two_text a r.program) r.is_run r.is_ready in
+    let some = r.has_channel in
+    let many = ap (λ xs. length xs) (it_has_no_channel r.steps r.program ready) in
+    omega (arith, some, many)
+
 -- no other status
 pub it_is_not_decided_otherwise : IsDecided its_words its_library its_library_after 4 → ⊥
 it_is_not_decided_otherwise h =
-    let e : 4 ≡ 0 = (h.only (t.Run 100) (codes "two.ac") two_text its_call refl 0).1 its_status_is_called_for in omega (arith, e)
+    let called = h.only (t.Run 100) (codes "two.ac") two_text its_call refl in
+    let e : 4 ≡ 0 = (one_status two_text (t.Run 100) 4 called it_has_no_channel 0).1 its_status_is_called_for in
+    omega (arith, e)
 
 -- ---- its code
 
@@ -179,7 +195,7 @@ another_code_is_not_the_same h = let r = (h 0 100 [] (Some its_end)).0 it_replay
 -- ---- its machine, before the first instruction and at its end
 
 abbrev pub machine : Parts → Move Flat FlatEnd → Machine
-machine code state = record { code = code; core = 0; bound = 100; journal = []; state = state }
+machine code state = record { code = code; core = 0; bound = 100; journal = []; state = state; room = false }
 
 abbrev pub at_first : Move Flat FlatEnd
 at_first = first_flat two_parts e []

@@ -3,7 +3,7 @@ use Rattle.std.proofs.Common.{◌≡◌, refl, sym, ap, ◌∙◌, subst, ℕ, z
 use Rattle.std.specs.Prelude.{slice_get}
 use Rattle.ac_tree.specs.declared.expr.Expr.{Expr, fold-roll-Expr}
 use Rattle.ac_tree.specs.declared.expr.Expr.TheVariants as e
-use Rattle.ac_tree.specs.declared.expr.Expr.TheOpen.{Expr-F, Link-F}
+use Rattle.ac_tree.specs.declared.expr.Expr.TheOpen.{Expr-F}
 use Rattle.ac_tree.specs.declared.expr.Link.{Link, fold-roll-Link}
 use Rattle.ac_tree.specs.declared.expr.BinaryOp.TheVariants as b
 use Rattle.ac_tree.specs.declared.stmt.Stmt.TheFolds.{fold-roll-Stmt}

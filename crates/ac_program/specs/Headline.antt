@@ -1,20 +1,21 @@
 -- What a call of the program promises, on one page. `before` and `after` are what the library tells before and after the call.
-use Rattle.std.specs.Prelude.{◌≡◌, ◌≢◌, ℕ, ◌+◌, ◌<◌, ◌≤◌, ◌↔◌, ◌⊎◌, List, [], length, None, Some}
+use Rattle.std.specs.Prelude.{◌≡◌, ◌≢◌, ℕ, ◌+◌, ◌<◌, ◌≤◌, ◌⊎◌, List, [], length, None, Some}
 use Rattle.std.specs.declared.option.Option.{Option}
 use Rattle.ac_base.specs.Report.{status_of}
 use Rattle.ac_lexer.specs.declared.fault.LexFault.{LexFault}
 use Rattle.ac_tree.specs.declared.item.Program.{Program}
+use Rattle.ac_resolve.specs.Resolution.{resolved}
 use Rattle.ac_program.specs.declared.refusal.BrokenRule.{BrokenRule}
 use Rattle.ac_outside.specs.Causes.{Rose}
 use Rattle.ac_outside.specs.Told.{LibraryTold, SinkTold, OpenedJust, GrewBy}
-use Rattle.ac_program.specs.declared.running.Ended.{Ended}
+use Rattle.core_runner.specs.declared.ended.Ended.{Ended}
 use Rattle.ac_program.specs.declared.words.Task.{Task}
 use Rattle.ac_program.specs.declared.words.Task.TheVariants as t
 use Rattle.ac_program.specs.Words.{IsCall}
 use Rattle.ac_program.specs.Reading.{Gave, TookBytes}
 use Rattle.ac_program.specs.Writing.{TookFront}
 use Rattle.ac_program.specs.Source.{HasFault, IsUnexpected, IsTooDeep, IsBroken, IsTooMany, IsNotBuilt, IsReady}
-use Rattle.ac_program.specs.Run.{IsRunOf}
+use Rattle.core_runner.specs.Run.{IsRunOf}
 use Rattle.ac_program.specs.Making.{IsDueOf}
 use Rattle.ac_program.specs.Lines.{usage_line, library_line, limit_source_line}
 
@@ -98,7 +99,7 @@ pub record IsOfText (status : ℕ) : Type 0 where
 -- a run of the program with this bound on steps whose cores have this status
 pub record HasRun (program : Program) (steps status : ℕ) : Type 0 where
   pub ended : Ended
-  pub is_run : IsRunOf program steps [] ended
+  pub is_run : IsRunOf (resolved program) steps [] ended
   pub status_is : status ≡ status_of ended.cores
 
 -- the status of what a task makes of a program: that of the cores in a run, and else 0
@@ -120,10 +121,25 @@ pub data CallsFor (text : List ℕ) (task : Task) (status : ℕ) : Type 0 where
   too_many : status ≡ 10 → IsShort text → IsTooMany text task → CallsFor text task status
   -- 15: a form of its program is not built, but not in a check
   not_built : (at : ℕ) → status ≡ 15 → IsShort text → IsNotBuilt text task at → CallsFor text task status
-  -- 0, and in a run also 4 or 6: nothing refuses it, and this is the status of what is made of its program
+  -- 0, and in a run also 4, 5 or 6: nothing refuses it, and this is the status of what is made of its program
   made : (program : Program) → IsShort text → IsReady text task program → GivesStatus task program status → CallsFor text task status
 
--- A text that the library may have given calls for the status; and where the library tells that text, for no other.
+-- Two runs of its program, which has a channel, have these statuses: a program does not say which of the messages for a core come first.
+pub record AreOfRuns (text : List ℕ) (task : Task) (status number : ℕ) : Type 0 where
+  pub steps : ℕ
+  pub program : Program
+  pub is_run : task ≡ t.Run steps
+  pub is_ready : IsReady text task program
+  pub has_channel : 1 ≤ length (resolved program).channels
+  pub one : HasRun program steps status
+  pub other : HasRun program steps number
+
+-- the text calls for the status, and for another only where both are statuses of runs of its program
+pub record IsCalledFor (text : List ℕ) (task : Task) (status : ℕ) : Type 0 where
+  pub calls : CallsFor text task status
+  pub only : (number : ℕ) → CallsFor text task number → (number ≡ status) ⊎ AreOfRuns text task status number
+
+-- A text that the library may have given calls for the status; and where the library tells that text, for no other, but as its runs differ.
 pub record IsDecided (words : List (List ℕ)) (before after : LibraryTold) (status : ℕ) : Type 0 where
   pub task : Task
   pub file : List ℕ
@@ -133,4 +149,4 @@ pub record IsDecided (words : List (List ℕ)) (before after : LibraryTold) (sta
   pub gave : Gave (before.text_at file) text
   pub calls : CallsFor text task status
   pub only : (asked : Task) (name known : List ℕ) → IsCall words asked name → before.text_at name ≡ Some known →
-      (number : ℕ) → (status ≡ number) ↔ CallsFor known asked number
+      IsCalledFor known asked status

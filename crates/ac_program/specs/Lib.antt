@@ -2,7 +2,6 @@ pub mod Headline
 pub mod Lines
 pub mod Making
 pub mod Reading
-pub mod Run
 pub mod Source
 pub mod Words
 pub mod Writing

@@ -9,19 +9,17 @@ use Rattle.code_listing.specs.Listing.{listing}
 use Rattle.ac_program.specs.declared.words.Task.{Task}
 use Rattle.ac_program.specs.declared.words.Task.TheVariants as t
 use Rattle.ac_program.specs.declared.execute.Done.{Done}
-use Rattle.ac_program.specs.declared.running.Ended.{Ended}
+use Rattle.core_runner.specs.declared.ended.Ended.{Ended}
 use Rattle.ac_program.specs.declared.refusal.Refusal.{Refusal}
 use Rattle.ac_program.specs.Source.{IsReady, Refuses, names_of}
-use Rattle.ac_program.specs.Run.{HaveEnded, IsRunOf}
+use Rattle.core_runner.specs.Run.{IsRunOf}
 use Rattle.ac_program.specs.Lines.{accepted_line, refusal_line, refusal_status}
 
 -- of a run: a run of the program with this bound on steps, and the report and the status of that very run
 pub record IsReported (program : Program) (bound : ℕ) (done : Done) : Type 0 where
   pub ended : Ended
   pub kept : done.run ≡ Some ended
-  pub is_run : IsRunOf program bound [] ended
-  -- a program that is run today has no operation, on which a core could wait
-  pub ends : HaveEnded ended.cores
+  pub is_run : IsRunOf (resolved program) bound [] ended
   pub text : done.text ≡ report_of (names_of program) ended.cores
   pub status : done.status.number ≡ status_of ended.cores
 

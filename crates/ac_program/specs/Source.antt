@@ -5,7 +5,6 @@ use Rattle.ac_lexer.specs.declared.fault.LexFault.{LexFault}
 use Rattle.ac_lexer.specs.declared.fault.LexFault.TheVariants as l
 use Rattle.ac_lexer.specs.Tokens.{LexesFrom, IsTokensOf, IsFirstFaultOf}
 use Rattle.ac_tree.specs.declared.item.Program.{Program}
-use Rattle.ac_tree.specs.Weight.{IsSmall}
 use Rattle.ac_parser.specs.Places.{IsTree, UnexpectedAt, TooDeepAt}
 use Rattle.ac_program.specs.declared.refusal.BrokenRule.{BrokenRule}
 use Rattle.ac_types.specs.Reached.{BreaksNone, IsLeastBroken}

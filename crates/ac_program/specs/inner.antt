@@ -1,3 +1,2 @@
 pub mod Scanning
-pub mod Journals
 pub mod Parts

@@ -1,23 +1,24 @@
 //! What a task makes of a source, and the status that goes with it.
 
-ghost use Rattle.std.specs.Prelude.{◌≡◌, ◌≤◌, [], length, IfOk};
+ghost use Rattle.std.specs.Prelude.{◌≡◌, ◌*◌, ◌≤◌, [], length, IfOk};
+ghost use Rattle.ac_names.specs.Numbered.{core_names};
 ghost use Rattle.ac_compile.specs.Unbuilt.{unbuilt_nodes};
 ghost use Rattle.ac_resolve.specs.Resolution.{resolved};
 ghost use Rattle.ac_translation.specs.Translation.{code_of};
 ghost use Rattle.code_listing.specs.Listing.{listing};
 ghost use Rattle.ac_program.specs.Lines.{accepted_line};
-ghost use Rattle.ac_program.specs.Source.{missing};
+ghost use Rattle.ac_program.specs.Source.{all_steps, missing, most_steps};
 ghost use Rattle.ac_program.specs.Making.{IsReported, IsTold, Makes};
 ghost use Rattle.ac_program.specs.inner.Parts.{GivesDone};
 
 use crate::building::build;
 use crate::refusal::Stop;
-use crate::running::{Ended, run};
 use crate::words::Task;
 use ac_base::{Bytes, List, NoMemory, Status, report, status};
 use ac_compile::compile;
 use ac_types::Checked;
 use code_listing::listing;
+use core_runner::{Ended, run};
 use std::alloc::Global;
 
 /// What is made of a source: a run, if there is one, a text that is written, and a status.
@@ -30,7 +31,8 @@ pub struct Done {
 
 // A run of a program, and its report.
 fn reported(alloc: Global, checked: &Checked, steps: u32) -> Result<Done, NoMemory>
-    requires { unbuilt_nodes checked.now.items ≡ [] }
+    requires built { unbuilt_nodes checked.now.items ≡ [] }
+    requires few { length (core_names checked.now.items) * steps ≤ 4000000 }
     ensures { IfOk result (IsReported checked.now steps) }
 {
     let code = compile(alloc, checked)?;
@@ -72,7 +74,8 @@ fn listed(alloc: Global, checked: &Checked) -> Result<Done, NoMemory>
 }
 
 fn make(alloc: Global, checked: &Checked, task: Task) -> Result<Done, NoMemory>
-    requires { missing task checked.now ≡ [] }
+    requires built { missing task checked.now ≡ [] }
+    requires few { all_steps checked.now task ≤ most_steps }
     ensures { IfOk result (Makes task checked.now) }
 {
     match task {

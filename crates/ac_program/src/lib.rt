@@ -11,14 +11,13 @@ mod front;
 mod outcome;
 mod reading;
 mod refusal;
-mod running;
 mod words;
 mod writing;
 
 use ac_outside::{Library, Sink};
 use answering::{USAGE, do_file, refuse};
+pub use core_runner::Ended;
 pub use outcome::Outcome;
-pub use running::Ended;
 use std::alloc::Global;
 use words::read_words;
 
@@ -26,10 +25,11 @@ use words::read_words;
 /// and runs its program with the bound on steps that they give, or checks it, or compiles it; and
 /// writes the report, the line `accepted` or the listing of the code to the sink.
 ///
-/// The statuses of a run are 0 with the report where every core finished; 6 with the report where a
-/// core was out of steps, and 4 where one trapped. Status 5 stands for a core that waits for ever,
-/// which comes only with channels and files, and no program that runs today has them. A check and a
-/// listing have 0. The others come with a line, by the first refusal in this order: 1 with the
+/// The statuses of a run, each with the report, are 4 where a core trapped, else 6 where one was out
+/// of steps, else 5 where one is stalled, as it waits and nothing can come any more, and else 0,
+/// where every core finished. Which of the messages for a core come first is not said by a program
+/// with channels, so its runs may have several statuses: the call's is that of the run that it
+/// gives. A check and a listing have 0. The others come with a line, by the first refusal in this order: 1 with the
 /// usage line where the words are not `run`, `check` or `code`, one FILE and, of a run alone, at
 /// most one bound from 1 to 2,000,000; 7 with `library fault` where a call of the library failed;
 /// 10 with `limit: source` where the text is longer than 1,048,576 bytes; 2 with `bad byte at B`,
@@ -73,14 +73,10 @@ pub fn ac_main<L: Library, K: Sink>(
     // Status 8 stands for a sink that failed.
     ensures sink { TellsSink (K.told sink.old) (K.told sink.new) result.status.number }
 
-    // Any other status is that which the text of the file calls for with the task of the words, and
-    // just the file was opened.
+    // Any other status is one that the text of the file calls for with the task of the words, and just
+    // the file was opened. It calls for no other, but for those of other runs of a program with channels.
     ensures decided { IsOfText result.status.number →
         IsDecided (map string_bytes words.now) (L.told library.old) (L.told library.new) result.status.number }
-
-    // No core of a program that runs today can wait for ever: only a channel or a file makes a core
-    // wait, and neither is built. So no core is stalled, for which status 5 stands.
-    ensures no_stall { result.status.number ≢ 5 }
 {
     let Some(call) = read_words(words) else {
         return refuse(sink, 1, USAGE);

@@ -8,7 +8,7 @@ ghost use Rattle.ac_semantics.specs.Replay.{Enters, Replays};
 ghost use Rattle.ac_names.specs.Numbered.{core_names};
 ghost use Rattle.ac_resolve.specs.Resolution.{resolved};
 ghost use Rattle.ac_compile.specs.OneEnd.{IsOnly};
-ghost use Rattle.ac_compile.specs.Unbuilt.{meaningless_nodes};
+ghost use Rattle.ac_compile.specs.Unbuilt.{unbuilt_nodes};
 ghost use Rattle.ac_reference.specs.declared.fault.ReplayFault.TheVariants.{Misfit};
 ghost use Rattle.ac_reference.specs.Misfits.{IsMisfit};
 
@@ -60,7 +60,7 @@ impl Reference {
     /// What is seen of a core at the end of its run under a journal, with a bound on its steps; or the first entry that does
     /// not fit.
     ///
-    /// Conditions: each node of the program has a meaning, and it has that core.
+    /// Conditions: each node of the program is built, and it has that core.
     pub fn replay(
         alloc: Global,
         checked: &Checked,
@@ -68,7 +68,7 @@ impl Reference {
         steps: u64,
         journal: &Journal,
     ) -> Result<CoreEnd, ReplayFault>
-        requires meant { meaningless_nodes checked.now.items ≡ [] }
+        requires built { unbuilt_nodes checked.now.items ≡ [] }
         requires core { core < length (core_names checked.now.items) }
         ensures ok { IfOk result (λ end. Replays (resolved checked.now) core steps journal.now.entries (Some end)) }
         ensures none { (place : ℕ) → result ≡ Err (Misfit place)

@@ -23,7 +23,7 @@ use Rattle.stack_code.specs.Parts.{Parts}
 use Rattle.stack_code.specs.Shapes as shapes
 use Rattle.stack_code.specs.Shapes.{effect, first, pushed, with_operands, after, can_return, is_int_alone, LeadsTo}
 use Rattle.stack_code.specs.Valid as valid
-use Rattle.stack_code.specs.Valid.{Reaches, IsValid, Goes}
+use Rattle.stack_code.specs.Valid.{Reaches, IsValid}
 use Rattle.code_meaning.specs.Machine.{Thread, Caller, Flat, begin, counted, on_top, calls, returns}
 use Rattle.code_safety.specs.Fit.{IsThread, life_at, own_blocks, own_in, IsFit}
 use Rattle.code_safety.specs.Living.{as_running, IsOfCaller, HasFrame}

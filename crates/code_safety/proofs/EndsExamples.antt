@@ -1,7 +1,10 @@
 -- What a core reaches and which ends a code keeps, in small codes.
 use Rattle.std.proofs.Common.{◌≡◌, ℕ, zero, suc, pos, List, [], ◌∷◌, codes, true, Option, Some, None, refl, sym, ap, ◌∙◌, inr, arith}
 use Rattle.std.specs.Prelude.{slice_get}
+use Rattle.std.proofs.lemmas.List.Elements.{All-nil, All-cons, All-head}
 use Rattle.cancel_scope.specs.declared.operation.Asked.TheVariants as asked
+use Rattle.cancel_scope.specs.declared.operation.Operation.{Operation}
+use Rattle.cancel_scope.specs.Outstanding.{started}
 use Rattle.stack_code.specs.declared.instr.Instr.{Instr}
 use Rattle.stack_code.specs.declared.instr.Instr.TheVariants as i
 use Rattle.stack_code.specs.declared.parts.ChannelEnds.{ChannelEnds}
@@ -13,7 +16,7 @@ use Rattle.stack_code.specs.declared.shape.Leads.TheVariants.{One, Two}
 use Rattle.stack_code.specs.Parts.{Parts, Begins}
 use Rattle.stack_code.specs.Shapes.{first, pushed}
 use Rattle.stack_code.specs.Valid.{Reaches, begins, goes}
-use Rattle.code_safety.specs.KeptEnds.{outermost, ReachesFunction, enters, calls, ReachesInstr, IsSender, IsReceiver, KeepsEnds, IsAtEnd, each_as}
+use Rattle.code_safety.specs.KeptEnds.{outermost, ReachesFunction, enters, calls, ReachesInstr, IsSender, IsReceiver, KeepsEnds, IsAtEnd, AreAtEnds, each_as}
 
 -- ---- bodies
 
@@ -212,6 +215,19 @@ a_send_at_its_end = it_is_the_sender
 
 pub a_send_at_the_other_end : IsAtEnd (with_ends (ends 0 1) []) 1 0 (asked.Send (pos 5)) → ⊥
 a_send_at_the_other_end h = the_other_core_is_not h
+
+-- a core whose only operation sends on the channel
+abbrev sends : Operation
+sends = started 0 (asked.Send (pos 5)) (record { number = 0 })
+
+abbrev at_end_of : ℕ → Operation → Type 0
+at_end_of core o = IsAtEnd (with_ends (ends 0 1) []) core o.link o.asked
+
+pub all_at_their_ends : AreAtEnds (with_ends (ends 0 1) []) 0 (sends ∷ [])
+all_at_their_ends = All-cons (at_end_of 0) sends [] a_send_at_its_end (All-nil (at_end_of 0))
+
+pub one_at_the_other_end : AreAtEnds (with_ends (ends 0 1) []) 1 (sends ∷ []) → ⊥
+one_at_the_other_end h = a_send_at_the_other_end (All-head (at_end_of 1) sends [] h)
 
 pub every_core_as_the_second : (each_as (record (with_ends (ends 0 1) []) { entries = 0 ∷ 1 ∷ [] }) 1).entries ≡ 1 ∷ 1 ∷ []
 every_core_as_the_second = refl

@@ -25,7 +25,7 @@ use Rattle.stack_code.specs.declared.shape.Leads.{Leads}
 use Rattle.stack_code.specs.declared.shape.Leads.TheVariants.{One, Two}
 use Rattle.stack_code.specs.Parts.{Parts}
 use Rattle.stack_code.specs.Shapes as shapes
-use Rattle.stack_code.specs.Shapes.{effect, after, pushed, with_operands, first, entered, finished, inner, can_start, body_with, is_entered, LeadsTo}
+use Rattle.stack_code.specs.Shapes.{effect, after, pushed, with_operands, first, entered, inner, body_with, is_entered, LeadsTo}
 use Rattle.stack_code.specs.Valid.{IsValid, Goes}
 use Rattle.stack_code.specs.Kept.{IsRanked}
 use Rattle.code_meaning.specs.Machine.{Flat, Thread, Block, Caller, at, operates, begin, counted, block_at, with_block, with_store, thread_at, nobody, stops, starts, one_more, counted_in}

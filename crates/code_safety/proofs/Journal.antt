@@ -27,7 +27,7 @@ use Rattle.code_meaning.specs.Machine as flat
 use Rattle.code_meaning.specs.Machine.{Flat, FlatEnd, nobody, Caller, Block, arrived, resumed, begin, exec, exec_of, dispatched, told, with_store, with_shared, or_trap, on_top, on_two, on_three}
 use Rattle.code_meaning.specs.Machine.{on_many, one_operand}
 use Rattle.code_meaning.specs.Machine.{two_operands, always, text_at}
-use Rattle.code_meaning.specs.Machine.{calls, returns, starts, arrives, arrives_in, arrives_at, dies, dies_in, counted_out, block_at, first_flat, first_core, first_globals, thread_at}
+use Rattle.code_meaning.specs.Machine.{calls, returns, arrives, arrives_in, arrives_at, dies, dies_in, counted_out, block_at, first_flat, first_core, first_globals, thread_at}
 
 -- one entry more is still to come
 abbrev pub more_shared : Entry → Shared → Shared

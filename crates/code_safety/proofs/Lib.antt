@@ -21,7 +21,6 @@ pub mod Falling
 pub mod ArrivalWeights
 pub mod Moving
 pub mod NoEntries
-pub mod NoStall
 pub mod OwnFunction
 pub mod EachAs
 pub mod OwnEnds

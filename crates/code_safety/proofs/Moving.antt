@@ -17,7 +17,7 @@ use Rattle.stack_code.specs.declared.shape.Leads.{Leads}
 use Rattle.stack_code.specs.Parts.{Parts}
 use Rattle.stack_code.specs.Shapes.{effect}
 use Rattle.stack_code.specs.Valid as valid
-use Rattle.stack_code.specs.Valid.{IsValid, Fits, Goes}
+use Rattle.stack_code.specs.Valid.{IsValid, Fits}
 use Rattle.stack_code.specs.Kept.{IsRanked}
 use Rattle.code_meaning.specs.Meant.{has_meaning, IsMeant}
 use Rattle.code_meaning.specs.Machine.{Flat, FlatEnd, Thread, arrived, resumed, begin, exec, exec_of, dispatched, told, at, nobody, thread_at}

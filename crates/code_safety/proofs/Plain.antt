@@ -34,7 +34,7 @@ use Rattle.stack_code.specs.declared.shape.Leads.TheVariants.{One, Two}
 use Rattle.stack_code.specs.Parts.{Parts}
 use Rattle.stack_code.specs.Shapes.{on_some, after, body_with, pushed, pushes, goes, with_operands, loaded, is_array, directives_in, effect, LeadsTo}
 use Rattle.stack_code.specs.Valid as valid
-use Rattle.stack_code.specs.Valid.{Goes, Uses, AsInt, Slots, HasOneUse, home_at, use_of, ints_of}
+use Rattle.stack_code.specs.Valid.{Goes, Uses, AsInt, HasOneUse, home_at, use_of, ints_of}
 use Rattle.code_meaning.specs.Machine as flat
 use Rattle.code_meaning.specs.Machine.{Flat, FlatEnd, seen_of, with_shared, with_store, begin, counted, at, or_trap, on_top}
 use Rattle.code_meaning.specs.Machine.{on_two, on_three, on_many, one_operand, two_operands, text_at, always}

@@ -15,7 +15,7 @@ use Rattle.stack_code.specs.declared.shape.Home.{Home}
 use Rattle.stack_code.specs.Parts.{Parts}
 use Rattle.stack_code.specs.Shapes.{is_array, params_of}
 use Rattle.stack_code.specs.Valid as valid
-use Rattle.stack_code.specs.Valid.{Use, Uses, AsInt, AsReference, AsBlock, HasOneUse, use_of}
+use Rattle.stack_code.specs.Valid.{Use, Uses, AsInt, AsReference, AsBlock, HasOneUse}
 use Rattle.code_safety.specs.Fit.{Birth, Born, HoldsInts, IsIntArray, IsSlot, AreSlots, IsFrame, IsStore}
 use Rattle.code_safety.proofs.Lasting.{Outline, Carries}
 

@@ -102,7 +102,6 @@ module _ (m : Running) (function : Entered) (b : Begins m.code.now m.core functi
       fit = λ still. go m.ended still begun;
       chained = λ still. chains m.ended still begun;
       tracks = λ still. subst (λ os. Tracks m.journal.entries os) (sym no_operations) (subst (λ past. Tracks past []) (sym journal) tracks_none);
-      free = λ still alone. no_operations;
       settled = λ runs. none;
       valid = v;
       meant = meant;

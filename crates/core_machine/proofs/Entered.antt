@@ -15,7 +15,7 @@ use Rattle.cancel_scope.specs.declared.operation.Operation.{Operation}
 use Rattle.cancel_scope.specs.Outstanding.{is_to_offer, is_offered, is_to_receive, carries, offered_as, change_first, without_first}
 use Rattle.cancel_scope.specs.Roomy.{Roomy}
 use Rattle.core_state.specs.Arrivals as arrivals
-use Rattle.core_state.specs.Arrivals.{goes_on_waiting, has_ended, offers, offers_on, ends_known, ends_received, with_message, ok}
+use Rattle.core_state.specs.Arrivals.{goes_on_waiting, has_ended, offers, offers_on, ends_known, ends_received, passes_over, with_message, ok}
 use Rattle.core_state.specs.Shared.{Shared, with_entry}
 use Rattle.code_meaning.specs.Machine.{Flat, resumed}
 use Rattle.core_machine.specs.declared.running.Running.{Running}
@@ -106,3 +106,16 @@ got_enters m b after q store j link number stamp value o place found asks is ops
     let put : store ≡ with_message m.frames o value = frames ∙ sym (ap (λ a. with_int_at m.frames (arrivals.place_for a) 0 value) asks) in
     ended_enters m (event.Got link number value) stamp b after q (with_message m.frames o value) store j (without_first (is_to_receive link) os) o
     (ap (ends_received m.frames os link value) found) is ops put entries flat ended same
+
+-- ---- an offer that is passed over
+
+passes_it : (store : Store) (os : List Operation) (f : Option Operation) → IsSome f → passes_over store os f ≡ Some (goes_on_waiting store os)
+passes_it store os None some = let no : false ≡ true = some in absurd (cc)
+passes_it store os (Some o) some = refl
+
+pub pass_enters : (m after : Running) (j : Log) (link number stamp : ℕ) → IsSome (find (is_to_receive link) m.outstanding.operations)
+    → after ≡ noted m (event.Pass link number) stamp m.outstanding m.frames j → j.entries ≡ m.journal.entries ++ entry_now m (event.Pass link number) stamp ∷ []
+    → Enters m (event.Pass link number) stamp after
+pass_enters m after j link number stamp some is entries =
+    waiting_enters m (event.Pass link number) stamp after m.outstanding j m.outstanding.operations
+    (passes_it m.frames m.outstanding.operations (find (is_to_receive link) m.outstanding.operations) some) is refl entries

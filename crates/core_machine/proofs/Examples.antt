@@ -1,5 +1,5 @@
 -- What callers see of a core, and the activations, blocks and threads that stand for those of its code.
-use Rattle.std.proofs.Common.{◌≡◌, ℕ, refl, pos, true, false, List, [], ◌∷◌, Some, None, arith}
+use Rattle.std.proofs.Common.{◌≡◌, ℕ, refl, pos, Bool, true, false, List, [], ◌∷◌, Some, None, arith}
 use Rattle.std.proofs.lemmas.List.Elements.{All-nil}
 use Rattle.ac_base.specs.declared.entry.Entry.{Entry}
 use Rattle.ac_base.specs.declared.entry.Event.TheVariants as event
@@ -21,16 +21,15 @@ use Rattle.core_state.specs.Moves.{On, Over}
 use Rattle.core_state.specs.Shared.{core_end, first_shared}
 use Rattle.code_meaning.specs.Machine.{Caller, Flat, nobody}
 use Rattle.core_machine.specs.declared.ending.Ending.TheVariants as ending
-use Rattle.core_machine.specs.declared.pause.Pause.TheVariants as pause
-use Rattle.core_machine.specs.Words.{word_of, pause_of}
-use Rattle.core_machine.specs.Machine.{none_ready, is_resting, is_idle, has_ended, IsSeen, waiting_at_end, waiting_of, waits, HasEnded, IsPaused}
+use Rattle.core_machine.specs.Words.{word_of}
+use Rattle.core_machine.specs.Machine.{none_ready, is_resting, is_idle, has_ended, IsSeen, waiting_at_end, waiting_of, waits, HasEnded}
 use Rattle.core_machine.specs.Blocks.{blocks_of, block_of}
 use Rattle.core_machine.specs.Tracks.{is_offer_of, is_end_of, is_withdrawal, offers_of, ends_of, standing_of, Tracks}
 use Rattle.core_machine.specs.inner.Changes.{with_woken, item_of}
 use Rattle.core_machine.specs.declared.running.Running.{Running}
-use Rattle.core_machine.specs.State.{shared_of, thread_of, flat_of, end_or, state_of, machine_of}
+use Rattle.core_machine.specs.State.{shared_of, thread_of, flat_of, end_or, state_of, has_room, machine_of}
 
--- ---- how a core has come back
+-- ---- how a core has ended
 
 pub it_finished : word_of ending.Finished ≡ Finished
 it_finished = refl
@@ -40,9 +39,6 @@ it_trapped = refl
 
 pub it_is_out_of_steps : word_of ending.OutOfSteps ≡ OutOfSteps
 it_is_out_of_steps = refl
-
-pub why_it_comes_back : (pause_of ending.Finished ≡ pause.Finished) × (pause_of (ending.Trapped ZeroDivisor) ≡ pause.Trapped ZeroDivisor) × (pause_of ending.OutOfSteps ≡ pause.OutOfSteps)
-why_it_comes_back = (refl, refl, refl)
 
 -- ---- what callers see
 
@@ -84,25 +80,8 @@ finished = core_end Finished false (pos 0 ∷ pos 0 ∷ []) [] running.shared
 pub it_is_seen_as_finished : IsSeen (Over (record { core = Some finished; count = 4 })) (record { core = finished; instructions = 4 })
 it_is_seen_as_finished = (refl, refl)
 
-pub it_came_back_finished : IsPaused (Over (record { core = Some finished; count = 4 })) pause.Finished
-it_came_back_finished = refl
-
-pub not_out_of_steps : IsPaused (Over (record { core = Some finished; count = 4 })) pause.OutOfSteps → ⊥
-not_out_of_steps e = cc
-
-pub it_has_not_come_back : IsPaused (On running) pause.Finished → ⊥
-it_has_not_come_back h = h
-
 pub its_end_is_its_own : HasEnded (Over (record { core = Some finished; count = 4 })) ending.Finished
 its_end_is_its_own = refl
-
--- nothing runs and nothing is ready
-pub it_came_back_idle : IsPaused (On running) pause.Idle
-it_came_back_idle = refl
-
--- a thread is ready, or it has ended
-pub it_is_not_idle : (IsPaused (On (record running { ready = second ∷ [] })) pause.Idle → ⊥) × (IsPaused (Over (record { core = Some finished; count = 4 })) pause.Idle → ⊥)
-it_is_not_idle = (λ e. cc, λ e. cc)
 
 pub whether_it_rests : (is_resting running ≡ true) × (is_resting (record running { running = Some second }) ≡ false) × (none_ready [] ≡ true) × (none_ready (second ∷ []) ≡ false)
 whether_it_rests = (refl, refl, refl, refl)
@@ -252,5 +231,17 @@ pub it_goes_on_or_is_over : (m : Running) → (state_of (with_fields m) ≡ On (
     × (state_of (record m { ended = Some ending.Finished }) ≡ end_or (flat_of m) (Some ending.Finished))
 it_goes_on_or_is_over m = (refl, refl)
 
-pub the_machine : (m : Running) → machine_of (with_fields m) ≡ record { code = m.code.now; core = 1; bound = 9; journal = []; state = On (flat_of (with_fields m)) }
+pub the_machine : (m : Running) → machine_of (with_fields m) ≡ record { code = m.code.now; core = 1; bound = 9; journal = []; state = On (flat_of (with_fields m)); room = has_room (with_fields m) }
 the_machine m = refl
+
+-- room for an entry and for a ready thread, and no value that is still to be put onto operands
+abbrev with_spares : Running → ℕ → ℕ → Bool → Running
+with_spares m entries ready pending = record m {
+  journal = record m.journal { spare = entries };
+  schedule = record m.schedule { spare = ready };
+  threads = record m.threads { pending = pending };
+}
+
+pub whether_it_has_room : (m : Running) → (has_room (with_spares m 1 1 false) ≡ true) × (has_room (with_spares m 0 1 false) ≡ false) × (has_room (with_spares m 1 0 false) ≡ false)
+    × (has_room (with_spares m 1 1 true) ≡ false)
+whether_it_has_room m = (refl, refl, refl, refl)

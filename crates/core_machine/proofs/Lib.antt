@@ -9,5 +9,9 @@ pub mod Next
 pub mod Entered
 pub mod Received
 pub mod Pausing
+pub mod Points
 pub mod Begun
+pub mod Stopping
 pub mod Examples
+pub mod PointExamples
+pub mod EndExamples

@@ -21,7 +21,6 @@ use Rattle.code_safety.proofs.Entering.{Stands, own, round, stands_in}
 use Rattle.code_safety.proofs.Finishing.{arrival}
 use Rattle.code_safety.proofs.Starting.{starting}
 use Rattle.code_safety.proofs.Dying.{leaving}
-use Rattle.code_safety.proofs.NoStall.{never_stalled}
 use Rattle.core_machine.specs.Machine.{is_resting, none_ready}
 use Rattle.core_machine.specs.inner.Needs.{IsChildless, IsListed, CanFinish, CanStart, CanEnd, HasNext}
 
@@ -161,15 +160,6 @@ module _ (code : Parts) (m : Flat) (fit : IsFit code m) where
           let within = living_within fit.lives t (going_lives (life_at fit.lives t).phase goes) in
           let many = fit.many in
           record { next = t; later = ready; is = e; listed = omega (arith, within, many) }
-
-  -- where no operation has still to end, a thread runs or is ready
-  pub never_rests : m.operations ≡ [] → is_resting m ≡ true → ⊥
-  never_rests free rests = by m.running refl m.ready refl
-    where
-      by : (o : Option Item) → m.running ≡ o → (ready : List Item) → m.ready ≡ ready → ⊥
-      by (Some t) e ready r = let no : false ≡ true = sym (ap (λ p. is_none p && none_ready m.ready) e) ∙ rests in cc
-      by None e (t ∷ ready) r = let no : false ≡ true = sym (ap (λ p. is_none p && none_ready m.ready) e ∙ ap none_ready r) ∙ rests in cc
-      by None e [] r = never_stalled code m fit e r free
 
 module _ (code : Parts) (bound : ℕ) (m : Flat) (fit : IsFit code m) (t : Item) (run : m.running ≡ Some t) where
   abbrev here_now : IsThread code fit.births m.store m.blocks t (life_at fit.lives t).start m.current

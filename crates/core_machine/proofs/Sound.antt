@@ -1,12 +1,12 @@
 -- A core stays where its code can stand, and comes to its end.
-use Rattle.std.proofs.Common.{◌≡◌, ℕ, zero, suc, ◌<◌, ◌≤◌, ◌^◌, List, [], ◌∷◌, ◌++◌, length, Option, Some, None, IsSome, Bool, true, false, refl, sym, ap, ◌∙◌, subst, arith}
+use Rattle.std.proofs.Common.{◌≡◌, ℕ, suc, ◌<◌, ◌≤◌, ◌^◌, List, [], ◌∷◌, ◌++◌, length, Option, Some, None, IsSome, Bool, true, false, refl, sym, ap, ◌∙◌, subst, arith}
 use Rattle.std.specs.Prelude.{slice_get, slice_index_or, is_some, not}
 use Rattle.std.proofs.lemmas.Option.{slice_get_within, get_or_from_slice_get}
 use Rattle.ac_base.specs.declared.entry.Entry.{Entry}
 use Rattle.ac_base.specs.declared.entry.Event.{Event}
 use Rattle.work_item.specs.declared.ids.Item.{Item}
 use Rattle.work_item.specs.declared.cell.Cell.{Cell}
-use Rattle.core_state.specs.Moves.{Move, On, Over, GoesOn, and_then, moves}
+use Rattle.core_state.specs.Moves.{Move, On, GoesOn}
 use Rattle.core_state.specs.Arrivals.{ok}
 use Rattle.core_state.specs.Shared.{Shared, with_entry}
 use Rattle.core_state.proofs.Runs.{GoesOn-none, GoesOn-more}
@@ -16,7 +16,6 @@ use Rattle.stack_code.specs.Parts.{Parts, Begins}
 use Rattle.stack_code.specs.Shapes.{effect}
 use Rattle.stack_code.specs.Valid.{Fits, IsValid}
 use Rattle.stack_code.specs.Kept.{IsRanked}
-use Rattle.code_meaning.specs.Alone.{IsAlone}
 use Rattle.code_meaning.specs.Meant.{has_meaning, IsMeant}
 use Rattle.code_safety.specs.Left.{left, left_to_come}
 use Rattle.code_safety.specs.Fit.{IsFit}
@@ -26,7 +25,6 @@ use Rattle.code_safety.proofs.ArrivalChains.{comes_chained}
 use Rattle.code_safety.proofs.ArrivalWeights.{arrived_falls}
 use Rattle.code_safety.proofs.Arriving.{Comes, arrived_fit, comes_of}
 use Rattle.code_safety.proofs.Journal.{run_arrives}
-use Rattle.code_safety.proofs.NoEntries.{IsFree, nothing_comes, stays_free}
 use Rattle.code_safety.proofs.Plain.{Onward}
 use Rattle.code_safety.proofs.Own.{thread_of}
 use Rattle.code_safety.proofs.Moving.{moves_on}
@@ -89,7 +87,6 @@ stays_sound before after sound stays same settles =
       fit = λ e. subst (λ code. IsFit code (flat_of after)) (sym same.code) (subst (IsFit before.code.now) (sym stays.flat) (sound.fit (was e)));
       chained = λ e. subst (λ code. AreChained code (flat_of after)) (sym same.code) (subst (AreChained before.code.now) (sym stays.flat) (sound.chained (was e)));
       tracks = λ e. subst (λ past. Tracks past after.outstanding.operations) (sym journal) (subst (Tracks before.journal.entries) (sym operations) (sound.tracks (was e)));
-      free = λ e alone. operations ∙ sound.free (was e) (subst IsAlone same.code alone);
       settled = λ some. settles (sound.settled (subst (λ (o : Option Item). IsSome o) runs some));
       valid = subst IsValid (sym same.code) sound.valid;
       meant = subst IsMeant (sym same.code) sound.meant;
@@ -131,17 +128,11 @@ module _ (before after : Running) (still : before.ended ≡ None) (sound : IsSou
       subst (λ past. Tracks past after.outstanding.operations) (sym keeps.journal)
       (tracks_started before.journal.entries before.outstanding.operations after.outstanding.operations (sound.tracks still) starts)
 
-  still_free : after.ended ≡ None → IsAlone after.code.now → after.outstanding.operations ≡ []
-  still_free e alone =
-      let its : IsAlone before.code.now = subst IsAlone keeps.code alone in
-      subst (Onward IsFree) (leads_on e) (stays_free before.code.now before.bound its (flat_of before) (sound.free still its))
-
   pub still_sound : (ranks : List ℕ) → IsRanked before.code.now ranks → IsSound after
   still_sound ranks r = record {
     fit = λ e. subst (λ code. IsFit code (flat_of after)) (sym keeps.code) (better ranks r e).0;
     chained = λ e. subst (λ code. AreChained code (flat_of after)) (sym keeps.code) (still_chained e);
     tracks = still_tracks;
-    free = still_free;
     settled = λ some. keeps.pending ∙ none;
     valid = subst IsValid (sym keeps.code) sound.valid;
     meant = subst IsMeant (sym keeps.code) sound.meant;
@@ -215,9 +206,6 @@ module _ (before after : Running) (event : Event) (stamp : ℕ) (still : before.
       let tracks = tracks_entered before.journal.entries before.outstanding.operations (sound.tracks still) entry before.frames h.arrival event refl h.fits in
       subst (λ past. Tracks past after.outstanding.operations) (sym entered_journal) (subst (Tracks (before.journal.entries ++ entry ∷ [])) (sym entered_operations) tracks)
 
-  none_started : IsAlone code → ⊥
-  none_started alone = nothing_comes before.frames before.outstanding.operations h.arrival (sound.free still alone) came
-
   pub entered_sound : IsSound after
   entered_sound =
       let r = sound.ran in
@@ -227,7 +215,6 @@ module _ (before after : Running) (event : Event) (stamp : ℕ) (still : before.
         fit = λ e. subst (λ c. IsFit c (flat_of after)) (sym h.same.code) entered_fit;
         chained = λ e. subst (λ c. AreChained c (flat_of after)) (sym h.same.code) entered_chained;
         tracks = λ e. entered_tracks;
-        free = λ e alone. absurd (none_started (subst IsAlone h.same.code alone));
         settled = λ some. let no : false ≡ true = subst (λ (o : Option Item). IsSome o) entered_idle some in absurd (cc);
         valid = subst IsValid (sym h.same.code) sound.valid;
         meant = subst IsMeant (sym h.same.code) sound.meant;
@@ -267,18 +254,6 @@ goes_on a b c k still g e =
     let same : state_of c ≡ exec a.code.now a.bound (flat_of b) = e ∙ ap (λ code. exec code b.bound (flat_of b)) k.code ∙ ap (λ n. exec a.code.now n (flat_of b)) k.bound in
     subst (GoesOn (exec a.code.now a.bound) (state_of a)) (sym same)
     (GoesOn-more (exec a.code.now a.bound) (state_of a) (flat_of b) (subst (GoesOn (exec a.code.now a.bound) (state_of a)) (running (flat_of b) b.ended still) g))
-
--- some turns after others
-then_moves : {S E : Type 0} (f : S → Move S E) (a b c : Move S E) → GoesOn f a b → (k : ℕ) → c ≡ and_then b (moves f k) → GoesOn f a c
-then_moves f a (Over e) c g k h = subst (GoesOn f a) (sym h) g
-then_moves f a (On s) c g zero h = subst (GoesOn f a) (sym h) g
-then_moves f a (On s) c g (suc k) h = then_moves f a (f s) c (GoesOn-more f a s g) k h
-
-pub goes_then : (a b c : Running) → IsSameCode a b → GoesOn (exec a.code.now a.bound) (state_of a) (state_of b) → GoesOn (exec b.code.now b.bound) (state_of b) (state_of c)
-    → GoesOn (exec a.code.now a.bound) (state_of a) (state_of c)
-goes_then a b c k g h =
-    let same : GoesOn (exec a.code.now a.bound) (state_of b) (state_of c) = rw (sym k.code, sym k.bound) h in
-    then_moves (exec a.code.now a.bound) (state_of a) (state_of b) (state_of c) g same.0 same.1
 
 -- none
 pub stays_there : (a b : Running) → state_of b ≡ state_of a → GoesOn (exec a.code.now a.bound) (state_of a) (state_of b)

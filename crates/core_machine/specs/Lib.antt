@@ -2,5 +2,6 @@ pub mod Words
 pub mod Blocks
 pub mod Tracks
 pub mod Machine
+pub mod Points
 pub mod State
 pub mod inner

@@ -12,12 +12,10 @@ use Rattle.core_state.specs.Moves.{Move, On, Over, GoesOn}
 use Rattle.core_state.specs.Shared.{core_end}
 use Rattle.core_machine.specs.declared.ending.Ending.{Ending}
 use Rattle.core_machine.specs.declared.ending.Ending.TheVariants as ending
-use Rattle.core_machine.specs.declared.pause.Pause.{Pause}
-use Rattle.core_machine.specs.declared.pause.Pause.TheVariants.{Finished, Trapped, OutOfSteps, Idle}
 use Rattle.core_machine.specs.Words.{word_of}
 use Rattle.stack_code.specs.declared.parts.Entered.{Entered}
 use Rattle.stack_code.specs.Parts.{Parts, Begins}
-use Rattle.code_meaning.specs.Machine.{Flat, FlatEnd, exec, first_flat}
+use Rattle.code_meaning.specs.Machine.{Flat, FlatEnd, exec, first_flat, Runs}
 
 pub record Machine : Type 0 where
   pub code : Parts
@@ -25,6 +23,8 @@ pub record Machine : Type 0 where
   pub bound : ℕ
   pub journal : List Entry
   pub state : Move Flat FlatEnd
+  -- there is room for an entry, and for the thread that it may wake
+  pub room : Bool
 
 -- the core's thread is ready to enter its function; or there was no room for its frame
 pub record IsFirst (m : Machine) : Type 0 where
@@ -64,11 +64,24 @@ abbrev pub has_ended : Move Flat FlatEnd → Bool
 has_ended (On m) = false
 has_ended (Over x) = true
 
+-- it has ended, or is idle
+abbrev pub has_stopped : Move Flat FlatEnd → Bool
+has_stopped (On m) = is_resting m
+has_stopped (Over x) = true
+
 -- what is seen of a machine: its end, or its present state as that of a core that is stalled
 abbrev pub IsSeen : Move Flat FlatEnd → MachineEnd → Type 0
 IsSeen (Over x) end = (x.core ≡ Some end.core) × (x.count ≡ end.instructions)
 IsSeen (On m) end =
     (core_end Stalled (is_resting m) m.store.globals m.operations m.shared ≡ end.core) × (m.count ≡ end.instructions)
+
+-- under the journal of the machine its code comes to this end; and where the machine has stopped, this is what is seen of it. One that has
+-- ended is not idle
+pub record ComesToEnd (m : Machine) : Type 0 where
+  pub end : MachineEnd
+  pub comes : Runs m.code m.core m.bound m.journal (record { core = Some end.core; count = end.instructions })
+  pub seen : has_stopped m.state ≡ true → IsSeen m.state end
+  pub busy : has_ended m.state ≡ true → end.core.idle ≡ false
 
 abbrev pub waiting_at_end : Option CoreEnd → List Waiting
 waiting_at_end None = []
@@ -83,15 +96,9 @@ waiting_of (Over x) = waiting_at_end x.core
 abbrev pub waits : Move Flat FlatEnd → ℕ → Bool
 waits state link = list_any (waits_on link) (waiting_of state)
 
--- ---- why it has come back
+-- ---- how it has ended
 
 -- the machine is over, by this end
 abbrev pub HasEnded : Move Flat FlatEnd → Ending → Type 0
 HasEnded (On m) ending = ⊥
 HasEnded (Over x) ending = IfSome x.core (λ end. end.word ≡ word_of ending)
-
-abbrev pub IsPaused : Move Flat FlatEnd → Pause → Type 0
-IsPaused state Finished = HasEnded state ending.Finished
-IsPaused state (Trapped trap) = HasEnded state (ending.Trapped trap)
-IsPaused state OutOfSteps = HasEnded state ending.OutOfSteps
-IsPaused state Idle = is_idle state ≡ true

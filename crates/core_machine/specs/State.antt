@@ -1,5 +1,5 @@
 -- The state that the fields of a running core stand for.
-use Rattle.std.specs.Prelude.{◌≡◌, [], Option, Some, None, false, IsSome}
+use Rattle.std.specs.Prelude.{◌≡◌, [], Option, Some, None, Bool, false, not, nat_lt, ◌&&◌, IsSome}
 use Rattle.core_machine.specs.declared.ending.Ending.{Ending}
 use Rattle.core_machine.specs.Words.{word_of}
 use Rattle.core_state.specs.Moves.{Move, On, Over}
@@ -7,7 +7,6 @@ use Rattle.core_state.specs.Shared.{Shared}
 use Rattle.code_meaning.specs.Machine.{Thread, Flat, FlatEnd, seen_of}
 use Rattle.stack_code.specs.Valid.{IsValid}
 use Rattle.code_meaning.specs.Meant.{IsMeant}
-use Rattle.code_meaning.specs.Alone.{IsAlone}
 use Rattle.code_safety.specs.Fit.{IsFit}
 use Rattle.code_safety.specs.Chains.{AreChained}
 use Rattle.core_machine.specs.declared.running.Running.{Running}
@@ -43,16 +42,20 @@ end_or m (Some ending) = Over (record { core = seen_of (word_of ending) false m;
 abbrev pub state_of : Running → Move Flat FlatEnd
 state_of m = end_or (flat_of m) m.ended
 
+-- an entry takes no memory, and neither does the value of the thread that it may wake
+abbrev pub has_room : Running → Bool
+has_room m = nat_lt 0 m.journal.spare && (nat_lt 0 m.schedule.spare && not m.threads.pending)
+
 abbrev pub machine_of : Running → Machine
-machine_of m = record { code = m.code.now; core = m.core; bound = m.bound; journal = m.journal.entries; state = state_of m }
+machine_of m =
+    record { code = m.code.now; core = m.core; bound = m.bound; journal = m.journal.entries; state = state_of m; room = has_room m }
 
 -- a core that has not ended stands where its code can stand, no reference dangles there, and each offer that has not ended is that of an
--- operation; one of code that is alone has no operations; and the thread that runs needs nothing that was given to another
+-- operation; and the thread that runs needs nothing that was given to another
 pub record IsSound (m : Running) : Type 0 where
   pub fit : m.ended ≡ None → IsFit m.code.now (flat_of m)
   pub chained : m.ended ≡ None → AreChained m.code.now (flat_of m)
   pub tracks : m.ended ≡ None → Tracks m.journal.entries m.outstanding.operations
-  pub free : m.ended ≡ None → IsAlone m.code.now → m.outstanding.operations ≡ []
   pub settled : IsSome m.schedule.running → m.threads.pending ≡ false
   pub valid : IsValid m.code.now
   pub meant : IsMeant m.code.now

@@ -4,8 +4,6 @@ use Rattle.ac_base.specs.declared.ends.EndWord.{EndWord}
 use Rattle.ac_base.specs.declared.ends.EndWord.TheVariants as word
 use Rattle.core_machine.specs.declared.ending.Ending.{Ending}
 use Rattle.core_machine.specs.declared.ending.Ending.TheVariants.{Finished, Trapped, OutOfSteps}
-use Rattle.core_machine.specs.declared.pause.Pause.{Pause}
-use Rattle.core_machine.specs.declared.pause.Pause.TheVariants as pause
 
 abbrev pub word_of : Ending → EndWord
 word_of Finished = word.Finished
@@ -16,9 +14,3 @@ word_of OutOfSteps = word.OutOfSteps
 abbrev pub word_now : Option Ending → EndWord
 word_now None = word.Stalled
 word_now (Some ending) = word_of ending
-
--- why it comes back
-abbrev pub pause_of : Ending → Pause
-pause_of Finished = pause.Finished
-pause_of (Trapped trap) = pause.Trapped trap
-pause_of OutOfSteps = pause.OutOfSteps

@@ -1,12 +1,12 @@
 //! What comes in at a dispatch point.
 
 use crate::running::Running;
-use ac_base::{Entry, Event, Message, Payload};
+use ac_base::{Entry, Event, Message, NoMemory, Payload};
 use cancel_scope::Asked;
 use work_item::{Cell, Item};
 
 impl Running<'_> {
-    ghost use Rattle.std.specs.Prelude.{◌≡◌, ◌<◌, Some, None, [], ◌∷◌, ◌++◌, false, find, length, IsSome, IfSome};
+    ghost use Rattle.std.specs.Prelude.{◌≡◌, ◌<◌, Some, None, [], ◌∷◌, ◌++◌, false, find, length, IsSome, IfSome, OnOk};
     ghost use Rattle.ac_base.specs.declared.entry.Event.{Event};
     ghost use Rattle.ac_base.specs.declared.entry.Payload.{Payload};
     ghost use Rattle.work_item.specs.Store.{int_at};
@@ -17,7 +17,22 @@ impl Running<'_> {
     ghost use Rattle.core_state.specs.Arrivals.{offers_on, ok};
     ghost use Rattle.code_meaning.specs.Machine.{resumed};
     ghost use Rattle.core_machine.specs.State.{flat_of, IsSound};
-    ghost use Rattle.core_machine.specs.inner.Changes.{entry_now, IsSameCode, Enters};
+    ghost use Rattle.core_machine.specs.inner.Changes.{entry_now, IsSameCode, Stays, Enters};
+
+    /// Makes room for an entry, and for the thread that it may wake.
+    pub fn make_room(&mut self) -> Result<(), NoMemory>
+        ensures stays { Stays self.old self.new }
+        ensures same { IsSameCode self.old self.new }
+        ensures pending { self.old.threads.pending ≡ false → self.new.threads.pending ≡ false }
+        ensures journal { OnOk result (0 < self.new.journal.spare) }
+        ensures ready { OnOk result (0 < self.new.schedule.spare) }
+        ensures settled { OnOk result (self.new.threads.pending ≡ false) }
+    {
+        self.threads.settle()?;
+        self.journal.reserve(1)?;
+        self.schedule.reserve(1)?;
+        Ok(())
+    }
 
     // An entry of this turn goes into the journal.
     fn note(&mut self, event: Event, stamp: u64)
@@ -103,5 +118,16 @@ impl Running<'_> {
             stamp,
         );
         self.resume(operation.item);
+    }
+
+    /// A withdrawn offer was passed over on a link from which an operation waits for a message; it
+    /// goes on waiting.
+    pub fn passed(&mut self, link: u32, number: u64, stamp: u64)
+        requires room { 0 < self.old.journal.spare }
+        requires some { IsSome (find (is_to_receive link) self.old.outstanding.operations) }
+        ensures enters { Enters self.old (Event.Pass link number) stamp self.new }
+        ensures pending { self.new.threads.pending ≡ self.old.threads.pending }
+    {
+        self.note(Event::Pass { link, number }, stamp);
     }
 }

@@ -9,9 +9,8 @@ mod ending;
 mod machine;
 mod operate;
 mod operations;
-mod pause;
 mod running;
 mod threads;
 
+pub use ending::Ending;
 pub use machine::CoreMachine;
-pub use pause::Pause;

@@ -2,11 +2,10 @@
 
 use crate::beginning::{make_first, set_starts};
 use crate::counter::Counter;
-use crate::ending::word_now;
-use crate::pause::Pause;
+use crate::ending::{Ending, word_now};
 use crate::running::Running;
-use ac_base::{CoreEnd, Journal, List, MachineEnd, NoMemory};
-use cancel_scope::Outstanding;
+use ac_base::{CoreEnd, Journal, List, MachineEnd, Message, NoMemory};
+use cancel_scope::{Asked, Outstanding};
 use core_scheduler::Scheduler;
 use finish_block::Blocks;
 use stack_code::Code;
@@ -40,10 +39,8 @@ impl<'a> CoreMachine<'a> {
     ghost use Rattle.std.specs.Prelude.{◌≡◌, ◌≢◌, ◌<◌, [], length, IfOk};
     ghost use Rattle.core_state.specs.Moves.{On, GoesOn};
     ghost use Rattle.code_meaning.specs.Machine.{exec};
-    ghost use Rattle.code_meaning.specs.Alone.{IsAlone};
     ghost use Rattle.code_meaning.specs.Meant.{IsMeant};
-    ghost use Rattle.core_machine.specs.declared.pause.Pause.{Pause};
-    ghost use Rattle.core_machine.specs.Machine.{IsFirst, IsOnItsWay, IsSameCore, IsSeen, IsPaused, is_idle, has_ended, waits};
+    ghost use Rattle.core_machine.specs.Machine.{IsFirst, IsOnItsWay, IsSameCore, IsSeen, is_idle, has_ended, waits};
 
     /// A core of the code before its first instruction, with a bound on its steps. Where there is
     /// no room for its frame it has ended.
@@ -101,18 +98,6 @@ impl<'a> CoreMachine<'a> {
         })
     }
 
-    /// Runs the core until it has ended, or no thread runs and none is ready. After want of memory it
-    /// can be called again, and goes on where it stopped.
-    pub fn advance(&mut self) -> Result<Pause, NoMemory>
-        ensures goes { GoesOn (exec self.old.code self.old.bound) self.old.state self.new.state }
-        ensures pause { IfOk result (λ pause. IsPaused self.new.state pause) }
-        ensures alone { IsAlone self.old.code → IfOk result (λ pause. pause ≢ Pause.Idle) }
-        ensures same { IsSameCore self.old self.new }
-        ensures run { IsOnItsWay self.new }
-    {
-        self.running.run()
-    }
-
     /// Whether the core has not ended, no thread runs and none is ready.
     pub fn idle(&self) -> bool
         ensures { result ≡ is_idle self.now.state }
@@ -168,5 +153,169 @@ impl<'a> CoreMachine<'a> {
             },
             instructions: running.count.value(),
         })
+    }
+}
+
+// ---- its dispatch points, where entries come in
+
+impl<'a> CoreMachine<'a> {
+    ghost use Rattle.std.specs.Prelude.{◌≡◌, ℕ, ◌<◌, ◌≤◌, List, Some, true, false, IsSome, MatchOption, OnOk, find};
+    ghost use Rattle.ac_base.specs.declared.entry.Event.{Event};
+    ghost use Rattle.ac_base.specs.declared.entry.Payload.{Payload};
+    ghost use Rattle.cancel_scope.specs.Outstanding.{is_offered};
+    ghost use Rattle.core_state.specs.Moves.{GoesOn};
+    ghost use Rattle.core_state.specs.Arrivals.{offers_on};
+    ghost use Rattle.stack_code.specs.Kept.{IsRanked};
+    ghost use Rattle.code_meaning.specs.Machine.{exec};
+    ghost use Rattle.core_machine.specs.Machine.{ComesToEnd, IsOnItsWay, IsSameCore, HasEnded, has_ended, is_idle};
+    ghost use Rattle.core_machine.specs.Points.{is_at_point, operations_of, to_send, receives_from, work_left};
+    ghost use Rattle.core_machine.specs.Points.{KeepsOperations, HasTracks, HasCome};
+
+    /// The code that it runs.
+    pub fn code(&self) -> &'a Code
+        ensures { result.now ≡ self.now.code }
+    {
+        self.running.code
+    }
+
+    /// Which core of the code it is.
+    pub fn core(&self) -> u32
+        ensures { result ≡ self.now.core }
+    {
+        self.running.core
+    }
+
+    /// How it has ended, if it has. Under its journal its code comes to an end, which is what is seen
+    /// of it where it has ended or is idle; and where the code keeps its ends, so do its operations.
+    pub fn ending(&self) -> Option<Ending>
+        ensures ended { MatchOption result (has_ended self.now.state ≡ false) (λ ending. HasEnded self.now.state ending) }
+        ensures run { IsOnItsWay self.now }
+        ensures comes { ComesToEnd self.now }
+        ensures ends { KeepsOperations self.now }
+    {
+        // The ranks are there for the proof alone that the code comes to an end.
+        let _ranks = self.running.code.ranks();
+        self.running.ended
+    }
+
+    /// Whether it has not ended and no thread runs.
+    pub fn is_at_point(&self) -> bool
+        ensures { result ≡ is_at_point self.now.state }
+    {
+        self.running.is_at_point()
+    }
+
+    /// What the oldest operation that is to be offered on a link sends.
+    ///
+    /// Condition: the core has not ended.
+    pub fn to_send(&self, link: u32) -> Option<Message>
+        requires { has_ended self.now.state ≡ false }
+        ensures { result ≡ to_send (operations_of self.now.state) link }
+    {
+        match self.running.outstanding.to_offer(link)?.asked {
+            Asked::Send(value) => Some(value),
+            Asked::Recv(_) => None,
+        }
+    }
+
+    /// Whether an operation waits for a message from a link.
+    ///
+    /// Condition: the core has not ended.
+    pub fn receives_from(&self, link: u32) -> bool
+        requires { has_ended self.now.state ≡ false }
+        ensures { result ≡ receives_from (operations_of self.now.state) link }
+    {
+        self.running.outstanding.wants(link)
+    }
+
+    /// Makes room for an entry, and for the thread that it may wake. After want of memory all is as
+    /// before.
+    pub fn make_room(&mut self) -> Result<(), NoMemory>
+        ensures same { IsSameCore self.old self.new }
+        ensures state { self.new.state ≡ self.old.state }
+        ensures room { OnOk result (self.new.room ≡ true) }
+        ensures tracks { HasTracks self.new }
+        ensures run { IsOnItsWay self.new }
+    {
+        self.running.make_room()
+    }
+
+    /// The oldest operation that is to be offered on a link, which sends that value, was offered
+    /// under that number.
+    ///
+    /// Conditions: there is room for an entry, no thread runs, there is such an operation, and as
+    /// many offers were made on the link before.
+    pub fn offered(&mut self, link: u32, number: u64, value: Message, stamp: u64)
+        requires room { self.old.room ≡ true }
+        requires point { is_at_point self.old.state ≡ true }
+        requires next { number ≡ offers_on link self.old.journal }
+        requires oldest { to_send (operations_of self.old.state) link ≡ Some value }
+        ensures come { HasCome self.old (Event.Offer link number (Payload.Int value)) stamp self.new }
+        ensures less { (ranks : List ℕ) → work_left ranks self.new ≤ work_left ranks self.old }
+        ensures run { IsOnItsWay self.new }
+    {
+        self.running.offered(link, number, value, stamp);
+    }
+
+    /// The offer under that number was taken, and its operation has ended.
+    ///
+    /// Conditions: there is room for an entry, no thread runs, and an operation stands under that
+    /// number.
+    pub fn know(&mut self, link: u32, number: u64, stamp: u64)
+        requires room { self.old.room ≡ true }
+        requires point { is_at_point self.old.state ≡ true }
+        requires some { IsSome (find (is_offered link number) (operations_of self.old.state)) }
+        ensures come { HasCome self.old (Event.Know link number) stamp self.new }
+        ensures less { (ranks : List ℕ) → work_left ranks self.new ≤ work_left ranks self.old }
+        ensures run { IsOnItsWay self.new }
+    {
+        self.running.know(link, number, stamp);
+    }
+
+    /// A message has come over a link, for the oldest operation that waits for one, which has ended.
+    ///
+    /// Conditions: there is room for an entry, no thread runs, and an operation waits for a message
+    /// from the link.
+    pub fn got(&mut self, link: u32, number: u64, value: Message, stamp: u64)
+        requires room { self.old.room ≡ true }
+        requires point { is_at_point self.old.state ≡ true }
+        requires some { receives_from (operations_of self.old.state) link ≡ true }
+        ensures come { HasCome self.old (Event.Got link number value) stamp self.new }
+        ensures less { (ranks : List ℕ) → work_left ranks self.new ≤ work_left ranks self.old }
+        ensures run { IsOnItsWay self.new }
+    {
+        self.running.got(link, number, value, stamp);
+    }
+
+    /// A withdrawn offer was passed over on a link, from which an operation waits for a message; it
+    /// goes on waiting.
+    ///
+    /// Conditions: there is room for an entry, no thread runs, and an operation waits for a message
+    /// from the link.
+    pub fn passed(&mut self, link: u32, number: u64, stamp: u64)
+        requires room { self.old.room ≡ true }
+        requires point { is_at_point self.old.state ≡ true }
+        requires some { receives_from (operations_of self.old.state) link ≡ true }
+        ensures come { HasCome self.old (Event.Pass link number) stamp self.new }
+        ensures less { (ranks : List ℕ) → work_left ranks self.new ≤ work_left ranks self.old }
+        ensures run { IsOnItsWay self.new }
+    {
+        self.running.passed(link, number, stamp);
+    }
+
+    /// The running thread goes on as long as it is the same thread; where none runs, the front of
+    /// the ready list does. The ranks are there for the proof alone that the core comes to its end.
+    ///
+    /// Conditions: the core has not ended, and is not idle.
+    pub fn turn(&mut self, _ranks: &[u64]) -> Result<(), NoMemory>
+        requires going { has_ended self.old.state ≡ false }
+        requires busy { is_idle self.old.state ≡ false }
+        requires ranked { IsRanked self.old.code _ranks.now }
+        ensures goes { GoesOn (exec self.old.code self.old.bound) self.old.state self.new.state }
+        ensures same { IsSameCore self.old self.new }
+        ensures run { IsOnItsWay self.new }
+        ensures less { OnOk result (work_left _ranks.now self.new < work_left _ranks.now self.old) }
+    {
+        self.running.turn(_ranks)
     }
 }

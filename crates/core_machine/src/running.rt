@@ -5,7 +5,6 @@ ghost use Rattle.std.specs.Prelude.{◌≡◌};
 use crate::counter::Counter;
 use crate::ending::Ending;
 use crate::operate::{binary, unary};
-use crate::pause::{Pause, at_end};
 use ac_base::{Journal, NoMemory, Trap};
 use cancel_scope::Outstanding;
 use core_scheduler::Scheduler;
@@ -491,11 +490,10 @@ impl Running<'_> {
     ghost use Rattle.core_state.specs.Moves.{GoesOn};
     ghost use Rattle.stack_code.specs.Kept.{IsRanked};
     ghost use Rattle.code_meaning.specs.Machine.{exec};
-    ghost use Rattle.code_meaning.specs.Alone.{IsAlone};
-    ghost use Rattle.core_machine.specs.declared.pause.Pause.{Pause};
-    ghost use Rattle.core_machine.specs.Machine.{is_resting, is_idle, has_ended, IsPaused};
+    ghost use Rattle.core_machine.specs.Machine.{is_resting, is_idle, has_ended};
+    ghost use Rattle.core_machine.specs.Points.{is_at_point};
     ghost use Rattle.core_machine.specs.State.{flat_of, state_of, IsSound};
-    ghost use Rattle.core_machine.specs.inner.Left.{left_of, may_go};
+    ghost use Rattle.core_machine.specs.inner.Left.{left_of};
     ghost use Rattle.core_machine.specs.inner.Needs.{Finds, is_on_threads};
     ghost use Rattle.core_machine.specs.inner.Changes.{IsSameCode, Keeps, Does, Stays, Continues};
 
@@ -680,8 +678,8 @@ impl Running<'_> {
         Ok(())
     }
 
-    // A stretch of a core that has not ended, or the next dispatch.
-    fn turn(&mut self, _ranks: &[u64]) -> Result<(), NoMemory>
+    /// A stretch of a core that has not ended, or the next dispatch.
+    pub fn turn(&mut self, _ranks: &[u64]) -> Result<(), NoMemory>
         requires running { self.old.ended ≡ None }
         requires active { is_resting (flat_of self.old) ≡ false }
         requires sound { IsSound self.old }
@@ -706,22 +704,22 @@ impl Running<'_> {
         self.schedule.running().is_none() && self.schedule.front().is_none()
     }
 
-    /// Whether it has not ended, and a thread runs or is ready.
-    pub fn may_go(&self) -> bool
-        ensures { result ≡ may_go self.now }
-    {
-        match self.ended {
-            None => !self.is_resting(),
-            Some(_) => false,
-        }
-    }
-
     /// Whether it has not ended, no thread runs and none is ready.
     pub fn is_idle(&self) -> bool
         ensures { result ≡ is_idle (state_of self.now) }
     {
         match self.ended {
             None => self.is_resting(),
+            Some(_) => false,
+        }
+    }
+
+    /// Whether it has not ended and no thread runs.
+    pub fn is_at_point(&self) -> bool
+        ensures { result ≡ is_at_point (state_of self.now) }
+    {
+        match self.ended {
+            None => self.schedule.running().is_none(),
             Some(_) => false,
         }
     }
@@ -734,47 +732,5 @@ impl Running<'_> {
             None => false,
             Some(_) => true,
         }
-    }
-
-    // The ranks are there for the proof alone that the core comes to its end, or to rest.
-    fn run_by(&mut self, _ranks: &[u64]) -> Result<(), NoMemory>
-        requires sound { IsSound self.old }
-        requires ranked { IsRanked self.old.code.now _ranks.now }
-        ensures goes { GoesOn (exec self.old.code.now self.old.bound) (state_of self.old) (state_of self.new) }
-        ensures rests { OnOk result (may_go self.new ≡ false) }
-        ensures same { IsSameCode self.old self.new }
-        ensures journal { self.new.journal.entries ≡ self.old.journal.entries }
-        ensures sound { IsSound self.new }
-    {
-        'turns: while self.may_go() {
-            self.turn(_ranks)?;
-        }
-        Ok(())
-    }
-
-    // Why it has come back.
-    fn pause(&self) -> Pause
-        requires { may_go self.now ≡ false }
-        ensures { IsPaused (state_of self.now) result }
-    {
-        match self.ended {
-            Some(ending) => at_end(ending),
-            None => Pause::Idle,
-        }
-    }
-
-    /// Runs the core until it has ended or comes to rest.
-    pub fn run(&mut self) -> Result<Pause, NoMemory>
-        requires { IsSound self.old }
-        ensures goes { GoesOn (exec self.old.code.now self.old.bound) (state_of self.old) (state_of self.new) }
-        ensures pause { IfOk result (λ pause. IsPaused (state_of self.new) pause) }
-        ensures alone { IsAlone self.old.code.now → IfOk result (λ pause. pause ≢ Pause.Idle) }
-        ensures same { IsSameCode self.old self.new }
-        ensures journal { self.new.journal.entries ≡ self.old.journal.entries }
-        ensures sound { IsSound self.new }
-    {
-        let ranks = self.code.ranks();
-        self.run_by(ranks)?;
-        Ok(self.pause())
     }
 }

@@ -14,7 +14,7 @@ use Rattle.core_channels.specs.Learns.{stamped_learning, learning_of, learning}
 use Rattle.core_channels.specs.Withdraws.{own_withdrawal, late_withdrawal, withdrawing_of, withdrawing}
 use Rattle.core_channels.specs.Takes.{passed_at, took_at, receiving_one, receiving_of}
 use Rattle.core_ports.specs.Answers.{IsOfferAnswer, IsWithdrawalAnswer, IsPollAnswer}
-use Rattle.core_runner.specs.declared.side.Side.TheVariants.{Owner, Peer}
+use Rattle.core_driver.specs.declared.side.Side.TheVariants.{Owner, Peer}
 use Rattle.core_runner.specs.Hands.{hand_at, greatest, last_stamp_of, heard_at}
 use Rattle.core_runner.specs.Polls.{learned, received, taking}
 

@@ -9,8 +9,8 @@ use Rattle.ac_links.specs.Party.{with_end}
 use Rattle.core_channels.specs.Counts.{counted}
 use Rattle.core_channels.specs.LinkViews.{LinkViews, no_link, link_at, with_link}
 use Rattle.core_ports.specs.Counts.{with_one_more}
-use Rattle.core_runner.specs.declared.side.Side.{Side}
-use Rattle.core_runner.specs.Sides.{end_at, end_of}
+use Rattle.core_driver.specs.declared.side.Side.{Side}
+use Rattle.core_runner.specs.Ends.{end_at, end_of}
 use Rattle.core_runner.specs.Lent.{SideStays, OthersStay, side_stays_self}
 
 get_other : {X : Type 0} (xs : List X) (l k : ℕ) (x : X) → l ≢ k → slice_get (slice_set xs l x) k ≡ slice_get xs k

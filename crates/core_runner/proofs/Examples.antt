@@ -13,9 +13,9 @@ use Rattle.core_channels.specs.declared.answers.Receiving.TheVariants as take
 use Rattle.core_channels.specs.Counts.{no_calls}
 use Rattle.core_channels.specs.LinkViews.{LinkViews, link_at}
 use Rattle.core_channels.specs.Takes.{taken_decision}
-use Rattle.core_runner.specs.declared.side.Side.TheVariants.{Owner, Peer, Neither}
+use Rattle.core_driver.specs.declared.side.Side.TheVariants.{Owner, Peer, Neither}
 use Rattle.core_runner.specs.declared.list_ports.ListPorts.{ListPorts}
-use Rattle.core_runner.specs.Sides.{channel_side, request_side, side_at, side_of, receiving_end, end_at, end_of}
+use Rattle.core_runner.specs.Ends.{receiving_end, end_at, end_of}
 use Rattle.core_runner.specs.Hands.{has_decision, has_front, has_slot, hand_at, greatest, last_stamp_of, heard_at, polls_at}
 use Rattle.core_runner.specs.Lent.{links_of, channels_of, core_of, is_full, side_in, terms_of, ends_of, hands_of, heard_of, polls_of, tries_of, HasLoan}
 use Rattle.core_runner.specs.Lent.{SideStays, OthersStay, Stays, stays_self}
@@ -51,19 +51,7 @@ withdrawn = record offered { offers = withdrawn_at 2 five ∷ [] }
 not_its_follower : (n : ℕ) → suc n ≡ n → ⊥
 not_its_follower n h = omega arith
 
--- ---- sides and ends
-
-pub of_the_channel : channel_side 0 from_first_to_second ∷ channel_side 1 from_first_to_second ∷ channel_side 2 from_first_to_second ∷ [] ≡ Owner ∷ Peer ∷ Neither ∷ []
-of_the_channel = refl
-
-pub of_the_requests : request_side 1 2 3 ∷ request_side 1 2 2 ∷ [] ≡ Owner ∷ Neither ∷ []
-of_the_requests = refl
-
-pub of_one_link : side_at 1 0 0 (Some from_first_to_second) ∷ side_at 1 0 1 None ∷ [] ≡ Owner ∷ Owner ∷ []
-of_one_link = refl
-
-pub of_the_second_core : side_of channels 1 0 ∷ side_of channels 1 1 ∷ side_of channels 1 2 ∷ side_of channels 1 3 ∷ side_of channels 1 4 ∷ [] ≡ Peer ∷ Neither ∷ Owner ∷ Neither ∷ Neither ∷ []
-of_the_second_core = refl
+-- ---- ends
 
 pub messages_are_received : receiving_end taken ∷ receiving_end asking ∷ [] ≡ Decides (taken_decision (pos 5) 4 1 ∷ []) ∷ Absent ∷ []
 messages_are_received = refl
@@ -169,10 +157,13 @@ no_other_loan other p apart h = apart (sym h)
 -- ---- what stays
 
 pub the_owner_leaves_decisions : SideStays taken known Owner
-the_owner_leaves_decisions = refl
+the_owner_leaves_decisions = (refl, refl)
 
 pub it_does_not_take : SideStays offered taken Owner → ⊥
-it_does_not_take s = cc
+it_does_not_take s = let e = s.0 in cc
+
+pub it_takes_a_place_for_each_offer : SideStays fresh (record offered { spare = fresh.spare }) Owner → ⊥
+it_takes_a_place_for_each_offer s = let e = s.1 in cc
 
 pub the_peer_leaves_offers : SideStays offered taken Peer
 the_peer_leaves_offers = (refl, refl)

@@ -1,11 +1,15 @@
 -- What each call on a link changes, and that what it tells is an entry that the core may make.
-use Rattle.std.proofs.Common.{◌≡◌, ℕ, Option, Bool, true, false, ℤ, refl, sym}
-use Rattle.std.specs.Prelude.{IfSome, IfNone, slice_get}
+use Rattle.std.proofs.Common.{◌≡◌, ℕ, zero, suc, ◌+◌, ◌-◌, ◌<◌, List, [], ◌∷◌, ◌++◌, Option, Some, None, Bool, true, false, ℤ, refl, sym, ap, subst, arith, length}
+use Rattle.std.specs.Prelude.{IfSome, IfNone, slice_get, nat_lt}
+use Rattle.std.proofs.lemmas.Bool.Decides.{nat_tests}
+use Rattle.std.proofs.lemmas.List.{length-append}
 use Rattle.ac_base.specs.declared.entry.Payload.{Payload}
+use Rattle.ac_base.specs.Stamps.{stamp_after}
 use Rattle.ac_links.specs.declared.payloads.Terms.{Terms}
 use Rattle.ac_links.specs.Payloads.{is_payload}
 use Rattle.ac_links.specs.Link.{link_of}
-use Rattle.ac_links.specs.Views.{may_withdraw}
+use Rattle.ac_links.specs.Views.{OwnerOffer, may_withdraw, altered, withdrawn_at, known_at, owner_offer}
+use Rattle.ac_links.specs.Noted.{decision_stamp}
 use Rattle.ac_links.specs.Party.{LinkEnd}
 use Rattle.ac_links.specs.Party.LinkEnd.{Owns, Decides}
 use Rattle.core_channels.specs.declared.answers.Offering.{Offering}
@@ -18,16 +22,16 @@ use Rattle.core_channels.specs.declared.answers.Receiving.{Receiving}
 use Rattle.core_channels.specs.declared.answers.Receiving.TheVariants as take
 use Rattle.core_channels.specs.declared.counts.Call.TheVariants.{OwnerLooks, OwnerTries, PeerLooks}
 use Rattle.core_channels.specs.LinkViews.{LinkViews, with_call}
-use Rattle.core_channels.specs.Offers.{offering, after_offering, offering_clock}
+use Rattle.core_channels.specs.Offers.{has_room, placed_offer, stamped_offer, offer_by_room, offering, after_offering, offering_clock}
 use Rattle.core_channels.specs.Learns.{learning, after_learning, learning_clock}
 use Rattle.core_channels.specs.Withdraws.{withdrawing, after_withdrawing, withdrawing_clock}
 use Rattle.core_channels.specs.Takes.{receiving, after_receiving}
 use Rattle.core_channels.specs.Laws.{Told, told_by_offering, told_by_learning, told_by_withdrawing, told_by_receiving, Enters}
 use Rattle.core_channels.proofs.Entering.{offer_enters, learning_enters, withdrawal_enters, take_enters}
 use Rattle.core_ports.specs.Tells.{told_by_arrival}
-use Rattle.core_runner.specs.declared.side.Side.{Side}
-use Rattle.core_runner.specs.declared.side.Side.TheVariants.{Owner, Peer}
-use Rattle.core_runner.specs.Sides.{end_at}
+use Rattle.core_driver.specs.declared.side.Side.{Side}
+use Rattle.core_driver.specs.declared.side.Side.TheVariants.{Owner, Peer}
+use Rattle.core_runner.specs.Ends.{end_at}
 use Rattle.core_runner.specs.Hands.{hand_at, heard_at}
 use Rattle.core_runner.specs.Lent.{SideStays}
 use Rattle.core_runner.specs.Polls.{learned, received, taking, after_taking, clock_after}
@@ -42,11 +46,37 @@ pub record Leaves (v w : LinkViews) (side : Side) (told : Option Told) : Type 0 
 
 -- ---- an offer
 
-pub offer_leaves : (v : LinkViews) (l : ℕ) (payload : Payload) (a : Offering Payload) → Leaves v (after_offering (with_call v OwnerTries) payload a) Owner (told_by_offering l payload a)
-offer_leaves v l payload (Offered number s) = record { terms = refl; stays = refl; heard = refl; hand = tt }
-offer_leaves v l payload (NoRoom back) = record { terms = refl; stays = refl; heard = refl; hand = refl }
-offer_leaves v l payload (NotYet back) = record { terms = refl; stays = refl; heard = refl; hand = refl }
-offer_leaves v l payload (ClockFull back) = record { terms = refl; stays = refl; heard = refl; hand = refl }
+-- where an offer is made, there was a place for it
+abbrev HasPlace : LinkViews → Offering Payload → Type 0
+HasPlace v (Offered number s) = 0 < v.spare
+HasPlace v (NoRoom back) = Unit {0}
+HasPlace v (NotYet back) = Unit {0}
+HasPlace v (ClockFull back) = Unit {0}
+
+placed_by : (v : LinkViews) (payload : Payload) (s : ℕ) (b : Bool) → nat_lt 0 v.spare ≡ b → HasPlace v (placed_offer v payload s b)
+placed_by v payload s true e = grind (arith, nat_tests)
+placed_by v payload s false e = tt
+
+stamped_by : (v : LinkViews) (payload : Payload) (o : Option ℕ) → HasPlace v (stamped_offer v payload o)
+stamped_by v payload None = tt
+stamped_by v payload (Some s) = placed_by v payload s (nat_lt 0 v.spare) refl
+
+by_room : (v : LinkViews) (payload : Payload) (last : ℕ) (b : Bool) → HasPlace v (offer_by_room v payload last b)
+by_room v payload last true = stamped_by v payload (stamp_after last 0)
+by_room v payload last false = tt
+
+one_place_less : (os : List OwnerOffer) (o : OwnerOffer) (spare : ℕ) → 0 < spare → length (os ++ o ∷ []) + (spare - 1) ≡ length os + spare
+one_place_less os o spare h = let n = length-append os (o ∷ []) in omega arith
+
+leaves_by : (v : LinkViews) (l : ℕ) (payload : Payload) (a : Offering Payload) → HasPlace v a → Leaves v (after_offering (with_call v OwnerTries) payload a) Owner (told_by_offering l payload a)
+leaves_by v l payload (Offered number s) h = record { terms = refl; stays = (refl, one_place_less v.offers (owner_offer payload s) v.spare h); heard = refl; hand = tt }
+leaves_by v l payload (NoRoom back) h = record { terms = refl; stays = (refl, refl); heard = refl; hand = refl }
+leaves_by v l payload (NotYet back) h = record { terms = refl; stays = (refl, refl); heard = refl; hand = refl }
+leaves_by v l payload (ClockFull back) h = record { terms = refl; stays = (refl, refl); heard = refl; hand = refl }
+
+pub offer_leaves : (v : LinkViews) (l last : ℕ) (payload : Payload) (a : Offering Payload) → a ≡ offering v payload last
+    → Leaves v (after_offering (with_call v OwnerTries) payload a) Owner (told_by_offering l payload a)
+offer_leaves v l last payload a e = leaves_by v l payload a (subst (HasPlace v) (sym e) (by_room v payload last (has_room v)))
 
 pub offer_counts : (v : LinkViews) (payload : Payload) (a : Offering Payload) → (after_offering v payload a).counts ≡ v.counts
 offer_counts v payload (Offered number s) = refl
@@ -62,10 +92,20 @@ offer_on l payload (ClockFull back) = tt
 
 -- ---- a withdrawal
 
+as_many : (os : List OwnerOffer) (n : ℕ) (f : OwnerOffer → OwnerOffer) → length (altered os n f) ≡ length os
+as_many [] n f = refl
+as_many (o ∷ os) zero f = refl
+as_many (o ∷ os) (suc n) f = ap suc (as_many os n f)
+
+as_many_places : (os : List OwnerOffer) (n : ℕ) (f : OwnerOffer → OwnerOffer) (spare : ℕ) → length (altered os n f) + spare ≡ length os + spare
+as_many_places os n f spare = ap (λ k. k + spare) (as_many os n f)
+
 pub withdrawal_leaves : (v : LinkViews) (l number : ℕ) (a : Withdrawing) → Leaves v (after_withdrawing v number a) Owner (told_by_withdrawing l number a)
-withdrawal_leaves v l number (withdraw.Withdrawn s) = record { terms = refl; stays = refl; heard = refl; hand = tt }
-withdrawal_leaves v l number (withdraw.Taken s) = record { terms = refl; stays = refl; heard = refl; hand = tt }
-withdrawal_leaves v l number withdraw.ClockFull = record { terms = refl; stays = refl; heard = refl; hand = refl }
+withdrawal_leaves v l number (withdraw.Withdrawn s) =
+    record { terms = refl; stays = (refl, as_many_places v.offers number (withdrawn_at s) v.spare); heard = refl; hand = tt }
+withdrawal_leaves v l number (withdraw.Taken s) =
+    record { terms = refl; stays = (refl, as_many_places v.offers number (known_at (decision_stamp (slice_get v.decisions number))) v.spare); heard = refl; hand = tt }
+withdrawal_leaves v l number withdraw.ClockFull = record { terms = refl; stays = (refl, refl); heard = refl; hand = refl }
 
 pub withdrawal_counts : (v : LinkViews) (number : ℕ) (a : Withdrawing) → (after_withdrawing v number a).counts ≡ v.counts
 withdrawal_counts v number (withdraw.Withdrawn s) = refl
@@ -80,11 +120,13 @@ withdrawal_on l number withdraw.ClockFull = tt
 -- ---- a look of the owner
 
 pub learning_leaves : (v : LinkViews) (l : ℕ) (a : Learning) → Leaves v (after_learning (with_call v OwnerLooks) a) Owner (told_by_arrival l (learned a))
-learning_leaves v l (learn.Know number s) = record { terms = refl; stays = refl; heard = refl; hand = tt }
-learning_leaves v l (learn.Room number s) = record { terms = refl; stays = refl; heard = refl; hand = tt }
-learning_leaves v l learn.Undecided = record { terms = refl; stays = refl; heard = refl; hand = refl }
-learning_leaves v l learn.AllKnown = record { terms = refl; stays = refl; heard = refl; hand = refl }
-learning_leaves v l learn.ClockFull = record { terms = refl; stays = refl; heard = refl; hand = refl }
+learning_leaves v l (learn.Know number s) =
+    record { terms = refl; stays = (refl, as_many_places v.offers number (known_at (decision_stamp (slice_get v.decisions number))) v.spare); heard = refl; hand = tt }
+learning_leaves v l (learn.Room number s) =
+    record { terms = refl; stays = (refl, as_many_places v.offers number (known_at (decision_stamp (slice_get v.decisions number))) v.spare); heard = refl; hand = tt }
+learning_leaves v l learn.Undecided = record { terms = refl; stays = (refl, refl); heard = refl; hand = refl }
+learning_leaves v l learn.AllKnown = record { terms = refl; stays = (refl, refl); heard = refl; hand = refl }
+learning_leaves v l learn.ClockFull = record { terms = refl; stays = (refl, refl); heard = refl; hand = refl }
 
 pub learning_counts : (v : LinkViews) (a : Learning) → (after_learning v a).counts ≡ v.counts
 learning_counts v (learn.Know number s) = refl

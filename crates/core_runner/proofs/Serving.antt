@@ -27,9 +27,9 @@ use Rattle.core_ports.specs.Tells.{told_by_arrival, Tells}
 use Rattle.core_ports.specs.Answers.{IsOfferAnswer, IsWithdrawalAnswer, IsPollAnswer}
 use Rattle.core_ports.specs.AtHand.{AtHand}
 use Rattle.core_ports.specs.Counts.{with_one_more}
-use Rattle.core_runner.specs.declared.side.Side.{Side}
-use Rattle.core_runner.specs.declared.side.Side.TheVariants.{Owner, Peer, Neither}
-use Rattle.core_runner.specs.Sides.{end_at, end_of}
+use Rattle.core_driver.specs.declared.side.Side.{Side}
+use Rattle.core_driver.specs.declared.side.Side.TheVariants.{Owner, Peer, Neither}
+use Rattle.core_runner.specs.Ends.{end_at, end_of}
 use Rattle.core_runner.specs.Hands.{hand_at, heard_at, polls_at}
 use Rattle.core_runner.specs.Lent.{OthersStay}
 use Rattle.core_runner.specs.Polls.{polling, after_polling, clock_after}
@@ -157,7 +157,7 @@ module _ (sides : ℕ → Side) (links after : List LinkViews) (last l now : ℕ
       → Serves sides links last (told_by_offering l payload a) after now
   offer_serves fits clock = subst (λ x. Serves sides links last (told_by_offering l payload a) x now) (sym changed)
       (serves sides links last l now offer_link offer_range (told_by_offering l payload a)
-      (subst (λ side. Leaves (link_at links l) offer_link side (told_by_offering l payload a)) (sym offer_side) (offer_leaves (link_at links l) l payload a)) (offer_on l payload a)
+      (subst (λ side. Leaves (link_at links l) offer_link side (told_by_offering l payload a)) (sym offer_side) (offer_leaves (link_at links l) l last payload a answer)) (offer_on l payload a)
       (subst (λ side. Enters (terms_in links) (ends_in sides links) (ending_with last) 0 l (link_at links l) (told_by_offering l payload a) (end_at offer_link side)) (sym offer_side)
       (subst (λ x. Enters (terms_in links) (ends_in sides links) (ending_with last) 0 l (link_at links l) (told_by_offering l payload x)
       (end_at (after_offering (with_call (link_at links l) OwnerTries) payload x) Owner)) (sym answer)

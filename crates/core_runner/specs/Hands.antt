@@ -4,8 +4,8 @@ use Rattle.ac_links.specs.Views.{OwnerOffer, PeerDecision, owner_lead}
 use Rattle.ac_links.specs.Noted.{or_zero}
 use Rattle.core_channels.specs.LinkViews.{LinkViews}
 use Rattle.core_ports.specs.AtHand.{AtHand}
-use Rattle.core_runner.specs.declared.side.Side.{Side}
-use Rattle.core_runner.specs.declared.side.Side.TheVariants.{Owner, Peer, Neither}
+use Rattle.core_driver.specs.declared.side.Side.{Side}
+use Rattle.core_driver.specs.declared.side.Side.TheVariants.{Owner, Peer, Neither}
 
 -- there is an offer that is not known, and the first such is decided
 abbrev pub has_decision : LinkViews → Bool

@@ -1,5 +1,5 @@
 -- What ports over links of which both sides are seen tell of them, and what stays of the links while they are lent to one core.
-use Rattle.std.specs.Prelude.{◌≡◌, ℕ, List, Bool, slice_get, refl}
+use Rattle.std.specs.Prelude.{◌≡◌, ℕ, ◌+◌, List, length, Bool, slice_get, refl}
 use Rattle.std.specs.Borrow.{MutBor}
 use Rattle.std.proofs.Common.{◌∙◌, subst}
 use Rattle.stack_code.specs.declared.parts.ChannelEnds.{ChannelEnds}
@@ -8,9 +8,10 @@ use Rattle.ac_links.specs.Party.{LinkEnd}
 use Rattle.core_channels.specs.LinkViews.{LinkViews, link_at, SameTerms}
 use Rattle.core_ports.specs.AtHand.{AtHand}
 use Rattle.core_runner.specs.declared.list_ports.ListPorts.{ListPorts}
-use Rattle.core_runner.specs.declared.side.Side.{Side}
-use Rattle.core_runner.specs.declared.side.Side.TheVariants.{Owner, Peer, Neither}
-use Rattle.core_runner.specs.Sides.{side_of, end_of}
+use Rattle.core_driver.specs.declared.side.Side.{Side}
+use Rattle.core_driver.specs.declared.side.Side.TheVariants.{Owner, Peer, Neither}
+use Rattle.core_driver.specs.Sides.{side_of}
+use Rattle.core_runner.specs.Ends.{end_of}
 use Rattle.core_runner.specs.Hands.{hand_at, heard_at, polls_at}
 
 -- ---- what ports show
@@ -56,9 +57,9 @@ is_full p = p.full
 
 -- ---- what stays
 
--- a core leaves what the other side of a link has done, and all of a link that is none of its own
+-- a core leaves what the other side of a link has done, and all of a link that is none of its own; each of its offers takes one place
 abbrev pub SideStays : LinkViews → LinkViews → Side → Type 0
-SideStays v w Owner = w.decisions ≡ v.decisions
+SideStays v w Owner = (w.decisions ≡ v.decisions) × (length w.offers + w.spare ≡ length v.offers + v.spare)
 SideStays v w Peer = (w.offers ≡ v.offers) × (w.spare ≡ v.spare)
 SideStays v w Neither = w ≡ v
 
@@ -76,12 +77,12 @@ pub record Stays (before after : ListPorts) : Type 0 where
 -- ---- it is reflexive and transitive
 
 pub side_stays_self : (v : LinkViews) (side : Side) → SideStays v v side
-side_stays_self v Owner = refl
+side_stays_self v Owner = (refl, refl)
 side_stays_self v Peer = (refl, refl)
 side_stays_self v Neither = refl
 
 side_stays_then : (u v w : LinkViews) (side : Side) → SideStays u v side → SideStays v w side → SideStays u w side
-side_stays_then u v w Owner a b = b ∙ a
+side_stays_then u v w Owner a b = (b.0 ∙ a.0, b.1 ∙ a.1)
 side_stays_then u v w Peer a b = (b.0 ∙ a.0, b.1 ∙ a.1)
 side_stays_then u v w Neither a b = b ∙ a
 

@@ -1,4 +1,11 @@
+pub mod Cores
+pub mod GoingOn
 pub mod Hands
+pub mod Laws
 pub mod Lent
+pub mod Network
 pub mod Polls
-pub mod Sides
+pub mod Run
+pub mod Seen
+pub mod Ends
+pub mod inner

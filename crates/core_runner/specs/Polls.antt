@@ -11,8 +11,8 @@ use Rattle.core_channels.specs.LinkViews.{LinkViews, with_call}
 use Rattle.core_channels.specs.Learns.{learning, after_learning}
 use Rattle.core_channels.specs.Takes.{receiving, after_receiving}
 use Rattle.core_channels.specs.Laws.{Told}
-use Rattle.core_runner.specs.declared.side.Side.{Side}
-use Rattle.core_runner.specs.declared.side.Side.TheVariants.{Owner, Peer, Neither}
+use Rattle.core_driver.specs.declared.side.Side.{Side}
+use Rattle.core_driver.specs.declared.side.Side.TheVariants.{Owner, Peer, Neither}
 
 abbrev pub learned : Learning → Arrived
 learned (learn.Know number stamp) = Know number stamp

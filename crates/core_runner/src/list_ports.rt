@@ -1,9 +1,10 @@
 //! The ports of a core over links of which both sides are in one thread.
 
-ghost use Rattle.std.specs.Prelude.{◌≡◌, ◌||◌, true, false, IfNone};
+ghost use Rattle.std.specs.Prelude.{◌≡◌, ◌||◌, true, false, length, IfNone};
+ghost use Rattle.std.specs.List.{All};
 ghost use Rattle.ac_links.specs.Payloads.{is_payload};
 ghost use Rattle.ac_links.specs.Views.{may_withdraw};
-ghost use Rattle.core_channels.specs.LinkViews.{link_at, with_link, with_call};
+ghost use Rattle.core_channels.specs.LinkViews.{IsLink, link_at, with_link, with_call};
 ghost use Rattle.core_channels.specs.Offers.{offering, after_offering};
 ghost use Rattle.core_channels.specs.Withdraws.{withdrawing, after_withdrawing};
 ghost use Rattle.core_channels.specs.Laws.{told_by_offering, told_by_withdrawing};
@@ -16,9 +17,9 @@ ghost use Rattle.core_ports.specs.Counts.{with_one_more};
 ghost use Rattle.core_runner.specs.Polls.{polling, after_polling};
 
 use crate::looks::{is_full_arrival, is_full_offering, is_full_withdrawal, look, try_offer};
-use crate::side::{Side, side_of};
 use ac_base::{Clock, Payload};
 use core_channels::{Arrived, Links, Offering, Withdrawing};
+use core_driver::{Side, side_of};
 use core_ports::Ports;
 use stack_code::ChannelEnds;
 
@@ -50,6 +51,14 @@ impl<'a> ListPorts<'a> {
             core,
             full: false,
         }
+    }
+
+    /// The number of links. The two views of each agree.
+    pub fn len(&self) -> u64
+        ensures count { result ≡ length (links_of self.now) }
+        ensures links { All IsLink (links_of self.now) }
+    {
+        self.links.len()
     }
 
     fn side_on(&self, link: u32) -> Side

@@ -9,12 +9,12 @@ ghost use Rattle.core_channels.specs.Learns.{learning, after_learning};
 ghost use Rattle.core_channels.specs.Laws.{told_by_offering};
 ghost use Rattle.core_ports.specs.Tells.{told_by_arrival};
 ghost use Rattle.core_ports.specs.Answers.{is_full_offering, is_full_withdrawal, is_full_arrival};
-ghost use Rattle.core_runner.specs.declared.side.Side.TheVariants.{Peer};
+ghost use Rattle.core_driver.specs.declared.side.Side.TheVariants.{Peer};
 ghost use Rattle.core_runner.specs.Polls.{learned, received, taking, after_taking, polling, after_polling, clock_after};
 
-use crate::side::Side;
 use ac_base::{Clock, Message, Payload};
 use core_channels::{Arrived, Call, Learning, Links, Offering, Receiving, Withdrawing};
+use core_driver::Side;
 
 fn learned(answer: Learning) -> Arrived
     ensures { result ≡ learned answer }

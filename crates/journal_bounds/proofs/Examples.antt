@@ -1,5 +1,5 @@
 -- How many calls and operations small programs have, and how few entries and how small stamps their runs.
-use Rattle.std.proofs.Common.{◌≡◌, refl, sym, ap, ◌∙◌, ℕ, zero, suc, ◌+◌, ◌*◌, ◌≤◌, max, List, [], ◌∷◌, length, Some, None, true, pos, codes, arith}
+use Rattle.std.proofs.Common.{◌≡◌, refl, sym, ap, ◌∙◌, ℕ, zero, suc, ◌+◌, ◌*◌, ◌≤◌, max, List, [], ◌∷◌, length, Some, None, true, pos, codes, subst, arith}
 use Rattle.std.specs.Prelude.{ℤ}
 use Rattle.std.specs.List.{AllByRecursion}
 use Rattle.ac_base.specs.declared.ends.EndWord.TheVariants.{Stalled}
@@ -26,9 +26,14 @@ use Rattle.ac_semantics.proofs.Examples.{number, value, function, form}
 use Rattle.ac_semantics.proofs.PartExamples.{int}
 use Rattle.ac_semantics.proofs.OperationExamples.{sends_five, sends, two_cores, after, taken, it_is_an_end_of_the_core}
 use Rattle.ac_history.specs.Merged.{merged}
+use Rattle.ac_translation.specs.Pieces.{Piece}
+use Rattle.ac_translation.specs.Translation as code
+use Rattle.ac_translation.specs.Translation.{value_code, command_code, functions_code, no_exits, code_of}
+use Rattle.ac_translation.proofs.Codes.{number_code, act_code}
+use Rattle.ac_translation.proofs.Sized.{functions_sized}
 use Rattle.journal_bounds.specs.Actions.{total, greatest, value_step, link_step, actions_in, actions_of, most_of_some, most_within, command_step, most_in, most_of, most_in_function, most_actions}
 use Rattle.journal_bounds.specs.Passes.{pass_of, passes_in}
-use Rattle.journal_bounds.specs.Laws.{EntriesAreFew, AllReplay, StampsAreSmall}
+use Rattle.journal_bounds.specs.Laws.{EntriesAreFew, AllReplay, StampsAreSmall, ActionsAreFew}
 
 -- ---- by the parts of an expression and of a statement
 
@@ -80,6 +85,20 @@ its_statement_has_one = run_has sends_five ∙ ap (λ n. max (n + 0) 0) a_send_i
 
 pub its_program_has_one : most_actions two_cores ≡ 1
 its_program_has_one = ap (λ n. max (max n 0) (max 0 0)) its_statement_has_one
+
+-- its code has six instructions for the function that sends, and two for the other
+run_code : (x : Value) → command_code (c.Run x) ≡ code.command_step (Command-F.Run x)
+run_code x = ap command_code (sym (c.rolls-Run x)) ∙ fold-roll-Command Piece code.command_step (Command-F.Run x)
+
+sent_by_two : (value_code sends_five).size ≡ 2
+sent_by_two = simp (act_code, number_code)
+
+its_code_has_eight : length (code_of two_cores).instrs ≡ 8
+its_code_has_eight = (functions_sized two_cores.functions).sized no_exits 0 ∙ ap (λ (p : Piece). ((p.size + 0) + 2) + (2 + 0)) (run_code sends_five)
+    ∙ ap (λ n. (((1 + (n + 1)) + 0) + 2) + (2 + 0)) sent_by_two
+
+pub its_action_is_among_them : ActionsAreFew → most_actions two_cores ≤ 8
+its_action_is_among_them law = subst (λ n. most_actions two_cores ≤ n) its_code_has_eight (law two_cores)
 
 pub none_in_an_empty_function : most_of [] ∷ most_in_function (function []) ∷ [] ≡ 0 ∷ 0 ∷ []
 none_in_an_empty_function = refl

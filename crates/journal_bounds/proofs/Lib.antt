@@ -5,6 +5,7 @@ pub mod Counting
 pub mod Operations
 pub mod Cores
 pub mod Runs
+pub mod Sizes
 pub mod Passing
 pub mod Stamps
 pub mod Examples

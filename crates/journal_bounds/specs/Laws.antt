@@ -7,6 +7,7 @@ use Rattle.ac_commands.specs.declared.program.Resolved.{Resolved}
 use Rattle.ac_semantics.specs.Replay.{Replays}
 use Rattle.ac_history.specs.Merged.{merged}
 use Rattle.ac_history.specs.History.{IsLegal, start}
+use Rattle.ac_translation.specs.Translation.{code_of}
 use Rattle.journal_bounds.specs.Actions.{most_actions}
 use Rattle.journal_bounds.specs.Passes.{passes_in}
 
@@ -28,3 +29,7 @@ abbrev pub StampsAreSmall : Type 0
 StampsAreSmall = (program : Resolved) (capacities : List ℕ) (cores bound : ℕ) (js : List (List Entry))
     → length js ≡ suc cores → AllReplay program cores bound js → IsLegal (start capacities cores) (merged js)
     → AllByRecursion (λ e. e.entry.stamp ≤ cores * (2 * (most_actions program * bound)) + length (slice_index_or js cores [])) (merged js)
+
+-- each call and each operation is an instruction of the code
+abbrev pub ActionsAreFew : Type 0
+ActionsAreFew = (program : Resolved) → most_actions program ≤ length (code_of program).instrs

@@ -1,6 +1,6 @@
 //! Bounds on the journals and the stamps of a run, by the steps that its cores may take.
 
-ghost use Rattle.journal_bounds.specs.Laws.{EntriesAreFew, StampsAreSmall};
+ghost use Rattle.journal_bounds.specs.Laws.{EntriesAreFew, StampsAreSmall, ActionsAreFew};
 
 /// A core that comes to an end has taken in at most two entries for each operation that it may have
 /// started, and with each step it starts no more than one statement has.
@@ -12,4 +12,9 @@ pub fn entries_are_few()
 /// worker: a clock that counts further is never full.
 pub fn stamps_are_small()
     ensures { StampsAreSmall }
+{}
+
+/// A statement has no more calls and operations than the code of its program has instructions.
+pub fn actions_are_few()
+    ensures { ActionsAreFew }
 {}

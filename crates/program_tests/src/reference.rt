@@ -1,23 +1,12 @@
 //! What the slow interpreter comes to, on small programs.
 
-use crate::rules::program;
+use crate::rules::checked;
 use ac_base::{CoreEnd, EndWord, Entry, Event, Journal, Trap};
 use ac_compile::unbuilt;
 use ac_reference::{Reference, ReplayFault};
-use ac_types::{Checked, check};
+use ac_types::Checked;
 use std::alloc::Global;
 use std::test::Fail;
-
-fn checked(alloc: Global, source: &str) -> Result<Checked, Fail> {
-    let source = source.as_bytes();
-    if source.len() > 1_048_576 {
-        return Err(Fail::from("the source is too long"));
-    }
-    match check(alloc, program(alloc, source)?) {
-        Ok(checked) => Ok(checked),
-        Err(_) => Err(Fail::from("a rule is broken")),
-    }
-}
 
 fn replayed(
     alloc: Global,

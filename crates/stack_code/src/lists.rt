@@ -99,7 +99,7 @@ fn has_cores(code: &Sketch) -> bool
 fn has_links(code: &Sketch) -> bool
     ensures { IsTrue result ↔ HasLinks code.now }
 {
-    let capacities = code.capacities();
+    let capacities = code.capacities().as_slice();
     let ends = code.ends();
     let cores = code.entries().len();
     if capacities.len() > u32::MAX as usize {

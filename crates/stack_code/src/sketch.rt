@@ -154,10 +154,10 @@ impl Sketch {
     }
 
     /// The capacity of each link.
-    pub fn capacities(&self) -> &[u32]
+    pub fn capacities(&self) -> &List<u32>
         ensures { result.now ≡ self.now.capacities }
     {
-        self.capacities.as_slice()
+        &self.capacities
     }
 
     /// The two cores of each channel.

@@ -52,51 +52,6 @@ fn takes(legal: &mut Legal, entry: &Stamped) -> Result<bool, NoMemory> {
     legal.step(entry)
 }
 
-// A message crosses, and what does not fit on the way is refused.
-fn message(place: u32) -> (bool, Stamped) {
-    match place {
-        0 => (true, by(0, 1, 1, offer(0, 5))),
-        1 => (false, by(1, 2, 1, got(0, 6))),
-        2 => (false, by(0, 2, 1, offer(1, 6))),
-        3 => (true, by(1, 2, 1, got(0, 5))),
-        4 => (true, by(0, 3, 1, Event::Know { link: 0, number: 0 })),
-        _ => (true, by(0, 4, 1, offer(1, 6))),
-    }
-}
-
-#[test]
-fn a_message_crosses(rt: HostRuntime) -> Result<(), Fail> {
-    let mut legal = legal(rt.alloc(), &[1, 16, 16], 2, "")?;
-    for place in 0..6 {
-        let (taken, entry) = message(place);
-        assert_eq!(rt; takes(&mut legal, &entry)?, taken, "at {place}");
-    }
-    Ok(())
-}
-
-fn withdrawal(place: u32) -> (bool, Stamped) {
-    let (link, number) = (0, 0);
-    match place {
-        0 => (true, by(0, 1, 1, offer(0, 5))),
-        1 => (true, by(0, 2, 1, Event::Withdraw { link, number })),
-        2 => (false, by(0, 3, 1, offer(1, 6))),
-        3 => (true, by(1, 3, 1, Event::Pass { link, number })),
-        4 => (true, by(0, 4, 1, Event::Room { link, number })),
-        5 => (true, by(0, 5, 1, offer(1, 6))),
-        _ => (true, by(1, 6, 1, got(1, 6))),
-    }
-}
-
-#[test]
-fn withdrawn_offer_keeps_its_room(rt: HostRuntime) -> Result<(), Fail> {
-    let mut legal = legal(rt.alloc(), &[1, 16, 16], 2, "")?;
-    for place in 0..7 {
-        let (taken, entry) = withdrawal(place);
-        assert_eq!(rt; takes(&mut legal, &entry)?, taken, "at {place}");
-    }
-    Ok(())
-}
-
 fn read(number: u64, from: u32, len: u32) -> Event {
     let file = 0;
     Event::Offer {
@@ -168,18 +123,6 @@ fn a_read_and_a_write_past_the_end(rt: HostRuntime) -> Result<(), Fail> {
         assert_eq!(rt; takes(&mut legal, &entry)?, taken, "at {place}");
     }
     assert_eq!(rt; legal.contents(0).as_slice(), b"0123456789\0\0A".as_slice());
-    Ok(())
-}
-
-#[test]
-fn a_failed_write_leaves_its_prefix(rt: HostRuntime) -> Result<(), Fail> {
-    let alloc = rt.alloc();
-    let mut legal = legal(alloc, &[16], 1, "123")?;
-    let asked = by(0, 1, 1, write(0, 0, bytes(alloc, "AB")?));
-    assert!(rt; takes(&mut legal, &asked)?);
-    assert!(rt; !takes(&mut legal, &by(1, 2, 0, did(0, Answer::Fault(3))))?);
-    assert!(rt; takes(&mut legal, &by(1, 2, 0, did(0, Answer::Fault(1))))?);
-    assert_eq!(rt; legal.contents(0).as_slice(), b"A23".as_slice());
     Ok(())
 }
 

@@ -12,11 +12,7 @@ mod channels;
 #[cfg(test)]
 mod codes;
 #[cfg(test)]
-mod frames;
-#[cfg(test)]
 mod histories;
-#[cfg(test)]
-mod lexing;
 #[cfg(test)]
 mod links;
 #[cfg(test)]
@@ -24,8 +20,4 @@ mod outside;
 #[cfg(test)]
 mod ports;
 #[cfg(test)]
-mod reach;
-#[cfg(test)]
-mod ready_list;
-#[cfg(test)]
-mod scopes;
+mod threads;

@@ -10,58 +10,6 @@ use std::test::Fail;
 use std::thread::join;
 
 #[test]
-fn late_withdrawal_finds_the_taking(rt: HostRuntime) -> Result<(), Fail> {
-    let (words, mut owner, mut peer) = Words::make(rt.alloc(), 1)?;
-    words.post(&mut owner, 1);
-    assert_eq!(rt; words.look(&mut peer), Look::Offered { stamp: 1 });
-    assert_eq!(rt; words.take(&mut peer, 2), Taking::Won);
-    assert_eq!(rt;
-        words.withdraw(&mut owner, 0, 3),
-        Withdrawal::Taken { stamp: 2 }
-    );
-    Ok(())
-}
-
-#[test]
-fn withdrawn_offer_is_passed_and_its_place_used_again(rt: HostRuntime) -> Result<(), Fail> {
-    let (words, mut owner, mut peer) = Words::make(rt.alloc(), 2)?;
-    words.post(&mut owner, 1);
-    assert_eq!(rt; words.withdraw(&mut owner, 0, 2), Withdrawal::Withdrawn);
-    assert_eq!(rt; words.look(&mut peer), Look::Withdrawn { stamp: 2 });
-    words.pass(&mut peer, 3);
-    words.post(&mut owner, 3);
-    assert_eq!(rt; words.learn(&mut owner), Learnt::Passed { stamp: 3 });
-    assert_eq!(rt; words.look(&mut peer), Look::Offered { stamp: 3 });
-    assert_eq!(rt; words.take(&mut peer, 4), Taking::Won);
-    let counts = Closed {
-        offered: 2,
-        decided: 2,
-        learned: 1,
-    };
-    assert_eq!(rt; words.close(owner, peer), counts);
-    Ok(())
-}
-
-#[test]
-fn late_taking_finds_the_withdrawal(rt: HostRuntime) -> Result<(), Fail> {
-    let (words, mut owner, mut peer) = Words::make(rt.alloc(), 1)?;
-    words.post(&mut owner, 1);
-    assert_eq!(rt; words.look(&mut peer), Look::Offered { stamp: 1 });
-    assert_eq!(rt; words.withdraw(&mut owner, 0, 2), Withdrawal::Withdrawn);
-    assert_eq!(rt; words.take(&mut peer, 3), Taking::Withdrawn { stamp: 2 });
-    words.pass(&mut peer, 3);
-    assert_eq!(rt; words.learn(&mut owner), Learnt::Passed { stamp: 3 });
-    assert_eq!(rt; words.look(&mut peer), Look::Nothing);
-    let counts = Closed {
-        offered: 1,
-        decided: 1,
-        learned: 1,
-    };
-    assert_eq!(rt; words.close(owner, peer), counts);
-    Ok(())
-}
-
-#[test]
 fn meeting_tells_both_sides(rt: HostRuntime) -> Result<(), Fail> {
     let (words, mut owner, mut peer) = Words::make(rt.alloc(), 1)?;
     words.post(&mut owner, 1);

@@ -1,30 +1,20 @@
 //! One channel of two cores, on which each calls by its ports, in turn.
 
-ghost use Rattle.std.specs.Prelude.{◌≡◌, ◌<◌, false, length, IfOk};
+ghost use Rattle.std.specs.Prelude.{◌≡◌, ◌<◌, false, length};
 ghost use Rattle.core_channels.specs.LinkViews.{link_at};
-ghost use Rattle.core_runner.specs.declared.side.Side.TheVariants.{Owner, Peer};
-ghost use Rattle.core_runner.specs.Sides.{side_of};
+ghost use Rattle.core_driver.specs.declared.side.Side.TheVariants.{Owner, Peer};
+ghost use Rattle.core_driver.specs.Sides.{side_of};
 
-use ac_base::{Clock, List, Message, NoMemory, Payload};
+use super::channels::links;
+use ac_base::{Clock, Message, Payload};
 use core_channels::{Arrived, Links, Offering};
 use core_ports::Ports;
 use core_runner::ListPorts;
 use stack_code::ChannelEnds;
-use std::alloc::Global;
 use std::test::Fail;
 
 // From core 0 to core 1.
 const CHANNELS: [ChannelEnds; 1] = [ChannelEnds { from: 0, to: 1 }];
-
-// The channel, for one message, and a link for the requests of each core, with places for four offers.
-fn links(alloc: Global) -> Result<Links, NoMemory>
-    ensures { IfOk result (λ it. (0 < length it) × ((link_at it 0).terms.requests ≡ false)) }
-{
-    let capacities = List::from_vec(Vec::from_slice(alloc, &[1, 16, 16])?);
-    let mut links = Links::new(alloc, &capacities, 1)?;
-    links.reserve(4)?;
-    Ok(links)
-}
 
 // Core 0 offers the message.
 fn offer(
@@ -105,62 +95,20 @@ fn is_got(answer: Arrived, number: u64, value: Message, stamp: u64) -> bool {
     }
 }
 
-// An offer stands until it is looked at, and there is no room for a second.
+// An offer stands until it is looked at, and leaves no room for a second. The message is got where it
+// is wanted; that is known when its sender looks, and then there is room again.
 #[test]
-fn message_that_no_one_has_seen(rt: HostRuntime) -> Result<(), Fail> {
+fn a_message_crosses(rt: HostRuntime) -> Result<(), Fail> {
     let mut links = links(rt.alloc())?;
     let mut sender = Clock::new(0);
+    let mut receiver = Clock::new(4);
     assert!(rt; is_offered(offer(&mut links, &CHANNELS, 7, &mut sender), 0, 1));
     assert!(rt; has_no_room(offer(&mut links, &CHANNELS, 8, &mut sender)));
     assert!(rt; matches!(learn(&mut links, &CHANNELS, &mut sender), Arrived::Nothing));
-    Ok(())
-}
-
-// A message is got where it is wanted, and once.
-#[test]
-fn message_that_is_wanted(rt: HostRuntime) -> Result<(), Fail> {
-    let mut links = links(rt.alloc())?;
-    let mut receiver = Clock::new(4);
-    offer(&mut links, &CHANNELS, 7, &mut Clock::new(0));
     let unwanted = receive(&mut links, &CHANNELS, false, &mut receiver);
     assert!(rt; matches!(unwanted, Arrived::Nothing));
     assert!(rt; is_got(receive(&mut links, &CHANNELS, true, &mut receiver), 0, 7, 5));
-    let second = receive(&mut links, &CHANNELS, true, &mut receiver);
-    assert!(rt; matches!(second, Arrived::Nothing));
-    Ok(())
-}
-
-// The taking of a message is known when its sender looks, and then there is room again.
-#[test]
-fn message_that_was_taken(rt: HostRuntime) -> Result<(), Fail> {
-    let mut links = links(rt.alloc())?;
-    let mut sender = Clock::new(0);
-    offer(&mut links, &CHANNELS, 7, &mut sender);
-    receive(&mut links, &CHANNELS, true, &mut Clock::new(4));
     assert!(rt; is_known(learn(&mut links, &CHANNELS, &mut sender), 0, 6));
     assert!(rt; is_offered(offer(&mut links, &CHANNELS, 8, &mut sender), 1, 7));
-    Ok(())
-}
-
-// With no stamp left nothing is offered and nothing is taken, and that is told.
-#[test]
-fn no_stamp_left(rt: HostRuntime) -> Result<(), Fail> {
-    let mut links = links(rt.alloc())?;
-    let mut sender = Clock::new(1_152_921_504_606_846_974);
-    let mut receiver = Clock::new(0);
-    assert!(rt;
-        is_offered(
-            offer(&mut links, &CHANNELS, 7, &mut sender),
-            0,
-            1_152_921_504_606_846_975
-        )
-    );
-    assert!(rt;
-        matches!(
-            receive(&mut links, &CHANNELS, true, &mut receiver),
-            Arrived::ClockFull
-        )
-    );
-    assert_eq!(rt; receiver.last(), 0);
     Ok(())
 }

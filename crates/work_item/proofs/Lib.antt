@@ -10,3 +10,4 @@ pub mod Whole
 pub mod Keeping
 pub mod Unwinding
 pub mod Examples
+pub mod ThreadExamples

@@ -1,4 +1,5 @@
 pub mod Store
 pub mod Table
 pub mod Conditions
+pub mod Threads
 pub mod inner

@@ -4,7 +4,7 @@ use Rattle.ac_program.specs.Headline.{IsDue, IsDueOfFile}
 use Rattle.ac_program.specs.Headline.IsDue.{usage, call}
 use Rattle.ac_program.proofs.Endings.{whole_of, part_of, whole_as, part_as}
 use Rattle.ac_program.proofs.Statuses.{one_or_eight}
-use Rattle.ac_program.proofs.Reasons.{is_decided, never_stalled}
+use Rattle.ac_program.proofs.Reasons.{is_decided}
 use Rattle.ac_program.proofs.ac_main.Goals as goal
 
 pub returns-in_default-clause-whole : goal.returns-in_default-clause-whole
@@ -52,6 +52,3 @@ pub returns-clause-decided : goal.returns-clause-decided
 returns-clause-decided g c =
     λ t. is_decided _ c.in-Some.call.task c.in-Some.call.file.now _ _ c.do_file.result.status.number c.do_file.result.run _ _
     c.in-Some.ensures.call c.do_file.ensures.whole c.in-Some.ensures.only t
-
-pub returns-clause-no_stall : goal.returns-clause-no_stall
-returns-clause-no_stall g c = never_stalled _ c.in-Some.call.task c.in-Some.call.file.now _ _ c.do_file.result.status.number c.do_file.result.run _ _ c.in-Some.ensures.call c.do_file.ensures.whole

@@ -1,9 +1,8 @@
 -- A bound on what a running core can still do.
-use Rattle.std.specs.Prelude.{ℕ, suc, List, Option, Some, None, Bool, is_none, not, ◌&&◌}
+use Rattle.std.specs.Prelude.{ℕ, suc, List, Option, Some, None}
 use Rattle.code_safety.specs.Left.{left}
 use Rattle.core_machine.specs.declared.ending.Ending.{Ending}
 use Rattle.core_machine.specs.declared.running.Running.{Running}
-use Rattle.core_machine.specs.Machine.{is_resting}
 use Rattle.core_machine.specs.State.{flat_of}
 
 -- nothing where it has ended
@@ -13,7 +12,3 @@ left_from (Some ending) n = 0
 
 abbrev pub left_of : List ℕ → Running → ℕ
 left_of ranks m = left_from m.ended (left ranks m.bound (flat_of m))
-
--- it has not ended, and a thread runs or is ready
-abbrev pub may_go : Running → Bool
-may_go m = is_none m.ended && not (is_resting (flat_of m))

@@ -6,7 +6,7 @@ use Rattle.ac_reference.proofs.reference.Reference.replay.Goals as goal
 pub replayed-requires : goal.replayed-requires
 replayed-requires c =
     one_there c.in_ok-program.program (resolved c.args.checked.now) c.args.core c.args.steps c.in_ok-program.ensures.same
-    (λ entries. (c.in_ok-_code.ensures.one_end c.requires.meant c.args.core c.args.steps entries
+    (λ entries. (c.in_ok-_code.ensures.one_end c.requires.built c.args.core c.args.steps entries
     (is_core c.args.checked.now c.args.core c.requires.core)).0)
 
 pub returns-clause-ok : goal.returns-clause-ok

@@ -1,0 +1,201 @@
+"""A run of several cores in an order that a seed picks, and its checks.
+
+At a dispatch point of a core any arrival may come that its links allow, and then the front of its ready list runs; which core is
+next is free too. The run is over where nothing can come and no thread is ready. What came is the journal of each core.
+"""
+import random
+
+from code_of_trees import CodeCore, Compiled
+from history import Entry, Illegal, Offer, front, legal, merged, room, unrest
+from source import TreeCore
+
+
+class Difference(AssertionError):
+    pass
+
+
+class Order:
+    """Which core is next, and what comes to it: each is weighed by the seed, so that some come as early, others as late as can be.
+
+    Where it `polls`, it is an order of `ac`: at each dispatch point every link of the core is looked at once for an arrival and
+    tried once for an offer, and only then a thread goes on."""
+
+    def __init__(self, seed, cores, polls=False):
+        self.random = random.Random(seed)
+        weigh = [1] if seed == 0 else [1, 1, 30, 1000]
+        self.cores = [self.random.choice(weigh) for _ in range(cores)]
+        self.kinds = {kind: self.random.choice(weigh) for kind in ("offer", "know", "got", "go")}
+        self.polls = polls
+
+    def core(self, able):
+        return self.random.choices(able, [self.cores[k] for k in able])[0]
+
+    def move(self, moves):
+        return self.random.choices(moves, [self.kinds[m[0]] for m in moves])[0]
+
+    def shuffled(self, links):
+        links = list(links)
+        self.random.shuffle(links)
+        return links
+
+
+def comes(core, e):
+    """The entry comes to the core."""
+    if e.event == "offer":
+        core.offer(e.link, e.number)
+    elif e.event == "know":
+        core.know(e.link, e.number)
+    else:
+        core.got(e.link, e.value)
+
+
+class Run:
+    """Cores and the links between them; the journal of a core has an entry for each arrival."""
+
+    def __init__(self, names, cores, order):
+        self.names, self.cores, self.order = names, cores, order
+        self.links = [[] for _ in names.channels]
+        self.journals = [[] for _ in cores]
+        self.sends = [[c.number for c in names.channels if c.sender == k] for k in range(len(cores))]
+        self.receives = [[c.number for c in names.channels if c.receiver == k] for k in range(len(cores))]
+
+    def offers(self, k, link):
+        there = self.cores[k].to_offer(link) is not None and room(self.names.channels[link].cap, self.links[link])
+        return [("offer", link, len(self.links[link]))] if there else []
+
+    def knows(self, link):
+        return [("know", link, n) for n, o in enumerate(self.links[link]) if o.taken is not None and not o.known]
+
+    def gets(self, k, link):
+        n = front(self.links[link]) if self.cores[k].wants(link) else None
+        return [] if n is None else [("got", link, n)]
+
+    def arrivals(self, k):
+        """All that can come to this core."""
+        if self.cores[k].word is not None:
+            return []
+        found = []
+        for link in self.sends[k]:
+            found += self.offers(k, link) + self.knows(link)
+        for link in self.receives[k]:
+            found += self.gets(k, link)
+        return found
+
+    def moves(self, k):
+        core = self.cores[k]
+        return self.arrivals(k) + ([("go", 0, 0)] if core.word is None and core.ready else [])
+
+    def arrive(self, k, event, link, number):
+        core, journal = self.cores[k], self.journals[k]
+        last, value = journal[-1].stamp if journal else 0, None
+        if event == "offer":
+            value, stamp = core.to_offer(link), 1 + last
+            self.links[link].append(Offer(value, stamp))
+        offer = self.links[link][number]
+        if event == "know":
+            stamp, offer.known = 1 + max(last, offer.taken), True
+        elif event == "got":
+            value, stamp = offer.value, 1 + max(last, offer.stamp)
+            offer.taken = stamp
+        journal.append(Entry(stamp, k, core.turn, event, link, number, value))
+        comes(core, journal[-1])
+
+    def one(self, k):
+        """One move of this core."""
+        if self.order.polls:
+            return self.polled(k)
+        kind, link, number = self.order.move(self.moves(k))
+        if kind == "go":
+            self.cores[k].go()
+        else:
+            self.arrive(k, kind, link, number)
+
+    def polled(self, k):
+        for link in self.order.shuffled(self.sends[k] + self.receives[k]):
+            for look in self.order.shuffled((0, 1)):
+                if link in self.receives[k]:
+                    found = self.gets(k, link) if look else []
+                else:
+                    found = self.knows(link) if look else self.offers(k, link)
+                if found:
+                    self.arrive(k, *found[0])
+        if self.cores[k].ready:
+            self.cores[k].go()
+
+    def whole(self):
+        able = list(range(len(self.cores)))
+        while able:
+            k = self.order.core(able)
+            if self.moves(k):
+                self.one(k)
+                # what a core does may let its peers go on
+                able = [j for j in range(len(self.cores)) if j in able or self.moves(j)]
+            else:
+                able.remove(k)
+
+
+def fits(core, e, offered):
+    """Whether the entry may come to the core now, which has made so many offers on its link."""
+    if e.event == "offer":
+        return e.number == offered and core.to_offer(e.link) == e.value is not None
+    return core.has_offered(e.link, e.number) if e.event == "know" else core.wants(e.link)
+
+
+def replay(core, journal):
+    """Runs a core under a journal; the first place that does not fit, or None."""
+    at = 0
+    while core.word is None:
+        if at < len(journal) and journal[at].turn == core.turn:
+            e = journal[at]
+            offered = sum((before.event, before.link) == ("offer", e.link) for before in journal[:at]) if e.event == "offer" else 0
+            if not fits(core, e, offered):
+                return at
+            comes(core, e)
+            at += 1
+        elif core.ready:
+            core.go()
+        else:
+            break
+    return None if at == len(journal) else at
+
+
+class Program:
+    """A program with its code, of which runs are made."""
+
+    def __init__(self, names, program, limit):
+        self.names, self.limit = names, limit
+        self.compiled = Compiled(names, program)
+
+    def trees(self):
+        return [TreeCore(self.names, c, self.limit) for c in self.names.cores]
+
+    def codes(self):
+        return [CodeCore(self.compiled, self.names, c, self.limit) for c in self.names.cores]
+
+    def run(self, seed=0, polls=False):
+        """The code's cores after a run in the order of this seed, and its journals.
+
+        The run is made by the tree where the seed is even, and else by the code; the other is run under its journals."""
+        order = Order(seed, len(self.names.cores), polls)
+        made, other = (self.codes(), self.trees()) if seed % 2 else (self.trees(), self.codes())
+        live = Run(self.names, made, order)
+        live.whole()
+        self.check(live.journals, made, other)
+        return made if seed % 2 else other, live.journals
+
+    def check(self, journals, made, other):
+        """The other cores come to the same ends under the journals, and these are one run; raises Difference where not."""
+        for k, (core, journal) in enumerate(zip(other, journals)):
+            place = replay(core, journal)
+            if place is not None:
+                raise Difference(f"core {k}: entry {place} of its journal does not fit: {journal[place]}")
+            if core.end() != made[k].end():
+                shown = [f"{word} {steps} {out[:300]!r} {waiting}" for word, steps, out, _, waiting in (core.end(), made[k].end())]
+                raise Difference(f"core {k}: {type(made[k]).__name__} {shown[1]}\n{type(core).__name__} {shown[0]}")
+        try:
+            links = legal(merged(journals), [c.cap for c in self.names.channels], len(other))
+        except Illegal as i:
+            raise Difference(f"the history is not legal: {i}") from None
+        wrong = unrest(other, self.names, links)
+        if wrong:
+            raise Difference(f"the run is not quiet: {wrong}")

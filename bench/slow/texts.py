@@ -1,0 +1,56 @@
+#!/usr/bin/env python3
+"""texts.py FOLDER [ORDERS]: the tests of a folder that run a program, each in so many orders (20 where none is given).
+
+The report has to be the wanted one in each. Where it is not in every order, it has to be in every order of `ac`."""
+import importlib.util
+import pathlib
+import sys
+
+import report as oracle
+import rules
+
+TESTS = pathlib.Path(__file__).resolve().parent.parent.parent / "tests"
+
+
+def tests_of_programs():
+    """The script tests/run.py as a module."""
+    spec = importlib.util.spec_from_file_location("tests_run", TESTS / "run.py")
+    module = importlib.util.module_from_spec(spec)
+    spec.loader.exec_module(module)
+    return module
+
+
+def came(source, steps, want, orders, polls):
+    """The first report that is not the wanted one, or None."""
+    for seed in range(orders):
+        got = oracle.both(source, steps, seed, polls)
+        if got != want:
+            return f"in order {seed}: {got[0]}, {got[1][:600]!r}"
+    return None
+
+
+def main():
+    orders = int(sys.argv[2]) if len(sys.argv) > 2 else 20
+    read, bad, count = tests_of_programs().read, 0, 0
+    for path in sorted(pathlib.Path(sys.argv[1]).glob("*.txt")):
+        words, _, source, status, output = read(path)
+        if words[0] != "run":
+            continue
+        count += 1
+        steps, want = int(words[3]) if len(words) == 4 else 100_000, (status, output)
+        rules.refusal(source, steps)
+        wrong = came(source, steps, want, orders, True)
+        if wrong:
+            print(f"{path.name}: wanted {want}\nof ac, {wrong}")
+        else:
+            wrong = came(source, steps, want, orders, False)
+            if wrong:
+                print(f"{path.name}: right in each order of ac, and not {wrong}")
+            continue
+        bad += 1
+    print(f"{count} tests in {orders} orders, {bad} wrong")
+    sys.exit(bad != 0)
+
+
+if __name__ == "__main__":
+    oracle.deep(main)

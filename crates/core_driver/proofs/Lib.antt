@@ -1,0 +1,7 @@
+pub mod Opened
+pub mod Channels
+pub mod Together
+pub mod Looking
+pub mod Resting
+pub mod Examples
+pub mod Driving

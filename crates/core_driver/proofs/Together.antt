@@ -1,0 +1,347 @@
+-- A core that records what its ports tell goes on in step with them.
+use Rattle.std.proofs.Common.{◌≡◌, ℕ, ◌<◌, ◌≤◌, List, [], ◌∷◌, ◌++◌, length, Option, Some, None, IsSome, true, false, refl, sym, ap, ◌∙◌, subst, arith}
+use Rattle.std.specs.Prelude.{find, slice_get, IfNone, is_none}
+use Rattle.std.specs.List.{filter}
+use Rattle.std.proofs.lemmas.List.{append-nil, append_assoc}
+use Rattle.ac_base.specs.declared.entry.Event.TheVariants as event
+use Rattle.ac_base.specs.declared.entry.Payload.{Payload}
+use Rattle.ac_base.specs.Stamps.{next_stamp}
+use Rattle.ac_links.specs.declared.payloads.Terms.{Terms}
+use Rattle.ac_links.specs.Journals.{last_of}
+use Rattle.ac_links.specs.Link.{link_of}
+use Rattle.ac_links.specs.Noted.{owner_noted}
+use Rattle.ac_links.specs.Order.{of_party, is_of_link}
+use Rattle.ac_links.specs.Views.{OwnerOffer, OwnerRuns, may_free, may_withdraw}
+use Rattle.ac_links.specs.Party.{LinkEnd, EndRuns, PartyAgrees, end_fits}
+use Rattle.ac_links.specs.Party.LinkEnd.{Owns, Decides, Absent}
+use Rattle.work_item.specs.declared.ids.Item.{Item}
+use Rattle.cancel_scope.specs.Outstanding.{is_offered}
+use Rattle.core_channels.specs.Laws.{Told}
+use Rattle.core_ports.specs.Ends.{AreUpTo, is_owner, is_peer}
+use Rattle.core_ports.specs.Tells.{Tells, TellsOne}
+use Rattle.core_ports.proofs.GoingOn.{core_goes_on}
+use Rattle.core_ports.proofs.UpTo.{up_to_all}
+use Rattle.core_state.specs.Moves.{On}
+use Rattle.core_state.specs.Arrivals.{Arrival, offers_on}
+use Rattle.core_state.specs.Shared.{Shared}
+use Rattle.code_meaning.specs.Machine.{Flat, arrived}
+use Rattle.stack_code.specs.Parts.{Parts}
+use Rattle.code_safety.specs.Fit.{one_if}
+use Rattle.core_machine.specs.Machine.{Machine, IsOnItsWay, IsSameCore}
+use Rattle.core_machine.specs.Points.{HasCome, HasTracks, entry_of, is_at_point, left_at, operations_of, work_left}
+use Rattle.core_machine.specs.Tracks.{Tracks, standing_of}
+use Rattle.core_driver.specs.Driven.{AreOnChannels}
+use Rattle.core_driver.specs.Idle.{IsLater}
+use Rattle.core_driver.specs.Sides.{ArePortsOf}
+use Rattle.core_driver.specs.inner.InStep.{Holds, InStep, Looks}
+use Rattle.core_driver.specs.inner.Outside.{Later, Outside}
+use Rattle.core_driver.proofs.Channels.{offered_on, one_more}
+use Rattle.core_driver.proofs.Opened.{open_at, found_one, next_by, runs_free, runs_length, runs_open}
+
+-- ---- what an end tells
+
+module _ (m : Machine) (o : Outside) (h : InStep m o) where
+  -- no stamp at an end is above the clock
+  pub up_to : AreUpTo o.last o.ends
+  up_to = subst (λ n. AreUpTo n o.ends) (sym h.clock) (up_to_all o.terms m.core o.ends m.journal h.agrees)
+
+  module _ (tracks : Tracks m.journal (operations_of m.state)) where
+    module _ (l : ℕ) (os : List OwnerOffer) (owns : o.ends l ≡ Owns os) where
+      runs : OwnerRuns (o.terms l) (owner_noted os) [] (filter (is_of_link l) (of_party m.core m.journal)) os
+      runs = subst (λ (x : LinkEnd). EndRuns (o.terms l) x (filter (is_of_link l) (of_party m.core m.journal))) owns (h.agrees.runs l)
+
+      known_there : (n : ℕ) → may_withdraw (slice_get os n) ≡ true → IsSome (find (is_offered l n) (operations_of m.state))
+      known_there n stands =
+          let all = runs_open (o.terms l) (owner_noted os) m.core l os n m.journal [] runs in
+          let one : open_at os n ≡ 1 = ap one_if stands in
+          let track = tracks.each l n in
+          let here : standing_of l n (operations_of m.state) ≡ 1 = omega (arith, all, one, track) in
+          found_one (is_offered l n) (operations_of m.state) 0 here
+
+      on_there : (n : ℕ) → may_withdraw (slice_get os n) ≡ true → l < length m.code.ends
+      on_there n stands =
+          let all = runs_open (o.terms l) (owner_noted os) m.core l os n m.journal [] runs in
+          let one : open_at os n ≡ 1 = ap one_if stands in
+          offered_on (length m.code.ends) l n m.journal h.channels (omega (arith, all, one))
+
+      next_there : length os ≡ offers_on l m.journal
+      next_there = let all = runs_length (o.terms l) (owner_noted os) m.core l os m.journal [] runs in omega (arith, all)
+
+      none_free : (n : ℕ) → may_free (slice_get os n) ≡ false
+      none_free = runs_free (o.terms l) (owner_noted os) m.core l os m.journal [] tracks.withdrawn (λ n. refl) runs
+
+    -- ---- by the end, whichever it is
+
+    pub knows_one : (l n : ℕ) → is_owner (o.ends l) ≡ true → end_fits (o.terms l) (o.ends l) (event.Know l n) ≡ true → IsSome (find (is_offered l n) (operations_of m.state))
+    knows_one l n = go (o.ends l) refl
+      where
+        go : (x : LinkEnd) → o.ends l ≡ x → is_owner x ≡ true → end_fits (o.terms l) x (event.Know l n) ≡ true → IsSome (find (is_offered l n) (operations_of m.state))
+        go (Owns os) e own fits = known_there l os e n fits
+        go (Decides ds) e own fits = let no : false ≡ true = own in absurd (cc)
+        go Absent e own fits = let no : false ≡ true = own in absurd (cc)
+
+    -- what is known was offered on a channel
+    pub known_on : (l n : ℕ) → is_owner (o.ends l) ≡ true → end_fits (o.terms l) (o.ends l) (event.Know l n) ≡ true → l < length m.code.ends
+    known_on l n = go (o.ends l) refl
+      where
+        go : (x : LinkEnd) → o.ends l ≡ x → is_owner x ≡ true → end_fits (o.terms l) x (event.Know l n) ≡ true → l < length m.code.ends
+        go (Owns os) e own fits = on_there l os e n fits
+        go (Decides ds) e own fits = let no : false ≡ true = own in absurd (cc)
+        go Absent e own fits = let no : false ≡ true = own in absurd (cc)
+
+    pub offers_next : (l n : ℕ) (payload : Payload) → is_owner (o.ends l) ≡ true → end_fits (o.terms l) (o.ends l) (event.Offer l n payload) ≡ true → n ≡ offers_on l m.journal
+    offers_next l n payload = go (o.ends l) refl
+      where
+        go : (x : LinkEnd) → o.ends l ≡ x → is_owner x ≡ true → end_fits (o.terms l) x (event.Offer l n payload) ≡ true → n ≡ offers_on l m.journal
+        go (Owns os) e own fits = next_by (o.terms l) os l n payload fits ∙ next_there l os e
+        go (Decides ds) e own fits = let no : false ≡ true = own in absurd (cc)
+        go Absent e own fits = let no : false ≡ true = own in absurd (cc)
+
+    -- no room comes back
+    pub no_room : (l n : ℕ) → is_owner (o.ends l) ≡ true → end_fits (o.terms l) (o.ends l) (event.Room l n) ≡ true → ⊥
+    no_room l n = go (o.ends l) refl
+      where
+        go : (x : LinkEnd) → o.ends l ≡ x → is_owner x ≡ true → end_fits (o.terms l) x (event.Room l n) ≡ true → ⊥
+        go (Owns os) e own fits = let no : false ≡ true = sym (none_free l os e n) ∙ fits in cc
+        go (Decides ds) e own fits = let no : false ≡ true = own in cc
+        go Absent e own fits = let no : false ≡ true = own in cc
+
+-- where a core decides, it learns of nothing
+pub peer_knows_nothing : (terms : Terms) (x : LinkEnd) (l n : ℕ) → is_peer x ≡ true → end_fits terms x (event.Know l n) ≡ true → ⊥
+peer_knows_nothing terms (Owns os) l n h e = let no : false ≡ true = h in cc
+peer_knows_nothing terms (Decides ds) l n h e = let no : false ≡ true = e in cc
+peer_knows_nothing terms Absent l n h e = let no : false ≡ true = h in cc
+
+pub peer_frees_nothing : (terms : Terms) (x : LinkEnd) (l n : ℕ) → is_peer x ≡ true → end_fits terms x (event.Room l n) ≡ true → ⊥
+peer_frees_nothing terms (Owns os) l n h e = let no : false ≡ true = h in cc
+peer_frees_nothing terms (Decides ds) l n h e = let no : false ≡ true = e in cc
+peer_frees_nothing terms Absent l n h e = let no : false ≡ true = h in cc
+
+-- ---- one part after another
+
+later_on : (a b c : Machine) → IsLater a b → IsLater b c → IsLater a c
+later_on a b c k l = record {
+  code = l.code ∙ k.code;
+  core = l.core ∙ k.core;
+  bound = l.bound ∙ k.bound;
+  entries = k.entries ++ l.entries;
+  journal = l.journal ∙ ap (λ j. j ++ l.entries) k.journal ∙ append_assoc a.journal k.entries l.entries;
+}
+
+ports_later : (o p q : Outside) → Later o p → Later p q → Later o q
+ports_later o p q k l =
+    let a = k.clock in
+    let b = l.clock in
+    record {
+      terms = l.terms ∙ k.terms;
+      clock = omega (arith, a, b);
+      ends = λ e.
+          let first : p.last ≡ o.last = omega (arith, a, b, e) in
+          let second : q.last ≡ p.last = omega (arith, a, b, e) in
+          l.ends second ∙ k.ends first;
+      hand = λ e.
+          let first : p.last ≡ o.last = omega (arith, a, b, e) in
+          let second : q.last ≡ p.last = omega (arith, a, b, e) in
+          l.hand second ∙ k.hand first;
+      polls = λ i. let x = k.polls i in let y = l.polls i in omega (arith, x, y);
+      tries = λ i. let x = k.tries i in let y = l.tries i in omega (arith, x, y);
+    }
+
+pub holds_then : (m n q : Machine) (o p r : Outside) → Holds m o n p → Holds n p q r → Holds m o q r
+holds_then m n q o p r k l = record { in_step = l.in_step; machine = later_on m n q k.machine l.machine; ports = ports_later o p r k.ports l.ports }
+
+pub looks_then : (m n q : Machine) (o p r : Outside) → Looks m o n p → Looks n p q r → Looks m o q r
+looks_then m n q o p r k l = record {
+  holds = holds_then m n q o p r k.holds l.holds;
+  point = l.point;
+  less = λ ranks. let x = k.less ranks in let y = l.less ranks in omega (arith, x, y);
+  state = λ e.
+      let a = k.holds.ports.clock in
+      let b = l.holds.ports.clock in
+      let first : p.last ≡ o.last = omega (arith, a, b, e) in
+      let second : r.last ≡ p.last = omega (arith, a, b, e) in
+      l.state second ∙ k.state first;
+}
+
+-- ---- none at all
+
+pub same_later : (o : Outside) → Later o o
+same_later o = record { terms = refl; clock = omega arith; ends = λ e. refl; hand = λ e. refl; polls = λ i. omega arith; tries = λ i. omega arith }
+
+-- the machine has the same core and journal
+core_later : (m b : Machine) → IsSameCore m b → IsLater m b
+core_later m b same = record { code = same.code; core = same.core; bound = same.bound; entries = []; journal = same.journal ∙ sym (append-nil m.journal) }
+
+pub holds_still : (m : Machine) (o : Outside) → InStep m o → Holds m o m o
+holds_still m o h = record { in_step = h; machine = core_later m m (record { code = refl; core = refl; bound = refl; journal = refl }); ports = same_later o }
+
+pub looks_still : (m : Machine) (o : Outside) → InStep m o → is_at_point m.state ≡ true → Looks m o m o
+looks_still m o h point = record { holds = holds_still m o h; point = point; less = λ ranks. omega arith; state = λ e. refl }
+
+-- the machine goes on by itself
+core_on : (m n : Machine) (o : Outside) → InStep m o → IsSameCore m n → IsOnItsWay n → InStep n o
+core_on m n o h same run = record {
+  run = run;
+  ports = rw (same.code, same.core) h.ports;
+  agrees = rw (same.core, same.journal) h.agrees;
+  clock = h.clock ∙ ap (last_of 0) (sym same.journal);
+  channels = rw (same.code, same.journal) h.channels;
+}
+
+pub turn_holds : (m n : Machine) (o : Outside) → InStep m o → IsSameCore m n → IsOnItsWay n → Holds m o n o
+turn_holds m n o h same run = record { in_step = core_on m n o h same run; machine = core_later m n same; ports = same_later o }
+
+-- ---- a call of ports
+
+pub record Called (o p : Outside) (told : Option Told) : Type 0 where
+  pub tells : Tells o.terms o.ends o.last told p.ends p.last
+  pub hand : IfNone told (p.hand ≡ o.hand)
+  pub terms : p.terms ≡ o.terms
+  pub polls : (l : ℕ) → o.polls l ≤ p.polls l
+  pub tries : (l : ℕ) → o.tries l ≤ p.tries l
+
+ports_on : (code code' : Parts) (core core' : ℕ) (terms : ℕ → Terms) (ends after : ℕ → LinkEnd) → code' ≡ code → core' ≡ core
+    → ((l : ℕ) → is_owner (after l) ≡ is_owner (ends l)) → ((l : ℕ) → is_peer (after l) ≡ is_peer (ends l)) → ArePortsOf code core terms ends → ArePortsOf code' core' terms after
+ports_on code code' core core' terms ends after c k owner peer p = rw (c, k) (record {
+  coded = p.coded;
+  owner = λ l side. owner l ∙ p.owner l side;
+  peer = λ l side. peer l ∙ p.peer l side;
+})
+
+later_than : (last now answers : ℕ) → now ≡ next_stamp last answers → last < now
+later_than last now answers h = omega (arith, h)
+
+none_of : (o : Option Item) → is_none o ≡ true → o ≡ None
+none_of None h = refl
+none_of (Some t) h = let no : false ≡ true = h in absurd (cc)
+
+point_on : (f : Flat) (shared : Shared) (x : Arrival) → is_at_point (On f) ≡ true → is_at_point (On (arrived f shared x)) ≡ true
+point_on f shared x h = by x.woken
+  where
+    by : (o : Option Item) → is_at_point (On (arrived f shared (record x { woken = o }))) ≡ true
+    by None = h
+    by (Some t) = h
+
+-- no entry was told where the clock has stayed
+pub told_moves : (o p : Outside) (t : Told) → Called o p (Some t) → p.last ≡ o.last → ⊥
+told_moves o p t call same =
+    let on = later_than o.last p.last call.tells.answers (call.tells.clock ∙ call.tells.next) in
+    absurd (omega (arith, on, same))
+
+module _ (m b : Machine) (o : Outside) (h : InStep m o) (point : is_at_point m.state ≡ true) (same : IsSameCore m b) (state : b.state ≡ m.state) (run : IsOnItsWay b) where
+  -- room was made
+  pub roomed : InStep b o
+  roomed = core_on m b o h same run
+
+  pub roomed_point : is_at_point b.state ≡ true
+  roomed_point = ap is_at_point state ∙ point
+
+  roomed_less : (ranks : List ℕ) → work_left ranks b ≡ work_left ranks m
+  roomed_less ranks = ap (left_at ranks b.bound) state ∙ ap (λ n. left_at ranks n m.state) same.bound
+
+  pub roomed_looks : Looks m o b o
+  roomed_looks = record {
+    holds = record { in_step = roomed; machine = core_later m b same; ports = same_later o };
+    point = roomed_point;
+    less = λ ranks. let e = roomed_less ranks in omega (arith, e);
+    state = λ e. state;
+  }
+
+  module _ (tracks : HasTracks b) where
+    pub knows_after : (l n : ℕ) → is_owner (o.ends l) ≡ true → end_fits (o.terms l) (o.ends l) (event.Know l n) ≡ true → IsSome (find (is_offered l n) (operations_of b.state))
+    knows_after = knows_one b o roomed (tracks roomed_point)
+
+    pub next_after : (l n : ℕ) (payload : Payload) → is_owner (o.ends l) ≡ true → end_fits (o.terms l) (o.ends l) (event.Offer l n payload) ≡ true → n ≡ offers_on l b.journal
+    next_after = offers_next b o roomed (tracks roomed_point)
+
+    pub known_after : (l n : ℕ) → is_owner (o.ends l) ≡ true → end_fits (o.terms l) (o.ends l) (event.Know l n) ≡ true → l < length m.code.ends
+    known_after l n own fits = subst (λ (code : Parts). l < length code.ends) same.code (known_on b o roomed (tracks roomed_point) l n own fits)
+
+    pub no_room_after : (l n : ℕ) → is_owner (o.ends l) ≡ true → end_fits (o.terms l) (o.ends l) (event.Room l n) ≡ true → ⊥
+    no_room_after = no_room b o roomed (tracks roomed_point)
+
+  -- nothing was told
+  pub nothing_looks : (p : Outside) → Called o p None → Looks m o b p
+  nothing_looks p call =
+      let r = roomed in
+      let t = call.tells in
+      record {
+        holds = record {
+          in_step = record {
+            run = run;
+            ports = rw (call.terms, t.0) r.ports;
+            agrees = rw (call.terms, t.0) r.agrees;
+            clock = t.1 ∙ r.clock;
+            channels = r.channels;
+          };
+          machine = core_later m b same;
+          ports = record {
+            terms = call.terms;
+            clock = (let e = t.1 in omega (arith, e));
+            ends = λ e. t.0;
+            hand = λ e. call.hand;
+            polls = call.polls;
+            tries = call.tries;
+          };
+        };
+        point = roomed_point;
+        less = λ ranks. let e = roomed_less ranks in omega (arith, e);
+        state = λ e. state;
+      }
+
+  -- an entry was told, and is recorded
+  module _ (p : Outside) (t : Told) (call : Called o p (Some t)) (n : Machine) (come : HasCome b t.event t.stamp n) (less : (ranks : List ℕ) → work_left ranks n ≤ work_left ranks b)
+      (goes : IsOnItsWay n) (on : link_of t.event < length m.code.ends) where
+    abbrev tells : TellsOne o.terms o.ends o.last t p.ends p.last
+    tells = call.tells
+
+    clock_on : o.last < p.last
+    clock_on = later_than o.last p.last tells.answers (tells.clock ∙ tells.next)
+
+    no_stay : p.last ≡ o.last → ⊥
+    no_stay = told_moves o p t call
+
+    in_step_then : InStep n p
+    in_step_then =
+        let r = roomed in
+        let on_all = core_goes_on o.terms b.core o.ends p.ends b.journal come.flat.shared.turn (Some t) p.last r.agrees
+        (subst (λ k. TellsOne o.terms o.ends k t p.ends p.last) r.clock tells) in
+        record {
+          run = goes;
+          ports = subst (λ terms. ArePortsOf n.code n.core terms p.ends) (sym call.terms)
+              (ports_on b.code n.code b.core n.core o.terms o.ends p.ends come.code come.core on_all.owner on_all.peer r.ports);
+          agrees = subst (λ terms. PartyAgrees terms n.core p.ends n.journal) (sym call.terms)
+              (subst (λ core. PartyAgrees o.terms core p.ends n.journal) (sym come.core) (subst (PartyAgrees o.terms b.core p.ends) (sym come.journal) on_all.agrees));
+          clock = on_all.clock ∙ ap (last_of 0) (sym come.journal);
+          channels = rw (come.code, come.journal, same.code) (one_more (length m.code.ends) b.journal (entry_of come.flat t.event t.stamp)
+              (subst (λ (code : Parts). AreOnChannels (length code.ends) b.journal) same.code r.channels) on);
+        }
+
+    come_point : is_at_point n.state ≡ true
+    come_point = ap is_at_point come.state ∙ point_on come.flat _ come.arrival (sym (ap is_at_point come.stood) ∙ roomed_point)
+
+    pub entered_looks : Looks m o n p
+    entered_looks = record {
+      holds = record {
+        in_step = in_step_then;
+        machine = later_on m b n (core_later m b same) (record {
+          code = come.code;
+          core = come.core;
+          bound = come.bound;
+          entries = entry_of come.flat t.event t.stamp ∷ [];
+          journal =
+              come.journal;
+        });
+        ports = record {
+          terms = call.terms;
+          clock = (let a = clock_on in omega (arith, a));
+          ends = λ e. absurd (no_stay e);
+          hand = λ e. absurd (no_stay e);
+          polls = call.polls;
+          tries = call.tries;
+        };
+      };
+      point = come_point;
+      less = λ ranks. let e = roomed_less ranks in let f = less ranks in omega (arith, e, f);
+      state = λ e. absurd (no_stay e);
+    }

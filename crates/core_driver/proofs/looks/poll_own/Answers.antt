@@ -1,0 +1,90 @@
+use Rattle.std.proofs.Common.{ℕ, Some, None, ap, ◌∙◌}
+use Rattle.ac_base.specs.declared.entry.Event.TheVariants as event
+use Rattle.core_machine.specs.Points.{is_at_point}
+use Rattle.core_ports.specs.AtHand.{AtHand}
+use Rattle.core_driver.proofs.Together.{entered_looks, known_after, knows_after, no_room_after, nothing_looks, roomed_looks, told_moves, up_to}
+use Rattle.core_driver.proofs.Looking.{counts_here, full_there, owner_holds, poll_called}
+use Rattle.core_driver.specs.inner.Outside.{outside}
+use Rattle.core_driver.proofs.looks.poll_own.Goals as goal
+
+pub poll-requires-clause-link : goal.poll-requires-clause-link
+poll-requires-clause-link g c = owner_holds _ (c.requires.in_step.ports.owner c.args.link c.requires.side)
+
+pub poll-requires-clause-clock : goal.poll-requires-clause-clock
+poll-requires-clause-clock g c = up_to _ _ c.requires.in_step
+
+pub know-requires-clause-point : goal.know-requires-clause-point
+know-requires-clause-point g c = ap is_at_point c.make_room.ensures.state ∙ c.requires.point
+
+pub know-requires-clause-some : goal.know-requires-clause-some
+know-requires-clause-some g c = knows_after c.args.machine.now c.make_room.new.self _ c.requires.in_step c.requires.point c.make_room.ensures.same c.make_room.ensures.state
+    c.make_room.ensures.run c.make_room.ensures.tracks c.args.link c.in-Know.number (c.requires.in_step.ports.owner c.args.link c.requires.side) c.in-Know.ensures.tells.fits
+
+pub returns-in_err-make_room-clause-looks : goal.returns-in_err-make_room-clause-looks
+returns-in_err-make_room-clause-looks g c = roomed_looks c.args.machine.now c.make_room.new.self _ c.requires.in_step c.requires.point c.make_room.ensures.same c.make_room.ensures.state
+    c.make_room.ensures.run
+
+pub returns-in_err-make_room-clause-stays : goal.returns-in_err-make_room-clause-stays
+returns-in_err-make_room-clause-stays g c = g.met.P.Ports.stays_self c.args.ports.now
+
+pub returns-in-Know-clause-looks : goal.returns-in-Know-clause-looks
+returns-in-Know-clause-looks g c = entered_looks c.args.machine.now c.make_room.new.self _ c.requires.in_step c.requires.point c.make_room.ensures.same c.make_room.ensures.state
+    c.make_room.ensures.run _ (record { event = event.Know c.args.link c.in-Know.number; stamp = c.in-Know.stamp })
+    (poll_called (outside (g.P.Ports.terms c.args.ports.now) (g.P.Ports.ends c.args.ports.now) (g.P.Ports.at_hand c.args.ports.now) (g.P.Ports.heard c.args.ports.now)
+    (g.P.Ports.polls c.args.ports.now) (g.P.Ports.tries c.args.ports.now) c.args.clock.now)
+    (outside (g.P.Ports.terms c.poll.new.self) (g.P.Ports.ends c.poll.new.self) (g.P.Ports.at_hand c.poll.new.self) (g.P.Ports.heard c.poll.new.self) (g.P.Ports.polls c.poll.new.self)
+    (g.P.Ports.tries c.poll.new.self) c.poll.new.clock) (Some (record { event = event.Know c.args.link c.in-Know.number; stamp = c.in-Know.stamp })) c.args.link c.in-Know.ensures.tells
+    c.in-Know.ensures.hand
+    c.in-Know.ensures.terms c.in-Know.ensures.polls c.in-Know.ensures.tries) c.know.new.self c.know.ensures.come c.know.ensures.less c.know.ensures.run
+    (known_after c.args.machine.now c.make_room.new.self _ c.requires.in_step c.requires.point c.make_room.ensures.same c.make_room.ensures.state
+    c.make_room.ensures.run c.make_room.ensures.tracks c.args.link c.in-Know.number (c.requires.in_step.ports.owner c.args.link c.requires.side) c.in-Know.ensures.tells.fits)
+
+pub returns-in-Know-clause-polled : goal.returns-in-Know-clause-polled
+returns-in-Know-clause-polled g c = counts_here (g.P.Ports.polls c.args.ports.now) (g.P.Ports.polls c.poll.new.self) c.args.link c.in-Know.ensures.polls
+
+pub returns-in-Know-clause-decision : goal.returns-in-Know-clause-decision
+returns-in-Know-clause-decision g c = λ e same. absurd (told_moves (outside (g.P.Ports.terms c.args.ports.now) (g.P.Ports.ends c.args.ports.now) (g.P.Ports.at_hand c.args.ports.now)
+    (g.P.Ports.heard c.args.ports.now) (g.P.Ports.polls c.args.ports.now) (g.P.Ports.tries c.args.ports.now) c.args.clock.now)
+    (outside (g.P.Ports.terms c.poll.new.self) (g.P.Ports.ends c.poll.new.self) (g.P.Ports.at_hand c.poll.new.self) (g.P.Ports.heard c.poll.new.self) (g.P.Ports.polls c.poll.new.self)
+    (g.P.Ports.tries c.poll.new.self) c.poll.new.clock) (record { event = event.Know c.args.link c.in-Know.number; stamp = c.in-Know.stamp })
+    (poll_called (outside (g.P.Ports.terms c.args.ports.now) (g.P.Ports.ends c.args.ports.now) (g.P.Ports.at_hand c.args.ports.now) (g.P.Ports.heard c.args.ports.now)
+    (g.P.Ports.polls c.args.ports.now) (g.P.Ports.tries c.args.ports.now) c.args.clock.now)
+    (outside (g.P.Ports.terms c.poll.new.self) (g.P.Ports.ends c.poll.new.self) (g.P.Ports.at_hand c.poll.new.self) (g.P.Ports.heard c.poll.new.self) (g.P.Ports.polls c.poll.new.self)
+    (g.P.Ports.tries c.poll.new.self) c.poll.new.clock) (Some (record { event = event.Know c.args.link c.in-Know.number; stamp = c.in-Know.stamp })) c.args.link c.in-Know.ensures.tells
+    c.in-Know.ensures.hand
+    c.in-Know.ensures.terms c.in-Know.ensures.polls c.in-Know.ensures.tries) same)
+
+pub returns-in-Nothing-clause-looks : goal.returns-in-Nothing-clause-looks
+returns-in-Nothing-clause-looks g c = nothing_looks c.args.machine.now c.make_room.new.self _ c.requires.in_step c.requires.point c.make_room.ensures.same c.make_room.ensures.state
+    c.make_room.ensures.run _ (poll_called (outside (g.P.Ports.terms c.args.ports.now) (g.P.Ports.ends c.args.ports.now) (g.P.Ports.at_hand c.args.ports.now) (g.P.Ports.heard c.args.ports.now)
+    (g.P.Ports.polls c.args.ports.now) (g.P.Ports.tries c.args.ports.now) c.args.clock.now)
+    (outside (g.P.Ports.terms c.poll.new.self) (g.P.Ports.ends c.poll.new.self) (g.P.Ports.at_hand c.poll.new.self) (g.P.Ports.heard c.poll.new.self) (g.P.Ports.polls c.poll.new.self)
+    (g.P.Ports.tries c.poll.new.self) c.poll.new.clock) None c.args.link c.in-Nothing.ensures.tells c.in-Nothing.ensures.hand c.in-Nothing.ensures.terms c.in-Nothing.ensures.polls
+    c.in-Nothing.ensures.tries)
+
+pub returns-in-Nothing-clause-polled : goal.returns-in-Nothing-clause-polled
+returns-in-Nothing-clause-polled g c = counts_here (g.P.Ports.polls c.args.ports.now) (g.P.Ports.polls c.poll.new.self) c.args.link c.in-Nothing.ensures.polls
+
+pub returns-in-Nothing-clause-decision : goal.returns-in-Nothing-clause-decision
+returns-in-Nothing-clause-decision g c = λ e same. ap (λ (f : ℕ → AtHand). (f c.args.link).decision) c.in-Nothing.ensures.hand ∙ c.in-Nothing.ensures.answer.decision
+
+pub returns-in-ClockFull-clause-looks : goal.returns-in-ClockFull-clause-looks
+returns-in-ClockFull-clause-looks g c = nothing_looks c.args.machine.now c.make_room.new.self _ c.requires.in_step c.requires.point c.make_room.ensures.same c.make_room.ensures.state
+    c.make_room.ensures.run _ (poll_called (outside (g.P.Ports.terms c.args.ports.now) (g.P.Ports.ends c.args.ports.now) (g.P.Ports.at_hand c.args.ports.now) (g.P.Ports.heard c.args.ports.now)
+    (g.P.Ports.polls c.args.ports.now) (g.P.Ports.tries c.args.ports.now) c.args.clock.now)
+    (outside (g.P.Ports.terms c.poll.new.self) (g.P.Ports.ends c.poll.new.self) (g.P.Ports.at_hand c.poll.new.self) (g.P.Ports.heard c.poll.new.self) (g.P.Ports.polls c.poll.new.self)
+    (g.P.Ports.tries c.poll.new.self) c.poll.new.clock) None c.args.link c.in-ClockFull.ensures.tells c.in-ClockFull.ensures.hand c.in-ClockFull.ensures.terms c.in-ClockFull.ensures.polls
+    c.in-ClockFull.ensures.tries)
+
+pub returns-in-ClockFull-clause-heard : goal.returns-in-ClockFull-clause-heard
+returns-in-ClockFull-clause-heard g c = λ e. full_there (outside (g.P.Ports.terms c.args.ports.now) (g.P.Ports.ends c.args.ports.now) (g.P.Ports.at_hand c.args.ports.now)
+    (g.P.Ports.heard c.args.ports.now) (g.P.Ports.polls c.args.ports.now) (g.P.Ports.tries c.args.ports.now) c.args.clock.now)
+    (outside (g.P.Ports.terms c.poll.new.self) (g.P.Ports.ends c.poll.new.self) (g.P.Ports.at_hand c.poll.new.self) (g.P.Ports.heard c.poll.new.self) (g.P.Ports.polls c.poll.new.self)
+    (g.P.Ports.tries c.poll.new.self) c.poll.new.clock) c.args.link c.in-ClockFull.ensures.tells.1 c.in-ClockFull.ensures.answer.0
+
+pub returns-in-ClockFull-clause-polled : goal.returns-in-ClockFull-clause-polled
+returns-in-ClockFull-clause-polled g c = counts_here (g.P.Ports.polls c.args.ports.now) (g.P.Ports.polls c.poll.new.self) c.args.link c.in-ClockFull.ensures.polls
+
+pub unreachable-requires : goal.unreachable-requires
+unreachable-requires g c = no_room_after c.args.machine.now c.make_room.new.self _ c.requires.in_step c.requires.point c.make_room.ensures.same c.make_room.ensures.state
+    c.make_room.ensures.run c.make_room.ensures.tracks c.args.link c.in-Room.number (c.requires.in_step.ports.owner c.args.link c.requires.side) c.in-Room.ensures.tells.fits

@@ -1,0 +1,5 @@
+pub mod Sides
+pub mod Pauses
+pub mod Idle
+pub mod Driven
+pub mod inner

@@ -1,0 +1,55 @@
+-- How a core and what is outside it are in step.
+use Rattle.std.specs.Prelude.{◌≡◌, ℕ, ◌<◌, ◌≤◌, List, true, false, length, IsSome}
+use Rattle.ac_links.specs.Journals.{last_of}
+use Rattle.ac_links.specs.Party.{PartyAgrees}
+use Rattle.core_channels.specs.Counts.{counted}
+use Rattle.core_ports.specs.Ends.{has_room}
+use Rattle.core_machine.specs.Machine.{Machine, IsOnItsWay}
+use Rattle.core_machine.specs.Points.{is_at_point, operations_of, to_send, receives_from, work_left}
+use Rattle.core_driver.specs.declared.side.Side.TheVariants.{Owner, Peer, Neither}
+use Rattle.core_driver.specs.Sides.{ArePortsOf, side_of}
+use Rattle.core_driver.specs.Driven.{AreOnChannels}
+use Rattle.core_driver.specs.Idle.{IsLater}
+use Rattle.core_driver.specs.inner.Outside.{Outside, Later}
+
+-- the state is the code's, the ports are the core's own and agree with its journal, which has entries of channels alone, and the clock has
+-- the journal's last stamp
+pub record InStep (m : Machine) (o : Outside) : Type 0 where
+  pub run : IsOnItsWay m
+  pub ports : ArePortsOf m.code m.core o.terms o.ends
+  pub agrees : PartyAgrees o.terms m.core o.ends m.journal
+  pub clock : o.last ≡ last_of 0 m.journal
+  pub channels : AreOnChannels (length m.code.ends) m.journal
+
+-- what holds after any part of a run, also where memory or stamps gave out
+pub record Holds (m : Machine) (o : Outside) (n : Machine) (p : Outside) : Type 0 where
+  pub in_step : InStep n p
+  pub machine : IsLater m n
+  pub ports : Later o p
+
+-- what holds after a part of a dispatch point: no more is left to do, and where the clock has stayed so has the core
+pub record Looks (m : Machine) (o : Outside) (n : Machine) (p : Outside) : Type 0 where
+  pub holds : Holds m o n p
+  pub point : is_at_point n.state ≡ true
+  pub less : (ranks : List ℕ) → work_left ranks n ≤ work_left ranks m
+  pub state : p.last ≡ o.last → n.state ≡ m.state
+
+-- ---- one link
+
+-- what is at hand on a link is not left there
+pub record LeavesAt (m : Machine) (o : Outside) (l : ℕ) : Type 0 where
+  pub decision : side_of m.code.ends m.core l ≡ Owner → (o.hand l).decision ≡ false
+  pub front : side_of m.code.ends m.core l ≡ Peer → receives_from (operations_of m.state) l ≡ true → (o.hand l).front ≡ false
+  pub slot : l < length m.code.ends → side_of m.code.ends m.core l ≡ Owner → IsSome (to_send (operations_of m.state) l)
+      → has_room (o.terms l) (o.ends l) ≡ true → (o.hand l).slot ≡ false
+
+-- an offer was tried where one waits
+abbrev pub IsTried : Machine → Outside → Outside → ℕ → Type 0
+IsTried m o p l = l < length m.code.ends → side_of m.code.ends m.core l ≡ Owner → IsSome (to_send (operations_of m.state) l)
+    → counted (o.tries l) ≤ p.tries l
+
+-- a link was looked at: it was polled where it is the core's, and where nothing has come in an offer was tried and nothing at hand is left
+pub record IsLookedAt (o : Outside) (n : Machine) (p : Outside) (l : ℕ) : Type 0 where
+  pub polled : (side_of n.code.ends n.core l ≡ Neither → ⊥) → counted (o.polls l) ≤ p.polls l
+  pub tried : p.last ≡ o.last → IsTried n o p l
+  pub leaves : p.last ≡ o.last → LeavesAt n p l

@@ -1,0 +1,130 @@
+//! The driver that callers see.
+
+use crate::pause::Pause;
+use crate::rounds::advance_by;
+use ac_base::{Clock, NoMemory};
+use core_machine::CoreMachine;
+use core_ports::Ports;
+use std::marker::Model;
+
+/// A core with its clock, which runs over its ports.
+///
+/// Contracts see the core's machine, and whether a port has answered that all stamps are used.
+#[derive(Drop)]
+pub struct Driver<'a> {
+    machine: CoreMachine<'a>,
+    clock: Clock,
+    full: bool,
+}
+
+impl<'a> Model for Driver<'a> {
+    ghost use Rattle.core_driver.specs.Driven.{Driven, IsDriven};
+
+    ghost Value = { Driven };
+
+    ghost view = { λ d. record { machine = d.machine; full = d.full } };
+
+    ghost invariant = { λ d. IsDriven d.machine d.clock d.full };
+}
+
+impl<'a> Driver<'a> {
+    ghost use Rattle.std.specs.Prelude.{◌≡◌, ℕ, [], length, ◌<◌, ◌≤◌, ◌^◌, ◌||◌, true, false, None, Ok, IfOk, MatchResult};
+    ghost use Rattle.ac_base.specs.Stamps.{stamp_after};
+    ghost use Rattle.ac_links.specs.Journals.{last_of};
+    ghost use Rattle.ac_links.specs.Party.{PartyAgrees};
+    ghost use Rattle.core_machine.specs.Machine.{IsOnItsWay};
+    ghost use Rattle.core_driver.specs.declared.pause.Pause.{Pause};
+    ghost use Rattle.core_driver.specs.Driven.{AreOnChannels};
+    ghost use Rattle.core_driver.specs.Sides.{ArePortsOf};
+    ghost use Rattle.core_driver.specs.Pauses.{IsPaused, is_clock_full};
+    ghost use Rattle.core_driver.specs.Idle.{IsLater, LeavesNothing, HasLooked};
+
+    /// The driver of a core that has made no entry yet.
+    pub fn new(machine: CoreMachine<'a>) -> Driver<'a>
+        requires { machine.journal ≡ [] }
+        ensures machine { result.machine ≡ machine.entry }
+        ensures full { result.full ≡ false }
+    {
+        let _ending = machine.ending();
+        Driver {
+            machine,
+            clock: Clock::new(0),
+            full: false,
+        }
+    }
+
+    /// The core. Each of its entries is of a channel.
+    pub fn machine(&self) -> &CoreMachine<'a>
+        ensures same { result.now ≡ self.now.machine }
+        ensures channels { AreOnChannels (length self.now.machine.code.ends) self.now.machine.journal }
+    {
+        &self.machine
+    }
+
+    /// The stamp of the core's last entry, or 0 where it has made none.
+    pub fn last(&self) -> u64
+        ensures same { result ≡ last_of 0 self.now.machine.journal }
+        ensures bound { result < 2 ^ 60 }
+    {
+        self.clock.last()
+    }
+
+    /// The core, out of the driver.
+    pub fn into_machine(self) -> CoreMachine<'a>
+        ensures { result ≡ self.entry.machine }
+    {
+        let Driver { machine, .. } = self;
+        machine
+    }
+
+    /// Lets the core go on over other ports where all stamps are used: what its old ports had heard, the
+    /// new ones may not have.
+    pub fn ask_again(&mut self)
+        ensures machine { self.new.machine ≡ self.old.machine }
+        ensures full { self.new.full ≡ false }
+    {
+        self.full = false;
+    }
+
+    /// Runs the core until it has ended, or so many dispatch points in a row have brought nothing while
+    /// no thread is ready, or a port has answered that all stamps are used; from then on it answers the
+    /// same at once. At each dispatch point it polls each link of the core, and tries an offer on each
+    /// with an operation that is to be offered. After want of memory it can be called again, and goes
+    /// on where it stopped.
+    ///
+    /// Conditions: the ports are those of the core, and they agree with its journal; and it is to look
+    /// once at least.
+    pub fn advance<P: Ports>(&mut self, ports: &mut P, polls: u32) -> Result<Pause, NoMemory>
+        requires some { 1 ≤ polls }
+        requires ports { ArePortsOf self.old.machine.code self.old.machine.core (P.terms ports.old) (P.ends ports.old) }
+        requires agrees { PartyAgrees (P.terms ports.old) self.old.machine.core (P.ends ports.old) self.old.machine.journal }
+        ensures later { IsLater self.old.machine self.new.machine }
+        ensures run { IsOnItsWay self.new.machine }
+        ensures terms { P.terms ports.new ≡ P.terms ports.old }
+        ensures ports { ArePortsOf self.new.machine.code self.new.machine.core (P.terms ports.new) (P.ends ports.new) }
+        ensures agrees { PartyAgrees (P.terms ports.new) self.new.machine.core (P.ends ports.new) self.new.machine.journal }
+        ensures stays { P.stays ports.old ports.new }
+        ensures quiet { self.new.machine.journal ≡ self.old.machine.journal
+            → (P.ends ports.new ≡ P.ends ports.old) × (P.at_hand ports.new ≡ P.at_hand ports.old) }
+        ensures pause { IfOk result (λ pause. IsPaused self.new.machine.state pause) }
+        ensures full { MatchResult result (λ pause. self.new.full ≡ (self.old.full || is_clock_full pause))
+            (λ _. self.new.full ≡ self.old.full) }
+        ensures calls { self.old.full ≡ false → MatchResult result (λ pause. P.full ports.new ≡ (P.full ports.old || is_clock_full pause))
+            (λ _. P.full ports.new ≡ P.full ports.old) }
+        ensures heard { self.old.full ≡ false → IfOk result (λ pause. pause ≡ Pause.ClockFull
+            → (link : ℕ) × (stamp_after (last_of 0 self.new.machine.journal) (P.heard ports.new link) ≡ None)) }
+        ensures idle { IfOk result (λ pause. pause ≡ Pause.Idle
+            → LeavesNothing self.new.machine (P.terms ports.new) (P.ends ports.new) (P.at_hand ports.new)) }
+        ensures looked { IfOk result (λ pause. pause ≡ Pause.Idle
+            → HasLooked polls self.new.machine (P.polls ports.old) (P.polls ports.new) (P.tries ports.old) (P.tries ports.new)) }
+        ensures for_good { self.old.full ≡ true → (result ≡ Ok Pause.ClockFull) × (self.new ≡ self.old) × (ports.new ≡ ports.old) }
+    {
+        if self.full {
+            return Ok(Pause::ClockFull);
+        }
+        let ranks = self.machine.code().ranks();
+        let pause = advance_by(&mut self.machine, ports, &mut self.clock, polls, ranks)?;
+        self.full = pause.is_clock_full();
+        Ok(pause)
+    }
+}

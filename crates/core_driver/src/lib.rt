@@ -1,0 +1,13 @@
+//! The driver of a core: it runs the core's machine, and looks at its links at each dispatch point.
+#![tactic(auto)]
+
+mod driver;
+mod looks;
+mod pause;
+mod rounds;
+mod seen;
+mod side;
+
+pub use driver::Driver;
+pub use pause::Pause;
+pub use side::{Side, side_of};

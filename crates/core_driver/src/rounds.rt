@@ -1,0 +1,150 @@
+//! A core runs, and looks at its links at each dispatch point.
+
+ghost use Rattle.std.specs.Prelude.{◌≡◌, ◌≤◌, ◌||◌, true, false, IfOk, MatchResult};
+ghost use Rattle.stack_code.specs.Kept.{IsRanked};
+ghost use Rattle.core_machine.specs.Machine.{has_ended};
+ghost use Rattle.core_machine.specs.Points.{is_at_point};
+ghost use Rattle.core_driver.specs.declared.pause.Pause.{Pause};
+ghost use Rattle.core_driver.specs.Pauses.{IsPaused, is_clock_full};
+ghost use Rattle.core_driver.specs.Idle.{LeavesNothing, HasLooked};
+ghost use Rattle.core_driver.specs.inner.Outside.{outside, IsFull};
+ghost use Rattle.core_driver.specs.inner.InStep.{InStep, Holds};
+ghost use Rattle.core_driver.specs.inner.Rounds.{Came, is_seen_full};
+
+use crate::looks::look_round;
+use crate::pause::{Pause, pause_of};
+use crate::seen::Seen;
+use ac_base::{Clock, NoMemory};
+use core_machine::CoreMachine;
+use core_ports::Ports;
+
+// A dispatch point: a look at each link, and then the front of the ready list runs.
+fn pass_point<P: Ports>(
+    machine: &mut CoreMachine<'_>,
+    ports: &mut P,
+    clock: &mut Clock,
+    _ranks: &[u64],
+) -> Result<Seen, NoMemory>
+    requires in_step { InStep machine.old
+        (outside (P.terms ports.old) (P.ends ports.old) (P.at_hand ports.old) (P.heard ports.old)
+        (P.polls ports.old) (P.tries ports.old) clock.old) }
+    requires point { is_at_point machine.old.state ≡ true }
+    requires ranked { IsRanked machine.old.code _ranks.now }
+    ensures holds { Holds machine.old
+        (outside (P.terms ports.old) (P.ends ports.old) (P.at_hand ports.old) (P.heard ports.old)
+        (P.polls ports.old) (P.tries ports.old) clock.old)
+        machine.new
+        (outside (P.terms ports.new) (P.ends ports.new) (P.at_hand ports.new) (P.heard ports.new)
+        (P.polls ports.new) (P.tries ports.new) clock.new) }
+    ensures came { IfOk result (λ seen. Came _ranks.now seen machine.old
+        (outside (P.terms ports.old) (P.ends ports.old) (P.at_hand ports.old) (P.heard ports.old)
+        (P.polls ports.old) (P.tries ports.old) clock.old)
+        machine.new
+        (outside (P.terms ports.new) (P.ends ports.new) (P.at_hand ports.new) (P.heard ports.new)
+        (P.polls ports.new) (P.tries ports.new) clock.new)) }
+    ensures full { MatchResult result (λ seen. P.full ports.new ≡ (P.full ports.old || is_seen_full seen))
+        (λ _. P.full ports.new ≡ P.full ports.old) }
+    ensures stays { P.stays ports.old ports.new }
+{
+    let before = clock.last();
+    let full = look_round(machine, ports, clock)?;
+    if full {
+        return Ok(Seen::Full);
+    }
+    if machine.idle() {
+        let after = clock.last();
+        if after == before {
+            return Ok(Seen::Nothing);
+        }
+        return Ok(Seen::WentOn);
+    }
+    machine.turn(_ranks)?;
+    Ok(Seen::WentOn)
+}
+
+// A stretch of the running thread, or a dispatch point.
+fn next_stretch<P: Ports>(
+    machine: &mut CoreMachine<'_>,
+    ports: &mut P,
+    clock: &mut Clock,
+    _ranks: &[u64],
+) -> Result<Seen, NoMemory>
+    requires in_step { InStep machine.old
+        (outside (P.terms ports.old) (P.ends ports.old) (P.at_hand ports.old) (P.heard ports.old)
+        (P.polls ports.old) (P.tries ports.old) clock.old) }
+    requires going { has_ended machine.old.state ≡ false }
+    requires ranked { IsRanked machine.old.code _ranks.now }
+    ensures holds { Holds machine.old
+        (outside (P.terms ports.old) (P.ends ports.old) (P.at_hand ports.old) (P.heard ports.old)
+        (P.polls ports.old) (P.tries ports.old) clock.old)
+        machine.new
+        (outside (P.terms ports.new) (P.ends ports.new) (P.at_hand ports.new) (P.heard ports.new)
+        (P.polls ports.new) (P.tries ports.new) clock.new) }
+    ensures came { IfOk result (λ seen. Came _ranks.now seen machine.old
+        (outside (P.terms ports.old) (P.ends ports.old) (P.at_hand ports.old) (P.heard ports.old)
+        (P.polls ports.old) (P.tries ports.old) clock.old)
+        machine.new
+        (outside (P.terms ports.new) (P.ends ports.new) (P.at_hand ports.new) (P.heard ports.new)
+        (P.polls ports.new) (P.tries ports.new) clock.new)) }
+    ensures full { MatchResult result (λ seen. P.full ports.new ≡ (P.full ports.old || is_seen_full seen))
+        (λ _. P.full ports.new ≡ P.full ports.old) }
+    ensures stays { P.stays ports.old ports.new }
+{
+    if machine.is_at_point() {
+        return pass_point(machine, ports, clock, _ranks);
+    }
+    machine.turn(_ranks)?;
+    Ok(Seen::WentOn)
+}
+
+/// Runs the core until it has ended, or so many dispatch points in a row have brought nothing, or all
+/// stamps are used. The ranks are there for the proof alone that it comes back.
+pub fn advance_by<P: Ports>(
+    machine: &mut CoreMachine<'_>,
+    ports: &mut P,
+    clock: &mut Clock,
+    polls: u32,
+    _ranks: &[u64],
+) -> Result<Pause, NoMemory>
+    requires in_step { InStep machine.old
+        (outside (P.terms ports.old) (P.ends ports.old) (P.at_hand ports.old) (P.heard ports.old)
+        (P.polls ports.old) (P.tries ports.old) clock.old) }
+    requires some { 1 ≤ polls }
+    requires ranked { IsRanked machine.old.code _ranks.now }
+    ensures holds { Holds machine.old
+        (outside (P.terms ports.old) (P.ends ports.old) (P.at_hand ports.old) (P.heard ports.old)
+        (P.polls ports.old) (P.tries ports.old) clock.old)
+        machine.new
+        (outside (P.terms ports.new) (P.ends ports.new) (P.at_hand ports.new) (P.heard ports.new)
+        (P.polls ports.new) (P.tries ports.new) clock.new) }
+    ensures pause { IfOk result (λ pause. IsPaused machine.new.state pause) }
+    ensures full { MatchResult result (λ pause. P.full ports.new ≡ (P.full ports.old || is_clock_full pause))
+        (λ _. P.full ports.new ≡ P.full ports.old) }
+    ensures heard { IfOk result (λ pause. pause ≡ Pause.ClockFull → IsFull
+        (outside (P.terms ports.new) (P.ends ports.new) (P.at_hand ports.new) (P.heard ports.new)
+        (P.polls ports.new) (P.tries ports.new) clock.new)) }
+    ensures idle { IfOk result (λ pause. pause ≡ Pause.Idle → LeavesNothing machine.new (P.terms ports.new) (P.ends ports.new)
+        (P.at_hand ports.new)) }
+    ensures looked { IfOk result (λ pause. pause ≡ Pause.Idle → HasLooked polls machine.new (P.polls ports.old) (P.polls ports.new)
+        (P.tries ports.old) (P.tries ports.new)) }
+    ensures stays { P.stays ports.old ports.new }
+{
+    let mut quiet = 0;
+    'turns: loop {
+        if let Some(ending) = machine.ending() {
+            return Ok(pause_of(ending));
+        }
+        let seen = next_stretch(machine, ports, clock, _ranks)?;
+        match seen {
+            Seen::Full => return Ok(Pause::ClockFull),
+            Seen::WentOn => {
+                quiet = 0;
+                continue;
+            }
+            Seen::Nothing => quiet += 1,
+        }
+        if quiet == polls {
+            return Ok(Pause::Idle);
+        }
+    }
+}

@@ -1,0 +1,110 @@
+-- What callers see of cores at their dispatch points, by example.
+use Rattle.std.proofs.Common.{◌≡◌, ℕ, refl, pos, true, false, List, [], ◌∷◌, Some, None}
+use Rattle.ac_base.specs.declared.entry.Event.TheVariants as event
+use Rattle.cancel_scope.specs.declared.operation.Asked.TheVariants.{Send}
+use Rattle.cancel_scope.specs.Outstanding.{offered_as}
+use Rattle.core_state.specs.Moves.{On, Over}
+use Rattle.core_state.specs.Arrivals.{has_ended}
+use Rattle.core_state.specs.Shared.{with_entry}
+use Rattle.code_meaning.specs.Machine.{Block, Caller, Flat, FlatEnd, Thread, arrived, nobody}
+use Rattle.stack_code.specs.Parts.{Parts}
+use Rattle.code_safety.specs.Left.{at_weight, callers_weight, owner_weight, parked_weight, ready_weight, running_weight, thread_weight, waiting_weight}
+use Rattle.core_machine.specs.Machine.{Machine}
+use Rattle.core_machine.specs.Points.{HasCome, HasTracks, entry_of, is_at_point, left_at, message_of, operations_of, receives_from, to_send, work_left}
+use Rattle.core_machine.proofs.Examples.{an_operation_for_none, first, hears, known, none_of_each, offer, running, second, sends, store, with_operations}
+
+abbrev over : FlatEnd
+over = record { core = None; count = 4 }
+
+pub whether_it_is_at_a_point : (is_at_point (On running) ≡ true) × (is_at_point (On (record running { running = Some second })) ≡ false) × (is_at_point (Over over) ≡ false)
+whether_it_is_at_a_point = (refl, refl, refl)
+
+-- ---- operations
+
+pub which_operations_it_has : (operations_of (On with_operations) ≡ sends ∷ hears ∷ []) × (operations_of (Over over) ≡ [])
+which_operations_it_has = (refl, refl)
+
+pub what_is_sent : (message_of (Send (pos 5)) ≡ Some (pos 5)) × (message_of hears.asked ≡ None)
+what_is_sent = (refl, refl)
+
+-- one that is offered is not to be offered again
+pub what_is_to_be_sent : (to_send (sends ∷ hears ∷ []) 0 ≡ Some (pos 5)) × (to_send (sends ∷ hears ∷ []) 1 ≡ None) × (to_send (offered_as 0 sends ∷ []) 0 ≡ None)
+what_is_to_be_sent = (refl, refl, refl)
+
+pub what_is_received : (receives_from (sends ∷ hears ∷ []) 1 ≡ true) × (receives_from (sends ∷ hears ∷ []) 0 ≡ false)
+what_is_received = (refl, refl)
+
+-- ---- an entry
+
+pub the_entry_of_a_turn : entry_of running (event.Know 0 0) 3 ≡ record { stamp = 3; turn = 1; event = event.Know 0 0 }
+the_entry_of_a_turn = refl
+
+-- the offer of a 5 on channel 0 stands
+abbrev stands : Flat
+stands = record running { operations = offered_as 0 sends ∷ []; shared = record running.shared { past = offer ∷ [] } }
+
+module _ (code : Parts) where
+  abbrev before : Machine
+  before = record { code = code; core = 0; bound = 9; journal = offer ∷ []; state = On stands; room = true }
+
+  -- it was taken, and the thread that sent is ready
+  abbrev after : Machine
+  after = record before {
+    journal = offer ∷ known ∷ [];
+    state = On (arrived stands (with_entry stands.shared known []) (has_ended store [] (offered_as 0 sends)));
+    room = false;
+  }
+
+  pub it_is_known : HasCome before (event.Know 0 0) 3 after
+  it_is_known = record {
+    flat = stands;
+    stood = refl;
+    arrival = has_ended store [] (offered_as 0 sends);
+    fits = refl;
+    state = refl;
+    journal = refl;
+    code = refl;
+    core = refl;
+    bound = refl;
+  }
+
+  -- an entry that is not in the journal has not come
+  pub it_is_not_recorded : HasCome before (event.Know 0 0) 3 (record after { journal = offer ∷ [] }) → ⊥
+  it_is_not_recorded h = let e = h.journal in cc
+
+  pub nothing_is_open : HasTracks (record before { journal = []; state = On running })
+  nothing_is_open h = none_of_each
+
+  pub an_operation_without_its_offer : HasTracks (record before { journal = [] }) → ⊥
+  an_operation_without_its_offer h = an_operation_for_none (h refl)
+
+  -- 8 steps are left, of 2 each, and the present move
+  pub what_is_left_of_it : (left_at [] 9 (On running) ≡ 17) × (left_at [] 9 (Over over) ≡ 0) × (work_left [] (record before { state = On running }) ≡ 17)
+  what_is_left_of_it = (refl, refl, refl)
+
+-- ---- what each part of a core may still do, where the second address has rank 1
+
+abbrev ranks : List ℕ
+ranks = 0 ∷ 1 ∷ []
+
+abbrev there : Thread
+there = record nobody { place = 1 }
+
+abbrev caller : Caller
+caller = record { place = 0; frame = nobody.frame; operands = [] }
+
+abbrev block : Block
+block = record { parent = None; owner = first; count = 1; waits = true }
+
+pub weights_of_a_thread : (at_weight ranks 1 ≡ 6) × (callers_weight ranks (caller ∷ []) ≡ 2) × (thread_weight ranks there ≡ 6)
+    × (thread_weight ranks (record there { callers = caller ∷ [] }) ≡ 8)
+weights_of_a_thread = (refl, refl, refl, refl)
+
+-- one that does not run has a dispatch before it
+pub weights_of_threads : (parked_weight ranks (there ∷ []) first ≡ 7) × (ready_weight ranks (there ∷ []) (first ∷ first ∷ []) ≡ 14) × (running_weight ranks there (Some first) ≡ 6)
+    × (running_weight ranks there None ≡ 0)
+weights_of_threads = (refl, refl, refl, refl)
+
+pub weights_of_blocks : (owner_weight ranks (there ∷ []) (Some block) ≡ 7) × (owner_weight ranks (there ∷ []) (Some (record block { waits = false })) ≡ 0)
+    × (waiting_weight ranks (there ∷ []) (None ∷ Some block ∷ []) ≡ 7)
+weights_of_blocks = (refl, refl, refl)

@@ -1,0 +1,194 @@
+-- What callers see of a running core at its dispatch points, and of the entries that come in there.
+use Rattle.std.proofs.Common.{◌≡◌, ℕ, ◌<◌, ◌≤◌, List, Option, Some, None, IsSome, Ok, Err, Bool, true, false, refl, sym, ap, ◌∙◌, subst, arith}
+use Rattle.std.specs.Prelude.{is_none, is_some, find, nat_lt, not, ◌&&◌, option_and_then, IfSome, ℤ, OnOk, Result}
+use Rattle.std.proofs.lemmas.Bool.{and_parts, ltb-true}
+use Rattle.std.proofs.lemmas.Bool.Decides.{nat_tests}
+use Rattle.std.proofs.lemmas.Result.{on_ok_weaker}
+use Rattle.ac_base.specs.declared.entry.Event.{Event}
+use Rattle.ac_base.specs.declared.memory.NoMemory.{NoMemory}
+use Rattle.work_item.specs.declared.ids.Item.{Item}
+use Rattle.cancel_scope.specs.declared.operation.Asked.{Asked}
+use Rattle.cancel_scope.specs.declared.operation.Asked.TheVariants.{Send, Recv}
+use Rattle.cancel_scope.specs.declared.operation.Operation.{Operation}
+use Rattle.cancel_scope.specs.Outstanding.{is_to_offer}
+use Rattle.core_state.specs.Moves.{GoesOn, On}
+use Rattle.stack_code.specs.Kept.{IsRanked}
+use Rattle.code_meaning.specs.Machine.{Flat, exec}
+use Rattle.code_safety.specs.Left.{left}
+use Rattle.core_machine.specs.declared.ending.Ending.{Ending}
+use Rattle.core_machine.specs.declared.running.Running.{Running}
+use Rattle.core_machine.specs.Machine.{Machine, IsSameCore, has_ended, is_idle, is_resting}
+use Rattle.core_machine.specs.Points.{HasCome, HasTracks, is_at_point, left_at, message_of, operations_of, to_send, work_left}
+use Rattle.core_machine.specs.State.{IsSound, end_or, flat_of, has_room, machine_of, state_of}
+use Rattle.core_machine.specs.Tracks.{Tracks}
+use Rattle.core_machine.specs.inner.Changes.{Enters, IsSameCode, Stays}
+use Rattle.core_machine.specs.inner.Left.{left_from, left_of}
+use Rattle.core_machine.proofs.Sound.{entered_journal, entered_less, entered_on, entered_sound, running, stays_sound, stays_state}
+
+-- ---- the fields of a core at a dispatch point
+
+none_of : (o : Option Item) → is_none o ≡ true → o ≡ None
+none_of None h = refl
+none_of (Some t) h = let no : false ≡ true = h in absurd (cc)
+
+pub at_point : (m : Running) → is_at_point (state_of m) ≡ true → (m.ended ≡ None) × (m.schedule.running ≡ None)
+at_point m h = by m.ended refl h
+  where
+    by : (o : Option Ending) → m.ended ≡ o → is_at_point (end_or (flat_of m) o) ≡ true → (m.ended ≡ None) × (m.schedule.running ≡ None)
+    by None e h = (e, none_of m.schedule.running h)
+    by (Some ending) e h = let no : false ≡ true = h in absurd (cc)
+
+pub going_on : (m : Running) → has_ended (state_of m) ≡ false → m.ended ≡ None
+going_on m h = by m.ended refl h
+  where
+    by : (o : Option Ending) → m.ended ≡ o → has_ended (end_or (flat_of m) o) ≡ false → m.ended ≡ None
+    by None e h = e
+    by (Some ending) e h = let no : true ≡ false = h in absurd (cc)
+
+pub not_resting : (m : Running) → has_ended (state_of m) ≡ false → is_idle (state_of m) ≡ false → is_resting (flat_of m) ≡ false
+not_resting m h busy = subst (λ o. is_idle (end_or (flat_of m) o) ≡ false) (going_on m h) busy
+
+pub operations_are : (m : Running) → has_ended (state_of m) ≡ false → operations_of (state_of m) ≡ m.outstanding.operations
+operations_are m h = ap (λ o. operations_of (end_or (flat_of m) o)) (going_on m h)
+
+-- one at a dispatch point has not ended
+pub point_goes : (m : Running) → is_at_point (state_of m) ≡ true → has_ended (state_of m) ≡ false
+point_goes m h = ap (λ o. has_ended (end_or (flat_of m) o)) (at_point m h).0
+
+pub work_is : (ranks : List ℕ) (m : Running) → work_left ranks (machine_of m) ≡ left_of ranks m
+work_is ranks m = by m.ended
+  where
+    by : (o : Option Ending) → left_at ranks m.bound (end_or (flat_of m) o) ≡ left_from o (left ranks m.bound (flat_of m))
+    by None = refl
+    by (Some ending) = refl
+
+-- ---- room
+
+pub record Roomed (m : Running) : Type 0 where
+  pub journal : 0 < m.journal.spare
+  pub ready : 0 < m.schedule.spare
+  pub settled : m.threads.pending ≡ false
+
+not_true : (b : Bool) → not b ≡ true → b ≡ false
+not_true true h = let no : false ≡ true = h in absurd (cc)
+not_true false h = refl
+
+pub roomed : (m : Running) → has_room m ≡ true → Roomed m
+roomed m h =
+    let one = and_parts (nat_lt 0 m.journal.spare) (nat_lt 0 m.schedule.spare && not m.threads.pending) h in
+    let two = and_parts (nat_lt 0 m.schedule.spare) (not m.threads.pending) one.1 in
+    record { journal = ltb-true 0 m.journal.spare one.0; ready = ltb-true 0 m.schedule.spare two.0; settled = not_true m.threads.pending two.1 }
+
+-- ---- what callers see of it
+
+module _ (m : Running) (old : Machine) (is : machine_of m ≡ old) where
+  pub roomed_by : old.room ≡ true → Roomed m
+  roomed_by h = roomed m (subst (λ (n : Machine). n.room ≡ true) (sym is) h)
+
+  pub point_by : is_at_point old.state ≡ true → (m.ended ≡ None) × (m.schedule.running ≡ None)
+  point_by h = at_point m (subst (λ (n : Machine). is_at_point n.state ≡ true) (sym is) h)
+
+  pub goes_by : has_ended old.state ≡ false → has_ended (state_of m) ≡ false
+  goes_by h = subst (λ (n : Machine). has_ended n.state ≡ false) (sym is) h
+
+  pub busy_by : is_idle old.state ≡ false → is_idle (state_of m) ≡ false
+  busy_by h = subst (λ (n : Machine). is_idle n.state ≡ false) (sym is) h
+
+  pub operations_there : is_at_point old.state ≡ true → operations_of old.state ≡ m.outstanding.operations
+  operations_there h = ap (λ (n : Machine). operations_of n.state) (sym is) ∙ operations_are m (point_goes m (subst (λ (n : Machine). is_at_point n.state ≡ true) (sym is) h))
+
+  pub journal_by : old.journal ≡ m.journal.entries
+  journal_by = ap (λ (n : Machine). n.journal) (sym is)
+
+-- ---- what an operation sends
+
+sends_that : (o : Option Operation) (value : ℤ) → option_and_then (λ (p : Operation). message_of p.asked) o ≡ Some value → IsSome o × IfSome o (λ (p : Operation). p.asked ≡ Send value)
+sends_that None value h = let no : None ≡ Some value = h in absurd (cc)
+sends_that (Some p) value h = (refl, by p.asked h)
+  where
+    by : (a : Asked) → message_of a ≡ Some value → a ≡ Send value
+    by (Send v) h = let same : v ≡ value = cc in ap (λ v. Send v) same
+    by (Recv place) h = let no : None ≡ Some value = h in absurd (cc)
+
+pub oldest_sends : (os : List Operation) (link : ℕ) (value : ℤ) → to_send os link ≡ Some value → IsSome (find (is_to_offer link) os) × IfSome (find (is_to_offer link) os)
+    (λ (p : Operation). p.asked ≡ Send value)
+oldest_sends os link value h = sends_that (find (is_to_offer link) os) value h
+
+pub some_of : {A : Type 0} (o : Option A) → is_some o ≡ true → IsSome o
+some_of o h = h
+
+-- ---- an entry that has come in
+
+module _ (before after : Running) (v : Event) (stamp : ℕ) (old : Machine) (is : machine_of before ≡ old) (sound : IsSound before) (point : is_at_point old.state ≡ true)
+    (enters : Enters before v stamp after) where
+  here : (before.ended ≡ None) × (before.schedule.running ≡ None)
+  here = at_point before (subst (λ (n : Machine). is_at_point n.state ≡ true) (sym is) point)
+
+  pub come_sound : IsSound after
+  come_sound = entered_sound before after v stamp here.0 here.1 sound enters
+
+  pub has_come : HasCome old v stamp (machine_of after)
+  has_come = subst (λ (n : Machine). HasCome n v stamp (machine_of after)) is (record {
+    flat = flat_of before;
+    stood = running (flat_of before) before.ended here.0;
+    arrival = enters.arrival;
+    fits = enters.fits;
+    state = running (flat_of after) after.ended (entered_on before after v stamp here.0 here.1 sound enters) ∙ ap (λ f. On f) enters.flat;
+    journal = entered_journal before after v stamp here.0 here.1 sound enters;
+    code = enters.same.code;
+    core = enters.same.core;
+    bound = enters.same.bound;
+  })
+
+  pub come_less : (ranks : List ℕ) → work_left ranks (machine_of after) ≤ work_left ranks old
+  come_less ranks =
+      let was : work_left ranks old ≡ left_of ranks before = ap (work_left ranks) (sym is) ∙ work_is ranks before in
+      let now = work_is ranks after in
+      let less = entered_less before after v stamp here.0 here.1 sound enters ranks in
+      omega (arith, was, now, less)
+
+-- ---- where nothing has changed that the code's meaning sees
+
+module _ (before after : Running) (old : Machine) (is : machine_of before ≡ old) (sound : IsSound before) (stays : Stays before after) (same : IsSameCode before after)
+    (settles : before.threads.pending ≡ false → after.threads.pending ≡ false) where
+  pub room_sound : IsSound after
+  room_sound = stays_sound before after sound stays same settles
+
+  pub room_same : IsSameCore old (machine_of after)
+  room_same = subst (λ (n : Machine). IsSameCore n (machine_of after)) is
+      (record { code = same.code; core = same.core; bound = same.bound; journal = ap (λ (f : Flat). f.shared.past) stays.flat })
+
+  pub room_state : state_of after ≡ old.state
+  room_state = stays_state before after stays ∙ ap (λ (n : Machine). n.state) is
+
+  pub room_tracks : HasTracks (machine_of after)
+  room_tracks h =
+      let on = at_point after h in
+      subst (Tracks after.journal.entries) (sym (operations_are after (point_goes after h))) (room_sound.tracks on.0)
+
+-- ---- room is made
+
+lt-ltb : (n : ℕ) → 0 < n → nat_lt 0 n ≡ true
+lt-ltb n h = grind (arith, nat_tests, h)
+
+pub makes_room : (m : Running) (r : Result Unit NoMemory) → OnOk r (0 < m.journal.spare) → OnOk r (0 < m.schedule.spare) → OnOk r (m.threads.pending ≡ false) → OnOk r (has_room m ≡ true)
+makes_room m (Ok x) journal ready settled = rw (lt-ltb m.journal.spare journal, lt-ltb m.schedule.spare ready, settled) refl
+makes_room m (Err e) journal ready settled = journal
+
+-- ---- a turn
+
+module _ (before after : Running) (old : Machine) (is : machine_of before ≡ old) where
+  pub turn_goes : GoesOn (exec before.code.now before.bound) (state_of before) (state_of after) → GoesOn (exec old.code old.bound) old.state (state_of after)
+  turn_goes h = subst (λ (n : Machine). GoesOn (exec n.code n.bound) n.state (state_of after)) is h
+
+  pub turn_same : IsSameCode before after → after.journal.entries ≡ before.journal.entries → IsSameCore old (machine_of after)
+  turn_same same journal = subst (λ (n : Machine). IsSameCore n (machine_of after)) is (record { code = same.code; core = same.core; bound = same.bound; journal = journal })
+
+  pub turn_less : (ranks : List ℕ) (r : Result Unit NoMemory) → OnOk r (left_of ranks after < left_of ranks before) → OnOk r (work_left ranks (machine_of after) < work_left ranks old)
+  turn_less ranks r h = on_ok_weaker r (λ less.
+      let was : work_left ranks old ≡ left_of ranks before = ap (work_left ranks) (sym is) ∙ work_is ranks before in
+      let now = work_is ranks after in
+      omega (arith, was, now, less)) h
+
+pub turn_ranked : (m : Running) (old : Machine) → machine_of m ≡ old → (ranks : List ℕ) → IsRanked old.code ranks → IsRanked m.code.now ranks
+turn_ranked m old is ranks h = subst (λ (n : Machine). IsRanked n.code ranks) (sym is) h

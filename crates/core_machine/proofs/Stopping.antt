@@ -1,0 +1,331 @@
+-- A running core comes to an end under its journal, of which something is seen, since no entry is still to come; and where it has ended
+-- or is idle, that is its end.
+use Rattle.std.proofs.Common.{◌≡◌, ℕ, zero, suc, ◌+◌, List, [], ◌∷◌, ◌++◌, length, map, Option, Some, None, IsSome, Result, Ok, Err, Bool, true, false, refl, sym, ap, ◌∙◌, subst, arith}
+use Rattle.std.specs.Prelude.{ℤ, reverse, take, drop, replicate, nat_le, nat_lt, nat_eq, slice_get, slice_set, is_none, is_some, ◌&&◌, ◌^◌, ◌-◌, if◌then◌else◌}
+use Rattle.std.proofs.lemmas.Bool.{and_parts}
+use Rattle.std.proofs.lemmas.List.Elements.{All-nil}
+use Rattle.ac_base.specs.declared.ends.Trap.{Trap}
+use Rattle.ac_base.specs.declared.ends.Trap.TheVariants.{OutputFull}
+use Rattle.ac_base.specs.declared.ends.EndWord.{EndWord}
+use Rattle.ac_base.specs.declared.ends.EndWord.TheVariants as word
+use Rattle.ac_base.specs.declared.ends.CoreEnd.{CoreEnd}
+use Rattle.ac_base.specs.declared.ends.MachineEnd.{MachineEnd}
+use Rattle.work_item.specs.declared.ids.Item.{Item}
+use Rattle.work_item.specs.declared.ids.BlockId.{BlockId}
+use Rattle.work_item.specs.declared.cell.Cell.{Cell}
+use Rattle.work_item.specs.declared.cell.Cell.TheVariants as cell
+use Rattle.work_item.specs.Store.{Store, int_in, place_in, no_int, released}
+use Rattle.cancel_scope.specs.declared.operation.Operation.{Operation}
+use Rattle.core_state.specs.Moves.{Move, On, Over, GoesOn, moves, and_then}
+use Rattle.core_state.specs.Arithmetic.{Computed, truth, negated, not_true, flipped, sum_of, difference_of, product_of, quotient, remainder}
+use Rattle.core_state.specs.Arithmetic.{shifted_left, shifted_right, is_equal, is_not_equal, is_less, is_at_most, both_bits, either_bits, differing_bits}
+use Rattle.core_state.specs.Frames.{element, set_element, part_at, begun, begun_with}
+use Rattle.core_state.specs.Arrivals.{at_point}
+use Rattle.core_state.specs.Shared.{core_end, with_step, with_turn, printed, formatted, output_limit, seen, seen_left}
+use Rattle.core_state.proofs.Runs.{GoesOn-more}
+use Rattle.stack_code.specs.declared.instr.Instr.{Instr}
+use Rattle.stack_code.specs.declared.instr.Instr.TheVariants as i
+use Rattle.stack_code.specs.declared.parts.Entered.{Entered}
+use Rattle.stack_code.specs.Parts.{Parts}
+use Rattle.stack_code.specs.Kept.{IsRanked}
+use Rattle.code_meaning.specs.Machine as flat
+use Rattle.code_meaning.specs.Machine.{Flat, FlatEnd, Caller, Block, nobody, arrived, begin, exec, exec_of, dispatched, told, with_store, with_shared, or_trap, on_top, on_two, on_three, on_many}
+use Rattle.code_meaning.specs.Machine.{one_operand, two_operands, always, text_at, calls, returns, starts, arrives, arrives_in, arrives_at, dies, dies_in, counted_out, block_at, thread_at}
+use Rattle.code_meaning.specs.Machine.{first_flat}
+use Rattle.code_safety.specs.Left.{left_to_come}
+use Rattle.code_safety.specs.KeptEnds.{KeepsEnds, IsAtEnd, AreAtEnds}
+use Rattle.code_safety.proofs.Beginnings.{ends_from}
+use Rattle.code_safety.proofs.OwnEnds.{own_ends}
+use Rattle.core_machine.specs.declared.ending.Ending.{Ending}
+use Rattle.core_machine.specs.declared.running.Running.{Running}
+use Rattle.core_machine.specs.Words.{word_of}
+use Rattle.core_machine.specs.Points.{operations_of, KeepsOperations}
+use Rattle.core_machine.specs.Machine.{ComesToEnd, is_resting, none_ready}
+use Rattle.core_machine.specs.State.{flat_of, end_or, machine_of, IsSound}
+
+-- ---- an instruction
+
+-- a move leaves the entries to come as they are, and an end is seen where there are none
+abbrev Shows : Flat → Move Flat FlatEnd → Type 0
+Shows m (On n) = n.shared.todo ≡ m.shared.todo
+Shows m (Over x) = m.shared.todo ≡ [] → IsSome x.core
+
+module _ (m : Flat) where
+  abbrev L : Move Flat FlatEnd → Type 0
+  L = Shows m
+
+  same : m.shared.todo ≡ m.shared.todo
+  same = refl
+
+  shown : (why : EndWord) (idle : Bool) → m.shared.todo ≡ [] → IsSome (seen why idle m.store.globals m.operations m.shared)
+  shown why idle k = ap (λ todo. is_some (seen_left why idle m.store.globals m.operations m.shared todo)) k
+
+  top_shows : (go : Cell → List Cell → Move Flat FlatEnd) (ops : List Cell) → ((x : Cell) (below : List Cell) → L (go x below)) → L (on_top m go ops)
+  top_shows go [] h = same
+  top_shows go (x ∷ below) h = h x below
+
+  two_show : (go : Cell → Cell → List Cell → Move Flat FlatEnd) (ops : List Cell) → ((x y : Cell) (below : List Cell) → L (go x y below)) → L (on_two m go ops)
+  two_show go [] h = same
+  two_show go (x ∷ []) h = same
+  two_show go (y ∷ x ∷ below) h = h x y below
+
+  three_show : (go : Cell → Cell → Cell → List Cell → Move Flat FlatEnd) (ops : List Cell) → ((x y z : Cell) (below : List Cell) → L (go x y z below)) → L (on_three m go ops)
+  three_show go [] h = same
+  three_show go (x ∷ []) h = same
+  three_show go (y ∷ x ∷ []) h = same
+  three_show go (z ∷ y ∷ x ∷ below) h = h x y z below
+
+  many_show : (count : ℕ) (go : List Cell → List Cell → Move Flat FlatEnd) (ops : List Cell) → ((args below : List Cell) → L (go args below)) → L (on_many m count go ops)
+  many_show count go ops h = by (nat_le count (length ops))
+    where
+      by : (b : Bool) → L (if b then go (reverse (take count ops)) (drop count ops) else On m)
+      by true = h (reverse (take count ops)) (drop count ops)
+      by false = same
+
+  trap_shows : {A : Type 0} (r : Result A Trap) (go : A → Move Flat FlatEnd) → ((x : A) → L (go x)) → L (or_trap m r go)
+  trap_shows (Ok x) go h = h x
+  trap_shows (Err trap) go h = shown (word.Trapped trap) false
+
+  one_shows : (f : ℤ → ℤ) → L (one_operand m f)
+  one_shows f = top_shows _ m.current.operands (λ x below. same)
+
+  ints_show : (f : ℤ → ℤ → Computed) → L (two_operands m f)
+  ints_show f = two_show _ m.current.operands (λ x y below. trap_shows (f (int_in x) (int_in y)) _ (λ v. same))
+
+  print_shows : (bytes : List ℕ) (below : List Cell) → L (or_trap m (printed m.shared bytes) (λ s. flat.goes (with_shared m s) below))
+  print_shows bytes below = by (nat_le (length m.shared.output + length bytes) output_limit)
+    where
+      by : (b : Bool) → L (or_trap m (if b then Ok (record m.shared { output = m.shared.output ++ bytes }) else Err OutputFull) (λ s. flat.goes (with_shared m s) below))
+      by true = same
+      by false = shown (word.Trapped OutputFull) false
+
+  calls_show : (o : Option Entered) (args below : List Cell) → L (calls m o args below)
+  calls_show None args below = same
+  calls_show (Some f) args below = trap_shows (begun_with m.store f.params f.words args) _ (λ store. same)
+
+  returns_show : (value : Cell) (callers : List Caller) → L (returns m value callers)
+  returns_show value [] = shown word.Finished false
+  returns_show value (c ∷ callers) = same
+
+  arrives_shows : (t : Item) (o : Option BlockId) → L (arrives m t o)
+  arrives_shows t None = same
+  arrives_shows t (Some b) = by (block_at m.blocks b)
+    where
+      at_block : (z : Bool) (x : Block) → L (arrives_at z m t b x)
+      at_block true x = same
+      at_block false x = same
+
+      by : (o : Option Block) → L (arrives_in m t b o)
+      by None = same
+      by (Some x) = at_block (nat_eq x.count 0) x
+
+  dies_shows : (store : Store) (t : Item) (o : Option BlockId) → L (On (dies (with_store m store) t o))
+  dies_shows store t None = same
+  dies_shows store t (Some b) = by (block_at m.blocks b)
+    where
+      out : (z : Bool) (x : Block) → L (On (counted_out z (with_store m store) t b x))
+      out true x = same
+      out false x = same
+
+      by : (o : Option Block) → L (On (dies_in (with_store m store) t b o))
+      by None = same
+      by (Some x) = out (nat_eq x.count 1 && x.waits) x
+
+  module _ (code : Parts) (bound : ℕ) (t : Item) where
+    step_shows : L (begin code bound m t (Some i.Step))
+    step_shows = by (nat_lt m.shared.steps bound)
+      where
+        by : (b : Bool) → L (if b then flat.goes (with_shared m (with_step m.shared)) m.current.operands else flat.ends (flat.seen_of word.OutOfSteps false m) m.count)
+        by true = same
+        by false = shown word.OutOfSteps false
+
+    begin_shows : (instr : Instr) → L (begin code bound m t (Some instr))
+    begin_shows i.Step = step_shows
+    begin_shows (i.Push v) = same
+    begin_shows (i.Load level slot) = same
+    begin_shows (i.LoadG slot) = same
+    begin_shows (i.Store level slot) = top_shows _ m.current.operands (λ x below. same)
+    begin_shows (i.StoreG slot) = top_shows _ m.current.operands (λ x below. same)
+    begin_shows (i.Arr level slot len) = same
+    begin_shows (i.ArrG slot len) = same
+    begin_shows i.Elem = two_show _ m.current.operands (λ x y below. trap_shows (element m.store (place_in x) (int_in y)) _ (λ v. same))
+    begin_shows i.SetElem = three_show _ m.current.operands (λ x y z below. trap_shows (set_element m.store (place_in y) (int_in z) (int_in x)) _ (λ store. same))
+    begin_shows i.Place = two_show _ m.current.operands (λ x y below. trap_shows (part_at (place_in x) (int_in y)) _ (λ part. same))
+    begin_shows (i.Clear slot len) = same
+    begin_shows i.Neg = one_shows negated
+    begin_shows i.Not = one_shows not_true
+    begin_shows i.Flip = one_shows flipped
+    begin_shows i.Bool = one_shows truth
+    begin_shows i.BitOr = ints_show (always either_bits)
+    begin_shows i.BitXor = ints_show (always differing_bits)
+    begin_shows i.BitAnd = ints_show (always both_bits)
+    begin_shows i.Eq = ints_show (always is_equal)
+    begin_shows i.Ne = ints_show (always is_not_equal)
+    begin_shows i.Less = ints_show (always is_less)
+    begin_shows i.LessEq = ints_show (always is_at_most)
+    begin_shows i.More = ints_show (always (λ x y. is_less y x))
+    begin_shows i.MoreEq = ints_show (always (λ x y. is_at_most y x))
+    begin_shows i.Shl = ints_show (always shifted_left)
+    begin_shows i.Shr = ints_show (always shifted_right)
+    begin_shows i.Add = ints_show (always sum_of)
+    begin_shows i.Sub = ints_show (always difference_of)
+    begin_shows i.Mul = ints_show (always product_of)
+    begin_shows i.Div = ints_show quotient
+    begin_shows i.Rem = ints_show remainder
+    begin_shows i.Drop = top_shows _ m.current.operands (λ x below. same)
+    begin_shows (i.Jump to) = same
+    begin_shows (i.Jz to) = top_shows _ m.current.operands (λ x below. same)
+    begin_shows (i.Jnz to) = top_shows _ m.current.operands (λ x below. same)
+    begin_shows (i.Print text count) = many_show count _ m.current.operands (λ args below. print_shows (formatted (text_at code text) (map int_in args)) below)
+    begin_shows (i.Call function count) = many_show count _ m.current.operands (λ args below. calls_show (slice_get code.functions function) args below)
+    begin_shows i.Ret = top_shows _ m.current.operands (λ x below. returns_show (cell.Int (int_in x)) m.current.callers)
+    begin_shows (i.Enter slot) = same
+    begin_shows (i.Finish slot) = arrives_shows t m.current.block
+    begin_shows (i.Async slots to) = trap_shows (begun m.store (Some m.current.frame) (replicate slots no_int)) (λ store. On (starts m t to store)) (λ store. same)
+    begin_shows i.End = dies_shows (released m.store m.current.frame) t m.current.block
+    begin_shows i.Yield = same
+    begin_shows (i.Cancel level slot) = same
+    begin_shows (i.Send channel) = top_shows _ m.current.operands (λ x below. same)
+    begin_shows (i.Recv channel) = top_shows _ m.current.operands (λ x below. same)
+    begin_shows (i.Read file) = same
+    begin_shows (i.Write file) = same
+
+-- ---- a run with no entry to come
+
+module _ (code : Parts) (bound : ℕ) where
+  dispatched_shows : (m : Flat) (ready : List Item) → Shows m (dispatched m ready)
+  dispatched_shows m [] = shown m word.Stalled true
+  dispatched_shows m (t ∷ ready) = by (nat_lt m.shared.turn (2 ^ 64 - 1))
+    where
+      by : (b : Bool) → Shows m (if b
+          then On (record m { shared = with_turn m.shared; running = Some t; current = thread_at m.threads t; ready = ready; threads = slice_set m.threads t.number nobody })
+          else Over (told m.count (seen word.OutOfSteps false m.store.globals m.operations m.shared)))
+      by true = same m
+      by false = shown m word.OutOfSteps false
+
+  exec_shows : (m : Flat) → m.shared.todo ≡ [] → Shows m (exec code bound m)
+  exec_shows m last = by m.running
+    where
+      at_place : (t : Item) (o : Option Instr) → Shows m (begin code bound m t o)
+      at_place t None = same m
+      at_place t (Some instr) = begin_shows m code bound t instr
+
+      by : (o : Option Item) → Shows m (exec_of code bound m o)
+      by None = subst (λ todo. Shows m (at_point (told m.count) m.shared m.store m.operations (λ shared x. On (arrived m shared x)) (dispatched m m.ready) todo)) (sym last)
+          (dispatched_shows m m.ready)
+      by (Some t) = at_place t (slice_get code.instrs m.current.place)
+
+  seen_at_end : (k : ℕ) (m : Flat) (end : FlatEnd) → m.shared.todo ≡ [] → moves (exec code bound) k m ≡ Over end → IsSome end.core
+  seen_at_end zero m end last h = let no : On m ≡ Over end = h in absurd (cc)
+  seen_at_end (suc k) m end last h = go (λ n l r. seen_at_end k n end l r) (exec code bound m) (exec_shows m last) h
+    where
+      go : ((n : Flat) → n.shared.todo ≡ [] → moves (exec code bound) k n ≡ Over end → IsSome end.core) → (a : Move Flat FlatEnd) → Shows m a
+          → and_then a (moves (exec code bound) k) ≡ Over end → IsSome end.core
+      go later (On n) l h = later n (l ∙ last) h
+      go later (Over x) l h =
+          let is : x ≡ end = let over : Over x ≡ Over end = h in cc in
+          subst (λ (y : FlatEnd). IsSome y.core) is (l last)
+
+  further : (k j : ℕ) (s : Flat) (e : FlatEnd) (a : Move Flat FlatEnd) → and_then a (moves (exec code bound) k) ≡ On s → moves (exec code bound) j s ≡ Over e
+      → (i : ℕ) × (and_then a (moves (exec code bound) i) ≡ Over e)
+  further k j s e (Over x) h r = let no : Over x ≡ On s = h in absurd (cc)
+  further zero j s e (On m) h r =
+      let same : m ≡ s = let both : On m ≡ On s = h in cc in
+      (j, ap (moves (exec code bound) j) same ∙ r)
+  further (suc k) j s e (On m) h r = let rest = further k j s e (exec code bound m) h r in (suc rest.0, rest.1)
+
+  -- a run to a state from which the moves come to an end
+  ends_later : (a : Move Flat FlatEnd) (s : Flat) (e : FlatEnd) (j : ℕ) → GoesOn (exec code bound) a (On s) → moves (exec code bound) j s ≡ Over e → GoesOn (exec code bound) a (Over e)
+  ends_later a s e j run r = let all = further run.0 j s e a (sym run.1) r in (all.0, sym all.1)
+
+  -- ---- an idle core
+
+  nobody_runs : (o : Option Item) → is_none o ≡ true → o ≡ None
+  nobody_runs None h = refl
+  nobody_runs (Some t) h = let no : false ≡ true = h in absurd (cc)
+
+  nobody_waits : (ready : List Item) → none_ready ready ≡ true → ready ≡ []
+  nobody_waits [] h = refl
+  nobody_waits (t ∷ ready) h = let no : false ≡ true = h in absurd (cc)
+
+  abbrev stalled : Flat → FlatEnd
+  stalled m = told m.count (Some (core_end word.Stalled true m.store.globals m.operations m.shared))
+
+  idle_ends : (m : Flat) → m.shared.todo ≡ [] → is_resting m ≡ true → exec code bound m ≡ Over (stalled m)
+  idle_ends m last h =
+      let parts = and_parts (is_none m.running) (none_ready m.ready) h in
+      ap (exec_of code bound m) (nobody_runs m.running parts.0)
+      ∙ ap (λ todo. at_point (told m.count) m.shared m.store m.operations (λ shared x. On (arrived m shared x)) (dispatched m m.ready) todo) last
+      ∙ ap (dispatched m) (nobody_waits m.ready parts.1)
+      ∙ ap (λ todo. Over (told m.count (seen_left word.Stalled true m.store.globals m.operations m.shared todo))) last
+
+-- ---- a machine
+
+seen_end : (x : FlatEnd) → IsSome x.core → (end : MachineEnd) × (x ≡ told end.instructions (Some end.core))
+seen_end x some = by x.core refl some
+  where
+    by : (o : Option CoreEnd) → x.core ≡ o → IsSome o → (end : MachineEnd) × (x ≡ told end.instructions (Some end.core))
+    by None e h = let no : false ≡ true = h in absurd (cc)
+    by (Some core) e h = (record { core = core; instructions = x.count }, ap (told x.count) e)
+
+module _ (r : Running) (sound : IsSound r) (ranks : List ℕ) (ranked : IsRanked r.code.now ranks) where
+  abbrev code : Parts
+  code = r.code.now
+
+  abbrev m : Flat
+  m = flat_of r
+
+  abbrev first : Move Flat FlatEnd
+  first = first_flat code sound.ran.function r.journal.entries
+
+  run_to : (o : Option Ending) → r.ended ≡ o → GoesOn (exec code r.bound) first (end_or m o)
+  run_to o e = subst (λ x. GoesOn (exec code r.bound) first (end_or m x)) e sound.ran.goes
+
+  abbrev Comes : Option Ending → Type 0
+  Comes o = ComesToEnd (record (machine_of r) { state = end_or m o })
+
+  resting_comes : (b : Bool) → is_resting m ≡ b → r.ended ≡ None → Comes None
+  resting_comes true h e = record {
+    end = record { core = core_end word.Stalled true m.store.globals m.operations m.shared; instructions = m.count };
+    comes = record {
+      function = sound.ran.function;
+      begins = sound.ran.begins;
+      comes = subst (GoesOn (exec code r.bound) first) (idle_ends code r.bound m refl h) (GoesOn-more (exec code r.bound) first m (run_to None e));
+    };
+    seen = λ _. (ap (λ idle. core_end word.Stalled idle m.store.globals m.operations m.shared) h, refl);
+    busy = λ ended. let no : false ≡ true = ended in absurd (cc);
+  }
+  resting_comes false h e =
+      let on = ends_from code r.bound sound.valid sound.meant ranks ranked (suc (left_to_come ranks r.bound m)) m (sound.fit e) (omega arith) in
+      let end = seen_end on.0 (seen_at_end code r.bound on.1.0 m on.0 refl on.1.1) in
+      record {
+        end = end.0;
+        comes = record {
+          function = sound.ran.function;
+          begins = sound.ran.begins;
+          comes = subst (λ x. GoesOn (exec code r.bound) first (Over x)) end.1 (ends_later code r.bound first m on.0 on.1.0 (run_to None e) on.1.1);
+        };
+        seen = λ stopped. let no : false ≡ true = sym h ∙ stopped in absurd (cc);
+        busy = λ ended. let no : false ≡ true = ended in absurd (cc);
+      }
+
+  comes : (o : Option Ending) → r.ended ≡ o → Comes o
+  comes None e = resting_comes (is_resting m) refl e
+  comes (Some ending) e = record {
+    end = record { core = core_end (word_of ending) false m.store.globals m.operations m.shared; instructions = m.count };
+    comes = record { function = sound.ran.function; begins = sound.ran.begins; comes = run_to (Some ending) e };
+    seen = λ _. (refl, refl);
+    busy = λ ended. refl;
+  }
+
+  pub comes_to_end : ComesToEnd (machine_of r)
+  comes_to_end = comes r.ended refl
+
+  -- ---- the operations of a core whose code keeps its ends
+
+  at_ends : KeepsEnds code → (o : Option Ending) → r.ended ≡ o → AreAtEnds code r.core (operations_of (end_or m o))
+  at_ends keeps None e = own_ends code sound.valid keeps r.core sound.ran.function sound.ran.begins sound.meant ranks ranked r.bound r.journal.entries m (run_to None e)
+  at_ends keeps (Some ending) e = All-nil (λ (o : Operation). IsAtEnd code r.core o.link o.asked)
+
+  pub keeps_own_ends : KeepsOperations (machine_of r)
+  keeps_own_ends keeps = at_ends keeps r.ended refl

@@ -1,0 +1,55 @@
+-- The links of a run as its cores share them: the two parties of each, and what a core has of them.
+use Rattle.std.specs.Prelude.{◌≡◌, ℕ, ◌-◌, ◌<◌, List, length, Option, Some, None, slice_get}
+use Rattle.std.specs.List.{All}
+use Rattle.stack_code.specs.declared.parts.ChannelEnds.{ChannelEnds}
+use Rattle.stack_code.specs.Parts.{Parts}
+use Rattle.ac_links.specs.declared.payloads.Terms.{Terms}
+use Rattle.ac_links.specs.Views.{OwnerOffer, PeerDecision}
+use Rattle.ac_links.specs.Party.{LinkEnd}
+use Rattle.core_channels.specs.LinkViews.{LinkViews, IsLink, link_at, terms_at}
+use Rattle.core_runner.specs.Hands.{heard_at}
+use Rattle.core_driver.specs.Sides.{side_of}
+use Rattle.core_runner.specs.Ends.{end_of}
+
+-- ---- the two parties of a link
+
+abbrev pub owner_at : ℕ → ℕ → Option ChannelEnds → ℕ
+owner_at channels l None = l - channels
+owner_at channels l (Some ends) = ends.from
+
+-- the core that sends on link l: that of a channel, and after the channels each core in turn
+abbrev pub owner_of : List ChannelEnds → ℕ → ℕ
+owner_of channels l = owner_at (length channels) l (slice_get channels l)
+
+abbrev pub peer_at : ℕ → Option ChannelEnds → ℕ
+peer_at cores None = cores
+peer_at cores (Some ends) = ends.to
+
+-- the core that receives on link l, or the worker, whose number is that of the cores
+abbrev pub peer_of : List ChannelEnds → ℕ → ℕ → ℕ
+peer_of channels cores l = peer_at cores (slice_get channels l)
+
+-- ---- what is seen of the links
+
+abbrev pub terms_in : List LinkViews → ℕ → Terms
+terms_in links l = (link_at links l).terms
+
+abbrev pub offers_in : List LinkViews → ℕ → List OwnerOffer
+offers_in links l = (link_at links l).offers
+
+abbrev pub decisions_in : List LinkViews → ℕ → List PeerDecision
+decisions_in links l = (link_at links l).decisions
+
+-- the ends of a core
+abbrev pub ends_in : List ChannelEnds → ℕ → List LinkViews → ℕ → LinkEnd
+ends_in channels core links l = end_of (side_of channels core l) (slice_get links l)
+
+-- the greatest stamp of the other side that a core sees on link l
+abbrev pub heard_in : List ChannelEnds → ℕ → List LinkViews → ℕ → ℕ
+heard_in channels core links l = heard_at (link_at links l) (side_of channels core l)
+
+-- one link for each capacity of the code, with its terms, of which the two views agree
+pub record AreLinksOf (code : Parts) (links : List LinkViews) : Type 0 where
+  pub count : length links ≡ length code.capacities
+  pub terms : (l : ℕ) → l < length code.capacities → terms_in links l ≡ terms_at (length code.ends) code.capacities l
+  pub agree : All IsLink links
