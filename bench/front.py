@@ -23,7 +23,7 @@ FUNCTION = """int p{n}(int x, int v[]) {{
   return -x;
 }}
 """
-TAIL = "async void f() { l: do { async { yield; } cancel l; } finish; }\n"
+TAIL = "async void f() { l: do { async { yield; } cancel l; } finish; }\n" + FILE
 PYTHON = """def p{n}(x, v):
     for i in range(0, 8):
         v[i] = x * (i << 2) - ~g
@@ -81,7 +81,7 @@ def timed(folder, name, text, word):
 def main():
     with tempfile.TemporaryDirectory() as folder:
         half, whole = (
-            timed(folder, size, filled(HEAD, FUNCTION, TAIL, size), "cancel")
+            timed(folder, size, filled(HEAD, FUNCTION, TAIL, size), FILE)
             for size in (GREATEST // 2, GREATEST)
         )
         few, many = (timed(folder, count, chain(count), FILE) for count in (5_000, 10_000))

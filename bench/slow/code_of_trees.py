@@ -1,6 +1,8 @@
 """The translation of trees to instructions, and a machine that runs and counts them."""
 from collections import deque
 
+from source import Cut
+
 LIMIT = 4_194_304
 MIN, SPAN = -(1 << 63), 1 << 64
 
@@ -186,6 +188,8 @@ class Compiled:
             self.patch(j)
         elif k == "Yield":
             self.put("Yield")
+        elif k == "Cancel":
+            self.put("Cancel", s.level, s.block.slot)
         elif k != "Empty":
             raise NotImplementedError(k)
 
@@ -204,7 +208,16 @@ class T:
 
 
 class B:
-    __slots__ = ("parent", "count", "owner")
+    __slots__ = ("parent", "count", "owner", "marked")
+
+
+def around(block):
+    """The block and those round it, the innermost first."""
+    found = []
+    while block is not None:
+        found.append(block)
+        block = block.parent
+    return found
 
 
 class CodeCore:
@@ -217,6 +230,7 @@ class CodeCore:
         self.receives = [deque() for _ in names.channels]
         self.offers = {}
         self.births = 0
+        self.outcome = None
         self.limit = limit
         self.g = [0] * names.slots
         for s, v in compiled.starts.items():
@@ -265,16 +279,35 @@ class CodeCore:
         self.offers[link, number] = self.sends[link].popleft()
 
     def know(self, link, number):
-        self.goes_on(self.offers.pop((link, number))[1])
+        self.goes_on(self.offers.pop((link, number))[1], 0)
 
     def got(self, link, value):
         _, t, (home, s, _) = self.receives[link].popleft()
         home[s] = value
-        self.goes_on(t)
+        self.goes_on(t, 0)
 
-    def goes_on(self, t):
-        t.stack.append(0)
+    def goes_on(self, t, value):
+        t.stack.append(value)
         self.ready.append(t)
+
+    def cancel(self, block):
+        """Tries all that has started within the block, by birth; says whether it came to its end."""
+        block.marked = True
+        tried = [(o, q, link, None) for q in (self.sends, self.receives) for link in range(len(q)) for o in q[link]]
+        tried += [(o, None, link, number) for (link, number), o in self.offers.items()]
+        for o, q, link, number in sorted((x for x in tried if block in around(x[0][1].block)), key=lambda x: x[0][0]):
+            if number is None:
+                q[link].remove(o)
+                self.goes_on(o[1], -1)
+                continue
+            try:
+                withdrawn = self.outcome(link, number)
+            except Cut:
+                self.word = "stalled"
+                return False
+            del self.offers[link, number]
+            self.goes_on(o[1], -1 if withdrawn else 0)
+        return True
 
     def go(self):
         self.turn += 1
@@ -404,7 +437,7 @@ class CodeCore:
                 st.append(v)
             elif op == "Enter":
                 b = B()
-                b.parent, b.count, b.owner = t.block, 0, None
+                b.parent, b.count, b.owner, b.marked = t.block, 0, None, False
                 fr.slots[ins[1]] = b
                 t.block = b
             elif op == "Finish":
@@ -442,6 +475,14 @@ class CodeCore:
                     self.word = "index"
                     return
                 st.append((home, s + i, 1))
+            elif op == "Cancel":
+                f = fr
+                for _ in range(ins[1]):
+                    f = f.up
+                if not self.cancel(f.slots[ins[2]]):
+                    return
+            elif op in ("Send", "Recv") and any(b.marked for b in around(t.block)):
+                st[-1] = -1
             elif op in ("Send", "Recv"):
                 t.pc, t.frame = pc, fr
                 queues = self.sends if op == "Send" else self.receives

@@ -7,7 +7,7 @@ import random
 
 from code_of_trees import CodeCore, Compiled
 from history import Entry, Illegal, Offer, front, legal, merged, room, unrest
-from source import TreeCore
+from source import Cut, TreeCore
 
 
 class Difference(AssertionError):
@@ -24,7 +24,7 @@ class Order:
         self.random = random.Random(seed)
         weigh = [1] if seed == 0 else [1, 1, 30, 1000]
         self.cores = [self.random.choice(weigh) for _ in range(cores)]
-        self.kinds = {kind: self.random.choice(weigh) for kind in ("offer", "know", "got", "go")}
+        self.kinds = {kind: self.random.choice(weigh) for kind in ("offer", "know", "room", "got", "pass", "go")}
         self.polls = polls
 
     def core(self, able):
@@ -45,7 +45,7 @@ def comes(core, e):
         core.offer(e.link, e.number)
     elif e.event == "know":
         core.know(e.link, e.number)
-    else:
+    elif e.event == "got":
         core.got(e.link, e.value)
 
 
@@ -58,17 +58,20 @@ class Run:
         self.journals = [[] for _ in cores]
         self.sends = [[c.number for c in names.channels if c.sender == k] for k in range(len(cores))]
         self.receives = [[c.number for c in names.channels if c.receiver == k] for k in range(len(cores))]
+        for k, core in enumerate(cores):
+            core.outcome = lambda link, number, k=k: self.withdraws(k, link, number)
 
     def offers(self, k, link):
         there = self.cores[k].to_offer(link) is not None and room(self.names.channels[link].cap, self.links[link])
         return [("offer", link, len(self.links[link]))] if there else []
 
     def knows(self, link):
-        return [("know", link, n) for n, o in enumerate(self.links[link]) if o.taken is not None and not o.known]
+        return [("know" if o.passed is None else "room", link, n) for n, o in enumerate(self.links[link])
+                if o.is_decided() and not o.known]
 
     def gets(self, k, link):
         n = front(self.links[link]) if self.cores[k].wants(link) else None
-        return [] if n is None else [("got", link, n)]
+        return [] if n is None else [("got" if self.links[link][n].is_there() else "pass", link, n)]
 
     def arrivals(self, k):
         """All that can come to this core."""
@@ -85,20 +88,36 @@ class Run:
         core = self.cores[k]
         return self.arrivals(k) + ([("go", 0, 0)] if core.word is None and core.ready else [])
 
-    def arrive(self, k, event, link, number):
+    def noted(self, k, event, link, number):
+        """The entry of this event, which the journal and the link have now."""
         core, journal = self.cores[k], self.journals[k]
         last, value = journal[-1].stamp if journal else 0, None
         if event == "offer":
             value, stamp = core.to_offer(link), 1 + last
             self.links[link].append(Offer(value, stamp))
         offer = self.links[link][number]
-        if event == "know":
+        if event == "withdraw":
+            offer.withdrawn = stamp = 1 + last
+        elif event == "know":
             stamp, offer.known = 1 + max(last, offer.taken), True
+        elif event == "room":
+            stamp, offer.known = 1 + max(last, offer.passed), True
         elif event == "got":
             value, stamp = offer.value, 1 + max(last, offer.stamp)
             offer.taken = stamp
+        elif event == "pass":
+            offer.passed = stamp = 1 + max(last, offer.withdrawn)
         journal.append(Entry(stamp, k, core.turn, event, link, number, value))
-        comes(core, journal[-1])
+        return journal[-1]
+
+    def arrive(self, k, event, link, number):
+        comes(self.cores[k], self.noted(k, event, link, number))
+
+    def withdraws(self, k, link, number):
+        """Whether a cancel of the core withdraws the offer; it comes to know where its peer was first."""
+        withdrawn = self.links[link][number].is_there()
+        self.noted(k, "withdraw" if withdrawn else "know", link, number)
+        return withdrawn
 
     def one(self, k):
         """One move of this core."""
@@ -134,21 +153,38 @@ class Run:
                 able.remove(k)
 
 
-def fits(core, e, offered):
-    """Whether the entry may come to the core now, which has made so many offers on its link."""
+def fits(core, e, before):
+    """Whether the entry may come to the core now, to which these came before."""
     if e.event == "offer":
-        return e.number == offered and core.to_offer(e.link) == e.value is not None
-    return core.has_offered(e.link, e.number) if e.event == "know" else core.wants(e.link)
+        made = sum((b.event, b.link) == ("offer", e.link) for b in before)
+        return e.number == made and core.to_offer(e.link) == e.value is not None
+    if e.event == "know":
+        return core.has_offered(e.link, e.number)
+    if e.event == "room":
+        its = [b.event for b in before if (b.link, b.number) == (e.link, e.number)]
+        return "withdraw" in its and "room" not in its
+    return e.event in ("got", "pass") and core.wants(e.link)
 
 
 def replay(core, journal):
     """Runs a core under a journal; the first place that does not fit, or None."""
     at = 0
+
+    def outcome(link, number):
+        nonlocal at
+        if at == len(journal):
+            raise Cut()
+        e = journal[at]
+        if e.event not in ("withdraw", "know") or (e.turn, e.link, e.number) != (core.turn, link, number):
+            raise Cut()
+        at += 1
+        return e.event == "withdraw"
+
+    core.outcome = outcome
     while core.word is None:
         if at < len(journal) and journal[at].turn == core.turn:
             e = journal[at]
-            offered = sum((before.event, before.link) == ("offer", e.link) for before in journal[:at]) if e.event == "offer" else 0
-            if not fits(core, e, offered):
+            if not fits(core, e, journal[:at] if e.event in ("offer", "room") else []):
                 return at
             comes(core, e)
             at += 1

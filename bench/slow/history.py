@@ -1,9 +1,10 @@
 """Entries of a run, the history into which they are merged, which histories are legal, and which runs are quiet.
 
-A link is a list of offers. The owner offers, and knows later that an offer was taken; the peer gets the least that is not taken."""
+A link is a list of offers. The owner offers, and knows later that an offer was taken; the peer gets the least that is not taken. The
+owner may withdraw an offer that was not taken; the peer passes over it in its turn, and later the owner has its room back."""
 from collections import namedtuple
 
-# `event` is offer, know or got; `value` is None for a know
+# `event` is offer, withdraw, know, room, got or pass; `value` is None for all but offer and got
 Entry = namedtuple("Entry", "stamp party turn event link number value")
 
 
@@ -14,8 +15,15 @@ class Illegal(Exception):
 class Offer:
     def __init__(self, value, stamp):
         self.value, self.stamp = value, stamp
-        self.taken = None                    # the stamp of its got
+        # the stamps of its got, its withdraw and its pass
+        self.taken = self.withdrawn = self.passed = None
         self.known = False
+
+    def is_decided(self):
+        return self.taken is not None or self.passed is not None
+
+    def is_there(self):
+        return self.taken is None and self.withdrawn is None
 
 
 def room(capacity, offers):
@@ -25,8 +33,8 @@ def room(capacity, offers):
 
 
 def front(offers):
-    """The number of the least offer that is not taken, or None."""
-    return next((k for k, o in enumerate(offers) if o.taken is None), None)
+    """The number of the least offer that is neither taken nor passed, or None."""
+    return next((k for k, o in enumerate(offers) if not o.is_decided()), None)
 
 
 def merged(journals):
@@ -52,10 +60,23 @@ def legal(history, capacities, cores):
             needs(room(capacities[e.link], offers), "no room")
             offers.append(Offer(e.value, e.stamp))
         elif e.event == "got":
-            needs(e.number == front(offers), "not the least that is not taken")
+            needs(e.number == front(offers), "not the least that is not decided")
             offer = offers[e.number]
+            needs(offer.is_there(), "withdrawn")
             needs(offer.value == e.value, "another value")
             offer.taken, answered = e.stamp, offer.stamp
+        elif e.event == "pass":
+            needs(e.number == front(offers), "not the least that is not decided")
+            offer = offers[e.number]
+            needs(offer.withdrawn is not None, "not withdrawn")
+            offer.passed, answered = e.stamp, offer.withdrawn
+        elif e.event == "withdraw":
+            needs(e.number < len(offers) and offers[e.number].is_there(), "taken or withdrawn already")
+            offers[e.number].withdrawn = e.stamp
+        elif e.event == "room":
+            needs(e.number < len(offers) and offers[e.number].passed is not None, "not passed")
+            needs(not offers[e.number].known, "known already")
+            offers[e.number].known, answered = True, offers[e.number].passed
         else:
             needs(e.number < len(offers) and offers[e.number].taken is not None, "not taken")
             needs(not offers[e.number].known, "known already")
@@ -76,8 +97,8 @@ def unrest(cores, names, links):
             offers = links[channel.number]
             if channel.receiver == k and core.wants(channel.number) and front(offers) is not None:
                 return f"a message waits for a receive of core {k}"
-            if channel.sender == k and any(o.taken is not None and not o.known for o in offers):
-                return f"core {k} does not know of a message that was taken"
+            if channel.sender == k and any(o.is_decided() and not o.known for o in offers):
+                return f"core {k} does not know of an offer that was taken or passed"
             if channel.sender == k and core.to_offer(channel.number) is not None and room(channel.cap, offers):
                 return f"core {k} has a send that waits, and room"
     return None

@@ -1,5 +1,7 @@
 #!/usr/bin/env python3
-"""orders.py FIRST COUNT [--orders N] [--ac PATH] [--cases FOLDER]: programs of several cores of the seeds FIRST, FIRST + 1, ..
+"""orders.py FIRST COUNT [--cancels] [--orders N] [--ac PATH] [--cases FOLDER]: programs of several cores of the seeds FIRST, FIRST + 1, ..
+
+They are those of networks.py, or with `--cancels` those of cancels.py.
 
 Each is run in N orders (8 where none is given) that have to have one report, half of them orders of `ac`; and with the built
 program, whose report has to be that one too, where its path is given. Each run is checked as cores.py says. What differs is
@@ -10,6 +12,7 @@ import pathlib
 import sys
 import tempfile
 
+import cancels
 import compare
 import networks
 import report as oracle
@@ -48,11 +51,15 @@ def main():
     args = sys.argv[1:]
     path, orders = oracle.option(args, "--ac", None), int(oracle.option(args, "--orders", 8))
     cases = oracle.option(args, "--cases", None)
+    kind = networks
+    if "--cancels" in args:
+        args.remove("--cancels")
+        kind = cancels
     first, programs = int(args[0]), int(args[1])
     bad, seen, tests = 0, collections.Counter(), []
     with tempfile.TemporaryDirectory() as folder:
         for seed in range(first, first + programs):
-            text, steps = networks.program(seed)
+            text, steps = kind.program(seed)
             try:
                 rules.refusal(text.encode(), steps)
                 report, wrong = differs(text, steps, orders, path, folder)

@@ -271,8 +271,6 @@ def unbuilt(program):
                 expr(a)
 
     def stmt(s):
-        if s.kind == "Cancel":
-            raise Unbuilt(s.at)
         if s.kind == "Assign":
             expr(s.place)
         if s.kind == "CallStmt":

@@ -15,6 +15,10 @@ class Out(Exception):
     """out of steps"""
 
 
+class Cut(Exception):
+    """a cancel needs to know what became of an offer, and its journal does not say"""
+
+
 class Ret(Exception):
     def __init__(self, value):
         self.value = value
@@ -87,6 +91,7 @@ class Frame:
         core.live += words
         self.core, self.owner, self.parent, self.words = core, owner, parent, words
         self.cells, self.children, self.over = {}, 0, False
+        self.blocks = {}              # the block of each `do` that it has entered
         if parent:
             parent.children += 1
 
@@ -102,7 +107,13 @@ class Frame:
 
 class Block:
     def __init__(self, parent):
-        self.parent, self.waiter = parent, None
+        self.parent, self.waiter, self.marked = parent, None, False
+
+    def is_within(self, block):
+        return self is block or (self.parent is not None and self.parent.is_within(block))
+
+    def is_cancelled(self):
+        return self.marked or (self.parent is not None and self.parent.is_cancelled())
 
 
 class Thread:
@@ -110,6 +121,7 @@ class Thread:
         self.started_in = block
         self.block = block
         self.gen = None
+        self.value = None             # what its operation has given, until it runs again
 
 
 class Operation:
@@ -117,6 +129,7 @@ class Operation:
 
     def __init__(self, kind, link, thread, what):
         self.kind, self.link, self.thread, self.what, self.number = kind, link, thread, what, None
+        self.block = thread.block
 
 
 class TreeCore:
@@ -129,6 +142,7 @@ class TreeCore:
                 self.globals[item] = [item.value] if item.size is None else [0] * item.size
         self.word = None
         self.ready, self.threads, self.operations = deque(), set(), []
+        self.outcome = None           # asked by a cancel whether an offer is withdrawn
         try:
             frame = Frame(self, core.func, None)
         except Trap as e:
@@ -162,17 +176,25 @@ class TreeCore:
         self.oldest("send", link).number = number
 
     def know(self, link, number):
-        self.has_ended(next(o for o in self.operations if (o.link, o.number) == (link, number)))
+        self.has_ended(next(o for o in self.operations if (o.link, o.number) == (link, number)), 0)
 
     def got(self, link, value):
         o = self.oldest("receive", link)
         cells, index = o.what
         cells[index] = value
-        self.has_ended(o)
+        self.has_ended(o, 0)
 
-    def has_ended(self, operation):
+    def has_ended(self, operation, value):
         self.operations.remove(operation)
+        operation.thread.value = value
         self.ready.append(operation.thread)
+
+    def cancel(self, block):
+        """Each operation within the block either is done or never happens; the oldest is tried first."""
+        block.marked = True
+        for o in [o for o in self.operations if o.block is not None and o.block.is_within(block)]:
+            withdrawn = o.number is None or self.outcome(o.link, o.number)
+            self.has_ended(o, -1 if withdrawn else 0)
 
     def go(self):
         self.turn += 1
@@ -182,6 +204,8 @@ class TreeCore:
             self.word = str(e)
         except Out:
             self.word = "out-of-steps"
+        except Cut:
+            self.word = "stalled"
 
     def end(self):
         """How it ended, with what is seen of it."""
@@ -192,7 +216,8 @@ class TreeCore:
     def run(self, running):
         while True:
             try:
-                ask = next(running.gen)
+                value, running.value = running.value, None
+                ask = running.gen.send(value)
             except StopIteration:
                 self.threads.discard(running)
                 if running is self.first:
@@ -217,6 +242,10 @@ class TreeCore:
                 if self.lives_within(ask[1]):
                     ask[1].waiter = running
                     return
+            elif ask[0] == "cancel":
+                self.cancel(ask[1])
+            elif running.block is not None and running.block.is_cancelled():
+                running.value = -1
             else:
                 self.operations.append(Operation(ask[0], ask[1], running, ask[2]))
                 return
@@ -306,11 +335,9 @@ class TreeCore:
         if e.kind == "Call":
             return (yield from self.call(e, frame, t))
         if e.kind == "Send":
-            yield ("send", e.link, self.value(e.value, frame))
-            return 0
+            return (yield ("send", e.link, self.value(e.value, frame)))
         if e.kind == "Recv":
-            yield ("receive", e.link, self.place(e.place, frame))
-            return 0
+            return (yield ("receive", e.link, self.place(e.place, frame)))
         return self.value(e, frame)
 
     def body(self, stmts, frame, t):
@@ -370,7 +397,7 @@ class TreeCore:
             raise Ret(0 if s.value is None else (yield from self.result(s.value, frame, t)))
         elif k == "Do":
             b = Block(t.block)
-            t.block = b
+            t.block = frame.blocks[s] = b
             yield from self.body(s.body, frame, t)
             self.step()
             yield ("finish", b)
@@ -382,6 +409,10 @@ class TreeCore:
             yield ("async", new)
         elif k == "Yield":
             yield ("yield",)
+        elif k == "Cancel":
+            while s.block not in frame.blocks:
+                frame = frame.parent
+            yield ("cancel", frame.blocks[s.block])
         else:
             raise NotImplementedError(k)
 

@@ -560,6 +560,10 @@ class Names:
             self.labels.append(s)
             self.scoped(s.body)
             self.labels.pop()
+        elif k == "Cancel":
+            # the innermost of that label, of all those round it in its function
+            s.block = next(d for d in reversed(self.labels) if d.label == s.label)
+            s.level = self.level(s.block)
         elif k == "Async":
             s.slots = 0
             s.parent, self.owner = self.owner, s

@@ -1,4 +1,4 @@
--- The code of a program without channels sends and receives nothing: where it also has a meaning, it has no operation and no cancel.
+-- The code of a program without channels sends and receives nothing: where it also has a meaning, it starts no operation.
 use Rattle.std.proofs.Common.{◌≡◌, ℕ, zero, suc, ◌<◌, List, [], ◌∷◌, length, Option, Some, true, refl, ap, arith}
 use Rattle.std.specs.Prelude.{All, slice_get}
 use Rattle.ac_tree.specs.declared.item.Program.{Program}
@@ -13,7 +13,7 @@ use Rattle.ac_commands.specs.declared.program.Function.{Function}
 use Rattle.ac_commands.specs.declared.program.Resolved.{Resolved}
 use Rattle.stack_code.specs.declared.instr.Instr.{Instr}
 use Rattle.stack_code.specs.declared.instr.Instr.TheVariants as i
-use Rattle.code_meaning.specs.Alone.{is_alone, IsAlone}
+use Rattle.code_meaning.specs.Alone.{is_alone, starts_none, IsAlone}
 use Rattle.code_meaning.specs.Meant.{has_meaning}
 use Rattle.ac_resolve.specs.Resolution.{resolved}
 use Rattle.ac_resolve.specs.InPlace.{Round, Want, Wants, call, send, recv, read, write}
@@ -29,10 +29,14 @@ use Rattle.ac_compile.proofs.Instructions.{is_own, own_alone, Each, Holds, Value
 use Rattle.ac_compile.proofs.Meant.{code_meant}
 
 abbrev P : Instr → Type 0
-P x = has_meaning x ≡ true → is_alone x ≡ true
+P x = has_meaning x ≡ true → starts_none x ≡ true
+
+alone_none : (x : Instr) → is_alone x ≡ true → starts_none x ≡ true
+alone_none (i.Cancel level slot) e = refl
+alone_none x e = e
 
 own : (x : Instr) → is_own x ≡ true → P x
-own x e meant = own_alone x e
+own x e meant = alone_none x (own_alone x e)
 
 module _ (program : Resolved) (none : program.channels ≡ []) where
   no_channel : (channel : ℕ) → channel < length program.channels → ⊥
@@ -83,9 +87,6 @@ module _ (program : Resolved) (none : program.channels ≡ []) where
 
   -- ---- commands
 
-  cancel_alone : (level slot : ℕ) → P (i.Cancel level slot)
-  cancel_alone level slot meant = absurd (cc (meant))
-
   mutual
     command_alone : (r : Round) (x : Command) → IsCommand program r x → Bodies P own (x ∷ [])
     command_alone _ _ (nothing r) = each.nothing_holds P own
@@ -103,7 +104,7 @@ module _ (program : Resolved) (none : program.channels ≡ []) where
     command_alone _ _ (give r value x y) = each.return_holds P own value (test_alone r value y)
     command_alone _ _ (do_finish r slot body x y z) = each.do_holds P own slot body (commands_alone _ body z)
     command_alone _ _ (start r uses body x y z) = each.async_holds P own (length uses) body (commands_alone _ body z)
-    command_alone _ _ (cancel r level slot x y) = each.cancel_holds P own level slot (cancel_alone level slot)
+    command_alone _ _ (cancel r level slot x y) = each.cancel_holds P own level slot (λ meant. refl)
     command_alone _ _ (yield r) = each.yield_holds P own
 
     commands_alone : (r : Round) (xs : List Command) → AreCommands program r xs → Bodies P own xs
@@ -118,7 +119,7 @@ module _ (program : Resolved) (none : program.channels ≡ []) where
       let first = h 0 f refl in
       each.both_hold P own _ _ (each.function_holds P own f.body (commands_alone _ f.body first.body)) (functions_alone fs (λ number g e. h (suc number) g e))
 
-all_alone : (xs : List Instr) → Each P own xs → All (λ x. has_meaning x ≡ true) xs → All (λ x. is_alone x ≡ true) xs
+all_alone : (xs : List Instr) → Each P own xs → All (λ x. has_meaning x ≡ true) xs → All (λ x. starts_none x ≡ true) xs
 all_alone [] h meant k d lt = absurd (omega (arith, lt))
 all_alone (x ∷ xs) h meant zero d lt = h.0 (meant 0 d (omega arith))
 all_alone (x ∷ xs) h meant (suc k) d lt = all_alone xs h.1 (λ j e less. meant (suc j) e (omega (arith, less))) k d (omega (arith, lt))

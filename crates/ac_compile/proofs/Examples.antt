@@ -281,11 +281,11 @@ a_file_is_not = refl
 pub the_first_is_told : first_unbuilt (i.Core 0 (codes "a") (codes "f") ∷ i.File 11 (codes "d") (codes "d.dat") ∷ i.File 28 (codes "e") (codes "e.dat") ∷ []) ≡ Some 11
 the_first_is_told = refl
 
--- cancel l;
-pub a_cancel : stmt_nodes as_list (s.Cancel 28 (codes "l")) ≡ 28 ∷ []
+-- cancel l; is built
+pub a_cancel : stmt_nodes as_list (s.Cancel 28 (codes "l")) ≡ []
 a_cancel = ap (stmt_nodes as_list) (sym (s.rolls-Cancel 28 (codes "l"))) ∙ fold-roll-Stmt (List ℕ) (stmt_step as_list) (Stmt-F.Cancel 28 (codes "l"))
 
--- yield; is built
+-- and so is yield;
 pub a_yield : stmt_nodes as_list (s.Yield 28) ≡ []
 a_yield = ap (stmt_nodes as_list) (sym (s.rolls-Yield 28)) ∙ fold-roll-Stmt (List ℕ) (stmt_step as_list) (Stmt-F.Yield 28)
 
@@ -327,8 +327,12 @@ the_nodes_of_a_send =
 pub nodes_of_expressions : (exprs_nodes as_list (expr.Number 12 (pos 1) ∷ a_read ∷ []) ≡ 5 ∷ []) × (some_expr as_list (Some a_read) ≡ 5 ∷ []) × (some_expr as_list None ≡ [])
 nodes_of_expressions = (rw (number_nodes, the_nodes_of_a_read) refl, the_nodes_of_a_read, refl)
 
-pub the_nodes_of_a_body : body_nodes as_list (s.Yield 28 ∷ s.Cancel 28 (codes "l") ∷ s.Yield 28 ∷ []) ≡ 28 ∷ []
-the_nodes_of_a_body = rw (a_yield, a_cancel) refl
+-- a read that is called for itself
+reading : stmt_nodes as_list (s.Call 5 a_read) ≡ 5 ∷ []
+reading = ap (stmt_nodes as_list) (sym (s.rolls-Call 5 a_read)) ∙ fold-roll-Stmt (List ℕ) (stmt_step as_list) (Stmt-F.Call 5 a_read) ∙ the_nodes_of_a_read
+
+pub the_nodes_of_a_body : body_nodes as_list (s.Yield 28 ∷ s.Call 5 a_read ∷ s.Cancel 28 (codes "l") ∷ []) ≡ 5 ∷ []
+the_nodes_of_a_body = rw (a_yield, a_cancel, reading) refl
 
 pub nodes_of_items : (item_nodes as_list (i.Core 3 (codes "a") (codes "f")) ∷ item_nodes as_list (i.File 3 (codes "d") (codes "d.dat")) ∷ [] ≡ [] ∷ (3 ∷ []) ∷ [])
     × (items_nodes as_list (i.File 3 (codes "d") (codes "d.dat") ∷ i.Core 24 (codes "a") (codes "f") ∷ i.File 39 (codes "e") (codes "e.dat") ∷ []) ≡ 3 ∷ 39 ∷ [])

@@ -124,7 +124,7 @@ module _ {A B : Type 0} (g : Gathers A) (h : Gathers B) (R : A → B → Type 0)
   stmt_layer (Stmt-F.Return at value) = some_is value
   stmt_layer (Stmt-F.Do at label body) = stmts_are body
   stmt_layer (Stmt-F.Async at body) = body.1
-  stmt_layer (Stmt-F.Cancel at label) = node_are false at relates.none
+  stmt_layer (Stmt-F.Cancel at label) = relates.none
   stmt_layer (Stmt-F.Yield at) = relates.none
 
   stmt_is : (x : Stmt) → StmtClaim x

@@ -11,6 +11,8 @@ use Rattle.ac_tree.specs.declared.item.Item.{Item}
 use Rattle.ac_tree.specs.declared.item.Item.TheVariants as i
 use Rattle.ac_tree.specs.declared.item.Program.{Program}
 use Rattle.ac_names.specs.declared.names.Names.{Names}
+use Rattle.ac_names.specs.declared.meaning.Meaning.{Meaning}
+use Rattle.ac_names.specs.declared.meaning.Meaning.TheVariants as m
 use Rattle.ac_names.specs.Items.{outermost}
 use Rattle.ac_names.specs.Scopes.{Declaration, visible}
 use Rattle.ac_names.specs.Statements.{part_words, listed, some_words, opened, moved, in_do, in_async, array_len}
@@ -24,7 +26,7 @@ use Rattle.ac_commands.specs.declared.command.Command.{Command}
 use Rattle.ac_commands.specs.declared.command.Command.TheVariants as c
 use Rattle.stack_code.specs.declared.instr.Instr.{Instr}
 use Rattle.stack_code.specs.declared.instr.Instr.TheVariants as instr
-use Rattle.ac_resolve.specs.Places.{constant_value, place_of, array_of, array_at, reference_to, function_of, channel_of}
+use Rattle.ac_resolve.specs.Places.{constant_value, place_of, array_of, array_at, reference_to, function_of, channel_of, cancel_of}
 use Rattle.ac_resolve.specs.Computed.{InScopes, Reading, read_step, read, link_in, arguments_step, value_in, values_in, some_in, initial_in}
 use Rattle.ac_resolve.specs.Computed.{link_step as reading_link, links_step as reading_links}
 use Rattle.ac_resolve.specs.Commands.{Texts, Told, told_step, told, body_told, some_shape, commands, some_texts, some_commands, for_names}
@@ -41,7 +43,6 @@ P x = has_meaning x ≡ true
 
 own : (x : Instr) → is_own x ≡ true → P x
 own (instr.Call function count) e = refl
-own (instr.Cancel level slot) e = e
 own (instr.Read file) e = e
 own (instr.Write file) e = e
 own x e = refl
@@ -181,8 +182,10 @@ some_operand (Some x) e scopes depth = value_pass x e scopes depth
 
 -- ---- statements
 
-cancel_none : (at : ℕ) → at ∷ [] ≡ [] → ⊥
-cancel_none at e = cc
+cancel_pass : (o : Option Meaning) (depth : ℕ) → B (cancel_of o depth ∷ [])
+cancel_pass (Some (m.Label there slot)) depth = each.cancel_holds P own _ _ refl
+cancel_pass (Some what) depth = each.cancel_holds P own _ _ refl
+cancel_pass None depth = each.cancel_holds P own _ _ refl
 
 abbrev Told_pass : Told → Type 0
 Told_pass q = (n : Names) (depth : ℕ) (texts : Texts) → B (q.commands n depth texts)
@@ -272,7 +275,7 @@ stmt_layer (Stmt-F.Continue at) e n depth texts = each.continue_holds P own
 stmt_layer (Stmt-F.Return at value) e n depth texts = each.return_holds P own _ (some_operand value e n.scopes depth)
 stmt_layer (Stmt-F.Do at label body) e n depth texts = each.do_holds P own n.slot _ (stmts_pass body e (opened (in_do label depth n)) depth texts)
 stmt_layer (Stmt-F.Async at body) e n depth texts = each.async_holds P own _ _ (body.1 e (in_async n) (depth + 1) texts)
-stmt_layer (Stmt-F.Cancel at label) e n depth texts = absurd (cancel_none at e)
+stmt_layer (Stmt-F.Cancel at label) e n depth texts = cancel_pass (visible label n.labels) depth
 stmt_layer (Stmt-F.Yield at) e n depth texts = each.yield_holds P own
 
 stmt_pass : (x : Stmt) → StmtClaim x

@@ -68,7 +68,7 @@ abbrev pub some_expr : {A : Type 0} → Gathers A → Option Expr → A
 some_expr g None = g.none
 some_expr g (Some x) = expr_nodes g x
 
--- ---- statements: a cancel is not built
+-- ---- statements: each is built but for its expressions
 
 abbrev pub stmt_step : {A : Type 0} → Gathers A → Stmt-F A → A
 stmt_step g (Stmt-F.Block at body) = all_of g body
@@ -86,7 +86,7 @@ stmt_step g (Stmt-F.Continue at) = g.none
 stmt_step g (Stmt-F.Return at value) = some_expr g value
 stmt_step g (Stmt-F.Do at label body) = all_of g body
 stmt_step g (Stmt-F.Async at body) = body
-stmt_step g (Stmt-F.Cancel at label) = node_by g false at g.none
+stmt_step g (Stmt-F.Cancel at label) = g.none
 stmt_step g (Stmt-F.Yield at) = g.none
 
 abbrev pub stmt_nodes : {A : Type 0} → Gathers A → Stmt → A

@@ -97,7 +97,8 @@ fn in_stmt(stmt: &Stmt) -> Option<u32>
     match stmt {
         Stmt::Block { at: _, body } => in_body(body.as_slice()),
         Stmt::Empty { .. } | Stmt::Array { .. } => None,
-        Stmt::Break { .. } | Stmt::Continue { .. } | Stmt::Yield { .. } => None,
+        Stmt::Break { .. } | Stmt::Continue { .. } => None,
+        Stmt::Cancel { .. } | Stmt::Yield { .. } => None,
         Stmt::Int {
             at: _,
             name: _,
@@ -160,7 +161,6 @@ fn in_stmt(stmt: &Stmt) -> Option<u32>
             body,
         } => in_body(body.as_slice()),
         Stmt::Async { at: _, body } => in_stmt(body.get()),
-        Stmt::Cancel { at, .. } => Some(*at),
     }
 }
 

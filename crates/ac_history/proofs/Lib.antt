@@ -5,12 +5,15 @@ pub mod Examples
 pub mod Journals
 pub mod LawExamples
 pub mod PartExamples
+pub mod Outcomes
+pub mod OutcomesExamples
 pub mod Parties
 pub mod PartiesExamples
 pub mod Parts
 pub mod Putting
 pub mod QuietExamples
 pub mod Quietness
+pub mod Rests
 pub mod Running
 pub mod Runtime
 pub mod Steps

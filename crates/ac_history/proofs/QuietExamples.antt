@@ -4,7 +4,6 @@ use Rattle.std.specs.Prelude.{pos, slice_get}
 use Rattle.ac_base.specs.declared.entry.Payload.TheVariants.{Int, Write}
 use Rattle.ac_base.specs.declared.entry.Answer.TheVariants.{Count}
 use Rattle.ac_base.specs.declared.entry.Event.TheVariants.{Offer, Got, Did, Know}
-use Rattle.ac_base.specs.declared.entry.Stamped.{Stamped}
 use Rattle.ac_base.specs.declared.ends.EndWord.{EndWord}
 use Rattle.ac_base.specs.declared.ends.EndWord.TheVariants as word
 use Rattle.ac_base.specs.declared.ends.Phase.TheVariants as phase
@@ -13,7 +12,8 @@ use Rattle.ac_base.specs.declared.ends.CoreEnd.{CoreEnd}
 use Rattle.ac_links.specs.AtRest.{has_front}
 use Rattle.ac_history.specs.History.{Past, link_at, start}
 use Rattle.ac_history.specs.Merged.{merged}
-use Rattle.ac_history.specs.Quiet.{has_stopped, is_waiting, waits_on, after_all_of, CoreIsQuiet, IsQuiet, CoreRests, PartiesRest}
+use Rattle.ac_history.specs.Quiet.{has_stopped, is_waiting, waits_on, after_all_of, owner_in, peer_in, CoreIsQuiet, IsQuiet, CoreRests, PartiesRest}
+use Rattle.ac_history.specs.declared.quiet.LinkParties.{LinkParties}
 use Rattle.ac_history.specs.Laws.{PartiesAtRestAreQuiet}
 use Rattle.ac_history.proofs.Examples.{by, capacities, message, nothing_yet, ends, journals}
 use Rattle.ac_history.proofs.PartiesExamples.{held, the_parties_agree}
@@ -46,6 +46,16 @@ phases_that_wait = refl
 
 pub links_on_which_they_wait : waits_on 0 waiting ∷ waits_on 1 waiting ∷ waits_on 0 offering ∷ waits_on 0 finished ∷ [] ≡ true ∷ false ∷ false ∷ false ∷ []
 links_on_which_they_wait = refl
+
+-- the parties of the three links
+abbrev listed : List LinkParties
+listed = record { owner = 0; peer = 1 } ∷ record { owner = 0; peer = 2 } ∷ record { owner = 1; peer = 2 } ∷ []
+
+pub who_makes_the_offers : owner_in listed 0 ∷ owner_in listed 1 ∷ owner_in listed 2 ∷ owner_in listed 3 ∷ [] ≡ 0 ∷ 0 ∷ 1 ∷ 0 ∷ []
+who_makes_the_offers = refl
+
+pub who_takes_them : peer_in listed 0 ∷ peer_in listed 1 ∷ peer_in listed 2 ∷ peer_in listed 3 ∷ [] ≡ 1 ∷ 2 ∷ 2 ∷ 0 ∷ []
+who_takes_them = refl
 
 -- ---- numbers
 

@@ -1,14 +1,12 @@
 -- Parties that rest by the views of their links are quiet in the merged history.
-use Rattle.std.proofs.Common.{◌≡◌, ℕ, zero, suc, ◌-◌, ◌<◌, ◌≤◌, List, [], ◌∷◌, Some, Bool, true, false, cond, refl, sym, ap, ◌∙◌, subst, inl, inr, arith, length, get_or, set}
-use Rattle.std.specs.Prelude.{◌==◌, slice_get, replicate, nat_le}
-use Rattle.std.specs.List.{filter, AllByRecursion}
+use Rattle.std.proofs.Common.{◌≡◌, ℕ, ◌-◌, ◌<◌, ◌≤◌, List, [], ◌∷◌, Bool, true, false, cond, refl, sym, ap, ◌∙◌, subst, inl, inr, arith, length, get_or, set}
+use Rattle.std.specs.Prelude.{nat_le}
+use Rattle.std.specs.List.{filter}
 use Rattle.std.proofs.lemmas.List.{length-set, length-replicate, get_or-set_same, get_or-set_other}
 use Rattle.std.proofs.lemmas.Bool.Decides.{eqb_tells, nat_tests}
 use Rattle.ac_base.specs.declared.ends.CoreEnd.{CoreEnd}
 use Rattle.ac_base.specs.declared.entry.Entry.{Entry}
 use Rattle.ac_base.specs.declared.entry.Stamped.{Stamped}
-use Rattle.ac_links.specs.declared.offer.LinkOffer.{LinkOffer}
-use Rattle.ac_links.specs.declared.payloads.Terms.{Terms}
 use Rattle.ac_links.specs.Link.{link_of, link_after}
 use Rattle.ac_links.specs.Order.{stamp_of, is_of_link}
 use Rattle.ac_links.specs.Views.{OwnerOffer, PeerDecision}
@@ -19,7 +17,7 @@ use Rattle.ac_links.proofs.Sorting.{filter_in_order}
 use Rattle.ac_links.proofs.Resting.{owner_at_rest, peer_at_rest}
 use Rattle.ac_history.specs.Merged.{all_from, merged}
 use Rattle.ac_history.specs.History.{Past, link_at, terms_of, after, start}
-use Rattle.ac_history.specs.Agreement.{InRange, link_part}
+use Rattle.ac_history.specs.Agreement.{InRange}
 use Rattle.ac_history.specs.Network.{IsPeer}
 use Rattle.ac_history.specs.Parties.{PartiesAgree, pair_of}
 use Rattle.ac_history.specs.Quiet.{waits_on, after_all_of, CoreIsQuiet, IsQuiet, CoreRests, PartiesRest}

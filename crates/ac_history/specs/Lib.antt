@@ -8,3 +8,5 @@ pub mod Parties
 pub mod Quiet
 pub mod Served
 pub mod Working
+pub mod Outcomes
+pub mod inner

@@ -1,5 +1,6 @@
 -- When a run is quiet: each core has stopped, and nothing on any link waits for one that is idle, or for the worker.
-use Rattle.std.specs.Prelude.{◌≡◌, ℕ, ◌-◌, ◌<◌, ◌≤◌, List, [], ◌∷◌, length, Bool, true, false, not, ◌&&◌, ◌||◌, nat_eq, slice_get, Some}
+use Rattle.std.specs.Prelude.{◌≡◌, ℕ, ◌-◌, ◌<◌, ◌≤◌, List, [], ◌∷◌, length, Bool}
+use Rattle.std.specs.Prelude.{true, false, not, ◌&&◌, ◌||◌, nat_eq, slice_get, Option, Some, None}
 use Rattle.std.specs.List.{list_any}
 use Rattle.ac_base.specs.declared.ends.Phase.{Phase}
 use Rattle.ac_base.specs.declared.ends.Phase.TheVariants.{Waiting, Offered, Started}
@@ -9,6 +10,7 @@ use Rattle.ac_base.specs.declared.entry.Stamped.{Stamped}
 use Rattle.ac_links.specs.Views.{OwnerOffer, PeerDecision}
 use Rattle.ac_links.specs.AtRest.{has_front, OwnerHasNothing, PeerHasNothing, OwnerRests, PeerRests}
 use Rattle.ac_history.specs.History.{Past, link_at, terms_of, after}
+use Rattle.ac_history.specs.declared.quiet.LinkParties.{LinkParties}
 
 -- ---- a core that has stopped
 
@@ -44,6 +46,24 @@ pub record CoreIsQuiet (owner peer : ℕ → ℕ) (past : Past) (k : ℕ) (c : C
 pub record IsQuiet (owner peer : ℕ → ℕ) (past : Past) (cores : List CoreEnd) : Type 0 where
   pub core : (k : ℕ) (c : CoreEnd) → slice_get cores k ≡ Some c → CoreIsQuiet owner peer past k c
   pub worker : (l : ℕ) → l < length past.links → past.channels ≤ l → has_front (link_at past l) ≡ false
+
+-- ---- the two parties of each link, as a list has them
+
+abbrev pub owner_at : Option LinkParties → ℕ
+owner_at None = 0
+owner_at (Some p) = p.owner
+
+-- the party that makes the offers of link l
+abbrev pub owner_in : List LinkParties → ℕ → ℕ
+owner_in parties l = owner_at (slice_get parties l)
+
+abbrev pub peer_at : Option LinkParties → ℕ
+peer_at None = 0
+peer_at (Some p) = p.peer
+
+-- the party that takes the offers of link l
+abbrev pub peer_in : List LinkParties → ℕ → ℕ
+peer_in parties l = peer_at (slice_get parties l)
 
 -- ---- by the views of the two sides of each link
 

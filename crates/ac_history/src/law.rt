@@ -3,6 +3,7 @@
 ghost use Rattle.ac_history.specs.Laws.{MergedIsLegal, NetworkIsLegal, PartiesAreANetwork, StampsAreFew, DeedsAreTheWorkers};
 ghost use Rattle.ac_history.specs.Laws.{NetworkIsServed, NetworkIsAHistory, HistoryIsLegalAndServed, LegalAndServedIsAHistory};
 ghost use Rattle.ac_history.specs.Laws.{FilesAreTheContents, TheWorkerGoesOn, PartiesAtRestAreQuiet};
+ghost use Rattle.ac_history.specs.Outcomes.{OffersEndOnce, WhatIsKnownWasTaken};
 
 /// Where the entries of each link are right by themselves, and the stamps and makers of each
 /// journal, the merged history is legal.
@@ -24,6 +25,13 @@ pub fn parties_are_a_network()
 /// In a legal history no stamp is above the number of entries.
 pub fn stamps_are_few()
     ensures { StampsAreFew }
+{}
+
+/// In a legal history no offer is both withdrawn and taken, and neither of them happens to it twice;
+/// and what its owner knows to be taken was taken.
+pub fn offers_end_once()
+    ensures once { OffersEndOnce }
+    ensures known { WhatIsKnownWasTaken }
 {}
 
 /// Where each party rests by what the two ends of its links know, the run is quiet.

@@ -1,13 +1,15 @@
 //! Whether a history is legal and its reads are answered by the files, entry by entry.
 
-ghost use Rattle.std.specs.Prelude.{◌≡◌, IfOk, OnErr, ◌<◌, ◌≤◌, length, slice_get, Some, if◌then◌else◌};
+ghost use Rattle.std.specs.Prelude.{◌≡◌, ◌↔◌, IsTrue, IfOk, OnErr, ◌<◌, ◌≤◌, length, slice_get, Some, if◌then◌else◌};
 ghost use Rattle.ac_history.specs.History.{fits, after};
 ghost use Rattle.ac_history.specs.Files.{overwritten, written};
+ghost use Rattle.ac_history.specs.Quiet.{owner_in, peer_in, IsQuiet};
 ghost use Rattle.ac_history.specs.Served.{begun, can_follow, state_after};
 
 use crate::files::{Files, bytes_in, overwrite};
 use crate::links::Links;
-use ac_base::{Bytes, Event, List, NoMemory, Payload, Stamped};
+use crate::quiet::{LinkParties, is_quiet};
+use ac_base::{Bytes, CoreEnd, Event, List, NoMemory, Payload, Stamped};
 use std::alloc::Global;
 use std::marker::Model;
 
@@ -116,6 +118,16 @@ impl Legal {
         let taken = step_and_write(&mut self.links, entry, &mut whole, from, bytes);
         self.files.put(file, List::from_vec(whole));
         taken
+    }
+
+    /// Whether a run with this history is quiet, where its links have these parties and its cores
+    /// these ends: each core has stopped, and nothing on any link waits for one that is idle, or for
+    /// the worker.
+    pub fn is_quiet(&self, parties: &List<LinkParties>, cores: &List<CoreEnd>) -> bool
+        requires { length parties.now ≡ length self.now.past.links }
+        ensures { IsTrue result ↔ IsQuiet (owner_in parties.now) (peer_in parties.now) self.now.past cores.now }
+    {
+        is_quiet(&self.links, parties.as_slice(), cores.as_slice())
     }
 
     /// The bytes of one of the sixteen files.

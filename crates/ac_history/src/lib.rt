@@ -6,6 +6,7 @@ mod law;
 mod legal;
 mod links;
 mod merging;
+mod quiet;
 
 pub use law::{
     deeds_are_the_workers, histories_are_legal_and_served, merged_is_legal, network_is_a_history,
@@ -14,3 +15,4 @@ pub use law::{
 };
 pub use legal::Legal;
 pub use merging::merge;
+pub use quiet::LinkParties;

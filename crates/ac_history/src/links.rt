@@ -1,8 +1,10 @@
 //! All links of a run with the stamps of its parties, and whether an entry may come next.
 
 ghost use Rattle.std.specs.Prelude.{◌≡◌, IfOk, OnErr, ◌==◌, ◌<◌, ◌≤◌, ◌+◌, length, if◌then◌else◌, replicate, []};
-ghost use Rattle.std.specs.Prelude.{slice_get, Some, None, MatchOption};
+ghost use Rattle.std.specs.Prelude.{slice_get, Some, None, MatchOption, nat_le, ◌||◌};
+ghost use Rattle.std.specs.List.{list_any};
 ghost use Rattle.ac_base.specs.Stamps.{next_stamp};
+ghost use Rattle.ac_links.specs.AtRest.{has_front, has_room, is_news, is_unreplied};
 ghost use Rattle.ac_links.specs.Link.{link_of, offered_payload};
 ghost use Rattle.ac_history.specs.History.{start, link_at, in_range, is_later, has_stamp, terms_of, makes, may_make, fits, after};
 
@@ -101,16 +103,54 @@ impl Links {
         })
     }
 
-    fn terms_of(&self, link: u32) -> Terms
+    /// Whether the link is one for the requests of a core.
+    pub fn has_requests(&self, link: usize) -> bool
+        ensures { result ≡ nat_le self.now.channels link }
+    {
+        self.channels <= link as u64
+    }
+
+    fn terms_of(&self, link: usize) -> Terms
         ensures { result ≡ terms_of self.now.capacities self.now.channels link }
     {
-        let capacity = match self.capacities.as_slice().get(link as usize) {
+        let capacity = match self.capacities.as_slice().get(link) {
             Some(capacity) => *capacity,
             None => 0,
         };
         Terms {
             capacity,
-            requests: self.channels <= u64::from(link),
+            requests: self.has_requests(link),
+        }
+    }
+
+    /// Whether some offer of the link is not decided.
+    pub fn has_front(&self, link: usize) -> bool
+        ensures { result ≡ has_front (link_at self.now link) }
+    {
+        match self.links.get(link) {
+            Some(link) => link.has_front(),
+            None => false,
+        }
+    }
+
+    /// Whether there is room for one offer more on the link.
+    pub fn has_room(&self, link: usize) -> bool
+        ensures { result ≡ has_room (terms_of self.now.capacities self.now.channels link) (link_at self.now link) }
+    {
+        let terms = self.terms_of(link);
+        match self.links.get(link) {
+            Some(link) => link.has_room(terms),
+            None => terms.capacity != 0,
+        }
+    }
+
+    /// Whether something has become of an offer of the link that its owner has not had.
+    pub fn has_news(&self, link: usize) -> bool
+        ensures { result ≡ list_any (λ o. is_news o || is_unreplied o) (link_at self.now link) }
+    {
+        match self.links.get(link) {
+            Some(link) => link.has_news(),
+            None => false,
         }
     }
 
@@ -162,7 +202,7 @@ impl Links {
         self.is_later(entry)
             && self.has_stamp(entry)
             && self.may_make(entry)
-            && self.links[link as usize].fits(self.terms_of(link), &entry.entry.event)
+            && self.links[link as usize].fits(self.terms_of(link as usize), &entry.entry.event)
     }
 
     /// Takes the entry, where it may come next, and says whether it did.

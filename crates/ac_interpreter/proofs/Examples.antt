@@ -9,7 +9,7 @@ use Rattle.core_state.specs.Shared.{first_shared}
 use Rattle.ac_commands.specs.declared.command.Command.{Command, out-Command}
 use Rattle.ac_commands.specs.declared.command.Command.TheVariants as c
 use Rattle.ac_commands.specs.declared.command.Command.TheOpen.{Command-F}
-use Rattle.ac_semantics.specs.Held.{turned}
+use Rattle.ac_semantics.specs.Held.{stepped, turned}
 use Rattle.ac_semantics.specs.Threads.{CoreState, thread_at, step, first_item, first_core, first_state}
 use Rattle.ac_semantics.proofs.Examples.{program, function, form, finish_by}
 use Rattle.ac_interpreter.specs.Ends.{is_over, IsOverBy, IsCount, HasCount, CoreEnds}
@@ -58,28 +58,33 @@ before_the_end (suc (suc j)) lt = absurd (omega (arith, lt))
 pub a_core_without_statements_ends : CoreEnds (program []) (function []) 0 []
 a_core_without_statements_ends = (2, (refl, before_the_end))
 
--- ---- a core that cancels: a cancel has no meaning yet, so before it the core stays
+-- ---- a core whose break stands in no loop: after it nothing is left to do, and the core stays
 
-abbrev cancels : Command
-cancels = c.Cancel 0 0
+abbrev breaks : Command
+breaks = c.Break
 
-cancel_form : out-Command cancels ≡ Command-F.Cancel 0 0
-cancel_form = form cancels _ (c.rolls-Cancel 0 0)
+break_form : out-Command breaks ≡ Command-F.Break
+break_form = form breaks _ c.rolls-Break
 
-abbrev at_the_cancel : CoreState
-at_the_cancel =
-    let first = first_core (function (cancels ∷ [])) (first_shared []) (made (first_store (pos 0 ∷ pos 5 ∷ [])) None []) in
+abbrev at_the_break : CoreState
+at_the_break =
+    let first = first_core (function (breaks ∷ [])) (first_shared []) (made (first_store (pos 0 ∷ pos 5 ∷ [])) None []) in
     record first { held = turned first.held; running = Some first_item; work = (thread_at first.threads first_item).work; ready = [] }
 
-it_stays : step (program (cancels ∷ [])) 1 at_the_cancel ≡ On at_the_cancel
-it_stays = rw (cancel_form, finish_by (program (cancels ∷ [])) cancels _ cancel_form) refl
+abbrev after_it : CoreState
+after_it = record at_the_break { held = stepped at_the_break.held; work = [] }
 
-goes_on_from : (k : ℕ) → is_over (and_then (first_state (program (cancels ∷ [])) (function (cancels ∷ [])) []) (moves (step (program (cancels ∷ [])) 1) k)) ≡ false
+it_breaks : step (program (breaks ∷ [])) 1 at_the_break ≡ On after_it
+it_breaks = rw (break_form, finish_by (program (breaks ∷ [])) breaks _ break_form) refl
+
+goes_on_from : (k : ℕ) → is_over (and_then (first_state (program (breaks ∷ [])) (function (breaks ∷ [])) []) (moves (step (program (breaks ∷ [])) 1) k)) ≡ false
 goes_on_from zero = refl
-goes_on_from (suc k) = ap is_over (stays_there (step (program (cancels ∷ [])) 1) at_the_cancel it_stays k)
+goes_on_from (suc zero) = refl
+goes_on_from (suc (suc k)) =
+    ap (λ a. is_over (and_then a (moves (step (program (breaks ∷ [])) 1) k))) it_breaks ∙ ap is_over (stays_there (step (program (breaks ∷ [])) 1) after_it refl k)
 
-pub a_core_that_cancels_does_not : CoreEnds (program (cancels ∷ [])) (function (cancels ∷ [])) 1 [] → ⊥
-a_core_that_cancels_does_not h = let no : false ≡ true = sym (goes_on_from h.0) ∙ h.1.0 in cc
+pub a_core_that_breaks_out_of_nothing_does_not : CoreEnds (program (breaks ∷ [])) (function (breaks ∷ [])) 1 [] → ⊥
+a_core_that_breaks_out_of_nothing_does_not h = let no : false ≡ true = sym (goes_on_from h.0) ∙ h.1.0 in cc
 
 -- ---- a journal with an entry for which a core without statements does not wait
 

@@ -1,5 +1,5 @@
 -- No statement concerns the journal: whatever is still to come, a core goes the same way, up to where the next entry comes in.
-use Rattle.std.proofs.Common.{◌≡◌, ℕ, ◌+◌, ◌^◌, ◌-◌, ℤ, List, [], ◌∷◌, ◌++◌, length, map, refl, sym, ap, ◌∙◌, subst, inl, inr, ◌⊎◌}
+use Rattle.std.proofs.Common.{◌≡◌, ℕ, ◌+◌, ◌^◌, ◌-◌, ℤ, List, [], ◌∷◌, ◌++◌, length, map, refl, sym, ap, ◌∙◌, subst, inl, inr}
 use Rattle.std.specs.Prelude.{Option, Some, None, Bool, true, false, Result, Ok, Err, slice_get, slice_index_or, reverse, nat_lt, nat_le, nat_eq, replicate, if◌then◌else◌}
 use Rattle.ac_base.specs.declared.ends.Trap.{Trap}
 use Rattle.ac_base.specs.declared.ends.Trap.TheVariants.{OutputFull}
@@ -11,43 +11,46 @@ use Rattle.work_item.specs.declared.ids.FrameId.{FrameId}
 use Rattle.work_item.specs.declared.ids.Item.{Item}
 use Rattle.work_item.specs.declared.ids.BlockId.{BlockId}
 use Rattle.work_item.specs.declared.cell.Cell.{Cell}
+use Rattle.work_item.specs.declared.cell.Cell.TheVariants as cell
+use Rattle.cancel_scope.specs.declared.operation.Asked.{Asked}
 use Rattle.work_item.specs.Store.{Store, no_int, int_in, next_frame, released}
 use Rattle.core_state.specs.Frames.{begun, begun_with, first_store}
 use Rattle.core_state.specs.Moves.{Move, On, Over}
 use Rattle.core_state.specs.Shared.{output_limit, formatted, with_entry, core_end, first_shared, begins_with}
 use Rattle.core_state.specs.Arrivals as arrivals
-use Rattle.core_state.specs.Arrivals.{Arrival, comes_in, ok}
+use Rattle.core_state.specs.Arrivals.{Arrival, comes_in, at_point}
 use Rattle.ac_commands.specs.declared.value.Action.TheVariants as a
 use Rattle.ac_commands.specs.declared.command.Command.{Command}
 use Rattle.ac_commands.specs.declared.command.Command.TheOpen.{Command-F}
 use Rattle.ac_commands.specs.declared.program.Function.{Function}
 use Rattle.ac_commands.specs.declared.program.Resolved.{Resolved}
 use Rattle.ac_semantics.specs.Evaluation.{Acting, Ending, Outcome, Comes, Traps, Stops}
-use Rattle.ac_semantics.specs.Held.{Held, with_shared, with_store, turned, seen_of}
+use Rattle.ac_semantics.specs.Held.{Held, with_shared, with_store, any_marked, turned, seen_of}
 use Rattle.ac_semantics.specs.Work as work
 use Rattle.ac_semantics.specs.Statements as s
-use Rattle.ac_interpreter.specs.inner.Under.{core_under, unless_left, move_under, IsAside}
-use Rattle.ac_semantics.specs.Threads.{CoreState, thread_at, none_within, arrives, wakes, woken, stops, Ended}
+use Rattle.ac_interpreter.specs.inner.Under.{held_under, core_under, unless_left, move_under, IsLater}
+use Rattle.ac_interpreter.proofs.Growing.{Moved, core_with_todo, IsOut, grown, Follows}
+use Rattle.ac_interpreter.proofs.Trying.{cancel_out, cancel_follows, cancel_grows}
+use Rattle.ac_semantics.specs.Threads.{CoreState, thread_at, none_within, arrives, wakes, woken, stops, Ended, path, operates, rests}
 use Rattle.ac_semantics.specs.Threads.{resumed, arrived, applied, dispatched, step_of, step, first_core, first_globals, first_state}
 
 -- ---- another journal
 
-abbrev held_under : List Entry → List Entry → Held → Held
-held_under past todo h = record h { shared = record h.shared { past = past; todo = todo } }
-
-abbrev next_under : List Entry → List Entry → s.Next → s.Next
+abbrev pub next_under : List Entry → List Entry → s.Next → s.Next
 next_under past todo (s.Goes h ws) = s.Goes (held_under past todo h) ws
 next_under past todo (s.Ends word h) = s.Ends word (held_under past todo h)
 next_under past todo (s.Starts h frame own ws) = s.Starts (held_under past todo h) frame own ws
 next_under past todo (s.Yields h ws) = s.Yields (held_under past todo h) ws
 next_under past todo (s.Arrives block h ws) = s.Arrives block (held_under past todo h) ws
+next_under past todo (s.Cancels block h again ws) = s.Cancels block (held_under past todo h) again ws
 next_under past todo (s.Operates link asked h ws) = s.Operates link asked (held_under past todo h) ws
 next_under past todo (s.Dies frame h) = s.Dies frame (held_under past todo h)
 next_under past todo s.Stays = s.Stays
 
--- other entries still to come
-abbrev pub core_with_todo : List Entry → CoreState → CoreState
-core_with_todo todo c = core_under c.held.shared.past todo c
+-- it is no cancel
+abbrev pub IsNoCancel : s.Next → Type 0
+IsNoCancel (s.Cancels block h again ws) = ⊥
+IsNoCancel _ = Unit {0}
 
 -- ---- a step of a thread
 
@@ -77,6 +80,7 @@ module _ (past todo : List Entry) where
   returns_too value (work.Do frame command ∷ ws) h = returns_too value ws h
   returns_too value (work.Pend frame command around ∷ ws) h = returns_too value ws h
   returns_too value (work.Given cell frame command around ∷ ws) h = returns_too value ws h
+  returns_too value (work.CallOff frame level slot ∷ ws) h = returns_too value ws h
   returns_too value (work.Turn frame loop ∷ ws) h = returns_too value ws h
   returns_too value (work.Close block ∷ ws) h = returns_too value ws h
   returns_too value (work.End frame ∷ ws) h = returns_too value ws h
@@ -125,9 +129,10 @@ module _ (past todo : List Entry) where
   if_step_too true h next next' e = e
   if_step_too false h next next' e = refl
 
-  next_too : (program : Resolved) (bound : ℕ) (ws : List work.Work) (h : Held) → s.next_at program bound ws (held_under past todo h) ≡ next_under past todo (s.next_at program bound ws h)
+  pub next_too : (program : Resolved) (bound : ℕ) (ws : List work.Work) (h : Held) → s.next_at program bound ws (held_under past todo h) ≡ next_under past todo (s.next_at program bound ws h)
   next_too program bound [] h = refl
   next_too program bound (work.Do frame command ∷ ws) h = if_step_too (nat_lt h.shared.steps bound) h _ _ (settles_too program command frame ws _ _)
+  next_too program bound (work.CallOff frame level slot ∷ ws) h = refl
   next_too program bound (work.Turn frame loop ∷ ws) h = refl
   next_too program bound (work.Close block ∷ ws) h = if_step_too (nat_lt h.shared.steps bound) h _ _ refl
   next_too program bound (work.Back own ∷ ws) h = refl
@@ -154,18 +159,25 @@ module _ (past todo : List Entry) where
   wakes_too None c = refl
   wakes_too (Some owner) c = refl
 
-  applied_too : (c : CoreState) (t : Item) (next : s.Next)
+  operates_too : (marked : Bool) (c : CoreState) (t : Item) (link : ℕ) (asked : Asked) (h : Held) (ws : List work.Work)
+      → operates marked (core_under past todo c) t link asked (held_under past todo h) ws ≡ core_under past todo (operates marked (core_under [] [] c) t link asked (held_under [] [] h) ws)
+  operates_too true c t link asked h ws = refl
+  operates_too false c t link asked h ws = refl
+
+  pub applied_too : (c : CoreState) (t : Item) (next : s.Next) → IsNoCancel next
       → applied (core_under past todo c) t (next_under past todo next) ≡ move_under past todo (applied (core_under [] [] c) t (next_under [] [] next))
-  applied_too c t (s.Goes h ws) = refl
-  applied_too c t (s.Ends word h) = ap (λ (end : Option CoreEnd). Over end) (ends_too word false h)
-  applied_too c t (s.Starts h frame own ws) = refl
-  applied_too c t (s.Yields h ws) = refl
-  applied_too c t (s.Arrives block h ws) = ap (λ (x : CoreState). On x) (arrives_too (none_within block c.threads) c t block h ws)
-  applied_too c t (s.Operates link asked h ws) = refl
-  applied_too c t (s.Dies frame h) =
+  applied_too c t (s.Goes h ws) plain = refl
+  applied_too c t (s.Ends word h) plain = ap (λ (end : Option CoreEnd). Over end) (ends_too word false h)
+  applied_too c t (s.Starts h frame own ws) plain = refl
+  applied_too c t (s.Yields h ws) plain = refl
+  applied_too c t (s.Cancels block h again ws) plain = absurd plain
+  applied_too c t (s.Arrives block h ws) plain = ap (λ (x : CoreState). On x) (arrives_too (none_within block c.threads) c t block h ws)
+  applied_too c t (s.Operates link asked h ws) plain =
+      ap (λ (x : CoreState). On x) (operates_too (any_marked h.marks (path ws (thread_at c.threads t))) c t link asked h ws)
+  applied_too c t (s.Dies frame h) plain =
       let left = stops (core_under [] [] c) t Ended (with_store h (released h.store frame)) [] c.ready in
       ap (λ (x : CoreState). On x) (wakes_too (woken left.threads left.threads 0) left)
-  applied_too c t s.Stays = refl
+  applied_too c t s.Stays plain = refl
 
   turn_too : (test : Bool) (c next : CoreState)
       → (if test then On (core_under past todo next) else Over (seen_of word.OutOfSteps false (held_under past todo c.held)))
@@ -173,16 +185,12 @@ module _ (past todo : List Entry) where
   turn_too true c next = refl
   turn_too false c next = ap (λ (end : Option CoreEnd). Over end) (ends_too word.OutOfSteps false c.held)
 
-  dispatched_too : (c : CoreState) (ready : List Item) → dispatched (core_under past todo c) ready ≡ move_under past todo (dispatched (core_under [] [] c) ready)
+  pub dispatched_too : (c : CoreState) (ready : List Item) → dispatched (core_under past todo c) ready ≡ move_under past todo (dispatched (core_under [] [] c) ready)
   dispatched_too c [] = ap (λ (end : Option CoreEnd). Over end) (ends_too word.Stalled true c.held)
   dispatched_too c (t ∷ ready) =
       turn_too (nat_lt c.held.shared.turn (2 ^ 64 - 1)) c (record { held = turned c.held; running = Some t; work = (thread_at c.threads t).work; ready = ready; threads = c.threads })
 
 -- ---- where no entry is left, something is seen of an end
-
-abbrev pub IsOut : Move CoreState (Option CoreEnd) → Type 0
-IsOut (On c) = c.held.shared.todo ≡ []
-IsOut (Over end) = (x : CoreEnd) × (end ≡ Some x)
 
 module _ (past : List Entry) where
   end_out : (word : EndWord) (idle : Bool) (h : Held) → (x : CoreEnd) × (seen_of word idle (held_under past [] h) ≡ Some x)
@@ -196,13 +204,19 @@ module _ (past : List Entry) where
   wakes_out None c = refl
   wakes_out (Some owner) c = refl
 
+  operates_out : (marked : Bool) (c : CoreState) (t : Item) (link : ℕ) (asked : Asked) (h : Held) (ws : List work.Work)
+      → (operates marked c t link asked (held_under past [] h) ws).held.shared.todo ≡ []
+  operates_out true c t link asked h ws = refl
+  operates_out false c t link asked h ws = refl
+
   applied_out : (c : CoreState) (t : Item) (next : s.Next) → IsOut (applied (core_under past [] c) t (next_under past [] next))
   applied_out c t (s.Goes h ws) = refl
   applied_out c t (s.Ends word h) = end_out word false h
   applied_out c t (s.Starts h frame own ws) = refl
   applied_out c t (s.Yields h ws) = refl
   applied_out c t (s.Arrives block h ws) = arrives_out (none_within block c.threads) (core_under past [] c) t block h ws
-  applied_out c t (s.Operates link asked h ws) = refl
+  applied_out c t (s.Cancels block h again ws) = cancel_out c block h again ws past
+  applied_out c t (s.Operates link asked h ws) = operates_out (any_marked h.marks (path ws (thread_at c.threads t))) (core_under past [] c) t link asked h ws
   applied_out c t (s.Dies frame h) =
       let left = stops c t Ended (with_store h (released h.store frame)) [] c.ready in
       wakes_out (woken left.threads left.threads 0) left
@@ -219,24 +233,14 @@ module _ (past : List Entry) where
 
 -- ---- where one is left, those behind it are of no matter
 
--- with these behind
-abbrev pub grown : List Entry → Move CoreState (Option CoreEnd) → Move CoreState (Option CoreEnd)
-grown later (On c) = On (core_with_todo (c.held.shared.todo ++ later) c)
-grown later (Over end) = Over end
-
--- the first has come in, or is still to come
-abbrev pub Follows : Entry → List Entry → Move CoreState (Option CoreEnd) → Type 0
-Follows e es (On c) = (c.held.shared.todo ≡ e ∷ es) ⊎ (c.held.shared.todo ≡ es)
-Follows e es (Over end) = end ≡ None
-
 module _ (e : Entry) (es : List Entry) where
   told_follows : (past : List Entry) (m : Move CoreState (Option CoreEnd)) → Follows e es (move_under past (e ∷ es) m)
   told_follows past (On c) = inl refl
   told_follows past (Over end) = refl
 
-  resumed_follows : (c : CoreState) (waked : Option Item) → Follows e es (On (resumed (core_with_todo es c) ok waked))
-  resumed_follows c None = inr refl
-  resumed_follows c (Some t) = inr refl
+  resumed_follows : (c : CoreState) (value : Cell) (waked : Option Item) → Follows e es (On (resumed (core_with_todo es c) value waked))
+  resumed_follows c value None = inr refl
+  resumed_follows c value (Some t) = inr refl
 
   -- a core after an entry
   abbrev after : CoreState → Arrival → CoreState
@@ -245,7 +249,7 @@ module _ (e : Entry) (es : List Entry) where
   comes_follows : (c : CoreState) (o : Option Arrival)
       → Follows e es (comes_in (λ (end : Option CoreEnd). end) (λ x. On (arrived (core_with_todo (e ∷ es) c) (with_entry (held_under c.held.shared.past (e ∷ es) c.held).shared e es) x)) o)
   comes_follows c None = refl
-  comes_follows c (Some x) = resumed_follows (after c x) x.woken
+  comes_follows c (Some x) = resumed_follows (after c x) (cell.Int x.value) x.woken
 
   point_follows : (test : Bool) (c : CoreState) (o : Option Arrival)
       → Follows e es (if test then comes_in (λ (end : Option CoreEnd). end) (λ x. On (arrived (core_with_todo (e ∷ es) c) (with_entry (held_under c.held.shared.past (e ∷ es) c.held).shared e es) x)) o
@@ -253,22 +257,27 @@ module _ (e : Entry) (es : List Entry) where
   point_follows true c o = comes_follows c o
   point_follows false c o = subst (Follows e es) (sym (dispatched_too c.held.shared.past (e ∷ es) c c.ready)) (told_follows c.held.shared.past (dispatched (core_under [] [] c) c.ready))
 
+  applied_follows : (c : CoreState) (t : Item) (next : s.Next) → Follows e es (applied (core_with_todo (e ∷ es) c) t (next_under c.held.shared.past (e ∷ es) next))
+  applied_follows c t (s.Cancels block h again ws) = cancel_follows c block h again ws c.held.shared.past e es
+  applied_follows c t next =
+      subst (Follows e es) (sym (applied_too c.held.shared.past (e ∷ es) c t next tt)) (told_follows c.held.shared.past (applied (core_under [] [] c) t (next_under [] [] next)))
+
   module _ (later : List Entry) where
     told_grows : (past : List Entry) (m : Move CoreState (Option CoreEnd)) → move_under past (e ∷ es ++ later) m ≡ grown later (move_under past (e ∷ es) m)
     told_grows past (On c) = refl
     told_grows past (Over end) = refl
 
-    resumed_grows : (c : CoreState) (waked : Option Item)
-        → ◌≡◌ {A = Move CoreState (Option CoreEnd)} (On (resumed (core_with_todo (es ++ later) c) ok waked)) (grown later (On (resumed (core_with_todo es c) ok waked)))
-    resumed_grows c None = refl
-    resumed_grows c (Some t) = refl
+    resumed_grows : (c : CoreState) (value : Cell) (waked : Option Item)
+        → ◌≡◌ {A = Moved} (On (resumed (core_with_todo (es ++ later) c) value waked)) (grown later (On (resumed (core_with_todo es c) value waked)))
+    resumed_grows c value None = refl
+    resumed_grows c value (Some t) = refl
 
     comes_grows : (c : CoreState) (o : Option Arrival)
         → comes_in (λ (end : Option CoreEnd). end)
         (λ x. On (arrived (core_with_todo (e ∷ es ++ later) c) (with_entry (held_under c.held.shared.past (e ∷ es ++ later) c.held).shared e (es ++ later)) x)) o
         ≡ grown later (comes_in (λ (end : Option CoreEnd). end) (λ x. On (arrived (core_with_todo (e ∷ es) c) (with_entry (held_under c.held.shared.past (e ∷ es) c.held).shared e es) x)) o)
     comes_grows c None = refl
-    comes_grows c (Some x) = resumed_grows (after c x) x.woken
+    comes_grows c (Some x) = resumed_grows (after c x) (cell.Int x.value) x.woken
 
     point_grows : (test : Bool) (c : CoreState) (o : Option Arrival)
         → (if test then comes_in (λ (end : Option CoreEnd). end)
@@ -282,64 +291,62 @@ module _ (e : Entry) (es : List Entry) where
         dispatched_too c.held.shared.past (e ∷ es ++ later) c c.ready ∙ told_grows c.held.shared.past (dispatched (core_under [] [] c) c.ready)
         ∙ ap (grown later) (sym (dispatched_too c.held.shared.past (e ∷ es) c c.ready))
 
--- ---- where the next entry is of another turn, none comes in
+    applied_grows : (c : CoreState) (t : Item) (next : s.Next)
+        → applied (core_with_todo (e ∷ es ++ later) c) t (next_under c.held.shared.past (e ∷ es ++ later) next)
+        ≡ grown later (applied (core_with_todo (e ∷ es) c) t (next_under c.held.shared.past (e ∷ es) next))
+    applied_grows c t (s.Cancels block h again ws) = cancel_grows c block h again ws c.held.shared.past e es later
+    applied_grows c t next =
+        applied_too c.held.shared.past (e ∷ es ++ later) c t next tt ∙ told_grows c.held.shared.past (applied (core_under [] [] c) t (next_under [] [] next))
+        ∙ ap (grown later) (sym (applied_too c.held.shared.past (e ∷ es) c t next tt))
 
-point_aside : (past : List Entry) (e : Entry) (es : List Entry) (test : Bool) (c : CoreState) (o : Option Arrival) → test ≡ false
-    → (if test then comes_in (λ (end : Option CoreEnd). end) (λ x. On (arrived (core_under past (e ∷ es) c) (with_entry (held_under past (e ∷ es) c.held).shared e es) x)) o
-    else dispatched (core_under past (e ∷ es) c) c.ready)
-    ≡ move_under past (e ∷ es) (dispatched (core_under [] [] c) c.ready)
-point_aside past e es true c o other = let no : true ≡ false = other in cc
-point_aside past e es false c o other = dispatched_too past (e ∷ es) c c.ready
+-- ---- no thread runs
+
+module _ (c : CoreState) (past : List Entry) where
+  -- these are still to come
+  abbrev resting : List Entry → List Entry → Moved
+  resting todo xs =
+      at_point (λ (end : Option CoreEnd). end) (held_under past todo c.held).shared c.held.store c.held.operations (λ shared x. On (arrived (core_under past todo c) shared x))
+      (dispatched (core_under past todo c) c.ready) xs
+
+  module _ (todo : List Entry) (e : Entry) (es : List Entry) (front : todo ≡ e ∷ es) where
+    abbrev by_arrival : Option Arrival → Moved
+    by_arrival x = comes_in (λ (end : Option CoreEnd). end) (λ x. On (arrived (core_under past todo c) (with_entry (held_under past todo c.held).shared e es) x)) x
+
+    abbrev by_turn : Bool → Moved
+    by_turn now = if now then by_arrival (arrivals.arrives past c.held.store c.held.operations e.event) else dispatched (core_under past todo c) c.ready
+
+    at_first : (now : Bool) → nat_eq e.turn c.held.shared.turn ≡ now → rests (core_under past todo c) ≡ by_turn now
+    at_first now is = ap (resting todo) front ∙ ap by_turn is
+
+    pub does_not_fit : nat_eq e.turn c.held.shared.turn ≡ true → arrivals.arrives past c.held.store c.held.operations e.event ≡ None → rests (core_under past todo c) ≡ Over None
+    does_not_fit is none = at_first true is ∙ ap by_arrival none
+
+    resumed_under : (c : CoreState) (value : Cell) (waked : Option Item) → resumed (core_under (past ++ e ∷ []) es c) value waked ≡ core_under (past ++ e ∷ []) es (resumed c value waked)
+    resumed_under c value None = refl
+    resumed_under c value (Some t) = refl
+
+    pub comes_now : (x : Arrival) → nat_eq e.turn c.held.shared.turn ≡ true → arrivals.arrives past c.held.store c.held.operations e.event ≡ Some x
+        → rests (core_under past todo c) ≡ On (core_under (past ++ e ∷ []) es (arrived c c.held.shared x))
+    comes_now x is fits =
+        at_first true is ∙ ap by_arrival fits
+        ∙ ap (λ (s : CoreState). On s) (resumed_under (record c { held = record c.held { store = x.store; operations = x.operations } }) (cell.Int x.value) x.woken)
+
+  pub none_comes : (todo : List Entry) → IsLater todo c.held.shared.turn → rests (core_under past todo c) ≡ move_under past todo (dispatched (core_under [] [] c) c.ready)
+  none_comes [] later = dispatched_too past [] c c.ready
+  none_comes (e ∷ es) later = at_first (e ∷ es) e es refl false later ∙ dispatched_too past (e ∷ es) c c.ready
 
 -- ---- a move
 
 module _ (program : Resolved) (bound : ℕ) where
-  runs_too : (past todo : List Entry) (c : CoreState) (t : Item)
-      → step_of program bound (core_under past todo c) (Some t) ≡ move_under past todo (step_of program bound (core_under [] [] c) (Some t))
-  runs_too past todo c t =
-      let ws = work.ahead c.work in
-      ap (applied (core_under past todo c) t) (next_too past todo program bound ws c.held) ∙ applied_too past todo c t (s.next_at program bound ws c.held)
-      ∙ ap (λ (next : s.Next). move_under past todo (applied (core_under [] [] c) t next)) (sym (next_too [] [] program bound ws c.held))
+  -- the running thread does what comes next
+  pub runs_under : (past todo : List Entry) (c : CoreState) (t : Item) (next : s.Next) → c.running ≡ Some t → s.next_of program bound c.work c.held ≡ next
+      → step program bound (core_under past todo c) ≡ applied (core_under past todo c) t (next_under past todo next)
+  runs_under past todo c t next runs is =
+      ap (step_of program bound (core_under past todo c)) runs ∙ ap (applied (core_under past todo c) t) (next_too past todo program bound (work.ahead c.work) c.held)
+      ∙ ap (λ (x : s.Next). applied (core_under past todo c) t (next_under past todo x)) is
 
-  -- where none of the next entry's turn comes, none comes in
-  by_running_aside : (past todo : List Entry) (c : CoreState) (running : Option Item) → IsAside todo (record c { running = running })
-      → step_of program bound (core_under past todo c) running ≡ move_under past todo (step_of program bound (core_under [] [] c) running)
-  by_running_aside past todo c (Some t) aside = runs_too past todo c t
-  by_running_aside past [] c None aside = dispatched_too past [] c c.ready
-  by_running_aside past (e ∷ es) c None aside = point_aside past e es (nat_eq e.turn c.held.shared.turn) c (arrivals.arrives past c.held.store c.held.operations e.event) aside
-
-  pub step_aside : (past todo : List Entry) (c : CoreState) → IsAside todo c → step program bound (core_under past todo c) ≡ move_under past todo (step program bound (core_under [] [] c))
-  step_aside past todo c aside = by_running_aside past todo c c.running aside
-
-  -- ---- where the next entry is of this turn, it comes in or does not fit
-
-  module _ (past : List Entry) (e : Entry) (es : List Entry) where
-    resumed_under : (c : CoreState) (waked : Option Item) → resumed (core_under (past ++ e ∷ []) es c) ok waked ≡ core_under (past ++ e ∷ []) es (resumed c ok waked)
-    resumed_under c None = refl
-    resumed_under c (Some t) = refl
-
-    -- what is done at this dispatch point
-    abbrev Point : CoreState → Bool → Option Arrival → Move CoreState (Option CoreEnd)
-    Point c now o =
-        if now then comes_in (λ (end : Option CoreEnd). end) (λ x. On (arrived (core_under past (e ∷ es) c) (with_entry (held_under past (e ∷ es) c.held).shared e es) x)) o
-        else dispatched (core_under past (e ∷ es) c) c.ready
-
-    at_rest : (c : CoreState) (running : Option Item) → running ≡ None
-        → step_of program bound (core_under past (e ∷ es) c) running ≡ Point c (nat_eq e.turn c.held.shared.turn) (arrivals.arrives past c.held.store c.held.operations e.event)
-    at_rest c running idle = ap (step_of program bound (core_under past (e ∷ es) c)) idle
-
-    pub step_arrives : (c : CoreState) (x : Arrival) → c.running ≡ None → nat_eq e.turn c.held.shared.turn ≡ true
-        → arrivals.arrives past c.held.store c.held.operations e.event ≡ Some x
-        → step program bound (core_under past (e ∷ es) c) ≡ On (core_under (past ++ e ∷ []) es (arrived c c.held.shared x))
-    step_arrives c x idle now fits =
-        at_rest c c.running idle ∙ ap (λ (b : Bool). Point c b (arrivals.arrives past c.held.store c.held.operations e.event)) now
-        ∙ ap (λ (o : Option Arrival). Point c true o) fits
-        ∙ ap (λ (s : CoreState). On s) (resumed_under (record c { held = record c.held { store = x.store; operations = x.operations } }) x.woken)
-
-    pub step_unfit : (c : CoreState) → c.running ≡ None → nat_eq e.turn c.held.shared.turn ≡ true
-        → arrivals.arrives past c.held.store c.held.operations e.event ≡ None → step program bound (core_under past (e ∷ es) c) ≡ Over None
-    step_unfit c idle now unfit =
-        at_rest c c.running idle ∙ ap (λ (b : Bool). Point c b (arrivals.arrives past c.held.store c.held.operations e.event)) now ∙ ap (λ (o : Option Arrival). Point c true o) unfit
+  pub rests_under : (past todo : List Entry) (c : CoreState) → c.running ≡ None → step program bound (core_under past todo c) ≡ rests (core_under past todo c)
+  rests_under past todo c idle = ap (step_of program bound (core_under past todo c)) idle
 
   by_running_out : (c : CoreState) (running : Option Item) → IsOut (step_of program bound (core_with_todo [] c) running)
   by_running_out c None = dispatched_out c.held.shared.past c c.ready
@@ -354,7 +361,10 @@ module _ (program : Resolved) (bound : ℕ) where
   module _ (e : Entry) (es : List Entry) where
     by_running_follows : (c : CoreState) (running : Option Item) → Follows e es (step_of program bound (core_with_todo (e ∷ es) c) running)
     by_running_follows c None = point_follows e es (nat_eq e.turn c.held.shared.turn) c (arrivals.arrives c.held.shared.past c.held.store c.held.operations e.event)
-    by_running_follows c (Some t) = subst (Follows e es) (sym (runs_too c.held.shared.past (e ∷ es) c t)) (told_follows e es c.held.shared.past _)
+    by_running_follows c (Some t) =
+        let ws = work.ahead c.work in
+        subst (λ (next : s.Next). Follows e es (applied (core_with_todo (e ∷ es) c) t next)) (sym (next_too c.held.shared.past (e ∷ es) program bound ws c.held))
+        (applied_follows e es c t (s.next_at program bound ws c.held))
 
     pub step_follows : (c : CoreState) → Follows e es (step program bound (core_with_todo (e ∷ es) c))
     step_follows c = by_running_follows c c.running
@@ -363,7 +373,12 @@ module _ (program : Resolved) (bound : ℕ) where
       by_running_grows : (c : CoreState) (running : Option Item)
           → step_of program bound (core_with_todo (e ∷ es ++ later) c) running ≡ grown later (step_of program bound (core_with_todo (e ∷ es) c) running)
       by_running_grows c None = point_grows e es later (nat_eq e.turn c.held.shared.turn) c (arrivals.arrives c.held.shared.past c.held.store c.held.operations e.event)
-      by_running_grows c (Some t) = runs_too c.held.shared.past (e ∷ es ++ later) c t ∙ told_grows e es later c.held.shared.past _ ∙ ap (grown later) (sym (runs_too c.held.shared.past (e ∷ es) c t))
+      by_running_grows c (Some t) =
+          let ws = work.ahead c.work in
+          let past = c.held.shared.past in
+          ap (applied (core_with_todo (e ∷ es ++ later) c) t) (next_too past (e ∷ es ++ later) program bound ws c.held)
+          ∙ applied_grows e es later c t (s.next_at program bound ws c.held)
+          ∙ ap (λ (next : s.Next). grown later (applied (core_with_todo (e ∷ es) c) t next)) (sym (next_too past (e ∷ es) program bound ws c.held))
 
       pub step_grows : (c : CoreState) → step program bound (core_with_todo (e ∷ es ++ later) c) ≡ grown later (step program bound (core_with_todo (e ∷ es) c))
       step_grows c = by_running_grows c c.running

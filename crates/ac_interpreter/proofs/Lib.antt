@@ -8,7 +8,10 @@ mod Outcomes
 mod Returning
 mod Finding
 pub mod Ends
+mod Growing
+mod Trying
 mod Journals
+mod Turning
 mod Prefixes
 mod Moving
 mod Examples

@@ -1,28 +1,26 @@
 -- The moves of a core under a journal, one after another, until it is over.
 use Rattle.std.proofs.Common.{◌≡◌, ℕ, ◌+◌, ◌<◌, List, [], ◌∷◌, ◌++◌, length, take, drop, true, false, ◌≢◌, sym, ap, ◌∙◌, subst, refl, suc, zero, arith, length-drop}
-use Rattle.std.specs.Prelude.{Option, Some, None, is_some, Bool, not, nat_eq, IsSome, MatchBool}
+use Rattle.std.specs.Prelude.{Option, Some, None, is_some, Bool, not, IsSome}
 use Rattle.std.proofs.Math.ListN.{drop_of_length-le}
 use Rattle.ac_base.specs.declared.ends.CoreEnd.{CoreEnd}
 use Rattle.ac_base.specs.declared.entry.Entry.{Entry}
-use Rattle.core_state.specs.Arrivals as arrivals
-use Rattle.core_state.specs.Arrivals.{Arrival}
-use Rattle.core_state.specs.Moves.{Move, On, Over, GoesOn}
+use Rattle.core_state.specs.Moves.{On, Over, GoesOn}
 use Rattle.core_state.proofs.Runs.{GoesOn-more, GoesOn-none}
 use Rattle.ac_commands.specs.declared.program.Function.{Function}
 use Rattle.ac_commands.specs.declared.program.Resolved.{Resolved}
-use Rattle.ac_semantics.specs.Threads.{CoreState, step, first_state, arrived}
+use Rattle.ac_semantics.specs.Threads.{CoreState, step, first_state}
 use Rattle.ac_interpreter.specs.declared.running.Halt.{Halt}
+use Rattle.ac_interpreter.specs.declared.running.Core.{Core}
+use Rattle.ac_interpreter.specs.declared.turns.Came.{Came}
 use Rattle.ac_interpreter.specs.Ends.{IsOverBy}
 use Rattle.ac_interpreter.specs.Unfit.{RunEnds, IsUnfit}
 use Rattle.ac_interpreter.specs.inner.Left.{left_by}
-use Rattle.ac_interpreter.specs.inner.Cores.{end_or}
-use Rattle.ac_interpreter.specs.inner.Under.{core_under, move_under, IsAside}
+use Rattle.ac_interpreter.specs.inner.Cores.{core_of, state_of, end_or}
+use Rattle.ac_interpreter.specs.inner.Under.{core_under, move_under, Took, IsMoved}
 use Rattle.ac_interpreter.proofs.Ends.{over_next, less_left, never_stays}
-use Rattle.ac_interpreter.proofs.Journals.{first_too, step_aside, step_arrives, step_unfit}
+use Rattle.ac_interpreter.proofs.Growing.{Moved}
+use Rattle.ac_interpreter.proofs.Journals.{first_too}
 use Rattle.ac_interpreter.proofs.Prefixes.{is_unfit, is_unfit_first}
-
-abbrev Moved : Type 0
-Moved = Move CoreState (Option CoreEnd)
 
 pub none_of : (o : Option Halt) (test : Bool) → is_some o ≡ not test → test ≡ true → o ≡ None
 none_of None test e t = refl
@@ -39,14 +37,6 @@ some_is (Some halt) h = refl
 pub going : (c : CoreState) (o : Option Halt) (test : Bool) → is_some o ≡ not test → test ≡ true → end_or c o ≡ On c
 going c o test e t = ap (end_or c) (none_of o test e t)
 
-pub fits_true : (P Q : Type 0) (b : Bool) → b ≡ true → MatchBool b P Q → P
-fits_true P Q true e h = h
-fits_true P Q false e h = let no : false ≡ true = e in cc
-
-pub fits_false : (P Q : Type 0) (b : Bool) → b ≡ false → MatchBool b P Q → Q
-fits_false P Q true e h = let no : true ≡ false = e in cc
-fits_false P Q false e h = h
-
 -- one more entry of the journal has come in
 pub one_more : (journal : List Entry) (k : ℕ) (e : Entry) (es : List Entry) → drop k journal ≡ e ∷ es → take (k + 1) journal ≡ take k journal ++ e ∷ []
 one_more [] zero e es h = let no : ◌≡◌ {A = List Entry} [] (e ∷ es) = h in cc
@@ -55,6 +45,14 @@ one_more (x ∷ xs) zero e es h = let same : x ≡ e = cc in ap (λ y. y ∷ [])
 one_more (x ∷ xs) (suc k) e es h =
     let n : suc k + 1 ≡ suc (k + 1) = omega arith in
     ap (λ i. take i (x ∷ xs)) n ∙ ap (λ ys. x ∷ ys) (one_more xs k e es h)
+
+one_less : (journal : List Entry) (k : ℕ) (e : Entry) (es : List Entry) → drop k journal ≡ e ∷ es → drop (k + 1) journal ≡ es
+one_less [] zero e es h = let no : ◌≡◌ {A = List Entry} [] (e ∷ es) = h in cc
+one_less [] (suc k) e es h = let no : ◌≡◌ {A = List Entry} [] (e ∷ es) = h in cc
+one_less (x ∷ xs) zero e es h = cc
+one_less (x ∷ xs) (suc k) e es h =
+    let n : suc k + 1 ≡ suc (k + 1) = omega arith in
+    ap (λ i. drop i (x ∷ xs)) n ∙ one_less xs k e es h
 
 module _ (p : Resolved) (b n : ℕ) (function : Function) (journal : List Entry) where
   abbrev f : CoreState → Moved
@@ -149,47 +147,55 @@ module _ (p : Resolved) (b n : ℕ) (function : Function) (journal : List Entry)
         stopped = stopped;
       }
 
-    -- none comes in
-    module _ (q : Resolved) (d : ℕ) (program : q ≡ p) (bound : d ≡ b) (plain : core_under [] [] c ≡ c) (aside : IsAside (drop k journal) c) where
-      step_is : step q d c ≡ f c
-      step_is = ap (λ r. step r d c) program ∙ ap (λ i. step p i c) bound
+    -- the move that the core has made
+    pub moved_here : (q : Resolved) (d : ℕ) (past todo : List Entry) (came now : Came) (after : Core) → q ≡ p → d ≡ b → past ≡ take k journal → todo ≡ drop k journal → came ≡ now
+        → IsMoved came past todo (step q d (core_under past todo c)) after → IsMoved now (take k journal) (drop k journal) (f (core_there k c)) after
+    moved_here q d past todo came now after program bound before behind is h =
+        subst (λ (x : Came). IsMoved x (take k journal) (drop k journal) (f (core_there k c)) after) is
+        (subst (λ (xs : List Entry). IsMoved came (take k journal) xs (f (core_under (take k journal) xs c)) after) behind
+        (subst (λ (xs : List Entry). IsMoved came xs todo (f (core_under xs todo c)) after) before
+        (subst (λ (i : ℕ). IsMoved came past todo (step p i (core_under past todo c)) after) bound
+        (subst (λ (r : Resolved). IsMoved came past todo (step r d (core_under past todo c)) after) program h))))
 
-      move_is : (next : Moved) → next ≡ step q d c → under k next ≡ f (core_there k c)
-      move_is next h =
-          ap (under k) (h ∙ step_is ∙ ap f (sym plain)) ∙ sym (step_aside p b (take k journal) (drop k journal) c aside)
+    pub has_meaning : (q : Resolved) (d : ℕ) (past todo : List Entry) → q ≡ p → d ≡ b → past ≡ take k journal → todo ≡ drop k journal
+        → step q d (core_under past todo c) ≡ On (core_under past todo c) → ⊥
+    has_meaning q d past todo program bound came left h =
+        never_stays f n (core_there k c) over_here
+        (subst (λ (xs : List Entry). f (core_under (take k journal) xs c) ≡ On (core_under (take k journal) xs c)) left
+        (subst (λ (xs : List Entry). f (core_under xs todo c) ≡ On (core_under xs todo c)) came
+        (subst (λ (i : ℕ). step p i (core_under past todo c) ≡ On (core_under past todo c)) bound
+        (subst (λ (r : Resolved). step r d (core_under past todo c) ≡ On (core_under past todo c)) program h))))
 
-      pub has_meaning : step q d c ≡ On c → ⊥
-      has_meaning h = never_stays f n (core_there k c) over_here (sym (move_is (On c) (sym h)))
+    -- nothing came in with it
+    module _ (next : Moved) (h : f (core_there k c) ≡ under k next) where
+      pub turned : Goes k next
+      turned = next_goes k next (sym h) (λ e. unfit_here (h ∙ e))
 
-      pub turned : (next : Moved) → next ≡ step q d c → Goes k next
-      turned next h = next_goes k next (move_is next h) (λ e. unfit_here (sym (move_is next h) ∙ e))
+      pub turned_less : left_by f n (under k next) < left_by f n (under k m)
+      turned_less = next_less k next (sym h)
 
-      pub turned_less : (next : Moved) → next ≡ step q d c → left_by f n (under k next) < left_by f n (under k m)
-      turned_less next h = next_less k next (move_is next h)
+    -- the next entry came in
+    module _ (after : Core) (took : Took (take k journal) (drop k journal) (f (core_there k c)) after) where
+      is_on : under (k + 1) (state_of after) ≡ On (core_under (take (k + 1) journal) (drop (k + 1) journal) (core_of after))
+      is_on = ap (λ (o : Option Halt). under (k + 1) (end_or (core_of after) o)) took.ended
 
-    -- the next entry is of this turn
-    module _ (e : Entry) (idle : c.running ≡ None) (front : drop k journal ≡ e ∷ drop (k + 1) journal) (now : nat_eq e.turn c.held.shared.turn ≡ true) where
-      pub refused : (past : List Entry) → past ≡ take k journal → arrivals.arrives past c.held.store c.held.operations e.event ≡ None → f (core_there k c) ≡ Over None
-      refused past came h =
-          let unfit = subst (λ (xs : List Entry). arrivals.arrives xs c.held.store c.held.operations e.event ≡ None) came h in
-          ap (λ (es : List Entry). f (core_under (take k journal) es c)) front
-          ∙ step_unfit p b (take k journal) e (drop (k + 1) journal) c idle now unfit
+      comes_is : under (k + 1) (state_of after) ≡ f (core_there k c)
+      comes_is =
+          is_on
+          ∙ ap (λ (past : List Entry). On (core_under past (drop (k + 1) journal) (core_of after))) (one_more journal k took.entry took.others took.front)
+          ∙ ap (λ (todo : List Entry). On (core_under (take k journal ++ took.entry ∷ []) todo (core_of after))) (one_less journal k took.entry took.others took.front)
+          ∙ sym took.on
 
-      module _ (x : Arrival) (fits : arrivals.arrives (take k journal) c.held.store c.held.operations e.event ≡ Some x) (next : Moved) (h : next ≡ On (arrived c c.held.shared x)) where
-        comes_is : under (k + 1) next ≡ f (core_there k c)
-        comes_is =
-            ap (under (k + 1)) h
-            ∙ ap (λ (past : List Entry). On (core_under past (drop (k + 1) journal) (arrived c c.held.shared x))) (one_more journal k e (drop (k + 1) journal) front)
-            ∙ sym (step_arrives p b (take k journal) e (drop (k + 1) journal) c x idle now fits)
-            ∙ ap (λ (es : List Entry). f (core_under (take k journal) es c)) (sym front)
+      not_over : under (k + 1) (state_of after) ≡ Over None → ⊥
+      not_over o =
+          let no : On (core_under (take (k + 1) journal) (drop (k + 1) journal) (core_of after)) ≡ Over None = sym is_on ∙ o in
+          cc
 
-        not_over : under (k + 1) next ≡ Over None → ⊥
-        not_over o =
-            let no : On (core_under (take (k + 1) journal) (drop (k + 1) journal) (arrived c c.held.shared x)) ≡ Over None = sym (ap (under (k + 1)) h) ∙ o in
-            cc
+      pub come : Goes (k + 1) (state_of after)
+      come = next_goes (k + 1) (state_of after) comes_is (λ o. absurd (not_over o))
 
-        pub come : Goes (k + 1) next
-        come = next_goes (k + 1) next comes_is (λ o. absurd (not_over o))
+      pub come_less : left_by f n (under (k + 1) (state_of after)) < left_by f n (under k m)
+      come_less = next_less (k + 1) (state_of after) comes_is
 
-        pub come_less : left_by f n (under (k + 1) next) < left_by f n (under k m)
-        come_less = next_less (k + 1) next comes_is
+      pub one_was_left : k < length journal
+      one_was_left = let e = ap length took.front in let l = length-drop k journal in omega (arith, e, l)

@@ -10,17 +10,15 @@ use Rattle.ac_base.specs.declared.entry.Entry.{Entry}
 use Rattle.work_item.specs.Store.{Store, no_int}
 use Rattle.core_state.specs.Frames.{begun, first_store}
 use Rattle.core_state.specs.Shared.{core_end, first_shared, begins_with}
-use Rattle.core_state.specs.Moves.{Move, On, Over, moves, and_then, GoesOn}
+use Rattle.core_state.specs.Moves.{On, Over, moves, and_then, GoesOn}
 use Rattle.core_state.proofs.Runs.{GoesOn-more}
 use Rattle.ac_commands.specs.declared.program.Function.{Function}
 use Rattle.ac_commands.specs.declared.program.Resolved.{Resolved}
 use Rattle.ac_semantics.specs.Threads.{CoreState, step, first_state, first_core, first_globals}
 use Rattle.ac_interpreter.specs.Unfit.{RunEnds, IsUnfit}
 use Rattle.ac_interpreter.specs.inner.Under.{core_under, move_under}
-use Rattle.ac_interpreter.proofs.Journals.{core_with_todo, IsOut, grown, Follows, step_out, step_follows, step_grows, first_too}
-
-abbrev Moved : Type 0
-Moved = Move CoreState (Option CoreEnd)
+use Rattle.ac_interpreter.proofs.Growing.{Moved, core_with_todo, IsOut, grown, Follows}
+use Rattle.ac_interpreter.proofs.Journals.{step_out, step_follows, step_grows, first_too}
 
 -- ---- moves
 

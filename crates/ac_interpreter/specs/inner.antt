@@ -11,4 +11,5 @@ pub mod Released
 pub mod Chains
 pub mod Arrivals
 pub mod Under
+pub mod Cancels
 pub mod Runs

@@ -1,13 +1,15 @@
 //! What an entry of a journal makes of the operations of a core.
 
 ghost use Rattle.std.specs.Prelude.{◌≡◌, find, position, Some, None, MatchBool, MatchOption, MatchResult};
+ghost use Rattle.std.specs.List.{list_any};
 ghost use Rattle.cancel_scope.specs.Outstanding.{is_to_offer, is_offered, is_to_receive, without_first};
 ghost use Rattle.work_item.specs.Store.{Store};
-ghost use Rattle.core_state.specs.Arrivals.{goes_on_waiting, offers, is_offer, offers_on};
+ghost use Rattle.core_state.specs.Arrivals.{goes_on_waiting, offers, is_offer, offers_on, is_withdrawal, is_room, keeps_room};
+ghost use Rattle.ac_interpreter.specs.inner.Operations.{is_sought};
 ghost use Rattle.ac_interpreter.specs.inner.State.{held_of};
 
 use crate::held::Held;
-use crate::operation::Operation;
+use crate::operation::{Operation, Sought};
 use ac_base::{Entry, Event, Message, Payload};
 use work_item::Item;
 
@@ -15,24 +17,11 @@ use work_item::Item;
 #[derive(Clone, Copy)]
 pub struct Unfit;
 
-// ---- places of operations
-
-fn first_to_offer(operations: &[Operation], link: u32) -> Option<usize>
-    ensures { result ≡ position (is_to_offer link) operations.now }
+// The place of the oldest operation of those that are looked for.
+fn oldest(operations: &[Operation], sought: Sought) -> Option<usize>
+    ensures { result ≡ position (is_sought sought) operations.now }
 {
-    operations.iter().position(|o| o.is_to_offer(link))
-}
-
-fn first_offered(operations: &[Operation], link: u32, number: u64) -> Option<usize>
-    ensures { result ≡ position (is_offered link number) operations.now }
-{
-    operations.iter().position(|o| o.is_offered(link, number))
-}
-
-fn first_to_receive(operations: &[Operation], link: u32) -> Option<usize>
-    ensures { result ≡ position (is_to_receive link) operations.now }
-{
-    operations.iter().position(|o| o.is_to_receive(link))
+    operations.iter().position(|o| o.is_sought(sought))
 }
 
 // ---- one event
@@ -44,7 +33,7 @@ fn offer(operations: &mut Vec<Operation>, link: u32, number: u64, payload: &Payl
         ≡ Some (goes_on_waiting store operations.new.items))
         (offers store operations.old.items link number payload.now (find (is_to_offer link) operations.old.items) ≡ None) }
 {
-    match first_to_offer(operations.as_slice(), link) {
+    match oldest(operations.as_slice(), Sought::ToOffer(link)) {
         None => false,
         Some(index) => {
             if !operations[index].carries(payload) {
@@ -57,25 +46,13 @@ fn offer(operations: &mut Vec<Operation>, link: u32, number: u64, payload: &Payl
     }
 }
 
-// Takes away the operation that was offered on a link under that number.
-fn take_offered(operations: &mut Vec<Operation>, link: u32, number: u64) -> Option<Operation>
-    ensures { MatchOption result (find (is_offered link number) operations.old.items ≡ None)
-        (λ o. (find (is_offered link number) operations.old.items ≡ Some o)
-        × (operations.new.items ≡ without_first (is_offered link number) operations.old.items)) }
+// Takes away the oldest operation of those that are looked for.
+fn take(operations: &mut Vec<Operation>, sought: Sought) -> Option<Operation>
+    ensures { MatchOption result (find (is_sought sought) operations.old.items ≡ None)
+        (λ o. (find (is_sought sought) operations.old.items ≡ Some o)
+        × (operations.new.items ≡ without_first (is_sought sought) operations.old.items)) }
 {
-    match first_offered(operations.as_slice(), link, number) {
-        None => None,
-        Some(index) => Some(operations.remove(index)),
-    }
-}
-
-// Takes away the oldest operation that waits for a message from a link.
-fn take_receiver(operations: &mut Vec<Operation>, link: u32) -> Option<Operation>
-    ensures { MatchOption result (find (is_to_receive link) operations.old.items ≡ None)
-        (λ o. (find (is_to_receive link) operations.old.items ≡ Some o)
-        × (operations.new.items ≡ without_first (is_to_receive link) operations.old.items)) }
-{
-    match first_to_receive(operations.as_slice(), link) {
+    match oldest(operations.as_slice(), sought) {
         None => None,
         Some(index) => Some(operations.remove(index)),
     }
@@ -101,6 +78,51 @@ fn offers_on(link: u32, past: &[Entry]) -> usize
         }
     }
     count
+}
+
+fn is_withdrawal(link: u32, number: u64, event: &Event) -> bool
+    ensures { result ≡ is_withdrawal link number event.now }
+{
+    match event {
+        Event::Withdraw {
+            link: other,
+            number: own,
+        } => *other == link && *own == number,
+        _ => false,
+    }
+}
+
+fn is_room(link: u32, number: u64, event: &Event) -> bool
+    ensures { result ≡ is_room link number event.now }
+{
+    match event {
+        Event::Room {
+            link: other,
+            number: own,
+        } => *other == link && *own == number,
+        _ => false,
+    }
+}
+
+// These entries withdraw an offer.
+fn was_withdrawn(link: u32, number: u64, past: &[Entry]) -> bool
+    ensures { result ≡ list_any (λ e. is_withdrawal link number e.event) past.now }
+{
+    past.iter().any(|e| is_withdrawal(link, number, &e.event))
+}
+
+// They give its room back.
+fn has_room(link: u32, number: u64, past: &[Entry]) -> bool
+    ensures { result ≡ list_any (λ e. is_room link number e.event) past.now }
+{
+    past.iter().any(|e| is_room(link, number, &e.event))
+}
+
+// By these entries an offer was withdrawn, and keeps its room.
+fn keeps_room(link: u32, number: u64, past: &[Entry]) -> bool
+    ensures { result ≡ keeps_room link number past.now }
+{
+    was_withdrawn(link, number, past) && !has_room(link, number, past)
 }
 
 impl Held {
@@ -134,7 +156,7 @@ impl Held {
         ensures held { held_of self.new
             ≡ record (held_of self.old) { store = self.new.memory; operations = self.new.operations.items } }
     {
-        match take_offered(&mut self.operations, link, number) {
+        match take(&mut self.operations, Sought::Offered(link, number)) {
             Some(operation) => Ok(Some(operation.item())),
             None => Err(Unfit),
         }
@@ -150,7 +172,7 @@ impl Held {
         ensures held { held_of self.new
             ≡ record (held_of self.old) { store = self.new.memory; operations = self.new.operations.items } }
     {
-        match take_receiver(&mut self.operations, link) {
+        match take(&mut self.operations, Sought::ToReceive(link)) {
             Some(operation) => {
                 self.memory.write_at(operation.place(), 0, value);
                 Ok(Some(operation.item()))
@@ -169,7 +191,7 @@ impl Held {
         ensures held { held_of self.new
             ≡ record (held_of self.old) { store = self.new.memory; operations = self.new.operations.items } }
     {
-        match first_to_receive(self.operations.as_slice(), link) {
+        match oldest(self.operations.as_slice(), Sought::ToReceive(link)) {
             Some(_) => Ok(None),
             None => Err(Unfit),
         }
@@ -198,6 +220,13 @@ impl Held {
             Event::Know { link, number } => self.end_offered(*link, *number),
             Event::Got { link, value, .. } => self.end_received(*link, *value),
             Event::Pass { link, .. } => self.pass_over(*link),
+            Event::Room { link, number } => {
+                if keeps_room(*link, *number, past) {
+                    Ok(None)
+                } else {
+                    Err(Unfit)
+                }
+            }
             _ => Err(Unfit),
         }
     }

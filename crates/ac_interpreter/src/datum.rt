@@ -3,7 +3,7 @@
 ghost use Rattle.std.specs.Prelude.{◌≡◌, ◌+◌, ◌<◌, ◌≤◌, ◌^◌, None, IfOk};
 ghost use Rattle.work_item.specs.Store.{int_in, place_in};
 ghost use Rattle.work_item.specs.declared.cell.Cell.TheVariants as c;
-ghost use Rattle.core_state.specs.Frames.{within, one_place, part_at};
+ghost use Rattle.core_state.specs.Frames.{within, one_place, part_at, block_in};
 
 use ac_base::Trap;
 use std::marker::Model;
@@ -162,6 +162,16 @@ impl Datum {
         match kind {
             Kind::Array(span) => span,
             _ => Span::new(None, 0, 0),
+        }
+    }
+
+    /// The block that it is; where it is none, the first.
+    pub fn as_block(self) -> BlockId
+        ensures { result ≡ block_in self }
+    {
+        match self.kind {
+            Kind::Block(block) => block,
+            _ => BlockId { number: 0 },
         }
     }
 }

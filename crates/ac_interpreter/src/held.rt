@@ -1,6 +1,6 @@
 //! What a core holds beside its threads.
 
-ghost use Rattle.std.specs.Prelude.{◌≡◌, IfOk, OnOk, map, MatchBool, false, nat_lt, Ok, Err, if◌then◌else◌};
+ghost use Rattle.std.specs.Prelude.{◌≡◌, IfOk, OnOk, map, MatchBool, false, nat_lt, Ok, Err, if◌then◌else◌, slice_index_or};
 ghost use Rattle.ac_base.specs.declared.ends.Trap.TheVariants.{OutputFull};
 ghost use Rattle.work_item.specs.Store.{int_in};
 ghost use Rattle.core_state.specs.Shared.{printed, formatted};
@@ -14,15 +14,15 @@ use std::alloc::Global;
 use std::marker::Model;
 use work_item::{BlockId, Cell, FrameId, Item};
 
-/// The steps and turns that a core has used, the bytes that it has printed, its globals and frames, the frame in which each
-/// block was entered, and its operations that have not ended, the oldest first.
+/// The steps and turns that a core has used, the bytes that it has printed, its globals and frames, whether each block that
+/// was born is marked as cancelled, and its operations that have not ended, the oldest first.
 #[derive(Drop)]
 pub struct Held {
     pub steps: u64,
     pub turn: u64,
     pub output: Vec<u8>,
     pub memory: Memory,
-    pub blocks: Vec<FrameId>,
+    pub marks: Vec<bool>,
     pub operations: Vec<Operation>,
 }
 
@@ -38,7 +38,7 @@ fn ints_of(alloc: Global, values: &[Datum]) -> Result<Vec<Cell>, NoMemory>
 }
 
 impl Held {
-    ghost use Rattle.ac_semantics.specs.Held.{stepped, entered, with_shared, with_started};
+    ghost use Rattle.ac_semantics.specs.Held.{stepped, entered, next_block, with_mark, any_marked, with_shared, with_started};
     ghost use Rattle.ac_interpreter.specs.inner.Operations.{asked_of};
     ghost use Rattle.ac_interpreter.specs.inner.State.{held_of, shared_of};
 
@@ -56,15 +56,40 @@ impl Held {
 
     /// A new block, kept in that slot of a frame.
     pub fn enter(&mut self, frame: FrameId, slot: u32) -> Result<BlockId, NoMemory>
-        ensures number { IfOk result (λ block. block.number ≡ (held_of self.old).blocks) }
+        ensures number { IfOk result (λ block. block ≡ next_block (held_of self.old)) }
         ensures held { OnOk result (held_of self.new ≡ entered (held_of self.old) frame slot) }
     {
         let block = BlockId {
-            number: self.blocks.len() as u64,
+            number: self.marks.len() as u64,
         };
-        self.blocks.push(frame)?;
+        self.marks.push(false)?;
         self.memory.write(frame, 0, slot, Datum::block(block));
         Ok(block)
+    }
+
+    /// A block is marked as cancelled.
+    pub fn mark(&mut self, block: BlockId)
+        ensures { held_of self.new ≡ with_mark (held_of self.old) block }
+    {
+        let index = block.number as usize;
+        if index < self.marks.len() {
+            self.marks[index] = true;
+        }
+    }
+
+    // Whether a block is marked.
+    fn is_marked(&self, block: BlockId) -> bool
+        ensures { result ≡ slice_index_or self.now.marks.items block.number false }
+    {
+        let index = block.number as usize;
+        index < self.marks.len() && self.marks[index]
+    }
+
+    /// Whether one of these blocks is marked.
+    pub fn any_marked(&self, blocks: &[BlockId]) -> bool
+        ensures { result ≡ any_marked self.now.marks.items blocks.now }
+    {
+        blocks.iter().any(|b| self.is_marked(*b))
     }
 
     /// An operation starts, for whose end that thread waits.

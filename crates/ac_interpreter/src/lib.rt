@@ -2,6 +2,7 @@
 #![tactic(auto)]
 
 mod arrivals;
+mod cancelling;
 mod datum;
 mod ending;
 mod evaluation;
@@ -15,6 +16,7 @@ mod resuming;
 mod running;
 mod statements;
 mod threads;
+mod turns;
 mod work;
 
 pub use ending::Ending;

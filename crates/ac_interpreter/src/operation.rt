@@ -1,16 +1,15 @@
 //! An operation that has not ended.
 
 ghost use Rattle.std.specs.Prelude.{◌≡◌};
-ghost use Rattle.cancel_scope.specs.Outstanding.{started, offered_as, is_to_offer, is_offered, is_to_receive, carries};
-ghost use Rattle.cancel_scope.specs.Outstanding.{phase_of, waiting_as};
+ghost use Rattle.cancel_scope.specs.Outstanding.{started, offered_as, is_send, carries, waiting_as};
 ghost use Rattle.core_state.specs.Arrivals.{place_for};
-ghost use Rattle.ac_interpreter.specs.inner.Operations.{asked_of};
+ghost use Rattle.ac_interpreter.specs.inner.Operations.{asked_of, is_sought};
 
 use crate::datum::Span;
-use ac_base::{Message, Payload, Phase, Waiting};
+use ac_base::{Message, Payload, Waiting};
 use cancel_scope::Progress;
 use std::marker::Model;
-use work_item::Item;
+use work_item::{Item, Place};
 
 /// What is asked of a link: to send a message, or to receive one into the first slot there.
 #[derive(Clone, Copy)]
@@ -18,6 +17,21 @@ pub enum Asked {
     Send(Message),
     Recv(Span),
 }
+
+/// Which operations are looked for: those that are to be offered on a link, that stand on it under a number, or that wait for a
+/// message from it.
+#[derive(Clone, Copy)]
+pub enum Sought {
+    ToOffer(u32),
+    Offered(u32, u64),
+    ToReceive(u32),
+}
+
+const NO_PLACE: Place = Place {
+    home: None,
+    start: 0,
+    len: 0,
+};
 
 /// An operation, the number of its link, and the thread that waits for its end.
 #[derive(Drop)]
@@ -50,31 +64,34 @@ impl Operation {
         }
     }
 
-    /// Whether it is to be offered on a link.
-    pub fn is_to_offer(&self, link: u32) -> bool
-        ensures { result ≡ is_to_offer link self.now }
+    // The same, where a receive has no place: no test looks at it.
+    fn bare(&self) -> cancel_scope::Operation
+        ensures link { result.link ≡ self.now.link }
+        ensures asked { is_send result.asked ≡ is_send self.now.asked }
+        ensures progress { result.progress ≡ self.now.progress }
     {
-        self.link == link
-            && matches!(self.asked, Asked::Send(_))
-            && matches!(self.progress, Progress::Waiting)
-    }
-
-    /// Whether it stands on a link under a number.
-    pub fn is_offered(&self, link: u32, number: u64) -> bool
-        ensures { result ≡ is_offered link number self.now }
-    {
-        let under = match self.progress {
-            Progress::Waiting => false,
-            Progress::Offered { number: own } => own == number,
+        let asked = match self.asked {
+            Asked::Send(value) => cancel_scope::Asked::Send(value),
+            Asked::Recv(_) => cancel_scope::Asked::Recv(NO_PLACE),
         };
-        self.link == link && under
+        cancel_scope::Operation {
+            link: self.link,
+            asked,
+            item: self.item,
+            progress: self.progress,
+        }
     }
 
-    /// Whether it waits for a message from a link.
-    pub fn is_to_receive(&self, link: u32) -> bool
-        ensures { result ≡ is_to_receive link self.now }
+    /// Whether it is one of those that are looked for.
+    pub fn is_sought(&self, sought: Sought) -> bool
+        ensures { result ≡ is_sought sought self.now }
     {
-        self.link == link && matches!(self.asked, Asked::Recv(_))
+        let bare = self.bare();
+        match sought {
+            Sought::ToOffer(link) => bare.is_to_offer(link),
+            Sought::Offered(link, number) => bare.is_offered(link, number),
+            Sought::ToReceive(link) => bare.is_to_receive(link),
+        }
     }
 
     /// Whether an offer of it carries this.
@@ -111,23 +128,24 @@ impl Operation {
         }
     }
 
-    // How far it has come.
-    fn phase(&self) -> Phase
-        ensures { result ≡ phase_of self.now.progress }
+    /// The number of its link.
+    pub fn link(&self) -> u32
+        ensures { result ≡ self.now.link }
     {
-        match self.progress {
-            Progress::Waiting => Phase::Waiting,
-            Progress::Offered { .. } => Phase::Offered,
-        }
+        self.link
+    }
+
+    /// How far it has come.
+    pub fn progress(&self) -> Progress
+        ensures { result ≡ self.now.progress }
+    {
+        self.progress
     }
 
     /// What is seen of it.
     pub fn seen(&self) -> Waiting
         ensures { result ≡ waiting_as self.now }
     {
-        Waiting {
-            link: self.link,
-            phase: self.phase(),
-        }
+        self.bare().seen()
     }
 }

@@ -10,8 +10,8 @@ ghost use Rattle.ac_interpreter.specs.inner.Cores.{state_of};
 use crate::datum::Datum;
 use crate::held::Held;
 use crate::memory::Memory;
-use crate::operation::Operation;
-use crate::statements::{Next, next_step};
+use crate::operation::{Asked, Operation};
+use crate::statements::Next;
 use crate::threads::{Phase, Threads};
 use crate::work::{Agenda, Work};
 use ac_base::{CoreEnd, EndWord, List, NoMemory, Trap, Waiting};
@@ -20,6 +20,12 @@ use std::alloc::Global;
 use std::collections::VecDeque;
 use std::mem;
 use work_item::{FrameId, Item};
+
+/// The value of an operation that is done.
+pub const OK: i64 = 0;
+
+/// The value of an operation that never happens.
+pub const CANCELLED: i64 = -1;
 
 /// How a core has ended; it is idle where it only waits.
 #[derive(Clone, Copy)]
@@ -46,12 +52,14 @@ impl<'a> Core<'a> {
     ghost use Rattle.std.specs.Prelude.{◌≡◌, None, Some, IsSome, OnOk, IfOk, []};
     ghost use Rattle.work_item.specs.Store.{released};
     ghost use Rattle.core_state.specs.Moves.{On, Over};
-    ghost use Rattle.ac_semantics.specs.Held.{with_store, seen_of};
-    ghost use Rattle.ac_semantics.specs.Threads.{Ended, stops, starts, wakes_owner, applied, dispatched, step};
-    ghost use Rattle.ac_interpreter.specs.declared.statements.Next.TheVariants as n;
+    ghost use Rattle.ac_semantics.specs.Held.{with_store, any_marked, seen_of};
+    ghost use Rattle.ac_semantics.specs.Threads.{Ended, thread_at, path, stops, starts, wakes_owner};
+    ghost use Rattle.ac_semantics.specs.Threads.{operates, resumed, applied, dispatched};
+    ghost use Rattle.work_item.specs.declared.cell.Cell.TheVariants as cell;
+    ghost use Rattle.ac_interpreter.specs.inner.Operations.{asked_of};
     ghost use Rattle.ac_interpreter.specs.inner.Phases.{phase_of};
     ghost use Rattle.ac_interpreter.specs.inner.State.{held_of};
-    ghost use Rattle.ac_interpreter.specs.inner.Nexts.{next_with};
+    ghost use Rattle.ac_interpreter.specs.inner.Nexts.{next_with, IsPlain};
     ghost use Rattle.ac_interpreter.specs.inner.Cores.{core_of, state_of, IsSameCore};
 
     // The running thread stops with the work that it has now.
@@ -100,18 +108,46 @@ impl<'a> Core<'a> {
         Ok(())
     }
 
-    // The core has ended.
-    fn end_with(&mut self, word: EndWord, idle: bool)
+    // An operation starts, and its thread waits; in a cancelled block it has its value at once.
+    fn operate(&mut self, item: Item, link: u32, asked: Asked) -> Result<(), NoMemory>
+        ensures state { OnOk result (core_of self.new
+            ≡ operates (any_marked self.old.held.marks.items (path self.old.work (thread_at self.old.threads item)))
+            (core_of self.old) item link (asked_of asked) (held_of self.old.held) self.old.work) }
+        ensures ended { self.new.ended ≡ self.old.ended }
+        ensures same { IsSameCore self.old self.new }
+    {
+        let path = self.work.closes(self.alloc, self.threads.around(item))?;
+        if self.held.any_marked(path.as_slice()) {
+            return self.work.give(Datum::int(CANCELLED));
+        }
+        self.held.operate(link, asked, item)?;
+        self.stop(item, Phase::Active);
+        Ok(())
+    }
+
+    /// A thread whose operation has ended has its value, and goes to the back.
+    pub fn resume(&mut self, item: Item, value: i64) -> Result<(), NoMemory>
+        ensures state { OnOk result (core_of self.new ≡ resumed (core_of self.old) (cell.Int value) (Some item)) }
+        ensures ended { self.new.ended ≡ self.old.ended }
+        ensures same { IsSameCore self.old self.new }
+    {
+        self.threads.give(item, Datum::int(value))?;
+        self.ready.push_back(item)?;
+        Ok(())
+    }
+
+    /// The core has ended.
+    pub fn end_with(&mut self, word: EndWord, idle: bool)
         ensures state { state_of self.new ≡ Over (seen_of word idle (held_of self.old.held)) }
         ensures same { IsSameCore self.old self.new }
     {
         self.ended = Some(Halt { word, idle });
     }
 
-    // What a step of the running thread comes to.
-    fn apply(&mut self, item: Item, next: Next<'a>) -> Result<(), NoMemory>
+    /// What a step of the running thread comes to that is no cancel.
+    pub fn apply(&mut self, item: Item, next: Next<'a>) -> Result<(), NoMemory>
         requires running { self.old.ended ≡ None }
-        requires meaning { next ≡ n.Stays → ⊥ }
+        requires plain { IsPlain next }
         ensures state { OnOk result (state_of self.new
             ≡ applied (core_of self.old) item (next_with next.entry (held_of self.old.held) self.old.work)) }
         ensures same { IsSameCore self.old self.new }
@@ -134,18 +170,14 @@ impl<'a> Core<'a> {
                 }
                 Ok(())
             }
-            Next::Operates(link, asked) => {
-                self.held.operate(link, asked, item)?;
-                self.stop(item, Phase::Active);
-                Ok(())
-            }
+            Next::Operates(link, asked) => self.operate(item, link, asked),
             Next::Dies(frame) => self.die(item, frame),
-            Next::Stays => unreachable!(),
+            Next::Cancels(_) | Next::Stays => unreachable!(),
         }
     }
 
-    // No thread runs: the front of the ready list does, or the core waits.
-    fn dispatch(&mut self) -> Result<(), NoMemory>
+    /// No thread runs: the front of the ready list does, or the core waits.
+    pub fn dispatch(&mut self) -> Result<(), NoMemory>
         requires running { self.old.ended ≡ None }
         requires idle { self.old.running ≡ None }
         ensures state { OnOk result (state_of self.new ≡ dispatched (core_of self.old) self.old.ready.items) }
@@ -164,26 +196,6 @@ impl<'a> Core<'a> {
         let _ = mem::replace(&mut self.work, work);
         self.running = Some(item);
         Ok(())
-    }
-
-    /// One move of a core that has not ended.
-    pub fn turn(&mut self) -> Result<(), NoMemory>
-        requires running { self.old.ended ≡ None }
-        requires meaning { step self.old.program.now self.old.bound (core_of self.old) ≡ On (core_of self.old) → ⊥ }
-        ensures state { OnOk result (state_of self.new ≡ step self.old.program.now self.old.bound (core_of self.old)) }
-        ensures same { IsSameCore self.old self.new }
-    {
-        let Some(item) = self.running else {
-            return self.dispatch();
-        };
-        let next = next_step(
-            self.alloc,
-            self.program,
-            self.bound,
-            &mut self.work,
-            &mut self.held,
-        )?;
-        self.apply(item, next)
     }
 
     /// What is seen of a core that has ended.
@@ -289,7 +301,7 @@ pub fn begin_core<'a>(
             turn: 0,
             output: Vec::new(alloc),
             memory,
-            blocks: Vec::new(alloc),
+            marks: Vec::new(alloc),
             operations: Vec::new(alloc),
         },
         running: None,

@@ -37,7 +37,9 @@ pub enum Next<'a> {
     Yields,
     /// The thread arrives at the finish of a block.
     Arrives(BlockId),
-    /// The thread waits for the end of an operation on that link.
+    /// The thread cancels a block, and stays at its cancel.
+    Cancels(BlockId),
+    /// The thread starts an operation on that link.
     Operates(u32, Asked),
     /// The thread has ended, and its frame is given back.
     Dies(FrameId),
@@ -264,7 +266,7 @@ fn enter<'a>(
 ) -> Result<Next<'a>, NoMemory>
     ensures { IfOk result (λ n. next_with n (held_of held.new) work.new
         ≡ s.Goes (h.entered (held_of held.old) frame slot)
-        (w.before frame body.now (w.Close (record { number = (held_of held.old).blocks }) ∷ work.old))) }
+        (w.before frame body.now (w.Close (h.next_block (held_of held.old)) ∷ work.old))) }
 {
     let block = held.enter(frame, slot)?;
     work.push(Work::Close(block))?;
@@ -319,7 +321,10 @@ fn finish<'a>(
         Command::Return(value) => return_value(value_or_zero(value, operands), work, held),
         Command::Do { slot, body } => enter(*slot, body.as_slice(), frame, work, held),
         Command::Async { slots, body } => start(alloc, *slots, body.as_slice(), frame, held),
-        Command::Cancel { .. } => Ok(Next::Stays),
+        Command::Cancel { level, slot } => {
+            work.push(Work::CallOff(frame, *level, *slot))?;
+            Ok(Next::Goes)
+        }
         Command::Yield => Ok(Next::Yields),
     }
 }
@@ -489,6 +494,11 @@ pub fn next_step<'a>(
                 return Ok(Next::Ends(EndWord::OutOfSteps));
             }
             begin_statement(alloc, program, command, frame, work, held)
+        }
+        Work::CallOff(frame, level, slot) => {
+            let block = held.memory.read(frame, level, slot).as_block();
+            work.push(Work::CallOff(frame, level, slot))?;
+            Ok(Next::Cancels(block))
         }
         Work::Close(block) => {
             if !held.step(bound) {

@@ -1,12 +1,13 @@
 //! The threads of a core.
 
 ghost use Rattle.std.specs.Prelude.{◌≡◌, [], ◌∷◌, ◌++◌, length, IfOk, OnOk};
-ghost use Rattle.ac_semantics.specs.Threads.{thread_at, none_within, woken, with_phase, is_within, may_pass};
+ghost use Rattle.ac_semantics.specs.Threads.{thread_at, none_within, woken, with_phase, is_among, is_within, is_inside, may_pass};
 ghost use Rattle.ac_semantics.specs.Threads as s;
 ghost use Rattle.ac_semantics.specs.Work.{given};
 ghost use Rattle.ac_interpreter.specs.inner.Phases.{phase_of};
 
 use crate::datum::Datum;
+use crate::operation::Operation;
 use crate::work::Agenda;
 use ac_base::NoMemory;
 use std::alloc::Global;
@@ -47,20 +48,23 @@ impl<'a> Model for Thread<'a> {
     ghost view = { λ t. record { around = t.around.items; phase = phase_of t.phase; work = t.work } };
 }
 
+fn is_among(block: BlockId, blocks: &[BlockId]) -> bool
+    ensures { result ≡ is_among block blocks.now }
+{
+    for other in blocks {
+        if other.number == block.number {
+            return true;
+        }
+    }
+    false
+}
+
 impl<'a> Thread<'a> {
     // A living thread that was started in the block, or in one that descends from it.
     fn is_within(&self, block: BlockId) -> bool
         ensures { result ≡ is_within block self.now }
     {
-        if matches!(self.phase, Phase::Ended) {
-            return false;
-        }
-        for other in &self.around {
-            if other.number == block.number {
-                return true;
-            }
-        }
-        false
+        !matches!(self.phase, Phase::Ended) && is_among(block, self.around.as_slice())
     }
 }
 
@@ -180,6 +184,21 @@ impl<'a> Threads<'a> {
             }
         }
         true
+    }
+
+    /// Whether the thread of an operation stands in a block, or in one that descends from it.
+    pub fn is_inside(
+        &self,
+        alloc: Global,
+        block: BlockId,
+        operation: &Operation,
+    ) -> Result<bool, NoMemory>
+        ensures { IfOk result (λ inside. inside ≡ is_inside self.now block operation.now) }
+    {
+        let item = operation.item();
+        let work = self.work(alloc, item)?;
+        let path = work.closes(alloc, self.around(item))?;
+        Ok(is_among(block, path.as_slice()))
     }
 
     // Whether a thread waits at a finish that would now pass.

@@ -21,6 +21,8 @@ pub enum Work<'a> {
     Pend(FrameId, &'a Command, Around<'a>),
     /// The same, where this value has come.
     Given(Datum, FrameId, &'a Command, Around<'a>),
+    /// A cancel that goes on, of the block whose number stands in that slot so many levels up.
+    CallOff(FrameId, u32, u32),
     /// The end of a loop's body.
     Turn(FrameId, &'a Command),
     /// The finish of a block that was entered.
@@ -43,6 +45,7 @@ fn copy_work<'a>(alloc: Global, work: &Work<'a>) -> Result<Work<'a>, NoMemory>
         Work::Given(value, frame, command, around) => {
             Work::Given(*value, *frame, command, around.copy(alloc)?)
         }
+        Work::CallOff(frame, level, slot) => Work::CallOff(*frame, *level, *slot),
         Work::Turn(frame, turned) => Work::Turn(*frame, turned),
         Work::Close(block) => Work::Close(*block),
         Work::Back(frame) => Work::Back(*frame),

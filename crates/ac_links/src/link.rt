@@ -1,6 +1,8 @@
 //! One link: its offers in order, which entries fit after them, and what an entry makes of them.
 
-ghost use Rattle.std.specs.Prelude.{◌≡◌, ◌≤◌, length, IfOk, OnErr, slice_get, Some, None, MatchOption, [], false, min};
+ghost use Rattle.std.specs.Prelude.{◌≡◌, ◌≤◌, ◌||◌, length, IfOk, OnErr, slice_get, Some, None, MatchOption, [], false, min};
+ghost use Rattle.std.specs.List.{list_any};
+ghost use Rattle.ac_links.specs.AtRest.{has_front, has_room, is_news, is_unreplied};
 ghost use Rattle.ac_links.specs.Payloads.Taking.{Message, Done};
 ghost use Rattle.ac_links.specs.Link.{front_of, known_lead, can_offer, can_take, can_know, can_withdraw, can_pass, can_free, can_reply};
 ghost use Rattle.ac_links.specs.Link.{link_fits, answered, standing_stamp, offered_payload, link_after, number_of};
@@ -208,13 +210,35 @@ impl Link {
         }
     }
 
+    /// Whether some offer is not decided.
+    pub fn has_front(&self) -> bool
+        ensures { result ≡ has_front self.now }
+    {
+        self.front < self.offers.len()
+    }
+
+    /// Whether there is room for one offer more.
     #[tactic(auto, using(crate::proofs::Leading::lead_within))]
+    pub fn has_room(&self, terms: Terms) -> bool
+        ensures { result ≡ has_room terms self.now }
+    {
+        self.offers.len() - self.lead < terms.capacity as usize
+    }
+
+    /// Whether something has become of an offer that its owner has not had.
+    pub fn has_news(&self) -> bool
+        ensures { result ≡ list_any (λ o. is_news o || is_unreplied o) self.now }
+    {
+        self.offers
+            .iter()
+            .any(|offer| offer.is_news() || offer.is_unreplied())
+    }
+
     fn can_offer(&self, terms: Terms, number: u64, payload: &Payload) -> bool
         ensures { result ≡ can_offer terms self.now number payload.now }
     {
-        let made = self.offers.len();
-        number == made as u64
-            && made - self.lead < terms.capacity as usize
+        number == self.offers.len() as u64
+            && self.has_room(terms)
             && is_payload(terms.requests, payload)
     }
 

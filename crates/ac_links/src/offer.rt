@@ -1,6 +1,7 @@
 //! One offer of a link, and how it stands.
 
 ghost use Rattle.std.specs.Prelude.{◌≡◌};
+ghost use Rattle.ac_links.specs.AtRest.{is_news, is_unreplied};
 ghost use Rattle.ac_links.specs.Link.{is_offered, is_taken, is_decided, is_withdrawn, is_passed};
 
 use ac_base::{Answer, Payload};
@@ -57,4 +58,20 @@ pub struct LinkOffer {
     pub answer: Option<Answer>,
     /// Whether the owner has had the reply.
     pub replied: bool,
+}
+
+impl LinkOffer {
+    /// Whether it was decided, and its owner does not know it.
+    pub fn is_news(&self) -> bool
+        ensures { result ≡ is_news self.now }
+    {
+        self.standing.is_decided() && !self.known
+    }
+
+    /// Whether the request was done, and its owner has not had the reply.
+    pub fn is_unreplied(&self) -> bool
+        ensures { result ≡ is_unreplied self.now }
+    {
+        self.answer.is_some() && !self.replied
+    }
 }

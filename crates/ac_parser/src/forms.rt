@@ -77,10 +77,7 @@ pub fn opening_next(c: &Cursor<'_>) -> Opening
 pub fn is_statement(c: &Cursor<'_>) -> bool
     ensures { result ≡ begins_stmt c.now.rest.now }
 {
-    match opening_next(c) {
-        Opening::Other => false,
-        _ => true,
-    }
+    !matches!(opening_next(c), Opening::Other)
 }
 
 /// What the first part of a `for` begins with.

@@ -29,7 +29,7 @@ use Rattle.ac_parser.proofs.Examples.{two_ac as two_ac_parsed, no_parenthesis}
 use Rattle.ac_types.specs.Reached.{BreaksNone, IsLeastBroken}
 use Rattle.ac_types.specs.declared.rule.Rule.TheVariants as rule
 use Rattle.ac_types.specs.Reached.{entries_of, all_calls, AreReached}
-use Rattle.ac_types.proofs.Forms.{assign_is, name_is, number_is}
+use Rattle.ac_types.proofs.Forms.{assign_is, do_is, cancel_is, name_is, number_is}
 use Rattle.ac_types.proofs.Judging.{program_told}
 use Rattle.ac_reach.specs.declared.reached.Reached.{Reached}
 use Rattle.ac_reach.specs.declared.reached.Reached.TheVariants as row
@@ -80,10 +80,11 @@ use Rattle.ac_program.specs.Writing.{TookFront}
 use Rattle.ac_program.specs.Making.{IsDone, IsReported, made as is_made}
 use Rattle.ac_program.specs.Headline.{IsNoCall, IsRead, IsShort, IsDue, call, source, TookWhole, TookPart, GaveUp}
 use Rattle.ac_program.specs.Headline.{TellsUsage, TellsLibrary, TellsSink, IsOfText, AreOfRuns, CallsFor, made, bad_token, unexpected, broken, over_long, too_many, not_built}
+use Rattle.ac_tree.specs.declared.stmt.Stmt.{Stmt}
 use Rattle.ac_tree.specs.declared.stmt.Stmt.TheVariants as s
 use Rattle.ac_resolve.specs.Resolution.{resolved}
 use Rattle.ac_links.specs.AtRest.{has_front}
-use Rattle.ac_program.proofs.TwoRules.{two_tree, two_is_clean, two_is_built}
+use Rattle.ac_program.proofs.TwoRules.{two_tree, two_is_clean, do_built, cancel_built, two_is_built}
 
 -- ---- words
 
@@ -549,7 +550,7 @@ it_is_not_within h = let le = h.within in omega (arith, le)
 pub it_is_not_ready : IsReady two_text (t.Run 4000001) two_tree → ⊥
 it_is_not_ready h = it_is_not_within h.is_within
 
--- core a(f); async void f() { yield; } has a form that is not built
+-- a program with a file, which is not built
 abbrev pub filing_text : List ℕ
 filing_text = codes "core a(f); file p(\"x\"); async void f() {}"
 
@@ -594,6 +595,39 @@ all_of_two_ac_is_built at h =
     let none : unbuilt_nodes h.program.items ≡ [] = subst (λ (p : Program). unbuilt_nodes p.items ≡ []) (its_only_program h.program h.is_within.is_accepted.spelled) two_is_built in
     let e : slice_get (unbuilt_nodes h.program.items) 0 ≡ None = ap (λ (places : List ℕ). slice_get places 0) none in
     let some = h.unbuilt in cc (e, some)
+
+-- core a(f); async void f() { t: do { cancel t; } finish; } is built too
+abbrev pub cancelling_text : List ℕ
+cancelling_text = codes "core a(f); async void f() { t: do { cancel t; } finish; }"
+
+abbrev cancelled : Stmt
+cancelled = s.Cancel 36 (codes "t")
+
+abbrev pub cancelling_tree : Program
+cancelling_tree = one_core (s.Do 28 (Some (codes "t")) (cancelled ∷ []) ∷ [])
+
+a_cancel : IsTree (tokens_in cancelling_text) cancelling_tree
+unfolding piece_at name_at word_of number_at mark_of_one mark_of_two program_at item_at many_at stmt_at chain_at unary_at same_word same_mark
+a_cancel = parsed_tree _ _ [] refl
+
+cancelling_tokens : HasTokens cancelling_text (tokens_in cancelling_text)
+unfolding piece_at name_at word_of number_at mark_of_one mark_of_two
+cancelling_tokens = record { lexed = lexes 99 0 _ _ refl; only = λ other d. lexes_only 99 0 cancelling_text (Ok (tokens_in cancelling_text)) other refl d }
+
+a_cancel_breaks_none : BreaksNone cancelling_tree.items
+a_cancel_breaks_none = program_told cancelling_tree.items (row.ByOne 0 ∷ [])
+    (reached_in cancelling_tree.items refl (rw (do_is 28 (Some (codes "t")) (cancelled ∷ []), cancel_is 36 (codes "t")) refl)) None
+    (rw (do_is 28 (Some (codes "t")) (cancelled ∷ []), cancel_is 36 (codes "t")) refl)
+
+pub a_cancel_is_ready : IsReady cancelling_text (t.Run 100) cancelling_tree
+a_cancel_is_ready = record {
+  is_within = record {
+    is_accepted = record { spelled = record { tokens = tokens_in cancelling_text; lexed = cancelling_tokens; tree = a_cancel }; clean = a_cancel_breaks_none };
+    within = omega
+        arith;
+  };
+  built = rw (do_built 28 (Some (codes "t")) (cancelled ∷ []), cancel_built 36 (codes "t")) refl;
+}
 
 -- a source of one byte past the limit
 pub it_is_not_short : (bytes : List ℕ) → length bytes ≡ 1048577 → IsShort bytes → ⊥

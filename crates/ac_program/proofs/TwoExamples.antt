@@ -30,7 +30,7 @@ use Rattle.ac_compile.proofs.Compiling.{is_same}
 use Rattle.stack_code.specs.declared.instr.Instr.{Instr}
 use Rattle.stack_code.specs.declared.instr.Instr.TheVariants as i
 use Rattle.code_meaning.specs.Machine.{Flat, FlatEnd}
-use Rattle.code_meaning.specs.Alone.{is_alone, IsAlone}
+use Rattle.code_meaning.specs.Alone.{starts_none, IsAlone}
 use Rattle.code_listing.specs.Listing.{listing}
 use Rattle.core_machine.specs.Machine.{Machine, IsFirst, IsOnItsWay, IsSameCore}
 use Rattle.ac_program.proofs.OneStatus.{one_status}
@@ -119,7 +119,7 @@ two_is_same =
     is_same two_tree (resolved two_tree) refl (all_in_place two_tree two_is_clean (spelled_shape two_tree two_ac_parsed.marks two_ac_parsed.spells)) two_parts two_is_compiled
 
 pub its_code_is_alone : IsAlone two_parts
-its_code_is_alone = All-from_recursion (λ (instr : Instr). is_alone instr ≡ true) two_parts.instrs (refl, (refl, (refl, (refl, (refl, (refl, (refl, (refl, (refl, tt)))))))))
+its_code_is_alone = All-from_recursion (λ (instr : Instr). starts_none instr ≡ true) two_parts.instrs (refl, (refl, (refl, (refl, (refl, (refl, (refl, (refl, (refl, tt)))))))))
 
 -- and its listing
 abbrev pub its_listing : List ℕ

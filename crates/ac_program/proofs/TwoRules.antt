@@ -6,6 +6,7 @@ use Rattle.ac_tree.specs.declared.expr.Expr.TheVariants as e
 use Rattle.ac_tree.specs.declared.expr.Expr.TheOpen.{Expr-F}
 use Rattle.ac_tree.specs.declared.expr.Link.{Link, fold-roll-Link}
 use Rattle.ac_tree.specs.declared.expr.BinaryOp.TheVariants as b
+use Rattle.ac_tree.specs.declared.stmt.Stmt.{Stmt}
 use Rattle.ac_tree.specs.declared.stmt.Stmt.TheFolds.{fold-roll-Stmt}
 use Rattle.ac_tree.specs.declared.stmt.Stmt.TheVariants as s
 use Rattle.ac_tree.specs.declared.stmt.Stmt.TheOpen.{Stmt-F}
@@ -79,6 +80,12 @@ operand_built l = fold-roll-Link (List ℕ) (List ℕ) (built.expr_step built.as
 
 print_built : (at : ℕ) (format : List ℕ) (args : List Expr) → built.stmt_nodes built.as_list (s.Print at format args) ≡ built.exprs_nodes built.as_list args
 print_built at format args = ap (built.stmt_nodes built.as_list) (sym (s.rolls-Print at format args)) ∙ fold-roll-Stmt (List ℕ) (built.stmt_step built.as_list) (Stmt-F.Print at format args)
+
+pub do_built : (at : ℕ) (label : Option (List ℕ)) (body : List Stmt) → built.stmt_nodes built.as_list (s.Do at label body) ≡ built.body_nodes built.as_list body
+do_built at label body = ap (built.stmt_nodes built.as_list) (sym (s.rolls-Do at label body)) ∙ fold-roll-Stmt (List ℕ) (built.stmt_step built.as_list) (Stmt-F.Do at label body)
+
+pub cancel_built : (at : ℕ) (label : List ℕ) → built.stmt_nodes built.as_list (s.Cancel at label) ≡ []
+cancel_built at label = ap (built.stmt_nodes built.as_list) (sym (s.rolls-Cancel at label)) ∙ fold-roll-Stmt (List ℕ) (built.stmt_step built.as_list) (Stmt-F.Cancel at label)
 
 pub two_is_built : built.unbuilt_nodes two_tree.items ≡ []
 two_is_built = rw (

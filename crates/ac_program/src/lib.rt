@@ -38,9 +38,9 @@ use words::read_words;
 /// `limit: nesting at B` for the first token that is more than 256 deep; 3 with `rule Cn at B` for
 /// the least broken rule, by node and then by number; 10 with `limit: steps` where the cores
 /// together may go more than 4,000,000 steps in a run; 15, but not of a check, with `not built at
-/// B` for the first node, in preorder, of a form that is not built. B is a place in bytes from 0.
-/// The status is 8 where the sink failed, which has then taken a front of the text, and 11 where
-/// memory was refused, and nothing is written.
+/// B` for the first node, in preorder, of a form that is not built: a file, a read or a write. B is
+/// a place in bytes from 0. The status is 8 where the sink failed, which has then taken a front of
+/// the text, and 11 where memory was refused, and nothing is written.
 pub fn ac_main<L: Library, K: Sink>(
     alloc: Global,
     words: &[String],

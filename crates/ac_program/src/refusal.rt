@@ -42,7 +42,7 @@ pub enum Refusal {
     Broken(BrokenRule),
     /// All cores together may go more than 4,000,000 steps.
     TooManySteps,
-    /// A form that is not built.
+    /// A form that is not built: a file, or an operation on one.
     NotBuilt { at: u32 },
 }
 

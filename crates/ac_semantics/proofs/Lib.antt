@@ -3,3 +3,4 @@ pub mod Around
 pub mod Examples
 pub mod PartExamples
 pub mod OperationExamples
+pub mod CancelExamples

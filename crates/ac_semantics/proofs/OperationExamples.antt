@@ -92,7 +92,7 @@ its_value_comes = (refl, refl)
 pub it_goes_to_the_back : (resumed (record (core [] []) { ready = item 1 ∷ [] }) (int 0) (Some (item 0))).ready ≡ item 1 ∷ item 0 ∷ []
 it_goes_to_the_back = refl
 
-pub an_entry_leaves_it_so : (arrived (core [] []) (first_shared []) (record { operations = []; store = held.store; woken = Some (item 0) }) ≡ woken [] [])
+pub an_entry_leaves_it_so : (arrived (core [] []) (first_shared []) (record { operations = []; store = held.store; woken = Some (item 0); value = pos 0 }) ≡ woken [] [])
     × (arrived (core [] []) (first_shared []) (goes_on_waiting held.store (five ∷ [])) ≡ core [] (five ∷ []))
 an_entry_leaves_it_so = (refl, refl)
 
@@ -151,10 +151,10 @@ two_cores = record (program (sends ∷ [])) {
 abbrev pub after : List Entry → ℕ → Move CoreState (Option CoreEnd)
 after journal count = and_then (first_state two_cores (function (sends ∷ [])) journal) (moves (step two_cores 9) count)
 
-send_form : out-Command sends ≡ Command-F.Run sends_five
+pub send_form : out-Command sends ≡ Command-F.Run sends_five
 send_form = form sends _ (c.rolls-Run sends_five)
 
-it_stops_at_the_send : (s : Store) (around : List Context) → value s sends_five around ≡ Stops (Acting (Send 0)) (int 5 ∷ []) around
+pub it_stops_at_the_send : (s : Store) (around : List Context) → value s sends_five around ≡ Stops (Acting (Send 0)) (int 5 ∷ []) around
 it_stops_at_the_send s around = simp (act_goes s first_frame, number_goes s first_frame)
 
 -- the send is offered as the number 0 at the turn 1, and it is taken

@@ -113,7 +113,7 @@ a_row_goes s = simp (operand_goes s first_frame, number_goes s first_frame)
 -- ---- what is held
 
 abbrev pub held : Held
-held = record { shared = first_shared []; store = two_globals; blocks = 3; operations = [] }
+held = record { shared = first_shared []; store = two_globals; marks = false ∷ true ∷ false ∷ []; operations = [] }
 
 abbrev pub ends_so : EndWord → Bool → CoreEnd
 ends_so word idle = core_end word idle (pos 8 ∷ pos 9 ∷ []) [] (first_shared [])
@@ -240,7 +240,7 @@ one_move = (refl, refl)
 pub at_first : (first_item ≡ item 0) × (first_globals (program []) ≡ pos 0 ∷ pos 5 ∷ []) × (with_starts (record { slot = 0; value = pos 7 } ∷ []) (pos 8 ∷ pos 9 ∷ []) ≡ pos 7 ∷ pos 9 ∷ [])
     × (first_core (function (c.Break ∷ [])) (first_shared []) two_globals
     ≡ record {
-      held = record held { blocks = 0 };
+      held = record held { marks = [] };
       running = None;
       work = [];
       ready = item 0 ∷ [];
@@ -278,7 +278,7 @@ break_is = form c.Break Command-F.Break c.rolls-Break
 pub a_loop_is_left : does (program []) c.Break first_frame (Turn first_frame loop ∷ Leave ∷ []) held ≡ Goes held (Leave ∷ [])
 a_loop_is_left = rw (break_is, finish_by (program []) c.Break _ break_is) refl
 
-pub a_block_is_entered : (entered held first_frame 0).blocks ≡ 4
+pub a_block_is_entered : (entered held first_frame 0).marks ≡ false ∷ true ∷ false ∷ false ∷ []
 a_block_is_entered = refl
 
 pub who_waits : (is_within (block 0) (started Active) ∷ is_within (block 0) (started Ended) ∷ is_within (block 1) (started Active) ∷ [] ≡ true ∷ false ∷ false ∷ [])

@@ -8,11 +8,11 @@ use Rattle.work_item.specs.declared.ids.FrameId.{FrameId}
 use Rattle.work_item.specs.declared.ids.BlockId.{BlockId}
 use Rattle.work_item.specs.declared.cell.Cell.{Cell}
 use Rattle.work_item.specs.declared.cell.Cell.TheVariants as cell
-use Rattle.work_item.specs.Store.{Store, no_int, int_in, place_in, next_frame, with_cell_at, with_cleared, with_global, released}
+use Rattle.work_item.specs.Store.{Store, cell_at, no_int, int_in, place_in, next_frame, with_cell_at, with_cleared, with_global, released}
 use Rattle.cancel_scope.specs.declared.operation.Asked.{Asked}
 use Rattle.cancel_scope.specs.declared.operation.Asked.TheVariants as asked
 use Rattle.core_state.specs.Arithmetic.{at_zero}
-use Rattle.core_state.specs.Frames.{set_element, begun, begun_with}
+use Rattle.core_state.specs.Frames.{set_element, begun, begun_with, block_in}
 use Rattle.core_state.specs.Shared.{printed, formatted}
 use Rattle.ac_commands.specs.declared.value.Value.{Value}
 use Rattle.ac_commands.specs.declared.value.Value.TheVariants as v
@@ -26,8 +26,8 @@ use Rattle.ac_commands.specs.declared.command.Command.TheOpen.{Command-F}
 use Rattle.ac_commands.specs.declared.program.Function.{Function}
 use Rattle.ac_commands.specs.declared.program.Resolved.{Resolved}
 use Rattle.ac_semantics.specs.Evaluation.{Acting, Ending, Context, Outcome, Comes, Traps, Stops, row_goes, resumes}
-use Rattle.ac_semantics.specs.Held.{Held, with_shared, with_store, stepped, entered}
-use Rattle.ac_semantics.specs.Work.{Work, Do, Pend, Given, Turn, Close, Back, Leave, End}
+use Rattle.ac_semantics.specs.Held.{Held, with_shared, with_store, stepped, next_block, entered}
+use Rattle.ac_semantics.specs.Work.{Work, Do, Pend, Given, CallOff, Turn, Close, Back, Leave, End}
 use Rattle.ac_semantics.specs.Work.{before, ahead, past_loop, at_turn, given}
 
 -- What a step comes to. Where it has no meaning, no case of these, the core stays where it is, and comes to no end.
@@ -40,7 +40,9 @@ pub data Next : Type 0 where
   Yields : Held → List Work → Next
   -- the thread arrives at the finish of a block
   Arrives : BlockId → Held → List Work → Next
-  -- the thread waits for the end of an operation on that link
+  -- the thread cancels a block: it has the first work while an operation within it is left to try, and then the other
+  Cancels : BlockId → Held → List Work → List Work → Next
+  -- the thread starts an operation on that link, and waits for its end where it stands in no cancelled block
   Operates : ℕ → Asked → Held → List Work → Next
   -- the thread has ended, and its frame is given back
   Dies : FrameId → Held → Next
@@ -137,11 +139,11 @@ finish_form program self Command-F.Break operands frame ws s = Goes s (past_loop
 finish_form program self Command-F.Continue operands frame ws s = Goes s (at_turn ws)
 finish_form program self (Command-F.Return value) operands frame ws s = returns (value_or_zero value operands) ws s
 finish_form program self (Command-F.Do slot body) operands frame ws s =
-    Goes (entered s frame slot) (before frame body (Close (record { number = s.blocks }) ∷ ws))
+    Goes (entered s frame slot) (before frame body (Close (next_block s) ∷ ws))
 finish_form program self (Command-F.Async slots body) operands frame ws s =
     or_trap s (begun s.store (Some frame) (replicate slots no_int)) (λ store.
     Starts (with_store s store) (next_frame s.store) (before (next_frame s.store) body (End (next_frame s.store) ∷ [])) ws)
-finish_form program self (Command-F.Cancel level slot) operands frame ws s = Stays
+finish_form program self (Command-F.Cancel level slot) operands frame ws s = Goes s (CallOff frame level slot ∷ ws)
 finish_form program self Command-F.Yield operands frame ws s = Yields s ws
 
 abbrev pub finish : Resolved → Command → List Cell → FrameId → List Work → Held → Next
@@ -188,6 +190,8 @@ if_step bound s next = if nat_lt s.shared.steps bound then next else Ends word.O
 abbrev pub next_at : Resolved → ℕ → List Work → Held → Next
 next_at program bound [] s = Stays
 next_at program bound (Do frame command ∷ ws) s = if_step bound s (does program command frame ws (stepped s))
+next_at program bound (CallOff frame level slot ∷ ws) s =
+    Cancels (block_in (cell_at s.store frame level slot)) s (CallOff frame level slot ∷ ws) ws
 next_at program bound (Turn frame loop ∷ ws) s = Stays
 next_at program bound (Close block ∷ ws) s = if_step bound s (Arrives block (stepped s) ws)
 next_at program bound (Back own ∷ ws) s = returns (pos 0) (Back own ∷ ws) s

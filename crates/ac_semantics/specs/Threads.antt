@@ -8,16 +8,20 @@ use Rattle.work_item.specs.declared.ids.Item.{Item}
 use Rattle.work_item.specs.declared.ids.BlockId.{BlockId}
 use Rattle.work_item.specs.Store.{Store, released}
 use Rattle.work_item.specs.declared.cell.Cell.{Cell}
+use Rattle.work_item.specs.declared.cell.Cell.TheVariants as cell
+use Rattle.cancel_scope.specs.declared.operation.Asked.{Asked}
+use Rattle.cancel_scope.specs.declared.operation.Operation.{Operation}
 use Rattle.core_state.specs.Moves.{Move, On, Over}
 use Rattle.core_state.specs.Frames.{first_frame}
 use Rattle.core_state.specs.Shared.{Shared, first_shared, begins, if_turn}
-use Rattle.core_state.specs.Arrivals.{Arrival, point, ok}
+use Rattle.core_state.specs.Arrivals.{Arrival, point, cancelled}
+use Rattle.core_state.specs.Cancelling.{cancels}
 use Rattle.ac_commands.specs.declared.program.Function.{Function}
 use Rattle.ac_commands.specs.declared.program.Start.{Start}
 use Rattle.ac_commands.specs.declared.program.Resolved.{Resolved}
-use Rattle.ac_semantics.specs.Held.{Held, with_store, with_started, turned, seen_of}
+use Rattle.ac_semantics.specs.Held.{Held, with_store, with_mark, any_marked, with_started, turned, seen_of}
 use Rattle.ac_semantics.specs.Work.{Work, Leave, before, closes, given}
-use Rattle.ac_semantics.specs.Statements.{Next, Goes, Ends, Starts, Yields, Arrives, Operates, Dies, Stays, next_of}
+use Rattle.ac_semantics.specs.Statements.{Next, Goes, Ends, Starts, Yields, Arrives, Cancels, Operates, Dies, Stays, next_of}
 
 pub data Phase : Type 0 where
   -- it runs, is ready to, or waits for the end of an operation
@@ -50,6 +54,11 @@ thread_at threads t = slice_index_or threads t.number nobody
 abbrev pub is_among : BlockId → List BlockId → Bool
 is_among block [] = false
 is_among block (x ∷ xs) = if nat_eq block.number x.number then true else is_among block xs
+
+-- the blocks in which a thread stands that has this work, the innermost first: those that it has entered and not left, also in functions
+-- that it has called, and those round the place where it was started
+abbrev pub path : List Work → Thread → List BlockId
+path ws t = closes ws ++ t.around
 
 abbrev pub is_living : Phase → Bool
 is_living Ended = false
@@ -95,7 +104,7 @@ starts c t s own ws =
       work = own;
       ready = t ∷ c.ready;
       threads = with_phase c.threads t Active ws ++ record {
-        around = closes ws ++ (thread_at c.threads t).around;
+        around = path ws (thread_at c.threads t);
         phase = Active;
         work = [];
       } ∷ [];
@@ -113,6 +122,34 @@ wakes (Some owner) c = record c { ready = owner ∷ c.ready; threads = with_phas
 abbrev pub wakes_owner : CoreState → CoreState
 wakes_owner c = wakes (woken c.threads c.threads 0) c
 
+-- ---- operations
+
+-- the thread of the operation stands in the block, or in one that descends from it
+abbrev pub is_inside : List Thread → BlockId → Operation → Bool
+is_inside ts block o = is_among block (path (thread_at ts o.item).work (thread_at ts o.item))
+
+-- in a cancelled block, or in one that descends from such a block, an operation gives its value at once
+abbrev pub operates : Bool → CoreState → Item → ℕ → Asked → Held → List Work → CoreState
+operates true c t link asked s ws = goes_on c s (given (cell.Int cancelled) ws)
+operates false c t link asked s ws = stops c t Active (with_started s link asked t) ws c.ready
+
+-- the thread whose operation has ended has its value, and goes to the back
+abbrev pub resumed : CoreState → Cell → Option Item → CoreState
+resumed c value None = c
+resumed c value (Some t) =
+    record c { ready = c.ready ++ t ∷ []; threads = with_phase c.threads t Active (given value (thread_at c.threads t).work) }
+
+-- an entry has come in, or a cancel has tried an operation
+abbrev pub arrived : CoreState → Shared → Arrival → CoreState
+arrived c shared x =
+    resumed (record c { held = record c.held { shared = shared; store = x.store; operations = x.operations } }) (cell.Int x.value) x.woken
+
+-- the block is marked, and the oldest operation within it is tried; where none is left the thread goes on
+abbrev pub calls_off : CoreState → BlockId → Held → List Work → List Work → Move CoreState (Option CoreEnd)
+calls_off c block s again ws =
+    cancels (λ e. e) s.shared s.store s.operations (is_inside c.threads block)
+    (λ shared x. On (arrived (goes_on c (with_mark s block) again) shared x)) (On (goes_on c (with_mark s block) ws))
+
 -- ---- a move
 
 abbrev pub applied : CoreState → Item → Next → Move CoreState (Option CoreEnd)
@@ -121,20 +158,10 @@ applied c t (Ends word s) = Over (seen_of word false s)
 applied c t (Starts s frame own ws) = On (starts c t s own ws)
 applied c t (Yields s ws) = On (stops c t Active s ws (c.ready ++ t ∷ []))
 applied c t (Arrives block s ws) = On (arrives (none_within block c.threads) c t block s ws)
-applied c t (Operates link asked s ws) = On (stops c t Active (with_started s link asked t) ws c.ready)
+applied c t (Cancels block s again ws) = calls_off c block s again ws
+applied c t (Operates link asked s ws) = On (operates (any_marked s.marks (path ws (thread_at c.threads t))) c t link asked s ws)
 applied c t (Dies frame s) = On (wakes_owner (stops c t Ended (with_store s (released s.store frame)) [] c.ready))
 applied c t Stays = On c
-
--- the thread whose operation has ended has its value, and goes to the back
-abbrev pub resumed : CoreState → Cell → Option Item → CoreState
-resumed c value None = c
-resumed c value (Some t) =
-    record c { ready = c.ready ++ t ∷ []; threads = with_phase c.threads t Active (given value (thread_at c.threads t).work) }
-
--- an entry has come in
-abbrev pub arrived : CoreState → Shared → Arrival → CoreState
-arrived c shared x =
-    resumed (record c { held = record c.held { shared = shared; store = x.store; operations = x.operations } }) ok x.woken
 
 -- the front of the ready list runs, or the core waits; after the last turn it is out of steps
 abbrev pub dispatched : CoreState → List Item → Move CoreState (Option CoreEnd)
@@ -164,7 +191,7 @@ first_item = record { number = 0 }
 abbrev pub first_core : Function → Shared → Store → CoreState
 first_core function s store =
     record {
-      held = record { shared = s; store = store; blocks = 0; operations = [] };
+      held = record { shared = s; store = store; marks = []; operations = [] };
       running = None;
       work = [];
       ready = first_item ∷ [];

@@ -1,5 +1,5 @@
 -- What a thread has still to do.
-use Rattle.std.specs.Prelude.{List, [], ◌∷◌}
+use Rattle.std.specs.Prelude.{ℕ, List, [], ◌∷◌}
 use Rattle.work_item.specs.declared.ids.FrameId.{FrameId}
 use Rattle.work_item.specs.declared.ids.BlockId.{BlockId}
 use Rattle.work_item.specs.declared.cell.Cell.{Cell}
@@ -14,6 +14,8 @@ pub data Work : Type 0 where
   Pend : FrameId → Command → List Context → Work
   -- the same, where this value has come
   Given : Cell → FrameId → Command → List Context → Work
+  -- a cancel that goes on, of the block whose number stands in that slot so many levels up
+  CallOff : FrameId → ℕ → ℕ → Work
   -- the end of a loop's body
   Turn : FrameId → Command → Work
   -- the finish of a block that was entered

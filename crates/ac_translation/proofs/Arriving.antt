@@ -1,5 +1,5 @@
 -- An entry that comes in, and what it leaves of a core and of its machine.
-use Rattle.std.proofs.Common.{◌≡◌, ℕ, ◌+◌, ◌<◌, List, [], ◌∷◌, ◌++◌, length, set, Option, Some, None, Bool, true, false, refl, sym, ap, ◌∙◌, subst, arith}
+use Rattle.std.proofs.Common.{◌≡◌, ℕ, ◌+◌, ◌<◌, List, [], ◌∷◌, ◌++◌, length, set, Option, Some, None, Bool, true, false, inl, inr, refl, sym, ap, ◌∙◌, subst, arith}
 use Rattle.std.specs.Prelude.{ℤ, find, nat_eq, if◌then◌else◌}
 use Rattle.std.proofs.lemmas.List.{length-set}
 use Rattle.ac_base.specs.declared.entry.Entry.{Entry}
@@ -8,25 +8,24 @@ use Rattle.ac_base.specs.declared.entry.Event.TheVariants as event
 use Rattle.ac_base.specs.declared.entry.Payload.{Payload}
 use Rattle.work_item.specs.declared.ids.Item.{Item}
 use Rattle.work_item.specs.declared.cell.Cell.{Cell}
+use Rattle.work_item.specs.declared.cell.Cell.TheVariants as cell
 use Rattle.work_item.specs.Store.{Store}
 use Rattle.cancel_scope.specs.declared.operation.Operation.{Operation}
 use Rattle.cancel_scope.specs.Outstanding.{is_to_offer, is_offered, is_to_receive, carries, offered_as, change_first, without_first}
 use Rattle.core_state.specs.Shared.{Shared}
-use Rattle.core_state.specs.Arrivals.{Arrival, goes_on_waiting, offers_on, offers, ends_known, ends_received, passes_over, arrives, ok}
+use Rattle.core_state.specs.Arrivals.{Arrival, goes_on_waiting, offers_on, keeps_room, has_ended_as, offers, ends_known, ends_received, passes_over, gives_room, arrives}
 use Rattle.ac_semantics.specs.Held.{Held}
 use Rattle.ac_semantics.specs.Work.{Work, Pend, closes, given}
-use Rattle.ac_semantics.specs.Threads.{Phase, Active, Thread, nobody, thread_at, arrived, with_phase}
+use Rattle.ac_semantics.specs.Threads.{Phase, Active, Thread, nobody, arrived}
 use Rattle.stack_code.specs.Parts.{Parts}
-use Rattle.stack_code.specs.declared.instr.Instr.{Instr}
-use Rattle.code_meaning.specs.Machine.{Block, Thread as Stack, given as gives, arrived as arrives_there}
-use Rattle.ac_translation.proofs.Tables.{set_changed, in_table, one, one_same, one_other, occ_append}
+use Rattle.code_meaning.specs.Machine.{Block, Thread as Stack, nobody as no_stack, given as gives, arrived as arrives_there}
+use Rattle.ac_translation.proofs.Tables.{set_changed, found, in_table, one, one_same, one_other, occ_append}
 use Rattle.ac_translation.proofs.Blocks.{Lives, entered_of, entered, at}
 use Rattle.ac_translation.proofs.Changes.{direct_change, same_good}
 use Rattle.ac_translation.proofs.Tracks.{tracks_same}
 use Rattle.ac_translation.proofs.Wakes.{is_active, active, running_is, asked_by, listed_same, waits_change}
-use Rattle.ac_translation.proofs.Keeps.{Activation}
-use Rattle.ac_translation.proofs.Works.{Sleeps, Works, wakes}
-use Rattle.ac_translation.proofs.Standing.{resting, halted, stack_at, Parked, Together, Stands, rests, others_put, never_waits}
+use Rattle.ac_translation.proofs.Works.{given_works}
+use Rattle.ac_translation.proofs.Standing.{resting, halted, NotRunning, stack_at, Parked, Others, Together, Stands, rests, never_waits}
 
 -- ---- who waits for an operation
 
@@ -90,6 +89,15 @@ passed_balance : (store : Store) (os : List Operation) (x : Arrival) (found : Op
 passed_balance store os x None e = cc
 passed_balance store os x (Some o) e = same_balance os x (goes_on_waiting store os) e (record { by = λ u. omega arith })
 
+room_balance : (store : Store) (os : List Operation) (x : Arrival) (keeps : Bool) → gives_room store os keeps ≡ Some x → Balances os x
+room_balance store os x false e = cc
+room_balance store os x true e = same_balance os x (goes_on_waiting store os) e (record { by = λ u. omega arith })
+
+-- the first of those for which a test holds has ended
+pub ended_balance : (value : ℤ) (store : Store) (os : List Operation) (test : Operation → Bool) (o : Operation) → find test os ≡ Some o
+    → Balances os (has_ended_as value store (without_first test os) o)
+ended_balance value store os test o f = record { by = λ u. without_asked u test o os f }
+
 pub arrival_balance : (past : List Entry) (store : Store) (os : List Operation) (event : Event) (x : Arrival) → arrives past store os event ≡ Some x → Balances os x
 arrival_balance past store os (event.Offer link number payload) x e = go (nat_eq number (offers_on link past)) e
   where
@@ -99,6 +107,7 @@ arrival_balance past store os (event.Offer link number payload) x e = go (nat_eq
 arrival_balance past store os (event.Know link number) x e = known_balance store os link number x (find (is_offered link number) os) refl e
 arrival_balance past store os (event.Got link number value) x e = received_balance store os link value x (find (is_to_receive link) os) refl e
 arrival_balance past store os (event.Pass link number) x e = passed_balance store os x (find (is_to_receive link) os) e
+arrival_balance past store os (event.Room link number) x e = room_balance store os x (keeps_room link number past) e
 arrival_balance past store os other x e = cc
 
 -- ---- the value of an operation
@@ -108,24 +117,19 @@ given_closes value [] = refl
 given_closes value (Pend own c around ∷ ws) = refl
 given_closes value (w ∷ ws) = refl
 
-module _ (code : List Instr) where
-  given_works : (value : Cell) (activation : Activation) (place : ℕ) (operands : List Cell) (ws : List Work) → Sleeps code activation place operands ws
-      → Works code activation place (value ∷ operands) (given value ws)
-  given_works value activation place operands (Pend own c around ∷ ws) d = wakes value own c around d
-  given_works value activation place operands ws d = absurd d
-
 -- ---- the state after it
 
-module _ (code : Parts) (s : Held) (ready : List Item) (ts : List Thread) (stacks : List Stack) (bs : List (Option Block)) (count : ℕ)
-    (h : Together code.instrs ts s.blocks s.operations ready None stacks bs) (shared : Shared) (x : Arrival) (balance : Balances s.operations x) where
-  abbrev then_held : Held
-  then_held = record s { shared = shared; store = x.store; operations = x.operations }
+never_runs : (u : ℕ) (running : Option Item) → running_is u running ≡ 0 → NotRunning u running
+never_runs u None z = tt
+never_runs u (Some t) z = λ e. let o : one u t.number ≡ 1 = subst (λ n. one u n ≡ 1) (sym e) (one_same u) in omega (arith, z, o)
 
+module _ (code : Parts) (s : Held) (ready : List Item) (running : Option Item) (ts : List Thread) (stacks : List Stack) (bs : List (Option Block))
+    (h : Together code.instrs ts s.marks s.operations ready running stacks bs) (x : Arrival) (balance : Balances s.operations x) where
   -- no operation has ended
-  none_woken : x.woken ≡ None → Stands code.instrs (resting then_held ready ts) (halted then_held ready stacks bs count)
-  none_woken e =
+  pub none_together : x.woken ≡ None → Together code.instrs ts s.marks x.operations ready running stacks bs
+  none_together e =
       let same = λ (u : ℕ). balance.by u ∙ ap (λ w. running_is u w + asked_by u x.operations) e in
-      rests then_held ready ts stacks bs count (record {
+      record {
         stacks_are = h.stacks_are;
         blocks_are = h.blocks_are;
         good = h.good;
@@ -134,77 +138,110 @@ module _ (code : Parts) (s : Held) (ready : List Item) (ts : List Thread) (stack
         tracks = h.tracks;
         others = λ u ne l. let z : asked_by u s.operations ≡ asked_by u x.operations = (let k = same u in omega (arith, k)) in
             subst (λ n. Parked code.instrs n (at ts u) (stack_at stacks u)) z (h.others u ne l);
-      })
+      }
 
   -- the operation of this thread has ended
   module _ (t : Item) (e : x.woken ≡ Some t) where
     one_less : (u : ℕ) → asked_by u s.operations ≡ one u t.number + asked_by u x.operations
     one_less u = balance.by u ∙ ap (λ w. running_is u w + asked_by u x.operations) e
 
-    was_active : (thread_at ts t).phase ≡ Active
+    pub was_active : (at ts t.number).phase ≡ Active
     was_active =
-        is_active (thread_at ts t).phase (let k = h.listed t.number in let z = one_less t.number in let o = one_same t.number in omega (arith, k, z, o))
+        is_active (at ts t.number).phase (let k = h.listed t.number in let z = one_less t.number in let o = one_same t.number in omega (arith, k, z, o))
 
-    asked_once : (asked_by t.number s.operations ≡ 1) × (asked_by t.number x.operations ≡ 0)
+    asked_once : (running_is t.number running ≡ 0) × ((asked_by t.number s.operations ≡ 1) × (asked_by t.number x.operations ≡ 0))
     asked_once =
         let k = h.listed t.number in
         let a = ap active was_active in
         let z = one_less t.number in
         let o = one_same t.number in
-        (omega (arith, k, z, o, a), omega (arith, k, z, o, a))
+        (omega (arith, k, z, o, a), (omega (arith, k, z, o, a), omega (arith, k, z, o, a)))
+
+    pub runs_not : NotRunning t.number running
+    runs_not = never_runs t.number running asked_once.0
 
     lives : Lives (at ts t.number).phase
     lives = subst Lives (sym was_active) tt
 
-    abbrev new : Thread
-    new = record (thread_at ts t) { phase = Active; work = given ok (thread_at ts t).work }
+    abbrev value : Cell
+    value = cell.Int x.value
 
-    abbrev then_threads : List Thread
-    then_threads = with_phase ts t Active (given ok (thread_at ts t).work)
+    abbrev pub woken_thread : Thread
+    woken_thread = record (at ts t.number) { phase = Active; work = given value (at ts t.number).work }
 
-    abbrev kept : Stack
-    kept = gives ok (stack_at stacks t.number)
+    abbrev pub woken_stack : Stack
+    woken_stack = gives value (stack_at stacks t.number)
 
     sleeper : Parked code.instrs 1 (at ts t.number) (stack_at stacks t.number)
-    sleeper = subst (λ n. Parked code.instrs n (at ts t.number) (stack_at stacks t.number)) asked_once.0 (h.others t.number tt lives)
+    sleeper = subst (λ n. Parked code.instrs n (at ts t.number) (stack_at stacks t.number)) asked_once.1.0 (h.others t.number runs_not lives)
 
-    awake : Parked code.instrs 0 new kept
+    awake : Parked code.instrs 0 woken_thread woken_stack
     awake = record {
       activation = sleeper.activation;
       place = sleeper.place;
-      operands = ok ∷ sleeper.operands;
-      is = ap (gives ok) sleeper.is;
+      operands = value ∷ sleeper.operands;
+      is = ap (gives value) sleeper.is;
       around = sleeper.around;
-      works = given_works code.instrs ok sleeper.activation sleeper.place sleeper.operands (thread_at ts t).work sleeper.works;
+      works = given_works code.instrs value sleeper.activation sleeper.place sleeper.operands (at ts t.number).work sleeper.works;
     }
 
     inside : t.number < length ts
     inside = in_table (λ (y : Thread). Lives y.phase) nobody ts t.number (λ l. l) lives
 
-    same_entered : entered new ≡ entered (at ts t.number)
-    same_entered = given_closes ok (thread_at ts t).work ∙ ap (λ (p : Phase). entered_of p (closes (thread_at ts t).work)) (sym was_active)
+    same_entered : entered woken_thread ≡ entered (at ts t.number)
+    same_entered = given_closes value (at ts t.number).work ∙ ap (λ (p : Phase). entered_of p (closes (at ts t.number).work)) (sym was_active)
 
-    one_woken : Stands code.instrs (resting then_held (ready ++ t ∷ []) then_threads) (halted then_held (ready ++ t ∷ []) (set stacks t.number kept) bs count)
-    one_woken =
-        let change = set_changed nobody ts t.number new inside in
-        let listed = listed_same ts then_threads t.number new change s.operations ready None (sym was_active) h.listed in
+    abbrev pub then_threads : List Thread
+    then_threads = set ts t.number woken_thread
+
+    abbrev pub then_stacks : List Stack
+    then_stacks = set stacks t.number woken_stack
+
+    others_then : Others code.instrs then_threads x.operations running then_stacks
+    others_then u ne l =
+        let change = set_changed nobody ts t.number woken_thread inside in
         let m = h.stacks_are in
-        rests then_held (ready ++ t ∷ []) then_threads (set stacks t.number kept) bs count (record {
-          stacks_are = length-set stacks t.number kept ∙ h.stacks_are ∙ sym (length-set ts t.number new);
-          blocks_are = h.blocks_are;
-          good = same_good ts then_threads t.number new change s.blocks h.good lives tt refl same_entered;
-          waits = waits_change ts then_threads t.number new change h.waits (direct_change ts then_threads t.number new change lives tt refl) (λ b e. absurd (never_waits b e));
-          listed = λ u. let k = listed u in let z = one_less u in let r = occ_append (λ (y : Item). y.number) u ready (t ∷ []) in omega (arith, k, z, r);
-          tracks = tracks_same ts then_threads t.number new change bs bs s.blocks h.good h.tracks refl lives (sym was_active) refl same_entered;
-          others = others_put code.instrs ts then_threads t new change s.operations stacks (λ u ne l. h.others u tt l) x.operations
-              (λ u ne. let z = one_less u in let o = one_other u t.number (λ e. ne (sym e)) in omega (arith, z, o)) kept (let lt = inside in omega (arith, lt, m))
-              (λ l. subst (λ n. Parked code.instrs n new kept) (sym asked_once.1) awake);
-        })
+        let put = set_changed no_stack stacks t.number woken_stack (let lt = inside in omega (arith, lt, m)) in
+        elim (found nobody ts then_threads t.number woken_thread change u) as (λ _. Parked code.instrs (asked_by u x.operations) (at then_threads u) (stack_at then_stacks u)) [
+          | inl q ↦
+              let here : stack_at then_stacks u ≡ woken_stack = subst (λ z. stack_at then_stacks z ≡ woken_stack) q.0 put.here in
+              let own : Parked code.instrs (asked_by u x.operations) woken_thread woken_stack =
+              subst (λ z. Parked code.instrs (asked_by z x.operations) woken_thread woken_stack) q.0
+              (subst (λ n. Parked code.instrs n woken_thread woken_stack) (sym asked_once.1.1) awake) in
+              subst (λ y. Parked code.instrs (asked_by u x.operations) (at then_threads u) y) (sym here) (subst (λ y. Parked code.instrs (asked_by u x.operations) y woken_stack) (sym q.1) own)
+          | inr q ↦
+              let z : asked_by u s.operations ≡ asked_by u x.operations = (let k = one_less u in let o = one_other u t.number (λ e. q.0 (sym e)) in omega (arith, k, o)) in
+              let was = h.others u ne (subst (λ (y : Thread). Lives y.phase) q.1 l) in
+              let now = subst (λ n. Parked code.instrs n (at ts u) (stack_at stacks u)) z was in
+              subst (λ y. Parked code.instrs (asked_by u x.operations) (at then_threads u) y) (sym (put.there u q.0))
+              (subst (λ y. Parked code.instrs (asked_by u x.operations) y (stack_at stacks u)) (sym q.1) now)
+        ]
 
-  -- both stand in relation again
+    pub woken_together : Together code.instrs then_threads s.marks x.operations (ready ++ t ∷ []) running then_stacks bs
+    woken_together =
+        let change = set_changed nobody ts t.number woken_thread inside in
+        let listed = listed_same ts then_threads t.number woken_thread change s.operations ready running (sym was_active) h.listed in
+        record {
+          stacks_are = length-set stacks t.number woken_stack ∙ h.stacks_are ∙ sym (length-set ts t.number woken_thread);
+          blocks_are = h.blocks_are;
+          good = same_good ts then_threads t.number woken_thread change (length s.marks) h.good lives tt refl same_entered;
+          waits = waits_change ts then_threads t.number woken_thread change h.waits (direct_change ts then_threads t.number woken_thread change lives tt refl) (λ b e. absurd (never_waits b e));
+          listed = λ u. let k = listed u in let z = one_less u in let r = occ_append (λ (y : Item). y.number) u ready (t ∷ []) in omega (arith, k, z, r);
+          tracks = tracks_same ts then_threads t.number woken_thread change bs bs s.marks (length s.marks) h.good h.tracks refl lives (sym was_active) refl same_entered;
+          others = others_then;
+        }
+
+-- where none runs, both stand in relation again
+module _ (code : Parts) (s : Held) (ready : List Item) (ts : List Thread) (stacks : List Stack) (bs : List (Option Block)) (count : ℕ)
+    (h : Together code.instrs ts s.marks s.operations ready None stacks bs) (shared : Shared) (x : Arrival) (balance : Balances s.operations x) where
+  abbrev then_held : Held
+  then_held = record s { shared = shared; store = x.store; operations = x.operations }
+
   pub arrival_stands : Stands code.instrs (arrived (resting s ready ts) shared x) (arrives_there (halted s ready stacks bs count) shared x)
   arrival_stands = go x.woken refl
     where
       go : (woken : Option Item) → x.woken ≡ woken → Stands code.instrs (arrived (resting s ready ts) shared x) (arrives_there (halted s ready stacks bs count) shared x)
-      go None e = rw e (none_woken e)
-      go (Some t) e = rw e (one_woken t e)
+      go None e = rw e (rests then_held ready ts stacks bs count (none_together code s ready None ts stacks bs h x balance e))
+      go (Some t) e =
+          rw e (rests then_held (ready ++ t ∷ []) (then_threads code s ready None ts stacks bs h x balance t e) (then_stacks code s ready None ts stacks bs h x balance t e) bs count
+          (woken_together code s ready None ts stacks bs h x balance t e))

@@ -66,6 +66,23 @@ pub record OwnerOf (ts : List Thread) (c : BlockId) (rest : List BlockId) : Type
   pub has : entered (at ts owner) ≡ inside ++ c ∷ outside
   pub round : rest ≡ outside ++ (at ts owner).around
 
+-- each of these is older than the one before, and all are older than this number
+abbrev pub Falls : ℕ → List BlockId → Type 0
+Falls n [] = Unit {0}
+Falls n (b ∷ bs) = (b.number < n) × Falls b.number bs
+
+pub falls_below : (m n : ℕ) (bs : List BlockId) → m ≤ n → Falls m bs → Falls n bs
+falls_below m n [] le h = tt
+falls_below m n (b ∷ bs) le h = let lt = h.0 in (omega (arith, le, lt), h.1)
+
+pub falls_short : (n : ℕ) (bs : List BlockId) → Falls n bs → length bs ≤ n
+falls_short n [] h = omega arith
+falls_short n (b ∷ bs) h = let lt = h.0 in let le = falls_short b.number bs h.1 in omega (arith, lt, le)
+
+-- where a thread stands
+abbrev pub path_of : Thread → List BlockId
+path_of t = entered t ++ t.around
+
 pub record Good (ts : List Thread) (blocks : ℕ) : Type 0 where
   -- each living thread was started where a living thread stands
   pub nested : (u : ℕ) (c : BlockId) (rest : List BlockId) → Lives (at ts u).phase → (at ts u).around ≡ c ∷ rest → OwnerOf ts c rest
@@ -73,6 +90,8 @@ pub record Good (ts : List Thread) (blocks : ℕ) : Type 0 where
   pub once : (b : BlockId) → sum_by (held b) ts ≤ 1
   -- nobody is in a block that is not yet born
   pub fresh : (b : BlockId) → blocks ≤ b.number → sum_by (held b) ts ≡ 0
+  -- a block lies in older ones
+  pub falls : (u : ℕ) → Lives (at ts u).phase → Falls blocks (path_of (at ts u))
 
 -- for each thread that waits at a finish a thread lives that was started directly in the block
 abbrev pub Waits : List Thread → Type 0

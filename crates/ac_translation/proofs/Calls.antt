@@ -20,7 +20,7 @@ use Rattle.ac_commands.specs.declared.program.Function.{Function}
 use Rattle.ac_commands.specs.declared.program.Resolved.{Resolved}
 use Rattle.ac_semantics.specs.Evaluation.{Acting, Context, Stops}
 use Rattle.ac_semantics.specs.Held.{Held, with_store, seen_of}
-use Rattle.ac_semantics.specs.Work.{Work, Do, Pend, Given, Turn, Close, Back, Leave, End, before}
+use Rattle.ac_semantics.specs.Work.{Work, Do, Pend, Given, CallOff, Turn, Close, Back, Leave, End, before}
 use Rattle.ac_semantics.specs.Statements.{Next, Goes, Operates, last_of, returns, calls, settles}
 use Rattle.ac_semantics.specs.Threads.{CoreState, goes_on}
 use Rattle.stack_code.specs.declared.instr.Instr.TheVariants as i
@@ -142,6 +142,7 @@ module _ (code : Parts) (program : Resolved) (same : IsCodeOf code program) (fin
   returns_follow (Do own x ∷ ws) scope place e d s at o b h = returns_follow ws scope d.to e d.rest s at o b h
   returns_follow (Pend own x around ∷ ws) scope place e d s at o b h = absurd d
   returns_follow (Given value own x around ∷ ws) scope place e d s at o b h = absurd d
+  returns_follow (CallOff own level slot ∷ ws) scope place e d s at o b h = returns_follow ws scope (d.at + 1) e d.rest s at o b h
   returns_follow (Turn own x ∷ ws) scope place e d s at o b h = returns_follow ws d.outer d.to (ap (λ (x : Scope). x.block) (sym d.is) ∙ e) d.rest s at o b h
   returns_follow (Close block ∷ ws) scope place e d s at o b h = absurd (not_both scope.block e d.in_block)
   returns_follow (Back own ∷ Pend to x around ∷ ws) scope place e d s at o b h =

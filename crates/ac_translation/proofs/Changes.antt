@@ -5,7 +5,7 @@ use Rattle.std.proofs.lemmas.Bool.{cases_eq}
 use Rattle.work_item.specs.declared.ids.BlockId.{BlockId}
 use Rattle.ac_semantics.specs.Threads.{Phase, Active, AtFinish, Ended, Thread, nobody, none_within}
 use Rattle.ac_translation.proofs.Tables.{Changed, found, one, one_same, one_other}
-use Rattle.ac_translation.proofs.Blocks.{among, Lives, alive, entered, head_is, held, direct, at, OwnerOf, Good, alive_is, within_is, none_true}
+use Rattle.ac_translation.proofs.Blocks.{among, Lives, alive, entered, head_is, held, direct, at, OwnerOf, Good, Falls, falls_below, path_of, alive_is, within_is, none_true}
 
 pub none_full : (c : BlockId) (inside outside : List BlockId) → [] ≡ inside ++ c ∷ outside → ⊥
 none_full c [] outside q = cc
@@ -47,11 +47,19 @@ module _ (ts ts' : List Thread) (t : ℕ) (new : Thread) (change : Changed nobod
   module _ (blocks : ℕ) (good : Good ts blocks) where
     -- the thread lives before and after, and is what the other threads need of it
     change_good : (blocks' : ℕ) → Lives old.phase → Lives new.phase → new.around ≡ old.around →
+        blocks ≤ blocks' → (Falls blocks (path_of old) → Falls blocks' (path_of new)) →
         ((u : ℕ) (c : BlockId) (rest inside outside : List BlockId) → Lives (at ts u).phase → (at ts u).around ≡ c ∷ rest → entered old ≡ inside ++ c ∷ outside
         → (more : List BlockId) × (entered new ≡ more ++ c ∷ outside)) →
         ((b : BlockId) → sum_by (held b) ts' ≤ 1) → ((b : BlockId) → blocks' ≤ b.number → sum_by (held b) ts' ≡ 0) → Good ts' blocks'
-    change_good blocks' lo ln same keep once fresh = record { nested = nested; once = once; fresh = fresh }
+    change_good blocks' lo ln same more path keep once fresh = record { nested = nested; once = once; fresh = fresh; falls = falls }
       where
+        falls : (u : ℕ) → Lives (at ts' u).phase → Falls blocks' (path_of (at ts' u))
+        falls u l =
+            elim (found nobody ts ts' t new change u) as (λ _. Falls blocks' (path_of (at ts' u))) [
+              | inl q ↦ subst (λ x. Falls blocks' (path_of x)) (sym q.1) (path (good.falls t lo))
+              | inr q ↦ subst (λ x. Falls blocks' (path_of x)) (sym q.1) (falls_below blocks blocks' (path_of (at ts u)) more (good.falls u (subst (λ (x : Thread). Lives x.phase) q.1 l)))
+            ]
+
         mine : (u : ℕ) (c : BlockId) (rest : List BlockId) → Lives (at ts u).phase → (at ts u).around ≡ c ∷ rest → (o : OwnerOf ts c rest) → t ≡ o.owner → OwnerOf ts' c rest
         mine u c rest l e o q =
             let was : entered old ≡ o.inside ++ c ∷ o.outside = subst (λ z. entered (at ts z) ≡ o.inside ++ c ∷ o.outside) (sym q) o.has in
@@ -87,14 +95,15 @@ module _ (ts ts' : List Thread) (t : ℕ) (new : Thread) (change : Changed nobod
     same_good lo ln same e =
         let bound : (b : BlockId) → sum_by (held b) ts' ≡ sum_by (held b) ts =
         λ b. (let h = held_change b lo ln in let z : among b (entered new) ≡ among b (entered old) = ap (among b) e in omega (arith, h, z)) in
-        change_good blocks lo ln same (λ u c rest inside outside l a h. (inside, e ∙ h)) (λ b. let h = bound b in let k = good.once b in omega (arith, h, k)) (λ b le. bound b ∙ good.fresh b le)
+        change_good blocks lo ln same (omega arith) (λ h. subst (λ z. Falls blocks (z ++ new.around)) (sym e) (subst (λ z. Falls blocks (entered old ++ z)) (sym same) h))
+        (λ u c rest inside outside l a h. (inside, e ∙ h)) (λ b. let h = bound b in let k = good.once b in omega (arith, h, k)) (λ b le. bound b ∙ good.fresh b le)
 
     -- the thread enters a new block
     pub open_good : (new_block : BlockId) → new_block.number ≡ blocks → Lives old.phase → Lives new.phase → new.around ≡ old.around → entered new ≡ new_block ∷ entered old → Good ts' (blocks + 1)
     open_good nb n lo ln same e =
         let bound : (b : BlockId) → sum_by (held b) ts' ≡ sum_by (held b) ts
         + one b.number nb.number = λ b. (let h = held_change b lo ln in let z : among b (entered new) ≡ one b.number nb.number + among b (entered old) = ap (among b) e in omega (arith, h, z)) in
-        change_good (blocks + 1) lo ln same (λ u c rest inside outside l a h. (nb ∷ inside, e ∙ ap (λ z. nb ∷ z) h))
+        change_good (blocks + 1) lo ln same (omega arith) opened (λ u c rest inside outside l a h. (nb ∷ inside, e ∙ ap (λ z. nb ∷ z) h))
         (λ b. elim (cases_eq b.number nb.number) as (λ _. sum_by (held b) ts' ≤ 1) [
           | inl q ↦ (let h = bound b in let f = good.fresh b (omega (arith, q, n)) in let k : one b.number nb.number ≡ 1 = subst (λ z. one b.number z ≡ 1) q (one_same b.number) in
               omega (arith, h, f, k))
@@ -102,6 +111,12 @@ module _ (ts ts' : List Thread) (t : ℕ) (new : Thread) (change : Changed nobod
         ])
         (λ b le. let h = bound b in let f = good.fresh b (omega (arith, le)) in let ne : b.number ≢ nb.number = (λ q. omega (arith, le, q, n)) in let k = one_other b.number nb.number ne in
         omega (arith, h, f, k))
+      where
+        opened : Falls blocks (path_of old) → Falls (blocks + 1) (path_of new)
+        opened h =
+            let lower : Falls nb.number (path_of old) = subst (λ k. Falls k (path_of old)) (sym n) h in
+            let here : Falls (blocks + 1) (nb ∷ path_of old) = (omega (arith, n), lower) in
+            subst (λ z. Falls (blocks + 1) (z ++ new.around)) (sym e) (subst (λ z. Falls (blocks + 1) (nb ∷ entered old ++ z)) (sym same) here)
 
     -- the thread leaves a block in which nobody lives
     pub leave_good : (b : BlockId) (below : List BlockId) → Lives old.phase → Lives new.phase → new.around ≡ old.around → entered old ≡ b ∷ below → entered new ≡ below → none_within b ts ≡ true
@@ -110,8 +125,15 @@ module _ (ts ts' : List Thread) (t : ℕ) (new : Thread) (change : Changed nobod
         let bound : (c : BlockId) → sum_by (held c) ts' ≤ sum_by (held c) ts =
         λ c. (let h = held_change c lo ln in let z : among c (entered old) ≡ one c.number b.number + among c below = ap (among c) was in
         let y : among c (entered new) ≡ among c below = ap (among c) is in omega (arith, h, z, y)) in
-        change_good blocks lo ln same keep (λ c. let h = bound c in let k = good.once c in omega (arith, h, k)) (λ c le. let h = bound c in let k = good.fresh c le in omega (arith, h, k))
+        change_good blocks lo ln same (omega arith) path keep (λ c. let h = bound c in let k = good.once c in omega (arith, h, k))
+        (λ c le. let h = bound c in let k = good.fresh c le in omega (arith, h, k))
       where
+        path : Falls blocks (path_of old) → Falls blocks (path_of new)
+        path h =
+            let all : Falls blocks (b ∷ below ++ old.around) = subst (λ z. Falls blocks (z ++ old.around)) was h in
+            let left = falls_below b.number blocks (below ++ old.around) (let lt = all.0 in omega (arith, lt)) all.1 in
+            subst (λ z. Falls blocks (z ++ new.around)) (sym is) (subst (λ z. Falls blocks (below ++ z)) (sym same) left)
+
         apart : (u : ℕ) (c : BlockId) (rest : List BlockId) → Lives (at ts u).phase → (at ts u).around ≡ c ∷ rest → b ≢ c
         apart u c rest l a q =
             let s = one_same b.number in
@@ -133,8 +155,15 @@ module _ (ts ts' : List Thread) (t : ℕ) (new : Thread) (change : Changed nobod
 
     -- the thread ends
     pub end_good : Lives old.phase → new.phase ≡ Ended → entered old ≡ [] → Good ts' blocks
-    end_good lo gone none = record { nested = nested; once = once; fresh = fresh }
+    end_good lo gone none = record { nested = nested; once = once; fresh = fresh; falls = falls }
       where
+        falls : (u : ℕ) → Lives (at ts' u).phase → Falls blocks (path_of (at ts' u))
+        falls u l =
+            elim (found nobody ts ts' t new change u) as (λ _. Falls blocks (path_of (at ts' u))) [
+              | inl q ↦ absurd (subst Lives (ap (λ (x : Thread). x.phase) q.1 ∙ gone) l)
+              | inr q ↦ subst (λ x. Falls blocks (path_of x)) (sym q.1) (good.falls u (subst (λ (x : Thread). Lives x.phase) q.1 l))
+            ]
+
         fewer : (b : BlockId) → sum_by (held b) ts' ≤ sum_by (held b) ts
         fewer b =
             let a = change.sums (held b) refl in
@@ -158,8 +187,18 @@ module _ (ts ts' : List Thread) (t : ℕ) (new : Thread) (change : Changed nobod
 
     -- a thread is started by the living thread o, where none lived before
     pub start_good : (o : ℕ) → Lives (at ts o).phase → old.phase ≡ Ended → entered new ≡ [] → new.around ≡ entered (at ts o) ++ (at ts o).around → Good ts' blocks
-    start_good o lo gone none around = record { nested = nested; once = once; fresh = fresh }
+    start_good o lo gone none around = record { nested = nested; once = once; fresh = fresh; falls = falls }
       where
+        mine : Falls blocks (path_of new)
+        mine = subst (λ z. Falls blocks (z ++ new.around)) (sym none) (subst (λ z. Falls blocks z) (sym around) (good.falls o lo))
+
+        falls : (u : ℕ) → Lives (at ts' u).phase → Falls blocks (path_of (at ts' u))
+        falls u l =
+            elim (found nobody ts ts' t new change u) as (λ _. Falls blocks (path_of (at ts' u))) [
+              | inl q ↦ subst (λ x. Falls blocks (path_of x)) (sym q.1) mine
+              | inr q ↦ subst (λ x. Falls blocks (path_of x)) (sym q.1) (good.falls u (subst (λ (x : Thread). Lives x.phase) q.1 l))
+            ]
+
         nothing : (p : Phase) → alive p 0 ≡ 0
         nothing Active = refl
         nothing (AtFinish b) = refl

@@ -1,5 +1,5 @@
 -- A core and the machine that follows it, from their beginning on.
-use Rattle.std.proofs.Common.{◌≡◌, ◌≢◌, ℕ, zero, suc, ◌-◌, ◌^◌, List, [], ◌∷◌, set, Option, Some, None, Bool, true, false, refl, sym, ap, ◌∙◌, subst, arith}
+use Rattle.std.proofs.Common.{◌≡◌, ◌≢◌, ℕ, zero, suc, ◌-◌, ◌^◌, List, [], ◌∷◌, ◌++◌, set, Option, Some, None, Bool, true, false, refl, sym, ap, ◌∙◌, subst, arith}
 use Rattle.std.specs.Prelude.{ℤ, nat_lt, nat_eq, Result, Ok, Err, if◌then◌else◌}
 use Rattle.std.specs.List.{sum_by}
 use Rattle.std.proofs.lemmas.List.{set-get_or, get_or-set_other, length-set}
@@ -29,7 +29,7 @@ use Rattle.code_meaning.specs.Machine.{thread_at as stack_of, told, arrived as a
 use Rattle.ac_translation.proofs.WellFormed.{IsWellFormed}
 use Rattle.ac_translation.proofs.Functions.{IsCodeOf}
 use Rattle.ac_translation.proofs.Tables.{total_one, one_same, one_other}
-use Rattle.ac_translation.proofs.Blocks.{among, Lives, held, at, OwnerOf, Waits, held_at}
+use Rattle.ac_translation.proofs.Blocks.{among, Lives, held, at, OwnerOf, Falls, path_of, Waits, held_at}
 use Rattle.ac_translation.proofs.Tracks.{Tracks}
 use Rattle.ac_translation.proofs.Wakes.{is_active, active as is_counted, asked_by, Listed}
 use Rattle.ac_translation.proofs.Keeps.{Activation, flat, Answers, moves, sticks}
@@ -41,6 +41,7 @@ use Rattle.ac_translation.proofs.Starting.{enters_follow, starts_follow, yields_
 use Rattle.ac_translation.proofs.Finishing.{arrives_follow}
 use Rattle.ac_translation.proofs.Ending.{dies_follow}
 use Rattle.ac_translation.proofs.Operating.{waits_follow}
+use Rattle.ac_translation.proofs.Cancelling.{cancels_follow}
 use Rattle.ac_translation.proofs.Arriving.{arrival_balance, arrival_stands}
 
 module _ (code : Parts) (program : Resolved) (bound : ℕ) where
@@ -63,7 +64,7 @@ module _ (code : Parts) (program : Resolved) (same : IsCodeOf code program) (fin
   -- ---- a thread runs
 
   turns : (s : Held) (t : Item) (ws : List Work) (ready : List Item) (ts : List Thread) (activation : Activation) (stacks : List Stack) (bs : List (Option Block)) → Seat ts t ws activation →
-      Together code.instrs (seated ts t ws) s.blocks s.operations ready (Some t) stacks bs →
+      Together code.instrs (seated ts t ws) s.marks s.operations ready (Some t) stacks bs →
       Turns code bound R (around_of t activation ready stacks bs) (running s t ws ready ts)
   turns s t ws ready ts activation stacks bs x h = record {
     enters = enters_follow code bound s t ws ready ts activation stacks bs x h;
@@ -71,6 +72,7 @@ module _ (code : Parts) (program : Resolved) (same : IsCodeOf code program) (fin
     starts = starts_follow code bound s t ws ready ts activation stacks bs x h;
     yields = yields_follow code bound s t ws ready ts activation stacks bs x h;
     waits = waits_follow code bound s t ws ready ts activation stacks bs x h;
+    cancels = cancels_follow code bound s t ws ready ts activation stacks bs x h;
     dies = dies_follow code bound s t ws ready ts activation stacks bs x h;
   }
 
@@ -78,7 +80,7 @@ module _ (code : Parts) (program : Resolved) (same : IsCodeOf code program) (fin
 
   -- the front of the ready list is dispatched
   dispatched_stands : (s : Held) (t : Item) (ready : List Item) (ts : List Thread) (stacks : List Stack) (bs : List (Option Block)) (count : ℕ) →
-      Together code.instrs ts s.blocks s.operations (t ∷ ready) None stacks bs →
+      Together code.instrs ts s.marks s.operations (t ∷ ready) None stacks bs →
       R (running (turned s) t (thread_at ts t).work ready ts) (record (halted (turned s) ready (set stacks t.number no_stack) bs count) { running = Some t; current = stack_of stacks t })
   dispatched_stands s t ready ts stacks bs count h =
       let active : (thread_at ts t).phase ≡ Active = is_active (thread_at ts t).phase (let k = h.listed t.number in let o = one_same t.number in omega (arith, k, o)) in
@@ -86,7 +88,7 @@ module _ (code : Parts) (program : Resolved) (same : IsCodeOf code program) (fin
       let p = subst (λ n. Parked code.instrs n (at ts t.number) (stack_at stacks t.number)) none (h.others t.number tt (subst Lives (sym active) tt)) in
       let is : seated ts t (thread_at ts t).work ≡ ts = ap (λ (z : Phase). set ts t.number (record (thread_at ts t) { phase = z })) (sym active) ∙ set-get_or ts t.number _ in
       let left = set stacks t.number no_stack in
-      let together : Together code.instrs ts s.blocks s.operations ready (Some t) left bs = record {
+      let together : Together code.instrs ts s.marks s.operations ready (Some t) left bs = record {
         stacks_are = length-set stacks t.number no_stack ∙ h.stacks_are;
         blocks_are = h.blocks_are;
         good = h.good;
@@ -97,10 +99,10 @@ module _ (code : Parts) (program : Resolved) (same : IsCodeOf code program) (fin
       } in
       subst (λ y. R (running (turned s) t (thread_at ts t).work ready ts) (record (halted (turned s) ready left bs count) { running = Some t; current = y })) (sym p.is)
       (runs (turned s) t (thread_at ts t).work ready ts p.activation p.place p.operands left bs count active p.around
-      (subst (λ z. Together code.instrs z s.blocks s.operations ready (Some t) left bs) (sym is) together) p.works)
+      (subst (λ z. Together code.instrs z s.marks s.operations ready (Some t) left bs) (sym is) together) p.works)
 
   dispatch_follows : (s : Held) (ready : List Item) (ts : List Thread) (stacks : List Stack) (bs : List (Option Block)) (count : ℕ) →
-      Together code.instrs ts s.blocks s.operations ready None stacks bs → exec code bound (halted s ready stacks bs count) ≡ dispatched_there (halted s ready stacks bs count) ready
+      Together code.instrs ts s.marks s.operations ready None stacks bs → exec code bound (halted s ready stacks bs count) ≡ dispatched_there (halted s ready stacks bs count) ready
       → FollowsTo (halted s ready stacks bs count) (dispatched (resting s ready ts) ready)
   dispatch_follows s [] ts stacks bs count h goes = follows_over (told count (seen_of Stalled true s)) (over_at (exec code bound) _ _ goes) refl
   dispatch_follows s (t ∷ ready) ts stacks bs count h goes = turn (nat_lt s.shared.turn (2 ^ 64 - 1)) refl
@@ -119,7 +121,7 @@ module _ (code : Parts) (program : Resolved) (same : IsCodeOf code program) (fin
 
   -- no thread runs: an entry of this turn comes in, and one that does not fit leaves both without an end
   module _ (s : Held) (ready : List Item) (ts : List Thread) (stacks : List Stack) (bs : List (Option Block)) (count : ℕ)
-      (h : Together code.instrs ts s.blocks s.operations ready None stacks bs) where
+      (h : Together code.instrs ts s.marks s.operations ready None stacks bs) where
     abbrev core : CoreState
     core = resting s ready ts
 
@@ -190,6 +192,10 @@ module _ (work : List Work) (none : closes work ≡ []) where
   nested zero c rest l e = absurd (let no : [] ≡ c ∷ rest = e in cc)
   nested (suc u) c rest l e = absurd l
 
+  falls : (u : ℕ) → Lives (at only u).phase → Falls 0 (path_of (at only u))
+  falls zero l = subst (λ (bs : List BlockId). Falls 0 (bs ++ [])) (sym none) tt
+  falls (suc u) l = absurd l
+
   waits : Waits only
   waits zero b e = absurd (let no : Active ≡ AtFinish b = e in cc)
   waits (suc u) b e = absurd (let no : Ended ≡ AtFinish b = e in cc)
@@ -198,7 +204,7 @@ module _ (work : List Work) (none : closes work ≡ []) where
   listed zero = let h = one_same 0 in omega (arith, h)
   listed (suc u) = let ne : suc u ≢ 0 = (λ e. omega (arith, e)) in let h = one_other (suc u) 0 ne in omega (arith, h)
 
-  tracks : Tracks only []
+  tracks : Tracks [] only []
   tracks zero b inside outside l e =
       absurd (
       let h = held_at only 0 b inside outside l e in
@@ -218,10 +224,10 @@ module _ (code : Parts) where
   first_stands f e s store w =
       let work = before first_frame f.body (Leave ∷ []) in
       let none = works_closes code.instrs first_activation e.at [] work w in
-      rests (record { shared = s; store = store; blocks = 0; operations = [] }) (first_item ∷ []) (only work none) (record no_stack { place = e.at } ∷ []) [] 0 (record {
+      rests (record { shared = s; store = store; marks = []; operations = [] }) (first_item ∷ []) (only work none) (record no_stack { place = e.at } ∷ []) [] 0 (record {
         stacks_are = refl;
         blocks_are = refl;
-        good = record { nested = nested work none; once = λ b. (let h = held_none work none b in omega (arith, h)); fresh = λ b le. held_none work none b };
+        good = record { nested = nested work none; once = λ b. (let h = held_none work none b in omega (arith, h)); fresh = λ b le. held_none work none b; falls = falls work none };
         waits = waits work none;
         listed = listed work none;
         tracks = tracks work none;

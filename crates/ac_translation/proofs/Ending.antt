@@ -1,5 +1,5 @@
 -- A thread ends, and may wake the owner of its block.
-use Rattle.std.proofs.Common.{◌≡◌, ℕ, ◌+◌, ◌-◌, ◌<◌, List, [], ◌∷◌, ◌++◌, set, Option, Some, None, Bool, true, false, inl, inr, refl, sym, ap, ◌∙◌, subst, arith, nat_eq}
+use Rattle.std.proofs.Common.{◌≡◌, ℕ, ◌+◌, ◌-◌, ◌<◌, List, [], ◌∷◌, ◌++◌, length, set, Option, Some, None, Bool, true, false, inl, inr, refl, sym, ap, ◌∙◌, subst, arith, nat_eq}
 use Rattle.std.specs.Prelude.{slice_get, ◌&&◌}
 use Rattle.std.specs.List.{sum_by}
 use Rattle.std.proofs.lemmas.List.{length-set}
@@ -29,7 +29,7 @@ use Rattle.ac_translation.proofs.Standing.{Stands, rests, with_births, still_sta
 
 module _ (code : Parts) (bound : ℕ) (s0 : Held) (t : Item) (ws : List Work) (ready : List Item) (ts : List Thread) (activation : Activation) (stacks : List Stack)
     (bs : List (Option Block)) (x : Seat ts t ws activation)
-    (h0 : Together code.instrs (seated ts t ws) s0.blocks s0.operations ready (Some t) stacks bs) where
+    (h0 : Together code.instrs (seated ts t ws) s0.marks s0.operations ready (Some t) stacks bs) where
   abbrev R : CoreState → Flat → Type 0
   R = Stands code.instrs
 
@@ -55,7 +55,7 @@ module _ (code : Parts) (bound : ℕ) (s0 : Held) (t : Item) (ws : List Work) (r
   change : Changed nobody all dead t.number gone
   change = x.changed Ended []
 
-  module _ (s : Held) (h : Together code.instrs all s.blocks s.operations ready (Some t) stacks bs) (block : BlockId) (others : List BlockId) (e : activation.entered ≡ [])
+  module _ (s : Held) (h : Together code.instrs all s.marks s.operations ready (Some t) stacks bs) (block : BlockId) (others : List BlockId) (e : activation.entered ≡ [])
       (r : activation.around ≡ block ∷ others) where
     empty : entered (at all t.number) ≡ []
     empty = x.has ∙ e
@@ -68,7 +68,7 @@ module _ (code : Parts) (bound : ℕ) (s0 : Held) (t : Item) (ws : List Work) (r
 
     -- what the table has of its block
     abbrev here : Block
-    here = told all all own.owner block own.outside
+    here = told s.marks all all own.owner block own.outside
 
     here_is : block_at bs block ≡ Some here
     here_is = h.tracks own.owner block own.inside own.outside own.lives own.has
@@ -78,18 +78,18 @@ module _ (code : Parts) (bound : ℕ) (s0 : Held) (t : Item) (ws : List Work) (r
 
     less : (b : BlockId) → sum_by (direct b) all ≡ sum_by (direct b) dead + head_is b (block ∷ others)
     less b =
-        let k = one_less all dead t.number gone change s.blocks h.good h.waits x.lives refl empty b in
+        let k = one_less all dead t.number gone change (length s.marks) h.good h.waits x.lives refl empty b in
         let p = ap (head_is b) around in
         omega (arith, k, p)
 
-    good' : Good dead s.blocks
-    good' = left_good all dead t.number gone change s.blocks h.good h.waits x.lives refl empty
+    good' : Good dead (length s.marks)
+    good' = left_good all dead t.number gone change (length s.marks) h.good h.waits x.lives refl empty
 
     listed' : Listed dead s.operations ready None
     listed' = listed_gone all dead t.number gone change s.operations ready t refl refl h.listed
 
-    tracks' : Tracks dead fewer
-    tracks' = tracks_count all dead t.number gone change bs fewer s.blocks h.good h.tracks (λ l. absurd l)
+    tracks' : Tracks s.marks dead fewer
+    tracks' = tracks_count all dead t.number gone change bs fewer s.marks (length s.marks) h.good h.tracks (λ l. absurd l)
         (λ b y count q. counted_out_tells bs block others here y b (sum_by (direct b) dead) here_is (count ∙ less b) q)
 
     others' : Others code.instrs dead s.operations None stacks'
@@ -97,7 +97,7 @@ module _ (code : Parts) (bound : ℕ) (s0 : Held) (t : Item) (ws : List Work) (r
         (in_stacks code.instrs ts t ws activation x h) (λ l. absurd l)
 
     -- nobody is woken
-    quiet : Waits dead → Together code.instrs dead s.blocks s.operations ready None stacks' fewer
+    quiet : Waits dead → Together code.instrs dead s.marks s.operations ready None stacks' fewer
     quiet w = record {
       stacks_are = length-set stacks t.number no_stack ∙ still_stacks code.instrs ts t ws activation x h Ended [];
       blocks_are = length-set bs block.number (Some (record here { count = here.count - 1 })) ∙ h.blocks_are;
@@ -109,7 +109,7 @@ module _ (code : Parts) (bound : ℕ) (s0 : Held) (t : Item) (ws : List Work) (r
     }
 
     quiet_woken : Waits dead → woken dead dead 0 ≡ None
-    quiet_woken w = none_woken all dead t.number gone change s.blocks h.good h.waits x.lives refl empty w
+    quiet_woken w = none_woken all dead t.number gone change (length s.marks) h.good h.waits x.lives refl empty w
 
     -- one thread less was started directly in the block
     last_is : here.count ≡ sum_by (direct block) dead + 1
@@ -120,7 +120,7 @@ module _ (code : Parts) (bound : ℕ) (s0 : Held) (t : Item) (ws : List Work) (r
       where
         some : nat_eq here.count 1 ≡ false → Waits dead
         some n =
-            some_left all dead t.number gone change s.blocks h.good h.waits x.lives refl empty block others around own
+            some_left all dead t.number gone change (length s.marks) h.good h.waits x.lives refl empty block others around own
             (elim (cases_lt 0 (sum_by (direct block) dead)) as (λ _. 0 < sum_by (direct block) dead) [
               | inl p ↦ p
               | inr p ↦ absurd (let k = last_is in one_no here.count (omega (arith, k, p)) n)
@@ -132,7 +132,7 @@ module _ (code : Parts) (bound : ℕ) (s0 : Held) (t : Item) (ws : List Work) (r
         by : (p q : Bool) → nat_eq here.count 1 ≡ p → here.waits ≡ q → p && q ≡ false → Waits dead
         by false q n w f = some n
         by true true n w f = absurd (let no : true ≡ false = f in cc)
-        by true false n w f = not_arrived all dead t.number gone change s.blocks h.good h.waits x.lives refl empty block others around own w
+        by true false n w f = not_arrived all dead t.number gone change (length s.marks) h.good h.waits x.lives refl empty block others around own w
 
     -- the owner waits, and this was the last
     module _ (last : here.count ≡ 1) (arrived : here.waits ≡ true) where
@@ -140,16 +140,16 @@ module _ (code : Parts) (bound : ℕ) (s0 : Held) (t : Item) (ws : List Work) (r
       none = let k = last_is in omega (arith, k, last)
 
       woken_is : woken dead dead 0 ≡ Some (item own.owner)
-      woken_is = owner_woken all dead t.number gone change s.blocks h.good h.waits x.lives refl empty block others around own none arrived
+      woken_is = owner_woken all dead t.number gone change (length s.marks) h.good h.waits x.lives refl empty block others around own none arrived
 
       arrived_is : (at dead own.owner).phase ≡ AtFinish block
-      arrived_is = at_finish all dead t.number gone change s.blocks h.good h.waits x.lives refl empty block others around own none arrived
+      arrived_is = at_finish all dead t.number gone change (length s.marks) h.good h.waits x.lives refl empty block others around own none arrived
 
       holds : entered (at dead own.owner) ≡ block ∷ closes (at dead own.owner).work
-      holds = has_entered all dead t.number gone change s.blocks h.good h.waits x.lives refl empty block others around own none arrived
+      holds = has_entered all dead t.number gone change (length s.marks) h.good h.waits x.lives refl empty block others around own none arrived
 
       owner_alive : Lives (at dead own.owner).phase
-      owner_alive = owner_lives all dead t.number gone change s.blocks h.good h.waits x.lives refl empty block others around own none arrived
+      owner_alive = owner_lives all dead t.number gone change (length s.marks) h.good h.waits x.lives refl empty block others around own none arrived
 
       -- the threads where the owner is awake
       abbrev freed : Thread
@@ -168,9 +168,9 @@ module _ (code : Parts) (bound : ℕ) (s0 : Held) (t : Item) (ws : List Work) (r
       same b ne = changed_same bs left block None (block_put bs block here None here_is) b ne
           ∙ sym (changed_same bs fewer block _ (block_put bs block here (Some (record here { count = here.count - 1 })) here_is) b ne)
 
-      freed_tracks : Tracks next left
+      freed_tracks : Tracks s.marks next left
       freed_tracks =
-          tracks_leave dead next own.owner freed frees fewer left s.blocks good' tracks' block (closes (at dead own.owner).work) same owner_alive
+          tracks_leave dead next own.owner freed frees fewer left s.marks (length s.marks) good' tracks' block (closes (at dead own.owner).work) same owner_alive
           (λ b ne. ap (λ p. waits_at p b) arrived_is ∙ unequal block.number b.number (other_block block b ne)) refl refl holds refl
 
       freed_others : Others code.instrs next s.operations None stacks'
@@ -185,12 +185,12 @@ module _ (code : Parts) (bound : ℕ) (s0 : Held) (t : Item) (ws : List Work) (r
             | inr q ↦ subst (λ y. Parked code.instrs (asked_by u s.operations) y (stack_at stacks' u)) (sym q.1) (others' u tt (subst (λ (y : Thread). Lives y.phase) q.1 l))
           ]
 
-      awake : Together code.instrs next s.blocks s.operations (item own.owner ∷ ready) None stacks' left
+      awake : Together code.instrs next s.marks s.operations (item own.owner ∷ ready) None stacks' left
       awake = record {
         stacks_are = length-set stacks t.number no_stack ∙ still_stacks code.instrs ts t ws activation x h Ended [] ∙ sym (length-set dead own.owner freed);
         blocks_are = length-set bs block.number None ∙ h.blocks_are;
-        good = freed_good all dead t.number gone change s.blocks h.good h.waits x.lives refl empty block others around own none arrived next frees;
-        waits = freed_waits all dead t.number gone change s.blocks h.good h.waits x.lives refl empty block others around own none arrived next frees;
+        good = freed_good all dead t.number gone change (length s.marks) h.good h.waits x.lives refl empty block others around own none arrived next frees;
+        waits = freed_waits all dead t.number gone change (length s.marks) h.good h.waits x.lives refl empty block others around own none arrived next frees;
         listed = listed_new dead next own.owner freed frees s.operations ready (item own.owner ∷ ready) None None (ap is_counted arrived_is) refl (λ v. omega arith) listed';
         tracks = freed_tracks;
         others = freed_others;
@@ -204,7 +204,7 @@ module _ (code : Parts) (bound : ℕ) (s0 : Held) (t : Item) (ws : List Work) (r
       activation.around ≡ block ∷ others → FollowsAt code bound R a c s place [] (Dies activation.frame s)
   dies_follow s place block others b is e r = go (nat_eq (here s h block others e r).count 1 && (here s h block others e r).waits) refl
     where
-      h : Together code.instrs all s.blocks s.operations ready (Some t) stacks bs
+      h : Together code.instrs all s.marks s.operations ready (Some t) stacks bs
       h = with_births code.instrs s0 s b h0
 
       ends : (k : ℕ) (q : Bool) → nat_eq (here s h block others e r).count 1 && (here s h block others e r).waits ≡ q →

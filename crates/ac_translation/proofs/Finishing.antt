@@ -1,5 +1,5 @@
 -- A thread arrives at the finish of a block.
-use Rattle.std.proofs.Common.{◌≡◌, ℕ, ◌+◌, ◌<◌, List, [], ◌∷◌, ◌++◌, set, Option, Some, None, Bool, true, false, refl, sym, ap, ◌∙◌, subst, nat_eq}
+use Rattle.std.proofs.Common.{◌≡◌, ℕ, ◌+◌, ◌<◌, List, [], ◌∷◌, ◌++◌, length, set, Option, Some, None, Bool, true, false, refl, sym, ap, ◌∙◌, subst, nat_eq}
 use Rattle.std.specs.Prelude.{slice_get, ◌&&◌}
 use Rattle.std.specs.List.{sum_by}
 use Rattle.std.proofs.lemmas.List.{length-set}
@@ -29,7 +29,7 @@ same_finish b c e = cc
 
 module _ (code : Parts) (bound : ℕ) (s0 : Held) (t : Item) (ws : List Work) (ready : List Item) (ts : List Thread) (activation : Activation) (stacks : List Stack)
     (bs : List (Option Block)) (x : Seat ts t ws activation)
-    (h0 : Together code.instrs (seated ts t ws) s0.blocks s0.operations ready (Some t) stacks bs) where
+    (h0 : Together code.instrs (seated ts t ws) s0.marks s0.operations ready (Some t) stacks bs) where
   abbrev R : CoreState → Flat → Type 0
   R = Stands code.instrs
 
@@ -46,11 +46,11 @@ module _ (code : Parts) (bound : ℕ) (s0 : Held) (t : Item) (ws : List Work) (r
   none_is : (b : BlockId) → none_within b all ≡ none_within b ts
   none_is b = none_set b ts t.number (sitting ts t Active ws) (ap (λ p. is_living p && is_among b (thread_at ts t).around) (sym x.was_active))
 
-  module _ (s : Held) (h : Together code.instrs all s.blocks s.operations ready (Some t) stacks bs) (place : ℕ) (block : BlockId) (below : List BlockId) (work : List Work)
+  module _ (s : Held) (h : Together code.instrs all s.marks s.operations ready (Some t) stacks bs) (place : ℕ) (block : BlockId) (below : List BlockId) (work : List Work)
       (is : activation.entered ≡ block ∷ below) (w : Works code.instrs (within activation below) place [] work) where
     -- what the table has of the block
     abbrev here : Block
-    here = told all all t.number block below
+    here = told s.marks all all t.number block below
 
     inside : entered (at all t.number) ≡ block ∷ below
     inside = x.has ∙ is
@@ -64,7 +64,7 @@ module _ (code : Parts) (bound : ℕ) (s0 : Held) (t : Item) (ws : List Work) (r
     round_is : first (below ++ (at all t.number).around) ≡ first (below ++ activation.around)
     round_is = ap (λ l. first (below ++ l)) (sym x.round)
 
-    passes : none_within block ts ≡ true → Together code.instrs (seated ts t work) s.blocks s.operations ready (Some t) stacks (with_block bs block None)
+    passes : none_within block ts ≡ true → Together code.instrs (seated ts t work) s.marks s.operations ready (Some t) stacks (with_block bs block None)
     passes none =
         let ts' = seated ts t work in
         let new = sitting ts t Active work in
@@ -74,10 +74,10 @@ module _ (code : Parts) (bound : ℕ) (s0 : Held) (t : Item) (ws : List Work) (r
         record {
           stacks_are = still_stacks code.instrs ts t ws activation x h Active work;
           blocks_are = length-set bs block.number None ∙ h.blocks_are;
-          good = leave_good all ts' t.number new change s.blocks h.good block below x.lives tt x.around inside left (none_is block ∙ none);
+          good = leave_good all ts' t.number new change (length s.marks) h.good block below x.lives tt x.around inside left (none_is block ∙ none);
           waits = waits_change all ts' t.number new change h.waits (direct_change all ts' t.number new change x.lives tt x.around) (λ b e. absurd (never_waits b e));
           listed = listed_same all ts' t.number new change s.operations ready (Some t) (sym x.active) h.listed;
-          tracks = tracks_leave all ts' t.number new change bs bs' s.blocks h.good h.tracks block below (changed_same bs bs' block None put) x.lives
+          tracks = tracks_leave all ts' t.number new change bs bs' s.marks (length s.marks) h.good h.tracks block below (changed_same bs bs' block None put) x.lives
               (λ b ne. ap (λ p. waits_at p b) x.active) refl x.around inside left;
           others = others_kept code.instrs all ts' t new change s.operations stacks h.others;
         }
@@ -86,36 +86,37 @@ module _ (code : Parts) (bound : ℕ) (s0 : Held) (t : Item) (ws : List Work) (r
     kept = thread_in (within activation below) place []
 
     waits : none_within block ts ≡ false →
-        Together code.instrs (with_phase ts t (AtFinish block) work) s.blocks s.operations ready None (set stacks t.number kept) (with_block bs block (Some (record here { waits = true })))
+        Together code.instrs (with_phase ts t (AtFinish block) work) s.marks s.operations ready None (set stacks t.number kept) (with_block bs block (Some (record here { waits = true })))
     waits none =
         let ts' = with_phase ts t (AtFinish block) work in
         let new = sitting ts t (AtFinish block) work in
         let change = x.changed (AtFinish block) work in
         let y = record here { waits = true } in
         let bs' = with_block bs block (Some y) in
-        let some = direct_lives all s.blocks h.good t.number block below x.lives inside (none_is block ∙ none) in
+        let some = direct_lives all (length s.marks) h.good t.number block below x.lives inside (none_is block ∙ none) in
         let same : entered new ≡ entered (at all t.number) = ap (λ l. block ∷ l) left ∙ sym inside in
         record {
           stacks_are = length-set stacks t.number kept ∙ still_stacks code.instrs ts t ws activation x h (AtFinish block) work;
           blocks_are = length-set bs block.number (Some y) ∙ h.blocks_are;
-          good = same_good all ts' t.number new change s.blocks h.good x.lives tt x.around same;
+          good = same_good all ts' t.number new change (length s.marks) h.good x.lives tt x.around same;
           waits = waits_change all ts' t.number new change h.waits (direct_change all ts' t.number new change x.lives tt x.around)
               (λ b e. subst (λ b. 0 < sum_by (direct b) all) (same_finish block b e) some);
           listed = listed_gone all ts' t.number new change s.operations ready t refl refl h.listed;
-          tracks = tracks_wait all ts' t.number new change bs bs' s.blocks h.good h.tracks block below here here_is (block_put bs block here (Some y) here_is) x.active refl x.around inside same;
+          tracks = tracks_wait all ts' t.number new change bs bs' s.marks (length s.marks) h.good h.tracks block below here here_is (block_put bs block here
+              (Some y) here_is) x.active refl x.around inside same;
           others = others_back code.instrs all ts' t new change s.operations stacks h.others (runs_without all s.operations ready t h.listed) kept (in_stacks code.instrs ts t ws activation x h)
               (λ _. record { activation = within activation below; place = place; operands = []; is = refl; around = x.was_around; works = w });
         }
 
     count_is : nat_eq here.count 0 ≡ none_within block ts
-    count_is = count_tells all s.blocks h.good t.number block below x.lives inside ∙ none_is block
+    count_is = count_tells all (length s.marks) h.good t.number block below x.lives inside ∙ none_is block
 
   pub arrives_follow : (slot : ℕ) (s : Held) (place : ℕ) (block : BlockId) (below : List BlockId) (work : List Work) → SameBirths s0 s → slice_get code.instrs place ≡ Some (i.Finish slot) →
       activation.entered ≡ block ∷ below →
       Works code.instrs (within activation below) (place + 1) [] work → FollowsAt code bound R a c s place [] (Arrives block s work)
   arrives_follow slot s place block below work b is e w = go (none_within block ts) refl
     where
-      h : Together code.instrs all s.blocks s.operations ready (Some t) stacks bs
+      h : Together code.instrs all s.marks s.operations ready (Some t) stacks bs
       h = with_births code.instrs s0 s b h0
 
       begins : (q : Bool) → none_within block ts ≡ q → (k : ℕ) → arrives_there (flat a s place [] k) t (first (activation.entered ++ activation.around))

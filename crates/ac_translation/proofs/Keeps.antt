@@ -67,9 +67,9 @@ flat a s place operands count =
       count = count;
     }
 
--- as many blocks have been born, and the same operations have not ended
+-- the same blocks have been born and are marked, and the same operations have not ended
 abbrev pub SameBirths : Held → Held → Type 0
-SameBirths s t = (t.blocks ≡ s.blocks) × (t.operations ≡ s.operations)
+SameBirths s t = (t.marks ≡ s.marks) × (t.operations ≡ s.operations)
 
 -- Cores of the source and of the machine are related by R. The source is at this state, but for what it holds and its work.
 module _ (code : Parts) (bound : ℕ) (R : CoreState → Flat → Type 0) (a : Around) (c : CoreState) where

@@ -3,6 +3,7 @@ pub mod Tables
 pub mod Blocks
 pub mod Changes
 pub mod Tracks
+pub mod Paths
 pub mod Counts
 pub mod Wakes
 pub mod Ends
@@ -25,6 +26,7 @@ pub mod Finishing
 pub mod Ending
 pub mod Operating
 pub mod Arriving
+pub mod Cancelling
 pub mod Cores
 pub mod Agrees
 pub mod Examples

@@ -1,5 +1,5 @@
 -- Where the machine stands that follows a core: its running thread, those that wait, and what holds of all of them.
-use Rattle.std.proofs.Common.{◌≡◌, ◌≢◌, ℕ, zero, suc, ◌<◌, List, [], length, get_or, set, Option, Some, None, inl, inr, refl, sym, ap, ◌∙◌, subst, arith}
+use Rattle.std.proofs.Common.{◌≡◌, ◌≢◌, ℕ, zero, suc, ◌<◌, List, [], length, get_or, set, Option, Some, None, Bool, inl, inr, refl, sym, ap, ◌∙◌, subst, arith}
 use Rattle.std.proofs.lemmas.List.{length-set}
 use Rattle.work_item.specs.declared.ids.Item.{Item}
 use Rattle.work_item.specs.declared.ids.BlockId.{BlockId}
@@ -116,37 +116,37 @@ module _ (code : List Instr) where
   Others ts operations running stacks = (u : ℕ) → NotRunning u running → Lives (at ts u).phase → Parked (asked_by u operations) (at ts u) (stack_at stacks u)
 
   -- what holds of all threads, blocks and operations, and where the threads stand that do not run
-  pub record Together (ts : List Thread) (blocks : ℕ) (operations : List Operation) (ready : List Item) (running : Option Item) (stacks : List Stack) (bs : List (Option Block)) : Type 0 where
+  pub record Together (ts : List Thread) (marks : List Bool) (operations : List Operation) (ready : List Item) (running : Option Item) (stacks : List Stack) (bs : List (Option Block)) : Type 0 where
     pub stacks_are : length stacks ≡ length ts
-    pub blocks_are : length bs ≡ blocks
-    pub good : Good ts blocks
+    pub blocks_are : length bs ≡ length marks
+    pub good : Good ts (length marks)
     pub waits : Waits ts
     pub listed : Listed ts operations ready running
-    pub tracks : Tracks ts bs
+    pub tracks : Tracks marks ts bs
     pub others : Others ts operations running stacks
 
   -- the machine stands where the core stands: each holds what the other holds, also the same operations, and numbers of threads and blocks are the same
   pub data Stands : CoreState → Flat → Type 0 where
-    rests : (s : Held) (ready : List Item) (ts : List Thread) (stacks : List Stack) (bs : List (Option Block)) (count : ℕ) → Together ts s.blocks s.operations ready None stacks bs →
+    rests : (s : Held) (ready : List Item) (ts : List Thread) (stacks : List Stack) (bs : List (Option Block)) (count : ℕ) → Together ts s.marks s.operations ready None stacks bs →
         Stands (resting s ready ts) (halted s ready stacks bs count)
     runs : (s : Held) (t : Item) (ws : List Work) (ready : List Item) (ts : List Thread) (activation : Activation) (place : ℕ) (operands : List Cell) (stacks : List Stack) (bs : List (Option Block))
         (count : ℕ) →
-        (thread_at ts t).phase ≡ Active → activation.around ≡ (thread_at ts t).around → Together (seated ts t ws) s.blocks s.operations ready (Some t) stacks bs →
+        (thread_at ts t).phase ≡ Active → activation.around ≡ (thread_at ts t).around → Together (seated ts t ws) s.marks s.operations ready (Some t) stacks bs →
         Works code activation place operands ws →
         Stands (running s t ws ready ts) (flat (around_of t activation ready stacks bs) s place operands count)
 
-  -- as many blocks were born, and the same operations have not ended
+  -- the same blocks were born and are marked, and the same operations have not ended
   pub with_births : (s u : Held) {ts : List Thread} {ready : List Item} {running : Option Item} {stacks : List Stack} {bs : List (Option Block)} → SameBirths s u →
-      Together ts s.blocks s.operations ready running stacks bs → Together ts u.blocks u.operations ready running stacks bs
+      Together ts s.marks s.operations ready running stacks bs → Together ts u.marks u.operations ready running stacks bs
   with_births s u {ts} {ready} {running} {stacks} {bs} b h =
-      subst (λ os. Together ts u.blocks os ready running stacks bs) (sym b.1) (subst (λ n. Together ts n s.operations ready running stacks bs) (sym b.0) h)
+      subst (λ os. Together ts u.marks os ready running stacks bs) (sym b.1) (subst (λ n. Together ts n s.operations ready running stacks bs) (sym b.0) h)
 
   -- ---- how many there are
 
   module _ (ts : List Thread) (t : Item) (ws : List Work) (activation : Activation)
-      (x : Seat ts t ws activation) {blocks : ℕ} {operations : List Operation} {ready : List Item} {running : Option Item} {stacks : List Stack}
+      (x : Seat ts t ws activation) {marks : List Bool} {operations : List Operation} {ready : List Item} {running : Option Item} {stacks : List Stack}
       {bs : List (Option Block)}
-      (h : Together (seated ts t ws) blocks operations ready running stacks bs) where
+      (h : Together (seated ts t ws) marks operations ready running stacks bs) where
     pub still_stacks : (phase : Phase) (work : List Work) → length stacks ≡ length (with_phase ts t phase work)
     still_stacks phase work = h.stacks_are ∙ length-set ts t.number (sitting ts t Active ws) ∙ sym (length-set ts t.number (sitting ts t phase work))
 
@@ -190,10 +190,10 @@ module _ (code : List Instr) where
 
   -- it goes on, in the same blocks
   pub on_together : (ts : List Thread) (t : Item) (ws : List Work) (activation : Activation)
-      (x : Seat ts t ws activation) {blocks : ℕ} {operations : List Operation} {ready : List Item} {stacks : List Stack}
+      (x : Seat ts t ws activation) {marks : List Bool} {operations : List Operation} {ready : List Item} {stacks : List Stack}
       {bs : List (Option Block)} (work : List Work) → closes work ≡ activation.entered →
-      Together (seated ts t ws) blocks operations ready (Some t) stacks bs → Together (seated ts t work) blocks operations ready (Some t) stacks bs
-  on_together ts t ws activation x {blocks} {operations} {ready} {stacks} {bs} work same h =
+      Together (seated ts t ws) marks operations ready (Some t) stacks bs → Together (seated ts t work) marks operations ready (Some t) stacks bs
+  on_together ts t ws activation x {marks} {operations} {ready} {stacks} {bs} work same h =
       let all = seated ts t ws in
       let all' = seated ts t work in
       let new = sitting ts t Active work in
@@ -202,17 +202,17 @@ module _ (code : List Instr) where
       record {
         stacks_are = still_stacks ts t ws activation x h Active work;
         blocks_are = h.blocks_are;
-        good = same_good all all' t.number new change blocks h.good x.lives tt x.around kept;
+        good = same_good all all' t.number new change (length marks) h.good x.lives tt x.around kept;
         waits = waits_change all all' t.number new change h.waits (direct_change all all' t.number new change x.lives tt x.around) (λ b e. absurd (never_waits b e));
         listed = listed_same all all' t.number new change operations ready (Some t) (sym x.active) h.listed;
-        tracks = tracks_same all all' t.number new change bs bs blocks h.good h.tracks refl x.lives (sym x.active) x.around kept;
+        tracks = tracks_same all all' t.number new change bs bs marks (length marks) h.good h.tracks refl x.lives (sym x.active) x.around kept;
         others = others_kept all all' t new change operations stacks h.others;
       }
 
   -- so the relation holds wherever the code stands that does the work
   pub stands_on : (s : Held) (t : Item) (ws : List Work) (ready : List Item) (ts : List Thread) (activation : Activation) (place : ℕ) (operands : List Cell) (stacks : List Stack)
       (bs : List (Option Block)) → (thread_at ts t).phase ≡ Active → activation.around ≡ (thread_at ts t).around →
-      Together (seated ts t ws) s.blocks s.operations ready (Some t) stacks bs → Works code activation place operands ws →
+      Together (seated ts t ws) s.marks s.operations ready (Some t) stacks bs → Works code activation place operands ws →
       Relates code Stands (around_of t activation ready stacks bs) (running s t ws ready ts)
   stands_on s t ws ready ts activation place operands stacks bs active round h w frame callers s' place' operands' ws' count b w' =
       let x = seat_of ts t ws activation active round (works_closes code activation place operands ws w) in

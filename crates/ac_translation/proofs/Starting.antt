@@ -9,7 +9,7 @@ use Rattle.work_item.specs.declared.ids.Item.{Item}
 use Rattle.work_item.specs.declared.ids.BlockId.{BlockId}
 use Rattle.work_item.specs.Store.{no_int, next_frame}
 use Rattle.core_state.specs.Frames.{begun, with_entered}
-use Rattle.ac_semantics.specs.Held.{Held, with_store, entered as enters}
+use Rattle.ac_semantics.specs.Held.{Held, with_store, next_block, entered as enters}
 use Rattle.ac_semantics.specs.Work.{Work, closes}
 use Rattle.ac_semantics.specs.Statements.{Goes, Starts, Yields, or_trap}
 use Rattle.ac_semantics.specs.Threads.{Active, Ended, Thread, nobody, CoreState, thread_at, starts}
@@ -17,20 +17,19 @@ use Rattle.stack_code.specs.declared.instr.Instr.TheVariants as i
 use Rattle.stack_code.specs.Parts.{Parts}
 use Rattle.code_meaning.specs.Machine.{Block, Flat, Thread as Stack, nobody as no_stack, block_at, counted_in, counted}
 use Rattle.ac_translation.proofs.Tables.{Changed, pushed_changed, first, occ_append}
-use Rattle.ac_translation.proofs.Blocks.{Lives, alive, entered, head_is, direct, at}
+use Rattle.ac_translation.proofs.Blocks.{Lives, alive, entered, head_is, direct, at, Good}
 use Rattle.ac_translation.proofs.Changes.{direct_change, open_good, start_good}
-use Rattle.ac_translation.proofs.Tracks.{entry, tracks_open, tracks_count}
+use Rattle.ac_translation.proofs.Tracks.{entry, mark_of, tracks_open, tracks_count, mark_open, tracks_marks}
 use Rattle.ac_translation.proofs.Counts.{counted_in_tells, counted_in_length}
 use Rattle.ac_translation.proofs.Wakes.{active as is_counted, asked_by, runs_without, listed_same, listed_new, waits_change, waits_start}
 use Rattle.ac_translation.proofs.Keeps.{Activation, within, started, thread_in, Around, flat, SameBirths, FollowsAt, turn_follows, turns_or_ends}
 use Rattle.ac_translation.proofs.Works.{Works, works_closes}
-use Rattle.ac_translation.proofs.Turns.{next_block}
 use Rattle.ac_translation.proofs.Standing.{running, around_of, resting, halted, seated, stack_at, Parked, Others, Together, Stands, rests, runs}
 use Rattle.ac_translation.proofs.Standing.{with_births, still_stacks, in_stacks, others_kept, others_back, sitting, never_waits, Seat, on_together}
 
 module _ (code : Parts) (bound : ℕ) (s0 : Held) (t : Item) (ws : List Work) (ready : List Item) (ts : List Thread) (activation : Activation) (stacks : List Stack)
     (bs : List (Option Block)) (x : Seat ts t ws activation)
-    (h0 : Together code.instrs (seated ts t ws) s0.blocks s0.operations ready (Some t) stacks bs) where
+    (h0 : Together code.instrs (seated ts t ws) s0.marks s0.operations ready (Some t) stacks bs) where
   abbrev R : CoreState → Flat → Type 0
   R = Stands code.instrs
 
@@ -61,18 +60,21 @@ module _ (code : Parts) (bound : ℕ) (s0 : Held) (t : Item) (ws : List Work) (r
       let opened : entered new ≡ block ∷ entered old = works_closes code.instrs inner (place + 1) [] work w ∙ ap (λ l. block ∷ l) (sym x.has) in
       let parent : first (activation.entered ++ activation.around) ≡ first (entered old ++ old.around) =
       ap (λ l. first (l ++ activation.around)) (sym x.has) ∙ ap (λ l. first (entered old ++ l)) x.round in
-      let bs' = bs ++ Some (entry (first (activation.entered ++ activation.around)) t.number 0 false) ∷ [] in
-      let pushed = pushed_changed None bs (Some (entry (first (activation.entered ++ activation.around)) t.number 0 false)) in
-      let made : Changed None bs bs' s.blocks (Some (entry (first (entered old ++ old.around)) t.number 0 false)) =
-      subst (λ n. Changed None bs bs' n (Some (entry (first (entered old ++ old.around)) t.number 0 false))) h.blocks_are
-      (subst (λ y. Changed None bs bs' (length bs) (Some (entry y t.number 0 false))) parent pushed) in
-      let together : Together code.instrs ts' s'.blocks s'.operations ready (Some t) stacks bs' = record {
+      let bs' = bs ++ Some (entry (first (activation.entered ++ activation.around)) t.number 0 false false) ∷ [] in
+      let pushed = pushed_changed None bs (Some (entry (first (activation.entered ++ activation.around)) t.number 0 false false)) in
+      let made : Changed None bs bs' (length s.marks) (Some (entry (first (entered old ++ old.around)) t.number 0 false false)) =
+      subst (λ n. Changed None bs bs' n (Some (entry (first (entered old ++ old.around)) t.number 0 false false))) h.blocks_are
+      (subst (λ y. Changed None bs bs' (length bs) (Some (entry y t.number 0 false false))) parent pushed) in
+      let unborn : mark_of s.marks block ≡ false = get_or_past s.marks (length s.marks) false (omega arith) in
+      let more : length s.marks + 1 ≡ length s'.marks = omega (arith, length-append s.marks (false ∷ [])) in
+      let together : Together code.instrs ts' s'.marks s'.operations ready (Some t) stacks bs' = record {
         stacks_are = still_stacks code.instrs ts t ws activation x h Active work;
-        blocks_are = let n = h.blocks_are in omega (arith, n, length-append bs (Some (entry (first (activation.entered ++ activation.around)) t.number 0 false) ∷ []));
-        good = open_good all ts' t.number new change s.blocks h.good block refl x.lives tt x.around opened;
+        blocks_are = let n = h.blocks_are in omega (arith, n, more, length-append bs (Some (entry (first (activation.entered ++ activation.around)) t.number 0 false false) ∷ []));
+        good = subst (Good ts') more (open_good all ts' t.number new change (length s.marks) h.good block refl x.lives tt x.around opened);
         waits = waits_change all ts' t.number new change h.waits (direct_change all ts' t.number new change x.lives tt x.around) (λ b e. absurd (never_waits b e));
         listed = listed_same all ts' t.number new change s.operations ready (Some t) (sym x.active) h.listed;
-        tracks = tracks_open all ts' t.number new change bs bs' s.blocks h.good h.tracks block refl made x.active refl x.around opened;
+        tracks = tracks_marks s.marks s'.marks ts' bs' (λ b. mark_open s.marks b.number)
+            (tracks_open all ts' t.number new change bs bs' s.marks (length s.marks) h.good h.tracks block refl unborn made x.active refl x.around opened);
         others = others_kept code.instrs all ts' t new change s.operations stacks h.others;
       } in
       let in_block = λ (n : ℕ). around_of t (within activation (record { number = n } ∷ activation.entered)) ready stacks bs' in
@@ -94,7 +96,7 @@ module _ (code : Parts) (bound : ℕ) (s0 : Held) (t : Item) (ws : List Work) (r
       let ts' = seated ts t work in
       let kept = thread_in activation (place + 1) [] in
       let on = on_together code.instrs ts t ws activation x work (works_closes code.instrs activation (place + 1) [] work w) h in
-      let together : Together code.instrs ts' s.blocks s.operations (ready ++ t ∷ []) None (set stacks t.number kept) bs = record {
+      let together : Together code.instrs ts' s.marks s.operations (ready ++ t ∷ []) None (set stacks t.number kept) bs = record {
         stacks_are = length-set stacks t.number kept ∙ on.stacks_are;
         blocks_are = on.blocks_are;
         good = on.good;
@@ -109,7 +111,7 @@ module _ (code : Parts) (bound : ℕ) (s0 : Held) (t : Item) (ws : List Work) (r
 
   -- ---- a thread is started
 
-  module _ (u : Held) (h : Together code.instrs all u.blocks u.operations ready (Some t) stacks bs) (frame : FrameId) (to place : ℕ) (work own : List Work)
+  module _ (u : Held) (h : Together code.instrs all u.marks u.operations ready (Some t) stacks bs) (frame : FrameId) (to place : ℕ) (work own : List Work)
       (w : Works code.instrs activation to [] work) (w' : Works code.instrs (started activation frame) place [] own) where
     -- the thread that is born, as it is kept and in its place
     abbrev kept_born : Thread
@@ -142,7 +144,7 @@ module _ (code : Parts) (bound : ℕ) (s0 : Held) (t : Item) (ws : List Work) (r
     abbrev bs' : List (Option Block)
     bs' = counted_in bs (first path)
 
-    on : Together code.instrs before_it u.blocks u.operations ready (Some t) stacks bs
+    on : Together code.instrs before_it u.marks u.operations ready (Some t) stacks bs
     on = on_together code.instrs ts t ws activation x work (works_closes code.instrs activation to [] work w) h
 
     path_is : closes work ++ (thread_at ts t).around ≡ path
@@ -181,7 +183,7 @@ module _ (code : Parts) (bound : ℕ) (s0 : Held) (t : Item) (ws : List Work) (r
         subst (Parked code.instrs (asked_by v u.operations) (at with_it v)) (sym stack)
         (subst (λ y. Parked code.instrs (asked_by v u.operations) y (stack_at (set stacks t.number creator) v)) (sym here) back)
 
-    together : Together code.instrs with_it u.blocks u.operations (t ∷ ready) (Some new_item) stacks' bs'
+    together : Together code.instrs with_it u.marks u.operations (t ∷ ready) (Some new_item) stacks' bs'
     together =
         let creator_is = (x.changed Active work).here in
         let lives = subst (λ (y : Thread). Lives y.phase) (sym creator_is) tt in
@@ -190,10 +192,10 @@ module _ (code : Parts) (bound : ℕ) (s0 : Held) (t : Item) (ws : List Work) (r
         record {
           stacks_are = omega (arith, m, length-append before_it (born ∷ []), length-append (set stacks t.number creator) (no_stack ∷ []));
           blocks_are = counted_in_length bs (first path) ∙ h.blocks_are;
-          good = start_good before_it with_it (length before_it) born grows u.blocks on.good t.number lives gone empty around;
+          good = start_good before_it with_it (length before_it) born grows (length u.marks) on.good t.number lives gone empty around;
           waits = waits_start before_it with_it (length before_it) born grows gone refl on.waits;
           listed = listed_new before_it with_it (length before_it) born grows u.operations ready (t ∷ ready) (Some t) (Some new_item) (ap is_counted gone) refl (λ v. refl) on.listed;
-          tracks = tracks_count before_it with_it (length before_it) born grows bs bs' u.blocks on.good on.tracks (λ _. empty) counts;
+          tracks = tracks_count before_it with_it (length before_it) born grows bs bs' u.marks (length u.marks) on.good on.tracks (λ _. empty) counts;
           others = others_stay;
         }
 
@@ -201,8 +203,8 @@ module _ (code : Parts) (bound : ℕ) (s0 : Held) (t : Item) (ws : List Work) (r
     started_stands : (k : ℕ) → R (starts c t u own work) (flat (around_of (record { number = length stacks }) (started activation frame) (t ∷ ready) stacks' bs') u place [] k)
     started_stands k =
         let there = λ (n : ℕ). flat (around_of (record { number = n }) (started activation frame) (t ∷ ready) stacks' bs') u place [] k in
-        let sits : Together code.instrs (seated kept_it new_item own) u.blocks u.operations (t ∷ ready) (Some new_item) stacks' bs' =
-        subst (λ ts'. Together code.instrs ts' u.blocks u.operations (t ∷ ready) (Some new_item) stacks' bs') (sym seat_is) together in
+        let sits : Together code.instrs (seated kept_it new_item own) u.marks u.operations (t ∷ ready) (Some new_item) stacks' bs' =
+        subst (λ ts'. Together code.instrs ts' u.marks u.operations (t ∷ ready) (Some new_item) stacks' bs') (sym seat_is) together in
         let active = ap (λ (y : Thread). y.phase) kept_is in
         let around = sym path_is ∙ ap (λ (y : Thread). y.around) (sym kept_is) in
         subst (λ n. R (running u (record { number = n }) own (t ∷ ready) kept_it) (there (length stacks))) (length-set ts t.number (sitting ts t Active work))

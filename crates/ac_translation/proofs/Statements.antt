@@ -14,9 +14,9 @@ use Rattle.ac_commands.specs.declared.command.Target.TheVariants as t
 use Rattle.ac_commands.specs.declared.command.Command.{Command, out-Command}
 use Rattle.ac_commands.specs.declared.command.Command.TheOpen.{Command-F}
 use Rattle.ac_commands.specs.declared.program.Resolved.{Resolved}
-use Rattle.ac_semantics.specs.Held.{Held, with_shared, with_store, entered}
-use Rattle.ac_semantics.specs.Work.{Work, Turn, Close, End, before, past_loop, at_turn}
-use Rattle.ac_semantics.specs.Statements.{Next, Goes, Starts, Yields, Stays, or_trap, some_operand, target_operands, operands_of, last_of, with_variable, put_in}
+use Rattle.ac_semantics.specs.Held.{Held, with_shared, with_store, entered, next_block}
+use Rattle.ac_semantics.specs.Work.{Work, CallOff, Turn, Close, End, before, past_loop, at_turn}
+use Rattle.ac_semantics.specs.Statements.{Next, Goes, Starts, Yields, or_trap, some_operand, target_operands, operands_of, last_of, with_variable, put_in}
 use Rattle.ac_semantics.specs.Statements.{returns, value_or_zero, some_body, test_or_true, loops, finish_form}
 use Rattle.ac_semantics.specs.Threads.{CoreState}
 use Rattle.stack_code.specs.declared.instr.Instr.{Instr}
@@ -30,10 +30,10 @@ use Rattle.ac_translation.proofs.Sized.{IsSized, no_sized, one_sized, over_sized
 use Rattle.ac_translation.proofs.Codes.{reference_code}
 use Rattle.ac_translation.proofs.Placed.{Placed, first_part, other_part, both_parts, Jumps, here, jump, LoopAt, loop_at}
 use Rattle.ac_translation.proofs.Functions.{IsCodeOf}
-use Rattle.ac_translation.proofs.Keeps.{within, started, Around, flat, SameBirths, FollowsAt, KeepsAt, keeps, one_follows, piece_follows, stays_follow, computes}
+use Rattle.ac_translation.proofs.Keeps.{within, started, Around, flat, SameBirths, FollowsAt, KeepsAt, keeps, one_follows, piece_follows, computes}
 use Rattle.ac_translation.proofs.Works.{Scope, round_of, looped, blocked, exits_in, exits_of, pieces_of, tests_of, Does, Works, works, Relates}
 use Rattle.ac_translation.proofs.Works.{does_in_block, jumps_do, before_does, zero_works, break_works, continue_works}
-use Rattle.ac_translation.proofs.Turns.{next_block, Turns}
+use Rattle.ac_translation.proofs.Turns.{Turns}
 use Rattle.ac_translation.proofs.Calls.{many_are, lands, lands_in, returns_follow}
 
 -- ---- where the operands stand
@@ -436,7 +436,10 @@ module _ (code : Parts) (program : Resolved) (same : IsCodeOf code program) (fin
   form_finishes self ws scope {at} {to} s b whole form d (Command-F.Async slots body) e h g values n = none_finish values s at _ n (async_keeps slots body ws scope s b h g d)
   form_finishes self ws scope {at} {to} s b whole form d (Command-F.Cancel level slot) e h g values n =
       let cancel_at = other_part code.instrs (one i.Step) (one (i.Cancel level slot)) (one_sized i.Step) h in
-      none_finish values s at Stays n (keeps code bound R a c (stays_follow code bound R a c (i.Cancel level slot) cancel_at.has.0 (λ k. refl)))
+      let goes = CallOff a.activation.frame level slot ∷ ws in
+      none_finish values s at (Goes s goes) n
+      (lands_in code program same fine bound R a c stands s (at + 1) goes scope b
+      (record { at = at + 1; jumps = here; stands = cancel_at.has.0; own_is = refl; rest = subst (λ n. DoesAt scope n ws) (sym cancel_at.ends) d }))
   form_finishes self ws scope {at} {to} s b whole form d Command-F.Yield e h g values n =
       let yield_at = other_part code.instrs (one i.Step) (one i.Yield) (one_sized i.Step) h in
       let after : DoesAt scope (at + 1 + 1) ws = subst (λ n. DoesAt scope n ws) (sym yield_at.ends) d in

@@ -11,7 +11,7 @@ use Rattle.ac_commands.specs.declared.command.Command.TheOpen.{Command-F}
 use Rattle.ac_commands.specs.declared.program.Resolved.{Resolved}
 use Rattle.ac_semantics.specs.Evaluation.{Head, Acting, Ending, Context, Outcome, Stops, row_goes}
 use Rattle.ac_semantics.specs.Held.{Held, stepped, seen_of}
-use Rattle.ac_semantics.specs.Work.{Work, Do, Pend, Given, Turn, Close, Back, Leave, End, before, next_part}
+use Rattle.ac_semantics.specs.Work.{Work, Do, Pend, Given, CallOff, Turn, Close, Back, Leave, End, before, next_part}
 use Rattle.ac_semantics.specs.Statements.{Next, Ends, Dies, operands_of, returns, finish, settles, does, if_step, next_at, next_of}
 use Rattle.ac_semantics.specs.Threads.{CoreState}
 use Rattle.stack_code.specs.declared.instr.Instr.{Instr}
@@ -22,7 +22,7 @@ use Rattle.ac_translation.specs.Pieces.{Exits, one}
 use Rattle.ac_translation.specs.Translation.{values_code, command_step, command_code}
 use Rattle.ac_translation.proofs.WellFormed.{all_fit, is_well_formed, IsWellFormed}
 use Rattle.ac_translation.proofs.Sized.{one_sized}
-use Rattle.ac_translation.proofs.Placed.{Placed, other_part}
+use Rattle.ac_translation.proofs.Placed.{Placed, here, other_part}
 use Rattle.ac_translation.proofs.Functions.{IsCodeOf}
 use Rattle.ac_translation.proofs.Keeps.{within, Around, SameBirths, FollowsAt, KeepsAt, keeps, one_follows, ends_follows, jumps_follow}
 use Rattle.ac_translation.proofs.Contexts.{HeadAt, Waits}
@@ -146,6 +146,12 @@ module _ (code : Parts) (program : Resolved) (same : IsCodeOf code program) (fin
   does_follows (Do own x ∷ ws) scope place s b d = do_follows own x ws scope place s b d
   does_follows (Pend own x around ∷ ws) scope place s b d = absurd d
   does_follows (Given value own x around ∷ ws) scope place s b d = absurd d
+  does_follows (CallOff own level slot ∷ ws) scope place s b d =
+      let is = d.own_is in
+      let again : DoesAt scope d.at (CallOff a.activation.frame level slot ∷ ws) = record { at = d.at; jumps = here; stands = d.stands; own_is = refl; rest = d.rest } in
+      subst (λ (f : FrameId). FollowsAt code bound R a c s place [] (next_of program bound (CallOff f level slot ∷ ws) s)) (sym is)
+      (jumps_follow code bound R a c d.jumps
+      (turns.cancels level slot s d.at (CallOff a.activation.frame level slot ∷ ws) ws b d.stands (works scope again) (works scope d.rest)))
   does_follows (Turn own x ∷ ws) scope place s b d =
       let is = d.own_is in
       let here_at : DoesAt scope place (Turn a.activation.frame x ∷ ws) = subst (λ (f : FrameId). DoesAt scope place (Turn f x ∷ ws)) is d in

@@ -2,25 +2,20 @@
 use Rattle.std.proofs.Common.{◌≡◌, ℕ, ◌+◌, List, [], ◌∷◌, replicate, Some}
 use Rattle.std.specs.Prelude.{slice_get}
 use Rattle.work_item.specs.declared.ids.BlockId.{BlockId}
-use Rattle.work_item.specs.Store.{no_int, next_frame}
+use Rattle.work_item.specs.Store.{cell_at, no_int, next_frame}
 use Rattle.work_item.specs.declared.cell.Cell.{Cell}
 use Rattle.cancel_scope.specs.declared.operation.Asked.{Asked}
-use Rattle.core_state.specs.Moves.{On}
-use Rattle.core_state.specs.Frames.{begun}
-use Rattle.ac_semantics.specs.Held.{Held, with_store, entered}
+use Rattle.core_state.specs.Frames.{begun, block_in}
+use Rattle.ac_semantics.specs.Held.{Held, with_store, next_block, entered}
 use Rattle.ac_semantics.specs.Work.{Work}
-use Rattle.ac_semantics.specs.Statements.{Goes, Starts, Yields, Arrives, Operates, Dies, or_trap}
+use Rattle.ac_semantics.specs.Statements.{Goes, Starts, Yields, Arrives, Cancels, Operates, Dies, or_trap}
 use Rattle.ac_semantics.specs.Threads.{CoreState}
 use Rattle.stack_code.specs.declared.instr.Instr.{Instr}
 use Rattle.stack_code.specs.declared.instr.Instr.TheVariants as i
 use Rattle.stack_code.specs.Parts.{Parts}
-use Rattle.code_meaning.specs.Machine.{Flat, begin, operates}
+use Rattle.code_meaning.specs.Machine.{Flat, begin, asks}
 use Rattle.ac_translation.proofs.Keeps.{within, started, Around, flat, SameBirths, FollowsAt}
 use Rattle.ac_translation.proofs.Works.{Sleeps, Works}
-
--- the next block
-abbrev pub next_block : Held → BlockId
-next_block s = record { number = s.blocks }
 
 -- one instruction does each of these, and then the two stand in relation again
 pub record Turns (code : Parts) (bound : ℕ) (R : CoreState → Flat → Type 0) (a : Around) (c : CoreState) : Type 0 where
@@ -36,8 +31,11 @@ pub record Turns (code : Parts) (bound : ℕ) (R : CoreState → Flat → Type 0
       FollowsAt code bound R a c s place [] (Yields s ws)
   pub waits : (link : ℕ) (asked : Asked) (instr : Instr) (s : Held) (place : ℕ) (value : Cell) (below : List Cell) (ws : List Work) → SameBirths c.held s →
       slice_get code.instrs place ≡ Some instr →
-      ((k : ℕ) → begin code bound (flat a s place (value ∷ below) k) a.running (Some instr) ≡ On (operates (flat a s place (value ∷ below) k) a.running link asked below)) →
+      ((k : ℕ) → begin code bound (flat a s place (value ∷ below) k) a.running (Some instr) ≡ asks (flat a s place (value ∷ below) k) a.running link asked below) →
       Sleeps code.instrs a.activation (place + 1) below ws → FollowsAt code bound R a c s place (value ∷ below) (Operates link asked s ws)
+  pub cancels : (level slot : ℕ) (s : Held) (place : ℕ) (again ws : List Work) → SameBirths c.held s → slice_get code.instrs place ≡ Some (i.Cancel level slot) →
+      Works code.instrs a.activation place [] again → Works code.instrs a.activation (place + 1) [] ws →
+      FollowsAt code bound R a c s place [] (Cancels (block_in (cell_at s.store a.activation.frame level slot)) s again ws)
   pub dies : (s : Held) (place : ℕ) (block : BlockId) (others : List BlockId) → SameBirths c.held s → slice_get code.instrs place ≡ Some i.End → a.activation.entered ≡ [] →
       a.activation.around ≡ block ∷ others →
       FollowsAt code bound R a c s place [] (Dies a.activation.frame s)

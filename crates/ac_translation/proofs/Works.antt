@@ -9,7 +9,7 @@ use Rattle.ac_commands.specs.declared.command.Command.{Command, map-Command, out
 use Rattle.ac_commands.specs.declared.command.Command.TheOpen.{Command-F}
 use Rattle.ac_semantics.specs.Held.{Held}
 use Rattle.ac_semantics.specs.Evaluation.{Context}
-use Rattle.ac_semantics.specs.Work.{Work, Do, Pend, Given, Turn, Close, Back, Leave, End, before, next_in, next_part, past_loop, at_turn, closes}
+use Rattle.ac_semantics.specs.Work.{Work, Do, Pend, Given, CallOff, Turn, Close, Back, Leave, End, before, next_in, next_part, past_loop, at_turn, closes, given}
 use Rattle.ac_semantics.specs.Statements.{operands_of}
 use Rattle.ac_semantics.specs.Threads.{CoreState, goes_on}
 use Rattle.stack_code.specs.declared.instr.Instr.{Instr}
@@ -96,6 +96,14 @@ module _ (code : List Instr) where
     pub form : is_well_formed c (round_of scope) ≡ true
     pub own_is : own ≡ frame
     pub rest : Then to
+
+  -- a cancel that goes on
+  pub record CallOffAt (frame own : FrameId) (level slot place : ℕ) (Then : ℕ → Type 0) : Type 0 where
+    pub at : ℕ
+    pub jumps : Jumps code place at
+    pub stands : slice_get code at ≡ Some (i.Cancel level slot)
+    pub own_is : own ≡ frame
+    pub rest : Then (at + 1)
 
   -- the end of a loop's body, in a loop that stands in another scope
   pub record TurnAt (scope : Scope) (frame own : FrameId) (c : Command) (place : ℕ) (Then : Scope → ℕ → Type 0) : Type 0 where
@@ -187,6 +195,7 @@ module _ (code : List Instr) where
     Does scope activation place (Do own c ∷ ws) = DoAt scope activation.frame own c place (λ to. Does scope activation to ws)
     Does scope activation place (Pend own c around ∷ ws) = ⊥
     Does scope activation place (Given value own c around ∷ ws) = ⊥
+    Does scope activation place (CallOff own level slot ∷ ws) = CallOffAt activation.frame own level slot place (λ to. Does scope activation to ws)
     Does scope activation place (Turn own c ∷ ws) = TurnAt scope activation.frame own c place (λ outer to. Does outer activation to ws)
     Does scope activation place (Close block ∷ ws) = CloseAt scope activation block place (λ outer left to. Does outer left to ws)
     Does scope activation place (Back own ∷ ws) = BackAt scope activation own place (λ below back operands. Sleeps below back operands ws)
@@ -204,6 +213,12 @@ module _ (code : List Instr) where
     wakes : {below : List Cell} {ws : List Work} (value : Cell) (own : FrameId) (c : Command) (around : List Context) → Sleeps activation place below (Pend own c around ∷ ws)
         → Works activation place (value ∷ below) (Given value own c around ∷ ws)
 
+  -- the value has come
+  pub given_works : (value : Cell) (activation : Activation) (place : ℕ) (operands : List Cell) (ws : List Work) → Sleeps activation place operands ws
+      → Works activation place (value ∷ operands) (given value ws)
+  given_works value activation place operands (Pend own c around ∷ ws) d = wakes value own c around d
+  given_works value activation place operands ws d = absurd d
+
   -- the relation holds wherever the code stands that does the work, in whichever activation of the thread
   abbrev pub Relates : (CoreState → Flat → Type 0) → Around → CoreState → Type 0
   Relates R a c =
@@ -218,6 +233,7 @@ module _ (code : List Instr) where
     pub jumps_do : (scope : Scope) {place to : ℕ} (ws : List Work) → Jumps code place to → Does scope activation to ws → Does scope activation place ws
     jumps_do scope [] j d = d
     jumps_do scope (Do own c ∷ ws) j d = record { at = d.at; to = d.to; jumps = jumps_on code j d.jumps; stands = d.stands; form = d.form; own_is = d.own_is; rest = d.rest }
+    jumps_do scope (CallOff own level slot ∷ ws) j d = record { at = d.at; jumps = jumps_on code j d.jumps; stands = d.stands; own_is = d.own_is; rest = d.rest }
     jumps_do scope (Turn own c ∷ ws) j d = record {
       at = d.at;
       to = d.to;
@@ -298,6 +314,7 @@ module _ (code : List Instr) where
     pub break_works : (ws : List Work) (scope : Scope) (place : ℕ) → scope.loop ≡ true → Does scope activation place ws → Works activation scope.exits.past [] (past_loop ws)
     break_works [] scope place e d = absurd d
     break_works (Do own c ∷ ws) scope place e d = break_works ws scope d.to e d.rest
+    break_works (CallOff own level slot ∷ ws) scope place e d = break_works ws scope (d.at + 1) e d.rest
     break_works (Turn own c ∷ ws) scope place e d =
         let at_end : (exits_of c d.at).past ≡ d.to = past_is c d.stands in
         subst (λ (x : Scope). Works activation x.exits.past [] ws) (sym d.is) (works d.outer (subst (λ n. Does d.outer activation n ws) (sym at_end) d.rest))
@@ -312,6 +329,7 @@ module _ (code : List Instr) where
     pub continue_works : (ws : List Work) (scope : Scope) (place : ℕ) → scope.loop ≡ true → Does scope activation place ws → Works activation scope.exits.turn [] (at_turn ws)
     continue_works [] scope place e d = absurd d
     continue_works (Do own c ∷ ws) scope place e d = continue_works ws scope d.to e d.rest
+    continue_works (CallOff own level slot ∷ ws) scope place e d = continue_works ws scope (d.at + 1) e d.rest
     continue_works (Turn own c ∷ ws) scope place e d =
         works scope (record {
           at = d.at;
@@ -360,6 +378,7 @@ module _ (code : List Instr) where
     does_closes scope activation place (Do own c ∷ ws) d = does_closes scope activation d.to ws d.rest
     does_closes scope activation place (Pend own c around ∷ ws) d = absurd d
     does_closes scope activation place (Given value own c around ∷ ws) d = absurd d
+    does_closes scope activation place (CallOff own level slot ∷ ws) d = does_closes scope activation (d.at + 1) ws d.rest
     does_closes scope activation place (Turn own c ∷ ws) d = does_closes d.outer activation d.to ws d.rest
     does_closes scope activation place (Close block ∷ ws) d = ap (λ bs. block ∷ bs) (does_closes d.outer (within activation d.below) d.to ws d.rest) ∙ sym d.entered
     does_closes scope activation place (Back own ∷ ws) d = sleeps_closes (called activation d.caller.frame d.others) d.caller.place d.caller.operands ws d.rest
@@ -386,6 +405,7 @@ module _ (code : List Instr) where
   pub does_in_block : (scope : Scope) (activation : Activation) (place : ℕ) (ws : List Work) → scope.block ≡ true → Does scope activation place ws → InBlock activation
   does_in_block scope activation place [] e d = absurd d
   does_in_block scope activation place (Do own c ∷ ws) e d = does_in_block scope activation d.to ws e d.rest
+  does_in_block scope activation place (CallOff own level slot ∷ ws) e d = does_in_block scope activation (d.at + 1) ws e d.rest
   does_in_block scope activation place (Turn own c ∷ ws) e d = does_in_block d.outer activation d.to ws (ap (λ (x : Scope). x.block) (sym d.is) ∙ e) d.rest
   does_in_block scope activation place (Close block ∷ ws) e d = record { block = block; others = d.below ++ activation.around; is = ap (λ bs. bs ++ activation.around) d.entered }
   does_in_block scope activation place (Back own ∷ ws) e d = absurd (not_both scope.block d.last.no_block e)

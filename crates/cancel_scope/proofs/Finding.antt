@@ -1,10 +1,10 @@
 -- The first of a list for which a test holds, and its place.
-use Rattle.std.proofs.Common.{◌≡◌, ℕ, suc, ◌+◌, ◌<◌, List, [], ◌∷◌, length, get_or, set, refl, sym, ap, ◌∙◌, subst, arith}
-use Rattle.std.specs.Prelude.{Option, Some, None, Bool, true, false, cond, find, position, is_some, map, ◌||◌, if◌then◌else◌}
-use Rattle.std.specs.List.{remove, position_from, list_any}
+use Rattle.std.proofs.Common.{◌≡◌, ℕ, suc, ◌+◌, List, [], ◌∷◌, set, refl, sym, ap, ◌∙◌, subst, arith}
+use Rattle.std.specs.Prelude.{Option, Some, None, Bool, true, false, cond, find, position, is_some, slice_get, if◌then◌else◌}
+use Rattle.std.specs.List.{remove, position_from}
 use Rattle.std.proofs.lemmas.Iterator.Adapters.{position_from-zero}
 use Rattle.cancel_scope.specs.declared.operation.Operation.{Operation}
-use Rattle.cancel_scope.specs.Outstanding.{change_first, without_first, waiting_as, waits_on}
+use Rattle.cancel_scope.specs.Outstanding.{change_first, without_first}
 
 -- ---- there is none
 
@@ -17,8 +17,8 @@ none_from : (test : Operation → Bool) (k : ℕ) (xs : List Operation) → posi
 none_from test k [] h = refl
 none_from test k (x ∷ xs) h = none_by_test test k x xs (test x) refl h (none_from test (k + 1) xs)
 
-pub none_found : (test : Operation → Bool) (xs ys : List Operation) → None ≡ position test ys → ys ≡ xs → find test xs ≡ None
-none_found test xs ys h e = none_from test 0 xs (sym (position_from-zero test xs) ∙ ap (position test) (sym e) ∙ sym h)
+pub none_found : (test : Operation → Bool) (xs : List Operation) → None ≡ position test xs → find test xs ≡ None
+none_found test xs h = none_from test 0 xs (sym (position_from-zero test xs) ∙ sym h)
 
 none_without_by : (test : Operation → Bool) (x : Operation) (xs : List Operation) (b : Bool) → test x ≡ b → cond b (Some x) (find test xs) ≡ None
     → (find test xs ≡ None → without_first test xs ≡ xs) → without_first test (x ∷ xs) ≡ x ∷ xs
@@ -55,19 +55,13 @@ placed_from test k (x ∷ xs) = placed_by test k x xs (test x) refl (placed_from
 pub placed : (test : Operation → Bool) (xs : List Operation) → is_some (position test xs) ≡ is_some (find test xs)
 placed test xs = ap is_some (position_from-zero test xs) ∙ placed_from test 0 xs
 
--- a test of what is seen of them
-pub any_seen : (link : ℕ) (xs : List Operation) → list_any (λ o. waits_on link (waiting_as o)) xs ≡ list_any (waits_on link) (map waiting_as xs)
-any_seen link [] = refl
-any_seen link (x ∷ xs) = ap (λ (b : Bool). waits_on link (waiting_as x) || b) (any_seen link xs)
-
 -- ---- there is one
 
-module _ (test : Operation → Bool) (d : Operation) where
+module _ (test : Operation → Bool) where
   -- the first stands at this place
   pub record IsFirst (xs : List Operation) (i : ℕ) : Type 0 where
-    pub within : i < length xs
-    pub found : find test xs ≡ Some (get_or xs i d)
-    pub changed : (change : Operation → Operation) → change_first test change xs ≡ set xs i (change (get_or xs i d))
+    pub found : find test xs ≡ slice_get xs i
+    pub changed : (change : Operation → Operation) (o : Operation) → slice_get xs i ≡ Some o → change_first test change xs ≡ set xs i (change o)
     pub without : without_first test xs ≡ remove xs i
 
   record First (k : ℕ) (xs : List Operation) (j : ℕ) : Type 0 where
@@ -80,9 +74,10 @@ module _ (test : Operation → Bool) (d : Operation) where
     place = 0;
     sums = omega (arith, e);
     first = record {
-      within = omega arith;
       found = ap (λ (b : Bool). cond b (Some x) (find test xs)) is;
-      changed = λ change. ap (λ (b : Bool). if b then change x ∷ xs else x ∷ change_first test change xs) is;
+      changed = λ change o at.
+          let same : x ≡ o = cc in
+          ap (λ (b : Bool). if b then change x ∷ xs else x ∷ change_first test change xs) is ∙ ap (λ (y : Operation). change y ∷ xs) same;
       without = ap (λ (b : Bool). if b then xs else x ∷ without_first test xs) is;
     };
   }
@@ -96,9 +91,9 @@ module _ (test : Operation → Bool) (d : Operation) where
         place = suc n;
         sums = omega (arith, sums);
         first = record {
-          within = let lt = first.within in omega (arith, lt);
           found = ap (λ (b : Bool). cond b (Some x) (find test xs)) is ∙ first.found;
-          changed = λ change. ap (λ (b : Bool). if b then change x ∷ xs else x ∷ change_first test change xs) is ∙ ap (λ ys. x ∷ ys) (first.changed change);
+          changed = λ change o at.
+              ap (λ (b : Bool). if b then change x ∷ xs else x ∷ change_first test change xs) is ∙ ap (λ ys. x ∷ ys) (first.changed change o at);
           without = ap (λ (b : Bool). if b then xs else x ∷ without_first test xs) is ∙ ap (λ ys. x ∷ ys) first.without;
         };
       }
@@ -112,23 +107,9 @@ module _ (test : Operation → Bool) (d : Operation) where
   first_from k [] j h = let no : ◌≡◌ {A = Option ℕ} None (Some j) = h in cc
   first_from k (x ∷ xs) j h = by_test k x xs j (test x) refl h (first_from (k + 1) xs j)
 
-  pub is_first : (xs : List Operation) (i : ℕ) → position test xs ≡ Some i → IsFirst xs i
+  pub is_first : (xs : List Operation) (i : ℕ) → Some i ≡ position test xs → IsFirst xs i
   is_first xs i h =
-      let r = first_from 0 xs i (sym (position_from-zero test xs) ∙ h) in
+      let r = first_from 0 xs i (sym (position_from-zero test xs) ∙ sym h) in
       let sums = r.sums in
       let e : r.place ≡ i = omega (arith, sums) in
       subst (IsFirst xs) e r.first
-
--- the first of these, which stands at that place in equal ones
-module _ (test : Operation → Bool) (xs ys : List Operation) (i : ℕ) (o : Operation) (at : Some i ≡ position test ys) (same : ys ≡ xs) where
-  it_is : IsFirst test o xs i
-  it_is = is_first test o xs i (ap (position test) (sym same) ∙ sym at)
-
-  pub found_at : o ≡ get_or xs i o → find test xs ≡ Some o
-  found_at is = it_is.found ∙ ap (λ (x : Operation). Some x) (sym is)
-
-  pub changed_at : (change : Operation → Operation) → o ≡ get_or xs i o → change_first test change xs ≡ set xs i (change o)
-  changed_at change is = it_is.changed change ∙ ap (λ (x : Operation). set xs i (change x)) (sym is)
-
-  pub without_at : without_first test xs ≡ remove xs i
-  without_at = it_is.without

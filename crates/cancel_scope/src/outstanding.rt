@@ -1,13 +1,14 @@
 //! The operations of a core that have not ended.
 
-ghost use Rattle.std.specs.Prelude.{◌≡◌, ◌+◌, ◌≤◌, ◌<◌, [], ◌∷◌, ◌++◌, position, find, is_some, map, OnOk, IfOk};
-ghost use Rattle.std.specs.List.{list_any};
+ghost use Rattle.std.specs.Prelude.{◌≡◌, ◌+◌, ◌≤◌, ◌<◌, [], ◌∷◌, ◌++◌, position, find, is_some, map, length, slice_get, Some, OnOk, IfOk};
+ghost use Rattle.std.specs.List.{list_any, remove};
 ghost use Rattle.cancel_scope.specs.Outstanding.{offered_as, is_to_offer, is_offered, is_to_receive, waiting_as, waits_on};
 ghost use Rattle.cancel_scope.specs.Outstanding.{change_first, without_first};
 
 use crate::operation::Operation;
 use ac_base::{List, NoMemory, Waiting};
 use std::alloc::Global;
+use std::collections::VecDeque;
 use std::marker::Model;
 
 /// The operations of a core that have not ended, the oldest first. It keeps the allocator with
@@ -16,52 +17,21 @@ use std::marker::Model;
 /// Contracts see them, and the spare: the number of further operations for which there is room.
 #[derive(Drop)]
 pub struct Outstanding {
-    operations: Vec<Operation>,
+    operations: VecDeque<Operation>,
 }
 
 impl Model for Outstanding {
-    ghost use Rattle.std.specs.Prelude.{◌-◌, vec_len, vec_capacity};
+    ghost use Rattle.std.specs.Prelude.{◌-◌};
+    ghost use Rattle.std.specs.VecDeque.{deque_len, deque_capacity};
     ghost use Rattle.cancel_scope.specs.Roomy.{Roomy};
 
     ghost Value = { Roomy };
 
-    ghost view = { λ it. record { operations = it.operations.items; spare = vec_capacity it.operations - vec_len it.operations } };
+    ghost view = { λ it. record { operations = it.operations.items; spare = deque_capacity it.operations - deque_len it.operations } };
 }
 
-// ---- places
-
-fn first_to_offer(operations: &[Operation], link: u32) -> Option<usize>
-    ensures { result ≡ position (is_to_offer link) operations.now }
-{
-    operations.iter().position(|o| o.is_to_offer(link))
-}
-
-fn first_offered(operations: &[Operation], link: u32, number: u64) -> Option<usize>
-    ensures { result ≡ position (is_offered link number) operations.now }
-{
-    operations.iter().position(|o| o.is_offered(link, number))
-}
-
-fn first_to_receive(operations: &[Operation], link: u32) -> Option<usize>
-    ensures { result ≡ position (is_to_receive link) operations.now }
-{
-    operations.iter().position(|o| o.is_to_receive(link))
-}
-
-// ---- what is seen
-
-fn seen_of(alloc: Global, operations: &[Operation]) -> Result<List<Waiting>, NoMemory>
-    ensures { IfOk result (λ it. it ≡ map waiting_as operations.now) }
-{
-    let mut seen = List::new(alloc);
-    for operation in operations {
-        seen.push(operation.seen())?;
-    }
-    Ok(seen)
-}
-
-fn any_waits(operations: &[Operation], link: u32) -> bool
-    ensures { result ≡ list_any (λ o. waits_on link (waiting_as o)) operations.now }
+fn any_waits(operations: &VecDeque<Operation>, link: u32) -> bool
+    ensures { result ≡ list_any (λ o. waits_on link (waiting_as o)) operations.now.items }
 {
     operations.iter().any(|o| o.waits_on(link))
 }
@@ -72,7 +42,7 @@ impl Outstanding {
         ensures { result.operations ≡ [] }
     {
         Outstanding {
-            operations: Vec::new(alloc),
+            operations: VecDeque::new(alloc),
         }
     }
 
@@ -80,14 +50,18 @@ impl Outstanding {
     pub fn seen(&self, alloc: Global) -> Result<List<Waiting>, NoMemory>
         ensures { IfOk result (λ it. it ≡ map waiting_as self.now.operations) }
     {
-        seen_of(alloc, self.operations.as_slice())
+        let mut seen = List::new(alloc);
+        for place in 0..self.len() {
+            seen.push(self.get(place).seen())?;
+        }
+        Ok(seen)
     }
 
     /// Whether one on that link waits, of which only its core knows.
     pub fn waits(&self, link: u32) -> bool
         ensures { result ≡ list_any (waits_on link) (map waiting_as self.now.operations) }
     {
-        any_waits(self.operations.as_slice(), link)
+        any_waits(&self.operations, link)
     }
 
     /// Makes the spare at least n. After want of memory the operations are as before.
@@ -108,24 +82,62 @@ impl Outstanding {
         ensures operations { self.new.operations ≡ self.old.operations ++ operation ∷ [] }
         ensures spare { self.new.spare + 1 ≡ self.old.spare }
     {
-        self.operations.push_reserved(operation);
+        self.operations.push_back_reserved(operation);
+    }
+
+    /// How many there are.
+    pub fn len(&self) -> usize
+        ensures { result ≡ length self.now.operations }
+    {
+        self.operations.len()
+    }
+
+    /// The operation at a place; the oldest is at 0.
+    ///
+    /// Condition: the place is below the length.
+    pub fn get(&self, place: usize) -> Operation
+        requires { place < length self.now.operations }
+        ensures { slice_get self.now.operations place ≡ Some result }
+    {
+        self.operations[place]
+    }
+
+    // The place of the oldest operation that is to be offered on a link.
+    fn first_to_offer(&self, link: u32) -> Option<usize>
+        ensures { result ≡ position (is_to_offer link) self.now.operations }
+    {
+        self.operations.iter().position(|o| o.is_to_offer(link))
+    }
+
+    // The place of the operation that stands on a link under a number.
+    fn first_offered(&self, link: u32, number: u64) -> Option<usize>
+        ensures { result ≡ position (is_offered link number) self.now.operations }
+    {
+        self.operations
+            .iter()
+            .position(|o| o.is_offered(link, number))
+    }
+
+    // The place of the oldest operation that waits for a message from a link.
+    fn first_to_receive(&self, link: u32) -> Option<usize>
+        ensures { result ≡ position (is_to_receive link) self.now.operations }
+    {
+        self.operations.iter().position(|o| o.is_to_receive(link))
     }
 
     /// The oldest operation that is to be offered on a link.
     pub fn to_offer(&self, link: u32) -> Option<Operation>
         ensures { result ≡ find (is_to_offer link) self.now.operations }
     {
-        match first_to_offer(self.operations.as_slice(), link) {
-            None => None,
-            Some(place) => Some(self.operations[place]),
-        }
+        let place = self.first_to_offer(link)?;
+        Some(self.get(place))
     }
 
     /// Whether one waits for a message from a link.
     pub fn wants(&self, link: u32) -> bool
         ensures { result ≡ is_some (find (is_to_receive link) self.now.operations) }
     {
-        first_to_receive(self.operations.as_slice(), link).is_some()
+        self.first_to_receive(link).is_some()
     }
 
     /// The oldest operation that is to be offered on a link is offered under a number.
@@ -134,9 +146,8 @@ impl Outstanding {
             ≡ change_first (is_to_offer link) (offered_as number) self.old.operations }
         ensures spare { self.new.spare ≡ self.old.spare }
     {
-        if let Some(place) = first_to_offer(self.operations.as_slice(), link) {
-            let offered = self.operations[place].offered(number);
-            self.operations[place] = offered;
+        if let Some(place) = self.first_to_offer(link) {
+            self.operations[place] = self.get(place).offered(number);
         }
     }
 
@@ -146,10 +157,8 @@ impl Outstanding {
         ensures operations { self.new.operations
             ≡ without_first (is_offered link number) self.old.operations }
     {
-        match first_offered(self.operations.as_slice(), link, number) {
-            None => None,
-            Some(place) => Some(self.operations.remove(place)),
-        }
+        let place = self.first_offered(link, number)?;
+        Some(self.end_at(place))
     }
 
     /// Takes away the oldest operation that waits for a message from a link, and gives it.
@@ -158,9 +167,21 @@ impl Outstanding {
         ensures operations { self.new.operations
             ≡ without_first (is_to_receive link) self.old.operations }
     {
-        match first_to_receive(self.operations.as_slice(), link) {
-            None => None,
-            Some(place) => Some(self.operations.remove(place)),
+        let place = self.first_to_receive(link)?;
+        Some(self.end_at(place))
+    }
+
+    /// Takes away the operation at a place, and gives it.
+    ///
+    /// Condition: the place is below the length.
+    pub fn end_at(&mut self, place: usize) -> Operation
+        requires { place < length self.old.operations }
+        ensures result { slice_get self.old.operations place ≡ Some result }
+        ensures operations { self.new.operations ≡ remove self.old.operations place }
+    {
+        match self.operations.remove(place) {
+            Some(operation) => operation,
+            None => unreachable!(),
         }
     }
 }

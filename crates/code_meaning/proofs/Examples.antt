@@ -13,7 +13,7 @@ use Rattle.stack_code.specs.declared.instr.Instr.{Instr}
 use Rattle.stack_code.specs.declared.instr.Instr.TheVariants as i
 use Rattle.stack_code.specs.declared.parts.Entered.{Entered}
 use Rattle.code_meaning.specs.Machine.{Flat, FlatEnd, exec, first_flat, Runs}
-use Rattle.code_meaning.specs.Alone.{is_alone, IsAlone}
+use Rattle.code_meaning.specs.Alone.{is_alone, starts_none, IsAlone}
 use Rattle.code_meaning.specs.Meant.{has_meaning, IsMeant}
 use Rattle.stack_code.proofs.Examples.{entered, code_of, begins_so, keeps_three, small}
 
@@ -97,16 +97,19 @@ it_clears_slots = refl
 -- ---- code of a core alone
 
 pub it_is_alone : IsAlone small
-it_is_alone = All-from_recursion (λ (instr : Instr). is_alone instr ≡ true) keeps_three (refl, (refl, (refl, (refl, tt))))
+it_is_alone = All-from_recursion (λ (instr : Instr). starts_none instr ≡ true) keeps_three (refl, (refl, (refl, (refl, tt))))
 
 pub a_send_is_not : IsAlone (code_of 0 (i.Send 0 ∷ i.Ret ∷ [])) → ⊥
-a_send_is_not h = let e = (recursion_from_All (λ (instr : Instr). is_alone instr ≡ true) (i.Send 0 ∷ i.Ret ∷ []) h).0 in cc
+a_send_is_not h = let e = (recursion_from_All (λ (instr : Instr). starts_none instr ≡ true) (i.Send 0 ∷ i.Ret ∷ []) h).0 in cc
+
+pub a_cancel_starts_none : is_alone (i.Cancel 0 0) ∷ starts_none (i.Cancel 0 0) ∷ starts_none (i.Send 0) ∷ [] ≡ false ∷ true ∷ false ∷ []
+a_cancel_starts_none = refl
 
 pub all_of_it_has_a_meaning : IsMeant small
 all_of_it_has_a_meaning = All-from_recursion (λ (instr : Instr). has_meaning instr ≡ true) keeps_three (refl, (refl, (refl, (refl, tt))))
 
-pub a_send_has_a_meaning : has_meaning (i.Send 0) ∷ has_meaning (i.Cancel 0 0) ∷ has_meaning (i.Read 0) ∷ [] ≡ true ∷ false ∷ false ∷ []
-a_send_has_a_meaning = refl
+pub a_cancel_has_a_meaning_and_a_read_none : has_meaning (i.Send 0) ∷ has_meaning (i.Cancel 0 0) ∷ has_meaning (i.Read 0) ∷ [] ≡ true ∷ true ∷ false ∷ []
+a_cancel_has_a_meaning_and_a_read_none = refl
 
-pub a_cancel_has_none : IsMeant (code_of 0 (i.Cancel 0 0 ∷ i.Ret ∷ [])) → ⊥
-a_cancel_has_none h = let e = (recursion_from_All (λ (instr : Instr). has_meaning instr ≡ true) (i.Cancel 0 0 ∷ i.Ret ∷ []) h).0 in cc
+pub a_read_has_none : IsMeant (code_of 0 (i.Read 0 ∷ i.Ret ∷ [])) → ⊥
+a_read_has_none h = let e = (recursion_from_All (λ (instr : Instr). has_meaning instr ≡ true) (i.Read 0 ∷ i.Ret ∷ []) h).0 in cc

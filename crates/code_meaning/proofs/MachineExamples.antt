@@ -1,5 +1,5 @@
 -- What a move of the machine is made of, in small states.
-use Rattle.std.proofs.Common.{◌≡◌, refl, ℕ, zero, suc, pos, List, [], ◌∷◌, Option, Some, None, Bool, true, false, arith, codes}
+use Rattle.std.proofs.Common.{◌≡◌, refl, ℕ, pos, List, [], ◌∷◌, Option, Some, None, Bool, true, false, codes}
 use Rattle.std.specs.Prelude.{negsuc, Ok, Err, ◌++◌}
 use Rattle.ac_base.specs.declared.ends.Trap.TheVariants.{Index}
 use Rattle.ac_base.specs.declared.ends.EndWord.{EndWord}
@@ -7,8 +7,6 @@ use Rattle.ac_base.specs.declared.ends.EndWord.TheVariants.{Finished, Trapped, O
 use Rattle.core_state.specs.Moves.{Move, On, Over}
 use Rattle.core_state.specs.Shared.{core_end, first_shared}
 use Rattle.stack_code.specs.declared.instr.Instr.TheVariants as i
-use Rattle.stack_code.specs.declared.shape.Kind.TheVariants as kind
-use Rattle.stack_code.specs.declared.shape.Home.TheVariants as home
 use Rattle.code_meaning.specs.Machine.{Flat, FlatEnd, with_starts, first_globals, first_item, first_core, Caller, one_operand, block_at, one_more, told, text_at, dispatched, calls}
 use Rattle.code_meaning.specs.Machine.{operates, given, resumed, arrived, rests}
 use Rattle.cancel_scope.specs.declared.operation.Asked.TheVariants.{Send, Recv}
@@ -16,7 +14,7 @@ use Rattle.cancel_scope.specs.Outstanding.{started, offered_as}
 use Rattle.ac_base.specs.declared.entry.Event.TheVariants.{Know}
 use Rattle.ac_base.specs.declared.entry.Entry.{Entry}
 use Rattle.ac_base.specs.declared.ends.Phase.TheVariants as phase
-use Rattle.core_state.specs.Arrivals.{goes_on_waiting, has_ended}
+use Rattle.core_state.specs.Arrivals.{goes_on_waiting}
 use Rattle.code_meaning.specs.Machine.{thread_at, with_block, stops, counted_in, arrives_at, arrives_in, counted_out, dies_in, dies, begin, exec_of}
 use Rattle.code_meaning.specs.Machine.{Block, nobody, seen_of, with_shared, with_store, goes_to, or_trap, on_top, on_two, on_three, on_many, two_operands, always}
 use Rattle.work_item.specs.declared.ids.FrameId.{FrameId}
@@ -26,7 +24,7 @@ use Rattle.work_item.specs.declared.cell.Cell.{Cell}
 use Rattle.work_item.specs.declared.cell.Cell.TheVariants as cell
 use Rattle.work_item.specs.Store.{no_frames}
 use Rattle.core_state.specs.Arithmetic.{sum_of, difference_of, negated}
-use Rattle.stack_code.proofs.Examples.{code_of, code, entered, small, start, in_block, in_async, it_is_loaded}
+use Rattle.stack_code.proofs.Examples.{code_of, code, entered, start}
 
 -- ---- what the moves of the machine are made of
 
@@ -98,7 +96,7 @@ an_operator = (refl, refl)
 
 -- the thread 0 is the owner of this block
 abbrev pub owned : ℕ → Bool → Block
-owned count waits = record { parent = None; owner = item 0; count = count; waits = waits }
+owned count waits = record { parent = None; owner = item 0; count = count; waits = waits; cancelled = false }
 
 pub blocks_at_their_numbers : (with_block (None ∷ None ∷ []) (block 1) (Some (owned 0 false)) ≡ None ∷ Some (owned 0 false) ∷ [])
     × (counted_in (Some (owned 1 false) ∷ []) (Some (block 0)) ≡ Some (owned 2 false) ∷ []) × (counted_in (Some (owned 1 false) ∷ []) None ≡ Some (owned 1 false) ∷ [])

@@ -1,4 +1,4 @@
--- Code of a core that has no part in what other cores do: no cancel and no operation.
+-- Code of a core that has no part in what other cores do: it starts no operation.
 use Rattle.std.specs.Prelude.{◌≡◌, All, Bool, true, false}
 use Rattle.stack_code.specs.declared.instr.Instr.{Instr}
 use Rattle.stack_code.specs.declared.instr.Instr.TheVariants as i
@@ -13,5 +13,10 @@ is_alone (i.Read file) = false
 is_alone (i.Write file) = false
 is_alone _ = true
 
+-- it starts no operation; where there is none, a cancel has nothing to try
+abbrev pub starts_none : Instr → Bool
+starts_none (i.Cancel level slot) = true
+starts_none instr = is_alone instr
+
 abbrev pub IsAlone : Parts → Type 0
-IsAlone code = All (λ instr. is_alone instr ≡ true) code.instrs
+IsAlone code = All (λ instr. starts_none instr ≡ true) code.instrs

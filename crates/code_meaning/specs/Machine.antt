@@ -1,5 +1,6 @@
 -- What the flat machine does, instruction by instruction.
-use Rattle.std.specs.Prelude.{ℕ, ◌+◌, ◌-◌, ◌^◌, min, ℤ, pos, List, [], ◌∷◌, ◌++◌, length, map, take, drop}
+use Rattle.std.specs.Prelude.{ℕ, zero, suc, ◌+◌, ◌-◌, ◌^◌, min, ℤ, pos, List, [], ◌∷◌, ◌++◌, length, map, take, drop}
+use Rattle.std.specs.List.{list_any}
 use Rattle.std.specs.Prelude.{replicate, reverse, Option, Some, None, Bool, true, false, nat_eq, nat_le}
 use Rattle.std.specs.Prelude.{nat_lt, ◌&&◌, slice_get, slice_index_or, slice_set, Result, Ok, Err, if◌then◌else◌}
 use Rattle.ac_base.specs.declared.ends.Trap.{Trap}
@@ -10,7 +11,6 @@ use Rattle.ac_base.specs.declared.entry.Entry.{Entry}
 use Rattle.work_item.specs.declared.ids.FrameId.{FrameId}
 use Rattle.work_item.specs.declared.ids.Item.{Item}
 use Rattle.work_item.specs.declared.ids.BlockId.{BlockId}
-use Rattle.work_item.specs.declared.cell.Place as cells
 use Rattle.work_item.specs.declared.cell.Cell.{Cell}
 use Rattle.work_item.specs.declared.cell.Cell.TheVariants as cell
 use Rattle.work_item.specs.Store.{Store, above, cell_at, global_at, no_int, int_in, place_in}
@@ -23,9 +23,10 @@ use Rattle.core_state.specs.Moves.{Move, On, Over, ComesTo}
 use Rattle.core_state.specs.Arithmetic.{Computed, at_zero, truth, negated, not_true, flipped, sum_of, difference_of}
 use Rattle.core_state.specs.Arithmetic.{product_of, quotient, remainder, shifted_left, shifted_right, is_equal}
 use Rattle.core_state.specs.Arithmetic.{is_not_equal, is_less, is_at_most, both_bits, either_bits, differing_bits}
-use Rattle.core_state.specs.Frames.{element, set_element, part_at, begun, begun_with, first_frame, with_entered}
+use Rattle.core_state.specs.Frames.{element, set_element, part_at, begun, begun_with, first_frame, with_entered, block_in}
 use Rattle.core_state.specs.Shared.{Shared, with_step, with_turn, first_shared, printed, formatted, seen, if_turn, begins}
-use Rattle.core_state.specs.Arrivals.{Arrival, point, ok}
+use Rattle.core_state.specs.Arrivals.{Arrival, point, cancelled}
+use Rattle.core_state.specs.Cancelling.{cancels}
 use Rattle.stack_code.specs.declared.instr.Instr.{Instr}
 use Rattle.stack_code.specs.declared.instr.Instr.TheVariants as i
 use Rattle.stack_code.specs.declared.parts.Entered.{Entered}
@@ -48,12 +49,14 @@ pub record Thread : Type 0 where
   pub callers : List Caller
   pub block : Option BlockId
 
--- a block, the thread that entered it, how many threads that were started directly in it live, and whether the owner waits at its finish
+-- a block, the thread that entered it, how many threads that were started directly in it live, whether the owner waits at its finish, and
+-- whether it is marked as cancelled
 pub record Block : Type 0 where
   pub parent : Option BlockId
   pub owner : Item
   pub count : ℕ
   pub waits : Bool
+  pub cancelled : Bool
 
 -- a core in the machine: what it shares with its source, what its globals and frames hold, its operations that have not ended, and its
 -- threads
@@ -222,6 +225,41 @@ abbrev pub dies : Flat → Item → Option BlockId → Flat
 dies m t None = m
 dies m t (Some b) = dies_in m t b (block_at m.blocks b)
 
+-- ---- cancelled blocks
+
+abbrev pub parent_of : Option Block → Option BlockId
+parent_of None = None
+parent_of (Some x) = x.parent
+
+abbrev pub is_marked : Option Block → Bool
+is_marked None = false
+is_marked (Some x) = x.cancelled
+
+abbrev pub with_mark : Option Block → Option Block
+with_mark None = None
+with_mark (Some x) = Some (record x { cancelled = true })
+
+-- the block and those round it, the innermost first, but not more than so many
+abbrev pub few_round : ℕ → List (Option Block) → Option BlockId → List BlockId
+few_round k blocks None = []
+few_round zero blocks (Some b) = []
+few_round (suc k) blocks (Some b) = b ∷ few_round k blocks (parent_of (block_at blocks b))
+
+-- all of them: a block lies only in older ones
+abbrev pub round : List (Option Block) → Option BlockId → List BlockId
+round blocks b = few_round (length blocks) blocks b
+
+-- it is marked, or one of those round it
+abbrev pub is_cancelled : List (Option Block) → Option BlockId → Bool
+is_cancelled blocks b = list_any (λ (x : BlockId). is_marked (block_at blocks x)) (round blocks b)
+
+-- the thread of the operation stands in the block, or in one that descends from it
+abbrev pub is_inside : Flat → BlockId → Operation → Bool
+is_inside m block o = list_any (λ (x : BlockId). nat_eq block.number x.number) (round m.blocks (thread_at m.threads o.item).block)
+
+abbrev pub marked : Flat → BlockId → Flat
+marked m block = record m { blocks = with_block m.blocks block (with_mark (block_at m.blocks block)) }
+
 -- ---- operations
 
 -- the running thread waits for the end of an operation on that link, with these operands below its value
@@ -229,6 +267,14 @@ abbrev pub operates : Flat → Item → ℕ → Asked → List Cell → Flat
 operates m t link asked below =
     record (stops m t (at m.current (m.current.place + 1) below) m.ready m.blocks)
     { operations = m.operations ++ started link asked t ∷ [] }
+
+-- in a cancelled block an operation gives its value at once
+abbrev pub asks_in : Bool → Flat → Item → ℕ → Asked → List Cell → Move Flat FlatEnd
+asks_in true m t link asked below = goes m (cell.Int cancelled ∷ below)
+asks_in false m t link asked below = On (operates m t link asked below)
+
+abbrev pub asks : Flat → Item → ℕ → Asked → List Cell → Move Flat FlatEnd
+asks m t link asked below = asks_in (is_cancelled m.blocks m.current.block) m t link asked below
 
 -- with the value of its operation on top of its operands
 abbrev pub given : Cell → Thread → Thread
@@ -240,9 +286,16 @@ resumed m value None = m
 resumed m value (Some t) =
     record m { ready = m.ready ++ t ∷ []; threads = slice_set m.threads t.number (given value (thread_at m.threads t)) }
 
--- an entry has come in, which is no instruction
+-- an entry has come in, which is no instruction, or a cancel has tried an operation
 abbrev pub arrived : Flat → Shared → Arrival → Flat
-arrived m shared x = resumed (record m { shared = shared; store = x.store; operations = x.operations }) ok x.woken
+arrived m shared x = resumed (record m { shared = shared; store = x.store; operations = x.operations }) (cell.Int x.value) x.woken
+
+-- The block is marked, and the oldest operation within it is tried. The running thread stays at its instruction until none is left; the
+-- instruction is counted once, as it leaves it or as the run stops there.
+abbrev pub calls_off : Flat → BlockId → Move Flat FlatEnd
+calls_off m block =
+    cancels (told (counted m.count)) m.shared m.store m.operations (is_inside m block) (λ shared x. On (arrived (marked m block) shared x))
+    (goes (marked m block) m.current.operands)
 
 -- ---- calls
 
@@ -339,19 +392,19 @@ begin code bound m t (Some (i.Enter slot)) =
     On (record m {
       store = with_entered m.store m.current.frame slot (length m.blocks);
       current = record m.current { place = m.current.place + 1; block = Some (record { number = length m.blocks }) };
-      blocks = m.blocks ++ Some (record { parent = m.current.block; owner = t; count = 0; waits = false }) ∷ [];
+      blocks = m.blocks ++ Some (record { parent = m.current.block; owner = t; count = 0; waits = false; cancelled = false }) ∷ [];
       count = counted m.count;
     })
 begin code bound m t (Some (i.Finish slot)) = arrives m t m.current.block
 begin code bound m t (Some (i.Async slots to)) =
     or_trap m (begun m.store (Some m.current.frame) (replicate slots no_int)) (λ store. On (starts m t to store))
 begin code bound m t (Some i.End) = On (dies (with_store m (released m.store m.current.frame)) t m.current.block)
-begin code bound m t (Some (i.Cancel level slot)) = On m
+begin code bound m t (Some (i.Cancel level slot)) = calls_off m (block_in (cell_at m.store m.current.frame level slot))
 begin code bound m t (Some i.Yield) = On (stops m t (record m.current { place = m.current.place + 1 }) (m.ready ++ t ∷ []) m.blocks)
 begin code bound m t (Some (i.Send channel)) =
-    on_top m (λ x below. On (operates m t channel (asked.Send (int_in x)) below)) m.current.operands
+    on_top m (λ x below. asks m t channel (asked.Send (int_in x)) below) m.current.operands
 begin code bound m t (Some (i.Recv channel)) =
-    on_top m (λ x below. On (operates m t channel (asked.Recv (place_in x)) below)) m.current.operands
+    on_top m (λ x below. asks m t channel (asked.Recv (place_in x)) below) m.current.operands
 begin code bound m t (Some (i.Read file)) = On m
 begin code bound m t (Some (i.Write file)) = On m
 

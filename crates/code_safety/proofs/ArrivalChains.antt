@@ -1,6 +1,6 @@
 -- No reference dangles where an entry comes in: an int is set, and the thread whose operation has ended goes on with one more.
 use Rattle.std.proofs.Common.{◌≡◌, ◌⊎◌, ℕ, ◌+◌, ◌<◌, List, [], ◌∷◌, ◌++◌, length, Option, Some, None, Bool, true, false, refl, sym, ap, ◌∙◌, subst, inl, inr, arith}
-use Rattle.std.specs.Prelude.{All, nat_eq, if◌then◌else◌}
+use Rattle.std.specs.Prelude.{ℤ, All, nat_eq, if◌then◌else◌}
 use Rattle.std.proofs.lemmas.List.{get_or-set_same, get_or-set_other}
 use Rattle.std.proofs.lemmas.List.Elements.{All-weaker}
 use Rattle.ac_base.specs.declared.entry.Entry.{Entry}
@@ -13,7 +13,8 @@ use Rattle.cancel_scope.specs.Outstanding.{offered_as}
 use Rattle.core_state.specs.Moves.{On}
 use Rattle.core_state.specs.Shared.{Shared, with_entry}
 use Rattle.core_state.specs.Arrivals as arrivals
-use Rattle.core_state.specs.Arrivals.{ok, Arrival, goes_on_waiting, has_ended, comes_in, at_point}
+use Rattle.work_item.specs.declared.cell.Cell.TheVariants as cell
+use Rattle.core_state.specs.Arrivals.{ok, Arrival, goes_on_waiting, has_ended_as, comes_in, at_point}
 use Rattle.stack_code.specs.Parts.{Parts}
 use Rattle.code_meaning.specs.Machine.{Thread, Block, Flat, given, block_at, thread_at, nobody, told, arrived, dispatched, rests}
 use Rattle.code_safety.specs.Fit.{life_at, one_at, occurs, items_of, IsFit}
@@ -28,7 +29,7 @@ use Rattle.code_safety.proofs.LivingThreads.{not_going, not_both, operating_once
 use Rattle.code_safety.proofs.LinkedFrames.{SameFrames, same_frames, int_frames, linked_same}
 use Rattle.code_safety.proofs.Stacks.{stack_pushed}
 
-module _ (code : Parts) (m : Flat) (fit : IsFit code m) (chained : AreChained code m) (idle : m.running ≡ None) (shared : Shared) where
+module _ (code : Parts) (m : Flat) (fit : IsFit code m) (chained : AreChained code m) (shared : Shared) where
   abbrev Asks : Operation → Type 0
   Asks o = AskedOnChain chained.origins (thread_at m.threads o.item).frame o.asked
 
@@ -103,7 +104,7 @@ module _ (code : Parts) (m : Flat) (fit : IsFit code m) (chained : AreChained co
 
   -- ---- an operation ends
 
-  module _ (front back : List Operation) (o : Operation) (is : m.operations ≡ front ++ o ∷ back) (store : Store) (frames : SameFrames chained.origins m.store store) where
+  module _ (front back : List Operation) (o : Operation) (is : m.operations ≡ front ++ o ∷ back) (value : ℤ) (store : Store) (frames : SameFrames chained.origins m.store store) where
     abbrev woken : Item
     woken = o.item
 
@@ -111,10 +112,10 @@ module _ (code : Parts) (m : Flat) (fit : IsFit code m) (chained : AreChained co
     left = front ++ back
 
     abbrev now : Thread
-    now = given ok (thread_at m.threads woken)
+    now = given (cell.Int value) (thread_at m.threads woken)
 
     abbrev ended : Flat
-    ended = arrived m shared (has_ended store left o)
+    ended = arrived m shared (has_ended_as value store left o)
 
     fewer : (u : Item) → occurs u.number (items_of m.operations) ≡ one_at u.number woken + occurs u.number (items_of left)
     fewer u = ap (λ os. occurs u.number (items_of os)) is ∙ occurs_between u.number front back o
@@ -172,7 +173,7 @@ module _ (code : Parts) (m : Flat) (fit : IsFit code m) (chained : AreChained co
     ended_back _ _ (as_waiting u c x here owner w) = inr (subst (LivesAs m u) (sym (other_thread u (not_waiting u c x here owner w))) (as_waiting u c x here owner w))
 
     ended_on : (u : Item) (h : Thread) → LivesAs m u h → ((u ≡ woken) × (h ≡ thread_at m.threads woken)) ⊎ LivesAs ended u h
-    ended_on _ _ (as_running u e) = let no : None ≡ Some u = sym idle ∙ e in absurd (cc)
+    ended_on _ _ (as_running u e) = inr (as_running u e)
     ended_on _ _ (as_ready u some) = let k = now_ready u in inr (subst (LivesAs ended u) (other_thread u (not_ready u some)) (as_ready u (omega (arith, some, k))))
     ended_on _ _ (as_operating u some) = elim (same_or_other u woken) as (λ _. ((u ≡ woken) × (thread_at m.threads u ≡ thread_at m.threads woken)) ⊎ LivesAs ended u (thread_at m.threads u)) [
       | inl e ↦ inl (e, ap (thread_at m.threads) e)
@@ -198,7 +199,7 @@ module _ (code : Parts) (m : Flat) (fit : IsFit code m) (chained : AreChained co
     woken_stack =
         let h = thread_at m.threads woken in
         let z = chained.threads woken h (as_operating woken operated) in
-        record { start = z.start; stack = stack_pushed code chained.origins m.blocks chained.sites woken z.start ok h.place h.frame h.operands h.callers h.block tt z.stack }
+        record { start = z.start; stack = stack_pushed code chained.origins m.blocks chained.sites woken z.start (cell.Int value) h.place h.frame h.operands h.callers h.block tt z.stack }
 
     abbrev StillAsks : Operation → Type 0
     StillAsks p = AskedOnChain chained.origins (thread_at ended.threads p.item).frame p.asked
@@ -206,7 +207,7 @@ module _ (code : Parts) (m : Flat) (fit : IsFit code m) (chained : AreChained co
     still_asks : (p : Operation) → Asks p → StillAsks p
     still_asks p a = subst (λ f. AskedOnChain chained.origins f p.asked) (sym (same_place p.item)) a
 
-    ended_chained : AreChained code ended
+    pub ended_chained : AreChained code ended
     ended_chained = record {
       origins = chained.origins;
       sites = chained.sites;
@@ -225,15 +226,15 @@ module _ (code : Parts) (m : Flat) (fit : IsFit code m) (chained : AreChained co
   -- ---- any entry
 
   pub comes_chained : (x : Arrival) → Comes m.store m.operations x → AreChained code (arrived m shared x)
-  comes_chained _ (passed front back o is) = passed_chained
+  comes_chained _ passed = passed_chained
   comes_chained _ (offered front back o number is test) = offered_chained front back o is number
-  comes_chained _ (known front back o is) = ended_chained front back o is m.store (same_frames chained.origins m.store)
+  comes_chained _ (known front back o is) = ended_chained front back o is ok m.store (same_frames chained.origins m.store)
   comes_chained _ (received front back o place value is a) =
-      ended_chained front back o is (with_int_at m.store place 0 value) (int_frames chained.origins m.store place.home (place.start + 0) value)
+      ended_chained front back o is ok (with_int_at m.store place 0 value) (int_frames chained.origins m.store place.home (place.start + 0) value)
 
 -- at a dispatch point, where the other move leads to such a state too
-pub rests_chained : (code : Parts) (m : Flat) → IsFit code m → AreChained code m → m.running ≡ None → Onward (AreChained code) (dispatched m m.ready) → Onward (AreChained code) (rests m)
-rests_chained code m fit chained idle others = by m.shared.todo
+pub rests_chained : (code : Parts) (m : Flat) → IsFit code m → AreChained code m → Onward (AreChained code) (dispatched m m.ready) → Onward (AreChained code) (rests m)
+rests_chained code m fit chained others = by m.shared.todo
   where
     comes : (shared : Shared) (o : Option Arrival) → ((x : Arrival) → o ≡ Some x → AreChained code (arrived m shared x))
         → Onward (AreChained code) (comes_in (told m.count) (λ x. On (arrived m shared x)) o)
@@ -243,7 +244,7 @@ rests_chained code m fit chained idle others = by m.shared.todo
     turn : (e : Entry) (es : List Entry) (b : Bool) → Onward (AreChained code)
         (if b then comes_in (told m.count) (λ x. On (arrived m (with_entry m.shared e es) x)) (arrivals.arrives m.shared.past m.store m.operations e.event) else dispatched m m.ready)
     turn e es true = comes (with_entry m.shared e es) (arrivals.arrives m.shared.past m.store m.operations e.event)
-        (λ x h. comes_chained code m fit chained idle (with_entry m.shared e es) x (comes_of m.store m.operations x m.shared.past e.event h))
+        (λ x h. comes_chained code m fit chained (with_entry m.shared e es) x (comes_of m.store m.operations x m.shared.past e.event h))
     turn e es false = others
 
     by : (todo : List Entry) → Onward (AreChained code) (at_point (told m.count) m.shared m.store m.operations (λ shared x. On (arrived m shared x)) (dispatched m m.ready) todo)

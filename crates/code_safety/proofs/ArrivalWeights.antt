@@ -1,24 +1,25 @@
 -- An entry that comes in leaves no more to do.
-use Rattle.std.proofs.Common.{◌≡◌, ℕ, ◌+◌, ◌-◌, ◌*◌, ◌<◌, ◌≤◌, List, [], ◌∷◌, ◌++◌, None, Bool, true, false, refl, sym, ap, ◌∙◌, subst, inl, inr, arith}
-use Rattle.std.specs.Prelude.{sum, slice_set, if◌then◌else◌, ◌&&◌}
+use Rattle.std.proofs.Common.{◌≡◌, ℕ, ◌+◌, ◌-◌, ◌*◌, ◌<◌, ◌≤◌, List, [], ◌∷◌, ◌++◌, Bool, true, false, refl, sym, ap, ◌∙◌, subst, inl, inr, arith}
+use Rattle.std.specs.Prelude.{ℤ, sum, slice_set, if◌then◌else◌, ◌&&◌}
 use Rattle.std.proofs.lemmas.Bool.{cases_eq}
 use Rattle.std.proofs.lemmas.List.{get_or-set_same, get_or-set_other}
 use Rattle.work_item.specs.declared.ids.Item.{Item}
+use Rattle.work_item.specs.declared.cell.Cell.TheVariants as cell
 use Rattle.work_item.specs.Store.{Store, with_int_at}
 use Rattle.cancel_scope.specs.declared.operation.Operation.{Operation}
 use Rattle.cancel_scope.specs.Outstanding.{is_send, is_waiting, offered_as}
-use Rattle.core_state.specs.Arrivals.{Arrival, goes_on_waiting, has_ended, ok}
+use Rattle.core_state.specs.Arrivals.{Arrival, goes_on_waiting, has_ended_as, ok}
 use Rattle.core_state.specs.Shared.{Shared}
 use Rattle.stack_code.specs.Parts.{Parts}
 use Rattle.code_meaning.specs.Machine.{Flat, arrived, given, nobody, thread_at}
 use Rattle.code_safety.specs.Fit.{IsFit}
-use Rattle.code_safety.specs.Left.{entries_left, grown, left, operation_weight, operations_weight, parked_weight, running_weight, thread_weight}
+use Rattle.code_safety.specs.Left.{entries_left, grown, left, operation_weight, operations_weight, parked_weight, thread_weight}
 use Rattle.code_safety.proofs.Arriving.{Comes, offered, known, received, passed, within_threads}
 use Rattle.code_safety.proofs.Lives.{same_item}
 use Rattle.code_safety.proofs.Waiting.{total_between}
 use Rattle.code_safety.proofs.Weights.{one_or_two, operations_same, ready_append, ready_same, waiting_same}
 
-module _ (code : Parts) (bound : ℕ) (m : Flat) (fit : IsFit code m) (idle : m.running ≡ None) (ranks : List ℕ) (shared : Shared) (steps : shared.steps ≡ m.shared.steps) where
+module _ (code : Parts) (bound : ℕ) (m : Flat) (fit : IsFit code m) (ranks : List ℕ) (shared : Shared) (steps : shared.steps ≡ m.shared.steps) where
   abbrev Less : Flat → Type 0
   Less n = left ranks bound n < left ranks bound m
 
@@ -48,9 +49,9 @@ module _ (code : Parts) (bound : ℕ) (m : Flat) (fit : IsFit code m) (idle : m.
         on_link false = refl
 
     -- its end was still to come, and an operand more weighs nothing
-    ended_falls : (store : Store) → Less (arrived m shared (has_ended store (front ++ back) o))
-    ended_falls store =
-        let threads = slice_set m.threads o.item.number (given ok (thread_at m.threads o.item)) in
+    pub ended_falls : (value : ℤ) (store : Store) → Less (arrived m shared (has_ended_as value store (front ++ back) o))
+    ended_falls value store =
+        let threads = slice_set m.threads o.item.number (given (cell.Int value) (thread_at m.threads o.item)) in
         let a = ready_append ranks threads m.ready (o.item ∷ []) in
         let r = ready_same ranks m.threads threads m.ready (λ u some. same u) in
         let own : parked_weight ranks threads o.item ≡ parked_weight ranks m.threads o.item = ap (λ w. 1 + w) (same o.item) in
@@ -59,21 +60,21 @@ module _ (code : Parts) (bound : ℕ) (m : Flat) (fit : IsFit code m) (idle : m.
         let some = (one_or_two o).0 in
         let before = was in
         let s = steps_left in
-        let none : running_weight ranks m.current m.running ≡ 0 = ap (running_weight ranks m.current) idle in
-        omega (arith, a, r, own, q, w, some, before, s, none)
+        omega (arith, a, r, own, q, w, some, before, s)
       where
-        same : (u : Item) → thread_weight ranks (thread_at (slice_set m.threads o.item.number (given ok (thread_at m.threads o.item))) u) ≡ thread_weight ranks (thread_at m.threads u)
+        same : (u : Item) → thread_weight ranks (thread_at (slice_set m.threads o.item.number (given (cell.Int value) (thread_at m.threads o.item))) u) ≡ thread_weight ranks (thread_at m.threads u)
         same u = elim (cases_eq o.item.number u.number) as
-            (λ _. thread_weight ranks (thread_at (slice_set m.threads o.item.number (given ok (thread_at m.threads o.item))) u) ≡ thread_weight ranks (thread_at m.threads u)) [
+            (λ _. thread_weight ranks (thread_at (slice_set m.threads o.item.number (given (cell.Int value) (thread_at m.threads o.item))) u) ≡ thread_weight ranks (thread_at m.threads u)) [
               | inl e ↦
-                  let there = within_threads code m fit idle shared front back o is in
-                  subst (λ (z : Item). thread_weight ranks (thread_at (slice_set m.threads o.item.number (given ok (thread_at m.threads o.item))) z) ≡ thread_weight ranks (thread_at m.threads z))
-                  (same_item o.item u e) (ap (thread_weight ranks) (get_or-set_same m.threads o.item.number (given ok (thread_at m.threads o.item)) nobody there))
-              | inr ne ↦ ap (thread_weight ranks) (get_or-set_other m.threads o.item.number u.number (given ok (thread_at m.threads o.item)) nobody (λ e. ne (sym e)))
+                  let there = within_threads code m fit shared front back o is in
+                  subst (λ (z : Item). thread_weight ranks (thread_at (slice_set m.threads o.item.number (given (cell.Int value) (thread_at m.threads o.item))) z) ≡ thread_weight ranks
+                  (thread_at m.threads z))
+                  (same_item o.item u e) (ap (thread_weight ranks) (get_or-set_same m.threads o.item.number (given (cell.Int value) (thread_at m.threads o.item)) nobody there))
+              | inr ne ↦ ap (thread_weight ranks) (get_or-set_other m.threads o.item.number u.number (given (cell.Int value) (thread_at m.threads o.item)) nobody (λ e. ne (sym e)))
             ]
 
   pub arrived_falls : (x : Arrival) → Comes m.store m.operations x → left ranks bound (arrived m shared x) ≤ left ranks bound m
   arrived_falls _ (offered front back o number is waits) = let f = offered_falls front back o is number waits in omega (arith, f)
-  arrived_falls _ (known front back o is) = let f = ended_falls front back o is m.store in omega (arith, f)
-  arrived_falls _ (received front back o place value is asks) = let f = ended_falls front back o is (with_int_at m.store place 0 value) in omega (arith, f)
-  arrived_falls _ (passed front back o is) = let s = steps_left in omega (arith, s)
+  arrived_falls _ (known front back o is) = let f = ended_falls front back o is ok m.store in omega (arith, f)
+  arrived_falls _ (received front back o place value is asks) = let f = ended_falls front back o is ok (with_int_at m.store place 0 value) in omega (arith, f)
+  arrived_falls _ passed = let s = steps_left in omega (arith, s)

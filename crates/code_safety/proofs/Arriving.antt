@@ -18,7 +18,7 @@ use Rattle.cancel_scope.specs.declared.operation.Asked.TheVariants as asked
 use Rattle.cancel_scope.specs.declared.operation.Operation.{Operation}
 use Rattle.cancel_scope.specs.Outstanding.{carries, change_first, is_offered, is_send, is_to_offer, is_to_receive, is_waiting, offered_as, without_first}
 use Rattle.core_state.specs.Arrivals as arrivals
-use Rattle.core_state.specs.Arrivals.{Arrival, ends_known, ends_received, goes_on_waiting, has_ended, offers, offers_on, passes_over, with_message}
+use Rattle.core_state.specs.Arrivals.{Arrival, ends_known, ends_received, goes_on_waiting, has_ended, keeps_room, offers, offers_on, passes_over, gives_room, with_message}
 use Rattle.core_state.specs.Shared.{Shared}
 use Rattle.stack_code.specs.declared.shape.Kind.{Kind}
 use Rattle.stack_code.specs.declared.shape.Kind.TheVariants as kind
@@ -42,7 +42,7 @@ pub data Comes (store : Store) (os : List Operation) : Arrival → Type 0 where
   known : (front back : List Operation) (o : Operation) → os ≡ front ++ o ∷ back → Comes store os (has_ended store (front ++ back) o)
   received : (front back : List Operation) (o : Operation) (place : Place) (value : ℤ) → os ≡ front ++ o ∷ back → o.asked ≡ asked.Recv place
       → Comes store os (has_ended (with_int_at store place 0 value) (front ++ back) o)
-  passed : (front back : List Operation) (o : Operation) → os ≡ front ++ o ∷ back → Comes store os (goes_on_waiting store os)
+  passed : Comes store os (goes_on_waiting store os)
 
 module _ (store : Store) (os : List Operation) (x : Arrival) where
   offers_come : (link number : ℕ) (payload : Payload) (o : Option Operation) → find (is_to_offer link) os ≡ o → offers store os link number payload o ≡ Some x → Comes store os x
@@ -82,9 +82,12 @@ module _ (store : Store) (os : List Operation) (x : Arrival) where
   passed_comes : (link : ℕ) (o : Option Operation) → find (is_to_receive link) os ≡ o → passes_over store os o ≡ Some x → Comes store os x
   passed_comes link None e h = let no : None ≡ Some x = h in absurd (cc)
   passed_comes link (Some o) e h =
-      let f = found_at (is_to_receive link) os o e in
       let same : goes_on_waiting store os ≡ x = cc in
-      subst (Comes store os) same (passed f.front f.back o f.is)
+      subst (Comes store os) same passed
+
+  room_comes : (keeps : Bool) → gives_room store os keeps ≡ Some x → Comes store os x
+  room_comes true h = let same : goes_on_waiting store os ≡ x = cc in subst (Comes store os) same passed
+  room_comes false h = let no : None ≡ Some x = h in absurd (cc)
 
   pub comes_of : (past : List Entry) (v : Event) → arrivals.arrives past store os v ≡ Some x → Comes store os x
   comes_of past (event.Offer link number payload) h = go (nat_eq number (offers_on link past)) h
@@ -95,6 +98,7 @@ module _ (store : Store) (os : List Operation) (x : Arrival) where
   comes_of past (event.Know link number) h = known_comes link number (find (is_offered link number) os) refl h
   comes_of past (event.Got link number value) h = received_comes link value (find (is_to_receive link) os) refl h
   comes_of past (event.Pass link number) h = passed_comes link (find (is_to_receive link) os) refl h
+  comes_of past (event.Room link number) h = room_comes (keeps_room link number past) h
   comes_of past v h = let no : None ≡ Some x = h in absurd (cc)
 
 -- ---- another int in the place of the one that is awaited
@@ -126,12 +130,9 @@ module _ (code : Parts) (births : List Birth) (s : Store) (blocks : List (Option
 
 -- ---- the state
 
-module _ (code : Parts) (m : Flat) (fit : IsFit code m) (idle : m.running ≡ None) (shared : Shared) (front back : List Operation) (o : Operation) (is : m.operations ≡ front ++ o ∷ back) where
+module _ (code : Parts) (m : Flat) (fit : IsFit code m) (shared : Shared) (front back : List Operation) (o : Operation) (is : m.operations ≡ front ++ o ∷ back) where
   abbrev t : Item
   t = o.item
-
-  not_running : (u : Item) → m.running ≡ Some u → ⊥
-  not_running u e = let no : None ≡ Some u = sym idle ∙ e in cc
 
   asks_here : All (λ (p : Operation). IsAsked code fit.births p.asked) (front ++ o ∷ back)
   asks_here = subst (All (λ (p : Operation). IsAsked code fit.births p.asked)) is fit.asks
@@ -144,6 +145,16 @@ module _ (code : Parts) (m : Flat) (fit : IsFit code m) (idle : m.running ≡ No
 
   split : (u : ℕ) → occurs u (items_of m.operations) ≡ one_at u t + occurs u (items_of (front ++ back))
   split u = ap (λ os. occurs u (items_of os)) is ∙ occurs_between u front back o
+
+  -- its thread waits, and does not run
+  not_running : m.running ≡ Some t → ⊥
+  not_running e =
+      let l = fit.listed t.number in
+      let r : runs t.number m.running ≡ one_at t.number t = ap (runs t.number) e in
+      let k = split t.number in
+      let one = one_same t.number in
+      let most = one_at_most (is_going (life_at fit.lives t).phase) in
+      omega (arith, l, r, k, one, most)
 
   offered_fit : (number : ℕ) → IsFit code (arrived m shared (goes_on_waiting m.store (front ++ offered_as number o ∷ back)))
   offered_fit number = record {
@@ -168,10 +179,9 @@ module _ (code : Parts) (m : Flat) (fit : IsFit code m) (idle : m.running ≡ No
 
   -- ---- its end
 
-  listed_here : (u : ℕ) → occurs u m.ready + (one_at u t + occurs u (items_of (front ++ back))) ≡ one_if (is_going (life_at fit.lives (record { number = u })).phase)
+  listed_here : (u : ℕ) → runs u m.running + (occurs u m.ready + (one_at u t + occurs u (items_of (front ++ back)))) ≡ one_if (is_going (life_at fit.lives (record { number = u })).phase)
   listed_here u =
-      let l : 0 + (occurs u m.ready + occurs u (items_of m.operations)) ≡ one_if (is_going (life_at fit.lives (record { number = u })).phase) =
-      ap (λ r. runs u r + (occurs u m.ready + occurs u (items_of m.operations))) (sym idle) ∙ fit.listed u in
+      let l = fit.listed u in
       let k = split u in
       omega (arith, l, k)
 
@@ -205,7 +215,7 @@ module _ (code : Parts) (m : Flat) (fit : IsFit code m) (idle : m.running ≡ No
   waits = thread_at m.threads t
 
   will_be : (life_at fit.lives t).thread ≡ given no_int waits
-  will_be = sym (fit.parked t living (not_running t)) ∙ ap (λ os. going_on os t waits) is ∙ waits_for_it t waits front back o refl
+  will_be = sym (fit.parked t living not_running) ∙ ap (λ os. going_on os t waits) is ∙ waits_for_it t waits front back o refl
 
   module _ (store : Store) (keeps : KeepsStore code fit.births m.store store) (v : ℤ) where
     abbrev was : Life
@@ -263,18 +273,23 @@ module _ (code : Parts) (m : Flat) (fit : IsFit code m) (idle : m.running ≡ No
       listed = listed;
       asks = asks_others;
       many = length-set fit.lives t.number now ∙ fit.many ∙ sym (length-set m.threads t.number (given (cell.Int v) waits));
-      current = λ u e. absurd (not_running u e);
+      current = current;
       parked = parked;
     }
       where
+        current : (u : Item) → m.running ≡ Some u → m.current ≡ (life_at lives u).thread
+        current u e = elim (life_cases fit.lives t u now within) as (λ _. m.current ≡ (life_at lives u).thread) [
+          | inl p ↦ absurd (not_running (e ∙ ap (λ z. Some z) (sym p.0)))
+          | inr p ↦ fit.current u e ∙ sym (ap (λ (z : Life). z.thread) p.1)
+        ]
+
         listed : (u : ℕ) → runs u m.running + (occurs u (m.ready ++ t ∷ []) + occurs u (items_of (front ++ back))) ≡ one_if (is_going (life_at lives (record { number = u })).phase)
         listed u =
             let l = listed_here u in
-            let none : runs u m.running ≡ 0 = ap (runs u) idle in
             let a : occurs u (m.ready ++ t ∷ []) ≡ occurs u m.ready + (one_at u t + 0) = occurs_append u m.ready (t ∷ []) in
             let p : one_if (is_going (life_at lives (record { number = u })).phase) ≡ one_if (is_going (life_at fit.lives (record { number = u })).phase) =
             ap (λ p. one_if (is_going p)) (phase_same (record { number = u })) in
-            omega (arith, l, none, a, p)
+            omega (arith, l, a, p)
 
         parked : (u : Item) → is_living (life_at lives u).phase ≡ true → (m.running ≡ Some u → ⊥)
             → going_on (front ++ back) u (thread_at (slice_set m.threads t.number (given (cell.Int v) waits)) u) ≡ (life_at lives u).thread
@@ -293,7 +308,7 @@ module _ (code : Parts) (m : Flat) (fit : IsFit code m) (idle : m.running ≡ No
 
 -- ---- what comes in
 
-module _ (code : Parts) (m : Flat) (fit : IsFit code m) (idle : m.running ≡ None) (one : HasOneUse code) (shared : Shared) where
+module _ (code : Parts) (m : Flat) (fit : IsFit code m) (one : HasOneUse code) (shared : Shared) where
   passed_fit : IsFit code (arrived m shared (goes_on_waiting m.store m.operations))
   passed_fit = record {
     births = fit.births;
@@ -311,10 +326,10 @@ module _ (code : Parts) (m : Flat) (fit : IsFit code m) (idle : m.running ≡ No
   }
 
   pub arrived_fit : (x : Arrival) → Comes m.store m.operations x → IsFit code (arrived m shared x)
-  arrived_fit _ (passed front back o is) = passed_fit
-  arrived_fit _ (offered front back o number is waiting) = offered_fit code m fit idle shared front back o is number
-  arrived_fit _ (known front back o is) = ended_fit code m fit idle shared front back o is m.store (same_store code fit.births m.store fit.store) (pos 0)
+  arrived_fit _ passed = passed_fit
+  arrived_fit _ (offered front back o number is waiting) = offered_fit code m fit shared front back o is number
+  arrived_fit _ (known front back o is) = ended_fit code m fit shared front back o is m.store (same_store code fit.births m.store fit.store) (pos 0)
   arrived_fit _ (received front back o place value is asks) =
-      let a : IsAsked code fit.births (asked.Recv place) = subst (IsAsked code fit.births) asks (its_asked code m fit idle shared front back o is) in
+      let a : IsAsked code fit.births (asked.Recv place) = subst (IsAsked code fit.births) asks (its_asked code m fit shared front back o is) in
       let some : 0 < place.len = let k = a.single refl in omega (arith, k) in
-      ended_fit code m fit idle shared front back o is (with_int_at m.store place 0 value) (set_element_at code fit.births m.store one fit.store true place 0 value some a) (pos 0)
+      ended_fit code m fit shared front back o is (with_int_at m.store place 0 value) (set_element_at code fit.births m.store one fit.store true place 0 value some a) (pos 0)

@@ -59,7 +59,7 @@ module _ (code : Parts) (bound : ℕ) (m : Flat) (v : IsValid code) (fit : IsFit
 
   module _ (slot : ℕ) (ways : Goes code place s (place + 1) (entered slot s)) where
     abbrev new : Block
-    new = record { parent = m.current.block; owner = t; count = 0; waits = false }
+    new = record { parent = m.current.block; owner = t; count = 0; waits = false; cancelled = false }
 
     abbrev b : BlockId
     b = record { number = length m.blocks }

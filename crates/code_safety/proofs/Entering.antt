@@ -62,7 +62,7 @@ module _ (code : Parts) (bound : ℕ) (m : Flat) (fit : IsFit code m) (t : Item)
   b = record { number = length m.blocks }
 
   abbrev new : Block
-  new = record { parent = m.current.block; owner = t; count = 0; waits = false }
+  new = record { parent = m.current.block; owner = t; count = 0; waits = false; cancelled = false }
 
   abbrev blocks : List (Option Block)
   blocks = m.blocks ++ Some new ∷ []

@@ -34,13 +34,13 @@ use Rattle.code_safety.specs.Fit.{IsThread, Phase, Gone, Going, AtFinish, life_a
 use Rattle.code_safety.specs.Left.{grown, at_weight, callers_weight, thread_weight, parked_weight, ready_weight, operation_weight, operations_weight, owner_weight, waiting_weight}
 use Rattle.code_safety.specs.Left.{running_weight, left}
 use Rattle.code_safety.proofs.Taken.{on_some_is, if_is, if_not_is, after_is}
-use Rattle.code_safety.proofs.Plain.{Onward, Next, Spends, one, none, trap_on, top_on, many_on}
+use Rattle.code_safety.proofs.Plain.{Onward, Next, Spends, one, none, trap_on, top_on, many_on, asks_on}
 use Rattle.code_safety.proofs.Lives.{same_item, living_within, total_set, total_append}
 use Rattle.code_safety.proofs.Making.{there_within}
 use Rattle.code_safety.proofs.Own.{phase_of, within_of, thread_of}
 use Rattle.code_safety.proofs.Calling.{call_enough, return_top}
 use Rattle.code_safety.proofs.Finishing.{arrival}
-use Rattle.code_safety.proofs.Operating.{Operates, operating}
+use Rattle.code_safety.proofs.Operating.{Operates, operating, given_value, value_next}
 use Rattle.code_safety.proofs.Starting.{starting}
 use Rattle.code_safety.proofs.Dying.{leaving}
 use Rattle.code_safety.proofs.Turns.{resting, running_once, running_free, front_goes, front_once}
@@ -223,7 +223,7 @@ module _ (code : Parts) (bound : ℕ) (m : Flat) (fit : IsFit code m) (v : IsVal
         let goes : Goes code place s (place + 1) (entered slot s) =
         record { fits = record { instr = i.Enter slot; leads = One (place + 1) (entered slot s); here = here; finds = on }; leads = (refl, refl) } in
         let lt = one_falls (i.Enter slot) here (λ e. cc) (place + 1) (entered slot s) goes in
-        let new : Block = record { parent = m.current.block; owner = t; count = 0; waits = false } in
+        let new : Block = record { parent = m.current.block; owner = t; count = 0; waits = false; cancelled = false } in
         let w : waiting_weight ranks m.threads (m.blocks ++ Some new ∷ []) ≡ waiting_weight ranks m.threads m.blocks + (0 + 0) = total_append (owner_weight ranks m.threads) m.blocks (Some new ∷ []) in
         let c = runs_now in
         let r : running_weight ranks (record m.current { place = place + 1; block = Some (record { number = length m.blocks }) }) m.running ≡ at_weight ranks
@@ -301,13 +301,17 @@ module _ (code : Parts) (bound : ℕ) (m : Flat) (fit : IsFit code m) (v : IsVal
         → Onward Less (begin code bound m t (Some (i.Send channel)))
     send_falls channel leads here finds =
         let z = operating code bound m fit t run want.Int (i.Send channel) channel leads here refl finds in
-        top_on Less m _ m.current.operands z.top z.below z.is (operates_falls want.Int (i.Send channel) here (λ e. cc) z channel (asked.Send (int_in z.top)))
+        top_on Less m _ m.current.operands z.top z.below z.is (asks_on Less m t channel (asked.Send (int_in z.top)) z.below
+        (plain_falls (i.Send channel) here (given_value code bound m fit t run want.Int (i.Send channel) z (λ e. cc)) (value_next code bound m fit t run want.Int (i.Send channel) z (λ e. cc)))
+        (operates_falls want.Int (i.Send channel) here (λ e. cc) z channel (asked.Send (int_in z.top))))
 
     pub receive_falls : (channel : ℕ) (leads : Leads) → slice_get code.instrs place ≡ Some (i.Recv channel) → effect code place (i.Recv channel) s ≡ Some leads
         → Onward Less (begin code bound m t (Some (i.Recv channel)))
     receive_falls channel leads here finds =
         let z = operating code bound m fit t run want.One (i.Recv channel) channel leads here refl finds in
-        top_on Less m _ m.current.operands z.top z.below z.is (operates_falls want.One (i.Recv channel) here (λ e. cc) z channel (asked.Recv (place_in z.top)))
+        top_on Less m _ m.current.operands z.top z.below z.is (asks_on Less m t channel (asked.Recv (place_in z.top)) z.below
+        (plain_falls (i.Recv channel) here (given_value code bound m fit t run want.One (i.Recv channel) z (λ e. cc)) (value_next code bound m fit t run want.One (i.Recv channel) z (λ e. cc)))
+        (operates_falls want.One (i.Recv channel) here (λ e. cc) z channel (asked.Recv (place_in z.top))))
 
     -- ---- an arrival
 

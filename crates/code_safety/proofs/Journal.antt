@@ -1,6 +1,6 @@
 -- No instruction concerns the journal; a run goes the same way where one more entry is still to come, and that entry is the next to come in.
 use Rattle.std.proofs.Common.{◌≡◌, ℕ, zero, suc, ◌+◌, ◌≤◌, List, [], ◌∷◌, ◌++◌, length, map, Option, Some, None, Result, Ok, Err, Bool, true, false, refl, sym, ap, ◌∙◌, subst, arith}
-use Rattle.std.specs.Prelude.{ℤ, reverse, take, drop, replicate, nat_le, nat_lt, nat_eq, slice_get, ◌&&◌, ◌^◌, ◌-◌, if◌then◌else◌, slice_set}
+use Rattle.std.specs.Prelude.{ℤ, find, reverse, take, drop, replicate, nat_le, nat_lt, nat_eq, slice_get, ◌&&◌, ◌^◌, ◌-◌, if◌then◌else◌, slice_set}
 use Rattle.std.proofs.lemmas.Bool.{eqb-true, eq-eqb}
 use Rattle.ac_base.specs.declared.ends.Trap.{Trap}
 use Rattle.ac_base.specs.declared.ends.Trap.TheVariants.{OutputFull}
@@ -10,13 +10,20 @@ use Rattle.work_item.specs.declared.ids.Item.{Item}
 use Rattle.work_item.specs.declared.ids.BlockId.{BlockId}
 use Rattle.work_item.specs.declared.cell.Cell.{Cell}
 use Rattle.work_item.specs.declared.cell.Cell.TheVariants as cell
-use Rattle.work_item.specs.Store.{Store, int_in, place_in, no_int, released}
+use Rattle.work_item.specs.Store.{Store, cell_at, int_in, place_in, no_int, released}
 use Rattle.core_state.specs.Moves.{Move, On, Over, moves, and_then, GoesOn}
 use Rattle.core_state.specs.Arithmetic.{Computed, negated, not_true, flipped, truth, sum_of, difference_of, product_of, quotient, remainder}
 use Rattle.core_state.specs.Arithmetic.{shifted_left, shifted_right, is_equal, is_not_equal, is_less, is_at_most, both_bits, either_bits, differing_bits}
-use Rattle.core_state.specs.Frames.{element, set_element, part_at, begun, begun_with, first_store}
+use Rattle.core_state.specs.Frames.{element, set_element, part_at, begun, begun_with, first_store, block_in}
 use Rattle.core_state.specs.Arrivals as arrivals
-use Rattle.core_state.specs.Arrivals.{Arrival, at_point, comes_in, ok}
+use Rattle.cancel_scope.specs.declared.operation.Asked.{Asked}
+use Rattle.cancel_scope.specs.declared.operation.Asked.TheVariants as asked
+use Rattle.cancel_scope.specs.declared.operation.Operation.{Operation}
+use Rattle.cancel_scope.specs.declared.operation.Progress.{Progress}
+use Rattle.cancel_scope.specs.declared.operation.Progress.TheVariants.{Waiting, Offered}
+use Rattle.cancel_scope.specs.Outstanding.{without_first}
+use Rattle.core_state.specs.Arrivals.{Arrival, at_point, comes_in, has_ended_as}
+use Rattle.core_state.specs.Cancelling.{outcome, ends_by, decided, tried, tries}
 use Rattle.core_state.specs.Shared.{Shared, first_shared, begins_with, with_entry, with_step, with_turn, printed, formatted, output_limit, seen}
 use Rattle.core_state.proofs.Runs.{GoesOn-more}
 use Rattle.stack_code.specs.declared.instr.Instr.{Instr}
@@ -41,6 +48,11 @@ pub record KeepsJournal (before after : Shared) : Type 0 where
   pub past : after.past ≡ before.past
   pub todo : after.todo ≡ before.todo
   pub turn : after.turn ≡ before.turn
+
+-- only a cancel takes entries of the journal
+abbrev pub is_cancel : Option Instr → Bool
+is_cancel (Some (i.Cancel level slot)) = true
+is_cancel _ = false
 
 -- a move leads on just as with that entry, and keeps the journal
 abbrev pub Too : Entry → Flat → Move Flat FlatEnd → Move Flat FlatEnd → Type 0
@@ -133,6 +145,13 @@ module _ (e : Entry) (m : Flat) where
       by None = (refl, kept)
       by (Some x) = out (nat_eq x.count 1 && x.waits) x
 
+  asks_too : (t : Item) (link : ℕ) (a : Asked) (below : List Cell) → T (flat.asks m t link a below) (flat.asks m' t link a below)
+  asks_too t link a below = by (flat.is_cancelled m.blocks m.current.block)
+    where
+      by : (b : Bool) → T (flat.asks_in b m t link a below) (flat.asks_in b m' t link a below)
+      by true = (refl, kept)
+      by false = (refl, kept)
+
   module _ (code : Parts) (bound : ℕ) (t : Item) where
     step_too : T (begin code bound m t (Some i.Step)) (begin code bound m' t (Some i.Step))
     step_too = by (nat_lt m.shared.steps bound) (flat.ends (flat.seen_of word.OutOfSteps false m) m.count) (flat.ends (flat.seen_of word.OutOfSteps false m') m.count) tt
@@ -142,57 +161,57 @@ module _ (e : Entry) (m : Flat) where
         by true x y h = (refl, record { past = refl; todo = refl; turn = refl })
         by false x y h = h
 
-    pub begin_too : (o : Option Instr) → T (begin code bound m t o) (begin code bound m' t o)
-    begin_too None = (refl, kept)
-    begin_too (Some i.Step) = step_too
-    begin_too (Some (i.Push v)) = (refl, kept)
-    begin_too (Some (i.Load level slot)) = (refl, kept)
-    begin_too (Some (i.LoadG slot)) = (refl, kept)
-    begin_too (Some (i.Store level slot)) = top_too _ _ m.current.operands (λ x below. (refl, kept))
-    begin_too (Some (i.StoreG slot)) = top_too _ _ m.current.operands (λ x below. (refl, kept))
-    begin_too (Some (i.Arr level slot len)) = (refl, kept)
-    begin_too (Some (i.ArrG slot len)) = (refl, kept)
-    begin_too (Some i.Elem) = two_too _ _ m.current.operands (λ x y below. trap_too (element m.store (place_in x) (int_in y)) _ _ (λ v. (refl, kept)))
-    begin_too (Some i.SetElem) = three_too _ _ m.current.operands (λ x y z below. trap_too (set_element m.store (place_in y) (int_in z) (int_in x)) _ _ (λ v. (refl, kept)))
-    begin_too (Some i.Place) = two_too _ _ m.current.operands (λ x y below. trap_too (part_at (place_in x) (int_in y)) _ _ (λ v. (refl, kept)))
-    begin_too (Some (i.Clear slot len)) = (refl, kept)
-    begin_too (Some i.Neg) = one_too negated
-    begin_too (Some i.Not) = one_too not_true
-    begin_too (Some i.Flip) = one_too flipped
-    begin_too (Some i.Bool) = one_too truth
-    begin_too (Some i.BitOr) = two_ints_too (always either_bits)
-    begin_too (Some i.BitXor) = two_ints_too (always differing_bits)
-    begin_too (Some i.BitAnd) = two_ints_too (always both_bits)
-    begin_too (Some i.Eq) = two_ints_too (always is_equal)
-    begin_too (Some i.Ne) = two_ints_too (always is_not_equal)
-    begin_too (Some i.Less) = two_ints_too (always is_less)
-    begin_too (Some i.LessEq) = two_ints_too (always is_at_most)
-    begin_too (Some i.More) = two_ints_too (always (λ x y. is_less y x))
-    begin_too (Some i.MoreEq) = two_ints_too (always (λ x y. is_at_most y x))
-    begin_too (Some i.Shl) = two_ints_too (always shifted_left)
-    begin_too (Some i.Shr) = two_ints_too (always shifted_right)
-    begin_too (Some i.Add) = two_ints_too (always sum_of)
-    begin_too (Some i.Sub) = two_ints_too (always difference_of)
-    begin_too (Some i.Mul) = two_ints_too (always product_of)
-    begin_too (Some i.Div) = two_ints_too quotient
-    begin_too (Some i.Rem) = two_ints_too remainder
-    begin_too (Some i.Drop) = top_too _ _ m.current.operands (λ x below. (refl, kept))
-    begin_too (Some (i.Jump to)) = (refl, kept)
-    begin_too (Some (i.Jz to)) = top_too _ _ m.current.operands (λ x below. (refl, kept))
-    begin_too (Some (i.Jnz to)) = top_too _ _ m.current.operands (λ x below. (refl, kept))
-    begin_too (Some (i.Print text count)) = many_too count _ _ m.current.operands (λ args below. print_too (formatted (text_at code text) (map int_in args)) below)
-    begin_too (Some (i.Call function count)) = many_too count _ _ m.current.operands (λ args below. calls_too (slice_get code.functions function) args below)
-    begin_too (Some i.Ret) = top_too _ _ m.current.operands (λ x below. returns_too (cell.Int (int_in x)) m.current.callers)
-    begin_too (Some (i.Enter slot)) = (refl, kept)
-    begin_too (Some (i.Finish slot)) = arrives_too t m.current.block
-    begin_too (Some (i.Async slots to)) = trap_too (begun m.store (Some m.current.frame) (replicate slots no_int)) _ _ (λ store. (refl, kept))
-    begin_too (Some i.End) = dies_too (released m.store m.current.frame) t m.current.block
-    begin_too (Some (i.Cancel level slot)) = (refl, kept)
-    begin_too (Some i.Yield) = (refl, kept)
-    begin_too (Some (i.Send channel)) = top_too _ _ m.current.operands (λ x below. (refl, kept))
-    begin_too (Some (i.Recv channel)) = top_too _ _ m.current.operands (λ x below. (refl, kept))
-    begin_too (Some (i.Read file)) = (refl, kept)
-    begin_too (Some (i.Write file)) = (refl, kept)
+    pub begin_too : (o : Option Instr) → is_cancel o ≡ false → T (begin code bound m t o) (begin code bound m' t o)
+    begin_too None p = (refl, kept)
+    begin_too (Some i.Step) p = step_too
+    begin_too (Some (i.Push v)) p = (refl, kept)
+    begin_too (Some (i.Load level slot)) p = (refl, kept)
+    begin_too (Some (i.LoadG slot)) p = (refl, kept)
+    begin_too (Some (i.Store level slot)) p = top_too _ _ m.current.operands (λ x below. (refl, kept))
+    begin_too (Some (i.StoreG slot)) p = top_too _ _ m.current.operands (λ x below. (refl, kept))
+    begin_too (Some (i.Arr level slot len)) p = (refl, kept)
+    begin_too (Some (i.ArrG slot len)) p = (refl, kept)
+    begin_too (Some i.Elem) p = two_too _ _ m.current.operands (λ x y below. trap_too (element m.store (place_in x) (int_in y)) _ _ (λ v. (refl, kept)))
+    begin_too (Some i.SetElem) p = three_too _ _ m.current.operands (λ x y z below. trap_too (set_element m.store (place_in y) (int_in z) (int_in x)) _ _ (λ v. (refl, kept)))
+    begin_too (Some i.Place) p = two_too _ _ m.current.operands (λ x y below. trap_too (part_at (place_in x) (int_in y)) _ _ (λ v. (refl, kept)))
+    begin_too (Some (i.Clear slot len)) p = (refl, kept)
+    begin_too (Some i.Neg) p = one_too negated
+    begin_too (Some i.Not) p = one_too not_true
+    begin_too (Some i.Flip) p = one_too flipped
+    begin_too (Some i.Bool) p = one_too truth
+    begin_too (Some i.BitOr) p = two_ints_too (always either_bits)
+    begin_too (Some i.BitXor) p = two_ints_too (always differing_bits)
+    begin_too (Some i.BitAnd) p = two_ints_too (always both_bits)
+    begin_too (Some i.Eq) p = two_ints_too (always is_equal)
+    begin_too (Some i.Ne) p = two_ints_too (always is_not_equal)
+    begin_too (Some i.Less) p = two_ints_too (always is_less)
+    begin_too (Some i.LessEq) p = two_ints_too (always is_at_most)
+    begin_too (Some i.More) p = two_ints_too (always (λ x y. is_less y x))
+    begin_too (Some i.MoreEq) p = two_ints_too (always (λ x y. is_at_most y x))
+    begin_too (Some i.Shl) p = two_ints_too (always shifted_left)
+    begin_too (Some i.Shr) p = two_ints_too (always shifted_right)
+    begin_too (Some i.Add) p = two_ints_too (always sum_of)
+    begin_too (Some i.Sub) p = two_ints_too (always difference_of)
+    begin_too (Some i.Mul) p = two_ints_too (always product_of)
+    begin_too (Some i.Div) p = two_ints_too quotient
+    begin_too (Some i.Rem) p = two_ints_too remainder
+    begin_too (Some i.Drop) p = top_too _ _ m.current.operands (λ x below. (refl, kept))
+    begin_too (Some (i.Jump to)) p = (refl, kept)
+    begin_too (Some (i.Jz to)) p = top_too _ _ m.current.operands (λ x below. (refl, kept))
+    begin_too (Some (i.Jnz to)) p = top_too _ _ m.current.operands (λ x below. (refl, kept))
+    begin_too (Some (i.Print text count)) p = many_too count _ _ m.current.operands (λ args below. print_too (formatted (text_at code text) (map int_in args)) below)
+    begin_too (Some (i.Call function count)) p = many_too count _ _ m.current.operands (λ args below. calls_too (slice_get code.functions function) args below)
+    begin_too (Some i.Ret) p = top_too _ _ m.current.operands (λ x below. returns_too (cell.Int (int_in x)) m.current.callers)
+    begin_too (Some (i.Enter slot)) p = (refl, kept)
+    begin_too (Some (i.Finish slot)) p = arrives_too t m.current.block
+    begin_too (Some (i.Async slots to)) p = trap_too (begun m.store (Some m.current.frame) (replicate slots no_int)) _ _ (λ store. (refl, kept))
+    begin_too (Some i.End) p = dies_too (released m.store m.current.frame) t m.current.block
+    begin_too (Some (i.Cancel level slot)) p = let no : true ≡ false = p in absurd (cc)
+    begin_too (Some i.Yield) p = (refl, kept)
+    begin_too (Some (i.Send channel)) p = top_too _ _ m.current.operands (λ x below. asks_too t channel (asked.Send (int_in x)) below)
+    begin_too (Some (i.Recv channel)) p = top_too _ _ m.current.operands (λ x below. asks_too t channel (asked.Recv (place_in x)) below)
+    begin_too (Some (i.Read file)) p = (refl, kept)
+    begin_too (Some (i.Write file)) p = (refl, kept)
 
 -- ---- a move
 
@@ -256,8 +275,8 @@ module _ (code : Parts) (bound : ℕ) (e : Entry) where
     enters_follows first rest (Some x) = by x.woken
       where
         by : (o : Option Item) → Follows e m.shared.turn
-            (On (resumed (record m { shared = with_entry m.shared first rest; store = x.store; operations = x.operations }) ok o))
-            (On (resumed (record m { shared = with_entry (more_shared e m.shared) first (rest ++ e ∷ []); store = x.store; operations = x.operations }) ok o))
+            (On (resumed (record m { shared = with_entry m.shared first rest; store = x.store; operations = x.operations }) (cell.Int x.value) o))
+            (On (resumed (record m { shared = with_entry (more_shared e m.shared) first (rest ++ e ∷ []); store = x.store; operations = x.operations }) (cell.Int x.value) o))
         by None = (omega arith, λ le. refl)
         by (Some t) = (omega arith, λ le. refl)
 
@@ -278,12 +297,72 @@ module _ (code : Parts) (bound : ℕ) (e : Entry) where
         by true = enters_follows first rest (arrivals.arrives m.shared.past m.store m.operations first.event)
         by false = follows_from e m.shared.turn (m.shared.turn + 1) (dispatched m m.ready) (dispatched more m.ready) (omega arith) (dispatched_follows m.ready)
 
+  -- ---- a cancel
+
+  module _ (m : Flat) (block : BlockId) where
+    abbrev after : Flat
+    after = more_to_come e m
+
+    abbrev inside : Operation → Bool
+    inside = flat.is_inside m block
+
+    abbrev pub made : ℤ → Operation → Arrival
+    made value o = has_ended_as value m.store (without_first inside m.operations) o
+
+    -- an operation ends with this value, after so many entries
+    ends_follow : (o : Operation) (value : ℤ) (s : Shared) → s.turn ≡ m.shared.turn
+        → Follows e m.shared.turn (On (arrived (flat.marked m block) s (made value o))) (On (arrived (flat.marked after block) (more_shared e s) (made value o)))
+    ends_follow o value s same = (omega (arith, same), λ le. refl)
+
+    outcome_follows : (o : Operation) (first : Entry) (rest : List Entry) (r : Option ℤ) → Follows e m.shared.turn
+        (ends_by (told (flat.counted m.count)) (λ value. On (arrived (flat.marked m block) (with_entry m.shared first rest) (made value o))) r)
+        (ends_by (told (flat.counted m.count)) (λ value. On (arrived (flat.marked after block) (with_entry (more_shared e m.shared) first (rest ++ e ∷ [])) (made value o))) r)
+    outcome_follows o first rest None = tt
+    outcome_follows o first rest (Some value) = ends_follow o value (with_entry m.shared first rest) refl
+
+    decided_follows : (o : Operation) (number : ℕ) (todo : List Entry) → Follows e m.shared.turn
+        (decided (told (flat.counted m.count)) m.shared m.store.globals m.operations o.link number (λ s value. On (arrived (flat.marked m block) s (made value o))) todo)
+        (decided (told (flat.counted m.count)) (more_shared e m.shared) m.store.globals m.operations o.link number (λ s value. On (arrived (flat.marked after block) s (made value o)))
+        (todo ++ e ∷ []))
+    decided_follows o number [] = tt
+    decided_follows o number (first ∷ rest) = by (nat_eq first.turn m.shared.turn)
+      where
+        by : (b : Bool) → Follows e m.shared.turn
+            (if b then ends_by (told (flat.counted m.count)) (λ value. On (arrived (flat.marked m block) (with_entry m.shared first rest) (made value o))) (outcome o.link number first.event)
+            else Over (told (flat.counted m.count) None))
+            (if b
+            then ends_by (told (flat.counted m.count)) (λ value. On (arrived (flat.marked after block) (with_entry (more_shared e m.shared) first (rest ++ e ∷ [])) (made value o)))
+            (outcome o.link number first.event)
+            else Over (told (flat.counted m.count) None))
+        by true = outcome_follows o first rest (outcome o.link number first.event)
+        by false = tt
+
+    tried_follows : (o : Operation) (p : Progress) → Follows e m.shared.turn
+        (tried (told (flat.counted m.count)) m.shared m.store.globals m.operations o.link p (λ s value. On (arrived (flat.marked m block) s (made value o))))
+        (tried (told (flat.counted m.count)) (more_shared e m.shared) m.store.globals m.operations o.link p (λ s value. On (arrived (flat.marked after block) s (made value o))))
+    tried_follows o Waiting = ends_follow o arrivals.cancelled m.shared refl
+    tried_follows o (Offered number) = decided_follows o number m.shared.todo
+
+    calls_off_follows : Follows e m.shared.turn (flat.calls_off m block) (flat.calls_off after block)
+    calls_off_follows = by (find inside m.operations)
+      where
+        by : (r : Option Operation) → Follows e m.shared.turn
+            (tries (told (flat.counted m.count)) m.shared m.store m.operations inside (λ s x. On (arrived (flat.marked m block) s x)) (flat.goes (flat.marked m block) m.current.operands) r)
+            (tries (told (flat.counted m.count)) (more_shared e m.shared) m.store m.operations inside (λ s x. On (arrived (flat.marked after block) s x))
+            (flat.goes (flat.marked after block) m.current.operands) r)
+        by None = (omega arith, λ le. refl)
+        by (Some o) = tried_follows o o.progress
+
+  begin_follows : (m : Flat) (t : Item) (o : Option Instr) → Follows e m.shared.turn (begin code bound m t o) (begin code bound (more_to_come e m) t o)
+  begin_follows m t (Some (i.Cancel level slot)) = calls_off_follows m (block_in (cell_at m.store m.current.frame level slot))
+  begin_follows m t o = follows_of e m (begin code bound m t o) (begin code bound (more_to_come e m) t o) (begin_too e m code bound t o refl)
+
   exec_follows : (m : Flat) → Follows e m.shared.turn (exec code bound m) (exec code bound (more_to_come e m))
   exec_follows m = by m.running
     where
       by : (o : Option Item) → Follows e m.shared.turn (exec_of code bound m o) (exec_of code bound (more_to_come e m) o)
       by None = rests_follow m m.shared.todo
-      by (Some t) = follows_of e m _ _ (begin_too e m code bound t (slice_get code.instrs m.current.place))
+      by (Some t) = begin_follows m t (slice_get code.instrs m.current.place)
 
   -- ---- so many moves
 
@@ -324,6 +403,29 @@ module _ (code : Parts) (bound : ℕ) (e : Entry) where
       go : Arrival → Move Flat FlatEnd
       go y = On (arrived (more_to_come e m) (with_entry (more_shared e m.shared) e []) y)
 
+  -- the operation that a cancel tries next stands on its link under that number
+  pub record TriesNext (m : Flat) (t : Item) (block : BlockId) (o : Operation) (number : ℕ) : Type 0 where
+    pub level : ℕ
+    pub slot : ℕ
+    pub running : m.running ≡ Some t
+    pub here : slice_get code.instrs m.current.place ≡ Some (i.Cancel level slot)
+    pub block_is : block_in (cell_at m.store m.current.frame level slot) ≡ block
+    pub found : find (flat.is_inside m block) m.operations ≡ Some o
+    pub offered : o.progress ≡ Offered number
+
+  -- at such a cancel with no entry to come, one of its turn that is the outcome is the next that comes in
+  pub decides_next : (m : Flat) (t : Item) (block : BlockId) (o : Operation) (number : ℕ) (value : ℤ) → TriesNext m t block o number → m.shared.todo ≡ [] → e.turn ≡ m.shared.turn
+      → outcome o.link number e.event ≡ Some value
+      → exec code bound (more_to_come e m) ≡ On (arrived (flat.marked m block) (with_entry m.shared e []) (made m block value o))
+  decides_next m t block o number value next none now is =
+      let found = next.found in
+      let offered = next.offered in
+      let same = eq-eqb e.turn m.shared.turn now in
+      ap (exec_of code bound (more_to_come e m)) next.running
+      ∙ ap (begin code bound (more_to_come e m) t) next.here
+      ∙ ap (flat.calls_off (more_to_come e m)) next.block_is
+      ∙ rw (found, offered, none, same, is) refl
+
   -- ---- a run
 
   module _ (function : Entered) (journal : List Entry) (m : Flat) (run : GoesOn (exec code bound) (first_flat code function journal) (On m)) where
@@ -342,3 +444,11 @@ module _ (code : Parts) (bound : ℕ) (e : Entry) where
         → GoesOn (exec code bound) longer (On (arrived m (with_entry m.shared e []) x))
     run_arrives x idle none now fits =
         subst (GoesOn (exec code bound) longer) (comes_next m x idle none now fits) (GoesOn-more (exec code bound) longer (more_to_come e m) (run_more (omega (arith, now))))
+
+    -- and where it is the outcome of an offer that a cancel tries
+    pub run_decides : (t : Item) (block : BlockId) (o : Operation) (number : ℕ) (value : ℤ) → TriesNext m t block o number → m.shared.todo ≡ [] → e.turn ≡ m.shared.turn
+        → outcome o.link number e.event ≡ Some value
+        → GoesOn (exec code bound) longer (On (arrived (flat.marked m block) (with_entry m.shared e []) (made m block value o)))
+    run_decides t block o number value next none now is =
+        subst (GoesOn (exec code bound) longer) (decides_next m t block o number value next none now is)
+        (GoesOn-more (exec code bound) longer (more_to_come e m) (run_more (omega (arith, now))))

@@ -9,6 +9,7 @@ pub mod Making
 pub mod Arguments
 pub mod Calling
 pub mod Turns
+pub mod PlainFit
 pub mod Operating
 pub mod Arriving
 pub mod Entering
@@ -37,6 +38,8 @@ pub mod NamesKept
 pub mod OwnChains
 pub mod StopChains
 pub mod BlockChains
+pub mod Marking
+pub mod CancelSafety
 pub mod TurnChains
 pub mod CallChains
 pub mod StartChains

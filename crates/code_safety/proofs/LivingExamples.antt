@@ -228,7 +228,7 @@ abbrev block : BlockId
 block = record { number = 0 }
 
 abbrev entered : Block
-entered = record { parent = None; owner = first; count = 0; waits = false }
+entered = record { parent = None; owner = first; count = 0; waits = false; cancelled = false }
 
 pub a_block_that_was_entered : HasEnteredIn (Some entered ∷ []) (outer ∷ []) first outer 1 (Some block) None
 a_block_that_was_entered = one_in 0 block entered None refl refl refl (none_in None)

@@ -8,13 +8,13 @@ use Rattle.work_item.specs.declared.ids.FrameId.{FrameId}
 use Rattle.work_item.specs.declared.ids.BlockId.{BlockId}
 use Rattle.work_item.specs.declared.cell.Cell.{Cell}
 use Rattle.work_item.specs.declared.cell.Cell.TheVariants as cell
-use Rattle.work_item.specs.Store.{Frame, frame_at, made, no_int}
+use Rattle.work_item.specs.Store.{Frame, cell_at, frame_at, made, no_int}
 use Rattle.work_item.specs.Conditions.{Lives, ParentLives, HomeLives}
 use Rattle.cancel_scope.specs.declared.operation.Asked.{Asked}
 use Rattle.cancel_scope.specs.declared.operation.Asked.TheVariants as asked
 use Rattle.cancel_scope.specs.declared.operation.Operation.{Operation}
 use Rattle.core_state.specs.Moves.{On, Over}
-use Rattle.core_state.specs.Frames.{first_store, first_frame}
+use Rattle.core_state.specs.Frames.{first_store, first_frame, block_in}
 use Rattle.core_state.specs.Shared.{Shared, with_turn, seen}
 use Rattle.stack_code.specs.declared.instr.Instr.{Instr}
 use Rattle.stack_code.specs.declared.instr.Instr.TheVariants as i
@@ -39,6 +39,7 @@ use Rattle.code_safety.proofs.LivingThreads.{waits_there, frame_goes}
 use Rattle.code_safety.proofs.LinkedFrames.{same_frame, lives_there, there_lives}
 use Rattle.code_safety.proofs.OwnChains.{plain_chained}
 use Rattle.code_safety.proofs.BlockChains.{enter_chained, finish_chained}
+use Rattle.code_safety.proofs.CancelSafety.{cancel_chained}
 use Rattle.code_safety.proofs.TurnChains.{yield_chained, turn_chained}
 use Rattle.code_safety.proofs.CallChains.{call_chained, return_chained}
 use Rattle.code_safety.proofs.StartChains.{async_chained}
@@ -68,7 +69,7 @@ module _ (code : Parts) (bound : ℕ) (m : Flat) (v : IsValid code) (meant : IsM
     by_instr (i.Async slots to) leads here finds a = async_chained code bound m v fit chained t run slots to here leads finds
     by_instr i.End leads here finds a = end_chained code bound m v fit chained t run leads finds
     by_instr i.Yield leads here finds a = yield_chained code bound m v fit chained t run here
-    by_instr (i.Cancel level slot) leads here finds a = let no : false ≡ true = a in absurd (cc)
+    by_instr (i.Cancel level slot) leads here finds a = cancel_chained code bound v m fit t run level slot here (block_in (cell_at m.store m.current.frame level slot)) chained
     by_instr (i.Send channel) leads here finds a = send_chained code bound m v fit chained t run channel leads here finds
     by_instr (i.Recv channel) leads here finds a = receive_chained code bound m v fit chained t run channel leads here finds
     by_instr (i.Read file) leads here finds a = let no : false ≡ true = a in absurd (cc)
@@ -99,7 +100,7 @@ module _ (code : Parts) (bound : ℕ) (m : Flat) (v : IsValid code) (meant : IsM
   chained_on = go m.running refl
     where
       go : (o : Option Item) → m.running ≡ o → Onward (AreChained code) (exec_of code bound m o)
-      go None e = rests_chained code m fit chained e (dispatches e m.ready refl)
+      go None e = rests_chained code m fit chained (dispatches e m.ready refl)
       go (Some t) e = runs_on t e
 
 -- ---- the first state

@@ -1,50 +1,52 @@
--- Code that is alone starts no operation and takes no entry of a journal.
+-- Code that starts no operation takes no entry of a journal.
 use Rattle.std.proofs.Common.{◌≡◌, ℕ, zero, suc, ◌+◌, List, [], ◌∷◌, ◌++◌, length, map, Option, Some, None, Result, Ok, Err, Bool, true, false, refl, sym, ap, ◌∙◌, subst}
-use Rattle.std.specs.Prelude.{ℤ, reverse, take, drop, replicate, nat_le, nat_lt, nat_eq, slice_get, slice_set, ◌&&◌, ◌^◌, ◌-◌, if◌then◌else◌}
+use Rattle.std.specs.Prelude.{ℤ, reverse, take, drop, replicate, find, nat_le, nat_lt, nat_eq, slice_get, slice_set, ◌&&◌, ◌^◌, ◌-◌, if◌then◌else◌}
 use Rattle.std.proofs.lemmas.Option.{slice_get_within, get_or_from_slice_get}
 use Rattle.ac_base.specs.declared.ends.Trap.{Trap}
 use Rattle.ac_base.specs.declared.ends.Trap.TheVariants.{OutputFull}
 use Rattle.ac_base.specs.declared.ends.EndWord.{EndWord}
 use Rattle.ac_base.specs.declared.ends.EndWord.TheVariants as word
 use Rattle.ac_base.specs.declared.entry.Entry.{Entry}
+use Rattle.ac_base.specs.declared.entry.Event.{Event}
+use Rattle.ac_base.specs.declared.entry.Event.TheVariants as event
 use Rattle.work_item.specs.declared.ids.Item.{Item}
 use Rattle.work_item.specs.declared.ids.BlockId.{BlockId}
 use Rattle.work_item.specs.declared.cell.Cell.{Cell}
 use Rattle.work_item.specs.declared.cell.Cell.TheVariants as cell
-use Rattle.work_item.specs.Store.{Store, int_in, place_in, no_int, released}
+use Rattle.work_item.specs.Store.{Store, cell_at, int_in, place_in, no_int, released}
 use Rattle.cancel_scope.specs.declared.operation.Operation.{Operation}
 use Rattle.core_state.specs.Moves.{Move, On, Over, moves, and_then}
 use Rattle.core_state.specs.Arithmetic.{Computed, truth, negated, not_true, flipped, sum_of, difference_of, product_of, quotient, remainder}
 use Rattle.core_state.specs.Arithmetic.{shifted_left, shifted_right, is_equal, is_not_equal, is_less, is_at_most, both_bits, either_bits, differing_bits}
-use Rattle.core_state.specs.Frames.{element, set_element, part_at, begun, begun_with, first_store}
+use Rattle.core_state.specs.Frames.{block_in, element, set_element, part_at, begun, begun_with, first_store}
 use Rattle.core_state.specs.Arrivals as arrivals
 use Rattle.core_state.specs.Arrivals.{Arrival, at_point, comes_in}
+use Rattle.core_state.specs.Cancelling.{tries}
 use Rattle.core_state.specs.Shared.{first_shared, begins_with, with_entry, with_step, with_turn, printed, formatted, output_limit, seen, seen_left}
 use Rattle.stack_code.specs.declared.instr.Instr.{Instr}
 use Rattle.stack_code.specs.declared.instr.Instr.TheVariants as i
 use Rattle.stack_code.specs.declared.parts.Entered.{Entered}
 use Rattle.stack_code.specs.Parts.{Parts}
-use Rattle.code_meaning.specs.Alone.{is_alone, IsAlone}
+use Rattle.code_meaning.specs.Alone.{is_alone, starts_none, IsAlone}
 use Rattle.code_meaning.specs.Machine as flat
 use Rattle.code_meaning.specs.Machine.{Flat, FlatEnd, Caller, Block, nobody, arrived, begin, exec, exec_of, dispatched, told, with_store, with_shared, or_trap, on_top, on_two, on_three, on_many}
 use Rattle.code_meaning.specs.Machine.{one_operand, two_operands, always, text_at, calls, returns, starts, arrives, arrives_in, arrives_at, dies, dies_in, counted_out, block_at, thread_at}
-use Rattle.code_meaning.specs.Machine.{first_flat, first_core, first_globals, Runs}
-use Rattle.code_safety.proofs.Arriving.{Comes, comes_of, known, offered, received, passed}
+use Rattle.code_meaning.specs.Machine.{first_flat, first_core, first_globals, is_inside, marked, counted, calls_off, Runs}
 use Rattle.code_safety.proofs.Plain.{Onward}
 
 -- ---- an instruction
 
--- a move leaves the operations and the entries to come as they are, and an end before an entry to come shows nothing
+-- a move leaves the operations and the entries as they are, and an end before an entry to come shows nothing
 abbrev pub Leaves : Flat → Move Flat FlatEnd → Type 0
-Leaves m (On n) = (n.operations ≡ m.operations) × (n.shared.todo ≡ m.shared.todo)
+Leaves m (On n) = (n.operations ≡ m.operations) × ((n.shared.todo ≡ m.shared.todo) × (n.shared.past ≡ m.shared.past))
 Leaves m (Over x) = (e : Entry) (es : List Entry) → m.shared.todo ≡ e ∷ es → x.core ≡ None
 
 module _ (m : Flat) where
   abbrev L : Move Flat FlatEnd → Type 0
   L = Leaves m
 
-  same : (m.operations ≡ m.operations) × (m.shared.todo ≡ m.shared.todo)
-  same = (refl, refl)
+  same : (m.operations ≡ m.operations) × ((m.shared.todo ≡ m.shared.todo) × (m.shared.past ≡ m.shared.past))
+  same = (refl, (refl, refl))
 
   unseen : (why : EndWord) (idle : Bool) (e : Entry) (es : List Entry) → m.shared.todo ≡ e ∷ es → seen why idle m.store.globals m.operations m.shared ≡ None
   unseen why idle e es k = ap (seen_left why idle m.store.globals m.operations m.shared) k
@@ -181,19 +183,17 @@ module _ (m : Flat) where
 
 -- ---- a dispatch point
 
-none_of_none : (front back : List Operation) (o : Operation) → [] ≡ front ++ o ∷ back → ⊥
-none_of_none [] back o e = cc
-none_of_none (x ∷ front) back o e = cc
-
--- where no operation has still to end, nothing can come in
-pub nothing_comes : (store : Store) (os : List Operation) (x : Arrival) → os ≡ [] → Comes store os x → ⊥
-nothing_comes store os _ none (offered front back o number is waits) = none_of_none front back o (sym none ∙ is)
-nothing_comes store os _ none (known front back o is) = none_of_none front back o (sym none ∙ is)
-nothing_comes store os _ none (received front back o place value is asks) = none_of_none front back o (sym none ∙ is)
-nothing_comes store os _ none (passed front back o is) = none_of_none front back o (sym none ∙ is)
+-- where no operation has still to end and no entry has come in, nothing can come in
+pub nothing_comes : (store : Store) (v : Event) → arrivals.arrives [] store [] v ≡ None
+nothing_comes store (event.Offer link number payload) = go (nat_eq number 0)
+  where
+    go : (b : Bool) → ◌≡◌ {A = Option Arrival} (if b then None else None) None
+    go true = refl
+    go false = refl
+nothing_comes store v = refl
 
 abbrev pub IsFree : Flat → Type 0
-IsFree m = m.operations ≡ []
+IsFree m = (m.operations ≡ []) × (m.shared.past ≡ [])
 
 module _ (m : Flat) (free : IsFree m) where
   dispatched_leaves : (ready : List Item) → Leaves m (dispatched m ready)
@@ -209,7 +209,11 @@ module _ (m : Flat) (free : IsFree m) where
   enters_leaves : (e : Entry) (es : List Entry) (o : Option Arrival) → arrivals.arrives m.shared.past m.store m.operations e.event ≡ o
       → Leaves m (comes_in (told m.count) (λ x. On (arrived m (with_entry m.shared e es) x)) o)
   enters_leaves e es None k = λ f fs to. refl
-  enters_leaves e es (Some x) k = absurd (nothing_comes m.store m.operations x free (comes_of m.store m.operations x m.shared.past e.event k))
+  enters_leaves e es (Some x) k =
+      let at_first = λ (past : List Entry) (os : List Operation). arrivals.arrives past m.store os e.event in
+      let none : None ≡ Some x =
+      sym (nothing_comes m.store e.event) ∙ ap (λ os. at_first [] os) (sym free.0) ∙ ap (λ past. at_first past m.operations) (sym free.1) ∙ k in
+      absurd (cc)
 
   rests_leaves : (todo : List Entry) → Leaves m (at_point (told m.count) m.shared m.store m.operations (λ shared x. On (arrived m shared x)) (dispatched m m.ready) todo)
   rests_leaves [] = dispatched_leaves m.ready
@@ -221,6 +225,21 @@ module _ (m : Flat) (free : IsFree m) where
           else dispatched m m.ready)
       go true = enters_leaves e es (arrivals.arrives m.shared.past m.store m.operations e.event) refl
       go false = dispatched_leaves m.ready
+
+  -- ---- an instruction that starts no operation
+
+  cancel_leaves : (block : BlockId) → Leaves m (calls_off m block)
+  cancel_leaves block =
+      subst
+      (λ (os : List Operation).
+      Leaves m
+      (tries (told (counted m.count)) m.shared m.store os (is_inside m block) (λ shared x. On (arrived (marked m block) shared x)) (flat.goes (marked m block) m.current.operands)
+      (find (is_inside m block) os)))
+      (sym free.0) (same m)
+
+  begin_free : (code : Parts) (bound : ℕ) (t : Item) (instr : Instr) → starts_none instr ≡ true → Leaves m (begin code bound m t (Some instr))
+  begin_free code bound t (i.Cancel level slot) a = cancel_leaves (block_in (cell_at m.store m.current.frame level slot))
+  begin_free code bound t instr a = begin_leaves m code bound t instr a
 
 -- ---- a move
 
@@ -234,7 +253,7 @@ module _ (code : Parts) (bound : ℕ) (alone : IsAlone code) where
         at_place t (Some instr) k =
             let within = slice_get_within code.instrs m.current.place instr k in
             let one = get_or_from_slice_get code.instrs m.current.place instr instr k in
-            begin_leaves m code bound t instr (subst (λ x. is_alone x ≡ true) one (alone m.current.place instr within))
+            begin_free m free code bound t instr (subst (λ x. starts_none x ≡ true) one (alone m.current.place instr within))
 
         go : (o : Option Item) → Leaves m (exec_of code bound m o)
         go None = rests_leaves m free m.shared.todo
@@ -245,7 +264,7 @@ module _ (code : Parts) (bound : ℕ) (alone : IsAlone code) where
     stays_free = go (exec code bound m) exec_leaves
       where
         go : (x : Move Flat FlatEnd) → Leaves m x → Onward IsFree x
-        go (On n) l = l.0 ∙ free
+        go (On n) l = (l.0 ∙ free.0, l.1.1 ∙ free.1)
         go (Over x) l = tt
 
   -- ---- a run
@@ -257,7 +276,7 @@ module _ (code : Parts) (bound : ℕ) (alone : IsAlone code) where
       where
         go : ((n : Flat) → IsFree n → n.shared.todo ≡ e ∷ es → moves (exec code bound) k n ≡ Over end → end.core ≡ None) → (a : Move Flat FlatEnd) → Leaves m a
             → and_then a (moves (exec code bound) k) ≡ Over end → end.core ≡ None
-        go later (On n) l h = later n (l.0 ∙ free) (l.1 ∙ to) h
+        go later (On n) l h = later n (l.0 ∙ free.0, l.1.1 ∙ free.1) (l.1.0 ∙ to) h
         go later (Over x) l h =
             let is : x ≡ end = let over : Over x ≡ Over end = h in cc in
             subst (λ (y : FlatEnd). y.core ≡ None) is (l e es to)
@@ -268,7 +287,7 @@ module _ (code : Parts) (bound : ℕ) (alone : IsAlone code) where
         go : (r : Result Store Trap)
             → Over end ≡ and_then (begins_with (told 0) (first_globals code) (first_shared (e ∷ es)) r (λ store. On (first_core function (first_shared (e ∷ es)) store))) (moves (exec code bound) k)
             → end.core ≡ None
-        go (Ok store) h = none_seen k (first_core function (first_shared (e ∷ es)) store) refl refl (sym h)
+        go (Ok store) h = none_seen k (first_core function (first_shared (e ∷ es)) store) (refl, refl) refl (sym h)
         go (Err trap) h = let over : Over end ≡ Over (told 0 None) = h in let is : end ≡ told 0 None = cc in ap (λ (y : FlatEnd). y.core) is
 
 -- where an entry is still to come at the beginning, nothing is seen of the end

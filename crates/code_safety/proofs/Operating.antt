@@ -11,6 +11,7 @@ use Rattle.cancel_scope.specs.declared.operation.Asked.{Asked}
 use Rattle.cancel_scope.specs.declared.operation.Asked.TheVariants as asked
 use Rattle.cancel_scope.specs.declared.operation.Operation.{Operation}
 use Rattle.cancel_scope.specs.Outstanding.{started}
+use Rattle.core_state.specs.Arrivals.{cancelled}
 use Rattle.stack_code.specs.declared.instr.Instr.{Instr}
 use Rattle.stack_code.specs.declared.instr.Instr.TheVariants as i
 use Rattle.stack_code.specs.declared.shape.Kind.{Kind}
@@ -24,12 +25,14 @@ use Rattle.stack_code.specs.Parts.{Parts}
 use Rattle.stack_code.specs.Shapes.{after, channels_of, effect, pushed, pushes, with_operands}
 use Rattle.stack_code.specs.Valid as valid
 use Rattle.stack_code.specs.Valid.{Goes}
-use Rattle.code_meaning.specs.Machine.{Flat, Thread, at, begin, given, operates}
+use Rattle.code_meaning.specs.Machine.{Flat, Thread, at, counted, begin, given, operates}
 use Rattle.code_safety.specs.Fit.{HaveKinds, IsAsked, IsFit, IsThread, going_on, items_of, life_at, occurs, one_at}
 use Rattle.code_safety.proofs.Lasting.{callers_as}
 use Rattle.code_safety.proofs.Lives.{same_item}
 use Rattle.code_safety.proofs.Own.{thread_of}
-use Rattle.code_safety.proofs.Plain.{Onward, top_on}
+use Rattle.code_safety.proofs.Plain.{Onward, Next, none, top_on, asks_on}
+use Rattle.code_safety.proofs.PlainFit.{plain_fit}
+use Rattle.code_safety.proofs.Settings.{same_store}
 use Rattle.code_safety.proofs.Taken.{IsWanted, after_is, if_is, none_wanted, top_of}
 use Rattle.code_safety.proofs.Turns.{rests_fit, resting}
 use Rattle.code_safety.proofs.Waiting.{occurs_between, waits_for_another, waits_for_it}
@@ -72,6 +75,23 @@ module _ (code : Parts) (bound : ℕ) (m : Flat) (fit : IsFit code m) (t : Item)
           leads = (refl, refl);
         };
       }
+
+  -- in a cancelled block the value is there at once
+  module _ (w : Want) (instr : Instr) (z : Operates w instr) (other : instr ≡ i.Step → ⊥) where
+    abbrev pub given_value : Flat
+    given_value = record m { current = at m.current (place + 1) (cell.Int cancelled ∷ z.below); count = counted m.count }
+
+    pub value_next : Next code bound m fit.births s instr given_value
+    value_next = record {
+      shape = pushed kind.Int (with_operands s z.kinds);
+      goes = z.goes;
+      bodies = refl;
+      blocks = refl;
+      operands = (tt, z.have);
+      store = same_store code fit.births m.store fit.store;
+      spends = none other refl;
+      others = refl;
+    }
 
   module _ (w : Want) (instr : Instr) (z : Operates w instr) (link : ℕ) (a : Asked) (asks : IsAsked code fit.births a) where
     abbrev kept : Thread
@@ -118,10 +138,14 @@ module _ (code : Parts) (bound : ℕ) (m : Flat) (fit : IsFit code m) (t : Item)
       → Onward (IsFit code) (begin code bound m t (Some (i.Send channel)))
   send_fit channel leads here finds =
       let z = operating want.Int (i.Send channel) channel leads here refl finds in
-      top_on (IsFit code) m _ m.current.operands z.top z.below z.is (operates_fit want.Int (i.Send channel) z channel (asked.Send (int_in z.top)) tt)
+      top_on (IsFit code) m _ m.current.operands z.top z.below z.is (asks_on (IsFit code) m t channel (asked.Send (int_in z.top)) z.below
+      (plain_fit code bound m fit t run (i.Send channel) (given_value want.Int (i.Send channel) z (λ e. cc)) (value_next want.Int (i.Send channel) z (λ e. cc)))
+      (operates_fit want.Int (i.Send channel) z channel (asked.Send (int_in z.top)) tt))
 
   pub receive_fit : (channel : ℕ) (leads : Leads) → slice_get code.instrs place ≡ Some (i.Recv channel) → effect code place (i.Recv channel) s ≡ Some leads
       → Onward (IsFit code) (begin code bound m t (Some (i.Recv channel)))
   receive_fit channel leads here finds =
       let z = operating want.One (i.Recv channel) channel leads here refl finds in
-      top_on (IsFit code) m _ m.current.operands z.top z.below z.is (operates_fit want.One (i.Recv channel) z channel (asked.Recv (place_in z.top)) (asked_of z.top z.wanted))
+      top_on (IsFit code) m _ m.current.operands z.top z.below z.is (asks_on (IsFit code) m t channel (asked.Recv (place_in z.top)) z.below
+      (plain_fit code bound m fit t run (i.Recv channel) (given_value want.One (i.Recv channel) z (λ e. cc)) (value_next want.One (i.Recv channel) z (λ e. cc)))
+      (operates_fit want.One (i.Recv channel) z channel (asked.Recv (place_in z.top)) (asked_of z.top z.wanted)))

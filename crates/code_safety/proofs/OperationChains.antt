@@ -28,13 +28,13 @@ use Rattle.code_safety.specs.Chains.{AllName, AskedOnChain, HasStack, IsActive, 
 use Rattle.code_safety.proofs.Lives.{one_same, one_other, same_item}
 use Rattle.code_safety.proofs.Waiting.{occurs_between}
 use Rattle.code_safety.proofs.Own.{thread_of, all_kept, block_bound}
-use Rattle.code_safety.proofs.Plain.{Onward, top_on}
-use Rattle.code_safety.proofs.Operating.{operating}
+use Rattle.code_safety.proofs.Plain.{Onward, top_on, asks_on}
+use Rattle.code_safety.proofs.Operating.{operating, given_value, value_next}
 use Rattle.code_safety.proofs.Chained.{place_on}
 use Rattle.code_safety.proofs.LivingThreads.{not_running}
 use Rattle.code_safety.proofs.LinkedFrames.{same_frames, linked_same}
 use Rattle.code_safety.proofs.Stacks.{stack_at, top_names}
-use Rattle.code_safety.proofs.OwnChains.{blocks_same, starts_on}
+use Rattle.code_safety.proofs.OwnChains.{blocks_same, starts_on, plain_next}
 use Rattle.code_safety.proofs.StopChains as stop_chains
 use Rattle.code_safety.proofs.StopChains.{KeepsLiving, stop_chained, stop_active, still_asks, own_thread}
 
@@ -122,8 +122,11 @@ module _ (code : Parts) (bound : ℕ) (m : Flat) (v : IsValid code) (fit : IsFit
       let z = operating code bound m fit t run want.Int (i.Send channel) channel leads here refl finds in
       let names = subst (AllName chained.origins top) z.is names_here in
       top_on (AreChained code) m _ m.current.operands z.top z.below z.is
+      (asks_on (AreChained code) m t channel (asked.Send (int_in z.top)) z.below
+      (plain_next code bound m v fit chained t run (i.Send channel) (given_value code bound m fit t run want.Int (i.Send channel) z (λ e. cc))
+      (value_next code bound m fit t run want.Int (i.Send channel) z (λ e. cc)) (record { operands = (tt, names.1); store = same_frames chained.origins m.store }))
       (operates_chained channel (asked.Send (int_in z.top)) tt z.below names.1 z.kinds
-      (valid.goes place s (place + 1) (pushed kind.Int (with_operands s z.kinds)) own.top.reached z.goes))
+      (valid.goes place s (place + 1) (pushed kind.Int (with_operands s z.kinds)) own.top.reached z.goes)))
 
   pub receive_chained : (channel : ℕ) (leads : Leads) → slice_get code.instrs place ≡ Some (i.Recv channel) → effect code place (i.Recv channel) s ≡ Some leads
       → Onward (AreChained code) (begin code bound m t (Some (i.Recv channel)))
@@ -131,5 +134,8 @@ module _ (code : Parts) (bound : ℕ) (m : Flat) (v : IsValid code) (fit : IsFit
       let z = operating code bound m fit t run want.One (i.Recv channel) channel leads here refl finds in
       let names = subst (AllName chained.origins top) z.is names_here in
       top_on (AreChained code) m _ m.current.operands z.top z.below z.is
+      (asks_on (AreChained code) m t channel (asked.Recv (place_in z.top)) z.below
+      (plain_next code bound m v fit chained t run (i.Recv channel) (given_value code bound m fit t run want.One (i.Recv channel) z (λ e. cc))
+      (value_next code bound m fit t run want.One (i.Recv channel) z (λ e. cc)) (record { operands = (tt, names.1); store = same_frames chained.origins m.store }))
       (operates_chained channel (asked.Recv (place_in z.top)) (place_on chained.origins top z.top names.0) z.below names.1 z.kinds
-      (valid.goes place s (place + 1) (pushed kind.Int (with_operands s z.kinds)) own.top.reached z.goes))
+      (valid.goes place s (place + 1) (pushed kind.Int (with_operands s z.kinds)) own.top.reached z.goes)))

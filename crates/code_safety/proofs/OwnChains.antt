@@ -121,7 +121,7 @@ module _ (code : Parts) (bound : ℕ) (m : Flat) (v : IsValid code) (fit : IsFit
   pub blocks_same : (u : Shape) → own_blocks s ≡ own_blocks u → (z : Shape) → Reaches code m.current.place z → own_blocks z ≡ own_blocks u
   blocks_same u e z r = ap own_blocks (v.shaped.same m.current.place z s r own.top.reached) ∙ e
 
-  plain_next : (instr : Instr) (n : Flat) → Next code bound m fit.births s instr n → KeepsNames chained.origins m n → AreChained code n
+  pub plain_next : (instr : Instr) (n : Flat) → Next code bound m fit.births s instr n → KeepsNames chained.origins m n → AreChained code n
   plain_next instr n k q =
       let current : Thread = at m.current n.current.place n.current.operands in
       let reached = valid.goes m.current.place s n.current.place k.shape own.top.reached k.goes in

@@ -1,22 +1,27 @@
 -- The code of a core that keeps its ends starts operations at the core's own ends alone, and each that has not ended is at one of them.
 use Rattle.std.proofs.Common.{◌≡◌, ℕ, zero, suc, ◌<◌, List, [], ◌∷◌, length, Option, Some, None, Bool, true, false, refl, sym, subst}
-use Rattle.std.specs.Prelude.{◌^◌, ◌-◌, All, slice_get, slice_set, nat_eq, nat_lt, replicate, if◌then◌else◌}
+use Rattle.std.specs.Prelude.{◌^◌, ◌-◌, ℤ, All, find, slice_get, slice_set, nat_eq, nat_lt, replicate, if◌then◌else◌}
 use Rattle.std.proofs.lemmas.List.Elements.{All-nil, All-push}
 use Rattle.std.proofs.lemmas.Option.{slice_get_within}
 use Rattle.ac_base.specs.declared.entry.Entry.{Entry}
 use Rattle.ac_base.specs.declared.ends.EndWord.TheVariants as word
 use Rattle.work_item.specs.declared.ids.Item.{Item}
+use Rattle.work_item.specs.declared.ids.BlockId.{BlockId}
 use Rattle.work_item.specs.declared.cell.Cell.{Cell}
-use Rattle.work_item.specs.Store.{int_in, place_in, no_int}
+use Rattle.work_item.specs.declared.cell.Cell.TheVariants as cell
+use Rattle.work_item.specs.Store.{cell_at, int_in, place_in, no_int}
 use Rattle.cancel_scope.specs.declared.operation.Asked.{Asked}
 use Rattle.cancel_scope.specs.declared.operation.Asked.TheVariants as asked
 use Rattle.cancel_scope.specs.declared.operation.Operation.{Operation}
-use Rattle.cancel_scope.specs.Outstanding.{started}
+use Rattle.cancel_scope.specs.declared.operation.Progress.{Progress}
+use Rattle.cancel_scope.specs.declared.operation.Progress.TheVariants.{Waiting, Offered}
+use Rattle.cancel_scope.specs.Outstanding.{started, without_first}
 use Rattle.core_state.specs.Moves.{Move, On, Over, and_then, moves, GoesOn}
 use Rattle.core_state.specs.Arrivals as arrivals
 use Rattle.core_state.specs.Arrivals.{Arrival, at_point, comes_in}
-use Rattle.core_state.specs.Frames.{first_store, has_words}
-use Rattle.core_state.specs.Shared.{with_entry, with_turn, first_shared, seen}
+use Rattle.core_state.specs.Cancelling.{outcome, ends_by, decided, tried, tries}
+use Rattle.core_state.specs.Frames.{first_store, has_words, block_in}
+use Rattle.core_state.specs.Shared.{Shared, with_entry, with_turn, first_shared, seen}
 use Rattle.stack_code.specs.declared.instr.Instr.{Instr}
 use Rattle.stack_code.specs.declared.instr.Instr.TheVariants as i
 use Rattle.stack_code.specs.declared.parts.Entered.{Entered}
@@ -24,7 +29,8 @@ use Rattle.stack_code.specs.Parts.{Parts, Begins}
 use Rattle.stack_code.specs.Valid.{IsValid}
 use Rattle.stack_code.specs.Kept.{IsRanked}
 use Rattle.code_meaning.specs.Meant.{IsMeant}
-use Rattle.code_meaning.specs.Machine.{Flat, FlatEnd, arrived, resumed, begin, exec, exec_of, dispatched, told, on_top, operates, nobody, thread_at, first_flat, first_globals}
+use Rattle.code_meaning.specs.Machine.{Flat, FlatEnd, counted, goes, is_inside, marked, calls_off, arrived, resumed, begin, exec, exec_of, dispatched, told, on_top, operates, nobody}
+use Rattle.code_meaning.specs.Machine.{thread_at, first_flat, first_globals}
 use Rattle.code_safety.specs.Fit.{IsFit}
 use Rattle.code_safety.specs.Left as weight
 use Rattle.code_safety.specs.KeptEnds.{ReachesInstr, KeepsEnds, IsAtEnd, AreAtEnds, each_as, KeepsOwnEnds}
@@ -34,8 +40,8 @@ use Rattle.code_safety.proofs.EachAs.{valid_too, ranked_too, begins_too, reached
 use Rattle.code_safety.proofs.Moving.{moves_on}
 use Rattle.code_safety.proofs.NoEntries.{Leaves, begin_leaves}
 use Rattle.code_safety.proofs.Own.{thread_of}
-use Rattle.code_safety.proofs.Plain.{Onward, on_both, on_each}
-use Rattle.code_safety.proofs.Waiting.{all_others, one_of_all, all_between}
+use Rattle.code_safety.proofs.Plain.{Onward, on_both, on_each, asks_on}
+use Rattle.code_safety.proofs.Waiting.{found_at, all_others, one_of_all, all_between}
 
 module _ (code : Parts) (keeps : KeepsEnds code) (core bound : ℕ) (lt : core < length code.entries) (m : Flat) (s : KeepsOwnEnds code core m) where
   abbrev At : Operation → Type 0
@@ -64,14 +70,54 @@ module _ (code : Parts) (keeps : KeepsEnds code) (core bound : ℕ) (lt : core <
   left (On n) l = subst (AreAtEnds code core) (sym l.0) s.operations
   left (Over e) l = tt
 
+  -- what a cancel leaves were there before
+  module _ (block : BlockId) where
+    abbrev inside : Operation → Bool
+    inside = is_inside m block
+
+    abbrev made : ℤ → Operation → Arrival
+    made value o = arrivals.has_ended_as value m.store (without_first inside m.operations) o
+
+    ended_at : (o : Operation) → find inside m.operations ≡ Some o → (shared : Shared) (value : ℤ) → Ended (arrived (marked m block) shared (made value o))
+    ended_at o e shared value =
+        let f = found_at inside m.operations o e in
+        subst (AreAtEnds code core) (sym f.without) (all_others At f.back o f.front (subst (All At) f.is s.operations))
+
+    decided_at : (o : Operation) → find inside m.operations ≡ Some o → (number : ℕ) (todo : List Entry) → Onward Ended
+        (decided (told (counted m.count)) m.shared m.store.globals m.operations o.link number (λ shared value. On (arrived (marked m block) shared (made value o))) todo)
+    decided_at o e number [] = tt
+    decided_at o e number (y ∷ ys) = go (nat_eq y.turn m.shared.turn) (outcome o.link number y.event)
+      where
+        by : (r : Option ℤ) → Onward Ended (ends_by (told (counted m.count)) (λ value. On (arrived (marked m block) (with_entry m.shared y ys) (made value o))) r)
+        by None = tt
+        by (Some value) = ended_at o e (with_entry m.shared y ys) value
+
+        go : (b : Bool) (r : Option ℤ) → Onward Ended
+            (if b then ends_by (told (counted m.count)) (λ value. On (arrived (marked m block) (with_entry m.shared y ys) (made value o))) r else Over (told (counted m.count) None))
+        go true r = by r
+        go false r = tt
+
+    tried_at : (o : Operation) → find inside m.operations ≡ Some o → (p : Progress) → Onward Ended
+        (tried (told (counted m.count)) m.shared m.store.globals m.operations o.link p (λ shared value. On (arrived (marked m block) shared (made value o))))
+    tried_at o e Waiting = ended_at o e m.shared arrivals.cancelled
+    tried_at o e (Offered number) = decided_at o e number m.shared.todo
+
+    called_off : Onward Ended (calls_off m block)
+    called_off = go (find inside m.operations) refl
+      where
+        go : (r : Option Operation) → find inside m.operations ≡ r → Onward Ended
+            (tries (told (counted m.count)) m.shared m.store m.operations inside (λ shared x. On (arrived (marked m block) shared x)) (goes (marked m block) m.current.operands) r)
+        go None e = s.operations
+        go (Some o) e = tried_at o e o.progress
+
   begun : (t : Item) (instr : Instr) → m.running ≡ Some t → slice_get code.instrs m.current.place ≡ Some instr → Onward Ended (begin code bound m t (Some instr))
   begun t (i.Send channel) run here =
       let own = keeps.sends core channel (reached_here t (i.Send channel) run here) in
-      topped _ m.current.operands (λ x below. one_more t channel (asked.Send (int_in x)) below own)
+      topped _ m.current.operands (λ x below. asks_on Ended m t channel (asked.Send (int_in x)) below s.operations (one_more t channel (asked.Send (int_in x)) below own))
   begun t (i.Recv channel) run here =
       let own = keeps.receives core channel (reached_here t (i.Recv channel) run here) in
-      topped _ m.current.operands (λ x below. one_more t channel (asked.Recv (place_in x)) below own)
-  begun t (i.Cancel level slot) run here = s.operations
+      topped _ m.current.operands (λ x below. asks_on Ended m t channel (asked.Recv (place_in x)) below s.operations (one_more t channel (asked.Recv (place_in x)) below own))
+  begun t (i.Cancel level slot) run here = called_off (block_in (cell_at m.store m.current.frame level slot))
   begun t (i.Read file) run here = s.operations
   begun t (i.Write file) run here = s.operations
   begun t instr run here = left (begin code bound m t (Some instr)) (begin_leaves m code bound t instr refl)
@@ -87,7 +133,7 @@ module _ (code : Parts) (keeps : KeepsEnds code) (core bound : ℕ) (lt : core <
   after _ (offered front back o number is waits) = let all = subst (All At) is s.operations in all_between At back _ front (all_others At back o front all) (one_of_all At back o front all)
   after _ (known front back o is) = all_others At back o front (subst (All At) is s.operations)
   after _ (received front back o place value is asks) = all_others At back o front (subst (All At) is s.operations)
-  after _ (passed front back o is) = s.operations
+  after _ passed = s.operations
 
   dispatches : (ready : List Item) → Onward Ended (dispatched m ready)
   dispatches [] = tt
@@ -99,7 +145,7 @@ module _ (code : Parts) (keeps : KeepsEnds code) (core bound : ℕ) (lt : core <
       go true end = s.operations
       go false end = tt
 
-  woken : (x : Arrival) (n : Flat) (o : Option Item) → n.operations ≡ x.operations → AreAtEnds code core x.operations → Ended (resumed n arrivals.ok o)
+  woken : (x : Arrival) (n : Flat) (o : Option Item) → n.operations ≡ x.operations → AreAtEnds code core x.operations → Ended (resumed n (cell.Int x.value) o)
   woken x n None e h = subst (AreAtEnds code core) (sym e) h
   woken x n (Some t) e h = subst (AreAtEnds code core) (sym e) h
 

@@ -16,7 +16,9 @@ use Rattle.work_item.specs.declared.cell.Cell.TheVariants as cell
 use Rattle.work_item.specs.declared.cell.Place.{Place}
 use Rattle.work_item.specs.Store.{Store, cells_of, no_cells, cell_at, place_in, int_in, no_int, global_at, with_int_at, with_cell_at, with_global, with_cleared, above, parent_or, parent_is}
 use Rattle.work_item.specs.Store.{frame_at}
+use Rattle.cancel_scope.specs.declared.operation.Asked.{Asked}
 use Rattle.core_state.specs.Moves.{Move, On, Over}
+use Rattle.core_state.specs.Arrivals.{cancelled}
 use Rattle.core_state.specs.Arithmetic.{Computed, at_zero, bind, truth, negated, not_true, flipped, sum_of, difference_of, product_of, quotient, remainder}
 use Rattle.core_state.specs.Arithmetic.{shifted_left, shifted_right, is_equal, is_not_equal, is_less, is_at_most, both_bits, either_bits, differing_bits}
 use Rattle.core_state.specs.Frames.{within, element, set_element, one_place, part_at}
@@ -103,6 +105,14 @@ module _ (P : Flat → Type 0) (m : Flat) where
       → Onward P (on_many m count go ops)
   many_on count go ops le h = let t : nat_le count (length ops) ≡ true = grind (arith, nat_tests) in
       subst (λ (b : Bool). Onward P (if b then go (reverse (take count ops)) (drop count ops) else On m)) (sym t) h
+
+  -- an operation that starts: its value is there, or its thread waits
+  pub asks_on : (t : Item) (link : ℕ) (a : Asked) (below : List Cell) → Onward P (flat.goes m (cell.Int cancelled ∷ below)) → P (flat.operates m t link a below) → Onward P (flat.asks m t link a below)
+  asks_on t link a below there waits = go (flat.is_cancelled m.blocks m.current.block)
+    where
+      go : (b : Bool) → Onward P (flat.asks_in b m t link a below)
+      go true = there
+      go false = waits
 
   pub trap_on : {A : Type 0} (r : Result A Trap) (go : A → Move Flat FlatEnd) → ((x : A) → r ≡ Ok x → Onward P (go x)) → Onward P (or_trap m r go)
   trap_on (Ok x) go h = h x refl

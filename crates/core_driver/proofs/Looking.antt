@@ -16,12 +16,10 @@ use Rattle.core_ports.specs.AtHand.{AtHand}
 use Rattle.core_ports.specs.Counts.{with_one_more}
 use Rattle.core_ports.specs.Ends.{has_room, is_held, is_owner, is_peer}
 use Rattle.core_ports.specs.Tells.{Tells}
-use Rattle.core_state.specs.Moves.{Move, On, Over}
 use Rattle.stack_code.specs.declared.parts.ChannelEnds.{ChannelEnds}
 use Rattle.stack_code.specs.Parts.{Parts}
-use Rattle.code_meaning.specs.Machine.{Flat, FlatEnd}
-use Rattle.core_machine.specs.Machine.{Machine, has_ended}
-use Rattle.core_machine.specs.Points.{is_at_point, operations_of, to_send, receives_from}
+use Rattle.core_machine.specs.Machine.{Machine}
+use Rattle.core_machine.specs.Points.{operations_of, to_send, receives_from}
 use Rattle.core_driver.specs.declared.side.Side.{Side}
 use Rattle.core_driver.specs.declared.side.Side.TheVariants.{Owner, Peer, Neither}
 use Rattle.core_driver.specs.Sides.{ArePortsOf, links_of, side_at, side_of}
@@ -110,10 +108,6 @@ pub peer_holds : (x : LinkEnd) → is_peer x ≡ true → is_held x ≡ true
 peer_holds (Owns os) h = refl
 peer_holds (Decides ds) h = refl
 peer_holds Absent h = h
-
-pub still_going : (state : Move Flat FlatEnd) → is_at_point state ≡ true → has_ended state ≡ false
-still_going (On m) h = refl
-still_going (Over x) h = let no : false ≡ true = h in absurd (cc)
 
 -- ---- channels
 

@@ -1,11 +1,11 @@
--- What the end of a link on which a core sends tells of its journal: which of its offers have not ended, and how many it has made.
-use Rattle.std.proofs.Common.{◌≡◌, ℕ, zero, suc, ◌+◌, List, [], ◌∷◌, ◌++◌, length, Option, Some, None, IsSome, Bool, true, false, cond, refl, sym, ap, ◌∙◌, subst, arith}
-use Rattle.std.specs.Prelude.{◌-◌, ◌==◌, All, find, is_some, is_none, nat_eq, nat_lt, ◌&&◌, slice_get, if◌then◌else◌}
-use Rattle.std.specs.List.{filter}
+-- What the ends of its links tell of a core's journal: which of its offers have not ended, which keep their room, and how many it has made.
+use Rattle.std.proofs.Common.{◌≡◌, ℕ, zero, suc, ◌+◌, List, [], ◌∷◌, ◌++◌, length, Option, Some, None, IsSome, Bool, true, false, cond, refl, sym, ap, ◌∙◌, arith}
+use Rattle.std.specs.Prelude.{◌-◌, ◌==◌, find, is_some, is_none, nat_eq, nat_lt, not, ◌&&◌, ◌||◌, slice_get, if◌then◌else◌}
+use Rattle.std.specs.List.{filter, list_any}
 use Rattle.std.proofs.Math.Dec.{eqb-suc-suc, eqb-suc-zero, eqb-zero-suc}
-use Rattle.std.proofs.lemmas.Bool.{and_parts, eqb-true}
+use Rattle.std.proofs.Math.Bool.{or-false, or-true, or_assoc}
+use Rattle.std.proofs.lemmas.Bool.{and_parts, or_parts, eqb-true}
 use Rattle.std.proofs.lemmas.List.{length-append}
-use Rattle.std.proofs.lemmas.List.Elements.{All-head, All-tail}
 use Rattle.ac_base.specs.declared.entry.Entry.{Entry}
 use Rattle.ac_base.specs.declared.entry.Event.{Event}
 use Rattle.ac_base.specs.declared.entry.Event.TheVariants.{Offer, Withdraw, Know, Room, Got, Pass, Did, Reply}
@@ -16,10 +16,12 @@ use Rattle.ac_links.specs.Link.{link_of}
 use Rattle.ac_links.specs.Order.{of_party, is_of_link}
 use Rattle.ac_links.specs.Payloads.{is_payload}
 use Rattle.ac_links.specs.Views.{OwnerOffer, owner_lead, altered, known_at, may_free, may_withdraw, owner_after, owner_fits, owner_offer, replied_with, withdrawn_at, OwnerRuns}
+use Rattle.ac_links.specs.Views.{PeerDecision, PeerRuns, decision_of, peer_fits}
 use Rattle.cancel_scope.specs.declared.operation.Operation.{Operation}
-use Rattle.core_state.specs.Arrivals.{is_offer, offers_on}
+use Rattle.core_ports.specs.Ends.{is_known}
+use Rattle.core_state.specs.Arrivals.{is_offer, is_room, is_withdrawal, keeps_room, offers_on}
 use Rattle.code_safety.specs.Fit.{one_if, total}
-use Rattle.core_machine.specs.Tracks.{is_offer_of, is_end_of, is_withdrawal, offers_of, ends_of}
+use Rattle.core_machine.specs.Tracks.{is_offer_of, is_end_of, offers_of, ends_of}
 
 -- 1 where the offer of that number has not ended, as its owner knows it
 abbrev pub open_at : List OwnerOffer → ℕ → ℕ
@@ -70,20 +72,6 @@ module _ (f : OwnerOffer → OwnerOffer) where
   length_altered (o ∷ os) zero = refl
   length_altered (o ∷ os) (suc k) = ap suc (length_altered os k)
 
-  free_altered : ((o : OwnerOffer) → may_free (Some o) ≡ false → may_free (Some (f o)) ≡ false) → (os : List OwnerOffer) (k : ℕ) → ((n : ℕ) → may_free (slice_get os n) ≡ false)
-      → (n : ℕ) → may_free (slice_get (altered os k f) n) ≡ false
-  free_altered keeps [] k h n = h n
-  free_altered keeps (o ∷ os) zero h zero = keeps o (h zero)
-  free_altered keeps (o ∷ os) zero h (suc n) = h (suc n)
-  free_altered keeps (o ∷ os) (suc k) h zero = h zero
-  free_altered keeps (o ∷ os) (suc k) h (suc n) = free_altered keeps os k (λ n. h (suc n)) n
-
-free_pushed : (os : List OwnerOffer) (o : OwnerOffer) → may_free (Some o) ≡ false → ((n : ℕ) → may_free (slice_get os n) ≡ false) → (n : ℕ) → may_free (slice_get (os ++ o ∷ []) n) ≡ false
-free_pushed [] o e h zero = e
-free_pushed [] o e h (suc n) = refl
-free_pushed (x ∷ os) o e h zero = h zero
-free_pushed (x ∷ os) o e h (suc n) = free_pushed os o e (λ n. h (suc n)) n
-
 known_ends : (of : ℕ) (o : OwnerOffer) → may_withdraw (Some (known_at of o)) ≡ false
 known_ends of o = go (is_none o.withdrawn)
   where
@@ -91,12 +79,54 @@ known_ends of o = go (is_none o.withdrawn)
     go true = refl
     go false = refl
 
-known_frees : (of : ℕ) (o : OwnerOffer) → may_free (Some o) ≡ false → may_free (Some (known_at of o)) ≡ false
-known_frees of o h = go (is_some o.withdrawn)
+-- whether it was withdrawn, as its owner knows it
+abbrev pub was_withdrawn : Option OwnerOffer → Bool
+was_withdrawn None = false
+was_withdrawn (Some o) = is_some o.withdrawn
+
+-- a property of one offer, where offers are added and changed
+module _ (flag : Option OwnerOffer → Bool) where
+  flag_pushed : flag None ≡ false → (os : List OwnerOffer) (o : OwnerOffer) → flag (Some o) ≡ false → (n : ℕ) → flag (slice_get (os ++ o ∷ []) n) ≡ flag (slice_get os n)
+  flag_pushed none [] o e zero = e ∙ sym none
+  flag_pushed none [] o e (suc n) = refl
+  flag_pushed none (x ∷ os) o e zero = refl
+  flag_pushed none (x ∷ os) o e (suc n) = flag_pushed none os o e n
+
+  module _ (f : OwnerOffer → OwnerOffer) where
+    flag_kept : ((o : OwnerOffer) → flag (Some (f o)) ≡ flag (Some o)) → (os : List OwnerOffer) (k n : ℕ) → flag (slice_get (altered os k f) n) ≡ flag (slice_get os n)
+    flag_kept same [] k n = refl
+    flag_kept same (o ∷ os) zero zero = same o
+    flag_kept same (o ∷ os) zero (suc n) = refl
+    flag_kept same (o ∷ os) (suc k) zero = refl
+    flag_kept same (o ∷ os) (suc k) (suc n) = flag_kept same os k n
+
+    -- one that is there gets it
+    flag_set : ((o : OwnerOffer) → flag (Some (f o)) ≡ true) → (os : List OwnerOffer) (k n : ℕ) → IsSome (slice_get os k)
+        → flag (slice_get (altered os k f) n) ≡ (flag (slice_get os n) || nat_eq k n)
+    flag_set gets [] k n some = let no : false ≡ true = some in absurd (cc)
+    flag_set gets (o ∷ os) zero zero some = gets o ∙ sym (or-true (flag (Some o)))
+    flag_set gets (o ∷ os) zero (suc n) some = sym (or-false (flag (slice_get os n))) ∙ ap (λ b. flag (slice_get os n) || b) (sym (eqb-zero-suc n))
+    flag_set gets (o ∷ os) (suc k) zero some = sym (or-false (flag (Some o))) ∙ ap (λ b. flag (Some o) || b) (sym (eqb-suc-zero k))
+    flag_set gets (o ∷ os) (suc k) (suc n) some = flag_set gets os k n some ∙ ap (λ b. flag (slice_get os n) || b) (sym (eqb-suc-suc k n))
+
+open_is_there : (o : Option OwnerOffer) → may_withdraw o ≡ true → IsSome o
+open_is_there None h = h
+open_is_there (Some o) h = refl
+
+free_is_there : (o : Option OwnerOffer) → may_free o ≡ true → IsSome o
+free_is_there None h = h
+free_is_there (Some o) h = refl
+
+free_parts : (o : Option OwnerOffer) → may_free o ≡ true → (was_withdrawn o ≡ true) × (is_known o ≡ false)
+free_parts None h = let no : false ≡ true = h in absurd (cc)
+free_parts (Some o) h = let both = and_parts (is_some o.withdrawn) (is_none o.known) h in (both.0, unknown o.known both.1)
   where
-    go : (b : Bool) → (b && false) ≡ false
-    go true = refl
-    go false = refl
+    unknown : (k : Option ℕ) → is_none k ≡ true → is_some k ≡ false
+    unknown None h = refl
+    unknown (Some k) h = let no : false ≡ true = h in absurd (cc)
+
+neither : (a b : Bool) → a ≡ false → b ≡ false → (a || b) ≡ false
+neither a b p q = ap (λ z. z || b) p ∙ q
 
 -- one whose room is to come back was withdrawn
 free_is_closed : (o : Option OwnerOffer) → may_free o ≡ true → may_withdraw o ≡ false
@@ -161,16 +191,34 @@ module _ (terms : Terms) (l : ℕ) (os : List OwnerOffer) (s of : ℕ) where
   step_length (Pass k j) h fits = let no : false ≡ true = fits in absurd (cc)
   step_length (Did k j answer) h fits = let no : false ≡ true = fits in absurd (cc)
 
-  -- where nothing is withdrawn, no room is to come back
-  step_free : (v : Event) → is_withdrawal v ≡ false → owner_fits terms os v ≡ true → ((n : ℕ) → may_free (slice_get os n) ≡ false) → (n : ℕ) → may_free (slice_get (after v) n) ≡ false
-  step_free (Offer k j payload) w fits h = free_pushed os (owner_offer payload s) refl h
-  step_free (Withdraw k j) w fits h = let no : true ≡ false = w in absurd (cc)
-  step_free (Know k j) w fits h = free_altered (known_at of) (known_frees of) os j h
-  step_free (Room k j) w fits h = free_altered (known_at of) (known_frees of) os j h
-  step_free (Reply k j answer) w fits h = free_altered (replied_with answer of) (λ o e. e) os j h
-  step_free (Got k j value) w fits h = let no : false ≡ true = fits in absurd (cc)
-  step_free (Pass k j) w fits h = let no : false ≡ true = fits in absurd (cc)
-  step_free (Did k j answer) w fits h = let no : false ≡ true = fits in absurd (cc)
+  -- it is withdrawn by a withdrawal alone
+  step_withdrawn : (n : ℕ) (v : Event) → nat_eq (link_of v) l ≡ true → owner_fits terms os v ≡ true
+      → was_withdrawn (slice_get (after v) n) ≡ (was_withdrawn (slice_get os n) || is_withdrawal l n v)
+  step_withdrawn n (Offer k j payload) h fits = flag_pushed was_withdrawn refl os (owner_offer payload s) refl n ∙ sym (or-false (was_withdrawn (slice_get os n)))
+  step_withdrawn n (Withdraw k j) h fits =
+      flag_set was_withdrawn (withdrawn_at s) (λ o. refl) os j n (open_is_there (slice_get os j) fits)
+      ∙ ap (λ b. was_withdrawn (slice_get os n) || b) (sym (on_it l k (nat_eq j n) h))
+  step_withdrawn n (Know k j) h fits = flag_kept was_withdrawn (known_at of) (λ o. refl) os j n ∙ sym (or-false (was_withdrawn (slice_get os n)))
+  step_withdrawn n (Room k j) h fits = flag_kept was_withdrawn (known_at of) (λ o. refl) os j n ∙ sym (or-false (was_withdrawn (slice_get os n)))
+  step_withdrawn n (Reply k j answer) h fits = flag_kept was_withdrawn (replied_with answer of) (λ o. refl) os j n ∙ sym (or-false (was_withdrawn (slice_get os n)))
+  step_withdrawn n (Got k j value) h fits = let no : false ≡ true = fits in absurd (cc)
+  step_withdrawn n (Pass k j) h fits = let no : false ≡ true = fits in absurd (cc)
+  step_withdrawn n (Did k j answer) h fits = let no : false ≡ true = fits in absurd (cc)
+
+  -- where its decision is not known now, it was not known before, and its room was not given back
+  step_unknown : (n : ℕ) (v : Event) → nat_eq (link_of v) l ≡ true → owner_fits terms os v ≡ true → is_known (slice_get (after v) n) ≡ false
+      → (is_known (slice_get os n) ≡ false) × (is_room l n v ≡ false)
+  step_unknown n (Offer k j payload) h fits un = (sym (flag_pushed is_known refl os (owner_offer payload s) refl n) ∙ un, refl)
+  step_unknown n (Withdraw k j) h fits un = (sym (flag_kept is_known (withdrawn_at s) (λ o. refl) os j n) ∙ un, refl)
+  step_unknown n (Know k j) h fits un =
+      ((or_parts (is_known (slice_get os n)) (nat_eq j n) (sym (flag_set is_known (known_at of) (λ o. refl) os j n (open_is_there (slice_get os j) fits)) ∙ un)).0, refl)
+  step_unknown n (Room k j) h fits un =
+      let both = or_parts (is_known (slice_get os n)) (nat_eq j n) (sym (flag_set is_known (known_at of) (λ o. refl) os j n (free_is_there (slice_get os j) fits)) ∙ un) in
+      (both.0, on_it l k (nat_eq j n) h ∙ both.1)
+  step_unknown n (Reply k j answer) h fits un = (sym (flag_kept is_known (replied_with answer of) (λ o. refl) os j n) ∙ un, refl)
+  step_unknown n (Got k j value) h fits un = let no : false ≡ true = fits in absurd (cc)
+  step_unknown n (Pass k j) h fits un = let no : false ≡ true = fits in absurd (cc)
+  step_unknown n (Did k j answer) h fits un = let no : false ≡ true = fits in absurd (cc)
 
 -- ---- entries of other links
 
@@ -182,6 +230,14 @@ other_end l n v h = refl
 other_offer : (l n : ℕ) (v : Event) → nat_eq (link_of v) l ≡ false → one_if (is_offer_of l n v) ≡ 0
 other_offer l n (Offer k j payload) h = ap (λ z. one_if (z && nat_eq j n)) h
 other_offer l n v h = refl
+
+other_withdrawal : (l n : ℕ) (v : Event) → nat_eq (link_of v) l ≡ false → is_withdrawal l n v ≡ false
+other_withdrawal l n (Withdraw k j) h = ap (λ z. z && nat_eq j n) h
+other_withdrawal l n v h = refl
+
+other_room : (l n : ℕ) (v : Event) → nat_eq (link_of v) l ≡ false → is_room l n v ≡ false
+other_room l n (Room k j) h = ap (λ z. z && nat_eq j n) h
+other_room l n v h = refl
 
 no_offer : (l : ℕ) (v : Event) → nat_eq (link_of v) l ≡ false → is_offer l v ≡ false
 no_offer l (Offer k j payload) h = h
@@ -195,6 +251,12 @@ counts_more l e es = go (is_offer l e.event)
     go false = omega arith
 
 -- ---- a journal
+
+abbrev pub withdrawals : ℕ → ℕ → List Entry → Bool
+withdrawals l n j = list_any (λ (e : Entry). is_withdrawal l n e.event) j
+
+abbrev pub rooms : ℕ → ℕ → List Entry → Bool
+rooms l n j = list_any (λ (e : Entry). is_room l n e.event) j
 
 module _ (terms : Terms) (mine : Event → ℕ) (p l : ℕ) (end : List OwnerOffer) where
   abbrev Runs : List OwnerOffer → List Entry → Type 0
@@ -244,23 +306,77 @@ module _ (terms : Terms) (mine : Event → ℕ) (p l : ℕ) (end : List OwnerOff
   runs_length [] os r = let e : length end ≡ length os = ap length r in omega (arith, e)
   runs_length (e ∷ j) os r = length_more e j os (runs_length j) (nat_eq (link_of e.event) l) refl r
 
-  abbrev NotWithdrawn : Entry → Type 0
-  NotWithdrawn e = is_withdrawal e.event ≡ false
+  abbrev WithdrawnBy : ℕ → List Entry → Type 0
+  WithdrawnBy n j = (os : List OwnerOffer) → Runs os j → was_withdrawn (slice_get end n) ≡ (was_withdrawn (slice_get os n) || withdrawals l n j)
 
-  abbrev NoneFree : List OwnerOffer → Type 0
-  NoneFree os = (n : ℕ) → may_free (slice_get os n) ≡ false
+  withdrawn_more : (n : ℕ) (e : Entry) (j : List Entry) (os : List OwnerOffer) → WithdrawnBy n j → (b : Bool) → nat_eq (link_of e.event) l ≡ b → RunsBy b os e j
+      → was_withdrawn (slice_get end n) ≡ (was_withdrawn (slice_get os n) || withdrawals l n (e ∷ j))
+  withdrawn_more n e j os rest true h q =
+      rest (owner_after os e.stamp (mine e.event) e.event) q.2 ∙ ap (λ b. b || withdrawals l n j) (step_withdrawn terms l os e.stamp (mine e.event) n e.event h q.0)
+      ∙ or_assoc (was_withdrawn (slice_get os n)) (is_withdrawal l n e.event) (withdrawals l n j)
+  withdrawn_more n e j os rest false h q = rest os q ∙ ap (λ b. was_withdrawn (slice_get os n) || (b || withdrawals l n j)) (sym (other_withdrawal l n e.event h))
 
-  abbrev FreeBy : List Entry → Type 0
-  FreeBy j = (os : List OwnerOffer) → NoneFree os → Runs os j → NoneFree end
+  runs_withdrawn : (n : ℕ) (j : List Entry) → WithdrawnBy n j
+  runs_withdrawn n [] os r = ap (λ (z : List OwnerOffer). was_withdrawn (slice_get z n)) r ∙ sym (or-false (was_withdrawn (slice_get os n)))
+  runs_withdrawn n (e ∷ j) os r = withdrawn_more n e j os (runs_withdrawn n j) (nat_eq (link_of e.event) l) refl r
 
-  free_more : (e : Entry) (j : List Entry) (os : List OwnerOffer) → NotWithdrawn e → FreeBy j → NoneFree os → (b : Bool) → RunsBy b os e j → NoneFree end
-  free_more e j os w rest h true q = rest (owner_after os e.stamp (mine e.event) e.event) (step_free terms l os e.stamp (mine e.event) e.event w q.0 h) q.2
-  free_more e j os w rest h false q = rest os h q
+  abbrev UnknownBy : ℕ → List Entry → Type 0
+  UnknownBy n j = (os : List OwnerOffer) → Runs os j → (is_known (slice_get os n) ≡ false) × (rooms l n j ≡ false)
 
-  pub runs_free : (j : List Entry) (os : List OwnerOffer) → All NotWithdrawn j → NoneFree os → Runs os j → NoneFree end
-  runs_free [] os a h r = subst NoneFree (sym r) h
-  runs_free (e ∷ j) os a h r =
-      free_more e j os (All-head NotWithdrawn e j a) (λ os h q. runs_free j os (All-tail NotWithdrawn e j a) h q) h (nat_eq (link_of e.event) l) r
+  unknown_more : (n : ℕ) (e : Entry) (j : List Entry) (os : List OwnerOffer) → UnknownBy n j → (b : Bool) → nat_eq (link_of e.event) l ≡ b → RunsBy b os e j
+      → (is_known (slice_get os n) ≡ false) × (rooms l n (e ∷ j) ≡ false)
+  unknown_more n e j os rest true h q =
+      let later = rest (owner_after os e.stamp (mine e.event) e.event) q.2 in
+      let now = step_unknown terms l os e.stamp (mine e.event) n e.event h q.0 later.0 in
+      (now.0, neither (is_room l n e.event) (rooms l n j) now.1 later.1)
+  unknown_more n e j os rest false h q = let later = rest os q in (later.0, neither (is_room l n e.event) (rooms l n j) (other_room l n e.event h) later.1)
+
+  runs_unknown : (n : ℕ) → is_known (slice_get end n) ≡ false → (j : List Entry) → UnknownBy n j
+  runs_unknown n un [] os r = (ap (λ (z : List OwnerOffer). is_known (slice_get z n)) (sym r) ∙ un, refl)
+  runs_unknown n un (e ∷ j) os r = unknown_more n e j os (runs_unknown n un j) (nat_eq (link_of e.event) l) refl r
+
+  -- an offer whose room may come back was withdrawn, and keeps its room
+  pub runs_free : (n : ℕ) (j : List Entry) → Runs [] j → may_free (slice_get end n) ≡ true → keeps_room l n j ≡ true
+  runs_free n j r free =
+      let parts = free_parts (slice_get end n) free in
+      let withdrawn : withdrawals l n j ≡ true = sym (runs_withdrawn n j [] r) ∙ parts.0 in
+      let room : rooms l n j ≡ false = (runs_unknown n parts.1 j [] r).1 in
+      ap (λ b. b && not (rooms l n j)) withdrawn ∙ ap not room
+
+-- ---- a link on which the core does not send
+
+module _ (p l n : ℕ) where
+  abbrev NoneIn : List Entry → Type 0
+  NoneIn j = offers_of l n j ≡ 0
+
+  none_more : (e : Entry) (j : List Entry) → one_if (is_offer_of l n e.event) ≡ 0 → NoneIn j → NoneIn (e ∷ j)
+  none_more e j a b = omega (arith, a, b)
+
+  abbrev part : List Entry → List Stamped
+  part j = filter (is_of_link l) (of_party p j)
+
+  -- the link has no entries
+  pub absent_offers : (j : List Entry) → part j ≡ [] → NoneIn j
+  absent_offers [] h = refl
+  absent_offers (e ∷ j) h = by (nat_eq (link_of e.event) l) refl h (absent_offers j)
+    where
+      by : (b : Bool) → nat_eq (link_of e.event) l ≡ b → cond b (record { party = p; entry = e } ∷ part j) (part j) ≡ [] → (part j ≡ [] → NoneIn j) → NoneIn (e ∷ j)
+      by true at h later = let no : record { party = p; entry = e } ∷ part j ≡ [] = h in absurd (cc)
+      by false at h later = none_more e j (other_offer l n e.event at) (later h)
+
+  peer_offers_none : (terms : Terms) (ds : List PeerDecision) (v : Event) → peer_fits terms ds v ≡ true → one_if (is_offer_of l n v) ≡ 0
+  peer_offers_none terms ds (Offer k j payload) h = let no : false ≡ true = h in absurd (cc)
+  peer_offers_none terms ds v h = refl
+
+  -- it receives on it
+  pub peer_offers : (terms : Terms) (mine : Event → ℕ) (end : List PeerDecision) (j : List Entry) (ds : List PeerDecision) → PeerRuns terms mine ds (part j) end → NoneIn j
+  peer_offers terms mine end [] ds r = refl
+  peer_offers terms mine end (e ∷ j) ds r = by (nat_eq (link_of e.event) l) refl r (peer_offers terms mine end j)
+    where
+      by : (b : Bool) → nat_eq (link_of e.event) l ≡ b → PeerRuns terms mine ds (cond b (record { party = p; entry = e } ∷ part j) (part j)) end
+          → ((ds : List PeerDecision) → PeerRuns terms mine ds (part j) end → NoneIn j) → NoneIn (e ∷ j)
+      by true at r later = none_more e j (peer_offers_none terms ds e.event r.0) (later (ds ++ decision_of e.stamp (mine e.event) e.event ∷ []) r.2)
+      by false at r later = none_more e j (other_offer l n e.event at) (later ds r)
 
 -- ---- one that stands is found
 

@@ -1,7 +1,8 @@
 -- A core that records what its ports tell goes on in step with them.
-use Rattle.std.proofs.Common.{◌≡◌, ℕ, ◌<◌, ◌≤◌, List, [], ◌∷◌, ◌++◌, length, Option, Some, None, IsSome, true, false, refl, sym, ap, ◌∙◌, subst, arith}
+use Rattle.std.proofs.Common.{◌≡◌, ℕ, ◌<◌, ◌≤◌, List, [], ◌∷◌, ◌++◌, length, Option, Some, None, IsSome, Bool, true, false, refl, sym, ap, ◌∙◌, subst, arith}
 use Rattle.std.specs.Prelude.{find, slice_get, IfNone, is_none}
 use Rattle.std.specs.List.{filter}
+use Rattle.std.proofs.lemmas.Bool.{and_parts}
 use Rattle.std.proofs.lemmas.List.{append-nil, append_assoc}
 use Rattle.ac_base.specs.declared.entry.Event.TheVariants as event
 use Rattle.ac_base.specs.declared.entry.Payload.{Payload}
@@ -9,7 +10,7 @@ use Rattle.ac_base.specs.Stamps.{next_stamp}
 use Rattle.ac_links.specs.declared.payloads.Terms.{Terms}
 use Rattle.ac_links.specs.Journals.{last_of}
 use Rattle.ac_links.specs.Link.{link_of}
-use Rattle.ac_links.specs.Noted.{owner_noted}
+use Rattle.ac_links.specs.Noted.{owner_noted, peer_noted}
 use Rattle.ac_links.specs.Order.{of_party, is_of_link}
 use Rattle.ac_links.specs.Views.{OwnerOffer, OwnerRuns, may_free, may_withdraw}
 use Rattle.ac_links.specs.Party.{LinkEnd, EndRuns, PartyAgrees, end_fits}
@@ -17,26 +18,30 @@ use Rattle.ac_links.specs.Party.LinkEnd.{Owns, Decides, Absent}
 use Rattle.work_item.specs.declared.ids.Item.{Item}
 use Rattle.cancel_scope.specs.Outstanding.{is_offered}
 use Rattle.core_channels.specs.Laws.{Told}
-use Rattle.core_ports.specs.Ends.{AreUpTo, is_owner, is_peer}
+use Rattle.core_ports.specs.Ends.{AreUpTo, is_owner, is_peer, offer_at}
 use Rattle.core_ports.specs.Tells.{Tells, TellsOne}
 use Rattle.core_ports.proofs.GoingOn.{core_goes_on}
 use Rattle.core_ports.proofs.UpTo.{up_to_all}
-use Rattle.core_state.specs.Moves.{On}
-use Rattle.core_state.specs.Arrivals.{Arrival, offers_on}
+use Rattle.core_state.specs.Moves.{Move, On, Over}
+use Rattle.core_state.specs.Arrivals.{Arrival, keeps_room, offers_on}
 use Rattle.core_state.specs.Shared.{Shared}
-use Rattle.code_meaning.specs.Machine.{Flat, arrived}
+use Rattle.code_meaning.specs.Machine.{Flat, FlatEnd, arrived}
 use Rattle.stack_code.specs.Parts.{Parts}
 use Rattle.code_safety.specs.Fit.{one_if}
-use Rattle.core_machine.specs.Machine.{Machine, IsOnItsWay, IsSameCore}
-use Rattle.core_machine.specs.Points.{HasCome, HasTracks, entry_of, is_at_point, left_at, operations_of, work_left}
-use Rattle.core_machine.specs.Tracks.{Tracks, standing_of}
+use Rattle.core_machine.specs.Machine.{Machine, IsOnItsWay, IsSameCore, has_ended}
+use Rattle.core_machine.specs.Points.{HasCome, HasTracks, is_at_point, left_at, operations_of, work_left}
+use Rattle.core_machine.specs.Tracks.{Tracks, offers_of, standing_of}
 use Rattle.core_driver.specs.Driven.{AreOnChannels}
 use Rattle.core_driver.specs.Idle.{IsLater}
 use Rattle.core_driver.specs.Sides.{ArePortsOf}
 use Rattle.core_driver.specs.inner.InStep.{Holds, InStep, Looks}
 use Rattle.core_driver.specs.inner.Outside.{Later, Outside}
-use Rattle.core_driver.proofs.Channels.{offered_on, one_more}
-use Rattle.core_driver.proofs.Opened.{open_at, found_one, next_by, runs_free, runs_length, runs_open}
+use Rattle.core_driver.proofs.Channels.{offered_on, one_more, withdrawn_on}
+use Rattle.core_driver.proofs.Opened.{absent_offers, open_at, found_one, next_by, peer_offers, runs_free, runs_length, runs_open, withdrawals}
+
+is_one : (b : Bool) → 1 ≤ one_if b → b ≡ true
+is_one true h = refl
+is_one false h = absurd (omega (arith, h))
 
 -- ---- what an end tells
 
@@ -67,8 +72,14 @@ module _ (m : Machine) (o : Outside) (h : InStep m o) where
       next_there : length os ≡ offers_on l m.journal
       next_there = let all = runs_length (o.terms l) (owner_noted os) m.core l os m.journal [] runs in omega (arith, all)
 
-      none_free : (n : ℕ) → may_free (slice_get os n) ≡ false
-      none_free = runs_free (o.terms l) (owner_noted os) m.core l os m.journal [] tracks.withdrawn (λ n. refl) runs
+      kept_there : (n : ℕ) → may_free (slice_get os n) ≡ true → keeps_room l n m.journal ≡ true
+      kept_there n free = runs_free (o.terms l) (owner_noted os) m.core l os n m.journal runs free
+
+      open_there : (n : ℕ) → 1 ≤ standing_of l n (operations_of m.state) → may_withdraw (slice_get os n) ≡ true
+      open_there n some =
+          let all = runs_open (o.terms l) (owner_noted os) m.core l os n m.journal [] runs in
+          let track = tracks.each l n in
+          is_one (may_withdraw (slice_get os n)) (omega (arith, all, track, some))
 
     -- ---- by the end, whichever it is
 
@@ -97,14 +108,38 @@ module _ (m : Machine) (o : Outside) (h : InStep m o) where
         go (Decides ds) e own fits = let no : false ≡ true = own in absurd (cc)
         go Absent e own fits = let no : false ≡ true = own in absurd (cc)
 
-    -- no room comes back
-    pub no_room : (l n : ℕ) → is_owner (o.ends l) ≡ true → end_fits (o.terms l) (o.ends l) (event.Room l n) ≡ true → ⊥
-    no_room l n = go (o.ends l) refl
+    -- whose room comes back, that was withdrawn and keeps it
+    pub frees_one : (l n : ℕ) → is_owner (o.ends l) ≡ true → end_fits (o.terms l) (o.ends l) (event.Room l n) ≡ true → keeps_room l n m.journal ≡ true
+    frees_one l n = go (o.ends l) refl
       where
-        go : (x : LinkEnd) → o.ends l ≡ x → is_owner x ≡ true → end_fits (o.terms l) x (event.Room l n) ≡ true → ⊥
-        go (Owns os) e own fits = let no : false ≡ true = sym (none_free l os e n) ∙ fits in cc
-        go (Decides ds) e own fits = let no : false ≡ true = own in cc
-        go Absent e own fits = let no : false ≡ true = own in cc
+        go : (x : LinkEnd) → o.ends l ≡ x → is_owner x ≡ true → end_fits (o.terms l) x (event.Room l n) ≡ true → keeps_room l n m.journal ≡ true
+        go (Owns os) e own fits = kept_there l os e n fits
+        go (Decides ds) e own fits = let no : false ≡ true = own in absurd (cc)
+        go Absent e own fits = let no : false ≡ true = own in absurd (cc)
+
+    some_offers : (l n : ℕ) → 1 ≤ standing_of l n (operations_of m.state) → 1 ≤ offers_of l n m.journal
+    some_offers l n some = let track = tracks.each l n in omega (arith, track, some)
+
+    -- an offer that stands for an operation may be withdrawn
+    pub stands_open : (l n : ℕ) → 1 ≤ standing_of l n (operations_of m.state) → may_withdraw (offer_at (o.ends l) n) ≡ true
+    stands_open l n some = go (o.ends l) refl
+      where
+        of_end : (x : LinkEnd) → o.ends l ≡ x → EndRuns (o.terms l) x (filter (is_of_link l) (of_party m.core m.journal))
+        of_end x e = subst (λ (y : LinkEnd). EndRuns (o.terms l) y (filter (is_of_link l) (of_party m.core m.journal))) e (h.agrees.runs l)
+
+        go : (x : LinkEnd) → o.ends l ≡ x → may_withdraw (offer_at x n) ≡ true
+        go (Owns os) e = open_there l os e n some
+        go (Decides ds) e =
+            let none = peer_offers m.core l n (o.terms l) (peer_noted ds) ds m.journal [] (of_end (Decides ds) e) in
+            let more = some_offers l n some in
+            absurd (omega (arith, none, more))
+        go Absent e =
+            let none = absent_offers m.core l n m.journal (of_end Absent e) in
+            let more = some_offers l n some in
+            absurd (omega (arith, none, more))
+
+    pub stands_on : (l n : ℕ) → 1 ≤ standing_of l n (operations_of m.state) → l < length m.code.ends
+    stands_on l n some = offered_on (length m.code.ends) l n m.journal h.channels (some_offers l n some)
 
 -- where a core decides, it learns of nothing
 pub peer_knows_nothing : (terms : Terms) (x : LinkEnd) (l n : ℕ) → is_peer x ≡ true → end_fits terms x (event.Know l n) ≡ true → ⊥
@@ -228,70 +263,54 @@ told_moves o p t call same =
     let on = later_than o.last p.last call.tells.answers (call.tells.clock ∙ call.tells.next) in
     absurd (omega (arith, on, same))
 
-module _ (m b : Machine) (o : Outside) (h : InStep m o) (point : is_at_point m.state ≡ true) (same : IsSameCore m b) (state : b.state ≡ m.state) (run : IsOnItsWay b) where
-  -- room was made
-  pub roomed : InStep b o
-  roomed = core_on m b o h same run
+pub still_going : (state : Move Flat FlatEnd) → is_at_point state ≡ true → has_ended state ≡ false
+still_going (On m) h = refl
+still_going (Over x) h = let no : false ≡ true = h in absurd (cc)
 
-  pub roomed_point : is_at_point b.state ≡ true
-  roomed_point = ap is_at_point state ∙ point
+-- the machine after it has recorded what was told
+pub record Recorded (before : Machine) (t : Told) (turn : ℕ) (after : Machine) : Type 0 where
+  pub journal : after.journal ≡ before.journal ++ record { stamp = t.stamp; turn = turn; event = t.event } ∷ []
+  pub code : after.code ≡ before.code
+  pub core : after.core ≡ before.core
+  pub bound : after.bound ≡ before.bound
 
-  roomed_less : (ranks : List ℕ) → work_left ranks b ≡ work_left ranks m
+-- room was made
+module _ (m b : Machine) (o : Outside) (h : InStep m o) (same : IsSameCore m b) (state : b.state ≡ m.state) (run : IsOnItsWay b) where
+  pub with_room : InStep b o
+  with_room = core_on m b o h same run
+
+  pub roomed_less : (ranks : List ℕ) → work_left ranks b ≡ work_left ranks m
   roomed_less ranks = ap (left_at ranks b.bound) state ∙ ap (λ n. left_at ranks n m.state) same.bound
 
-  pub roomed_looks : Looks m o b o
-  roomed_looks = record {
-    holds = record { in_step = roomed; machine = core_later m b same; ports = same_later o };
-    point = roomed_point;
-    less = λ ranks. let e = roomed_less ranks in omega (arith, e);
-    state = λ e. state;
-  }
-
-  module _ (tracks : HasTracks b) where
-    pub knows_after : (l n : ℕ) → is_owner (o.ends l) ≡ true → end_fits (o.terms l) (o.ends l) (event.Know l n) ≡ true → IsSome (find (is_offered l n) (operations_of b.state))
-    knows_after = knows_one b o roomed (tracks roomed_point)
-
-    pub next_after : (l n : ℕ) (payload : Payload) → is_owner (o.ends l) ≡ true → end_fits (o.terms l) (o.ends l) (event.Offer l n payload) ≡ true → n ≡ offers_on l b.journal
-    next_after = offers_next b o roomed (tracks roomed_point)
-
-    pub known_after : (l n : ℕ) → is_owner (o.ends l) ≡ true → end_fits (o.terms l) (o.ends l) (event.Know l n) ≡ true → l < length m.code.ends
-    known_after l n own fits = subst (λ (code : Parts). l < length code.ends) same.code (known_on b o roomed (tracks roomed_point) l n own fits)
-
-    pub no_room_after : (l n : ℕ) → is_owner (o.ends l) ≡ true → end_fits (o.terms l) (o.ends l) (event.Room l n) ≡ true → ⊥
-    no_room_after = no_room b o roomed (tracks roomed_point)
+  pub roomed_holds : Holds m o b o
+  roomed_holds = record { in_step = with_room; machine = core_later m b same; ports = same_later o }
 
   -- nothing was told
-  pub nothing_looks : (p : Outside) → Called o p None → Looks m o b p
-  nothing_looks p call =
-      let r = roomed in
+  pub nothing_holds : (p : Outside) → Called o p None → Holds m o b p
+  nothing_holds p call =
+      let r = with_room in
       let t = call.tells in
       record {
-        holds = record {
-          in_step = record {
-            run = run;
-            ports = rw (call.terms, t.0) r.ports;
-            agrees = rw (call.terms, t.0) r.agrees;
-            clock = t.1 ∙ r.clock;
-            channels = r.channels;
-          };
-          machine = core_later m b same;
-          ports = record {
-            terms = call.terms;
-            clock = (let e = t.1 in omega (arith, e));
-            ends = λ e. t.0;
-            hand = λ e. call.hand;
-            polls = call.polls;
-            tries = call.tries;
-          };
+        in_step = record {
+          run = run;
+          ports = rw (call.terms, t.0) r.ports;
+          agrees = rw (call.terms, t.0) r.agrees;
+          clock = t.1 ∙ r.clock;
+          channels = r.channels;
         };
-        point = roomed_point;
-        less = λ ranks. let e = roomed_less ranks in omega (arith, e);
-        state = λ e. state;
+        machine = core_later m b same;
+        ports = record {
+          terms = call.terms;
+          clock = (let e = t.1 in omega (arith, e));
+          ends = λ e. t.0;
+          hand = λ e. call.hand;
+          polls = call.polls;
+          tries = call.tries;
+        };
       }
 
   -- an entry was told, and is recorded
-  module _ (p : Outside) (t : Told) (call : Called o p (Some t)) (n : Machine) (come : HasCome b t.event t.stamp n) (less : (ranks : List ℕ) → work_left ranks n ≤ work_left ranks b)
-      (goes : IsOnItsWay n) (on : link_of t.event < length m.code.ends) where
+  module _ (p : Outside) (t : Told) (call : Called o p (Some t)) (n : Machine) (turn : ℕ) (made : Recorded b t turn n) (goes : IsOnItsWay n) (on : link_of t.event < length m.code.ends) where
     abbrev tells : TellsOne o.terms o.ends o.last t p.ends p.last
     tells = call.tells
 
@@ -303,45 +322,97 @@ module _ (m b : Machine) (o : Outside) (h : InStep m o) (point : is_at_point m.s
 
     in_step_then : InStep n p
     in_step_then =
-        let r = roomed in
-        let on_all = core_goes_on o.terms b.core o.ends p.ends b.journal come.flat.shared.turn (Some t) p.last r.agrees
+        let r = with_room in
+        let on_all = core_goes_on o.terms b.core o.ends p.ends b.journal turn (Some t) p.last r.agrees
         (subst (λ k. TellsOne o.terms o.ends k t p.ends p.last) r.clock tells) in
         record {
           run = goes;
           ports = subst (λ terms. ArePortsOf n.code n.core terms p.ends) (sym call.terms)
-              (ports_on b.code n.code b.core n.core o.terms o.ends p.ends come.code come.core on_all.owner on_all.peer r.ports);
+              (ports_on b.code n.code b.core n.core o.terms o.ends p.ends made.code made.core on_all.owner on_all.peer r.ports);
           agrees = subst (λ terms. PartyAgrees terms n.core p.ends n.journal) (sym call.terms)
-              (subst (λ core. PartyAgrees o.terms core p.ends n.journal) (sym come.core) (subst (PartyAgrees o.terms b.core p.ends) (sym come.journal) on_all.agrees));
-          clock = on_all.clock ∙ ap (last_of 0) (sym come.journal);
-          channels = rw (come.code, come.journal, same.code) (one_more (length m.code.ends) b.journal (entry_of come.flat t.event t.stamp)
+              (subst (λ core. PartyAgrees o.terms core p.ends n.journal) (sym made.core) (subst (PartyAgrees o.terms b.core p.ends) (sym made.journal) on_all.agrees));
+          clock = on_all.clock ∙ ap (last_of 0) (sym made.journal);
+          channels = rw (made.code, made.journal, same.code) (one_more (length m.code.ends) b.journal (record { stamp = t.stamp; turn = turn; event = t.event })
               (subst (λ (code : Parts). AreOnChannels (length code.ends) b.journal) same.code r.channels) on);
         }
 
+    pub recorded_holds : Holds m o n p
+    recorded_holds = record {
+      in_step = in_step_then;
+      machine = later_on m b n (core_later m b same) (record {
+        code = made.code;
+        core = made.core;
+        bound = made.bound;
+        entries = record { stamp = t.stamp; turn = turn; event = t.event } ∷ [];
+        journal = made.journal;
+      });
+      ports = record {
+        terms = call.terms;
+        clock = (let a = clock_on in omega (arith, a));
+        ends = λ e. absurd (no_stay e);
+        hand = λ e. absurd (no_stay e);
+        polls = call.polls;
+        tries = call.tries;
+      };
+    }
+
+-- ---- at a dispatch point
+
+module _ (m b : Machine) (o : Outside) (h : InStep m o) (point : is_at_point m.state ≡ true) (same : IsSameCore m b) (state : b.state ≡ m.state) (run : IsOnItsWay b) where
+  roomed : InStep b o
+  roomed = with_room m b o h same state run
+
+  roomed_point : is_at_point b.state ≡ true
+  roomed_point = ap is_at_point state ∙ point
+
+  pub roomed_looks : Looks m o b o
+  roomed_looks = record {
+    holds = roomed_holds m b o h same state run;
+    point = roomed_point;
+    less = λ ranks. let e = roomed_less m b o h same state run ranks in omega (arith, e);
+    state = λ e. state;
+  }
+
+  module _ (all : HasTracks b) where
+    tracks : Tracks b.journal (operations_of b.state)
+    tracks = all (still_going b.state roomed_point)
+
+    pub knows_after : (l n : ℕ) → is_owner (o.ends l) ≡ true → end_fits (o.terms l) (o.ends l) (event.Know l n) ≡ true → IsSome (find (is_offered l n) (operations_of b.state))
+    knows_after = knows_one b o roomed tracks
+
+    pub next_after : (l n : ℕ) (payload : Payload) → is_owner (o.ends l) ≡ true → end_fits (o.terms l) (o.ends l) (event.Offer l n payload) ≡ true → n ≡ offers_on l b.journal
+    next_after = offers_next b o roomed tracks
+
+    pub known_after : (l n : ℕ) → is_owner (o.ends l) ≡ true → end_fits (o.terms l) (o.ends l) (event.Know l n) ≡ true → l < length m.code.ends
+    known_after l n own fits = subst (λ (code : Parts). l < length code.ends) same.code (known_on b o roomed tracks l n own fits)
+
+    pub frees_after : (l n : ℕ) → is_owner (o.ends l) ≡ true → end_fits (o.terms l) (o.ends l) (event.Room l n) ≡ true → keeps_room l n b.journal ≡ true
+    frees_after = frees_one b o roomed tracks
+
+    pub freed_after : (l n : ℕ) → is_owner (o.ends l) ≡ true → end_fits (o.terms l) (o.ends l) (event.Room l n) ≡ true → l < length m.code.ends
+    freed_after l n own fits =
+        subst (λ (code : Parts). l < length code.ends) same.code (withdrawn_on (length b.code.ends) l n b.journal roomed.channels
+        (and_parts (withdrawals l n b.journal) _ (frees_after l n own fits)).0)
+
+  -- nothing was told
+  pub nothing_looks : (p : Outside) → Called o p None → Looks m o b p
+  nothing_looks p call = record {
+    holds = nothing_holds m b o h same state run p call;
+    point = roomed_point;
+    less = λ ranks. let e = roomed_less m b o h same state run ranks in omega (arith, e);
+    state = λ e. state;
+  }
+
+  -- an entry was told, and is recorded
+  module _ (p : Outside) (t : Told) (call : Called o p (Some t)) (n : Machine) (come : HasCome b t.event t.stamp n) (less : (ranks : List ℕ) → work_left ranks n ≤ work_left ranks b)
+      (goes : IsOnItsWay n) (on : link_of t.event < length m.code.ends) where
     come_point : is_at_point n.state ≡ true
     come_point = ap is_at_point come.state ∙ point_on come.flat _ come.arrival (sym (ap is_at_point come.stood) ∙ roomed_point)
 
     pub entered_looks : Looks m o n p
     entered_looks = record {
-      holds = record {
-        in_step = in_step_then;
-        machine = later_on m b n (core_later m b same) (record {
-          code = come.code;
-          core = come.core;
-          bound = come.bound;
-          entries = entry_of come.flat t.event t.stamp ∷ [];
-          journal =
-              come.journal;
-        });
-        ports = record {
-          terms = call.terms;
-          clock = (let a = clock_on in omega (arith, a));
-          ends = λ e. absurd (no_stay e);
-          hand = λ e. absurd (no_stay e);
-          polls = call.polls;
-          tries = call.tries;
-        };
-      };
+      holds = recorded_holds m b o h same state run p t call n come.flat.shared.turn (record { journal = come.journal; code = come.code; core = come.core; bound = come.bound }) goes on;
       point = come_point;
-      less = λ ranks. let e = roomed_less ranks in let f = less ranks in omega (arith, e, f);
-      state = λ e. absurd (no_stay e);
+      less = λ ranks. let e = roomed_less m b o h same state run ranks in let f = less ranks in omega (arith, e, f);
+      state = λ e. absurd (told_moves o p t call e);
     }

@@ -47,9 +47,12 @@ fn poll_own<P: Ports>(
             machine.know(link, number, stamp);
             Ok(false)
         }
+        Arrived::Room { number, stamp } => {
+            machine.roomed(link, number, stamp);
+            Ok(false)
+        }
         Arrived::Nothing => Ok(false),
         Arrived::ClockFull => Ok(true),
-        Arrived::Room { .. } => unreachable!(),
         Arrived::Got { .. } => unreachable!(),
         Arrived::Pass { .. } => unreachable!(),
         Arrived::Reply { .. } => unreachable!(),

@@ -1,9 +1,10 @@
 //! A core runs, and looks at its links at each dispatch point.
 
-ghost use Rattle.std.specs.Prelude.{◌≡◌, ◌≤◌, ◌||◌, true, false, IfOk, MatchResult};
+ghost use Rattle.std.specs.Prelude.{◌≡◌, ◌≤◌, ◌||◌, Some, true, false, IfOk, MatchResult};
 ghost use Rattle.stack_code.specs.Kept.{IsRanked};
 ghost use Rattle.core_machine.specs.Machine.{has_ended};
 ghost use Rattle.core_machine.specs.Points.{is_at_point};
+ghost use Rattle.core_machine.specs.Tried.{tried_of};
 ghost use Rattle.core_driver.specs.declared.pause.Pause.{Pause};
 ghost use Rattle.core_driver.specs.Pauses.{IsPaused, is_clock_full};
 ghost use Rattle.core_driver.specs.Idle.{LeavesNothing, HasLooked};
@@ -15,7 +16,8 @@ use crate::looks::look_round;
 use crate::pause::{Pause, pause_of};
 use crate::seen::Seen;
 use ac_base::{Clock, NoMemory};
-use core_machine::CoreMachine;
+use core_channels::Withdrawing;
+use core_machine::{CoreMachine, Tried};
 use core_ports::Ports;
 
 // A dispatch point: a look at each link, and then the front of the ready list runs.
@@ -62,7 +64,50 @@ fn pass_point<P: Ports>(
     Ok(Seen::WentOn)
 }
 
-// A stretch of the running thread, or a dispatch point.
+// The outcome of the offer that a cancel tries: the answer of its link, which is recorded before
+// anything else is tried.
+fn decide<P: Ports>(
+    machine: &mut CoreMachine<'_>,
+    ports: &mut P,
+    clock: &mut Clock,
+    tried: Tried,
+    _ranks: &[u64],
+) -> Result<Seen, NoMemory>
+    requires in_step { InStep machine.old
+        (outside (P.terms ports.old) (P.ends ports.old) (P.at_hand ports.old) (P.heard ports.old)
+        (P.polls ports.old) (P.tries ports.old) clock.old) }
+    requires asks { tried_of machine.old.code machine.old.state ≡ Some tried }
+    ensures holds { Holds machine.old
+        (outside (P.terms ports.old) (P.ends ports.old) (P.at_hand ports.old) (P.heard ports.old)
+        (P.polls ports.old) (P.tries ports.old) clock.old)
+        machine.new
+        (outside (P.terms ports.new) (P.ends ports.new) (P.at_hand ports.new) (P.heard ports.new)
+        (P.polls ports.new) (P.tries ports.new) clock.new) }
+    ensures came { IfOk result (λ seen. Came _ranks.now seen machine.old
+        (outside (P.terms ports.old) (P.ends ports.old) (P.at_hand ports.old) (P.heard ports.old)
+        (P.polls ports.old) (P.tries ports.old) clock.old)
+        machine.new
+        (outside (P.terms ports.new) (P.ends ports.new) (P.at_hand ports.new) (P.heard ports.new)
+        (P.polls ports.new) (P.tries ports.new) clock.new)) }
+    ensures full { MatchResult result (λ seen. P.full ports.new ≡ (P.full ports.old || is_seen_full seen))
+        (λ _. P.full ports.new ≡ P.full ports.old) }
+    ensures stays { P.stays ports.old ports.new }
+{
+    machine.make_room()?;
+    match ports.withdraw(tried.link, tried.number, clock) {
+        Withdrawing::Withdrawn { stamp } => {
+            machine.withdrawn(tried, stamp);
+            Ok(Seen::WentOn)
+        }
+        Withdrawing::Taken { stamp } => {
+            machine.taken(tried, stamp);
+            Ok(Seen::WentOn)
+        }
+        Withdrawing::ClockFull => Ok(Seen::Full),
+    }
+}
+
+// A dispatch point, the outcome of an offer that a cancel tries, or a stretch of the running thread.
 fn next_stretch<P: Ports>(
     machine: &mut CoreMachine<'_>,
     ports: &mut P,
@@ -92,6 +137,9 @@ fn next_stretch<P: Ports>(
 {
     if machine.is_at_point() {
         return pass_point(machine, ports, clock, _ranks);
+    }
+    if let Some(tried) = machine.tried() {
+        return decide(machine, ports, clock, tried, _ranks);
     }
     machine.turn(_ranks)?;
     Ok(Seen::WentOn)

@@ -4,7 +4,6 @@ use Rattle.std.specs.Prelude.{ℤ, pos, replicate, if◌then◌else◌}
 use Rattle.std.proofs.lemmas.List.{length-replicate}
 use Rattle.std.proofs.lemmas.List.Elements.{All-nil}
 use Rattle.ac_base.specs.declared.ends.Trap.TheVariants.{StackFull}
-use Rattle.ac_base.specs.declared.entry.Entry.{Entry}
 use Rattle.cancel_scope.specs.declared.operation.Operation.{Operation}
 use Rattle.cancel_scope.specs.Outstanding.{is_send, is_waiting}
 use Rattle.work_item.specs.Store.{Store, Frame, made, no_frames, no_int}
@@ -28,7 +27,7 @@ use Rattle.core_machine.specs.declared.running.Running.{Running}
 use Rattle.core_machine.specs.inner.Beginning.{HasBegun}
 use Rattle.core_machine.specs.Machine.{IsFirst, IsOnItsWay}
 use Rattle.core_machine.specs.State.{flat_of, end_or, state_of, machine_of, IsSound}
-use Rattle.core_machine.specs.Tracks.{is_withdrawal, Tracks}
+use Rattle.core_machine.specs.Tracks.{Tracks}
 
 -- ---- the frame
 
@@ -97,12 +96,11 @@ module _ (m : Running) (function : Entered) (b : Begins m.code.now m.core functi
     pub run_of : IsOnItsWay (machine_of m)
     run_of = record { function = function; begins = b; goes = subst (GoesOn (exec m.code.now m.bound) start) (sym state_first) (GoesOn-none (exec m.code.now m.bound) start) }
 
-    pub sound_first : IsValid m.code.now → IsMeant m.code.now → m.threads.pending ≡ false → IsSound m
-    sound_first v meant none = record {
+    pub sound_first : IsValid m.code.now → IsMeant m.code.now → IsSound m
+    sound_first v meant = record {
       fit = λ still. go m.ended still begun;
       chained = λ still. chains m.ended still begun;
       tracks = λ still. subst (λ os. Tracks m.journal.entries os) (sym no_operations) (subst (λ past. Tracks past []) (sym journal) tracks_none);
-      settled = λ runs. none;
       valid = v;
       meant = meant;
       ran = run_of;
@@ -115,7 +113,6 @@ module _ (m : Running) (function : Entered) (b : Begins m.code.now m.core functi
         tracks_none = record {
           each = λ l n. refl;
           receives = All-nil (λ (o : Operation). is_send o.asked ≡ false → is_waiting o.progress ≡ true);
-          withdrawn = All-nil (λ (e : Entry). is_withdrawal e.event ≡ false);
         }
 
         stands : m.frames ≡ framed m.code.now function → has_words (bare m.code.now) function.words ≡ true → IsFit m.code.now (flat_of m)

@@ -21,7 +21,7 @@ at_blocks (x ∷ xs) (suc n) = at_blocks xs n
 pub record Kept (xs : List (Option kept.Block)) (b : BlockId) (x : Block) : Type 0 where
   pub block : kept.Block
   pub there : table.block_at xs b ≡ Some block
-  pub is : (record { parent = block.parent; owner = block.owner; count = block.count; waits = block.waits }) ≡ x
+  pub is : (record { parent = block.parent; owner = block.owner; count = block.count; waits = block.waits; cancelled = block.cancelled }) ≡ x
 
 kept_in : (xs : List (Option kept.Block)) (b : BlockId) (x : Block) (o : Option kept.Block) → table.block_at xs b ≡ o → block_of o ≡ Some x → Kept xs b x
 kept_in xs b x None e f = let no : None ≡ Some x = f in cc
@@ -31,7 +31,7 @@ pub kept_of : (xs : List (Option kept.Block)) (b : BlockId) (x : Block) → bloc
 kept_of xs b x e = kept_in xs b x (table.block_at xs b) refl (sym (at_blocks xs b.number) ∙ e)
 
 pub childless : (xs : List (Option kept.Block)) (b : BlockId) → IsChildless (blocks_of xs) b → Childless xs b
-childless xs b none c x e = none c (record { parent = x.parent; owner = x.owner; count = x.count; waits = x.waits }) (at_blocks xs c.number ∙ ap block_of e)
+childless xs b none c x e = none c (record { parent = x.parent; owner = x.owner; count = x.count; waits = x.waits; cancelled = x.cancelled }) (at_blocks xs c.number ∙ ap block_of e)
 
 module _ (xs : List (Option kept.Block)) (b : BlockId) (x : Block) (h : block_at (blocks_of xs) b ≡ Some x) where
   k : Kept xs b x

@@ -8,6 +8,7 @@ use Rattle.ac_base.specs.declared.entry.Entry.{Entry}
 use Rattle.ac_base.specs.declared.entry.Event.{Event}
 use Rattle.ac_base.specs.declared.entry.Event.TheVariants as event
 use Rattle.ac_base.specs.declared.entry.Payload.TheVariants as payload
+use Rattle.work_item.specs.declared.cell.Cell.TheVariants as cell
 use Rattle.work_item.specs.declared.cell.Place.{Place}
 use Rattle.work_item.specs.Store.{Store, with_int_at}
 use Rattle.cancel_scope.specs.declared.operation.Asked.TheVariants as asked
@@ -15,7 +16,7 @@ use Rattle.cancel_scope.specs.declared.operation.Operation.{Operation}
 use Rattle.cancel_scope.specs.Outstanding.{is_to_offer, is_offered, is_to_receive, carries, offered_as, change_first, without_first}
 use Rattle.cancel_scope.specs.Roomy.{Roomy}
 use Rattle.core_state.specs.Arrivals as arrivals
-use Rattle.core_state.specs.Arrivals.{goes_on_waiting, has_ended, offers, offers_on, ends_known, ends_received, passes_over, with_message, ok}
+use Rattle.core_state.specs.Arrivals.{goes_on_waiting, has_ended, offers, offers_on, ends_known, ends_received, passes_over, gives_room, keeps_room, with_message, ok}
 use Rattle.core_state.specs.Shared.{Shared, with_entry}
 use Rattle.code_meaning.specs.Machine.{Flat, resumed}
 use Rattle.core_machine.specs.declared.running.Running.{Running}
@@ -43,11 +44,11 @@ module _ (m : Running) (v : Event) (stamp : ℕ) where
   ended_enters : (b after : Running) (q : Roomy) (store store' : Store) (j : Log) (os : List Operation) (o : Operation)
       → arrivals.arrives m.journal.entries m.frames m.outstanding.operations v ≡ Some (has_ended store os o)
       → b ≡ noted q store' j → q.operations ≡ os → store' ≡ store → j.entries ≡ m.journal.entries ++ entry ∷ []
-      → flat_of after ≡ resumed (flat_of b) ok (Some o.item) → after.ended ≡ b.ended → IsSameCode b after → Enters m v stamp after
+      → flat_of after ≡ resumed (flat_of b) (cell.Int ok) (Some o.item) → after.ended ≡ b.ended → IsSameCode b after → Enters m v stamp after
   ended_enters b after q store store' j os o fits is ops frames entries flat ended same = record {
     arrival = has_ended store os o;
     fits = fits;
-    flat = flat ∙ ap (λ (f : Flat). resumed f ok (Some o.item)) (noted_is b q store store' j os is ops frames entries);
+    flat = flat ∙ ap (λ (f : Flat). resumed f (cell.Int ok) (Some o.item)) (noted_is b q store store' j os is ops frames entries);
     ended = ended ∙ ap (λ (y : Running). y.ended) is;
     same = record { code = same.code ∙ ap (λ (y : Running). y.code.now) is; core = same.core ∙ ap (λ (y : Running). y.core) is; bound = same.bound ∙ ap (λ (y : Running). y.bound) is };
   }
@@ -89,7 +90,7 @@ offer_enters m after q j link number stamp value next some sends is ops entries 
 
 pub know_enters : (m b after : Running) (q : Roomy) (j : Log) (link number stamp : ℕ) (o : Operation) → find (is_offered link number) m.outstanding.operations ≡ Some o
     → b ≡ noted m (event.Know link number) stamp q m.frames j → q.operations ≡ without_first (is_offered link number) m.outstanding.operations
-    → j.entries ≡ m.journal.entries ++ entry_now m (event.Know link number) stamp ∷ [] → flat_of after ≡ resumed (flat_of b) ok (Some o.item) → after.ended ≡ b.ended → IsSameCode b after
+    → j.entries ≡ m.journal.entries ++ entry_now m (event.Know link number) stamp ∷ [] → flat_of after ≡ resumed (flat_of b) (cell.Int ok) (Some o.item) → after.ended ≡ b.ended → IsSameCode b after
     → Enters m (event.Know link number) stamp after
 know_enters m b after q j link number stamp o found is ops entries flat ended same =
     let os = m.outstanding.operations in
@@ -99,7 +100,8 @@ know_enters m b after q j link number stamp o found is ops entries flat ended sa
 pub got_enters : (m b after : Running) (q : Roomy) (store : Store) (j : Log) (link number stamp : ℕ) (value : ℤ) (o : Operation) (place : Place)
     → find (is_to_receive link) m.outstanding.operations ≡ Some o → o.asked ≡ asked.Recv place → b ≡ noted m (event.Got link number value) stamp q store j
     → q.operations ≡ without_first (is_to_receive link) m.outstanding.operations → store ≡ with_int_at m.frames place 0 value
-    → j.entries ≡ m.journal.entries ++ entry_now m (event.Got link number value) stamp ∷ [] → flat_of after ≡ resumed (flat_of b) ok (Some o.item) → after.ended ≡ b.ended → IsSameCode b after
+    → j.entries ≡ m.journal.entries ++ entry_now m (event.Got link number value) stamp ∷ [] → flat_of after ≡ resumed (flat_of b) (cell.Int ok) (Some o.item) → after.ended ≡ b.ended
+    → IsSameCode b after
     → Enters m (event.Got link number value) stamp after
 got_enters m b after q store j link number stamp value o place found asks is ops frames entries flat ended same =
     let os = m.outstanding.operations in
@@ -119,3 +121,11 @@ pub pass_enters : (m after : Running) (j : Log) (link number stamp : ℕ) → Is
 pass_enters m after j link number stamp some is entries =
     waiting_enters m (event.Pass link number) stamp after m.outstanding j m.outstanding.operations
     (passes_it m.frames m.outstanding.operations (find (is_to_receive link) m.outstanding.operations) some) is refl entries
+
+-- ---- room that is given back
+
+pub room_enters : (m after : Running) (j : Log) (link number stamp : ℕ) → keeps_room link number m.journal.entries ≡ true
+    → after ≡ noted m (event.Room link number) stamp m.outstanding m.frames j → j.entries ≡ m.journal.entries ++ entry_now m (event.Room link number) stamp ∷ []
+    → Enters m (event.Room link number) stamp after
+room_enters m after j link number stamp keeps is entries =
+    waiting_enters m (event.Room link number) stamp after m.outstanding j m.outstanding.operations (ap (gives_room m.frames m.outstanding.operations) keeps) is refl entries

@@ -24,7 +24,7 @@ use Rattle.core_machine.specs.declared.ending.Ending.TheVariants as ending
 use Rattle.core_machine.specs.Words.{word_of}
 use Rattle.core_machine.specs.Machine.{none_ready, is_resting, is_idle, has_ended, IsSeen, waiting_at_end, waiting_of, waits, HasEnded}
 use Rattle.core_machine.specs.Blocks.{blocks_of, block_of}
-use Rattle.core_machine.specs.Tracks.{is_offer_of, is_end_of, is_withdrawal, offers_of, ends_of, standing_of, Tracks}
+use Rattle.core_machine.specs.Tracks.{is_offer_of, is_end_of, offers_of, ends_of, standing_of, Tracks}
 use Rattle.core_machine.specs.inner.Changes.{with_woken, item_of}
 use Rattle.core_machine.specs.declared.running.Running.{Running}
 use Rattle.core_machine.specs.State.{shared_of, thread_of, flat_of, end_or, state_of, has_room, machine_of}
@@ -124,9 +124,8 @@ abbrev pub known : Entry
 known = record { stamp = 3; turn = 1; event = event.Know 0 0 }
 
 pub what_an_entry_is : (is_offer_of 0 0 offer.event ≡ true) × (is_offer_of 0 1 offer.event ≡ false) × (is_offer_of 0 0 known.event ≡ false) × (is_end_of 0 0 known.event ≡ true)
-    × (is_end_of 1 0 known.event ≡ false) × (is_end_of 0 0 (event.Withdraw 0 0) ≡ true) × (is_end_of 0 0 (event.Room 0 0) ≡ false) × (is_withdrawal (event.Withdraw 0 0) ≡ true)
-    × (is_withdrawal known.event ≡ false)
-what_an_entry_is = (refl, refl, refl, refl, refl, refl, refl, refl, refl)
+    × (is_end_of 1 0 known.event ≡ false) × (is_end_of 0 0 (event.Withdraw 0 0) ≡ true) × (is_end_of 0 0 (event.Room 0 0) ≡ false)
+what_an_entry_is = (refl, refl, refl, refl, refl, refl, refl)
 
 pub how_many_there_are : (offers_of 0 0 (offer ∷ known ∷ []) ≡ 1) × (ends_of 0 0 (offer ∷ known ∷ []) ≡ 1) × (standing_of 0 0 (offered_as 0 sends ∷ hears ∷ []) ≡ 1)
     × (standing_of 0 0 (sends ∷ []) ≡ 0)
@@ -143,14 +142,12 @@ pub none_of_each : Tracks [] []
 none_of_each = record {
   each = λ l n. refl;
   receives = All-nil (λ (o : Operation). is_send o.asked ≡ false → is_waiting o.progress ≡ true);
-  withdrawn = All-nil (λ (e : Entry). is_withdrawal e.event ≡ false);
 }
 
 -- ---- blocks and threads
 
--- the mark is not seen
 pub block_is_seen : blocks_of (None ∷ Some (record { parent = None; owner = second; count = 2; waits = true; cancelled = true }) ∷ [])
-    ≡ None ∷ Some (record { parent = None; owner = second; count = 2; waits = true }) ∷ []
+    ≡ None ∷ Some (record { parent = None; owner = second; count = 2; waits = true; cancelled = true }) ∷ []
 block_is_seen = refl
 
 abbrev pub schedule : Schedule
@@ -166,7 +163,8 @@ pub second_runs : item_of (Some second) ≡ second
 second_runs = refl
 
 pub one_block_is_seen : (block_of None ≡ None)
-    × (block_of (Some (record { parent = None; owner = first; count = 0; waits = false; cancelled = true })) ≡ Some (record { parent = None; owner = first; count = 0; waits = false }))
+    × (block_of (Some (record { parent = None; owner = first; count = 0; waits = false; cancelled = true })) ≡ Some
+    (record { parent = None; owner = first; count = 0; waits = false; cancelled = true }))
 one_block_is_seen = (refl, refl)
 
 -- ---- the state that the fields stand for

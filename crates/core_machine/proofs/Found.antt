@@ -24,7 +24,7 @@ use Rattle.stack_code.specs.declared.shape.Leads.{Leads}
 use Rattle.stack_code.specs.declared.shape.Leads.TheVariants.{Two}
 use Rattle.stack_code.specs.Parts.{Parts}
 use Rattle.stack_code.specs.Shapes as shapes
-use Rattle.stack_code.specs.Shapes.{after, channels_of, first, pushed, body_with, pushes, goes, effect, is_int_alone, can_return, directives_in, want_of}
+use Rattle.stack_code.specs.Shapes.{after, channels_of, first, pushed, body_with, pushes, goes, effect, is_int_alone, can_return, directives_in, want_of, on_some, is_entered}
 use Rattle.stack_code.specs.Valid.{IsValid, HasRoom}
 use Rattle.code_meaning.specs.Meant.{has_meaning}
 use Rattle.code_meaning.specs.Machine.{Flat}
@@ -38,6 +38,7 @@ use Rattle.code_safety.proofs.Calling.{call_enough}
 use Rattle.thread_table.specs.Operands.{is_reference, on_top}
 use Rattle.core_machine.specs.inner.Operands.{Stand, second_place}
 use Rattle.core_machine.specs.inner.Needs.{HasInt, HasReference, HasInts, HasCell, HasArray, HasElement, HasCall, Finds}
+use Rattle.core_machine.proofs.OpenSlots.{slot_of_entered, lie_there}
 use Rattle.core_machine.proofs.Lives.{round_lives, finish_there, start_there, end_there, is_listed}
 
 -- the frames so many levels up live
@@ -206,6 +207,16 @@ module _ (code : Parts) (bound : ℕ) (m : Flat) (fit : IsFit code m) (t : Item)
         same = same_arguments code fit.births f.0.params (reverse (take count ops)) long wanted;
       }
 
+  cancel_there : (level slot : ℕ) (leads : Leads) → effect code m.current.place (i.Cancel level slot) s ≡ Some leads → HasCell m level slot
+  cancel_there level slot leads e =
+      let f = on_some_is (slice_get s.bodies level) (λ body. if is_entered s level slot then goes m.current.place s else None) leads e in
+      let c = if_is (is_entered s level slot) (goes m.current.place s) leads f.1.1 in
+      let room = slot_of_entered (length s.bodies) level slot s.bodies s.blocks f.0 refl f.1.0 (lie_there code m.current.place s own.top.reached) c.0 in
+      let fits : nat_le (slot + 1) f.0.slots ≡ true = grind (arith, nat_tests) in
+      let body : body_with s level slot 1 ≡ Some f.0 =
+      ap (λ o. on_some o (λ (b : Body). if nat_le (slot + 1) b.slots then Some b else None)) f.1.0 ∙ ap (λ (z : Bool). if z then Some f.0 else None) fits in
+      cell_there level slot f.0 body
+
   global_there : (slot : ℕ) (o : Option Leads) (leads : Leads) → (if nat_lt slot code.globals then o else None) ≡ Some leads → slot < length store.globals
   global_there slot o leads e =
       let t = (if_is (nat_lt slot code.globals) o leads e).0 in
@@ -268,7 +279,7 @@ module _ (code : Parts) (bound : ℕ) (m : Flat) (fit : IsFit code m) (t : Item)
   finds (i.Async slots to) leads here e q = start_there code bound m fit t run v slots to here leads e
   finds i.End leads here e q = end_there code bound m fit t run leads e
   finds i.Yield leads here e q = is_listed code m fit t run
-  finds (i.Cancel level slot) leads here e q = let no : false ≡ true = q in cc
+  finds (i.Cancel level slot) leads here e q = cancel_there level slot leads e
   finds (i.Send channel) leads here e q = (int_there [] (pushes m.current.place kind.Int) leads (if_is (nat_lt channel (channels_of code)) _ leads e).1, is_listed code m fit t run)
   finds (i.Recv channel) leads here e q = (one_place_there (pushes m.current.place kind.Int) leads (if_is (nat_lt channel (channels_of code)) _ leads e).1, is_listed code m fit t run)
   finds (i.Read file) leads here e q = let no : false ≡ true = q in cc

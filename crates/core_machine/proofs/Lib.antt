@@ -1,12 +1,17 @@
 pub mod Applied
 pub mod Blocks
+pub mod Rounds
 pub mod Does
+pub mod CalledOff
 pub mod Lives
+pub mod OpenSlots
 pub mod Found
 pub mod Standing
+pub mod Started
 pub mod Sound
 pub mod Next
 pub mod Entered
+pub mod Decided
 pub mod Received
 pub mod Pausing
 pub mod Points
@@ -14,4 +19,5 @@ pub mod Begun
 pub mod Stopping
 pub mod Examples
 pub mod PointExamples
+pub mod TriedExamples
 pub mod EndExamples

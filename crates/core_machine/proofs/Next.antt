@@ -1,56 +1,40 @@
--- The next thread runs, after what was given to a thread has gone onto its operands.
-use Rattle.std.proofs.Common.{◌≡◌, ℕ, ◌<◌, List, None, false, sym, ap, ◌∙◌, subst, arith}
-use Rattle.core_scheduler.specs.Schedule.{Schedule}
+-- A turn: what was given to a thread goes onto its operands, and then the core runs.
+use Rattle.std.proofs.Common.{◌≡◌, ◌≢◌, ℕ, ◌<◌, ◌≤◌, List, None, IsSome, false, refl, sym, ◌∙◌, subst, arith}
 use Rattle.core_state.specs.Moves.{GoesOn}
-use Rattle.stack_code.specs.Kept.{IsRanked}
-use Rattle.code_meaning.specs.Machine.{Flat, exec}
+use Rattle.code_meaning.specs.Machine.{exec}
 use Rattle.core_machine.specs.declared.running.Running.{Running}
+use Rattle.core_machine.specs.declared.went.Went.{Went}
+use Rattle.core_machine.specs.declared.went.Went.TheVariants.{On, Away, Asks}
 use Rattle.core_machine.specs.Machine.{is_resting}
 use Rattle.core_machine.specs.State.{flat_of, state_of, IsSound}
+use Rattle.core_machine.specs.Tried.{tried_of}
 use Rattle.core_machine.specs.inner.Changes.{IsSameCode, Keeps, Stays}
 use Rattle.core_machine.specs.inner.Left.{left_of}
 use Rattle.core_machine.specs.inner.Needs.{HasNext}
 use Rattle.core_machine.proofs.Lives.{has_next}
-use Rattle.core_machine.proofs.Sound.{stays_sound, stays_state, stays_left, still_sound, less, goes_on, codes_on, code_of, stays_there}
+use Rattle.core_machine.proofs.Sound.{stays_state, stays_left, code_of, goes_on}
 
-module _ (a b : Running) (sound : IsSound a) (going : a.ended ≡ None) (stays : Stays a b) (same : IsSameCode a b)
-    (settles : a.threads.pending ≡ false → b.threads.pending ≡ false) where
-  -- the core is sound between the two
-  pub settled_sound : IsSound b
-  settled_sound = stays_sound a b sound stays same settles
+pub next_there : (m : Running) → IsSound m → m.ended ≡ None → m.schedule.running ≡ None → is_resting (flat_of m) ≡ false → HasNext (flat_of m)
+next_there m sound still idle active = has_next m.code.now (flat_of m) (sound.fit still) idle active
 
-  pub settled_journal : b.journal.entries ≡ a.journal.entries
-  settled_journal = ap (λ (f : Flat). f.shared.past) stays.flat
+-- ---- a stretch
 
-  pub settled_goes : GoesOn (exec a.code.now a.bound) (state_of a) (state_of b)
-  settled_goes = stays_there a b (stays_state a b stays)
+-- its last instruction was done, or the core asks for an outcome there
+module _ (a b c : Running) (how : Went) (same : IsSameCode a b) (keeps : Keeps b c) (stays : how ≡ Asks → Stays b c) where
+  pub went_goes : b.ended ≡ None → GoesOn (exec a.code.now a.bound) (state_of a) (state_of b) → (how ≢ Asks → state_of c ≡ exec b.code.now b.bound (flat_of b))
+      → GoesOn (exec a.code.now a.bound) (state_of a) (state_of c)
+  went_goes still goes moved = by how refl
+    where
+      by : (w : Went) → how ≡ w → GoesOn (exec a.code.now a.bound) (state_of a) (state_of c)
+      by On e = goes_on a b c same still goes (moved (λ asks. let no : On ≡ Asks = sym e ∙ asks in cc))
+      by Away e = goes_on a b c same still goes (moved (λ asks. let no : Away ≡ Asks = sym e ∙ asks in cc))
+      by Asks e = subst (GoesOn (exec a.code.now a.bound) (state_of a)) (sym (stays_state b c (stays e))) goes
 
-  still : b.ended ≡ None
-  still = stays.ended ∙ going
-
-  pub next_there : a.schedule.running ≡ None → b.schedule ≡ a.schedule → is_resting (flat_of a) ≡ false → HasNext (flat_of b)
-  next_there idle schedule active =
-      has_next b.code.now (flat_of b) (settled_sound.fit still) (ap (λ (s : Schedule). s.running) schedule ∙ idle) (ap is_resting stays.flat ∙ active)
-
-  module _ (c : Running) (keeps : Keeps b c) (none : b.threads.pending ≡ false) (does : state_of c ≡ exec b.code.now b.bound (flat_of b)) where
-    pub goes_next : GoesOn (exec a.code.now a.bound) (state_of a) (state_of c)
-    goes_next = goes_on a b c same still settled_goes does
-
-    pub same_next : IsSameCode a c
-    same_next = codes_on a b c same (code_of b c keeps)
-
-    pub journal_next : c.journal.entries ≡ a.journal.entries
-    journal_next = keeps.journal ∙ settled_journal
-
-    module _ (ranks : List ℕ) (ranked : IsRanked a.code.now ranks) where
-      ranked_there : IsRanked b.code.now ranks
-      ranked_there = subst (λ code. IsRanked code ranks) (sym same.code) ranked
-
-      pub sound_next : IsSound c
-      sound_next = still_sound b c still settled_sound keeps none (sym does) ranks ranked_there
-
-      pub less_next : left_of ranks c < left_of ranks a
-      less_next =
-          let falls = less b c still settled_sound keeps none (sym does) ranks ranked_there in
-          let there = stays_left a b stays same ranks in
-          omega (arith, falls, there)
+  pub went_less : (ranks : List ℕ) → (how ≢ Asks → left_of ranks c < left_of ranks b) → (how ≡ Asks → IsSome (tried_of b.code.now (state_of b))) → left_of ranks b ≤ left_of ranks a
+      → (IsSome (tried_of b.code.now (state_of b)) → left_of ranks b < left_of ranks a) → left_of ranks c < left_of ranks a
+  went_less ranks falls asks least less = by how refl
+    where
+      by : (w : Went) → how ≡ w → left_of ranks c < left_of ranks a
+      by On e = let f = falls (λ asks. let no : On ≡ Asks = sym e ∙ asks in cc) in omega (arith, f, least)
+      by Away e = let f = falls (λ asks. let no : Away ≡ Asks = sym e ∙ asks in cc) in omega (arith, f, least)
+      by Asks e = let there = stays_left b c (stays e) (code_of b c keeps) ranks in let f = less (asks e) in omega (arith, f, there)

@@ -94,7 +94,7 @@ abbrev caller : Caller
 caller = record { place = 0; frame = nobody.frame; operands = [] }
 
 abbrev block : Block
-block = record { parent = None; owner = first; count = 1; waits = true }
+block = record { parent = None; owner = first; count = 1; waits = true; cancelled = false }
 
 pub weights_of_a_thread : (at_weight ranks 1 ≡ 6) × (callers_weight ranks (caller ∷ []) ≡ 2) × (thread_weight ranks there ≡ 6)
     × (thread_weight ranks (record there { callers = caller ∷ [] }) ≡ 8)

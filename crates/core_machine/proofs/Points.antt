@@ -1,10 +1,11 @@
 -- What callers see of a running core at its dispatch points, and of the entries that come in there.
 use Rattle.std.proofs.Common.{◌≡◌, ℕ, ◌<◌, ◌≤◌, List, Option, Some, None, IsSome, Ok, Err, Bool, true, false, refl, sym, ap, ◌∙◌, subst, arith}
-use Rattle.std.specs.Prelude.{is_none, is_some, find, nat_lt, not, ◌&&◌, option_and_then, IfSome, ℤ, OnOk, Result}
-use Rattle.std.proofs.lemmas.Bool.{and_parts, ltb-true}
+use Rattle.std.specs.Prelude.{is_none, is_some, find, nat_eq, nat_lt, not, if◌then◌else◌, ◌&&◌, option_and_then, IfSome, ℤ, OnOk, Result}
+use Rattle.std.proofs.lemmas.Bool.{and_parts, eq-eqb, ltb-true}
 use Rattle.std.proofs.lemmas.Bool.Decides.{nat_tests}
 use Rattle.std.proofs.lemmas.Result.{on_ok_weaker}
 use Rattle.ac_base.specs.declared.entry.Event.{Event}
+use Rattle.ac_base.specs.declared.entry.Event.TheVariants as event
 use Rattle.ac_base.specs.declared.memory.NoMemory.{NoMemory}
 use Rattle.work_item.specs.declared.ids.Item.{Item}
 use Rattle.cancel_scope.specs.declared.operation.Asked.{Asked}
@@ -12,17 +13,23 @@ use Rattle.cancel_scope.specs.declared.operation.Asked.TheVariants.{Send, Recv}
 use Rattle.cancel_scope.specs.declared.operation.Operation.{Operation}
 use Rattle.cancel_scope.specs.Outstanding.{is_to_offer}
 use Rattle.core_state.specs.Moves.{GoesOn, On}
+use Rattle.core_state.specs.Arrivals.{cancelled, ok}
+use Rattle.core_state.specs.Cancelling.{outcome}
 use Rattle.stack_code.specs.Kept.{IsRanked}
 use Rattle.code_meaning.specs.Machine.{Flat, exec}
 use Rattle.code_safety.specs.Left.{left}
 use Rattle.core_machine.specs.declared.ending.Ending.{Ending}
 use Rattle.core_machine.specs.declared.running.Running.{Running}
+use Rattle.core_machine.specs.declared.tried.Tried.{Tried}
 use Rattle.core_machine.specs.Machine.{Machine, IsSameCore, has_ended, is_idle, is_resting}
 use Rattle.core_machine.specs.Points.{HasCome, HasTracks, is_at_point, left_at, message_of, operations_of, to_send, work_left}
 use Rattle.core_machine.specs.State.{IsSound, end_or, flat_of, has_room, machine_of, state_of}
 use Rattle.core_machine.specs.Tracks.{Tracks}
+use Rattle.core_machine.specs.Tried.{HasDecided, tried_in, tried_of, tried_within}
 use Rattle.core_machine.specs.inner.Changes.{Enters, IsSameCode, Stays}
+use Rattle.core_machine.specs.inner.Deciding.{Decides}
 use Rattle.core_machine.specs.inner.Left.{left_from, left_of}
+use Rattle.core_machine.proofs.Decided.{asks_on, decided_journal, decided_less, decided_on, decided_sound}
 use Rattle.core_machine.proofs.Sound.{entered_journal, entered_less, entered_on, entered_sound, running, stays_sound, stays_state}
 
 -- ---- the fields of a core at a dispatch point
@@ -147,12 +154,74 @@ module _ (before after : Running) (v : Event) (stamp : ℕ) (old : Machine) (is 
       let less = entered_less before after v stamp here.0 here.1 sound enters ranks in
       omega (arith, was, now, less)
 
+-- ---- the outcome of an offer
+
+module _ (m : Running) (old : Machine) (is : machine_of m ≡ old) where
+  pub asks_by : (tried : Tried) → tried_of old.code old.state ≡ Some tried → tried_of m.code.now (state_of m) ≡ Some tried
+  asks_by tried h = subst (λ (n : Machine). tried_of n.code n.state ≡ Some tried) (sym is) h
+
+  pub asks_some : (tried : Tried) → tried_of old.code old.state ≡ Some tried → IsSome (tried_of m.code.now (state_of m))
+  asks_some tried h = ap is_some (asks_by tried h)
+
+  pub asks_none : tried_of old.code old.state ≡ None → tried_of m.code.now (state_of m) ≡ None
+  asks_none h = subst (λ (n : Machine). tried_of n.code n.state ≡ None) (sym is) h
+
+module _ (before after : Running) (tried : Tried) (value : ℤ) (v : Event) (stamp : ℕ) (old : Machine) (is : machine_of before ≡ old) (sound : IsSound before)
+    (asks : tried_of old.code old.state ≡ Some tried) (outcome_is : outcome tried.link tried.number v ≡ Some value) (decides : Decides before value v stamp after) where
+  on : before.ended ≡ None
+  on = asks_on before (asks_some before old is tried asks)
+
+  offered : tried_in (Some decides.operation) ≡ Some tried
+  offered =
+      ap tried_in (sym decides.found) ∙ ap (tried_within (flat_of before)) (sym decides.cancels) ∙ ap (λ o. tried_of before.code.now (end_or (flat_of before) o)) (sym on)
+      ∙ asks_by before old is tried asks
+
+  pub decide_sound : IsSound after
+  decide_sound = decided_sound before after tried value v stamp on sound decides offered outcome_is
+
+  pub has_decided : HasDecided old tried value v stamp (machine_of after)
+  has_decided = subst (λ (n : Machine). HasDecided n tried value v stamp (machine_of after)) is (record {
+    flat = flat_of before;
+    stood = running (flat_of before) before.ended on;
+    block = decides.block;
+    cancels = decides.cancels;
+    operation = decides.operation;
+    found = decides.found;
+    offered = offered;
+    state = running (flat_of after) after.ended (decided_on before after tried value v stamp on sound decides offered outcome_is) ∙ ap (λ f. On f) decides.flat;
+    journal = decided_journal before after tried value v stamp on sound decides offered outcome_is;
+    code = decides.same.code;
+    core = decides.same.core;
+    bound = decides.same.bound;
+  })
+
+  pub decide_less : (ranks : List ℕ) → work_left ranks (machine_of after) < work_left ranks old
+  decide_less ranks =
+      let was : work_left ranks old ≡ left_of ranks before = ap (work_left ranks) (sym is) ∙ work_is ranks before in
+      let now = work_is ranks after in
+      let less = decided_less before after tried value v stamp on sound decides offered outcome_is ranks in
+      omega (arith, was, now, less)
+
+-- its withdrawal, or that it is known, decides an offer
+both_same : (link number : ℕ) → (nat_eq link link && nat_eq number number) ≡ true
+both_same link number = ap (λ b. b && nat_eq number number) (eq-eqb link link refl) ∙ eq-eqb number number refl
+
+pub withdrawal_decides : (link number : ℕ) → outcome link number (event.Withdraw link number) ≡ Some cancelled
+withdrawal_decides link number = ap (λ (b : Bool). if b then Some cancelled else None) (both_same link number)
+
+pub taking_decides : (link number : ℕ) → outcome link number (event.Know link number) ≡ Some ok
+taking_decides link number = ap (λ (b : Bool). if b then Some ok else None) (both_same link number)
+
+-- ---- what it keeps
+
+pub tracks_of : (m : Running) (old : Machine) → machine_of m ≡ old → IsSound m → HasTracks old
+tracks_of m old is sound = subst HasTracks is (λ h. subst (Tracks m.journal.entries) (sym (operations_are m h)) (sound.tracks (going_on m h)))
+
 -- ---- where nothing has changed that the code's meaning sees
 
-module _ (before after : Running) (old : Machine) (is : machine_of before ≡ old) (sound : IsSound before) (stays : Stays before after) (same : IsSameCode before after)
-    (settles : before.threads.pending ≡ false → after.threads.pending ≡ false) where
+module _ (before after : Running) (old : Machine) (is : machine_of before ≡ old) (sound : IsSound before) (stays : Stays before after) (same : IsSameCode before after) where
   pub room_sound : IsSound after
-  room_sound = stays_sound before after sound stays same settles
+  room_sound = stays_sound before after sound stays same
 
   pub room_same : IsSameCore old (machine_of after)
   room_same = subst (λ (n : Machine). IsSameCore n (machine_of after)) is
@@ -162,9 +231,7 @@ module _ (before after : Running) (old : Machine) (is : machine_of before ≡ ol
   room_state = stays_state before after stays ∙ ap (λ (n : Machine). n.state) is
 
   pub room_tracks : HasTracks (machine_of after)
-  room_tracks h =
-      let on = at_point after h in
-      subst (Tracks after.journal.entries) (sym (operations_are after (point_goes after h))) (room_sound.tracks on.0)
+  room_tracks = tracks_of after (machine_of after) refl room_sound
 
 -- ---- room is made
 

@@ -1,13 +1,13 @@
 -- A core stays where its code can stand, and comes to its end.
-use Rattle.std.proofs.Common.{◌≡◌, ℕ, suc, ◌<◌, ◌≤◌, ◌^◌, List, [], ◌∷◌, ◌++◌, length, Option, Some, None, IsSome, Bool, true, false, refl, sym, ap, ◌∙◌, subst, arith}
+use Rattle.std.proofs.Common.{◌≡◌, ◌≢◌, ℕ, suc, ◌<◌, ◌≤◌, ◌^◌, List, [], ◌∷◌, ◌++◌, length, Option, Some, None, IsSome, Bool, true, false, refl, sym, ap, ◌∙◌, subst, arith}
 use Rattle.std.specs.Prelude.{slice_get, slice_index_or, is_some, not}
 use Rattle.std.proofs.lemmas.Option.{slice_get_within, get_or_from_slice_get}
 use Rattle.ac_base.specs.declared.entry.Entry.{Entry}
 use Rattle.ac_base.specs.declared.entry.Event.{Event}
 use Rattle.work_item.specs.declared.ids.Item.{Item}
 use Rattle.work_item.specs.declared.cell.Cell.{Cell}
+use Rattle.work_item.specs.declared.cell.Cell.TheVariants as cell
 use Rattle.core_state.specs.Moves.{Move, On, GoesOn}
-use Rattle.core_state.specs.Arrivals.{ok}
 use Rattle.core_state.specs.Shared.{Shared, with_entry}
 use Rattle.core_state.proofs.Runs.{GoesOn-none, GoesOn-more}
 use Rattle.stack_code.specs.declared.instr.Instr.{Instr}
@@ -31,14 +31,19 @@ use Rattle.code_safety.proofs.Moving.{moves_on}
 use Rattle.code_safety.proofs.NoDangling.{chained_on, names_living}
 use Rattle.core_machine.specs.declared.ending.Ending.{Ending}
 use Rattle.core_machine.specs.declared.running.Running.{Running}
+use Rattle.core_machine.specs.declared.went.Went.{Went}
+use Rattle.core_machine.specs.declared.went.Went.TheVariants as went
+use Rattle.core_machine.specs.declared.went.Went.TheVariants.{Away, Asks}
 use Rattle.core_machine.specs.inner.Needs.{Finds}
 use Rattle.core_machine.specs.Machine.{Machine, IsOnItsWay}
 use Rattle.core_machine.specs.State.{shared_of, flat_of, end_or, state_of, machine_of, IsSound}
 use Rattle.core_machine.specs.Tracks.{Tracks}
+use Rattle.core_machine.specs.Tried.{cancelled_by, cancelled_at, tried_within, tried_of}
 use Rattle.core_machine.specs.inner.Left.{left_from, left_of}
 use Rattle.core_machine.specs.inner.Changes.{IsSameCode, Keeps, Does, Stays, Enters, entry_now, item_of}
 use Rattle.core_machine.proofs.Found.{finds}
-use Rattle.core_machine.proofs.Standing.{Starts, exec_starts, tracks_started, tracks_entered}
+use Rattle.core_machine.proofs.Standing.{tracks_entered}
+use Rattle.core_machine.proofs.Started.{Starts, exec_starts, tracks_started}
 
 -- ---- where the code can stand
 
@@ -70,24 +75,22 @@ pub running : (m : Flat) (o : Option Ending) → o ≡ None → end_or m o ≡ O
 running m o e = ap (end_or m) e
 
 -- the machine has come to a state to which its code comes
-on_its_way : (n : Machine) (code : Parts) (core bound : ℕ) (journal : List Entry) (state : Move Flat FlatEnd) (function : Entered) → n.code ≡ code → n.core ≡ core → n.bound ≡ bound
+pub on_its_way : (n : Machine) (code : Parts) (core bound : ℕ) (journal : List Entry) (state : Move Flat FlatEnd) (function : Entered) → n.code ≡ code → n.core ≡ core → n.bound ≡ bound
     → n.journal ≡ journal → n.state ≡ state → Begins code core function → GoesOn (exec code bound) (first_flat code function journal) state → IsOnItsWay n
 on_its_way n code core bound journal state function c k d j s b g = record { function = function; begins = rw (c, k) b; goes = rw (c, d, j, s) g }
 
 -- where nothing has changed that the code's meaning sees
-pub stays_sound : (before after : Running) → IsSound before → Stays before after → IsSameCode before after → (before.threads.pending ≡ false → after.threads.pending ≡ false) → IsSound after
-stays_sound before after sound stays same settles =
+pub stays_sound : (before after : Running) → IsSound before → Stays before after → IsSameCode before after → IsSound after
+stays_sound before after sound stays same =
     let was : after.ended ≡ None → before.ended ≡ None = λ e. sym stays.ended ∙ e in
     let journal : after.journal.entries ≡ before.journal.entries = ap (λ (f : Flat). f.shared.past) stays.flat in
     let operations : after.outstanding.operations ≡ before.outstanding.operations = ap (λ (f : Flat). f.operations) stays.flat in
-    let runs : after.schedule.running ≡ before.schedule.running = ap (λ (f : Flat). f.running) stays.flat in
     let state : state_of after ≡ state_of before = ap (λ f. end_or f after.ended) stays.flat ∙ ap (end_or (flat_of before)) stays.ended in
     let r = sound.ran in
     record {
       fit = λ e. subst (λ code. IsFit code (flat_of after)) (sym same.code) (subst (IsFit before.code.now) (sym stays.flat) (sound.fit (was e)));
       chained = λ e. subst (λ code. AreChained code (flat_of after)) (sym same.code) (subst (AreChained before.code.now) (sym stays.flat) (sound.chained (was e)));
       tracks = λ e. subst (λ past. Tracks past after.outstanding.operations) (sym journal) (subst (Tracks before.journal.entries) (sym operations) (sound.tracks (was e)));
-      settled = λ some. settles (sound.settled (subst (λ (o : Option Item). IsSome o) runs some));
       valid = subst IsValid (sym same.code) sound.valid;
       meant = subst IsMeant (sym same.code) sound.meant;
       ran = on_its_way (machine_of after) before.code.now before.core before.bound before.journal.entries (state_of before) r.function
@@ -99,7 +102,7 @@ code_of before after k = record { code = k.code; core = k.core; bound = k.bound 
 
 -- ---- a move
 
-module _ (before after : Running) (still : before.ended ≡ None) (sound : IsSound before) (keeps : Keeps before after) (none : before.threads.pending ≡ false)
+module _ (before after : Running) (still : before.ended ≡ None) (sound : IsSound before) (keeps : Keeps before after)
     (moved : exec before.code.now before.bound (flat_of before) ≡ state_of after) where
   abbrev fit : IsFit before.code.now (flat_of before)
   fit = sound.fit still
@@ -124,7 +127,7 @@ module _ (before after : Running) (still : before.ended ≡ None) (sound : IsSou
   still_tracks : after.ended ≡ None → Tracks after.journal.entries after.outstanding.operations
   still_tracks e =
       let starts = subst (Onward (λ (n : Flat). Starts before.outstanding.operations n.operations)) (leads_on e)
-      (exec_starts (flat_of before) before.code.now before.bound sound.meant refl) in
+      (exec_starts (flat_of before) before.code.now before.bound refl sound.meant) in
       subst (λ past. Tracks past after.outstanding.operations) (sym keeps.journal)
       (tracks_started before.journal.entries before.outstanding.operations after.outstanding.operations (sound.tracks still) starts)
 
@@ -133,7 +136,6 @@ module _ (before after : Running) (still : before.ended ≡ None) (sound : IsSou
     fit = λ e. subst (λ code. IsFit code (flat_of after)) (sym keeps.code) (better ranks r e).0;
     chained = λ e. subst (λ code. AreChained code (flat_of after)) (sym keeps.code) (still_chained e);
     tracks = still_tracks;
-    settled = λ some. keeps.pending ∙ none;
     valid = subst IsValid (sym keeps.code) sound.valid;
     meant = subst IsMeant (sym keeps.code) sound.meant;
     ran = on_its_way (machine_of after) before.code.now before.core before.bound before.journal.entries (exec before.code.now before.bound (flat_of before)) sound.ran.function
@@ -153,6 +155,22 @@ module _ (before after : Running) (still : before.ended ≡ None) (sound : IsSou
   pub less : (ranks : List ℕ) → IsRanked before.code.now ranks → left_of ranks after < left_of ranks before
   less ranks r = rw still (less_left ranks r after.ended refl)
 
+-- what has gone by an instruction: it was done, or nothing was
+pub went_sound : (before after : Running) (how : Went) → before.ended ≡ None → IsSound before → Keeps before after
+    → (how ≢ Asks → exec before.code.now before.bound (flat_of before) ≡ state_of after) → (how ≡ Asks → Stays before after)
+    → (ranks : List ℕ) → IsRanked before.code.now ranks → IsSound after
+went_sound before after went.On still sound keeps moved stays ranks r = still_sound before after still sound keeps (moved (λ e. let no : went.On ≡ Asks = e in cc)) ranks r
+went_sound before after Away still sound keeps moved stays ranks r = still_sound before after still sound keeps (moved (λ e. let no : Away ≡ Asks = e in cc)) ranks r
+went_sound before after Asks still sound keeps moved stays ranks r = stays_sound before after sound (stays refl) (code_of before after keeps)
+
+-- ---- whether an outcome is asked for
+
+pub asks_at : (m : Running) (t : Item) (instr : Instr) → m.ended ≡ None → m.schedule.running ≡ Some t → slice_get m.code.now.instrs m.place ≡ Some instr
+    → tried_of m.code.now (state_of m) ≡ tried_within (flat_of m) (cancelled_by (flat_of m) (Some instr))
+asks_at m t instr still run here =
+    ap (λ o. tried_of m.code.now (end_or (flat_of m) o)) still ∙ ap (λ o. tried_within (flat_of m) (cancelled_at m.code.now (flat_of m) o)) run
+    ∙ ap (λ o. tried_within (flat_of m) (cancelled_by (flat_of m) o)) here
+
 -- ---- an entry
 
 resumed_shared : (m : Flat) (v : Cell) (o : Option Item) → (resumed m v o).shared ≡ m.shared
@@ -162,10 +180,6 @@ resumed_shared m v (Some t) = refl
 resumed_operations : (m : Flat) (v : Cell) (o : Option Item) → (resumed m v o).operations ≡ m.operations
 resumed_operations m v None = refl
 resumed_operations m v (Some t) = refl
-
-resumed_running : (m : Flat) (v : Cell) (o : Option Item) → (resumed m v o).running ≡ m.running
-resumed_running m v None = refl
-resumed_running m v (Some t) = refl
 
 module _ (before after : Running) (event : Event) (stamp : ℕ) (still : before.ended ≡ None) (idle : before.schedule.running ≡ None) (sound : IsSound before) (h : Enters before event stamp after) where
   abbrev entry : Entry
@@ -182,24 +196,20 @@ module _ (before after : Running) (event : Event) (stamp : ℕ) (still : before.
 
   pub entered_journal : after.journal.entries ≡ before.journal.entries ++ entry ∷ []
   entered_journal = ap (λ (f : Flat). f.shared.past) h.flat ∙ ap (λ (s : Shared). s.past)
-      (resumed_shared (record (flat_of before) { shared = shared; store = h.arrival.store; operations = h.arrival.operations }) ok h.arrival.woken)
+      (resumed_shared (record (flat_of before) { shared = shared; store = h.arrival.store; operations = h.arrival.operations }) (cell.Int h.arrival.value) h.arrival.woken)
 
   entered_operations : after.outstanding.operations ≡ h.arrival.operations
   entered_operations = ap (λ (f : Flat). f.operations) h.flat
-      ∙ resumed_operations (record (flat_of before) { shared = shared; store = h.arrival.store; operations = h.arrival.operations }) ok h.arrival.woken
-
-  pub entered_idle : after.schedule.running ≡ None
-  entered_idle = ap (λ (f : Flat). f.running) h.flat
-      ∙ resumed_running (record (flat_of before) { shared = shared; store = h.arrival.store; operations = h.arrival.operations }) ok h.arrival.woken ∙ idle
+      ∙ resumed_operations (record (flat_of before) { shared = shared; store = h.arrival.store; operations = h.arrival.operations }) (cell.Int h.arrival.value) h.arrival.woken
 
   pub entered_on : after.ended ≡ None
   entered_on = h.ended ∙ still
 
   entered_fit : IsFit code (flat_of after)
-  entered_fit = subst (IsFit code) (sym h.flat) (arrived_fit code (flat_of before) (sound.fit still) idle sound.valid.one_use shared h.arrival came)
+  entered_fit = subst (IsFit code) (sym h.flat) (arrived_fit code (flat_of before) (sound.fit still) sound.valid.one_use shared h.arrival came)
 
   entered_chained : AreChained code (flat_of after)
-  entered_chained = subst (AreChained code) (sym h.flat) (comes_chained code (flat_of before) (sound.fit still) (sound.chained still) idle shared h.arrival came)
+  entered_chained = subst (AreChained code) (sym h.flat) (comes_chained code (flat_of before) (sound.fit still) (sound.chained still) shared h.arrival came)
 
   entered_tracks : Tracks after.journal.entries after.outstanding.operations
   entered_tracks =
@@ -215,7 +225,6 @@ module _ (before after : Running) (event : Event) (stamp : ℕ) (still : before.
         fit = λ e. subst (λ c. IsFit c (flat_of after)) (sym h.same.code) entered_fit;
         chained = λ e. subst (λ c. AreChained c (flat_of after)) (sym h.same.code) entered_chained;
         tracks = λ e. entered_tracks;
-        settled = λ some. let no : false ≡ true = subst (λ (o : Option Item). IsSome o) entered_idle some in absurd (cc);
         valid = subst IsValid (sym h.same.code) sound.valid;
         meant = subst IsMeant (sym h.same.code) sound.meant;
         ran = on_its_way (machine_of after) code before.core before.bound (before.journal.entries ++ entry ∷ []) (On (arrived (flat_of before) shared h.arrival)) r.function
@@ -225,7 +234,7 @@ module _ (before after : Running) (event : Event) (stamp : ℕ) (still : before.
   -- no more is left to do
   pub entered_less : (ranks : List ℕ) → left_of ranks after ≤ left_of ranks before
   entered_less ranks =
-      let falls = arrived_falls code before.bound (flat_of before) (sound.fit still) idle ranks shared refl h.arrival came in
+      let falls = arrived_falls code before.bound (flat_of before) (sound.fit still) ranks shared refl h.arrival came in
       let now : left ranks after.bound (flat_of after) ≡ left ranks before.bound (arrived (flat_of before) shared h.arrival) =
       ap (λ bound. left ranks bound (flat_of after)) h.same.bound ∙ ap (left ranks before.bound) h.flat in
       let was : left_of ranks before ≡ suc (left ranks before.bound (flat_of before)) = ap (λ o. left_from o (left ranks before.bound (flat_of before))) still in
@@ -242,10 +251,7 @@ moved_by before after t instr run here does =
 -- ---- several turns
 
 pub keeps_on : (a b c : Running) → Keeps a b → Keeps b c → Keeps a c
-keeps_on a b c k l = record { code = l.code ∙ k.code; core = l.core ∙ k.core; bound = l.bound ∙ k.bound; journal = l.journal ∙ k.journal; pending = l.pending ∙ k.pending }
-
-pub codes_on : (a b c : Running) → IsSameCode a b → IsSameCode b c → IsSameCode a c
-codes_on a b c k l = record { code = l.code ∙ k.code; core = l.core ∙ k.core; bound = l.bound ∙ k.bound }
+keeps_on a b c k l = record { code = l.code ∙ k.code; core = l.core ∙ k.core; bound = l.bound ∙ k.bound; journal = l.journal ∙ k.journal }
 
 -- one turn more of the same code
 pub goes_on : (a b c : Running) → IsSameCode a b → b.ended ≡ None → GoesOn (exec a.code.now a.bound) (state_of a) (state_of b) → state_of c ≡ exec b.code.now b.bound (flat_of b)

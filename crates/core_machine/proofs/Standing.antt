@@ -1,116 +1,31 @@
--- Which operations stand under which offers: what instructions and entries make of that.
+-- Which operations stand under which offers: what entries make of that.
 use Rattle.std.proofs.Common.{◌≡◌, ℕ, ◌+◌, List, [], ◌∷◌, ◌++◌, Option, Some, None, Bool, true, false, refl, sym, ap, ◌∙◌, subst, arith}
-use Rattle.std.specs.Prelude.{ℤ, All, find, nat_eq, nat_lt, ◌&&◌, ◌^◌, ◌-◌, slice_get, slice_set, if◌then◌else◌}
-use Rattle.std.proofs.lemmas.Bool.{and_parts, eqb-true}
-use Rattle.std.proofs.lemmas.List.Elements.{All-push}
-use Rattle.std.proofs.lemmas.Option.{slice_get_within, get_or_from_slice_get}
-use Rattle.ac_base.specs.declared.ends.EndWord.TheVariants as word
+use Rattle.std.specs.Prelude.{ℤ, All, find, nat_eq, ◌&&◌, if◌then◌else◌}
+use Rattle.std.proofs.lemmas.Bool.{and_parts, eq-eqb, eqb-true}
 use Rattle.ac_base.specs.declared.entry.Entry.{Entry}
 use Rattle.ac_base.specs.declared.entry.Event.{Event}
 use Rattle.ac_base.specs.declared.entry.Event.TheVariants as event
 use Rattle.ac_base.specs.declared.entry.Payload.{Payload}
-use Rattle.work_item.specs.declared.ids.Item.{Item}
-use Rattle.work_item.specs.declared.cell.Cell.{Cell}
 use Rattle.work_item.specs.Store.{Store}
-use Rattle.cancel_scope.specs.declared.operation.Asked.{Asked}
 use Rattle.cancel_scope.specs.declared.operation.Progress.{Progress}
 use Rattle.cancel_scope.specs.declared.operation.Progress.TheVariants as progress
 use Rattle.cancel_scope.specs.declared.operation.Operation.{Operation}
-use Rattle.cancel_scope.specs.Outstanding.{started, offered_as, is_send, is_waiting, is_under, is_to_offer, is_offered, is_to_receive, carries, change_first, without_first}
-use Rattle.core_state.specs.Moves.{Move, On, Over}
+use Rattle.cancel_scope.specs.Outstanding.{offered_as, is_send, is_waiting, is_under, is_to_offer, is_offered, is_to_receive, carries, change_first, without_first}
 use Rattle.core_state.specs.Arrivals as arrivals
-use Rattle.core_state.specs.Arrivals.{Arrival, at_point, goes_on_waiting, has_ended, offers, offers_on, ends_known, ends_received, passes_over, with_message}
-use Rattle.core_state.specs.Shared.{with_turn, seen}
-use Rattle.stack_code.specs.declared.instr.Instr.{Instr}
-use Rattle.stack_code.specs.declared.instr.Instr.TheVariants as i
-use Rattle.stack_code.specs.Parts.{Parts}
-use Rattle.code_meaning.specs.Meant.{has_meaning, IsMeant}
-use Rattle.code_meaning.specs.Machine.{Flat, FlatEnd, arrived, begin, exec, exec_of, dispatched, nobody, on_top, thread_at, told}
+use Rattle.core_state.specs.Arrivals.{Arrival, goes_on_waiting, has_ended, offers, offers_on, ends_known, ends_received, passes_over, gives_room, keeps_room, with_message, ok, cancelled}
+use Rattle.core_state.specs.Cancelling.{outcome}
 use Rattle.code_safety.specs.Fit.{one_if}
 use Rattle.code_safety.proofs.Lives.{total_append}
-use Rattle.code_safety.proofs.Plain.{Onward}
 use Rattle.code_safety.proofs.Waiting.{IsFound, all_between, all_others, found_at, one_of_all, total_between}
-use Rattle.code_safety.proofs.NoEntries.{begin_leaves, Leaves}
-use Rattle.core_machine.specs.Tracks.{is_offer_of, is_end_of, is_withdrawal, standing_of, offers_of, ends_of, Tracks}
+use Rattle.core_machine.specs.Tracks.{is_offer_of, is_end_of, standing_of, offers_of, ends_of, Tracks}
 
--- ---- an instruction
-
--- the operations are those, or one more has started
-pub data Starts (os : List Operation) : List Operation → Type 0 where
-  none_starts : Starts os os
-  one_starts : (link : ℕ) (asked : Asked) (t : Item) → Starts os (os ++ started link asked t ∷ [])
-
-module _ (m : Flat) where
-  abbrev StartsTo : Flat → Type 0
-  StartsTo n = Starts m.operations n.operations
-
-  of_leaves : (x : Move Flat FlatEnd) → Leaves m x → Onward StartsTo x
-  of_leaves (On n) l = subst (Starts m.operations) (sym l.0) none_starts
-  of_leaves (Over e) l = tt
-
-  top_starts : (go : Cell → List Cell → Move Flat FlatEnd) (ops : List Cell) → ((x : Cell) (below : List Cell) → Onward StartsTo (go x below)) → Onward StartsTo (on_top m go ops)
-  top_starts go [] h = none_starts
-  top_starts go (x ∷ below) h = h x below
-
-  module _ (code : Parts) (bound : ℕ) where
-    begin_starts : (t : Item) (instr : Instr) → has_meaning instr ≡ true → Onward StartsTo (begin code bound m t (Some instr))
-    begin_starts t (i.Cancel level slot) h = let no : false ≡ true = h in absurd (cc)
-    begin_starts t (i.Read file) h = let no : false ≡ true = h in absurd (cc)
-    begin_starts t (i.Write file) h = let no : false ≡ true = h in absurd (cc)
-    begin_starts t (i.Send channel) h = top_starts _ m.current.operands (λ x below. one_starts channel _ t)
-    begin_starts t (i.Recv channel) h = top_starts _ m.current.operands (λ x below. one_starts channel _ t)
-    begin_starts t instr h = of_leaves (begin code bound m t (Some instr)) (begin_leaves m code bound t instr refl)
-
-    next_starts : (t : Item) (ready : List Item) → Onward StartsTo (dispatched m (t ∷ ready))
-    next_starts t ready = by (nat_lt m.shared.turn (2 ^ 64 - 1)) (told m.count (seen word.OutOfSteps false m.store.globals m.operations m.shared))
-      where
-        by : (b : Bool) (end : FlatEnd)
-            → Onward StartsTo (if b then On
-            (record m { shared = with_turn m.shared; running = Some t; current = thread_at m.threads t; ready = ready; threads = slice_set m.threads t.number nobody }) else Over end)
-        by true end = none_starts
-        by false end = tt
-
-    dispatch_starts : (ready : List Item) → Onward StartsTo (dispatched m ready)
-    dispatch_starts [] = tt
-    dispatch_starts (t ∷ ready) = next_starts t ready
-
-    -- with no entry to come
-    pub exec_starts : IsMeant code → m.shared.todo ≡ [] → Onward StartsTo (exec code bound m)
-    exec_starts meant last = by m.running
-      where
-        at_place : (t : Item) (o : Option Instr) → slice_get code.instrs m.current.place ≡ o → Onward StartsTo (begin code bound m t o)
-        at_place t None e = none_starts
-        at_place t (Some instr) e =
-            let within = slice_get_within code.instrs m.current.place instr e in
-            let one = get_or_from_slice_get code.instrs m.current.place instr instr e in
-            begin_starts t instr (subst (λ x. has_meaning x ≡ true) one (meant m.current.place instr within))
-
-        by : (o : Option Item) → Onward StartsTo (exec_of code bound m o)
-        by None = subst (λ todo. Onward StartsTo (at_point (told m.count) m.shared m.store m.operations (λ shared x. On (arrived m shared x)) (dispatched m m.ready) todo)) (sym last)
-            (dispatch_starts m.ready)
-        by (Some t) = at_place t (slice_get code.instrs m.current.place) refl
-
-and_false : (b : Bool) → one_if (b && false) ≡ 0
+pub and_false : (b : Bool) → one_if (b && false) ≡ 0
 and_false true = refl
 and_false false = refl
 
--- one that has started stands under no offer
-pub tracks_started : (past : List Entry) (os new : List Operation) → Tracks past os → Starts os new → Tracks past new
-tracks_started past os _ h none_starts = h
-tracks_started past os _ h (one_starts link asked t) = record {
-  each = λ l n.
-      let was = h.each l n in
-      let now : standing_of l n (os ++ started link asked t ∷ []) ≡ standing_of l n os + (one_if (nat_eq link l && false) + 0) =
-      total_append (λ (o : Operation). one_if (is_offered l n o)) os (started link asked t ∷ []) in
-      let none = and_false (nat_eq link l) in
-      omega (arith, was, now, none);
-  receives = All-push (λ (o : Operation). is_send o.asked ≡ false → is_waiting o.progress ≡ true) os (started link asked t) h.receives (λ e. refl);
-  withdrawn = h.withdrawn;
-}
-
 -- ---- an entry
 
-abbrev Receives : Operation → Type 0
+abbrev pub Receives : Operation → Type 0
 Receives o = is_send o.asked ≡ false → is_waiting o.progress ≡ true
 
 -- one that is not offered stands under no number
@@ -118,7 +33,7 @@ waits_under : (n : ℕ) (p : Progress) → is_waiting p ≡ true → is_under n 
 waits_under n progress.Waiting h = refl
 waits_under n (progress.Offered k) h = let no : false ≡ true = h in absurd (cc)
 
-not_under : (l n : ℕ) (o : Operation) → is_waiting o.progress ≡ true → one_if (is_offered l n o) ≡ 0
+pub not_under : (l n : ℕ) (o : Operation) → is_waiting o.progress ≡ true → one_if (is_offered l n o) ≡ 0
 not_under l n o h = ap (λ b. one_if (nat_eq o.link l && b)) (waits_under n o.progress h) ∙ and_false (nat_eq o.link l)
 
 under_is : (k n : ℕ) (p : Progress) → is_under k p ≡ true → is_under n p ≡ nat_eq k n
@@ -173,7 +88,6 @@ module _ (past : List Entry) (os : List Operation) (h : Tracks past os) (e : Ent
         let q : one_if (is_end_of l n e.event) ≡ 0 = ap (λ v. one_if (is_end_of l n v)) is in
         omega (arith, was, s, none, now, same, a, b, p, q);
     receives = all_between Receives f.back (offered_as k o) f.front (left_receive (is_to_offer link) o f) (λ no. let both : true ≡ false = sym sends ∙ no in absurd (cc));
-    withdrawn = All-push (λ (x : Entry). is_withdrawal x.event ≡ false) past e h.withdrawn (ap is_withdrawal is);
   })
     where
       parts : (nat_eq o.link link ≡ true) × ((is_send o.asked && is_waiting o.progress) ≡ true)
@@ -185,20 +99,28 @@ module _ (past : List Entry) (os : List Operation) (h : Tracks past os) (e : Ent
       waits : is_waiting o.progress ≡ true
       waits = (and_parts (is_send o.asked) (is_waiting o.progress) parts.1).1
 
-  tracks_known : (link k : ℕ) (o : Operation) → e.event ≡ event.Know link k → IsFound (is_offered link k) os o → Tracks longer (without_first (is_offered link k) os)
-  tracks_known link k o is f = subst (Tracks longer) (sym f.without) (record {
+  -- its offer has ended, by an event that ends it
+  tracks_ended : (test : Operation → Bool) (link k : ℕ) (o : Operation) → ((l n : ℕ) → is_offer_of l n e.event ≡ false)
+      → ((l n : ℕ) → is_end_of l n e.event ≡ (nat_eq link l && nat_eq k n)) → is_offered link k o ≡ true → IsFound test os o → Tracks longer (without_first test os)
+  tracks_ended test link k o none one stands f = subst (Tracks longer) (sym f.without) (record {
     each = λ l n.
         let was = h.each l n in
-        let s = stood (is_offered link k) o f l n in
-        let its : one_if (is_offered l n o) ≡ one_if (nat_eq link l && nat_eq k n) = ap one_if (stands_where link k l n o f.passes) in
+        let s = stood test o f l n in
+        let its : one_if (is_offered l n o) ≡ one_if (nat_eq link l && nat_eq k n) = ap one_if (stands_where link k l n o stands) in
         let a = offers_more l n in
         let b = ends_more l n in
-        let p : one_if (is_offer_of l n e.event) ≡ 0 = ap (λ v. one_if (is_offer_of l n v)) is in
-        let q : one_if (is_end_of l n e.event) ≡ one_if (nat_eq link l && nat_eq k n) = ap (λ v. one_if (is_end_of l n v)) is in
+        let p : one_if (is_offer_of l n e.event) ≡ 0 = ap one_if (none l n) in
+        let q : one_if (is_end_of l n e.event) ≡ one_if (nat_eq link l && nat_eq k n) = ap one_if (one l n) in
         omega (arith, was, s, its, a, b, p, q);
-    receives = left_receive (is_offered link k) o f;
-    withdrawn = All-push (λ (x : Entry). is_withdrawal x.event ≡ false) past e h.withdrawn (ap is_withdrawal is);
+    receives = left_receive test o f;
   })
+
+  tracks_known : (test : Operation → Bool) (link k : ℕ) (o : Operation) → e.event ≡ event.Know link k → is_offered link k o ≡ true → IsFound test os o → Tracks longer (without_first test os)
+  tracks_known test link k o is stands f = tracks_ended test link k o (λ l n. ap (λ v. is_offer_of l n v) is) (λ l n. ap (λ v. is_end_of l n v) is) stands f
+
+  tracks_withdrawn : (test : Operation → Bool) (link k : ℕ) (o : Operation) → e.event ≡ event.Withdraw link k → is_offered link k o ≡ true → IsFound test os o
+      → Tracks longer (without_first test os)
+  tracks_withdrawn test link k o is stands f = tracks_ended test link k o (λ l n. ap (λ v. is_offer_of l n v) is) (λ l n. ap (λ v. is_end_of l n v) is) stands f
 
   tracks_received : (link k : ℕ) (value : ℤ) (o : Operation) → e.event ≡ event.Got link k value → IsFound (is_to_receive link) os o
       → Tracks longer (without_first (is_to_receive link) os)
@@ -213,7 +135,6 @@ module _ (past : List Entry) (os : List Operation) (h : Tracks past os) (e : Ent
         let q : one_if (is_end_of l n e.event) ≡ 0 = ap (λ v. one_if (is_end_of l n v)) is in
         omega (arith, was, s, none, a, b, p, q);
     receives = left_receive (is_to_receive link) o f;
-    withdrawn = All-push (λ (x : Entry). is_withdrawal x.event ≡ false) past e h.withdrawn (ap is_withdrawal is);
   })
     where
       receives : (if is_send o.asked then false else true) ≡ true
@@ -223,17 +144,17 @@ module _ (past : List Entry) (os : List Operation) (h : Tracks past os) (e : Ent
       no_send true h = let both : false ≡ true = h in absurd (cc)
       no_send false h = refl
 
-  tracks_passed : (link k : ℕ) → e.event ≡ event.Pass link k → Tracks longer os
-  tracks_passed link k is = record {
+  -- nothing is offered by the event, and no offer has ended
+  tracks_same : ((l n : ℕ) → is_offer_of l n e.event ≡ false) → ((l n : ℕ) → is_end_of l n e.event ≡ false) → Tracks longer os
+  tracks_same none no_end = record {
     each = λ l n.
         let was = h.each l n in
         let a = offers_more l n in
         let b = ends_more l n in
-        let p : one_if (is_offer_of l n e.event) ≡ 0 = ap (λ v. one_if (is_offer_of l n v)) is in
-        let q : one_if (is_end_of l n e.event) ≡ 0 = ap (λ v. one_if (is_end_of l n v)) is in
+        let p : one_if (is_offer_of l n e.event) ≡ 0 = ap one_if (none l n) in
+        let q : one_if (is_end_of l n e.event) ≡ 0 = ap one_if (no_end l n) in
         omega (arith, was, a, b, p, q);
     receives = h.receives;
-    withdrawn = All-push (λ (x : Entry). is_withdrawal x.event ≡ false) past e h.withdrawn (ap is_withdrawal is);
   }
 
   module _ (store : Store) (x : Arrival) where
@@ -251,7 +172,7 @@ module _ (past : List Entry) (os : List Operation) (h : Tracks past os) (e : Ent
     know_tracks link k None is e' fits = let no : None ≡ Some x = fits in absurd (cc)
     know_tracks link k (Some o) is e' fits =
         let same : has_ended store (without_first (is_offered link k) os) o ≡ x = cc in
-        subst (λ (y : Arrival). Tracks longer y.operations) same (tracks_known link k o is (found_at (is_offered link k) os o e'))
+        subst (λ (y : Arrival). Tracks longer y.operations) same (let f = found_at (is_offered link k) os o e' in tracks_known (is_offered link k) link k o is f.passes f)
 
     got_tracks : (link k : ℕ) (value : ℤ) (o : Option Operation) → e.event ≡ event.Got link k value → find (is_to_receive link) os ≡ o → ends_received store os link value o ≡ Some x
         → Tracks longer x.operations
@@ -264,7 +185,13 @@ module _ (past : List Entry) (os : List Operation) (h : Tracks past os) (e : Ent
     pass_tracks link k None is fits = let no : None ≡ Some x = fits in absurd (cc)
     pass_tracks link k (Some o) is fits =
         let same : goes_on_waiting store os ≡ x = cc in
-        subst (λ (y : Arrival). Tracks longer y.operations) same (tracks_passed link k is)
+        subst (λ (y : Arrival). Tracks longer y.operations) same (tracks_same (λ l n. ap (λ v. is_offer_of l n v) is) (λ l n. ap (λ v. is_end_of l n v) is))
+
+    room_tracks : (link k : ℕ) (b : Bool) → e.event ≡ event.Room link k → gives_room store os b ≡ Some x → Tracks longer x.operations
+    room_tracks link k false is fits = let no : None ≡ Some x = fits in absurd (cc)
+    room_tracks link k true is fits =
+        let same : goes_on_waiting store os ≡ x = cc in
+        subst (λ (y : Arrival). Tracks longer y.operations) same (tracks_same (λ l n. ap (λ v. is_offer_of l n v) is) (λ l n. ap (λ v. is_end_of l n v) is))
 
     pub tracks_entered : (v : Event) → e.event ≡ v → arrivals.arrives past store os v ≡ Some x → Tracks longer x.operations
     tracks_entered (event.Offer link k payload) is fits = go (nat_eq k (offers_on link past)) fits
@@ -275,4 +202,31 @@ module _ (past : List Entry) (os : List Operation) (h : Tracks past os) (e : Ent
     tracks_entered (event.Know link k) is fits = know_tracks link k (find (is_offered link k) os) is refl fits
     tracks_entered (event.Got link k value) is fits = got_tracks link k value (find (is_to_receive link) os) is refl fits
     tracks_entered (event.Pass link k) is fits = pass_tracks link k (find (is_to_receive link) os) is fits
+    tracks_entered (event.Room link k) is fits = room_tracks link k (keeps_room link k past) is fits
     tracks_entered v is fits = let no : None ≡ Some x = fits in absurd (cc)
+
+  -- the outcome of an offer, with whose operation a cancel has ended
+  pub tracks_decided : (test : Operation → Bool) (o : Operation) (link k : ℕ) (value : ℤ) → find test os ≡ Some o → o.link ≡ link → o.progress ≡ progress.Offered k
+      → outcome link k e.event ≡ Some value → Tracks longer (without_first test os)
+  tracks_decided test o link k value found on under is = go e.event refl is
+    where
+      stands : is_offered link k o ≡ true
+      stands = ap (λ p. nat_eq o.link link && is_under k p) under ∙ ap (λ b. b && nat_eq k k) (eq-eqb o.link link on) ∙ eq-eqb k k refl
+
+      same : (l n : ℕ) (v : ℤ) → (if nat_eq l link && nat_eq n k then Some v else None) ≡ Some value → (l ≡ link) × (n ≡ k)
+      same l n v q =
+          let both = and_parts (nat_eq l link) (nat_eq n k) (is_so (nat_eq l link && nat_eq n k) q) in
+          (eqb-true l link both.0, eqb-true n k both.1)
+        where
+          is_so : (b : Bool) → (if b then Some v else None) ≡ Some value → b ≡ true
+          is_so true q = refl
+          is_so false q = let no : None ≡ Some value = q in absurd (cc)
+
+      go : (v : Event) → e.event ≡ v → outcome link k v ≡ Some value → Tracks longer (without_first test os)
+      go (event.Withdraw l n) w q =
+          let at = same l n cancelled q in
+          tracks_withdrawn test link k o (w ∙ ap (λ x. event.Withdraw x n) at.0 ∙ ap (λ x. event.Withdraw link x) at.1) stands (found_at test os o found)
+      go (event.Know l n) w q =
+          let at = same l n ok q in
+          tracks_known test link k o (w ∙ ap (λ x. event.Know x n) at.0 ∙ ap (λ x. event.Know link x) at.1) stands (found_at test os o found)
+      go v w q = let no : None ≡ Some value = q in absurd (cc)

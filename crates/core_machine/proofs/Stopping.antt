@@ -1,7 +1,7 @@
 -- A running core comes to an end under its journal, of which something is seen, since no entry is still to come; and where it has ended
 -- or is idle, that is its end.
 use Rattle.std.proofs.Common.{◌≡◌, ℕ, zero, suc, ◌+◌, List, [], ◌∷◌, ◌++◌, length, map, Option, Some, None, IsSome, Result, Ok, Err, Bool, true, false, refl, sym, ap, ◌∙◌, subst, arith}
-use Rattle.std.specs.Prelude.{ℤ, reverse, take, drop, replicate, nat_le, nat_lt, nat_eq, slice_get, slice_set, is_none, is_some, ◌&&◌, ◌^◌, ◌-◌, if◌then◌else◌}
+use Rattle.std.specs.Prelude.{ℤ, find, reverse, take, drop, replicate, nat_le, nat_lt, nat_eq, slice_get, slice_set, is_none, is_some, ◌&&◌, ◌^◌, ◌-◌, if◌then◌else◌}
 use Rattle.std.proofs.lemmas.Bool.{and_parts}
 use Rattle.std.proofs.lemmas.List.Elements.{All-nil}
 use Rattle.ac_base.specs.declared.ends.Trap.{Trap}
@@ -10,18 +10,24 @@ use Rattle.ac_base.specs.declared.ends.EndWord.{EndWord}
 use Rattle.ac_base.specs.declared.ends.EndWord.TheVariants as word
 use Rattle.ac_base.specs.declared.ends.CoreEnd.{CoreEnd}
 use Rattle.ac_base.specs.declared.ends.MachineEnd.{MachineEnd}
+use Rattle.ac_base.specs.declared.entry.Entry.{Entry}
 use Rattle.work_item.specs.declared.ids.Item.{Item}
 use Rattle.work_item.specs.declared.ids.BlockId.{BlockId}
 use Rattle.work_item.specs.declared.cell.Cell.{Cell}
 use Rattle.work_item.specs.declared.cell.Cell.TheVariants as cell
-use Rattle.work_item.specs.Store.{Store, int_in, place_in, no_int, released}
+use Rattle.work_item.specs.Store.{Store, int_in, place_in, no_int, released, cell_at}
+use Rattle.cancel_scope.specs.declared.operation.Asked.{Asked}
+use Rattle.cancel_scope.specs.declared.operation.Progress.{Progress}
+use Rattle.cancel_scope.specs.declared.operation.Progress.TheVariants as progress
 use Rattle.cancel_scope.specs.declared.operation.Operation.{Operation}
+use Rattle.cancel_scope.specs.Outstanding.{without_first}
 use Rattle.core_state.specs.Moves.{Move, On, Over, GoesOn, moves, and_then}
 use Rattle.core_state.specs.Arithmetic.{Computed, truth, negated, not_true, flipped, sum_of, difference_of, product_of, quotient, remainder}
 use Rattle.core_state.specs.Arithmetic.{shifted_left, shifted_right, is_equal, is_not_equal, is_less, is_at_most, both_bits, either_bits, differing_bits}
-use Rattle.core_state.specs.Frames.{element, set_element, part_at, begun, begun_with}
-use Rattle.core_state.specs.Arrivals.{at_point}
-use Rattle.core_state.specs.Shared.{core_end, with_step, with_turn, printed, formatted, output_limit, seen, seen_left}
+use Rattle.core_state.specs.Frames.{element, set_element, part_at, begun, begun_with, block_in}
+use Rattle.core_state.specs.Arrivals.{at_point, has_ended_as}
+use Rattle.core_state.specs.Cancelling.{decided, tried, tries}
+use Rattle.core_state.specs.Shared.{Shared, core_end, with_step, with_turn, printed, formatted, output_limit, seen, seen_left}
 use Rattle.core_state.proofs.Runs.{GoesOn-more}
 use Rattle.stack_code.specs.declared.instr.Instr.{Instr}
 use Rattle.stack_code.specs.declared.instr.Instr.TheVariants as i
@@ -31,7 +37,7 @@ use Rattle.stack_code.specs.Kept.{IsRanked}
 use Rattle.code_meaning.specs.Machine as flat
 use Rattle.code_meaning.specs.Machine.{Flat, FlatEnd, Caller, Block, nobody, arrived, begin, exec, exec_of, dispatched, told, with_store, with_shared, or_trap, on_top, on_two, on_three, on_many}
 use Rattle.code_meaning.specs.Machine.{one_operand, two_operands, always, text_at, calls, returns, starts, arrives, arrives_in, arrives_at, dies, dies_in, counted_out, block_at, thread_at}
-use Rattle.code_meaning.specs.Machine.{first_flat}
+use Rattle.code_meaning.specs.Machine.{first_flat, asks_in, calls_off, counted, is_cancelled, is_inside, marked}
 use Rattle.code_safety.specs.Left.{left_to_come}
 use Rattle.code_safety.specs.KeptEnds.{KeepsEnds, IsAtEnd, AreAtEnds}
 use Rattle.code_safety.proofs.Beginnings.{ends_from}
@@ -45,17 +51,17 @@ use Rattle.core_machine.specs.State.{flat_of, end_or, machine_of, IsSound}
 
 -- ---- an instruction
 
--- a move leaves the entries to come as they are, and an end is seen where there are none
+-- where no entry is to come, none is after a move, and an end is seen
 abbrev Shows : Flat → Move Flat FlatEnd → Type 0
-Shows m (On n) = n.shared.todo ≡ m.shared.todo
+Shows m (On n) = m.shared.todo ≡ [] → n.shared.todo ≡ []
 Shows m (Over x) = m.shared.todo ≡ [] → IsSome x.core
 
 module _ (m : Flat) where
   abbrev L : Move Flat FlatEnd → Type 0
   L = Shows m
 
-  same : m.shared.todo ≡ m.shared.todo
-  same = refl
+  same : m.shared.todo ≡ [] → m.shared.todo ≡ []
+  same none = none
 
   shown : (why : EndWord) (idle : Bool) → m.shared.todo ≡ [] → IsSome (seen why idle m.store.globals m.operations m.shared)
   shown why idle k = ap (λ todo. is_some (seen_left why idle m.store.globals m.operations m.shared todo)) k
@@ -131,6 +137,39 @@ module _ (m : Flat) where
       by None = same
       by (Some x) = out (nat_eq x.count 1 && x.waits) x
 
+  asks_show : (b : Bool) (t : Item) (link : ℕ) (asked : Asked) (below : List Cell) → L (asks_in b m t link asked below)
+  asks_show true t link asked below = same
+  asks_show false t link asked below = same
+
+  -- where an entry is to come, nothing is said
+  none_shown : (e : Entry) (es : List Entry) → m.shared.todo ≡ e ∷ es → (x : Move Flat FlatEnd) → L x
+  none_shown e es is (On n) = λ none. let no : e ∷ es ≡ [] = sym is ∙ none in absurd (cc)
+  none_shown e es is (Over x) = λ none. let no : e ∷ es ≡ [] = sym is ∙ none in absurd (cc)
+
+  -- a cancel that asks for an outcome is stalled
+  calls_off_shows : (block : BlockId) → L (calls_off m block)
+  calls_off_shows block = go (find (is_inside m block) m.operations)
+    where
+      tell : Option CoreEnd → FlatEnd
+      tell = told (counted m.count)
+
+      ended : Operation → Shared → ℤ → Move Flat FlatEnd
+      ended o shared value = On (arrived (marked m block) shared (has_ended_as value m.store (without_first (is_inside m block) m.operations) o))
+
+      by_entry : (o : Operation) (number : ℕ) (todo : List Entry) → m.shared.todo ≡ todo
+          → L (decided tell m.shared m.store.globals m.operations o.link number (ended o) todo)
+      by_entry o number [] is = shown word.Stalled false
+      by_entry o number (e ∷ es) is = none_shown e es is (decided tell m.shared m.store.globals m.operations o.link number (ended o) (e ∷ es))
+
+      by : (o : Operation) (p : Progress) → L (tried tell m.shared m.store.globals m.operations o.link p (ended o))
+      by o progress.Waiting = same
+      by o (progress.Offered number) = by_entry o number m.shared.todo refl
+
+      go : (r : Option Operation)
+          → L (tries tell m.shared m.store m.operations (is_inside m block) (λ shared x. On (arrived (marked m block) shared x)) (flat.goes (marked m block) m.current.operands) r)
+      go None = same
+      go (Some o) = by o o.progress
+
   module _ (code : Parts) (bound : ℕ) (t : Item) where
     step_shows : L (begin code bound m t (Some i.Step))
     step_shows = by (nat_lt m.shared.steps bound)
@@ -184,9 +223,9 @@ module _ (m : Flat) where
     begin_shows (i.Async slots to) = trap_shows (begun m.store (Some m.current.frame) (replicate slots no_int)) (λ store. On (starts m t to store)) (λ store. same)
     begin_shows i.End = dies_shows (released m.store m.current.frame) t m.current.block
     begin_shows i.Yield = same
-    begin_shows (i.Cancel level slot) = same
-    begin_shows (i.Send channel) = top_shows _ m.current.operands (λ x below. same)
-    begin_shows (i.Recv channel) = top_shows _ m.current.operands (λ x below. same)
+    begin_shows (i.Cancel level slot) = calls_off_shows (block_in (cell_at m.store m.current.frame level slot))
+    begin_shows (i.Send channel) = top_shows _ m.current.operands (λ x below. asks_show (is_cancelled m.blocks m.current.block) t channel _ below)
+    begin_shows (i.Recv channel) = top_shows _ m.current.operands (λ x below. asks_show (is_cancelled m.blocks m.current.block) t channel _ below)
     begin_shows (i.Read file) = same
     begin_shows (i.Write file) = same
 
@@ -221,7 +260,7 @@ module _ (code : Parts) (bound : ℕ) where
     where
       go : ((n : Flat) → n.shared.todo ≡ [] → moves (exec code bound) k n ≡ Over end → IsSome end.core) → (a : Move Flat FlatEnd) → Shows m a
           → and_then a (moves (exec code bound) k) ≡ Over end → IsSome end.core
-      go later (On n) l h = later n (l ∙ last) h
+      go later (On n) l h = later n (l last) h
       go later (Over x) l h =
           let is : x ≡ end = let over : Over x ≡ Over end = h in cc in
           subst (λ (y : FlatEnd). IsSome y.core) is (l last)

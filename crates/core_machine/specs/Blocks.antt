@@ -5,7 +5,7 @@ use Rattle.code_meaning.specs.Machine.{Block}
 
 abbrev pub block_of : Option kept.Block → Option Block
 block_of None = None
-block_of (Some x) = Some (record { parent = x.parent; owner = x.owner; count = x.count; waits = x.waits })
+block_of (Some x) = Some (record { parent = x.parent; owner = x.owner; count = x.count; waits = x.waits; cancelled = x.cancelled })
 
 abbrev pub blocks_of : List (Option kept.Block) → List (Option Block)
 blocks_of blocks = map block_of blocks

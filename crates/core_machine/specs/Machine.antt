@@ -11,7 +11,6 @@ use Rattle.cancel_scope.specs.Outstanding.{waiting_as, waits_on}
 use Rattle.core_state.specs.Moves.{Move, On, Over, GoesOn}
 use Rattle.core_state.specs.Shared.{core_end}
 use Rattle.core_machine.specs.declared.ending.Ending.{Ending}
-use Rattle.core_machine.specs.declared.ending.Ending.TheVariants as ending
 use Rattle.core_machine.specs.Words.{word_of}
 use Rattle.stack_code.specs.declared.parts.Entered.{Entered}
 use Rattle.stack_code.specs.Parts.{Parts, Begins}

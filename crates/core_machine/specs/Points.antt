@@ -1,5 +1,5 @@
 -- What callers see of a core at its dispatch points, where entries come in.
-use Rattle.std.specs.Prelude.{◌≡◌, ℕ, suc, ℤ, Bool, true, false, List, [], ◌∷◌, ◌++◌}
+use Rattle.std.specs.Prelude.{◌≡◌, ℕ, suc, ℤ, Bool, false, List, [], ◌∷◌, ◌++◌}
 use Rattle.std.specs.Prelude.{Option, Some, None, find, is_none, is_some, option_and_then}
 use Rattle.ac_base.specs.declared.entry.Entry.{Entry}
 use Rattle.ac_base.specs.declared.entry.Event.{Event}
@@ -13,7 +13,7 @@ use Rattle.core_state.specs.Shared.{with_entry}
 use Rattle.code_meaning.specs.Machine.{Flat, FlatEnd, arrived}
 use Rattle.code_safety.specs.KeptEnds.{KeepsEnds, AreAtEnds}
 use Rattle.code_safety.specs.Left.{left}
-use Rattle.core_machine.specs.Machine.{Machine}
+use Rattle.core_machine.specs.Machine.{Machine, has_ended}
 use Rattle.core_machine.specs.Tracks.{Tracks}
 
 -- it has not ended, and no thread runs
@@ -40,9 +40,9 @@ to_send os link = option_and_then (λ (o : Operation). message_of o.asked) (find
 abbrev pub receives_from : List Operation → ℕ → Bool
 receives_from os link = is_some (find (is_to_receive link) os)
 
--- each offer of its journal that has not ended is that of an operation
+-- each offer of its journal that has not ended is that of an operation, where the core has not ended
 abbrev pub HasTracks : Machine → Type 0
-HasTracks m = is_at_point m.state ≡ true → Tracks m.journal (operations_of m.state)
+HasTracks m = has_ended m.state ≡ false → Tracks m.journal (operations_of m.state)
 
 -- where the code keeps its ends, each operation of the core is at one of them
 abbrev pub KeepsOperations : Machine → Type 0

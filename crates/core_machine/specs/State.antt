@@ -1,5 +1,5 @@
 -- The state that the fields of a running core stand for.
-use Rattle.std.specs.Prelude.{◌≡◌, [], Option, Some, None, Bool, false, not, nat_lt, ◌&&◌, IsSome}
+use Rattle.std.specs.Prelude.{◌≡◌, [], Option, Some, None, Bool, false, not, nat_lt, ◌&&◌}
 use Rattle.core_machine.specs.declared.ending.Ending.{Ending}
 use Rattle.core_machine.specs.Words.{word_of}
 use Rattle.core_state.specs.Moves.{Move, On, Over}
@@ -51,12 +51,11 @@ machine_of m =
     record { code = m.code.now; core = m.core; bound = m.bound; journal = m.journal.entries; state = state_of m; room = has_room m }
 
 -- a core that has not ended stands where its code can stand, no reference dangles there, and each offer that has not ended is that of an
--- operation; and the thread that runs needs nothing that was given to another
+-- operation
 pub record IsSound (m : Running) : Type 0 where
   pub fit : m.ended ≡ None → IsFit m.code.now (flat_of m)
   pub chained : m.ended ≡ None → AreChained m.code.now (flat_of m)
   pub tracks : m.ended ≡ None → Tracks m.journal.entries m.outstanding.operations
-  pub settled : IsSome m.schedule.running → m.threads.pending ≡ false
   pub valid : IsValid m.code.now
   pub meant : IsMeant m.code.now
   pub ran : IsOnItsWay (machine_of m)

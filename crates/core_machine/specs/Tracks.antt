@@ -18,10 +18,6 @@ is_end_of link number (event.Know l n) = nat_eq l link && nat_eq n number
 is_end_of link number (event.Withdraw l n) = nat_eq l link && nat_eq n number
 is_end_of link number _ = false
 
-abbrev pub is_withdrawal : Event → Bool
-is_withdrawal (event.Withdraw l n) = true
-is_withdrawal _ = false
-
 abbrev pub offers_of : ℕ → ℕ → List Entry → ℕ
 offers_of link number past = total (λ (e : Entry). one_if (is_offer_of link number e.event)) past
 
@@ -31,9 +27,8 @@ ends_of link number past = total (λ (e : Entry). one_if (is_end_of link number 
 abbrev pub standing_of : ℕ → ℕ → List Operation → ℕ
 standing_of link number os = total (λ (o : Operation). one_if (is_offered link number o)) os
 
--- as many operations stand on a link under a number as the journal has offers there that have not ended; an operation that receives is
--- not offered; and nothing was withdrawn
+-- as many operations stand on a link under a number as the journal has offers there that have not ended, and an operation that receives is
+-- not offered
 pub record Tracks (past : List Entry) (os : List Operation) : Type 0 where
   pub each : (link number : ℕ) → standing_of link number os + ends_of link number past ≡ offers_of link number past
   pub receives : All (λ (o : Operation). is_send o.asked ≡ false → is_waiting o.progress ≡ true) os
-  pub withdrawn : All (λ (e : Entry). is_withdrawal e.event ≡ false) past

@@ -4,3 +4,4 @@ pub mod Needs
 pub mod Beginning
 pub mod Left
 pub mod Changes
+pub mod Deciding

@@ -1,23 +1,25 @@
 //! What comes in at a dispatch point.
 
 use crate::running::Running;
+use crate::values::OK;
 use ac_base::{Entry, Event, Message, NoMemory, Payload};
 use cancel_scope::Asked;
 use work_item::{Cell, Item};
 
 impl Running<'_> {
-    ghost use Rattle.std.specs.Prelude.{◌≡◌, ◌<◌, Some, None, [], ◌∷◌, ◌++◌, false, find, length, IsSome, IfSome, OnOk};
+    ghost use Rattle.std.specs.Prelude.{◌≡◌, ◌<◌, Some, None, [], ◌∷◌, ◌++◌, true, false, find, length, IsSome, IfSome, OnOk};
     ghost use Rattle.ac_base.specs.declared.entry.Event.{Event};
     ghost use Rattle.ac_base.specs.declared.entry.Payload.{Payload};
+    ghost use Rattle.work_item.specs.declared.cell.Cell.{Cell};
     ghost use Rattle.work_item.specs.Store.{int_at};
     ghost use Rattle.work_item.specs.Conditions.{HomeLives};
     ghost use Rattle.cancel_scope.specs.declared.operation.Asked.{Asked};
     ghost use Rattle.cancel_scope.specs.declared.operation.Operation.{Operation};
     ghost use Rattle.cancel_scope.specs.Outstanding.{is_to_offer, is_offered, is_to_receive};
-    ghost use Rattle.core_state.specs.Arrivals.{offers_on, ok};
+    ghost use Rattle.core_state.specs.Arrivals.{offers_on, keeps_room};
     ghost use Rattle.code_meaning.specs.Machine.{resumed};
     ghost use Rattle.core_machine.specs.State.{flat_of, IsSound};
-    ghost use Rattle.core_machine.specs.inner.Changes.{entry_now, IsSameCode, Stays, Enters};
+    ghost use Rattle.core_machine.specs.inner.Changes.{entry_now, IsSameCode, Keeps, Stays, Enters};
 
     /// Makes room for an entry, and for the thread that it may wake.
     pub fn make_room(&mut self) -> Result<(), NoMemory>
@@ -44,16 +46,16 @@ impl Running<'_> {
         self.journal.push(Entry { stamp, turn, event });
     }
 
-    // The thread whose operation has ended has its value, and goes to the back.
-    fn resume(&mut self, item: Item)
+    /// The thread whose operation has ended has its value, and goes to the back.
+    pub fn resume(&mut self, item: Item, value: i64)
         requires room { 0 < self.old.schedule.spare }
         requires settled { self.old.threads.pending ≡ false }
-        ensures flat { flat_of self.new ≡ resumed (flat_of self.old) ok (Some item) }
+        ensures flat { flat_of self.new ≡ resumed (flat_of self.old) (Cell.Int value) (Some item) }
         ensures ended { self.new.ended ≡ self.old.ended }
-        ensures keeps { IsSameCode self.old self.new }
+        ensures keeps { Keeps self.old self.new }
     {
         self.schedule.schedule(item);
-        self.threads.give(item, Cell::Int(0));
+        self.threads.give(item, Cell::Int(value));
     }
 
     /// The oldest operation that is to be offered on a link, which sends that value, was offered
@@ -89,7 +91,7 @@ impl Running<'_> {
             unreachable!()
         };
         self.note(Event::Know { link, number }, stamp);
-        self.resume(operation.item);
+        self.resume(operation.item, OK);
     }
 
     /// A message has come over a link, for the oldest operation that waits for one, which has ended.
@@ -117,7 +119,7 @@ impl Running<'_> {
             },
             stamp,
         );
-        self.resume(operation.item);
+        self.resume(operation.item, OK);
     }
 
     /// A withdrawn offer was passed over on a link from which an operation waits for a message; it
@@ -129,5 +131,46 @@ impl Running<'_> {
         ensures pending { self.new.threads.pending ≡ self.old.threads.pending }
     {
         self.note(Event::Pass { link, number }, stamp);
+    }
+
+    /// The room of a withdrawn offer was given back; it changes no operation.
+    pub fn roomed(&mut self, link: u32, number: u64, stamp: u64)
+        requires room { 0 < self.old.journal.spare }
+        requires keeps { keeps_room link number self.old.journal.entries ≡ true }
+        ensures enters { Enters self.old (Event.Room link number) stamp self.new }
+        ensures pending { self.new.threads.pending ≡ self.old.threads.pending }
+    {
+        self.note(Event::Room { link, number }, stamp);
+    }
+}
+
+// ---- the outcome of an offer
+
+impl Running<'_> {
+    ghost use Rattle.std.specs.Prelude.{◌≡◌, ◌<◌, IsSome, false};
+    ghost use Rattle.core_machine.specs.State.{state_of, IsSound};
+    ghost use Rattle.core_machine.specs.Tried.{tried_of};
+    ghost use Rattle.core_machine.specs.inner.Deciding.{Decides};
+
+    /// At a cancel, the oldest operation within the block has ended with a value, by an event that
+    /// decides its offer.
+    pub fn decide(&mut self, event: Event, value: i64, stamp: u64)
+        requires room { 0 < self.old.journal.spare }
+        requires ready { 0 < self.old.schedule.spare }
+        requires settled { self.old.threads.pending ≡ false }
+        requires asks { IsSome (tried_of self.old.code.now (state_of self.old)) }
+        requires sound { IsSound self.old }
+        ensures decides { Decides self.old value event stamp self.new }
+    {
+        let Some(block) = self.cancels() else {
+            unreachable!()
+        };
+        let Some(place) = self.oldest_within(block) else {
+            unreachable!()
+        };
+        let operation = self.outstanding.end_at(place);
+        self.blocks.mark_cancelled(block);
+        self.note(event, stamp);
+        self.resume(operation.item, value);
     }
 }

@@ -4,6 +4,7 @@
 mod arrivals;
 mod beginning;
 mod calls;
+mod cancelling;
 mod counter;
 mod ending;
 mod machine;
@@ -11,6 +12,11 @@ mod operate;
 mod operations;
 mod running;
 mod threads;
+mod tried;
+mod values;
+mod went;
+mod within;
 
 pub use ending::Ending;
 pub use machine::CoreMachine;
+pub use tried::Tried;

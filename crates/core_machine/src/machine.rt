@@ -4,7 +4,9 @@ use crate::beginning::{make_first, set_starts};
 use crate::counter::Counter;
 use crate::ending::{Ending, word_now};
 use crate::running::Running;
-use ac_base::{CoreEnd, Journal, List, MachineEnd, Message, NoMemory};
+use crate::tried::Tried;
+use crate::values::{CANCELLED, OK};
+use ac_base::{CoreEnd, Event, Journal, List, MachineEnd, Message, NoMemory};
 use cancel_scope::{Asked, Outstanding};
 use core_scheduler::Scheduler;
 use finish_block::Blocks;
@@ -47,7 +49,7 @@ impl<'a> CoreMachine<'a> {
     ///
     /// It takes the memory of its globals and its frame, and answers `NoMemory` where there is none.
     ///
-    /// Conditions: the code has so many cores, and no cancel and no operation on a file.
+    /// Conditions: the code has so many cores, and no operation on a file.
     pub fn new(
         alloc: Global,
         code: &'a Code,
@@ -159,17 +161,18 @@ impl<'a> CoreMachine<'a> {
 // ---- its dispatch points, where entries come in
 
 impl<'a> CoreMachine<'a> {
-    ghost use Rattle.std.specs.Prelude.{◌≡◌, ℕ, ◌<◌, ◌≤◌, List, Some, true, false, IsSome, MatchOption, OnOk, find};
+    ghost use Rattle.std.specs.Prelude.{◌≡◌, ℕ, ◌<◌, ◌≤◌, List, Some, None, true, false, IsSome, MatchOption, OnOk, find};
     ghost use Rattle.ac_base.specs.declared.entry.Event.{Event};
     ghost use Rattle.ac_base.specs.declared.entry.Payload.{Payload};
     ghost use Rattle.cancel_scope.specs.Outstanding.{is_offered};
     ghost use Rattle.core_state.specs.Moves.{GoesOn};
-    ghost use Rattle.core_state.specs.Arrivals.{offers_on};
+    ghost use Rattle.core_state.specs.Arrivals.{offers_on, keeps_room, ok, cancelled};
     ghost use Rattle.stack_code.specs.Kept.{IsRanked};
     ghost use Rattle.code_meaning.specs.Machine.{exec};
     ghost use Rattle.core_machine.specs.Machine.{ComesToEnd, IsOnItsWay, IsSameCore, HasEnded, has_ended, is_idle};
     ghost use Rattle.core_machine.specs.Points.{is_at_point, operations_of, to_send, receives_from, work_left};
     ghost use Rattle.core_machine.specs.Points.{KeepsOperations, HasTracks, HasCome};
+    ghost use Rattle.core_machine.specs.Tried.{tried_of, HasDecided};
 
     /// The code that it runs.
     pub fn code(&self) -> &'a Code
@@ -303,13 +306,72 @@ impl<'a> CoreMachine<'a> {
         self.running.passed(link, number, stamp);
     }
 
+    /// The room of a withdrawn offer was given back.
+    ///
+    /// Conditions: there is room for an entry, no thread runs, and the offer was withdrawn and keeps
+    /// its room.
+    pub fn roomed(&mut self, link: u32, number: u64, stamp: u64)
+        requires room { self.old.room ≡ true }
+        requires point { is_at_point self.old.state ≡ true }
+        requires keeps { keeps_room link number self.old.journal ≡ true }
+        ensures come { HasCome self.old (Event.Room link number) stamp self.new }
+        ensures less { (ranks : List ℕ) → work_left ranks self.new ≤ work_left ranks self.old }
+        ensures run { IsOnItsWay self.new }
+    {
+        self.running.roomed(link, number, stamp);
+    }
+
+    /// The offer for which the core asks for an outcome: it stands at a cancel, and the oldest
+    /// operation within the block was offered.
+    pub fn tried(&self) -> Option<Tried>
+        ensures tried { result ≡ tried_of self.now.code self.now.state }
+        ensures tracks { HasTracks self.now }
+    {
+        self.running.tried()
+    }
+
+    /// The offer that a cancel tries was withdrawn: its operation never happens.
+    ///
+    /// Conditions: there is room for an entry, and the core asks for the outcome of that offer.
+    pub fn withdrawn(&mut self, tried: Tried, stamp: u64)
+        requires room { self.old.room ≡ true }
+        requires asks { tried_of self.old.code self.old.state ≡ Some tried }
+        ensures decided { HasDecided self.old tried cancelled (Event.Withdraw tried.link tried.number) stamp self.new }
+        ensures less { (ranks : List ℕ) → work_left ranks self.new < work_left ranks self.old }
+        ensures run { IsOnItsWay self.new }
+    {
+        let event = Event::Withdraw {
+            link: tried.link,
+            number: tried.number,
+        };
+        self.running.decide(event, CANCELLED, stamp);
+    }
+
+    /// The offer that a cancel tries was taken: its operation is done.
+    ///
+    /// Conditions: as those of `withdrawn`.
+    pub fn taken(&mut self, tried: Tried, stamp: u64)
+        requires room { self.old.room ≡ true }
+        requires asks { tried_of self.old.code self.old.state ≡ Some tried }
+        ensures decided { HasDecided self.old tried ok (Event.Know tried.link tried.number) stamp self.new }
+        ensures less { (ranks : List ℕ) → work_left ranks self.new < work_left ranks self.old }
+        ensures run { IsOnItsWay self.new }
+    {
+        let event = Event::Know {
+            link: tried.link,
+            number: tried.number,
+        };
+        self.running.decide(event, OK, stamp);
+    }
+
     /// The running thread goes on as long as it is the same thread; where none runs, the front of
     /// the ready list does. The ranks are there for the proof alone that the core comes to its end.
     ///
-    /// Conditions: the core has not ended, and is not idle.
+    /// Conditions: the core has not ended, is not idle, and asks for no outcome.
     pub fn turn(&mut self, _ranks: &[u64]) -> Result<(), NoMemory>
         requires going { has_ended self.old.state ≡ false }
         requires busy { is_idle self.old.state ≡ false }
+        requires decided { tried_of self.old.code self.old.state ≡ None }
         requires ranked { IsRanked self.old.code _ranks.now }
         ensures goes { GoesOn (exec self.old.code self.old.bound) self.old.state self.new.state }
         ensures same { IsSameCore self.old self.new }

@@ -1,14 +1,17 @@
-//! Operations start.
+//! Operations start; in a cancelled block they end at once.
 
 use crate::running::Running;
+use crate::values::CANCELLED;
 use ac_base::NoMemory;
 use cancel_scope::{Asked, Operation};
 use thread_table::Parked;
-use work_item::Item;
+use work_item::{Cell, Item};
 
 impl Running<'_> {
-    ghost use Rattle.std.specs.Prelude.{◌≡◌, true, false, Some, None, ◌<◌, ◌^◌, length, IsSome, OnOk, OnErr};
+    ghost use Rattle.std.specs.Prelude.{◌≡◌, true, false, Some, None, ◌+◌, ◌-◌, ◌≤◌, ◌<◌, ◌^◌, min, ◌∷◌, length, drop, IsSome, OnOk, OnErr};
     ghost use Rattle.stack_code.specs.declared.instr.Instr.{Instr};
+    ghost use Rattle.work_item.specs.declared.cell.Cell.{Cell};
+    ghost use Rattle.core_state.specs.Arrivals.{cancelled};
     ghost use Rattle.code_meaning.specs.Machine.{operates};
     ghost use Rattle.code_safety.specs.Fit.{is_int};
     ghost use Rattle.core_machine.specs.State.{flat_of};
@@ -33,6 +36,21 @@ impl Running<'_> {
         self.park(item, self.place + 1, Parked::nobody(self.alloc));
     }
 
+    // An operation in a cancelled block never happens: its value stands where its operand stood, and
+    // the thread goes on.
+    fn end_at_once(&mut self)
+        requires inside { self.old.place < 2 ^ 32 }
+        requires one { 1 ≤ length self.old.operands }
+        ensures { self.new ≡ record self.old {
+          operands = Cell.Int cancelled ∷ drop 1 self.old.operands;
+          place = self.old.place + 1;
+          count = min (self.old.count + 1) (2 ^ 64 - 1);
+        } }
+    {
+        self.operands.replace(Cell::Int(CANCELLED));
+        self.go_on();
+    }
+
     /// Starts to send an int, which it pops, over a channel.
     pub fn send(&mut self, channel: u32) -> Result<(), NoMemory>
         requires running { self.old.ended ≡ None }
@@ -45,6 +63,10 @@ impl Running<'_> {
         ensures err { OnErr result (Stays self.old self.new) }
         ensures keeps { Keeps self.old self.new }
     {
+        if self.blocks.is_cancelled(self.block) {
+            self.end_at_once();
+            return Ok(());
+        }
         let item = self.item();
         self.outstanding.reserve(1)?;
         let value = self.operands.pop_int();
@@ -64,6 +86,10 @@ impl Running<'_> {
         ensures err { OnErr result (Stays self.old self.new) }
         ensures keeps { Keeps self.old self.new }
     {
+        if self.blocks.is_cancelled(self.block) {
+            self.end_at_once();
+            return Ok(());
+        }
         let item = self.item();
         self.outstanding.reserve(1)?;
         let place = self.operands.pop_place();

@@ -5,6 +5,7 @@ ghost use Rattle.std.specs.Prelude.{◌≡◌};
 use crate::counter::Counter;
 use crate::ending::Ending;
 use crate::operate::{binary, unary};
+use crate::went::{Went, done};
 use ac_base::{Journal, NoMemory, Trap};
 use cancel_scope::Outstanding;
 use core_scheduler::Scheduler;
@@ -493,6 +494,8 @@ impl Running<'_> {
     ghost use Rattle.core_machine.specs.Machine.{is_resting, is_idle, has_ended};
     ghost use Rattle.core_machine.specs.Points.{is_at_point};
     ghost use Rattle.core_machine.specs.State.{flat_of, state_of, IsSound};
+    ghost use Rattle.core_machine.specs.declared.went.Went.{Went};
+    ghost use Rattle.core_machine.specs.Tried.{cancelled_by, tried_within, tried_of};
     ghost use Rattle.core_machine.specs.inner.Left.{left_of};
     ghost use Rattle.core_machine.specs.inner.Needs.{Finds, is_on_threads};
     ghost use Rattle.core_machine.specs.inner.Changes.{IsSameCode, Keeps, Does, Stays, Continues};
@@ -524,22 +527,24 @@ impl Running<'_> {
         }
     }
 
-    // One instruction, which finds what it needs. It says whether the same thread goes on with the
-    // next one; where it does not say so, the core may have ended or another thread may run, or none.
+    // One instruction, which finds what it needs.
     #[inline(always)]
-    fn execute(&mut self, instr: Instr) -> Result<bool, NoMemory>
+    fn execute(&mut self, instr: &Instr) -> Result<Went, NoMemory>
         requires running { self.old.ended ≡ None }
         requires runs { IsSome self.old.schedule.running }
         requires inside { self.old.place < 2 ^ 32 }
-        requires finds { Finds self.old.code.now (flat_of self.old) instr }
+        requires finds { Finds self.old.code.now (flat_of self.old) instr.now }
         requires settled { self.old.threads.pending ≡ false }
-        ensures ok { OnOk result (Does self.old instr self.new) }
+        ensures ok { IfOk result (λ went. went ≢ Went.Asks → Does self.old instr.now self.new) }
+        ensures asks { IfOk result (λ went. went ≡ Went.Asks → IsSome
+            (tried_within (flat_of self.old) (cancelled_by (flat_of self.old) (Some instr.now)))) }
+        ensures stays { IfOk result (λ went. went ≡ Went.Asks → Stays self.old self.new) }
         ensures err { OnErr result (Stays self.old self.new) }
         ensures keeps { Keeps self.old self.new }
-        ensures continues { IfOk result (λ goes. goes ≡ true → Continues self.old self.new) }
+        ensures continues { IfOk result (λ went. went ≡ Went.On → Continues self.old self.new) }
     {
-        match instr {
-            Instr::Step => return Ok(self.step()),
+        match *instr {
+            Instr::Step => return Ok(done(self.step())),
             Instr::Push(value) => self.push(value)?,
             Instr::Load { level, slot } => self.load(level, slot)?,
             Instr::LoadG { slot } => self.load_global(slot)?,
@@ -547,38 +552,38 @@ impl Running<'_> {
             Instr::StoreG { slot } => self.store_global(slot),
             Instr::Arr { level, slot, len } => self.array(level, slot, len)?,
             Instr::ArrG { slot, len } => self.global_array(slot, len)?,
-            Instr::Elem => return Ok(self.element()),
-            Instr::SetElem => return Ok(self.set_element()),
-            Instr::Place => return Ok(self.element_place()),
+            Instr::Elem => return Ok(done(self.element())),
+            Instr::SetElem => return Ok(done(self.set_element())),
+            Instr::Place => return Ok(done(self.element_place())),
             Instr::Clear { slot, len } => self.clear(slot, len),
             Instr::Drop => self.drop_one(),
             Instr::Jump { to } => self.jump(to),
             Instr::Jz { to } => self.jump_if_zero(to),
             Instr::Jnz { to } => self.jump_if_not_zero(to),
-            Instr::Print { text, count } => return self.print(text, count),
-            Instr::Call { function, count } => return self.call(function, count),
-            Instr::Ret => return self.ret(),
+            Instr::Print { text, count } => return Ok(done(self.print(text, count)?)),
+            Instr::Call { function, count } => return Ok(done(self.call(function, count)?)),
+            Instr::Ret => return Ok(done(self.ret()?)),
             // One arm for each operator, so that nothing looks at the instruction twice.
             Instr::Neg => self.apply_unary(Instr::Neg),
             Instr::Not => self.apply_unary(Instr::Not),
             Instr::Flip => self.apply_unary(Instr::Flip),
             Instr::Bool => self.apply_unary(Instr::Bool),
-            Instr::BitOr => return Ok(self.apply_binary(Instr::BitOr)),
-            Instr::BitXor => return Ok(self.apply_binary(Instr::BitXor)),
-            Instr::BitAnd => return Ok(self.apply_binary(Instr::BitAnd)),
-            Instr::Eq => return Ok(self.apply_binary(Instr::Eq)),
-            Instr::Ne => return Ok(self.apply_binary(Instr::Ne)),
-            Instr::Less => return Ok(self.apply_binary(Instr::Less)),
-            Instr::LessEq => return Ok(self.apply_binary(Instr::LessEq)),
-            Instr::More => return Ok(self.apply_binary(Instr::More)),
-            Instr::MoreEq => return Ok(self.apply_binary(Instr::MoreEq)),
-            Instr::Shl => return Ok(self.apply_binary(Instr::Shl)),
-            Instr::Shr => return Ok(self.apply_binary(Instr::Shr)),
-            Instr::Add => return Ok(self.apply_binary(Instr::Add)),
-            Instr::Sub => return Ok(self.apply_binary(Instr::Sub)),
-            Instr::Mul => return Ok(self.apply_binary(Instr::Mul)),
-            Instr::Div => return Ok(self.apply_binary(Instr::Div)),
-            Instr::Rem => return Ok(self.apply_binary(Instr::Rem)),
+            Instr::BitOr => return Ok(done(self.apply_binary(Instr::BitOr))),
+            Instr::BitXor => return Ok(done(self.apply_binary(Instr::BitXor))),
+            Instr::BitAnd => return Ok(done(self.apply_binary(Instr::BitAnd))),
+            Instr::Eq => return Ok(done(self.apply_binary(Instr::Eq))),
+            Instr::Ne => return Ok(done(self.apply_binary(Instr::Ne))),
+            Instr::Less => return Ok(done(self.apply_binary(Instr::Less))),
+            Instr::LessEq => return Ok(done(self.apply_binary(Instr::LessEq))),
+            Instr::More => return Ok(done(self.apply_binary(Instr::More))),
+            Instr::MoreEq => return Ok(done(self.apply_binary(Instr::MoreEq))),
+            Instr::Shl => return Ok(done(self.apply_binary(Instr::Shl))),
+            Instr::Shr => return Ok(done(self.apply_binary(Instr::Shr))),
+            Instr::Add => return Ok(done(self.apply_binary(Instr::Add))),
+            Instr::Sub => return Ok(done(self.apply_binary(Instr::Sub))),
+            Instr::Mul => return Ok(done(self.apply_binary(Instr::Mul))),
+            Instr::Div => return Ok(done(self.apply_binary(Instr::Div))),
+            Instr::Rem => return Ok(done(self.apply_binary(Instr::Rem))),
             Instr::Enter { .. }
             | Instr::Finish { .. }
             | Instr::Async { .. }
@@ -586,54 +591,62 @@ impl Running<'_> {
             | Instr::Yield
             | Instr::Send { .. }
             | Instr::Recv { .. } => {
-                self.change_threads(instr)?;
-                return Ok(false);
+                self.change_threads(*instr)?;
+                return Ok(Went::Away);
             }
+            Instr::Cancel { level, slot } => return self.cancel(level, slot),
             _ => unreachable!(),
         }
-        Ok(true)
+        Ok(Went::On)
     }
 
     #[inline(always)]
-    fn next_instr(&self, instrs: &[Instr]) -> Instr
+    pub fn next_instr<'i>(&self, instrs: &'i [Instr]) -> &'i Instr
         requires running { self.now.ended ≡ None }
         requires runs { IsSome self.now.schedule.running }
         requires sound { IsSound self.now }
         requires instrs { instrs.now ≡ self.now.code.now.instrs }
-        ensures here { slice_get self.now.code.now.instrs self.now.place ≡ Some result }
+        ensures here { slice_get self.now.code.now.instrs self.now.place ≡ Some result.now }
         ensures inside { self.now.place < 2 ^ 32 }
-        ensures finds { Finds self.now.code.now (flat_of self.now) result }
+        ensures finds { Finds self.now.code.now (flat_of self.now) result.now }
     {
-        instrs[self.place]
+        &instrs[self.place]
     }
 
     // The next instruction of the running thread. The ranks are there for the proof alone that less
     // is left to do.
     #[inline(always)]
-    fn one(&mut self, instrs: &[Instr], _ranks: &[u64]) -> Result<bool, NoMemory>
+    fn one(&mut self, instrs: &[Instr], _ranks: &[u64]) -> Result<Went, NoMemory>
         requires running { self.old.ended ≡ None }
         requires runs { IsSome self.old.schedule.running }
         requires sound { IsSound self.old }
         requires instrs { instrs.now ≡ self.old.code.now.instrs }
         requires ranked { IsRanked self.old.code.now _ranks.now }
-        ensures ok { OnOk result (state_of self.new ≡ exec self.old.code.now self.old.bound (flat_of self.old)) }
-        ensures err { OnErr result (state_of self.new ≡ state_of self.old) }
+        requires settled { self.old.threads.pending ≡ false }
+        ensures ok { IfOk result (λ went. went ≢ Went.Asks
+            → state_of self.new ≡ exec self.old.code.now self.old.bound (flat_of self.old)) }
+        ensures asks { IfOk result (λ went. went ≡ Went.Asks → IsSome (tried_of self.old.code.now (state_of self.old))) }
+        ensures stays { IfOk result (λ went. went ≡ Went.Asks → Stays self.old self.new) }
+        ensures err { OnErr result (Stays self.old self.new) }
         ensures keeps { Keeps self.old self.new }
         ensures sound { IsSound self.new }
-        ensures less { OnOk result (left_of _ranks.now self.new < left_of _ranks.now self.old) }
-        ensures continues { IfOk result (λ goes. goes ≡ true → Continues self.old self.new) }
+        ensures less { IfOk result (λ went. went ≢ Went.Asks → left_of _ranks.now self.new < left_of _ranks.now self.old) }
+        ensures continues { IfOk result (λ went. went ≡ Went.On → Continues self.old self.new) }
     {
         let instr = self.next_instr(instrs);
-        let goes = self.execute(instr)?;
-        Ok(goes)
+        let went = self.execute(instr)?;
+        Ok(went)
     }
 
-    // The instructions of the running thread, until it need not be the same thread that goes on.
+    // The instructions of the running thread, until it need not be the same thread that goes on, or
+    // the core asks for an outcome.
     fn stretch(&mut self, _ranks: &[u64]) -> Result<(), NoMemory>
         requires running { self.old.ended ≡ None }
         requires runs { IsSome self.old.schedule.running }
         requires sound { IsSound self.old }
         requires ranked { IsRanked self.old.code.now _ranks.now }
+        requires settled { self.old.threads.pending ≡ false }
+        requires asks { tried_of self.old.code.now (state_of self.old) ≡ None }
         ensures goes { GoesOn (exec self.old.code.now self.old.bound) (state_of self.old) (state_of self.new) }
         ensures keeps { Keeps self.old self.new }
         ensures sound { IsSound self.new }
@@ -642,9 +655,10 @@ impl Running<'_> {
         let code = self.code;
         let instrs = code.instrs();
         'steps: loop {
-            let goes = self.one(instrs, _ranks)?;
-            if !goes {
-                return Ok(());
+            let went = self.one(instrs, _ranks)?;
+            match went {
+                Went::On => {}
+                Went::Away | Went::Asks => return Ok(()),
             }
         }
     }
@@ -654,19 +668,36 @@ impl Running<'_> {
         ensures stays { Stays self.old self.new }
         ensures same { IsSameCode self.old self.new }
         ensures schedule { self.new.schedule ≡ self.old.schedule }
-        ensures pending { self.old.threads.pending ≡ false → self.new.threads.pending ≡ false }
         ensures ok { OnOk result (self.new.threads.pending ≡ false) }
     {
         self.threads.settle()
     }
 
     // No thread runs: the one at the front of the ready list does.
-    fn start_next(&mut self, _ranks: &[u64]) -> Result<(), NoMemory>
+    fn start_next(&mut self, _ranks: &[u64])
         requires running { self.old.ended ≡ None }
         requires idle { self.old.schedule.running ≡ None }
         requires active { is_resting (flat_of self.old) ≡ false }
         requires sound { IsSound self.old }
         requires ranked { IsRanked self.old.code.now _ranks.now }
+        requires settled { self.old.threads.pending ≡ false }
+        ensures goes { GoesOn (exec self.old.code.now self.old.bound) (state_of self.old) (state_of self.new) }
+        ensures keeps { Keeps self.old self.new }
+        ensures sound { IsSound self.new }
+        ensures less { left_of _ranks.now self.new < left_of _ranks.now self.old }
+    {
+        self.dispatch();
+    }
+
+    /// A stretch of a core that has not ended, or the next dispatch.
+    ///
+    /// Condition: the core asks for no outcome.
+    pub fn turn(&mut self, _ranks: &[u64]) -> Result<(), NoMemory>
+        requires running { self.old.ended ≡ None }
+        requires active { is_resting (flat_of self.old) ≡ false }
+        requires sound { IsSound self.old }
+        requires ranked { IsRanked self.old.code.now _ranks.now }
+        requires asks { tried_of self.old.code.now (state_of self.old) ≡ None }
         ensures goes { GoesOn (exec self.old.code.now self.old.bound) (state_of self.old) (state_of self.new) }
         ensures same { IsSameCode self.old self.new }
         ensures journal { self.new.journal.entries ≡ self.old.journal.entries }
@@ -674,24 +705,9 @@ impl Running<'_> {
         ensures less { OnOk result (left_of _ranks.now self.new < left_of _ranks.now self.old) }
     {
         self.settle()?;
-        self.dispatch();
-        Ok(())
-    }
-
-    /// A stretch of a core that has not ended, or the next dispatch.
-    pub fn turn(&mut self, _ranks: &[u64]) -> Result<(), NoMemory>
-        requires running { self.old.ended ≡ None }
-        requires active { is_resting (flat_of self.old) ≡ false }
-        requires sound { IsSound self.old }
-        requires ranked { IsRanked self.old.code.now _ranks.now }
-        ensures goes { GoesOn (exec self.old.code.now self.old.bound) (state_of self.old) (state_of self.new) }
-        ensures same { IsSameCode self.old self.new }
-        ensures journal { self.new.journal.entries ≡ self.old.journal.entries }
-        ensures sound { IsSound self.new }
-        ensures less { OnOk result (left_of _ranks.now self.new < left_of _ranks.now self.old) }
-    {
         if self.schedule.running().is_none() {
-            return self.start_next(_ranks);
+            self.start_next(_ranks);
+            return Ok(());
         }
         self.stretch(_ranks)
     }

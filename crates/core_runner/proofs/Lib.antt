@@ -8,6 +8,8 @@ pub mod DrivenExamples
 pub mod Examples
 pub mod HaveRun
 pub mod Looking
+pub mod Outcomes
+pub mod OutcomesExamples
 pub mod Parties
 pub mod Rested
 pub mod Rising

@@ -50,7 +50,7 @@ they_are_quiet law = law crossing 9 its_cores (links_with crossed) its_channel b
 
 -- ---- their run
 
-abbrev log : List Entry → Log
+abbrev pub log : List Entry → Log
 log entries = record { entries = entries; spare = 0 }
 
 abbrev pub their_run : Ended

@@ -38,9 +38,9 @@ use Rattle.core_runner.proofs.Rested.{quiet}
 
 -- ---- a bound on the stamps
 
-small_bound : (many most bound instrs : ℕ) → most ≤ instrs → instrs < 2 ^ 32 → many * bound ≤ 4000000 → suc (many * (2 * (most * bound))) < 2 ^ 60
+small_bound : (many most bound instrs : ℕ) → most ≤ instrs → instrs < 2 ^ 32 → many * bound ≤ 4000000 → suc (many * (4 * (most * bound))) < 2 ^ 60
 small_bound many most bound instrs a b c =
-    let e = mul_left_comm many 2 (most * bound) in
+    let e = mul_left_comm many 4 (most * bound) in
     let f = mul_left_comm many most bound in
     let few : most * (many * bound) ≤ 4294967296 * 4000000 = mul-le most (many * bound) 4294967296 4000000 (omega arith) c in
     omega arith
@@ -75,7 +75,7 @@ module _ (program : Resolved) (code : Parts) (bound : ℕ) (cores : List CoreVie
   many = length code.entries
 
   abbrev most : ℕ
-  most = many * (2 * (most_actions program * bound))
+  most = many * (4 * (most_actions program * bound))
 
   of_number : (k : ℕ) (c : CoreView) (end : MachineEnd) → slice_get cores k ≡ Some c → EndsAs c end → Runs code k bound c.journal (record { core = Some end.core; count = end.instructions })
   of_number k c end is runs =

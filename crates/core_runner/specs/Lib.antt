@@ -4,6 +4,7 @@ pub mod Hands
 pub mod Laws
 pub mod Lent
 pub mod Network
+pub mod Outcomes
 pub mod Polls
 pub mod Run
 pub mod Seen

@@ -1,6 +1,7 @@
 //! The cores of a code on links that they share, and the one history that they make.
 
 ghost use Rattle.core_runner.specs.Laws.{CoresAreLegal, NoClockIsFull, CoresAreQuiet, CoresMakeARun};
+ghost use Rattle.core_runner.specs.Outcomes.{TriedIsDoneOrNeverHappens};
 
 /// Cores that agree with their links make a legal history.
 pub fn cores_are_legal()
@@ -20,4 +21,11 @@ pub fn cores_are_quiet()
 /// Where each of them is done, they have made a run of every program whose code theirs is.
 pub fn cores_make_a_run()
     ensures { CoresMakeARun }
+{}
+
+/// In a run of a program, an operation that a cancel tries is done, or it never happens: where it ends
+/// with CANCELLED no message of it is taken in the whole run, and where it ends with OK its message is
+/// taken, once.
+pub fn tried_is_done_or_never_happens()
+    ensures { TriedIsDoneOrNeverHappens }
 {}

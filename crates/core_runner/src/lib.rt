@@ -13,6 +13,9 @@ mod seat;
 
 pub use cores::Core;
 pub use ended::Ended;
-pub use law::{cores_are_legal, cores_are_quiet, cores_make_a_run, no_clock_is_full};
+pub use law::{
+    cores_are_legal, cores_are_quiet, cores_make_a_run, no_clock_is_full,
+    tried_is_done_or_never_happens,
+};
 pub use list_ports::ListPorts;
 pub use running::run;

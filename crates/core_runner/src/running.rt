@@ -93,8 +93,8 @@ fn run_cores<'a, C: Core + Drop>(
 /// Runs the cores of a code in turn, each with this bound on its steps, until each has ended, or is idle
 /// and nothing on its links is for it.
 ///
-/// Conditions: the code has no cancel and no operation on a file, each core uses a channel only at its own
-/// end, and all cores together may take at most 4,000,000 steps.
+/// Conditions: the code has no operation on a file, each core uses a channel only at its own end, and all
+/// cores together may take at most 4,000,000 steps.
 pub fn run(alloc: Global, code: &Code, steps: u64) -> Result<Ended, NoMemory>
     requires meant { IsMeant code.now }
     requires keeps { KeepsEnds code.now }

@@ -1,21 +1,21 @@
 -- What the definitions of Arrivals say of a core that sends on channel 0 and receives from channel 1.
-use Rattle.std.proofs.Common.{◌≡◌, refl, ℕ, ℤ, pos, List, [], ◌∷◌, length, None, Some}
+use Rattle.std.proofs.Common.{◌≡◌, refl, ℕ, ℤ, pos, negsuc, List, [], ◌∷◌, length, None, Some}
 use Rattle.std.specs.Prelude.{Option, true, false}
 use Rattle.ac_base.specs.declared.ends.CoreEnd.{CoreEnd}
 use Rattle.ac_base.specs.declared.entry.Payload.TheVariants.{Int, Read}
 use Rattle.ac_base.specs.declared.entry.Event.{Event}
-use Rattle.ac_base.specs.declared.entry.Event.TheVariants.{Offer, Withdraw, Know, Got, Pass}
+use Rattle.ac_base.specs.declared.entry.Event.TheVariants.{Offer, Withdraw, Know, Room, Got, Pass}
 use Rattle.ac_base.specs.declared.entry.Entry.{Entry}
 use Rattle.work_item.specs.declared.ids.Item.{Item}
 use Rattle.work_item.specs.declared.cell.Place.{Place}
-use Rattle.work_item.specs.declared.cell.Cell.TheVariants as cell
 use Rattle.work_item.specs.Store.{Store, no_place}
 use Rattle.cancel_scope.specs.declared.operation.Asked.TheVariants.{Send, Recv}
 use Rattle.cancel_scope.specs.declared.operation.Operation.{Operation}
 use Rattle.cancel_scope.specs.Outstanding.{started, offered_as}
 use Rattle.core_state.specs.Moves.{Move, On, Over}
 use Rattle.core_state.specs.Shared.{Shared, with_entry}
-use Rattle.core_state.specs.Arrivals.{ok, is_offer, offers_on, goes_on_waiting, has_ended, place_for, with_message, passes_over}
+use Rattle.core_state.specs.Arrivals.{ok, cancelled, is_offer, offers_on, is_withdrawal, is_room, keeps_room, goes_on_waiting}
+use Rattle.core_state.specs.Arrivals.{has_ended_as, has_ended, place_for, with_message, passes_over, gives_room}
 use Rattle.core_state.specs.Arrivals.{offers, ends_known, ends_received, arrives, comes_in, at_point, point}
 
 -- ---- a core with two globals, and three operations that have started
@@ -70,14 +70,14 @@ what_is_no_offer = (refl, refl, refl, refl)
 -- ---- ends
 
 pub a_known_send_has_ended : arrives [] store (offered_as 0 five ∷ hears ∷ offered_as 1 six ∷ []) (Know 0 1)
-    ≡ Some (record { operations = offered_as 0 five ∷ hears ∷ []; store = store; woken = Some (thread 2) })
+    ≡ Some (record { operations = offered_as 0 five ∷ hears ∷ []; store = store; woken = Some (thread 2); value = pos 0 })
 a_known_send_has_ended = refl
 
 pub nothing_is_known_of_what_waits : arrives [] store (five ∷ []) (Know 0 0) ≡ None
 nothing_is_known_of_what_waits = refl
 
 pub a_message_has_come : arrives [] store (five ∷ hears ∷ []) (Got 1 9 (pos 3))
-    ≡ Some (record { operations = five ∷ []; store = record { globals = pos 7 ∷ pos 3 ∷ []; frames = [] }; woken = Some (thread 3) })
+    ≡ Some (record { operations = five ∷ []; store = record { globals = pos 7 ∷ pos 3 ∷ []; frames = [] }; woken = Some (thread 3); value = pos 0 })
 a_message_has_come = refl
 
 pub no_one_waits_for_a_message : (arrives [] store (five ∷ []) (Got 1 9 (pos 3)) ≡ None) × (arrives [] store (five ∷ hears ∷ []) (Got 0 9 (pos 3)) ≡ None)
@@ -94,16 +94,37 @@ no_one_waits_so_none_is_passed_over = (refl, refl, refl)
 pub a_withdrawal_needs_a_cancel : arrives [] store (offered_as 0 five ∷ []) (Withdraw 0 0) ≡ None
 a_withdrawal_needs_a_cancel = refl
 
-pub its_parts : (ok ≡ cell.Int (pos 0)) × (place_for (Recv second) ≡ second) × (place_for (Send (pos 5)) ≡ no_place)
+pub its_parts : (ok ≡ pos 0) × (cancelled ≡ negsuc 0) × (place_for (Recv second) ≡ second) × (place_for (Send (pos 5)) ≡ no_place)
     × (with_message store hears (pos 3) ≡ record { globals = pos 7 ∷ pos 3 ∷ []; frames = [] })
-    × (has_ended store [] five ≡ record { operations = []; store = store; woken = Some (thread 1) })
-its_parts = (refl, refl, refl, refl, refl)
+    × (has_ended store [] five ≡ record { operations = []; store = store; woken = Some (thread 1); value = pos 0 })
+    × (has_ended_as (negsuc 1) store [] five ≡ record { operations = []; store = store; woken = Some (thread 1); value = negsuc 1 })
+    × (goes_on_waiting store [] ≡ record { operations = []; store = store; woken = None; value = pos 0 })
+its_parts = (refl, refl, refl, refl, refl, refl, refl, refl)
 
 pub where_there_is_one : (offers store (five ∷ []) 0 0 (Int (pos 5)) (Some five) ≡ Some (goes_on_waiting store (offered_as 0 five ∷ [])))
     × (ends_known store (offered_as 0 five ∷ []) 0 0 (Some (offered_as 0 five)) ≡ Some (has_ended store [] (offered_as 0 five)))
     × (ends_received store (hears ∷ []) 1 (pos 3) (Some hears) ≡ Some (has_ended (with_message store hears (pos 3)) [] hears))
     × (passes_over store (hears ∷ []) (Some hears) ≡ Some (goes_on_waiting store (hears ∷ [])))
 where_there_is_one = (refl, refl, refl, refl)
+
+-- ---- the room of a withdrawn offer
+
+abbrev pub withdrawn : Entry
+withdrawn = at_turn 1 (Withdraw 0 0)
+
+-- it is kept until it is known that the offer was passed over, and given back once
+pub a_withdrawn_offer_keeps_its_room : (keeps_room 0 0 (withdrawn ∷ []) ≡ true) × (keeps_room 0 1 (withdrawn ∷ []) ≡ false)
+    × (keeps_room 0 0 (at_turn 1 (Know 0 0) ∷ []) ≡ false) × (keeps_room 0 0 (withdrawn ∷ at_turn 2 (Room 0 0) ∷ []) ≡ false)
+a_withdrawn_offer_keeps_its_room = (refl, refl, refl, refl)
+
+pub its_room_is_free_again : (arrives (withdrawn ∷ []) store (hears ∷ []) (Room 0 0) ≡ Some (goes_on_waiting store (hears ∷ [])))
+    × (arrives (withdrawn ∷ at_turn 2 (Room 0 0) ∷ []) store (hears ∷ []) (Room 0 0) ≡ None) × (arrives [] store (hears ∷ []) (Room 0 0) ≡ None)
+its_room_is_free_again = (refl, refl, refl)
+
+pub parts_of_room : (is_withdrawal 0 3 (Withdraw 0 3) ≡ true) × (is_withdrawal 0 3 (Withdraw 1 3) ≡ false) × (is_withdrawal 0 3 (Know 0 3) ≡ false)
+    × (is_room 0 3 (Room 0 3) ≡ true) × (is_room 0 3 (Room 0 2) ≡ false) × (is_room 0 3 (Withdraw 0 3) ≡ false)
+    × (gives_room store [] true ≡ Some (goes_on_waiting store [])) × (gives_room store [] false ≡ None)
+parts_of_room = (refl, refl, refl, refl, refl, refl, refl, refl)
 
 -- ---- dispatch points
 

@@ -12,7 +12,7 @@ use Rattle.core_state.specs.Moves.{Move, On, Over, moves, EndsAs, GoesOn, ComesT
 use Rattle.core_state.specs.Arithmetic.{sum_of, negated, quotient, remainder, shifted_left, shifted_right, is_less, truth, both_bits, either_bits, differing_bits, low_byte}
 use Rattle.core_state.specs.Arithmetic.{Computed, bind, at_zero, truth_of, not_true, flipped, difference_of, product_of, shift_count, is_equal, is_not_equal, is_at_most}
 use Rattle.core_state.specs.Frames.{within, has_words, arguments, first_cells, first_store, first_frame}
-use Rattle.core_state.specs.Frames.{element, set_element, one_place, part_at, word_limit, begun, argument, begun_with, with_entered}
+use Rattle.core_state.specs.Frames.{element, set_element, one_place, part_at, word_limit, begun, argument, begun_with, with_entered, block_in}
 use Rattle.core_state.specs.Shared.{formatted}
 use Rattle.core_state.specs.Shared.{Shared, with_step, with_turn, first_shared, output_limit, formatted_from, printed, core_end, seen_left, seen, if_turn, begins_with, begins}
 use Rattle.ac_base.specs.declared.ends.CoreEnd.{CoreEnd}
@@ -265,6 +265,9 @@ four_mebi = (refl, refl)
 pub a_block_is_kept_in_its_slot : with_entered (record { globals = []; frames = Some (record { parent = None; cells = no_int ∷ no_int ∷ []; over = false }) ∷ [] }) frame 1 5
     ≡ record { globals = []; frames = Some (record { parent = None; cells = no_int ∷ cell.Block (record { number = 5 }) ∷ []; over = false }) ∷ [] }
 a_block_is_kept_in_its_slot = refl
+
+pub the_block_of_a_slot : (block_in (cell.Block (record { number = 5 })) ≡ record { number = 5 }) × (block_in (cell.Int (pos 5)) ≡ record { number = 0 })
+the_block_of_a_slot = (refl, refl)
 
 -- ---- what is shared
 

@@ -3,3 +3,4 @@ pub mod Runs
 pub mod Beginnings
 pub mod Examples
 pub mod ArrivalExamples
+pub mod CancellingExamples

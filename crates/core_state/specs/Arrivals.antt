@@ -1,7 +1,8 @@
 -- What comes in at a dispatch point: an entry of the journal, and what it makes of the operations of a core (Harris, Abadi, Isaacs,
 -- McIlroy, OOPSLA 2011, of operations that end by themselves).
-use Rattle.std.specs.Prelude.{ℕ, ◌+◌, ℤ, pos, List, [], ◌∷◌, find, Option, Some, None}
-use Rattle.std.specs.Prelude.{Bool, false, nat_eq, if◌then◌else◌}
+use Rattle.std.specs.Prelude.{ℕ, ◌+◌, ℤ, pos, negsuc, List, [], ◌∷◌, find, Option, Some, None}
+use Rattle.std.specs.Prelude.{Bool, false, not, ◌&&◌, nat_eq, if◌then◌else◌}
+use Rattle.std.specs.List.{list_any}
 use Rattle.ac_base.specs.declared.entry.Event.{Event}
 use Rattle.ac_base.specs.declared.entry.Event.TheVariants as event
 use Rattle.ac_base.specs.declared.entry.Payload.{Payload}
@@ -9,8 +10,6 @@ use Rattle.ac_base.specs.declared.entry.Entry.{Entry}
 use Rattle.ac_base.specs.declared.ends.CoreEnd.{CoreEnd}
 use Rattle.work_item.specs.declared.ids.Item.{Item}
 use Rattle.work_item.specs.declared.cell.Place.{Place}
-use Rattle.work_item.specs.declared.cell.Cell.{Cell}
-use Rattle.work_item.specs.declared.cell.Cell.TheVariants as cell
 use Rattle.work_item.specs.Store.{Store, no_place, with_int_at}
 use Rattle.cancel_scope.specs.declared.operation.Asked.{Asked}
 use Rattle.cancel_scope.specs.declared.operation.Asked.TheVariants as asked
@@ -22,8 +21,11 @@ use Rattle.core_state.specs.Shared.{Shared, with_entry}
 -- ---- the value of an operation that has ended
 
 -- the named results of the language
-abbrev pub ok : Cell
-ok = cell.Int (pos 0)
+abbrev pub ok : ℤ
+ok = pos 0
+
+abbrev pub cancelled : ℤ
+cancelled = negsuc 0
 
 -- ---- numbers of offers
 
@@ -37,21 +39,42 @@ abbrev pub offers_on : ℕ → List Entry → ℕ
 offers_on link [] = 0
 offers_on link (e ∷ es) = if is_offer link e.event then 1 + offers_on link es else offers_on link es
 
+-- ---- withdrawals
+
+-- whether an entry withdraws that offer, and whether it gives its room back
+abbrev pub is_withdrawal : ℕ → ℕ → Event → Bool
+is_withdrawal link number (event.Withdraw l n) = nat_eq l link && nat_eq n number
+is_withdrawal link number _ = false
+
+abbrev pub is_room : ℕ → ℕ → Event → Bool
+is_room link number (event.Room l n) = nat_eq l link && nat_eq n number
+is_room link number _ = false
+
+-- by these entries the offer was withdrawn, and keeps its room
+abbrev pub keeps_room : ℕ → ℕ → List Entry → Bool
+keeps_room link number past =
+    list_any (λ (e : Entry). is_withdrawal link number e.event) past && not (list_any (λ (e : Entry). is_room link number e.event) past)
+
 -- ---- an event
 
--- the operations that are left, what the globals and the frames hold, and the thread that goes on with a value, where one has ended
+-- the operations that are left, what the globals and the frames hold, and the thread that goes on, where its operation has ended, with
+-- that value
 pub record Arrival : Type 0 where
   pub operations : List Operation
   pub store : Store
   pub woken : Option Item
+  pub value : ℤ
 
 -- an operation goes on, and its thread waits
 abbrev pub goes_on_waiting : Store → List Operation → Arrival
-goes_on_waiting store operations = record { operations = operations; store = store; woken = None }
+goes_on_waiting store operations = record { operations = operations; store = store; woken = None; value = ok }
 
--- an operation has ended
+-- an operation has ended, with that value
+abbrev pub has_ended_as : ℤ → Store → List Operation → Operation → Arrival
+has_ended_as value store operations o = record { operations = operations; store = store; woken = Some o.item; value = value }
+
 abbrev pub has_ended : Store → List Operation → Operation → Arrival
-has_ended store operations o = record { operations = operations; store = store; woken = Some o.item }
+has_ended store operations o = has_ended_as ok store operations o
 
 -- where an operation puts what it receives
 abbrev pub place_for : Asked → Place
@@ -84,14 +107,19 @@ abbrev pub passes_over : Store → List Operation → Option Operation → Optio
 passes_over store os None = None
 passes_over store os (Some o) = Some (goes_on_waiting store os)
 
--- what an event makes of a core whose journal had these entries before; none where it does not fit. What has no case here comes of
--- instructions that are not built
+-- its peer has passed over a withdrawn offer, whose room is free again
+abbrev pub gives_room : Store → List Operation → Bool → Option Arrival
+gives_room store os keeps = if keeps then Some (goes_on_waiting store os) else None
+
+-- what an event makes of a core whose journal had these entries before; none where it does not fit: a withdrawal is made by a cancel, and
+-- what else has no case here comes of instructions that are not built
 abbrev pub arrives : List Entry → Store → List Operation → Event → Option Arrival
 arrives past store os (event.Offer link number payload) =
     if nat_eq number (offers_on link past) then offers store os link number payload (find (is_to_offer link) os) else None
 arrives past store os (event.Know link number) = ends_known store os link number (find (is_offered link number) os)
 arrives past store os (event.Got link number value) = ends_received store os link value (find (is_to_receive link) os)
 arrives past store os (event.Pass link number) = passes_over store os (find (is_to_receive link) os)
+arrives past store os (event.Room link number) = gives_room store os (keeps_room link number past)
 arrives past store os _ = None
 
 -- ---- a dispatch point

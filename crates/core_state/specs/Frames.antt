@@ -4,6 +4,7 @@ use Rattle.std.specs.Prelude.{nat_le, nat_lt, if◌then◌else◌}
 use Rattle.ac_base.specs.declared.ends.Trap.{Trap}
 use Rattle.ac_base.specs.declared.ends.Trap.TheVariants.{Index, StackFull}
 use Rattle.work_item.specs.declared.ids.FrameId.{FrameId}
+use Rattle.work_item.specs.declared.ids.BlockId.{BlockId}
 use Rattle.work_item.specs.declared.cell.Place.{Place}
 use Rattle.work_item.specs.declared.cell.Cell.{Cell}
 use Rattle.work_item.specs.declared.cell.Cell.TheVariants as c
@@ -77,3 +78,8 @@ first_frame = record { number = 0 }
 -- the number of a block that is entered, kept in that slot of the frame
 abbrev pub with_entered : Store → FrameId → ℕ → ℕ → Store
 with_entered store frame slot block = with_cell store frame slot (c.Block (record { number = block }))
+
+-- the block whose number a slot keeps
+abbrev pub block_in : Cell → BlockId
+block_in (c.Block block) = block
+block_in _ = record { number = 0 }

@@ -3,3 +3,4 @@ pub mod Arithmetic
 pub mod Frames
 pub mod Shared
 pub mod Arrivals
+pub mod Cancelling

@@ -8,7 +8,7 @@ use Rattle.finish_block.specs.declared.blocks.Arrival.TheVariants.{Passes, Waits
 use Rattle.finish_block.specs.Table.{Table, parent_at, block_at, next_block, entered, begun, woken, ended, arrival, arrived, marked, one_more}
 use Rattle.finish_block.specs.Table.{with_block, new_block, wakes, woken_by, one_less, arrival_at, left_at, with_mark}
 use Rattle.finish_block.specs.Conditions.{Lives, ParentLives, Childless, CanCountMore, HasThread, ChildlessAtEnd, ChildlessAtFinish, IsRooted}
-use Rattle.finish_block.specs.Ancestors.{IsRound, itself, further, IsCancelled, AncestorsLive, IsMarked}
+use Rattle.finish_block.specs.Ancestors.{IsRound, itself, further, IsCancelled, AncestorsLive, IsMarked, few_round, round, is_marked, any_marked}
 
 abbrev pub block : ℕ → BlockId
 block number = record { number = number }
@@ -117,12 +117,23 @@ only_itself blocks a b e (further _ p x is lies _) = let f : parent_at (block_at
 pub the_inner_is_not_round_the_outer : IsRound table.blocks (block 2) (block 0) → ⊥
 the_inner_is_not_round_the_outer h = let e : 2 ≡ 0 = number_is (only_itself table.blocks (block 2) (block 0) refl h) in omega (arith, e)
 
+-- the innermost first; a block that was given back has only itself
+pub from_the_inner_outwards : (round table.blocks (Some (block 2)) ≡ block 2 ∷ block 0 ∷ []) × (round table.blocks (Some (block 0)) ≡ block 0 ∷ [])
+    × (round table.blocks (Some (block 1)) ≡ block 1 ∷ []) × (round table.blocks None ≡ [])
+from_the_inner_outwards = (refl, refl, refl, refl)
+
+pub not_more_than_one : few_round 1 table.blocks (Some (block 2)) ≡ block 2 ∷ []
+not_more_than_one = refl
+
 -- what lies in a marked block is cancelled without a mark of its own
 abbrev pub outer_marked : Table
 outer_marked = with_blocks (Some (outer 2 false true)) (Some (inner 1 false false))
 
 pub the_inner_is_cancelled : IsCancelled outer_marked.blocks (block 2)
 the_inner_is_cancelled = record { by = block 0; round = further (block 2) (block 0) (inner 1 false false) refl refl itself; mark = refl }
+
+pub one_of_them_is_marked : (any_marked outer_marked.blocks (block 2 ∷ block 0 ∷ []) ≡ true) × (any_marked outer_marked.blocks (block 2 ∷ block 1 ∷ []) ≡ false)
+one_of_them_is_marked = (refl, refl)
 
 -- and a mark does not spread to what is round it
 abbrev pub inner_marked : Table
@@ -240,6 +251,9 @@ the_outer_is_marked = refl
 
 pub the_inner_is_not_marked : IsMarked outer_marked.blocks (block 2) → ⊥
 the_inner_is_not_marked h = cc
+
+pub which_bear_a_mark : (is_marked (Some (inner 1 false true)) ≡ true) × (is_marked (Some (inner 1 true false)) ≡ false) × (is_marked None ≡ false)
+which_bear_a_mark = (refl, refl, refl)
 
 pub what_was_given_back_is_not_marked : IsMarked outer_marked.blocks (block 1) → ⊥
 what_was_given_back_is_not_marked h = h

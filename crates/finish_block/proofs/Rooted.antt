@@ -9,7 +9,7 @@ use Rattle.finish_block.specs.declared.block.Block.{Block}
 use Rattle.finish_block.specs.Table.{Table, block_at, new_block}
 use Rattle.finish_block.specs.Conditions.{Lives, ParentLives, Childless, IsRooted}
 
-same_number : (a b : BlockId) → a.number ≡ b.number → a ≡ b
+pub same_number : (a b : BlockId) → a.number ≡ b.number → a ≡ b
 same_number a b e = let at_number : ℕ → BlockId = λ n. record { number = n } in ap at_number e
 
 -- what now stands at the number of the block that was changed

@@ -1,45 +1,114 @@
--- The blocks round a block that lives: they live, and the mark of one of them is found on the way up.
-use Rattle.std.proofs.Common.{◌≡◌, List, Option, Some, None, IsSomeAnd, true, false, sym, ap, ◌∙◌, subst}
+-- The blocks round a block: those of a live block live, and the list of them, walked step by step, has just those of the relation.
+use Rattle.std.proofs.Common.{◌≡◌, ℕ, zero, suc, ◌+◌, ◌-◌, ◌<◌, List, length, Option, Some, None, IsSomeAnd, IfSome, Bool}
+use Rattle.std.proofs.Common.{true, false, IsTrue, ◌↔◌, inl, inr, refl, sym, ap, ◌∙◌, subst, arith, ◌≤◌, nat_eq}
+use Rattle.std.specs.Prelude.{◌||◌}
+use Rattle.std.specs.List.{list_any}
+use Rattle.std.proofs.lemmas.Bool.{or_cases, eqb-true, eq-eqb}
 use Rattle.work_item.specs.declared.ids.BlockId.{BlockId}
+use Rattle.work_item.proofs.Children.{within, some_of}
 use Rattle.finish_block.specs.declared.block.Block.{Block}
-use Rattle.finish_block.specs.Table.{block_at}
+use Rattle.finish_block.specs.Table.{block_at, parent_at}
 use Rattle.finish_block.specs.Conditions.{Lives, IsRooted}
-use Rattle.finish_block.specs.Ancestors.{IsRound, itself, further, IsMarked, IsCancelled}
+use Rattle.finish_block.specs.Ancestors.{IsRound, itself, further, IsCancelled, few_round, round, is_marked, any_marked}
+use Rattle.finish_block.proofs.Rooted.{same_number}
 
 pub ancestors_live : (bs : List (Option Block)) (a b : BlockId) → IsRooted bs → Lives bs b → IsRound bs a b → Lives bs a
 ancestors_live bs a b r l itself = l
 ancestors_live bs a b r l (further c p x e up rest) = ancestors_live bs a p r (r c x p e up).1 rest
 
--- what is kept of a block is one thing
-one_block : (o : Option Block) (x y : Block) → o ≡ Some x → o ≡ Some y → x ≡ y
-one_block o x y e f = let h : Some x ≡ Some y = sym e ∙ f in cc
+module _ (bs : List (Option Block)) (test : BlockId → Bool) where
+  -- ---- the walk: k of n blocks were looked at, and what the others say is the answer
 
-mark_of : (o : Option Block) (x : Block) → o ≡ Some x → IsSomeAnd o (λ y. y.cancelled ≡ true) → x.cancelled ≡ true
-mark_of o x e m = subst (λ q. IsSomeAnd q (λ y. y.cancelled ≡ true)) e m
+  module _ (n k : ℕ) (o : Option BlockId) (answer : Bool) (so_far : list_any test (few_round (n - k) bs o) ≡ answer) where
+    pub none_left : o ≡ None → false ≡ answer
+    none_left none = ap (λ q. list_any test (few_round (n - k) bs q)) (sym none) ∙ so_far
 
--- a block without a mark has another block round it that bears it
-unmarked : (bs : List (Option Block)) (a b : BlockId) (x : Block) → block_at bs b ≡ Some x → x.cancelled ≡ false → IsMarked bs a → IsRound bs a b
-    → (p : BlockId) × ((x.parent ≡ Some p) × IsRound bs a p)
-unmarked bs a b x e bare m itself = let h : true ≡ false = sym (mark_of (block_at bs b) x e m) ∙ bare in absurd (cc)
-unmarked bs a b x e bare m (further c p y f up rest) =
-    (p, (ap (λ z. z.parent) (one_block (block_at bs c) x y e f) ∙ up, rest))
+    pub all_seen : n ≤ k → false ≡ answer
+    all_seen le = no_step o ∙ ap (λ m. list_any test (few_round m bs o)) (sym none) ∙ so_far where
+      none : n - k ≡ 0
+      none = omega arith
 
-module _ (bs : List (Option Block)) (b : BlockId) (x : Block) (e : block_at bs b ≡ Some x) where
-  pub cancelled_here : x.cancelled ≡ true → IsCancelled bs b
-  cancelled_here m =
-      record { by = b; round = itself; mark = subst (λ o. IsSomeAnd o (λ y. y.cancelled ≡ true)) (sym e) m }
+      no_step : (q : Option BlockId) → false ≡ list_any test (few_round 0 bs q)
+      no_step None = refl
+      no_step (Some b) = refl
 
-  pub cancelled_above : (p : BlockId) → x.parent ≡ Some p → IsCancelled bs p → IsCancelled bs b
-  cancelled_above p up c = record { by = c.by; round = further b p x e up c.round; mark = c.mark }
+    module _ (b : BlockId) (lt : k < n) (is : o ≡ Some b) where
+      looked : (t : Bool) → test b ≡ t → (t || list_any test (few_round (n - (k + 1)) bs (parent_at (block_at bs b)))) ≡ answer
+      looked t here =
+          let left : suc (n - (k + 1)) ≡ n - k = omega arith in
+          let on = few_round (n - (k + 1)) bs (parent_at (block_at bs b)) in
+          ap (λ x. x || list_any test on) (sym here) ∙ ap (λ m. list_any test (few_round m bs (Some b))) left
+          ∙ ap (λ q. list_any test (few_round (n - k) bs q)) (sym is) ∙ so_far
 
-  pub above_cancelled : (p : BlockId) → x.cancelled ≡ false → x.parent ≡ Some p → IsCancelled bs b → IsCancelled bs p
-  above_cancelled p bare up c =
-      let k = unmarked bs c.by b x e bare c.mark c.round in
-      let is : k.0 ≡ p = (let h : Some k.0 ≡ Some p = sym k.1.0 ∙ up in cc) in
-      record { by = c.by; round = subst (IsRound bs c.by) is k.1.1; mark = c.mark }
+      pub found : test b ≡ true → true ≡ answer
+      found here = looked true here
 
-  pub none_above : x.cancelled ≡ false → x.parent ≡ None → IsCancelled bs b → ⊥
-  none_above bare up c =
-      let k = unmarked bs c.by b x e bare c.mark c.round in
-      let h : None ≡ Some k.0 = sym up ∙ k.1.0 in
-      absurd (cc)
+      pub goes_on : test b ≡ false → (p : Option BlockId) → p ≡ parent_at (block_at bs b) → list_any test (few_round (n - (k + 1)) bs p) ≡ answer
+      goes_on here p up = ap (λ q. list_any test (few_round (n - (k + 1)) bs q)) up ∙ looked false here
+
+  -- ---- what the list has is what the relation has
+
+  or_else : (t u : Bool) → u ≡ true → (t || u) ≡ true
+  or_else true u e = refl
+  or_else false u e = e
+
+  pub listed : (a b : BlockId) → IsRooted bs → IsRound bs a b → test a ≡ true → (k : ℕ) → b.number < k → list_any test (few_round k bs (Some b)) ≡ true
+  listed a b r round is zero lt = absurd (omega arith)
+  listed a b r itself is (suc k) lt = ap (λ t. t || list_any test (few_round k bs (parent_at (block_at bs a)))) is
+  listed a b r (further c p x e up rest) is (suc k) lt =
+      let older = (r c x p e up).0 in
+      let on : list_any test (few_round k bs (Some p)) ≡ true = listed a p r rest is k (omega arith) in
+      or_else (test c) _ (ap (λ o. list_any test (few_round k bs o)) (ap parent_at e ∙ up) ∙ on)
+
+  abbrev Found : BlockId → Type 0
+  Found b = (a : BlockId) × (IsRound bs a b × (test a ≡ true))
+
+  found_above : (k : ℕ) (b : BlockId) (o : Option Block) (q : Option BlockId) → block_at bs b ≡ o → parent_at o ≡ q → list_any test (few_round k bs q) ≡ true
+      → ((p : BlockId) → list_any test (few_round k bs (Some p)) ≡ true → Found p) → Found b
+  found_above k b o None e up h more = let no : false ≡ true = h in absurd (cc)
+  found_above k b None (Some p) e up h more = let no : None ≡ Some p = up in absurd (cc)
+  found_above k b (Some x) (Some p) e up h more = let f = more p h in (f.0, (further b p x e up f.1.0, f.1.1))
+
+  pub related : (k : ℕ) (b : BlockId) → list_any test (few_round k bs (Some b)) ≡ true → Found b
+  related zero b h = let no : false ≡ true = h in absurd (cc)
+  related (suc k) b h =
+      elim (or_cases (test b) _ h) as (λ _. Found b) [
+        | inl is ↦ (b, (itself, is))
+        | inr on ↦ found_above k b (block_at bs b) _ refl refl on (related k)
+      ]
+
+-- ---- what the two tests on the blocks round a block say
+
+bears : (o : Option Block) → is_marked o ≡ true → IsSomeAnd o (λ x. x.cancelled ≡ true)
+bears None h = let no : false ≡ true = h in absurd (cc)
+bears (Some x) h = h
+
+borne : (o : Option Block) → IsSomeAnd o (λ x. x.cancelled ≡ true) → is_marked o ≡ true
+borne None h = absurd h
+borne (Some x) h = h
+
+young : (bs : List (Option Block)) (b : BlockId) → Lives bs b → b.number < length bs
+young bs b l = let x = some_of (block_at bs b) l in within bs b.number x.0 x.1
+
+pub cancelled_means : (bs : List (Option Block)) → IsRooted bs → (block : Option BlockId) (t : Bool) → t ≡ any_marked bs (round bs block)
+    → IfSome block (λ b. Lives bs b → (IsTrue t ↔ IsCancelled bs b))
+cancelled_means bs r None t e = tt
+cancelled_means bs r (Some b) t e =
+    let test : BlockId → Bool = λ x. is_marked (block_at bs x) in
+    λ l. (
+      (λ is. let f = related bs test (length bs) b (sym e ∙ is) in record { by = f.0; round = f.1.0; mark = bears (block_at bs f.0) f.1.1 }),
+      (λ c. e ∙ listed bs test c.by b r c.round (borne (block_at bs c.by) c.mark) (length bs) (young bs b l)),
+    )
+
+pub within_means : (bs : List (Option Block)) → IsRooted bs → (block : Option BlockId) (outer : BlockId) (t : Bool)
+    → t ≡ list_any (λ (x : BlockId). nat_eq outer.number x.number) (round bs block)
+    → IfSome block (λ b. Lives bs b → (IsTrue t ↔ IsRound bs outer b))
+within_means bs r None outer t e = tt
+within_means bs r (Some b) outer t e =
+    let test : BlockId → Bool = λ x. nat_eq outer.number x.number in
+    λ l. (
+      (λ is.
+          let f = related bs test (length bs) b (sym e ∙ is) in
+          subst (λ a. IsRound bs a b) (sym (same_number outer f.0 (eqb-true outer.number f.0.number f.1.1))) f.1.0),
+      (λ round. e ∙ listed bs test outer b r round (eq-eqb outer.number outer.number refl) (length bs) (young bs b l)),
+    )

@@ -1,9 +1,11 @@
 //! The blocks of a core, by numbers that are given once.
 
-ghost use Rattle.std.specs.Prelude.{◌≡◌, ◌≤◌, ◌<◌, [], ◌↔◌, IsTrue, IfSome, OnOk, OnErr, Some};
+ghost use Rattle.std.specs.Prelude.{◌≡◌, ◌≤◌, ◌<◌, [], ◌↔◌, IsTrue, IfSome, OnOk, OnErr, Some, length, nat_eq};
+ghost use Rattle.std.specs.List.{list_any};
+ghost use Rattle.work_item.specs.declared.ids.BlockId.{BlockId};
 ghost use Rattle.finish_block.specs.Table.{block_at, next_block, parent_at, entered, begun, woken, ended, arrival, arrived, marked};
 ghost use Rattle.finish_block.specs.Conditions.{Lives, ParentLives, CanCountMore, HasThread, ChildlessAtEnd, ChildlessAtFinish, IsRooted};
-ghost use Rattle.finish_block.specs.Ancestors.{AncestorsLive, IsCancelled};
+ghost use Rattle.finish_block.specs.Ancestors.{AncestorsLive, IsRound, IsCancelled, any_marked, is_marked, round};
 
 use crate::block::Block;
 use ac_base::NoMemory;
@@ -140,38 +142,52 @@ impl Blocks {
         Arrival::Waits
     }
 
-    /// Marks the block as cancelled, for good.
-    ///
-    /// Condition: the block lives.
+    /// Marks the block as cancelled, for good. Where it was given back, nothing changes.
     pub fn mark_cancelled(&mut self, block: BlockId)
-        requires { Lives self.old.blocks block }
         ensures { self.new ≡ marked self.old block }
     {
-        let was = self.kept(block);
-        self.blocks[block.number as usize] = Some(Block {
-            cancelled: true,
-            ..was
-        });
+        if let Some(was) = self.find(block) {
+            self.blocks[block.number as usize] = Some(Block {
+                cancelled: true,
+                ..was
+            });
+        }
     }
 
-    /// Whether the block or one of those round it is marked. It looks at each of them once at most.
-    ///
-    /// Condition: the block lives.
-    pub fn is_cancelled(&self, block: BlockId) -> bool
-        requires { Lives self.now.blocks block }
-        ensures { IsTrue result ↔ IsCancelled self.now.blocks block }
+    /// Whether the block or one of those round it is marked, where a block is given.
+    pub fn is_cancelled(&self, block: Option<BlockId>) -> bool
+        ensures answer { result ≡ any_marked self.now.blocks (round self.now.blocks block) }
+        ensures means { IfSome block (λ b. Lives self.now.blocks b → (IsTrue result ↔ IsCancelled self.now.blocks b)) }
     {
         let mut current = block;
-        'up: loop {
-            let here = self.kept(current);
-            if here.cancelled {
+        'up: for _ in 0..self.len() {
+            let Some(here) = current else {
+                return false;
+            };
+            if self.is_marked(here) {
                 return true;
             }
-            match here.parent {
-                None => return false,
-                Some(parent) => current = parent,
-            }
+            current = self.parent_of(here);
         }
+        false
+    }
+
+    /// Whether the outer block is the other, where one is given, or lies round it.
+    pub fn is_within(&self, block: Option<BlockId>, outer: BlockId) -> bool
+        ensures answer { result ≡ list_any (λ (b : BlockId). nat_eq outer.number b.number) (round self.now.blocks block) }
+        ensures means { IfSome block (λ b. Lives self.now.blocks b → (IsTrue result ↔ IsRound self.now.blocks outer b)) }
+    {
+        let mut current = block;
+        'up: for _ in 0..self.len() {
+            let Some(here) = current else {
+                return false;
+            };
+            if outer == here {
+                return true;
+            }
+            current = self.parent_of(here);
+        }
+        false
     }
 
     /// The block in which this one lies. All those round it live, and each is older than the one
@@ -185,6 +201,35 @@ impl Blocks {
         ensures round { AncestorsLive self.now.blocks block }
     {
         self.kept(block).parent
+    }
+
+    // How many blocks there have been. Each lies in older ones, so there are not more round one.
+    fn len(&self) -> usize
+        ensures many { result ≡ length self.now.blocks }
+        ensures rooted { IsRooted self.now.blocks }
+    {
+        self.blocks.len()
+    }
+
+    // What is kept of a block, if it lives.
+    fn find(&self, block: BlockId) -> Option<Block>
+        ensures { result ≡ block_at self.now.blocks block }
+    {
+        self.blocks.get(block.number as usize).copied().flatten()
+    }
+
+    // The block in which a block lies, if it lives and lies in one.
+    fn parent_of(&self, block: BlockId) -> Option<BlockId>
+        ensures { result ≡ parent_at (block_at self.now.blocks block) }
+    {
+        self.find(block)?.parent
+    }
+
+    // Whether the block itself is marked.
+    fn is_marked(&self, block: BlockId) -> bool
+        ensures { result ≡ is_marked (block_at self.now.blocks block) }
+    {
+        matches!(self.find(block), Some(here) if here.cancelled)
     }
 
     // What is kept of a block that lives.

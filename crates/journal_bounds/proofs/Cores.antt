@@ -2,7 +2,7 @@
 -- for by its steps.
 use Rattle.std.proofs.Common.{◌≡◌, ℕ, zero, suc, ◌+◌, ◌-◌, ◌*◌, ◌^◌, ◌<◌, ◌≤◌, List, [], ◌∷◌, ◌++◌, length, get_or}
 use Rattle.std.proofs.Common.{set, Option, Some, None, Bool, true, false, refl, sym, ap, ◌∙◌, subst, inl, inr, arith, append_assoc, append-nil}
-use Rattle.std.specs.Prelude.{ℤ, nat_eq, nat_lt, if◌then◌else◌}
+use Rattle.std.specs.Prelude.{ℤ, nat_eq, nat_lt, find, if◌then◌else◌}
 use Rattle.std.specs.List.{AllByRecursion}
 use Rattle.std.proofs.lemmas.List.{length-append}
 use Rattle.std.proofs.Math.Nat.{mul-add, mul-le-mul_left}
@@ -13,25 +13,30 @@ use Rattle.ac_base.specs.declared.ends.EndWord.TheVariants as word
 use Rattle.work_item.specs.declared.ids.Item.{Item}
 use Rattle.work_item.specs.declared.ids.BlockId.{BlockId}
 use Rattle.work_item.specs.declared.cell.Cell.{Cell}
+use Rattle.work_item.specs.declared.cell.Cell.TheVariants as cell
 use Rattle.work_item.specs.Store.{released}
 use Rattle.cancel_scope.specs.declared.operation.Asked.{Asked}
+use Rattle.cancel_scope.specs.declared.operation.Progress.{Progress}
+use Rattle.cancel_scope.specs.declared.operation.Progress.TheVariants as progress
 use Rattle.cancel_scope.specs.declared.operation.Operation.{Operation}
-use Rattle.cancel_scope.specs.Outstanding.{started}
+use Rattle.cancel_scope.specs.Outstanding.{started, without_first}
 use Rattle.core_state.specs.Moves.{Move, On, Over}
 use Rattle.core_state.specs.Shared.{Shared, with_entry, seen_left}
-use Rattle.core_state.specs.Arrivals.{Arrival, arrives, comes_in, at_point, ok}
+use Rattle.core_state.specs.Arrivals.{Arrival, arrives, comes_in, at_point, has_ended_as, cancelled}
+use Rattle.core_state.specs.Cancelling.{outcome, ends_by, decided, tried, tries}
 use Rattle.ac_commands.specs.declared.program.Resolved.{Resolved}
-use Rattle.ac_semantics.specs.Held.{Held, with_store, turned, stepped, with_started, seen_of}
+use Rattle.ac_semantics.specs.Held.{Held, with_store, with_mark, any_marked, turned, stepped, with_started, seen_of}
 use Rattle.ac_semantics.specs.Work.{Work, given, closes}
-use Rattle.ac_semantics.specs.Statements.{Next, Goes, Ends, Starts, Yields, Arrives, Operates, Dies, Stays, next_of}
+use Rattle.ac_semantics.specs.Statements.{Next, Goes, Ends, Starts, Yields, Arrives, Cancels, Operates, Dies, Stays, next_of}
 use Rattle.ac_semantics.specs.Threads.{Phase, Active, AtFinish, Ended, Thread, nobody, CoreState, thread_at, with_phase, none_within, stops, goes_on, starts, arrives as arrives_at, woken, wakes}
-use Rattle.ac_semantics.specs.Threads.{applied, resumed, arrived, dispatched, step_of, step}
+use Rattle.ac_semantics.specs.Threads.{path, is_inside, operates, calls_off, applied, resumed, arrived, dispatched, step_of, step}
 use Rattle.journal_bounds.specs.Actions.{most_actions}
-use Rattle.journal_bounds.specs.Passes.{pass_of, passes_in}
-use Rattle.journal_bounds.proofs.Counting.{withdrawal_of, withdrawals_in, passes_append, withdrawals_append}
+use Rattle.journal_bounds.specs.Passes.{passes_in}
+use Rattle.journal_bounds.proofs.Counting.{withdrawals_in, passes_append, withdrawals_append}
+use Rattle.journal_bounds.proofs.Rooms.{keeping_in}
 use Rattle.journal_bounds.proofs.Work.{works_actions, AreFew, given_few, given_actions}
 use Rattle.journal_bounds.proofs.Statements.{Keeps, Leads, next_takes}
-use Rattle.journal_bounds.proofs.Operations.{entries_of, left_at_most, entries_push, LessAfter, arrives_less}
+use Rattle.journal_bounds.proofs.Operations.{entries_of, left_at_most, entries_push, without_less, Less, LessAfter, arrives_less, decided_less}
 
 -- ---- the table of threads
 
@@ -49,6 +54,19 @@ table_set : (ts : List Thread) (i : ℕ) (x : Thread) → table_actions (set ts 
 table_set [] i x = omega arith
 table_set (t ∷ ts) zero x = omega arith
 table_set (t ∷ ts) (suc i) x = let ih = table_set ts i x in omega arith
+
+-- a thread whose work has as much to come
+as_before : (ts : List Thread) (i : ℕ) (x : Thread) → works_actions x.work ≡ works_actions (get_or ts i nobody).work → (k : ℕ)
+    → works_actions (get_or (set ts i x) k nobody).work ≡ works_actions (get_or ts k nobody).work
+as_before [] i x e k = refl
+as_before (t ∷ ts) zero x e zero = e
+as_before (t ∷ ts) zero x e (suc k) = refl
+as_before (t ∷ ts) (suc i) x e zero = refl
+as_before (t ∷ ts) (suc i) x e (suc k) = as_before ts i x e k
+
+same_stale : (ts : List Thread) (i : ℕ) (x : Thread) → works_actions x.work ≡ works_actions (get_or ts i nobody).work → (r : Option Item) → stale (set ts i x) r ≡ stale ts r
+same_stale ts i x e None = refl
+same_stale ts i x e (Some t) = as_before ts i x e t.number
 
 table_push : (ts : List Thread) (x : Thread) → table_actions (ts ++ x ∷ []) ≡ table_actions ts + works_actions x.work
 table_push [] x = omega arith
@@ -87,12 +105,13 @@ module _ (program : Resolved) (bound : ℕ) (journal : List Entry) where
   abbrev pub most : ℕ
   most = most_actions program
 
-  -- what is held is of this journal and within its steps, and with n calls and operations to come its entries are paid for
+  -- what is held is of this journal and within its steps, and with n calls and operations to come its entries are paid for, and the offers
+  -- that it may withdraw
   pub record Paid (n : ℕ) (s : Held) : Type 0 where
     pub whole : s.shared.past ++ s.shared.todo ≡ journal
     pub steps : s.shared.steps ≤ bound
-    pub entries : length s.shared.past + (entries_of s.operations + 2 * n) ≤ 2 * (most * s.shared.steps) + passes_in s.shared.past
-    pub none_withdrawn : withdrawals_in s.shared.past ≡ 0
+    pub entries : length s.shared.past + (keeping_in s.shared.past + (entries_of s.operations + 3 * n)) ≤ 3 * (most * s.shared.steps) + passes_in s.shared.past
+    pub withdrawn : withdrawals_in s.shared.past + (length s.operations + n) ≤ most * s.shared.steps
 
   pub record Counted (c : CoreState) : Type 0 where
     pub work : AreFew most c.work
@@ -102,9 +121,9 @@ module _ (program : Resolved) (bound : ℕ) (journal : List Entry) where
     pub to_come : works_actions c.work + table_actions c.threads ≤ left + stale c.threads c.running
     pub paid : Paid left c.held
 
-  -- beside its passes it has few entries, and none withdraws an offer
+  -- beside its passes it has few entries, of which few withdraw an offer
   abbrev pub IsShort : List Entry → Type 0
-  IsShort es = (length es ≤ 2 * (most * bound) + passes_in es) × (withdrawals_in es ≡ 0)
+  IsShort es = (length es ≤ 3 * (most * bound) + passes_in es) × (withdrawals_in es ≤ most * bound)
 
   -- a move leads to such a state, or to an end of a short journal
   abbrev pub Fine : Move CoreState (Option CoreEnd) → Type 0
@@ -119,19 +138,20 @@ module _ (program : Resolved) (bound : ℕ) (journal : List Entry) where
   none_left word idle globals os s [] e h = subst IsShort (sym (append-nil s.past) ∙ e) h
   none_left word idle globals os s (x ∷ todo) e h = tt
 
-  few_steps : (steps : ℕ) → steps ≤ bound → 2 * (most * steps) ≤ 2 * (most * bound)
-  few_steps steps h = let m = mul-le-mul_left most h in omega arith
+  few_steps : (steps : ℕ) → steps ≤ bound → most * steps ≤ most * bound
+  few_steps steps h = mul-le-mul_left most h
 
   over_fine : (word : EndWord) (idle : Bool) (n : ℕ) (s : Held) → Paid n s → Fine (Over (seen_of word idle s))
   over_fine word idle n s p =
       let k = few_steps s.shared.steps p.steps in
       let h = p.entries in
-      none_left word idle s.store.globals s.operations s.shared s.shared.todo p.whole (omega arith, p.none_withdrawn)
+      let w = p.withdrawn in
+      none_left word idle s.store.globals s.operations s.shared s.shared.todo p.whole (omega arith, omega arith)
 
   -- ---- what is held, when a thread went on
 
   fewer : (m n : ℕ) (s : Held) → m ≤ n → Paid n s → Paid m s
-  fewer m n s le p = record { whole = p.whole; steps = p.steps; entries = let h = p.entries in omega arith; none_withdrawn = p.none_withdrawn }
+  fewer m n s le p = record { whole = p.whole; steps = p.steps; entries = let h = p.entries in omega arith; withdrawn = let h = p.withdrawn in omega arith }
 
   kept : (n : ℕ) (s t : Held) → Keeps s t → Paid n s → Paid n t
   kept n s t k p = record {
@@ -139,11 +159,16 @@ module _ (program : Resolved) (bound : ℕ) (journal : List Entry) where
     steps = let e = k.steps in let h = p.steps in omega arith;
     entries = let l : length t.shared.past ≡ length s.shared.past = ap length k.past in
         let q : passes_in t.shared.past ≡ passes_in s.shared.past = ap passes_in k.past in
+        let r : keeping_in t.shared.past ≡ keeping_in s.shared.past = ap keeping_in k.past in
         let o : entries_of t.operations ≡ entries_of s.operations = ap entries_of k.operations in
         let m : most * t.shared.steps ≡ most * s.shared.steps = ap (λ i. most * i) k.steps in
         let h = p.entries in
         omega arith;
-    none_withdrawn = ap withdrawals_in k.past ∙ p.none_withdrawn;
+    withdrawn = let q : withdrawals_in t.shared.past ≡ withdrawals_in s.shared.past = ap withdrawals_in k.past in
+        let o : length t.operations ≡ length s.operations = ap length k.operations in
+        let m : most * t.shared.steps ≡ most * s.shared.steps = ap (λ i. most * i) k.steps in
+        let h = p.withdrawn in
+        omega arith;
   }
 
   -- a step pays for as many as a statement has
@@ -152,7 +177,7 @@ module _ (program : Resolved) (bound : ℕ) (journal : List Entry) where
     whole = p.whole;
     steps = omega arith;
     entries = let m : most * (s.shared.steps + 1) ≡ most * s.shared.steps + most * 1 = mul-add most s.shared.steps 1 in let h = p.entries in omega arith;
-    none_withdrawn = p.none_withdrawn;
+    withdrawn = let m : most * (s.shared.steps + 1) ≡ most * s.shared.steps + most * 1 = mul-add most s.shared.steps 1 in let h = p.withdrawn in omega arith;
   }
 
   -- an operation that is started takes one of those to come
@@ -161,7 +186,7 @@ module _ (program : Resolved) (bound : ℕ) (journal : List Entry) where
     whole = p.whole;
     steps = p.steps;
     entries = let e = entries_push s.operations (started link asked t) in let l = left_at_most (started link asked t) in let h = p.entries in omega arith;
-    none_withdrawn = p.none_withdrawn;
+    withdrawn = let e = length-append s.operations (started link asked t ∷ []) in let h = p.withdrawn in omega arith;
   }
 
   -- ---- threads stop, start and go on
@@ -210,6 +235,105 @@ module _ (program : Resolved) (bound : ℕ) (journal : List Entry) where
   arrives_counted true c t block n s ws running threads few h p = goes_counted c n s ws threads few h p
   arrives_counted false c t block n s ws running threads few h p = stops_counted c t (AtFinish block) n s ws c.ready running threads few h p
 
+  -- ---- an operation ends
+
+  resumed_counted : (c : CoreState) (value : Cell) (o : Option Item) → Counted c → Counted (resumed c value o)
+  resumed_counted c value None h = h
+  resumed_counted c value (Some t) h =
+      let ws = given value (thread_at c.threads t).work in
+      let x : Thread = record (thread_at c.threads t) { phase = Active; work = ws } in
+      let k = table_set c.threads t.number x in
+      let g = given_actions value (thread_at c.threads t).work in
+      let e : stale (with_phase c.threads t Active ws) c.running ≡ stale c.threads c.running = same_stale c.threads t.number x g c.running in
+      let l = h.to_come in
+      record {
+        work = h.work;
+        threads = few_set most c.threads t.number x (given_few most value (thread_at c.threads t).work (few_at most c.threads t.number h.threads)) h.threads;
+        left = h.left;
+        to_come = omega arith;
+        paid = h.paid;
+      }
+
+  -- an entry that comes in leaves these operations
+  entry_paid : (n : ℕ) (s t : Held) (e : Entry) (todo : List Entry) (os : List Operation) → s.shared.todo ≡ e ∷ todo → Less s.shared.past e s.operations os → Paid n s
+      → Paid n (record t { shared = with_entry s.shared e todo; operations = os })
+  entry_paid n s t e todo os is less p = record {
+    whole = append_assoc s.shared.past (e ∷ []) todo ∙ ap (λ es. s.shared.past ++ es) (sym is) ∙ p.whole;
+    steps = p.steps;
+    entries = let l = length-append s.shared.past (e ∷ []) in let q = passes_append s.shared.past (e ∷ []) in let k = less.0 in let h = p.entries in omega arith;
+    withdrawn = let q = withdrawals_append s.shared.past (e ∷ []) in let k = less.1 in let h = p.withdrawn in omega arith;
+  }
+
+  -- ---- a cancel
+
+  -- one that waits has gone without an entry
+  tried_paid : (n : ℕ) (s t : Held) (test : Operation → Bool) (o : Operation) → find test s.operations ≡ Some o → Paid n s
+      → Paid n (record t { shared = s.shared; operations = without_first test s.operations })
+  tried_paid n s t test o found p =
+      let l = without_less test s.operations o found in
+      let fewer_left = l.0 in
+      let shorter = l.1 in
+      record {
+        whole = p.whole;
+        steps = p.steps;
+        entries = let h = p.entries in omega arith;
+        withdrawn = let h = p.withdrawn in omega arith;
+      }
+
+  module _ (c : CoreState) (n : ℕ) (s : Held) (block : BlockId) (again ws : List Work) (threads : Few most c.threads) (p : Paid n s)
+      (few_again : AreFew most again) (to_come_again : works_actions again + table_actions c.threads ≤ n + stale c.threads c.running)
+      (few_ws : AreFew most ws) (to_come_ws : works_actions ws + table_actions c.threads ≤ n + stale c.threads c.running) where
+    abbrev inside : Operation → Bool
+    inside = is_inside c.threads block
+
+    abbrev goes : Shared → Arrival → Move CoreState (Option CoreEnd)
+    goes shared x = On (arrived (goes_on c (with_mark s block) again) shared x)
+
+    gone : (shared : Shared) (o : Operation) (value : ℤ) → Paid n (record (with_mark s block) { shared = shared; operations = without_first inside s.operations })
+        → Fine (goes shared (has_ended_as value s.store (without_first inside s.operations) o))
+    gone shared o value q =
+        let held = record (with_mark s block) { shared = shared; store = s.store; operations = without_first inside s.operations } in
+        resumed_counted (goes_on c held again) (cell.Int value) (Some o.item) (goes_counted c n held again threads few_again to_come_again q)
+
+    by_outcome : (o : Operation) (number : ℕ) (e : Entry) (todo : List Entry) → find inside s.operations ≡ Some o → o.progress ≡ progress.Offered number → s.shared.todo ≡ e ∷ todo → (q : Option ℤ)
+        → Fine (ends_by (λ x. x) (λ value. goes (with_entry s.shared e todo) (has_ended_as value s.store (without_first inside s.operations) o)) q)
+    by_outcome o number e todo found under is None = tt
+    by_outcome o number e todo found under is (Some value) =
+        gone (with_entry s.shared e todo) o value
+        (entry_paid n s (with_mark s block) e todo (without_first inside s.operations) is (decided_less s.shared.past e inside s.operations o number found under) p)
+
+    by_entry : (o : Operation) (number : ℕ) → find inside s.operations ≡ Some o → o.progress ≡ progress.Offered number → (todo : List Entry) → s.shared.todo ≡ todo
+        → Fine (decided (λ x. x) s.shared s.store.globals s.operations o.link number (λ shared value. goes shared (has_ended_as value s.store (without_first inside s.operations) o)) todo)
+    by_entry o number found under [] is = over_fine word.Stalled false n s p
+    by_entry o number found under (e ∷ todo) is = at (nat_eq e.turn s.shared.turn)
+      where
+        at : (b : Bool)
+            → Fine (if b then ends_by (λ x. x) (λ value. goes (with_entry s.shared e todo) (has_ended_as value s.store (without_first inside s.operations) o)) (outcome o.link number e.event)
+            else Over None)
+        at true = by_outcome o number e todo found under is (outcome o.link number e.event)
+        at false = tt
+
+    by_progress : (o : Operation) → find inside s.operations ≡ Some o → (progress : Progress) → o.progress ≡ progress
+        → Fine (tried (λ x. x) s.shared s.store.globals s.operations o.link progress (λ shared value. goes shared (has_ended_as value s.store (without_first inside s.operations) o)))
+    by_progress o found progress.Waiting is = gone s.shared o cancelled (tried_paid n s (with_mark s block) inside o found p)
+    by_progress o found (progress.Offered number) is = by_entry o number found is s.shared.todo refl
+
+    by_operation : (q : Option Operation) → find inside s.operations ≡ q → Fine (tries (λ x. x) s.shared s.store s.operations inside goes (On (goes_on c (with_mark s block) ws)) q)
+    by_operation None found =
+        goes_counted c n (with_mark s block) ws threads few_ws to_come_ws (kept n s (with_mark s block) (record { past = refl; todo = refl; steps = refl; operations = refl }) p)
+    by_operation (Some o) found = by_progress o found o.progress refl
+
+    calls_off_fine : Fine (calls_off c block s again ws)
+    calls_off_fine = by_operation (find inside s.operations) refl
+
+  operates_fine : (b : Bool) (c : CoreState) (t : Item) (link : ℕ) (asked : Asked) (n : ℕ) (s : Held) (ws : List Work) → c.running ≡ Some t → Few most c.threads → AreFew most ws
+      → works_actions ws + 1 + table_actions c.threads ≤ n + stale c.threads c.running → Paid n s → Counted (operates b c t link asked s ws)
+  operates_fine true c t link asked n s ws running threads few h p =
+      let g = given_actions (cell.Int cancelled) ws in goes_counted c n s (given (cell.Int cancelled) ws) threads (given_few most (cell.Int cancelled) ws few) (omega arith) p
+  operates_fine false c t link asked n s ws running threads few h p =
+      let st = stale_few c.threads c.running in
+      stops_counted c t Active (n - 1) (with_started s link asked t) ws c.ready running threads few (omega arith) (started_paid (n - 1) link asked t s (fewer (n - 1 + 1) n s (omega arith) p))
+
   -- ---- a move of the running thread, of whose work k were to come; what is held may have been charged with a step
 
   applied_fine : (c : CoreState) (t : Item) (k n : ℕ) (s : Held) (next : Next) → c.running ≡ Some t → Counted c → k + table_actions c.threads ≤ n + stale c.threads c.running → Paid n s
@@ -222,18 +346,20 @@ module _ (program : Resolved) (bound : ℕ) (journal : List Entry) where
       let a = l.actions in stops_counted c t Active n x ws (c.ready ++ t ∷ []) running h.threads l.few (omega arith) (kept n s x l.keeps p)
   applied_fine c t k n s (Arrives block x ws) running h le p l =
       let a = l.actions in arrives_counted (none_within block c.threads) c t block n x ws running h.threads l.few (omega arith) (kept n s x l.keeps p)
+  applied_fine c t k n s (Cancels block x again ws) running h le p l =
+      let a = l.0.actions in
+      let b = l.1.actions in
+      calls_off_fine c n x block again ws h.threads (kept n s x l.0.keeps p) l.0.few (omega arith) l.1.few (omega arith)
   applied_fine c t k n s (Operates link asked x ws) running h le p l =
       let a = l.2 in
-      let st = stale_few c.threads c.running in
-      stops_counted c t Active (n - 1) (with_started x link asked t) ws c.ready running h.threads l.1 (omega arith)
-      (started_paid (n - 1) link asked t x (kept (n - 1 + 1) s x l.0 (fewer (n - 1 + 1) n s (omega arith) p)))
+      operates_fine (any_marked x.marks (path ws (thread_at c.threads t))) c t link asked n x ws running h.threads l.1 (omega arith) (kept n s x l.0 p)
   applied_fine c t k n s (Dies frame x) running h le p l =
       let y = with_store x (released x.store frame) in
       let d = stops c t Ended y [] c.ready in
       let q = kept n s x l p in
       wakes_counted (woken d.threads d.threads 0) d refl
       (stops_counted c t Ended n y [] c.ready running h.threads tt (omega arith)
-      (record { whole = q.whole; steps = q.steps; entries = q.entries; none_withdrawn = q.none_withdrawn }))
+      (record { whole = q.whole; steps = q.steps; entries = q.entries; withdrawn = q.withdrawn }))
   applied_fine c t k n s Stays running h le p l = h
 
   thread_fine : (c : CoreState) (t : Item) → c.running ≡ Some t → Counted c → Fine (applied c t (next_of program bound c.work c.held))
@@ -261,44 +387,17 @@ module _ (program : Resolved) (bound : ℕ) (journal : List Entry) where
             threads = h.threads;
             left = h.left;
             to_come = omega arith;
-            paid = record { whole = h.paid.whole; steps = h.paid.steps; entries = h.paid.entries; none_withdrawn = h.paid.none_withdrawn };
+            paid = record { whole = h.paid.whole; steps = h.paid.steps; entries = h.paid.entries; withdrawn = h.paid.withdrawn };
           }
       turn false = over_fine word.OutOfSteps false h.left c.held h.paid
 
-  resumed_counted : (c : CoreState) (value : Cell) (o : Option Item) → c.running ≡ None → Counted c → Counted (resumed c value o)
-  resumed_counted c value None none h = h
-  resumed_counted c value (Some t) none h =
-      let ws = given value (thread_at c.threads t).work in
-      let x : Thread = record (thread_at c.threads t) { phase = Active; work = ws } in
-      let k = table_set c.threads t.number x in
-      let g = given_actions value (thread_at c.threads t).work in
-      let e : stale c.threads c.running ≡ 0 = ap (stale c.threads) none in
-      let f : stale (with_phase c.threads t Active ws) c.running ≡ 0 = ap (stale (with_phase c.threads t Active ws)) none in
-      let l = h.to_come in
-      record {
-        work = h.work;
-        threads = few_set most c.threads t.number x (given_few most value (thread_at c.threads t).work (few_at most c.threads t.number h.threads)) h.threads;
-        left = h.left;
-        to_come = omega arith;
-        paid = h.paid;
-      }
-
-  entry_paid : (n : ℕ) (s : Held) (e : Entry) (todo : List Entry) (x : Arrival) → s.shared.todo ≡ e ∷ todo
-      → (entries_of x.operations + 1 ≤ entries_of s.operations + pass_of e.event) × (withdrawal_of e.event ≡ 0) → Paid n s
-      → Paid n (record s { shared = with_entry s.shared e todo; store = x.store; operations = x.operations })
-  entry_paid n s e todo x is less p = record {
-    whole = append_assoc s.shared.past (e ∷ []) todo ∙ ap (λ es. s.shared.past ++ es) (sym is) ∙ p.whole;
-    steps = p.steps;
-    entries = let l = length-append s.shared.past (e ∷ []) in let q = passes_append s.shared.past (e ∷ []) in let k = less.0 in let h = p.entries in omega arith;
-    none_withdrawn = let q = withdrawals_append s.shared.past (e ∷ []) in let k = less.1 in let h = p.none_withdrawn in omega arith;
-  }
-
-  comes_fine : (c : CoreState) (e : Entry) (todo : List Entry) → c.running ≡ None → Counted c → c.held.shared.todo ≡ e ∷ todo → (q : Option Arrival) → LessAfter e.event c.held.operations q
-      → Fine (comes_in (λ x. x) (λ x. On (arrived c (with_entry c.held.shared e todo) x)) q)
+  comes_fine : (c : CoreState) (e : Entry) (todo : List Entry) → c.running ≡ None → Counted c → c.held.shared.todo ≡ e ∷ todo → (q : Option Arrival)
+      → LessAfter c.held.shared.past e c.held.operations q → Fine (comes_in (λ x. x) (λ x. On (arrived c (with_entry c.held.shared e todo) x)) q)
   comes_fine c e todo none h is None l = tt
   comes_fine c e todo none h is (Some x) l =
-      resumed_counted (record c { held = record c.held { shared = with_entry c.held.shared e todo; store = x.store; operations = x.operations } }) ok x.woken none
-      (record { work = h.work; threads = h.threads; left = h.left; to_come = h.to_come; paid = entry_paid h.left c.held e todo x is l h.paid })
+      let held = record c.held { shared = with_entry c.held.shared e todo; store = x.store; operations = x.operations } in
+      resumed_counted (record c { held = held }) (cell.Int x.value) x.woken
+      (record { work = h.work; threads = h.threads; left = h.left; to_come = h.to_come; paid = entry_paid h.left c.held held e todo x.operations is l h.paid })
 
   point_fine : (c : CoreState) → c.running ≡ None → Counted c → (todo : List Entry) → c.held.shared.todo ≡ todo
       → Fine (at_point (λ x. x) c.held.shared c.held.store c.held.operations (λ shared x. On (arrived c shared x)) (dispatched c c.ready) todo)
@@ -307,7 +406,7 @@ module _ (program : Resolved) (bound : ℕ) (journal : List Entry) where
     where
       at : (b : Bool) → Fine (if b then comes_in (λ x. x) (λ x. On (arrived c (with_entry c.held.shared e todo) x)) (arrives c.held.shared.past c.held.store c.held.operations e.event)
           else dispatched c c.ready)
-      at true = comes_fine c e todo none h is (arrives c.held.shared.past c.held.store c.held.operations e.event) (arrives_less c.held.shared.past c.held.store c.held.operations e.event)
+      at true = comes_fine c e todo none h is (arrives c.held.shared.past c.held.store c.held.operations e.event) (arrives_less c.held.shared.past c.held.store c.held.operations e)
       at false = dispatched_fine c c.ready none h
 
   step_by : (c : CoreState) (r : Option Item) → c.running ≡ r → Counted c → Fine (step program bound c)

@@ -1,7 +1,9 @@
--- How many entries of one journal, and of all of them in their order, withdraw an offer or pass over one.
-use Rattle.std.proofs.Common.{◌≡◌, ℕ, zero, suc, ◌+◌, ◌<◌, ◌≤◌, List, [], ◌∷◌, ◌++◌, length, get_or, Bool, true, false, refl, ap, arith}
+-- How many entries one journal has, and all of them in their order, and how many of these withdraw an offer or pass over one.
+use Rattle.std.proofs.Common.{◌≡◌, ℕ, zero, suc, ◌+◌, ◌*◌, ◌<◌, ◌≤◌, List, [], ◌∷◌, ◌++◌, length, get_or, Bool, true, false, refl, ap, arith}
 use Rattle.std.specs.Prelude.{nat_le, nat_lt, if◌then◌else◌}
 use Rattle.std.proofs.lemmas.Bool.Decides.{nat_tests}
+use Rattle.std.proofs.lemmas.List.{length-append}
+use Rattle.std.proofs.Math.Nat.{suc-mul}
 use Rattle.ac_base.specs.declared.entry.Event.{Event}
 use Rattle.ac_base.specs.declared.entry.Event.TheVariants as event
 use Rattle.ac_base.specs.declared.entry.Entry.{Entry}
@@ -59,6 +61,10 @@ passed e = pass_of e.entry.event
 abbrev pub withdrawn_below : ℕ → Stamped → ℕ
 withdrawn_below cores e = if nat_lt e.party cores then withdrawal_of e.entry.event else 0
 
+party_length : (p : ℕ) (es : List Entry) → length (of_party p es) ≡ length es
+party_length p [] = refl
+party_length p (e ∷ es) = ap suc (party_length p es)
+
 passed_by : (p : ℕ) (es : List Entry) → count passed (of_party p es) ≡ passes_in es
 passed_by p [] = refl
 passed_by p (e ∷ es) = ap (λ n. pass_of e.event + n) (passed_by p es)
@@ -75,33 +81,41 @@ withdrawn_by cores p false h (e ∷ es) =
     let none : (if nat_lt p cores then withdrawal_of e.event else 0) ≡ 0 = ap (λ (c : Bool). if c then withdrawal_of e.event else 0) h in
     omega arith
 
--- the passes of one journal are among those of all
-pub passes_within : (p : ℕ) (js : List (List Entry)) (i : ℕ) → passes_in (get_or js i []) ≤ count passed (all_from p js)
-passes_within p [] i = omega arith
-passes_within p (j ∷ js) zero = let a = count_append passed (of_party p j) (all_from (suc p) js) in let b = passed_by p j in omega arith
-passes_within p (j ∷ js) (suc i) =
-    let a = count_append passed (of_party p j) (all_from (suc p) js) in
-    let ih = passes_within (suc p) js i in
-    omega arith
-
 below : (p cores : ℕ) → p < cores → nat_lt p cores ≡ true
 below p cores h = grind (arith, nat_tests)
 
 not_below : (p cores : ℕ) → p ≡ cores → nat_lt p cores ≡ false
 not_below p cores h = grind (arith, nat_tests)
 
--- of n journals of cores that withdraw nothing, and one more
-pub none_withdrawn : (cores n p : ℕ) (js : List (List Entry)) → length js ≡ suc n → p + n ≡ cores → ((i : ℕ) → i < n → withdrawals_in (get_or js i []) ≡ 0)
-    → count (withdrawn_below cores) (all_from p js) ≡ 0
-none_withdrawn cores n p [] many at h = absurd (omega arith)
-none_withdrawn cores zero p (j ∷ []) many at h =
+-- of n journals of cores that withdraw at most so many, and one more
+pub few_withdrawn : (most cores n p : ℕ) (js : List (List Entry)) → length js ≡ suc n → p + n ≡ cores → ((i : ℕ) → i < n → withdrawals_in (get_or js i []) ≤ most)
+    → count (withdrawn_below cores) (all_from p js) ≤ n * most
+few_withdrawn most cores n p [] many at h = absurd (omega arith)
+few_withdrawn most cores zero p (j ∷ []) many at h =
     let a = count_append (withdrawn_below cores) (of_party p j) [] in
     let b = withdrawn_by cores p false (not_below p cores (omega arith)) j in
     omega arith
-none_withdrawn cores zero p (j ∷ x ∷ js) many at h = absurd (omega arith)
-none_withdrawn cores (suc n) p (j ∷ js) many at h =
+few_withdrawn most cores zero p (j ∷ x ∷ js) many at h = absurd (omega arith)
+few_withdrawn most cores (suc n) p (j ∷ js) many at h =
     let a = count_append (withdrawn_below cores) (of_party p j) (all_from (suc p) js) in
     let b = withdrawn_by cores p true (below p cores (omega arith)) j in
     let c = h 0 (omega arith) in
-    let ih = none_withdrawn cores n (suc p) js (omega arith) (omega arith) (λ i lt. h (suc i) (omega arith)) in
+    let ih = few_withdrawn most cores n (suc p) js (omega arith) (omega arith) (λ i lt. h (suc i) (omega arith)) in
+    let m = suc-mul n most in
+    omega arith
+
+-- of n journals, each of at most k entries beside its passes, and one more
+pub few_from : (n k p : ℕ) (js : List (List Entry)) → length js ≡ suc n → ((i : ℕ) → i < n → length (get_or js i []) ≤ k + passes_in (get_or js i []))
+    → length (all_from p js) ≤ n * k + length (get_or js n []) + count passed (all_from p js)
+few_from n k p [] many h = absurd (omega arith)
+few_from zero k p (j ∷ []) many h = let a = length-append (of_party p j) [] in let b = party_length p j in omega arith
+few_from zero k p (j ∷ x ∷ js) many h = absurd (omega arith)
+few_from (suc n) k p (j ∷ js) many h =
+    let a = length-append (of_party p j) (all_from (suc p) js) in
+    let b = party_length p j in
+    let c = h 0 (omega arith) in
+    let d = count_append passed (of_party p j) (all_from (suc p) js) in
+    let e = passed_by p j in
+    let ih = few_from n k (suc p) js (omega arith) (λ i lt. h (suc i) (omega arith)) in
+    let m = suc-mul n k in
     omega arith

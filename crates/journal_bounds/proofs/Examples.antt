@@ -28,7 +28,7 @@ use Rattle.ac_semantics.proofs.OperationExamples.{sends_five, sends, two_cores, 
 use Rattle.ac_history.specs.Merged.{merged}
 use Rattle.ac_translation.specs.Pieces.{Piece}
 use Rattle.ac_translation.specs.Translation as code
-use Rattle.ac_translation.specs.Translation.{value_code, command_code, functions_code, no_exits, code_of}
+use Rattle.ac_translation.specs.Translation.{value_code, command_code, no_exits, code_of}
 use Rattle.ac_translation.proofs.Codes.{number_code, act_code}
 use Rattle.ac_translation.proofs.Sized.{functions_sized}
 use Rattle.journal_bounds.specs.Actions.{total, greatest, value_step, link_step, actions_in, actions_of, most_of_some, most_within, command_step, most_in, most_of, most_in_function, most_actions}
@@ -145,12 +145,12 @@ it_has_offered (suc k) lt = absurd (omega arith)
 pub there_is_no_third_core : AllReplay two_cores 3 9 journals → ⊥
 there_is_no_third_core h = let e = (h 2 (omega arith)).1.enters.core_is in cc
 
-pub two_entries_are_few : EntriesAreFew → 2 ≤ 2 * (most_actions two_cores * 9)
+pub two_entries_are_few : EntriesAreFew → 2 ≤ 3 * (most_actions two_cores * 9)
 two_entries_are_few law =
     let few = law two_cores 0 9 taken _ it_is_an_end_of_the_core in
     let none : passes_in taken ≡ 0 = refl in
     let two : length taken ≡ 2 = refl in
     omega (arith, few, none, two)
 
-pub its_stamp_is_small : StampsAreSmall → AllByRecursion (λ e. e.entry.stamp ≤ 1 * (2 * (most_actions two_cores * 9)) + 0) (merged journals)
+pub its_stamp_is_small : StampsAreSmall → AllByRecursion (λ e. e.entry.stamp ≤ 1 * (4 * (most_actions two_cores * 9)) + 0) (merged journals)
 its_stamp_is_small law = law two_cores (1 ∷ 16 ∷ []) 1 9 journals refl it_has_offered (refl, tt)

@@ -2,6 +2,7 @@ pub mod Expressions
 pub mod Work
 pub mod Statements
 pub mod Counting
+pub mod Rooms
 pub mod Operations
 pub mod Cores
 pub mod Runs

@@ -33,13 +33,13 @@ module _ (program : Resolved) (bound : ℕ) (journal : List Entry) where
         threads = (before_few (most_actions program) first_frame function.body (Leave ∷ []) m (tt, tt), tt);
         left = 0;
         to_come = omega arith;
-        paid = record { whole = refl; steps = omega arith; entries = omega arith; none_withdrawn = refl };
+        paid = record { whole = refl; steps = omega arith; entries = omega arith; withdrawn = omega arith };
       }
 
   begins_fine : (function : Function) (globals : List ℤ) (r : Result Store Trap) → most_of function.body ≤ most_actions program
       → F (begins_with (λ e. e) globals (first_shared journal) r (λ store. On (first_core function (first_shared journal) store)))
   begins_fine function globals (Ok store) m = first_counted function store m
-  begins_fine function globals (Err trap) m = none_left program bound journal (word.Trapped trap) false globals [] (first_shared journal) journal refl (omega arith, refl)
+  begins_fine function globals (Err trap) m = none_left program bound journal (word.Trapped trap) false globals [] (first_shared journal) journal refl (omega arith, omega arith)
 
   -- ---- moves
 
@@ -51,7 +51,7 @@ module _ (program : Resolved) (bound : ℕ) (journal : List Entry) where
   moves_fine zero c h = h
   moves_fine (suc k) c h = then_fine (step program bound c) (moves (step program bound) k) (step_fine program bound journal c h) (moves_fine k)
 
--- so it has, and withdraws no offer
+-- so it has, and withdraws few offers
 pub short : (program : Resolved) (core bound : ℕ) (journal : List Entry) (end : CoreEnd) → Replays program core bound journal (Some end) → IsShort program bound journal journal
 short program core bound journal end r =
     let f = r.function in

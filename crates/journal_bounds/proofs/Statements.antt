@@ -19,9 +19,9 @@ use Rattle.ac_commands.specs.declared.command.Command.TheOpen.{Command-F}
 use Rattle.ac_commands.specs.declared.program.Function.{Function}
 use Rattle.ac_commands.specs.declared.program.Resolved.{Resolved}
 use Rattle.ac_semantics.specs.Evaluation.{Acting, Ending, Outcome, Comes, Traps, Stops, row_goes, resumes}
-use Rattle.ac_semantics.specs.Held.{Held, with_shared, with_store, stepped}
-use Rattle.ac_semantics.specs.Work.{Work, Do, Pend, Given, Turn, Close, Back, Leave, End, before, ahead, past_loop, at_turn}
-use Rattle.ac_semantics.specs.Statements.{Next, Goes, Ends, Starts, Yields, Arrives, Operates, Dies, Stays}
+use Rattle.ac_semantics.specs.Held.{Held, with_shared, with_store, stepped, next_block}
+use Rattle.ac_semantics.specs.Work.{Work, Do, Pend, Given, CallOff, Turn, Close, Back, Leave, End, before, ahead, past_loop, at_turn}
+use Rattle.ac_semantics.specs.Statements.{Next, Goes, Ends, Starts, Yields, Arrives, Cancels, Operates, Dies, Stays}
 use Rattle.ac_semantics.specs.Statements.{or_trap, operands_of, put_in, returns, value_or_zero, some_body, test_or_true, last_of, loops}
 use Rattle.ac_semantics.specs.Statements.{finish_form, calls, settles, does, next_at, next_of}
 use Rattle.journal_bounds.specs.Actions.{most_in, most_of, most_within, actions_of, most_actions}
@@ -54,6 +54,7 @@ Leads w n s (Ends word t) = Keeps s t
 Leads w n s (Starts t frame own ws) = Leaves w n s t ws × AreFew w own × (works_actions own ≡ 0)
 Leads w n s (Yields t ws) = Leaves w n s t ws
 Leads w n s (Arrives block t ws) = Leaves w n s t ws
+Leads w n s (Cancels block t again ws) = Leaves w n s t again × Leaves w n s t ws
 Leads w n s (Operates link asked t ws) = Keeps s t × AreFew w ws × (works_actions ws + 1 ≤ n)
 Leads w n s (Dies frame t) = Keeps s t
 Leads w n s Stays = Unit {0}
@@ -122,7 +123,7 @@ module _ (w n : ℕ) (s : Held) where
   finish_leads program self Command-F.Continue operands frame ws l m a h = let e = turn_actions ws in goes_on s (at_turn ws) (same s) (turn_few w ws a) (omega arith)
   finish_leads program self (Command-F.Return value) operands frame ws l m a h = returns_leads (value_or_zero value operands) ws a h
   finish_leads program self (Command-F.Do slot body) operands frame ws l m a h =
-      let rest = Close (record { number = s.blocks }) ∷ ws in
+      let rest = Close (next_block s) ∷ ws in
       let e = before_actions frame body rest in
       record { keeps = record { past = refl; todo = refl; steps = refl; operations = refl }; few = before_few w frame body rest m (tt, a); actions = omega arith }
   finish_leads program self (Command-F.Async slots body) operands frame ws l m a h =
@@ -132,7 +133,7 @@ module _ (w n : ℕ) (s : Held) where
       let own = End (next_frame s.store) ∷ [] in
       let e = before_actions (next_frame s.store) body own in
       (record { keeps = record { past = refl; todo = refl; steps = refl; operations = refl }; few = a; actions = h }, before_few w (next_frame s.store) body own m (tt, tt), omega arith))
-  finish_leads program self (Command-F.Cancel level slot) operands frame ws l m a h = tt
+  finish_leads program self (Command-F.Cancel level slot) operands frame ws l m a h = goes_on s (CallOff frame level slot ∷ ws) (same s) (tt, a) (omega arith)
   finish_leads program self Command-F.Yield operands frame ws l m a h = goes_on s ws (same s) a h
 
   calls_lead : (f : Option Function) (operands : List Cell) (ws : List Work) → ((x : Function) → f ≡ Some x → most_of x.body ≤ w) → AreFew w ws → works_actions ws ≤ n →
@@ -185,6 +186,9 @@ module _ (program : Resolved) where
       (settles_lead (most + works_actions (Do frame command ∷ ws)) most (stepped s) command frame ws goes
       (within_more (0 + (actions_of xs + around_actions [])) most (omega arith) goes (operands_within (stepped s).store frame Ending [] xs [])) l a.1 (omega arith))
       (nat_lt s.shared.steps bound) refl
+  at_takes bound (CallOff frame level slot ∷ ws) s a =
+      let n = works_actions (CallOff frame level slot ∷ ws) in
+      inl (goes_on most n s s (CallOff frame level slot ∷ ws) (same s) a (omega arith), goes_on most n s s ws (same s) a.1 (omega arith))
   at_takes bound (Turn frame loop ∷ ws) s a = inl tt
   at_takes bound (Close block ∷ ws) s a =
       step_takes bound (Close block ∷ ws) s (Arrives block (stepped s) ws) (record { keeps = same (stepped s); few = a.1; actions = omega arith }) (nat_lt s.shared.steps bound) refl

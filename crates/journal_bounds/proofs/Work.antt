@@ -9,7 +9,7 @@ use Rattle.ac_commands.specs.declared.value.Value.{Value}
 use Rattle.ac_commands.specs.declared.command.Command.{Command, map-Command, out-Command, fold_out-Command}
 use Rattle.ac_commands.specs.declared.command.Command.TheOpen.{Command-F}
 use Rattle.ac_commands.specs.declared.program.Function.{Function}
-use Rattle.ac_semantics.specs.Work.{Work, Do, Pend, Given, Turn, Close, Back, Leave, End, before, next_in, next_part, ahead, past_loop, at_turn, given}
+use Rattle.ac_semantics.specs.Work.{Work, Do, Pend, Given, CallOff, Turn, Close, Back, Leave, End, before, next_in, next_part, ahead, past_loop, at_turn, given}
 use Rattle.ac_semantics.specs.Statements.{operands_of, some_body}
 use Rattle.journal_bounds.specs.Actions.{greatest, actions_of, most_within, command_step, most_in, most_of, most_in_function}
 use Rattle.journal_bounds.proofs.Expressions.{around_actions}
@@ -68,6 +68,7 @@ abbrev pub work_actions : Work → ℕ
 work_actions (Do frame command) = 0
 work_actions (Pend frame command around) = around_actions around
 work_actions (Given value frame command around) = around_actions around
+work_actions (CallOff frame level slot) = 0
 work_actions (Turn frame loop) = 0
 work_actions (Close block) = 0
 work_actions (Back frame) = 0
@@ -84,6 +85,7 @@ module _ (w : ℕ) where
   IsFew (Do frame command) = most_in command ≤ w
   IsFew (Pend frame command around) = most_in command ≤ w
   IsFew (Given value frame command around) = most_in command ≤ w
+  IsFew (CallOff frame level slot) = Unit {0}
   IsFew (Turn frame loop) = most_in loop ≤ w
   IsFew (Close block) = Unit {0}
   IsFew (Back frame) = Unit {0}

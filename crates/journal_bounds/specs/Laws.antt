@@ -11,24 +11,25 @@ use Rattle.ac_translation.specs.Translation.{code_of}
 use Rattle.journal_bounds.specs.Actions.{most_actions}
 use Rattle.journal_bounds.specs.Passes.{passes_in}
 
--- Each step begins one statement, and an operation that it starts makes two entries at most: a send its offer and what is known of it, a
--- receive one. An operation that can be cancelled will not make more: its end is one of its two entries then. Beside these a core passes
--- over offers that others have withdrawn, as often as there are such offers while it waits for a message.
+-- Each step begins one statement, and an operation that it starts makes three entries at most: a send its offer, and then what is known of
+-- it, or its withdrawal and later the room that comes back; a receive one. Beside these a core passes over offers that others have
+-- withdrawn, as often as there are such offers while it waits for a message.
 abbrev pub EntriesAreFew : Type 0
 EntriesAreFew = (program : Resolved) (core bound : ℕ) (journal : List Entry) (end : CoreEnd)
-    → Replays program core bound journal (Some end) → length journal ≤ 2 * (most_actions program * bound) + passes_in journal
+    → Replays program core bound journal (Some end) → length journal ≤ 3 * (most_actions program * bound) + passes_in journal
 
 -- each core comes to an end under its journal
 abbrev pub AllReplay : Resolved → ℕ → ℕ → List (List Entry) → Type 0
 AllReplay program cores bound js = (core : ℕ) → core < cores →
     (end : CoreEnd) × Replays program core bound (slice_index_or js core []) (Some end)
 
--- no stamp is above what all cores may enter, and the worker has entered: no core withdraws an offer yet, so in a legal history none passes
--- over one
+-- No stamp is above what all cores may enter, and the worker has entered. Each operation withdraws one offer at most, and in a legal
+-- history no more offers are passed over than were withdrawn: so an operation pays for four entries, its own three, and one by which its
+-- peer passes over it.
 abbrev pub StampsAreSmall : Type 0
 StampsAreSmall = (program : Resolved) (capacities : List ℕ) (cores bound : ℕ) (js : List (List Entry))
     → length js ≡ suc cores → AllReplay program cores bound js → IsLegal (start capacities cores) (merged js)
-    → AllByRecursion (λ e. e.entry.stamp ≤ cores * (2 * (most_actions program * bound)) + length (slice_index_or js cores [])) (merged js)
+    → AllByRecursion (λ e. e.entry.stamp ≤ cores * (4 * (most_actions program * bound)) + length (slice_index_or js cores [])) (merged js)
 
 -- each call and each operation is an instruction of the code
 abbrev pub ActionsAreFew : Type 0

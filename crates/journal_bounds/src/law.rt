@@ -2,8 +2,9 @@
 
 ghost use Rattle.journal_bounds.specs.Laws.{EntriesAreFew, StampsAreSmall, ActionsAreFew};
 
-/// A core that comes to an end has taken in at most two entries for each operation that it may have
-/// started, and with each step it starts no more than one statement has.
+/// A core that comes to an end has taken in at most three entries for each operation that it may have
+/// started, beside those that pass over an offer, and with each step it starts no more operations than
+/// one statement has.
 pub fn entries_are_few()
     ensures { EntriesAreFew }
 {}

@@ -39,23 +39,23 @@ pub enum Instr {
     Flip,
     /// Pops, and pushes 0 for 0, and else 1.
     Bool,
-    /// This and those down to `Rem` pop right, then left, and push the result of the operator.
-    BitOr,
-    BitXor,
+    /// This and those down to `MoreEq` pop right, then left, and push the result of the operator.
+    Add,
+    Sub,
+    Mul,
+    Div,
+    Rem,
+    Shl,
+    Shr,
     BitAnd,
+    BitXor,
+    BitOr,
     Eq,
     Ne,
     Less,
     LessEq,
     More,
     MoreEq,
-    Shl,
-    Shr,
-    Add,
-    Sub,
-    Mul,
-    Div,
-    Rem,
     /// Pops.
     Drop,
     /// Goes to that address.

@@ -10,7 +10,7 @@ use ac_base::NoMemory;
 use std::alloc::Global;
 use std::marker::Model;
 use std::mem;
-use work_item::{Cell, Item};
+use work_item::{BlockId, Cell, Item};
 
 /// The threads that do not run, at their numbers; one that runs or has ended has left nobody in its
 /// place.
@@ -72,6 +72,14 @@ impl ThreadTable {
         ensures few { result < 2 ^ 63 }
     {
         self.parked.len() as u64
+    }
+
+    /// The innermost block round a thread, if there is one. A thread that runs or has ended has none
+    /// here.
+    pub fn block_of(&self, item: Item) -> Option<BlockId>
+        ensures { result ≡ (thread_at self.now.threads item).block }
+    {
+        self.parked.get(item.number as usize)?.block
     }
 
     /// Makes the spare positive. After want of memory all is as before.

@@ -1,7 +1,12 @@
 //! Journals merged, and histories taken entry by entry.
 
-use ac_base::{Answer, Bytes, Entry, Event, Journal, List, NoMemory, Payload, Stamped};
-use ac_history::{Legal, merge};
+ghost use Rattle.std.specs.Prelude.{◌≡◌, IfOk, length};
+
+use ac_base::{
+    Answer, Bytes, CoreEnd, EndWord, Entry, Event, Journal, List, NoMemory, Payload, Phase,
+    Stamped, Waiting,
+};
+use ac_history::{Legal, LinkParties, merge};
 use std::alloc::Global;
 use std::test::Fail;
 
@@ -37,7 +42,9 @@ fn bytes(alloc: Global, text: &str) -> Result<Bytes, NoMemory> {
 }
 
 // A history on links of these capacities, with one file.
-fn legal(alloc: Global, capacities: &[u32], cores: u32, file: &str) -> Result<Legal, NoMemory> {
+fn legal(alloc: Global, capacities: &[u32], cores: u32, file: &str) -> Result<Legal, NoMemory>
+    ensures { IfOk result (λ it. length it.past.links ≡ length capacities.now) }
+{
     let capacities = List::from_vec(Vec::from_slice(alloc, capacities)?);
     if capacities.len() < u64::from(cores) {
         return Err(NoMemory);
@@ -160,5 +167,56 @@ fn journals_are_merged_by_their_stamps(rt: HostRuntime) -> Result<(), Fail> {
         assert_eq!(rt; stamped.party, party);
         assert_eq!(rt; stamped.entry.stamp, stamp);
     }
+    Ok(())
+}
+
+fn finished(alloc: Global) -> CoreEnd {
+    CoreEnd {
+        word: EndWord::Finished,
+        steps: 1,
+        output: List::new(alloc),
+        globals: List::new(alloc),
+        waiting: List::new(alloc),
+        idle: false,
+    }
+}
+
+// A core that waits on the channel, to send or to receive, and has nothing to run.
+fn waits(alloc: Global) -> Result<CoreEnd, NoMemory> {
+    let mut waiting = List::new(alloc);
+    waiting.push(Waiting {
+        link: 0,
+        phase: Phase::Waiting,
+    })?;
+    Ok(CoreEnd {
+        word: EndWord::Stalled,
+        waiting,
+        idle: true,
+        ..finished(alloc)
+    })
+}
+
+// Whether it is quiet where two cores have come to these ends, and nothing was offered on the
+// channel from the first to the second.
+fn is_quiet(alloc: Global, first: CoreEnd, second: CoreEnd) -> Result<bool, NoMemory> {
+    let nothing = legal(alloc, &[1, 16, 16], 2, "")?;
+    let parties = [
+        LinkParties { owner: 0, peer: 1 },
+        LinkParties { owner: 0, peer: 2 },
+        LinkParties { owner: 1, peer: 2 },
+    ];
+    let parties = List::from_vec(Vec::from_slice(alloc, &parties)?);
+    let mut cores = List::new(alloc);
+    cores.push(first)?;
+    cores.push(second)?;
+    Ok(nothing.is_quiet(&parties, &cores))
+}
+
+// The sender has room, and so it is not quiet where it waits; the receiver may wait for ever.
+#[test]
+fn a_run_is_quiet_or_not(rt: HostRuntime) -> Result<(), Fail> {
+    let alloc = rt.alloc();
+    assert!(rt; is_quiet(alloc, finished(alloc), waits(alloc)?)?);
+    assert!(rt; !is_quiet(alloc, waits(alloc)?, finished(alloc))?);
     Ok(())
 }

@@ -1,7 +1,6 @@
--- Filling a frame cell by cell: what is given, and 0 from there on.
-use Rattle.std.proofs.Common.{◌≡◌, ℕ, zero, suc, ◌+◌, ◌-◌, ◌<◌, ◌≤◌, List, [], ◌∷◌, ◌++◌, length, take, replicate, refl, sym, ap, ◌∙◌, arith, get_or}
-use Rattle.std.proofs.lemmas.List.{length-append, length-replicate, take_all}
-use Rattle.std.proofs.Math.Seq.{take-suc}
+-- Filling a frame: what is given, and 0 from there on.
+use Rattle.std.proofs.Common.{◌≡◌, ℕ, ◌+◌, ◌-◌, ◌≤◌, List, [], ◌∷◌, ◌++◌, length, replicate, ap, ◌∙◌, arith, append_assoc}
+use Rattle.std.proofs.lemmas.List.{length-append, length-replicate, replicate_more}
 use Rattle.work_item.specs.declared.cell.Cell.{Cell}
 use Rattle.work_item.specs.Store.{no_int}
 
@@ -14,22 +13,8 @@ length-filled first words le =
     ∙ ap (λ k. length first + k) (length-replicate (words - length first) no_int) in
     omega (arith, n, le)
 
-zeros : (k i : ℕ) → get_or (replicate k no_int) i no_int ≡ no_int
-zeros zero i = refl
-zeros (suc k) zero = refl
-zeros (suc k) (suc i) = zeros k i
-
-over : (xs : List Cell) (k i : ℕ) → get_or (xs ++ replicate k no_int) i no_int ≡ get_or xs i no_int
-over [] k i = zeros k i
-over (x ∷ xs) k zero = refl
-over (x ∷ xs) k (suc i) = over xs k i
-
-pub filled_more : (first : List Cell) (words i : ℕ) → length first ≤ words → i < words → take i (filled first words) ++ get_or first i no_int ∷ [] ≡ take (i + 1) (filled first words)
-filled_more first words i le lt =
-    let n = length-filled first words le in
-    let one : suc i ≡ i + 1 = omega arith in
-    ap (λ x. take i (filled first words) ++ x ∷ []) (sym (over first (words - length first) i))
-    ∙ sym (take-suc (filled first words) i no_int (omega (arith, n, lt))) ∙ ap (λ k. take k (filled first words)) one
-
-pub filled_whole : (first : List Cell) (words i : ℕ) → length first ≤ words → i ≡ words → take i (filled first words) ≡ filled first words
-filled_whole first words i le e = take_all i (filled first words) (omega (arith, length-filled first words le, e))
+pub filled_more : (first : List Cell) (words : ℕ) → length first ≤ words → filled first words ++ no_int ∷ [] ≡ filled first (words + 1)
+filled_more first words le =
+    let one : words - length first + 1 ≡ words + 1 - length first = omega (arith, le) in
+    append_assoc first (replicate (words - length first) no_int) (no_int ∷ [])
+    ∙ ap (λ zeros. first ++ zeros) (replicate_more (words - length first) no_int ∙ ap (λ k. replicate k no_int) one)

@@ -1,6 +1,6 @@
 -- The table keeps its counts.
 use Rattle.std.proofs.Common.{◌≡◌, ℕ, ◌+◌, ◌-◌, ◌<◌, ◌≤◌, ◌^◌, List, [], ◌∷◌, ◌++◌, length, Option, Some, None, IsSome, IsSomeAnd}
-use Rattle.std.proofs.Common.{IfSome, ◌&&◌, inl, inr, refl, sym, ap, ◌∙◌, subst, arith, set, nat_eq, get_or-set_same, eq-eqb, ne_eqb}
+use Rattle.std.proofs.Common.{IfSome, is_some, is_none, Bool, true, false, not, ◌&&◌, inl, inr, refl, sym, ap, ◌∙◌, subst, arith, set, nat_eq, get_or-set_same, eq-eqb, ne_eqb}
 use Rattle.std.proofs.lemmas.Bool.{cases_eq}
 use Rattle.std.proofs.lemmas.List.{map-set, map-append, length-map}
 use Rattle.std.proofs.lemmas.List.Sums.{count_by-le-length}
@@ -11,7 +11,7 @@ use Rattle.work_item.specs.declared.table.Live.{Live}
 use Rattle.work_item.specs.Store.{Frame, is_number, is_parent, all_words}
 use Rattle.work_item.specs.Table.{at, children_of}
 use Rattle.work_item.specs.inner.Kept.{IsRooted, LivesIn, frame_of, frames_of, live_at, Counts, IsSound}
-use Rattle.work_item.specs.inner.Kept.{one_more, one_less, is_over, is_done}
+use Rattle.work_item.specs.inner.Kept.{one_more, one_less, is_over, is_done, is_alone, parent_at}
 use Rattle.work_item.proofs.Children.{within, some_of, is_there, other, pushed, one_if, is_its_parent, parent_is_at, children-set, children-push}
 use Rattle.work_item.proofs.Children.{children_same, one_at_least, unborn, words-push, words_same, words_gone, rooted_same, rooted_gone, rooted_made}
 
@@ -245,3 +245,13 @@ same_gone lives n p = same_less (set lives n None) p ∙ map-set frame_of lives 
 pub done_is : (lives : List (Option Live)) (words n : ℕ) (x : Live) → IsSound lives words → live_at lives n ≡ Some x → is_done (frames_of lives) n ≡ (x.over && nat_eq x.children 0)
 done_is lives words n x s e =
     ap (λ o. is_over o && nat_eq (children_of (frames_of lives) n) 0) (frame_is lives n x e) ∙ ap (λ k. x.over && nat_eq k 0) (sym (s.counts n x e))
+
+pub alone_is : (lives : List (Option Live)) (words n : ℕ) (x : Live) → IsSound lives words → live_at lives n ≡ Some x → is_alone (frames_of lives) n ≡ (is_none x.parent && nat_eq x.children 0)
+alone_is lives words n x s e =
+    ap (λ o. is_none (parent_at o) && nat_eq (children_of (frames_of lives) n) 0) (frame_is lives n x e) ∙ ap (λ k. is_none x.parent && nat_eq k 0) (sym (s.counts n x e))
+
+pub none_is : (p : Option FrameId) (b : Bool) → is_some p ≡ not b → is_none p ≡ b
+none_is None true e = refl
+none_is None false e = sym e
+none_is (Some f) true e = sym e
+none_is (Some f) false e = refl

@@ -1,12 +1,13 @@
 -- Taking frames away, one after another, up to the first that stays.
-use Rattle.std.proofs.Common.{◌≡◌, ℕ, zero, suc, ◌+◌, ◌<◌, ◌≤◌, List, Option, Some, None, IsSome, IsSomeAnd, Bool, true, false, ◌&&◌, ℤ}
+use Rattle.std.proofs.Common.{◌≡◌, ℕ, zero, suc, ◌+◌, ◌<◌, ◌≤◌, List, Option, Some, None, IsSome, IsSomeAnd, Bool, true, false, ◌&&◌, ℤ, is_none}
 use Rattle.std.proofs.Common.{inl, inr, refl, sym, ap, ◌∙◌, subst, arith, set, nat_eq, eqb-true, eq-eqb, ne_eqb, get_or-set_same}
 use Rattle.std.proofs.lemmas.Bool.{cases_eq}
+use Rattle.std.proofs.lemmas.List.{set-set}
 use Rattle.work_item.specs.declared.ids.FrameId.{FrameId}
 use Rattle.work_item.specs.Conditions.{IsGoing}
 use Rattle.work_item.specs.Store.{Store, Frame, is_number, is_parent, some_over, frame_words, all_words, kept, released}
 use Rattle.work_item.specs.Table.{at, children_of, IsSettled, IsWhole}
-use Rattle.work_item.specs.inner.Kept.{parent_at, is_over, is_done, IsRooted}
+use Rattle.work_item.specs.inner.Kept.{parent_at, is_over, is_done, is_alone, IsRooted}
 use Rattle.work_item.proofs.Children.{within, some_of, other, one_if, children-set, words-set, words_gone, rooted_gone}
 use Rattle.work_item.proofs.Keeping.{all_kept, gone_kept}
 
@@ -161,6 +162,43 @@ ends_above globals before start t n w same u done up =
       whole = record { settled = settled; fits = omega (arith, w.fits, u.fewer, same, words_gone t n x.0 x.1.0) };
       is = sym (all_kept (set t n None) (rooted_gone t n x.0 u.rooted x.1.0 x.1.1.1) settled) ∙ sym (gone_kept t n x.0 x.1.0 x.1.1.0 x.1.1.1) ∙ u.same;
     }
+
+-- ---- a frame that goes alone
+
+alone_told : (t : List (Option Frame)) (n : ℕ) → IsSome (at t n) → is_alone t n ≡ true → (x : Frame) × ((at t n ≡ Some x) × ((x.parent ≡ None) × (children_of t n ≡ 0)))
+alone_told t n l h =
+    let x = some_of (at t n) l in
+    let told = both (is_none (parent_at (at t n))) (nat_eq (children_of t n) 0) h in
+    (x.0, (x.1, (no_parent x.0.parent (sym (ap (λ o. is_none (parent_at o)) x.1) ∙ told.0), eqb-true (children_of t n) 0 told.1)))
+  where
+    no_parent : (p : Option FrameId) → is_none p ≡ true → p ≡ None
+    no_parent None e = refl
+    no_parent (Some f) e = let no : false ≡ true = e in absurd (cc)
+
+pub childless : (t : List (Option Frame)) (n : ℕ) → IsSome (at t n) → is_alone t n ≡ true → children_of t n ≡ 0
+childless t n l h = (alone_told t n l h).1.1.1
+
+pub goes_alone : (globals : List ℤ) (t : List (Option Frame)) (n : ℕ) → IsWhole globals t → IsSome (at t n) → is_alone t n ≡ true → IsRooted (set t n None)
+    → Ends globals (set t n (some_over (at t n))) (set t n None)
+goes_alone globals t n w l h r = record {
+  whole = record { settled = settled; fits = (let x = alone_told t n l h in omega (arith, w.fits, words_gone t n x.0 x.1.0)) };
+  is = sym (all_kept (set t n None) r settled) ∙ ap (kept 0) (sym (set-set t n (some_over (at t n)) None)) ∙ sym gone;
+}
+  where
+    settled : IsSettled (set t n None)
+    settled m y e o =
+        let x = alone_told t n l h in
+        let was = stood t n m x.0 y x.1.0 e in
+        let had = w.settled m y was.0 o in
+        let not_its : one_if (is_number m x.0.parent) ≡ 0 = ap (λ q. one_if (is_number m q)) x.1.1.0 in
+        omega (arith, had, goes_with t n x.0 m x.1.0, not_its)
+
+    gone : kept 0 (set t n (some_over (at t n))) ≡ kept 0 (set (set t n (some_over (at t n))) n None)
+    gone =
+        let x = alone_told t n l h in
+        let lt = within t n x.0 x.1.0 in
+        let none : children_of (set t n (some_over (at t n))) n ≡ 0 = omega (arith, x.1.1.1, children-set t n (some_over (at t n)) n lt, same_parent n (at t n)) in
+        gone_kept (set t n (some_over (at t n))) n (record x.0 { over = true }) (get_or-set_same t n (some_over (at t n)) None lt ∙ ap some_over x.1.0) refl none
 
 pub same_at_start : (t start : List (Option Frame)) (n : ℕ) → IsSome (at t n) → start ≡ set t n (some_over (at t n)) → all_words start ≡ all_words t
 same_at_start t start n l is = ap all_words is ∙ ended_words t n l

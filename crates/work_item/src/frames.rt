@@ -77,6 +77,7 @@ impl Frames {
     ///
     /// Condition: the parent lives, where one is given, no more cells are given than the frame has,
     /// and the live words with those of the new frame, `words` and 4, are below 2^64.
+    #[inline(always)]
     pub fn make_of(
         &mut self,
         parent: Option<FrameId>,
@@ -214,7 +215,21 @@ impl Frames {
     /// frames than those.
     ///
     /// Condition: the frame lives, and this was not yet said of it.
+    #[inline(always)]
     pub fn give_back(&mut self, frame: FrameId)
+        requires { IsGoing self.old frame }
+        ensures { self.new ≡ released self.old frame }
+    {
+        if self.table.is_alone(frame) {
+            let _ = self.table.take_away(frame);
+        } else {
+            self.unwind(frame);
+        }
+    }
+
+    // The same where its parent may go after it, or where it has to wait for a child.
+    #[inline(never)]
+    fn unwind(&mut self, frame: FrameId)
         requires { IsGoing self.old frame }
         ensures { self.new ≡ released self.old frame }
     {

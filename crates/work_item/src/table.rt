@@ -4,7 +4,7 @@ ghost use Rattle.std.specs.Prelude.{◌≡◌, ℕ, ◌+◌, ◌-◌, ◌^◌, �
 ghost use Rattle.std.specs.Prelude.{nat_lt, slice_index_or, slice_set, IsSome, IfSome, IfOk, OnOk, OnErr, Some, None};
 ghost use Rattle.work_item.specs.Store.{all_words, no_cells, no_int, some_with, some_over, cleared, parent_or};
 ghost use Rattle.work_item.specs.Table.{at, children_of};
-ghost use Rattle.work_item.specs.inner.Kept.{parent_at, new_frame, is_done, LivesIn};
+ghost use Rattle.work_item.specs.inner.Kept.{parent_at, new_frame, is_done, is_alone, LivesIn};
 ghost use Rattle.work_item.specs.inner.Kept.{IsRooted, CanCountMore, CanCountLess, with_more, with_less};
 ghost use Rattle.work_item.specs.inner.Kept.{live_at, in_place, place_at, places_of};
 
@@ -133,26 +133,19 @@ fn live_of<'a>(places: &Vec<u32>, slots: &'a Vec<Option<Live>>, frame: FrameId) 
     }
 }
 
-// A cell of a new frame that begins with these.
-fn first_or_zero(first: &[Cell], index: usize) -> Cell
-    ensures { result ≡ slice_index_or first.now index no_int }
-{
-    if index < first.len() {
-        first[index]
-    } else {
-        Cell::Int(0)
-    }
-}
-
 // So many cells that begin with these, and are 0 from there on.
+#[inline(always)]
 fn fill(cells: &mut Vec<Cell>, first: &[Cell], words: usize) -> Result<(), NoMemory>
     requires { length first.now ≤ words }
     ensures { OnOk result (cells.new.items ≡ first.now ++ replicate (words - length first.now) no_int) }
 {
     cells.clear();
     cells.reserve(words)?;
-    for index in 0..words {
-        cells.push_reserved(first_or_zero(first, index));
+    for cell in first {
+        cells.push_reserved(*cell);
+    }
+    for _ in first.len()..words {
+        cells.push_reserved(Cell::Int(0));
     }
     Ok(())
 }
@@ -195,6 +188,7 @@ impl Table {
     }
 
     /// So many cells for a new frame, which begin with these and are 0 from there on.
+    #[inline(always)]
     pub fn cells(
         &mut self,
         alloc: Global,
@@ -214,6 +208,7 @@ impl Table {
     }
 
     /// A new frame under the next number.
+    #[inline(always)]
     pub fn push(&mut self, parent: Option<FrameId>, cells: Vec<Cell>) -> Result<FrameId, NoMemory>
         requires parent { LivesIn self.old parent }
         requires words { all_words self.old + (length cells.items + 4) < 2 ^ 64 }
@@ -229,13 +224,14 @@ impl Table {
         }
         let outer = place_or_none(&self.places, parent);
         self.places.reserve(1)?;
-        self.slots.push(Some(Live {
+        self.slots.reserve(1)?;
+        self.places.push_reserved(place as u32);
+        self.slots.push_reserved(Some(Live {
             parent,
             cells,
             over: false,
             children: 0,
-        }))?;
-        self.places.push_reserved(place as u32);
+        }));
         self.words += words;
         count_in(&mut self.slots, outer);
         Ok(FrameId { number })
@@ -326,12 +322,24 @@ impl Table {
         live.over && live.children == 0
     }
 
+    /// Whether a frame lies in none, and no frame that lives lies in it.
+    #[inline(always)]
+    pub fn is_alone(&self, frame: FrameId) -> bool
+        requires { IsSome (at self.now frame.number) }
+        ensures { result ≡ is_alone self.now frame.number }
+    {
+        let live = live_of(&self.places, &self.slots, frame);
+        live.parent.is_none() && live.children == 0
+    }
+
     /// Takes a frame away in which none lives, and gives its parent.
+    #[inline(always)]
     pub fn take_away(&mut self, frame: FrameId) -> Option<FrameId>
         requires lives { IsSome (at self.old frame.number) }
         requires childless { children_of self.old frame.number ≡ 0 }
         ensures parent { result ≡ parent_at (at self.old frame.number) }
         ensures gone { self.new ≡ slice_set self.old frame.number None }
+        ensures rooted { IsRooted self.new }
     {
         let place = place_of(&self.places, frame);
         self.places[frame.number as usize] = NO_PLACE;

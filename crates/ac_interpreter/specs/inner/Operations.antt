@@ -1,9 +1,23 @@
--- What the interpreter keeps of operations.
+-- What the interpreter keeps of operations, and which of them it looks for.
+use Rattle.std.specs.Prelude.{◌≡◌, ℕ, List, Bool, Some, find, position}
 use Rattle.cancel_scope.specs.declared.operation.Asked as a
 use Rattle.cancel_scope.specs.declared.operation.Asked.TheVariants as s
+use Rattle.cancel_scope.specs.declared.operation.Operation.{Operation}
+use Rattle.cancel_scope.specs.Outstanding.{is_to_offer, is_offered, is_to_receive}
 use Rattle.ac_interpreter.specs.declared.operation.Asked.{Asked}
 use Rattle.ac_interpreter.specs.declared.operation.Asked.TheVariants as k
+use Rattle.ac_interpreter.specs.declared.operation.Sought.{Sought}
+use Rattle.ac_interpreter.specs.declared.operation.Sought.TheVariants as l
 
 abbrev pub asked_of : Asked → a.Asked
 asked_of (k.Send value) = s.Send value
 asked_of (k.Recv place) = s.Recv place
+
+abbrev pub is_sought : Sought → Operation → Bool
+is_sought (l.ToOffer link) = is_to_offer link
+is_sought (l.Offered link number) = is_offered link number
+is_sought (l.ToReceive link) = is_to_receive link
+
+-- the oldest for which the test holds stands at this place
+abbrev pub IsOldest : (Operation → Bool) → List Operation → ℕ → Operation → Type 0
+IsOldest test os place o = (position test os ≡ Some place) × (find test os ≡ Some o)

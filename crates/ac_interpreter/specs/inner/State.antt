@@ -1,5 +1,5 @@
 -- What a core holds beside its threads, by the interpreter's fields.
-use Rattle.std.specs.Prelude.{[], length}
+use Rattle.std.specs.Prelude.{[]}
 use Rattle.core_state.specs.Shared.{Shared}
 use Rattle.ac_semantics.specs.Held as s
 use Rattle.ac_interpreter.specs.declared.held.Held.{Held}
@@ -8,4 +8,4 @@ abbrev pub shared_of : Held → Shared
 shared_of h = record { steps = h.steps; turn = h.turn; output = h.output.items; past = []; todo = [] }
 
 abbrev pub held_of : Held → s.Held
-held_of h = record { shared = shared_of h; store = h.memory; blocks = length h.blocks.items; operations = h.operations.items }
+held_of h = record { shared = shared_of h; store = h.memory; marks = h.marks.items; operations = h.operations.items }

@@ -17,18 +17,18 @@ pub record IsSameCode (before after : Running) : Type 0 where
   pub core : after.core ≡ before.core
   pub bound : after.bound ≡ before.bound
 
--- these stay and the journal, and so does whether a value is still to be put onto operands
+-- these stay, and the journal
 pub record Keeps (before after : Running) : Type 0 where
   pub code : after.code.now ≡ before.code.now
   pub core : after.core ≡ before.core
   pub bound : after.bound ≡ before.bound
   pub journal : after.journal.entries ≡ before.journal.entries
-  pub pending : after.threads.pending ≡ before.threads.pending
 
--- whether the core has ended, and which threads run and are ready, stays
+-- whether the core has ended, which threads run and are ready, and whether a value is still to be put onto operands, stays
 pub record Continues (before after : Running) : Type 0 where
   pub ended : after.ended ≡ before.ended
   pub schedule : after.schedule ≡ before.schedule
+  pub pending : after.threads.pending ≡ before.threads.pending
 
 -- the thread that runs
 abbrev pub item_of : Option Item → Item

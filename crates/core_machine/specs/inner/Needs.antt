@@ -151,6 +151,7 @@ Finds code m (i.Finish slot) = CanFinish m
 Finds code m (i.Async slots to) = CanStart m
 Finds code m i.End = CanEnd m
 Finds code m i.Yield = IsListed m
+Finds code m (i.Cancel level slot) = HasCell m level slot
 Finds code m (i.Send channel) = HasInt m × IsListed m
 Finds code m (i.Recv channel) = HasReference m × IsListed m
 Finds code m _ = ⊥

@@ -1,6 +1,6 @@
 -- The frames as they are kept, with their words and counts of children.
 use Rattle.std.specs.Prelude.{◌≡◌, ℕ, ◌+◌, ◌-◌, ◌<◌, ◌^◌, List, Option, Some, None, IsSome, IsSomeAnd}
-use Rattle.std.specs.Prelude.{IfSome, Bool, false, ◌&&◌, nat_eq, nat_lt, if◌then◌else◌, map, slice_index_or, slice_set}
+use Rattle.std.specs.Prelude.{IfSome, is_none, Bool, false, ◌&&◌, nat_eq, nat_lt, if◌then◌else◌, map, slice_index_or, slice_set}
 use Rattle.work_item.specs.Store.{Frame, all_words}
 use Rattle.work_item.specs.declared.ids.FrameId.{FrameId}
 use Rattle.work_item.specs.declared.cell.Cell.{Cell}
@@ -22,6 +22,10 @@ new_frame parent cells = record { parent = parent; cells = cells; over = false }
 -- its end has come, and no frame that lives lies in it
 abbrev pub is_done : List (Option Frame) → ℕ → Bool
 is_done frames number = is_over (at frames number) && nat_eq (children_of frames number) 0
+
+-- it lies in no frame, and no frame that lives lies in it
+abbrev pub is_alone : List (Option Frame) → ℕ → Bool
+is_alone frames number = is_none (parent_at (at frames number)) && nat_eq (children_of frames number) 0
 
 abbrev pub LivesIn : List (Option Frame) → Option FrameId → Type 0
 LivesIn frames parent = IfSome parent (λ f. IsSome (at frames f.number))

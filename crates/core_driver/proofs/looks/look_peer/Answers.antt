@@ -3,8 +3,8 @@ use Rattle.std.proofs.lemmas.Int.{to_z-of_z}
 use Rattle.ac_base.specs.declared.entry.Event.TheVariants as event
 use Rattle.core_machine.specs.Points.{HasCome, is_at_point}
 use Rattle.core_ports.specs.AtHand.{AtHand}
-use Rattle.core_driver.proofs.Together.{entered_looks, nothing_looks, peer_frees_nothing, peer_knows_nothing, roomed_looks, told_moves, up_to}
-use Rattle.core_driver.proofs.Looking.{counts_here, full_there, no_requests, peer_holds, peer_is_channel, peer_looked, poll_called, still_going}
+use Rattle.core_driver.proofs.Together.{entered_looks, nothing_looks, peer_frees_nothing, peer_knows_nothing, roomed_looks, still_going, told_moves, up_to}
+use Rattle.core_driver.proofs.Looking.{counts_here, full_there, no_requests, peer_holds, peer_is_channel, peer_looked, poll_called}
 use Rattle.core_driver.specs.inner.Outside.{outside}
 use Rattle.core_driver.proofs.looks.look_peer.Goals as goal
 

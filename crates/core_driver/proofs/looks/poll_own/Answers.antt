@@ -2,7 +2,7 @@ use Rattle.std.proofs.Common.{ℕ, Some, None, ap, ◌∙◌}
 use Rattle.ac_base.specs.declared.entry.Event.TheVariants as event
 use Rattle.core_machine.specs.Points.{is_at_point}
 use Rattle.core_ports.specs.AtHand.{AtHand}
-use Rattle.core_driver.proofs.Together.{entered_looks, known_after, knows_after, no_room_after, nothing_looks, roomed_looks, told_moves, up_to}
+use Rattle.core_driver.proofs.Together.{entered_looks, freed_after, frees_after, known_after, knows_after, nothing_looks, roomed_looks, told_moves, up_to}
 use Rattle.core_driver.proofs.Looking.{counts_here, full_there, owner_holds, poll_called}
 use Rattle.core_driver.specs.inner.Outside.{outside}
 use Rattle.core_driver.proofs.looks.poll_own.Goals as goal
@@ -19,6 +19,13 @@ know-requires-clause-point g c = ap is_at_point c.make_room.ensures.state ∙ c.
 pub know-requires-clause-some : goal.know-requires-clause-some
 know-requires-clause-some g c = knows_after c.args.machine.now c.make_room.new.self _ c.requires.in_step c.requires.point c.make_room.ensures.same c.make_room.ensures.state
     c.make_room.ensures.run c.make_room.ensures.tracks c.args.link c.in-Know.number (c.requires.in_step.ports.owner c.args.link c.requires.side) c.in-Know.ensures.tells.fits
+
+pub roomed-requires-clause-point : goal.roomed-requires-clause-point
+roomed-requires-clause-point g c = ap is_at_point c.make_room.ensures.state ∙ c.requires.point
+
+pub roomed-requires-clause-keeps : goal.roomed-requires-clause-keeps
+roomed-requires-clause-keeps g c = frees_after c.args.machine.now c.make_room.new.self _ c.requires.in_step c.requires.point c.make_room.ensures.same c.make_room.ensures.state
+    c.make_room.ensures.run c.make_room.ensures.tracks c.args.link c.in-Room.number (c.requires.in_step.ports.owner c.args.link c.requires.side) c.in-Room.ensures.tells.fits
 
 pub returns-in_err-make_room-clause-looks : goal.returns-in_err-make_room-clause-looks
 returns-in_err-make_room-clause-looks g c = roomed_looks c.args.machine.now c.make_room.new.self _ c.requires.in_step c.requires.point c.make_room.ensures.same c.make_room.ensures.state
@@ -54,6 +61,33 @@ returns-in-Know-clause-decision g c = λ e same. absurd (told_moves (outside (g.
     c.in-Know.ensures.hand
     c.in-Know.ensures.terms c.in-Know.ensures.polls c.in-Know.ensures.tries) same)
 
+pub returns-in-Room-clause-looks : goal.returns-in-Room-clause-looks
+returns-in-Room-clause-looks g c = entered_looks c.args.machine.now c.make_room.new.self _ c.requires.in_step c.requires.point c.make_room.ensures.same c.make_room.ensures.state
+    c.make_room.ensures.run _ (record { event = event.Room c.args.link c.in-Room.number; stamp = c.in-Room.stamp })
+    (poll_called (outside (g.P.Ports.terms c.args.ports.now) (g.P.Ports.ends c.args.ports.now) (g.P.Ports.at_hand c.args.ports.now) (g.P.Ports.heard c.args.ports.now)
+    (g.P.Ports.polls c.args.ports.now) (g.P.Ports.tries c.args.ports.now) c.args.clock.now)
+    (outside (g.P.Ports.terms c.poll.new.self) (g.P.Ports.ends c.poll.new.self) (g.P.Ports.at_hand c.poll.new.self) (g.P.Ports.heard c.poll.new.self) (g.P.Ports.polls c.poll.new.self)
+    (g.P.Ports.tries c.poll.new.self) c.poll.new.clock) (Some (record { event = event.Room c.args.link c.in-Room.number; stamp = c.in-Room.stamp })) c.args.link c.in-Room.ensures.tells
+    c.in-Room.ensures.hand
+    c.in-Room.ensures.terms c.in-Room.ensures.polls c.in-Room.ensures.tries) c.roomed.new.self c.roomed.ensures.come c.roomed.ensures.less c.roomed.ensures.run
+    (freed_after c.args.machine.now c.make_room.new.self _ c.requires.in_step c.requires.point c.make_room.ensures.same c.make_room.ensures.state
+    c.make_room.ensures.run c.make_room.ensures.tracks c.args.link c.in-Room.number (c.requires.in_step.ports.owner c.args.link c.requires.side) c.in-Room.ensures.tells.fits)
+
+pub returns-in-Room-clause-polled : goal.returns-in-Room-clause-polled
+returns-in-Room-clause-polled g c = counts_here (g.P.Ports.polls c.args.ports.now) (g.P.Ports.polls c.poll.new.self) c.args.link c.in-Room.ensures.polls
+
+pub returns-in-Room-clause-decision : goal.returns-in-Room-clause-decision
+returns-in-Room-clause-decision g c = λ e same. absurd (told_moves (outside (g.P.Ports.terms c.args.ports.now) (g.P.Ports.ends c.args.ports.now) (g.P.Ports.at_hand c.args.ports.now)
+    (g.P.Ports.heard c.args.ports.now) (g.P.Ports.polls c.args.ports.now) (g.P.Ports.tries c.args.ports.now) c.args.clock.now)
+    (outside (g.P.Ports.terms c.poll.new.self) (g.P.Ports.ends c.poll.new.self) (g.P.Ports.at_hand c.poll.new.self) (g.P.Ports.heard c.poll.new.self) (g.P.Ports.polls c.poll.new.self)
+    (g.P.Ports.tries c.poll.new.self) c.poll.new.clock) (record { event = event.Room c.args.link c.in-Room.number; stamp = c.in-Room.stamp })
+    (poll_called (outside (g.P.Ports.terms c.args.ports.now) (g.P.Ports.ends c.args.ports.now) (g.P.Ports.at_hand c.args.ports.now) (g.P.Ports.heard c.args.ports.now)
+    (g.P.Ports.polls c.args.ports.now) (g.P.Ports.tries c.args.ports.now) c.args.clock.now)
+    (outside (g.P.Ports.terms c.poll.new.self) (g.P.Ports.ends c.poll.new.self) (g.P.Ports.at_hand c.poll.new.self) (g.P.Ports.heard c.poll.new.self) (g.P.Ports.polls c.poll.new.self)
+    (g.P.Ports.tries c.poll.new.self) c.poll.new.clock) (Some (record { event = event.Room c.args.link c.in-Room.number; stamp = c.in-Room.stamp })) c.args.link c.in-Room.ensures.tells
+    c.in-Room.ensures.hand
+    c.in-Room.ensures.terms c.in-Room.ensures.polls c.in-Room.ensures.tries) same)
+
 pub returns-in-Nothing-clause-looks : goal.returns-in-Nothing-clause-looks
 returns-in-Nothing-clause-looks g c = nothing_looks c.args.machine.now c.make_room.new.self _ c.requires.in_step c.requires.point c.make_room.ensures.same c.make_room.ensures.state
     c.make_room.ensures.run _ (poll_called (outside (g.P.Ports.terms c.args.ports.now) (g.P.Ports.ends c.args.ports.now) (g.P.Ports.at_hand c.args.ports.now) (g.P.Ports.heard c.args.ports.now)
@@ -84,7 +118,3 @@ returns-in-ClockFull-clause-heard g c = λ e. full_there (outside (g.P.Ports.ter
 
 pub returns-in-ClockFull-clause-polled : goal.returns-in-ClockFull-clause-polled
 returns-in-ClockFull-clause-polled g c = counts_here (g.P.Ports.polls c.args.ports.now) (g.P.Ports.polls c.poll.new.self) c.args.link c.in-ClockFull.ensures.polls
-
-pub unreachable-requires : goal.unreachable-requires
-unreachable-requires g c = no_room_after c.args.machine.now c.make_room.new.self _ c.requires.in_step c.requires.point c.make_room.ensures.same c.make_room.ensures.state
-    c.make_room.ensures.run c.make_room.ensures.tracks c.args.link c.in-Room.number (c.requires.in_step.ports.owner c.args.link c.requires.side) c.in-Room.ensures.tells.fits

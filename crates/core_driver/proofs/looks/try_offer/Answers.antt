@@ -7,8 +7,8 @@ use Rattle.ac_base.specs.declared.entry.Payload.TheVariants as payload
 use Rattle.core_machine.specs.Points.{is_at_point, operations_of, to_send}
 use Rattle.core_ports.specs.AtHand.{AtHand}
 use Rattle.core_ports.specs.Ends.{has_room}
-use Rattle.core_driver.proofs.Together.{entered_looks, looks_still, next_after, nothing_looks, roomed_looks, told_moves, up_to}
-use Rattle.core_driver.proofs.Looking.{carries_ints, counts_here, full_of_offers, no_requests, offer_called, or_none, still_going}
+use Rattle.core_driver.proofs.Together.{entered_looks, looks_still, next_after, nothing_looks, roomed_looks, still_going, told_moves, up_to}
+use Rattle.core_driver.proofs.Looking.{carries_ints, counts_here, full_of_offers, no_requests, offer_called, or_none}
 use Rattle.core_driver.specs.inner.Outside.{outside}
 use Rattle.core_driver.proofs.looks.try_offer.Goals as goal
 

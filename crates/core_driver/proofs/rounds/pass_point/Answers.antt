@@ -1,6 +1,7 @@
 use Rattle.std.proofs.Common.{◌≡◌, refl, sym, ◌∙◌}
-use Rattle.core_driver.proofs.Together.{holds_then, turn_holds}
-use Rattle.core_driver.proofs.Looking.{full_never, or_none, still_going}
+use Rattle.core_driver.proofs.Together.{holds_then, still_going, turn_holds}
+use Rattle.core_driver.proofs.Deciding.{asks_nothing}
+use Rattle.core_driver.proofs.Looking.{full_never, or_none}
 use Rattle.core_driver.proofs.Resting.{less_by_entry, less_by_move}
 use Rattle.std.proofs.lemmas.Result.{err_from_is_err_and}
 use Rattle.core_driver.proofs.rounds.pass_point.Goals as goal
@@ -49,6 +50,9 @@ turn-requires-clause-going g c = still_going _ c.look_round.ensures.looks.point
 
 pub turn-requires-clause-busy : goal.turn-requires-clause-busy
 turn-requires-clause-busy g c = sym c.idle.ensures ∙ c.if-idle.false
+
+pub turn-requires-clause-decided : goal.turn-requires-clause-decided
+turn-requires-clause-decided g c = asks_nothing c.look_round.new.machine.code c.look_round.new.machine.state c.look_round.ensures.looks.point
 
 pub turn-requires-clause-ranked : goal.turn-requires-clause-ranked
 turn-requires-clause-ranked g c = rw c.look_round.ensures.looks.holds.machine.code c.requires.ranked

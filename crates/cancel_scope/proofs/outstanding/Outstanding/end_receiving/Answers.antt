@@ -1,31 +1,25 @@
-use Rattle.std.proofs.Common.{sym, ap, ◌∙◌}
-use Rattle.std.specs.Prelude.{find}
-use Rattle.cancel_scope.specs.Roomy.{Roomy}
-use Rattle.cancel_scope.specs.Outstanding.{is_to_receive, without_first}
-use Rattle.cancel_scope.proofs.Finding.{none_found, none_without, found_at, without_at}
+use Rattle.std.proofs.Common.{sym, ◌∙◌}
+use Rattle.cancel_scope.specs.Outstanding.{is_to_receive}
+use Rattle.cancel_scope.proofs.Finding.{none_found, none_without, is_first}
 use Rattle.cancel_scope.proofs.outstanding.Outstanding.end_receiving.Goals as goal
 
-pub returns-in-None-clause-result : goal.returns-in-None-clause-result
-returns-in-None-clause-result c =
-    let test = is_to_receive c.args.link in
-    sym (none_found test c.self.inside.operations.items c.as_slice.result.now c.in-None.ensures c.as_slice.ensures.value) ∙ ap (λ (r : Roomy). find test r.operations) c.self.view_is
+pub returns-in_err-place-clause-result : goal.returns-in_err-place-clause-result
+returns-in_err-place-clause-result c =
+    c.from_residual.ensures ∙ sym (none_found _ c.args.self.now.operations c.in_err-place.ensures)
 
-pub returns-in-None-clause-operations : goal.returns-in-None-clause-operations
-returns-in-None-clause-operations c =
-    let test = is_to_receive c.args.link in
-    let xs = c.self.inside.operations.items in
-    let was = ap (λ (r : Roomy). r.operations) c.self.view_is in
-    sym was ∙ sym (none_without test xs (none_found test xs c.as_slice.result.now c.in-None.ensures c.as_slice.ensures.value)) ∙ ap (without_first test) was
+pub returns-in_err-place-clause-operations : goal.returns-in_err-place-clause-operations
+returns-in_err-place-clause-operations c =
+    let ops = c.args.self.now.operations in
+    sym (none_without _ ops (none_found _ ops c.in_err-place.ensures))
 
-pub returns-in-Some-clause-result : goal.returns-in-Some-clause-result
-returns-in-Some-clause-result c =
+pub returns-clause-result : goal.returns-clause-result
+returns-clause-result c =
     let test = is_to_receive c.args.link in
-    sym (found_at test c.self.inside.operations.items c.as_slice.result.now c.in-Some.place c.remove.result c.in-Some.ensures c.as_slice.ensures.value c.remove.ensures.value)
-    ∙ ap (λ (r : Roomy). find test r.operations) c.self.view_is
+    let first = is_first test c.args.self.now.operations c.in_ok-place.place (sym c.in_ok-place.was ∙ c.first_to_receive.ensures) in
+    sym (first.found ∙ c.end_at.ensures.result)
 
-pub returns-in-Some-clause-operations : goal.returns-in-Some-clause-operations
-returns-in-Some-clause-operations c =
+pub returns-clause-operations : goal.returns-clause-operations
+returns-clause-operations c =
     let test = is_to_receive c.args.link in
-    c.remove.ensures.items
-    ∙ sym (without_at test c.self.inside.operations.items c.as_slice.result.now c.in-Some.place c.remove.result c.in-Some.ensures c.as_slice.ensures.value)
-    ∙ ap (λ (r : Roomy). without_first test r.operations) c.self.view_is
+    let first = is_first test c.args.self.now.operations c.in_ok-place.place (sym c.in_ok-place.was ∙ c.first_to_receive.ensures) in
+    c.end_at.ensures.operations ∙ sym first.without

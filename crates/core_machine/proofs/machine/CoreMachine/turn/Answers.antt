@@ -1,4 +1,4 @@
-use Rattle.core_machine.proofs.Points.{busy_by, goes_by, going_on, not_resting, turn_goes, turn_less, turn_ranked, turn_same}
+use Rattle.core_machine.proofs.Points.{asks_none, busy_by, goes_by, going_on, not_resting, turn_goes, turn_less, turn_ranked, turn_same}
 use Rattle.core_machine.proofs.machine.CoreMachine.turn.Goals as goal
 
 pub turn-requires-clause-running : goal.turn-requires-clause-running
@@ -8,6 +8,9 @@ pub turn-requires-clause-active : goal.turn-requires-clause-active
 turn-requires-clause-active c =
     not_resting c.self.inside.running (goes_by c.self.inside.running c.args.self.now c.self.view_is c.requires.going)
     (busy_by c.self.inside.running c.args.self.now c.self.view_is c.requires.busy)
+
+pub turn-requires-clause-asks : goal.turn-requires-clause-asks
+turn-requires-clause-asks c = asks_none c.self.inside.running c.args.self.now c.self.view_is c.requires.decided
 
 pub turn-requires-clause-ranked : goal.turn-requires-clause-ranked
 turn-requires-clause-ranked c = turn_ranked c.self.inside.running c.args.self.now c.self.view_is c.args._ranks.now c.requires.ranked

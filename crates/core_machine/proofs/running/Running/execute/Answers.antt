@@ -4,4 +4,4 @@ use Rattle.core_machine.proofs.Applied.{finds_ints}
 use Rattle.core_machine.proofs.running.Running.execute.Goals as goal
 
 pub apply_binary-requires-clause-ints : goal.apply_binary-requires-clause-ints
-apply_binary-requires-clause-ints c = finds_ints c.args.self.now.code.now (flat_of c.args.self.now) c.args.instr (search rules) c.requires.finds
+apply_binary-requires-clause-ints c = finds_ints c.args.self.now.code.now (flat_of c.args.self.now) c.args.instr.now (search rules) c.requires.finds

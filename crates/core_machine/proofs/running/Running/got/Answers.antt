@@ -5,6 +5,7 @@ use Rattle.work_item.specs.Store.{with_int_at}
 use Rattle.core_machine.specs.inner.Changes.{entry_now}
 use Rattle.core_machine.proofs.Entered.{got_enters}
 use Rattle.core_machine.proofs.Received.{home_there, one_there, sends_nothing}
+use Rattle.core_machine.proofs.Sound.{code_of}
 use Rattle.core_machine.proofs.running.Running.got.Goals as goal
 
 pub unreachable-requires-in_default-asked : goal.unreachable-requires-in_default-asked
@@ -26,5 +27,5 @@ returns c =
     record {
       enters = got_enters m c.note.new.self c.resume.new.self c.end_receiving.new.self c.write_at.new.self c.note.new.self.journal c.args.link c.args.number c.args.stamp c.args.value
           c.in-Some.operation c.in-Recv.place (sym c.in-Some.ensures.result) c.in-Recv.is c.note.ensures.same c.in-Some.ensures.operations written noted
-          c.resume.ensures.flat c.resume.ensures.ended c.resume.ensures.keeps;
+          c.resume.ensures.flat c.resume.ensures.ended (code_of c.note.new.self c.resume.new.self c.resume.ensures.keeps);
     }

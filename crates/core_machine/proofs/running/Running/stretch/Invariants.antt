@@ -1,7 +1,8 @@
-use Rattle.std.proofs.Common.{◌≡◌, ◌≤◌, None, IsSome}
+use Rattle.std.proofs.Common.{◌≡◌, ◌≤◌, ◌<◌, None, IsSome, false}
 use Rattle.core_state.specs.Moves.{GoesOn}
 use Rattle.code_meaning.specs.Machine.{exec}
 use Rattle.core_machine.specs.State.{state_of, IsSound}
+use Rattle.core_machine.specs.Tried.{tried_of}
 use Rattle.core_machine.specs.inner.Left.{left_of}
 use Rattle.core_machine.specs.inner.Changes.{Keeps}
 use Rattle.core_machine.proofs.running.Running.stretch.Given as goal
@@ -13,7 +14,9 @@ invariant-steps l = record {
   sound : IsSound l.self;
   running : l.self.ended ≡ None;
   runs : IsSome l.self.schedule.running;
+  settled : l.self.threads.pending ≡ false;
   less : left_of l.fn._ranks l.self ≤ left_of l.fn._ranks l.fn.self;
+  asks : IsSome (tried_of l.self.code.now (state_of l.self)) → left_of l.fn._ranks l.self < left_of l.fn._ranks l.fn.self;
 }
 
 abbrev pub decreases-steps : goal.decreases-steps

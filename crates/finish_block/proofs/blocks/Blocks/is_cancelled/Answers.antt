@@ -1,25 +1,18 @@
-use Rattle.std.proofs.Common.{refl}
-use Rattle.finish_block.proofs.Walk.{cancelled_here, cancelled_above, above_cancelled, none_above}
+use Rattle.std.proofs.Common.{length, sym, ◌∙◌, arith}
+use Rattle.finish_block.proofs.Walk.{none_left, all_seen, found, goes_on, cancelled_means}
 use Rattle.finish_block.proofs.blocks.Blocks.is_cancelled.Goals as goal
 
-pub returns-then-here : goal.returns-then-here
-returns-then-here c =
-    let here = cancelled_here _ c.up.current _ c.kept-here.ensures.block c.if-here.true in
-    (λ _. c.up.invariant.1.1 here, λ _. refl)
+pub returns-in_default-clause-means : goal.returns-in_default-clause-means
+returns-in_default-clause-means c = cancelled_means _ c.len-end.ensures.rooted c.args.block _ (none_left _ _ _ _ _ _ c.up.invariant c.in_default.is)
 
-pub returns-in-None : goal.returns-in-None
-returns-in-None c =
-    (λ false_is_true. absurd (cc), λ h. absurd (none_above _ c.up.current _ c.kept-here.ensures.block c.if-here.false c.in-None.is (c.up.invariant.1.0 h)))
-
-pub up-smaller : goal.up-smaller
-up-smaller c = (c.kept-here.ensures.rooted _ _ _ c.kept-here.ensures.block c.in-Some.is).0
+pub returns-then-is_marked-clause-means : goal.returns-then-is_marked-clause-means
+returns-then-is_marked-clause-means c =
+    cancelled_means _ c.len-end.ensures.rooted c.args.block _
+    (found _ _ _ _ _ _ c.up.invariant c.in-Some.here (omega arith) c.in-Some.is (sym c.is_marked.ensures ∙ c.if-is_marked.true))
 
 pub up-preserved : goal.up-preserved
 up-preserved c =
-    let at_parent = c.in-Some.parent in (
-      (c.kept-here.ensures.rooted _ _ _ c.kept-here.ensures.block c.in-Some.is).1,
-      (
-        λ h. above_cancelled _ c.up.current _ c.kept-here.ensures.block at_parent c.if-here.false c.in-Some.is (c.up.invariant.1.0 h),
-        λ h. c.up.invariant.1.1 (cancelled_above _ c.up.current _ c.kept-here.ensures.block at_parent c.in-Some.is h),
-      ),
-    )
+    goes_on _ _ _ _ _ _ c.up.invariant c.in-Some.here (omega arith) c.in-Some.is (sym c.is_marked.ensures ∙ c.if-is_marked.false) _ c.parent_of-current.ensures
+
+pub returns-clause-means : goal.returns-clause-means
+returns-clause-means c = cancelled_means _ c.len-end.ensures.rooted c.args.block _ (all_seen _ _ (length c.args.self.now.blocks) c.up.counter _ _ c.up.invariant (omega arith))

@@ -1,11 +1,6 @@
-use Rattle.finish_block.specs.Conditions.{Lives}
-use Rattle.finish_block.specs.Ancestors.{IsCancelled}
-use Rattle.std.proofs.Common.{◌↔◌}
+use Rattle.std.proofs.Common.{◌≡◌, ◌-◌, length}
+use Rattle.finish_block.specs.Ancestors.{few_round, round, any_marked}
 use Rattle.finish_block.proofs.blocks.Blocks.is_cancelled.Given as goal
 
--- the block is cancelled exactly where the current one is, so all between are without a mark
 abbrev pub invariant-up : goal.invariant-up
-invariant-up l = Lives l.self.blocks l.current × (IsCancelled l.self.blocks l.fn.block ↔ IsCancelled l.self.blocks l.current)
-
-abbrev pub decreases-up : goal.decreases-up
-decreases-up l = l.current.number
+invariant-up l = any_marked l.self.blocks (few_round (length l.self.blocks - l.counter) l.self.blocks l.current) ≡ any_marked l.self.blocks (round l.self.blocks l.fn.block)

@@ -16,7 +16,7 @@ count_in-requires c =
     let few : length (places_of c.self.inside.places.items) + 1 < 2 ^ 64 = omega (arith, c.self.inside.places.small, c.self.inside.places.ok, length-map c.self.inside.places.items given_place) in
     added_can _ _ c.self.inside.words new _ _ _ (adds _ _ _ _ new _ _ _ _ c.self.invariant alive refl (ap places_of c.reserve.ensures.items)
     (one_more_place _ _ _ (omega (arith, c.if-place.false)) c.push_reserved.ensures.items)
-    (c.len-place.ensures ∙ c.self.inside.slots.ok.0) c.in_ok-push.ensures.items c.place_or_none-outer.ensures) few
+    (c.len-place.ensures ∙ c.self.inside.slots.ok.0) (c.push_reserved-2.ensures.items ∙ ap (λ ls. ls ++ Some new ∷ []) c.reserve-2.ensures.items) c.place_or_none-outer.ensures) few
 
 pub invariant_of-self-2 : goal.invariant_of-self-2
 invariant_of-self-2 c =
@@ -24,7 +24,8 @@ invariant_of-self-2 c =
     let alive = subst (λ t. LivesIn t c.args.parent) (sym c.self.view_is) c.requires.parent in
     added_kept _ _ c.self.inside.words _ new _ _ _ _ (adds _ _ _ _ new _ _ _ _ c.self.invariant alive refl (ap places_of c.reserve.ensures.items)
     (one_more_place _ _ _ (omega (arith, c.if-place.false)) c.push_reserved.ensures.items)
-    (c.len-place.ensures ∙ c.self.inside.slots.ok.0) c.in_ok-push.ensures.items c.place_or_none-outer.ensures) c.count_in.ensures (ap (λ k. k + 4) (c.len.ensures ∙ c.args.cells.ok.0))
+    (c.len-place.ensures ∙ c.self.inside.slots.ok.0) (c.push_reserved-2.ensures.items ∙ ap
+    (λ ls. ls ++ Some new ∷ []) c.reserve-2.ensures.items) c.place_or_none-outer.ensures) c.count_in.ensures (ap (λ k. k + 4) (c.len.ensures ∙ c.args.cells.ok.0))
 
 pub returns-clause-ok : goal.returns-clause-ok
 returns-clause-ok c =
@@ -32,5 +33,5 @@ returns-clause-ok c =
     let alive = subst (λ t. LivesIn t c.args.parent) (sym c.self.view_is) c.requires.parent in
     added_seen _ _ c.self.inside.words new _ _ _ _ (adds _ _ _ _ new _ _ _ _ c.self.invariant alive refl (ap places_of c.reserve.ensures.items)
     (one_more_place _ _ _ (omega (arith, c.if-place.false)) c.push_reserved.ensures.items)
-    (c.len-place.ensures ∙ c.self.inside.slots.ok.0) c.in_ok-push.ensures.items c.place_or_none-outer.ensures) c.count_in.ensures
+    (c.len-place.ensures ∙ c.self.inside.slots.ok.0) (c.push_reserved-2.ensures.items ∙ ap (λ ls. ls ++ Some new ∷ []) c.reserve-2.ensures.items) c.place_or_none-outer.ensures) c.count_in.ensures
     ∙ ap (λ t. t ++ frame_of (Some new) ∷ []) c.self.view_is

@@ -62,3 +62,12 @@ returns-clause-parent c =
     let n = c.args.frame.number in
     let e = stands _ _ n _ _ _ c.self.invariant.placed c.place_of-place.ensures c.index_mut-2.ensures.value (sym c.take.ensures.value ∙ c.in-Some.is) in
     ap parent_at (sym (frame_there _ _ _ n c.in-Some.live c.self.view_is (ap (in_place c.self.inside.slots.items) c.place_of-place.ensures ∙ e)))
+
+pub returns-clause-rooted : goal.returns-clause-rooted
+returns-clause-rooted c =
+    let n = c.args.frame.number in
+    let e = stands _ _ n _ _ _ c.self.invariant.placed c.place_of-place.ensures c.index_mut-2.ensures.value (sym c.take.ensures.value ∙ c.in-Some.is) in
+    let alone = subst (λ t. children_of t n ≡ 0) (sym c.self.view_is) c.requires.childless in
+    (taken_kept _ _ c.self.inside.words n _ _ c.in-Some.live _ _ _ _ (takes _ _ _ n _ c.in-Some.live _ _ _ c.self.invariant c.place_of-place.ensures e c.take.ensures.after
+    (emptied c.self.inside.places.items n) c.place_or_none-outer.ensures) alone
+    (λ place. c.drop_gaps.ensures place ∙ ap (λ ls. live_at ls place) c.count_out.ensures) (ap (λ k. k + 4) (c.len.ensures ∙ c.in-Some.live.cells.ok.0))).sound.rooted
