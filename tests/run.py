@@ -13,6 +13,7 @@ import shlex
 import subprocess
 import sys
 import tempfile
+import typing
 
 HERE = pathlib.Path(__file__).resolve().parent
 ROOT = HERE.parent
@@ -25,6 +26,18 @@ PIECE = re.compile(r'(?:(\d+) \* )?"((?:[^"\\]|\\.)*)"')
 ESCAPE = re.compile(r"\\(x[0-9a-f]{2}|.)")
 PLAIN = {"n": "\n", "t": "\t", "r": "\r", "\\": "\\", '"': '"'}
 SECONDS = 120
+
+
+class Test(typing.NamedTuple):
+    """The words, and the source with the name of its file; what is wanted; and files beside it, before and after. None is no file."""
+
+    words: list
+    name: str
+    source: bytes | None
+    status: int
+    output: bytes
+    before: dict = {}
+    after: dict = {}
 
 
 def unescaped(text, number):
@@ -53,24 +66,31 @@ def piece(line):
 
 
 def read(path):
-    """The test of a file: its words, file name, source, status and output."""
-    test = {"words": "run x.ac", "name": "x.ac", "source": None, "status": None, "output": None}
-    part = None
+    """The test of a file."""
+    test = {"words": "run x.ac", "name": "x.ac", "source": None, "status": None, "output": None, "before": {}, "after": {}}
+    into = part = None
     for line in path.read_text().splitlines():
         key, _, rest = line.partition(" ")
         if line.startswith("#") or not line:
             continue
         if key in ("words", "name", "status"):
-            test[key], part = rest, None
+            test[key], into = rest, None
         elif line in ("source", "output"):
-            test[line], part = b"", line
-        elif part:
-            test[part] += piece(line)
+            into, part = test, line
+            into[part] = b""
+        elif key in ("before", "after"):
+            into, part = test[key], rest
+            into[part] = b""
+        elif key == "absent":
+            test["after"][rest], into = None, None
+        elif into is not None:
+            into[part] += piece(line)
         else:
             raise ValueError(f"{path.name}: {line}")
     if test["status"] is None or test["output"] is None:
         raise ValueError(f"{path.name} has no status or no output")
-    return shlex.split(test["words"]), test["name"], test["source"], int(test["status"]), test["output"]
+    words, status = shlex.split(test["words"]), int(test["status"])
+    return Test(words, test["name"], test["source"], status, test["output"], test["before"], test["after"])
 
 
 def status_of(answer):
@@ -178,30 +198,54 @@ def shown(output):
     return repr(output) if len(output) <= 600 else f"{output[:300]!r} .. {output[-200:]!r} ({len(output)} bytes)"
 
 
+def put(folder, files):
+    """Writes the files of a test; a name that ends in a slash is a folder."""
+    for name, held in files.items():
+        if name.endswith("/"):
+            (folder / name).mkdir(parents=True)
+        else:
+            (folder / name).write_bytes(held)
+
+
+def held_by(path):
+    return path.read_bytes() if path.is_file() else None
+
+
+def other_file(folder, files):
+    """The first of these files that holds something else, or nothing."""
+    for name, held in files.items():
+        came = held_by(folder / name)
+        if came != held:
+            return f"  {name}: wanted {'no file' if held is None else shown(held)}, came {'no file' if came is None else shown(came)}"
+    return None
+
+
 def failure(program, test):
     """What differs, or nothing."""
-    words, name, source, status, output = test
+    words, name, source, status, output, before, after = Test(*test)
     with tempfile.TemporaryDirectory() as folder:
-        if source is not None:
-            (pathlib.Path(folder) / name).write_bytes(source)
+        put(pathlib.Path(folder), ({} if source is None else {name: source}) | before)
         try:
             done = subprocess.run([program, *words], cwd=folder, stdout=subprocess.PIPE, timeout=SECONDS)
         except subprocess.TimeoutExpired:
             return f"  not done after {SECONDS} seconds"
+        other = other_file(pathlib.Path(folder), after)
     came = done.stdout[: len(output)] if isinstance(output, Front) else done.stdout
     if (done.returncode, came) == (status, output):
-        return None
+        return other
     return f"  wanted {status}, {shown(output)}\n  came   {done.returncode}, {shown(came)}"
 
 
 def write_cases(folder, tests):
     """The tests as files of a new folder: of each its source, its words and its output. The status is not among them.
 
-    A source of another name than `x.ac` is left out, since `rt try` names the copies of sources itself, and so is an output that
-    is not shown whole."""
+    A source of another name than `x.ac` is left out, since `rt try` names the copies of sources itself, and so are a test with
+    files beside the source and an output that is not shown whole."""
     folder.mkdir(parents=True)
-    tests = [test for test in tests if test[1][1] == "x.ac" and not isinstance(test[1][4], Front)]
-    for number, (name, (words, file, source, _, output)) in enumerate(tests):
+    tests = [(name, Test(*test)) for name, test in tests]
+    tests = [(name, test) for name, test in tests
+             if test.name == "x.ac" and not test.before and not test.after and not isinstance(test.output, Front)]
+    for number, (name, (words, file, source, _, output, *_)) in enumerate(tests):
         case = re.sub(r"\W+", "_", f"{number:04} {name.removesuffix('.txt')}")
         (folder / case).write_bytes(source or b"")
         given = ["{}" if word == file and source is not None else word for word in words]

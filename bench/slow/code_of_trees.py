@@ -84,6 +84,11 @@ class Compiled:
         elif k == "Recv":
             self.reference(e.place)
             self.put("Recv", e.link)
+        elif k in ("Read", "Write"):
+            self.expr(e.frm)
+            self.expr(e.len)
+            self.array(e)
+            self.put(k, e.number)
         else:
             self.expr(e.first)
             for op, right in e.rest:
@@ -221,14 +226,16 @@ def around(block):
 
 
 class CodeCore:
-    """A core at a dispatch point, or one that has ended. What was offered stands in a table by link and number, and what still is
-    to be offered or to be received in a queue for each link."""
+    """A core at a dispatch point, or one that has ended. What was offered stands in a table by link and number, likewise the
+    requests that the worker has begun, and what still is to be offered or to be received in a queue for each link."""
 
     def __init__(self, compiled, names, core, limit):
         self.word, self.steps, self.instructions, self.out, self.turn = None, 0, 0, bytearray(), 0
-        self.sends = [deque() for _ in names.channels]
-        self.receives = [deque() for _ in names.channels]
-        self.offers = {}
+        links = len(names.channels) + len(names.cores)
+        self.requests = len(names.channels) + core.number
+        self.sends = [deque() for _ in range(links)]
+        self.receives = [deque() for _ in range(links)]
+        self.offers, self.begun = {}, {}
         self.births = 0
         self.outcome = None
         self.limit = limit
@@ -269,6 +276,9 @@ class CodeCore:
     def to_offer(self, link):
         return self.sends[link][0][2] if self.sends[link] else None
 
+    def has_begun(self, link, number):
+        return (link, number) in self.begun
+
     def wants(self, link):
         return bool(self.receives[link])
 
@@ -279,10 +289,29 @@ class CodeCore:
         self.offers[link, number] = self.sends[link].popleft()
 
     def know(self, link, number):
-        self.goes_on(self.offers.pop((link, number))[1], 0)
+        o = self.offers.pop((link, number))
+        if link == self.requests:
+            self.begun[link, number] = o
+        else:
+            self.goes_on(o[1], 0)
+
+    def reply(self, link, number, answer):
+        _, t, asked, into = self.begun.pop((link, number))
+        value = -2
+        if (asked[0], answer[0]) == ("read", "bytes"):
+            home, s, n = into
+            value = 0
+            for b in answer[1]:
+                if value == n:
+                    break
+                home[s + value] = b
+                value += 1
+        elif (asked[0], answer[0]) == ("write", "count"):
+            value = answer[1]
+        self.goes_on(t, value)
 
     def got(self, link, value):
-        _, t, (home, s, _) = self.receives[link].popleft()
+        _, t, (home, s, _), _ = self.receives[link].popleft()
         home[s] = value
         self.goes_on(t, 0)
 
@@ -305,8 +334,11 @@ class CodeCore:
             except Cut:
                 self.word = "stalled"
                 return False
-            del self.offers[link, number]
-            self.goes_on(o[1], -1 if withdrawn else 0)
+            if withdrawn:
+                del self.offers[link, number]
+                self.goes_on(o[1], -1)
+            else:
+                self.know(link, number)
         return True
 
     def go(self):
@@ -317,6 +349,7 @@ class CodeCore:
         """How it ended, with what is seen of it."""
         waiting = [(o[0], link, "waiting") for q in (self.sends, self.receives) for link, ops in enumerate(q) for o in ops]
         waiting += [(o[0], link, "offered") for (link, _), o in self.offers.items()]
+        waiting += [(o[0], link, "started") for (link, _), o in self.begun.items()]
         return self.word or "stalled", self.steps, bytes(self.out), self.g, [o[1:] for o in sorted(waiting)]
 
     def thread(self, t):
@@ -486,7 +519,22 @@ class CodeCore:
             elif op in ("Send", "Recv"):
                 t.pc, t.frame = pc, fr
                 queues = self.sends if op == "Send" else self.receives
-                queues[ins[1]].append((self.births, t, st.pop()))
+                queues[ins[1]].append((self.births, t, st.pop(), None))
+                self.births += 1
+                return
+            elif op in ("Read", "Write"):
+                home, s, n = st.pop()
+                length, place = st.pop(), st.pop()
+                if not (place >= 0 and length >= 0 and length <= 256 and length <= n and place + length <= 1_048_576):
+                    self.word = "file-range"
+                    return
+                if any(b.marked for b in around(t.block)):
+                    st.append(-1)
+                    continue
+                t.pc, t.frame = pc, fr
+                what = length if op == "Read" else bytes(home[k] % 256 for k in range(s, s + length))
+                asked = (op.lower(), ins[1], place, what)
+                self.sends[self.requests].append((self.births, t, asked, (home, s, length)))
                 self.births += 1
                 return
             else:

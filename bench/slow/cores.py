@@ -1,4 +1,4 @@
-"""A run of several cores in an order that a seed picks, and its checks.
+"""A run of several cores and the file worker in an order that a seed picks, and its checks.
 
 At a dispatch point of a core any arrival may come that its links allow, and then the front of its ready list runs; which core is
 next is free too. The run is over where nothing can come and no thread is ready. What came is the journal of each core.
@@ -6,6 +6,7 @@ next is free too. The run is over where nothing can come and no thread is ready.
 import random
 
 from code_of_trees import CodeCore, Compiled
+from disk import Disk
 from history import Entry, Illegal, Offer, front, legal, merged, room, unrest
 from source import Cut, TreeCore
 
@@ -23,8 +24,8 @@ class Order:
     def __init__(self, seed, cores, polls=False):
         self.random = random.Random(seed)
         weigh = [1] if seed == 0 else [1, 1, 30, 1000]
-        self.cores = [self.random.choice(weigh) for _ in range(cores)]
-        self.kinds = {kind: self.random.choice(weigh) for kind in ("offer", "know", "room", "got", "pass", "go")}
+        self.cores = [self.random.choice(weigh) for _ in range(cores + 1)]
+        self.kinds = {kind: self.random.choice(weigh) for kind in ("offer", "know", "room", "got", "pass", "go", "reply")}
         self.polls = polls
 
     def core(self, able):
@@ -47,27 +48,42 @@ def comes(core, e):
         core.know(e.link, e.number)
     elif e.event == "got":
         core.got(e.link, e.value)
+    elif e.event == "reply":
+        core.reply(e.link, e.number, e.value)
+
+
+def capacities(names):
+    """Of the channels, and after them of the requests of each core."""
+    return [c.cap for c in names.channels] + [16 for _ in names.cores]
 
 
 class Run:
-    """Cores and the links between them; the journal of a core has an entry for each arrival."""
+    """Cores, the file worker and the links between them; the journal of a core has an entry for each arrival, and the last journal is
+    the worker's, with an entry for each request that it has done or passed over."""
 
-    def __init__(self, names, cores, order):
-        self.names, self.cores, self.order = names, cores, order
-        self.links = [[] for _ in names.channels]
-        self.journals = [[] for _ in cores]
-        self.sends = [[c.number for c in names.channels if c.sender == k] for k in range(len(cores))]
+    def __init__(self, names, cores, order, disk):
+        self.names, self.cores, self.order, self.disk = names, cores, order, disk
+        self.caps = capacities(names)
+        self.channels, self.worker = len(names.channels), len(cores)
+        self.links = [[] for _ in self.caps]
+        self.journals = [[] for _ in range(len(cores) + 1)]
+        self.sends = [[c.number for c in names.channels if c.sender == k] + [self.channels + k] for k in range(len(cores))]
         self.receives = [[c.number for c in names.channels if c.receiver == k] for k in range(len(cores))]
         for k, core in enumerate(cores):
             core.outcome = lambda link, number, k=k: self.withdraws(k, link, number)
 
     def offers(self, k, link):
-        there = self.cores[k].to_offer(link) is not None and room(self.names.channels[link].cap, self.links[link])
+        there = self.cores[k].to_offer(link) is not None and room(self.caps[link], self.links[link])
         return [("offer", link, len(self.links[link]))] if there else []
 
     def knows(self, link):
         return [("know" if o.passed is None else "room", link, n) for n, o in enumerate(self.links[link])
                 if o.is_decided() and not o.known]
+
+    def replies(self, k, link):
+        """The answers that have come to requests which the core knows to be at work."""
+        return [("reply", link, n) for n, o in enumerate(self.links[link])
+                if o.answer is not None and not o.replied and self.cores[k].has_begun(link, n)]
 
     def gets(self, k, link):
         n = front(self.links[link]) if self.cores[k].wants(link) else None
@@ -79,18 +95,24 @@ class Run:
             return []
         found = []
         for link in self.sends[k]:
-            found += self.offers(k, link) + self.knows(link)
+            found += self.offers(k, link) + self.knows(link) + self.replies(k, link)
         for link in self.receives[k]:
             found += self.gets(k, link)
         return found
 
+    def works(self):
+        """The links whose front is before the worker."""
+        return [link for link in range(self.channels, len(self.links)) if front(self.links[link]) is not None]
+
     def moves(self, k):
+        if k == self.worker:
+            return self.works()
         core = self.cores[k]
         return self.arrivals(k) + ([("go", 0, 0)] if core.word is None and core.ready else [])
 
     def noted(self, k, event, link, number):
         """The entry of this event, which the journal and the link have now."""
-        core, journal = self.cores[k], self.journals[k]
+        core, journal = None if k == self.worker else self.cores[k], self.journals[k]
         last, value = journal[-1].stamp if journal else 0, None
         if event == "offer":
             value, stamp = core.to_offer(link), 1 + last
@@ -107,7 +129,12 @@ class Run:
             offer.taken = stamp
         elif event == "pass":
             offer.passed = stamp = 1 + max(last, offer.withdrawn)
-        journal.append(Entry(stamp, k, core.turn, event, link, number, value))
+        elif event == "did":
+            value = offer.answer = self.disk.does(offer.value)
+            offer.taken = stamp = 1 + max(last, offer.stamp)
+        elif event == "reply":
+            value, stamp, offer.replied = offer.answer, 1 + max(last, offer.taken), True
+        journal.append(Entry(stamp, k, 0 if core is None else core.turn, event, link, number, value))
         return journal[-1]
 
     def arrive(self, k, event, link, number):
@@ -120,7 +147,13 @@ class Run:
         return withdrawn
 
     def one(self, k):
-        """One move of this core."""
+        """One move of this party."""
+        if k == self.worker:
+            # what `ac` does is a round: one request of each core
+            for link in self.works() if self.order.polls else [self.order.random.choice(self.works())]:
+                n = front(self.links[link])
+                self.noted(k, "did" if self.links[link][n].is_there() else "pass", link, n)
+            return
         if self.order.polls:
             return self.polled(k)
         kind, link, number = self.order.move(self.moves(k))
@@ -135,20 +168,21 @@ class Run:
                 if link in self.receives[k]:
                     found = self.gets(k, link) if look else []
                 else:
-                    found = self.knows(link) if look else self.offers(k, link)
+                    found = self.knows(link) + self.replies(k, link) if look else self.offers(k, link)
                 if found:
                     self.arrive(k, *found[0])
         if self.cores[k].ready:
             self.cores[k].go()
 
     def whole(self):
-        able = list(range(len(self.cores)))
+        parties = range(len(self.cores) + 1)
+        able = list(parties)
         while able:
             k = self.order.core(able)
             if self.moves(k):
                 self.one(k)
-                # what a core does may let its peers go on
-                able = [j for j in range(len(self.cores)) if j in able or self.moves(j)]
+                # what a party does may let its peers go on
+                able = [j for j in parties if j in able or self.moves(j)]
             else:
                 able.remove(k)
 
@@ -163,6 +197,8 @@ def fits(core, e, before):
     if e.event == "room":
         its = [b.event for b in before if (b.link, b.number) == (e.link, e.number)]
         return "withdraw" in its and "room" not in its
+    if e.event == "reply":
+        return core.has_begun(e.link, e.number)
     return e.event in ("got", "pass") and core.wants(e.link)
 
 
@@ -208,19 +244,22 @@ class Program:
     def codes(self):
         return [CodeCore(self.compiled, self.names, c, self.limit) for c in self.names.cores]
 
-    def run(self, seed=0, polls=False):
-        """The code's cores after a run in the order of this seed, and its journals.
+    def run(self, seed=0, polls=False, disk=None):
+        """The code's cores after a run in the order of this seed over this disk, which has bound the program's files, and its journals.
 
         The run is made by the tree where the seed is even, and else by the code; the other is run under its journals."""
         order = Order(seed, len(self.names.cores), polls)
         made, other = (self.codes(), self.trees()) if seed % 2 else (self.trees(), self.codes())
-        live = Run(self.names, made, order)
+        disk = disk or Disk({})
+        start = disk.held()
+        live = Run(self.names, made, order, disk)
         live.whole()
-        self.check(live.journals, made, other)
+        self.check(live.journals, made, other, start, disk)
         return made if seed % 2 else other, live.journals
 
-    def check(self, journals, made, other):
-        """The other cores come to the same ends under the journals, and these are one run; raises Difference where not."""
+    def check(self, journals, made, other, start, disk):
+        """The other cores come to the same ends under the journals, and these are one run, which has left the disk what it holds;
+        raises Difference where not."""
         for k, (core, journal) in enumerate(zip(other, journals)):
             place = replay(core, journal)
             if place is not None:
@@ -229,9 +268,11 @@ class Program:
                 shown = [f"{word} {steps} {out[:300]!r} {waiting}" for word, steps, out, _, waiting in (core.end(), made[k].end())]
                 raise Difference(f"core {k}: {type(made[k]).__name__} {shown[1]}\n{type(core).__name__} {shown[0]}")
         try:
-            links = legal(merged(journals), [c.cap for c in self.names.channels], len(other))
+            links = legal(merged(journals), capacities(self.names), len(other), start)
         except Illegal as i:
             raise Difference(f"the history is not legal: {i}") from None
+        if start != disk.held():
+            raise Difference("the disk holds other files than the history leaves")
         wrong = unrest(other, self.names, links)
         if wrong:
             raise Difference(f"the run is not quiet: {wrong}")

@@ -1,11 +1,16 @@
 """Entries of a run, the history into which they are merged, which histories are legal, and which runs are quiet.
 
-A link is a list of offers. The owner offers, and knows later that an offer was taken; the peer gets the least that is not taken. The
+The links are the channels and after them one of requests for each core, whose peer is the worker, the party after the cores. A link
+is a list of offers. The owner offers, and knows later that an offer was taken; the peer gets the least that is not taken. The
 owner may withdraw an offer that was not taken; the peer passes over it in its turn, and later the owner has its room back."""
 from collections import namedtuple
 
-# `event` is offer, withdraw, know, room, got or pass; `value` is None for all but offer and got
+# `event` is offer, withdraw, know, room, got, pass, did or reply; `value` is what an offer carries or a got takes, the answer of a
+# did or a reply, and None for the others. An answer is ("bytes", bytes), ("count", n) or ("fault", n)
 Entry = namedtuple("Entry", "stamp party turn event link number value")
+
+
+FILE = 1_048_576
 
 
 class Illegal(Exception):
@@ -18,6 +23,8 @@ class Offer:
         # the stamps of its got, its withdraw and its pass
         self.taken = self.withdrawn = self.passed = None
         self.known = False
+        # of a request: its answer, and whether its core has had it
+        self.answer, self.replied = None, False
 
     def is_decided(self):
         return self.taken is not None or self.passed is not None
@@ -42,25 +49,68 @@ def merged(journals):
     return sorted((e for journal in journals for e in journal), key=lambda e: (e.stamp, e.party))
 
 
-def legal(history, capacities, cores):
-    """The links after a legal history; raises Illegal at the first entry that does not fit those before it."""
+def overwritten(file, place, data):
+    """The file with these bytes at that place; zeros fill a gap before them, and no bytes change nothing."""
+    if not data:
+        return file
+    return file[:place] + bytes(max(0, place - len(file))) + data + file[place + len(data):]
+
+
+def is_request(value):
+    if not isinstance(value, tuple):
+        return False
+    kind, file, place, what = value
+    length = what if kind == "read" else len(what)
+    return 0 <= file < 16 and 0 <= length <= 256 and 0 <= place and place + length <= FILE
+
+
+def answers(value, answer, files):
+    """Whether a request may have this answer; what it then has done to the files is done."""
+    kind, file, place, what = value
+    how, told = answer
+    if kind == "read":
+        return answer == ("fault", 0) or answer == ("bytes", files[file][place:place + what])
+    if not (answer == ("count", len(what)) or how == "fault" and 0 <= told <= len(what)):
+        return False
+    files[file] = overwritten(files[file], place, what if how == "count" else what[:told])
+    return True
+
+
+def legal(history, capacities, cores, files):
+    """The links after a legal history of so many cores, whose last links are those of their requests; raises Illegal at the first
+    entry that does not fit those before it. The files become what the history has made of them."""
     links = [[] for _ in capacities]
-    last, before = [0] * cores, (0, 0)
+    channels = len(capacities) - cores
+    last, before = [0] * (cores + 1), (0, 0)
     for place, e in enumerate(history):
         def needs(holds, what):
             if not holds:
                 raise Illegal(f"entry {place}, {e}: {what}")
 
         needs((e.stamp, e.party) > before, "not after the entry before it")
-        needs(0 <= e.party < cores and 0 <= e.link < len(links), "no such core or link")
+        needs(0 <= e.party <= cores and 0 <= e.link < len(links), "no such party or link")
+        asked = e.link >= channels
+        needs((e.party == cores) == (e.event == "did" or e.event == "pass" and asked), "of another party")
+        needs(e.party < cores or e.turn == 0, "a turn of the worker")
         offers = links[e.link]
         answered = 0
         if e.event == "offer":
             needs(e.number == len(offers), "not the next number")
+            needs(is_request(e.value) if asked else isinstance(e.value, int), "no such link carries it")
             needs(room(capacities[e.link], offers), "no room")
             offers.append(Offer(e.value, e.stamp))
+        elif e.event == "did":
+            needs(asked and e.number == front(offers), "not the least that is not decided")
+            offer = offers[e.number]
+            needs(offer.is_there(), "withdrawn")
+            needs(answers(offer.value, e.value, files), "not an answer of the disk")
+            offer.taken, offer.answer, answered = e.stamp, e.value, offer.stamp
+        elif e.event == "reply":
+            needs(e.number < len(offers) and offers[e.number].answer == e.value is not None, "not its answer")
+            needs(not offers[e.number].replied, "replied already")
+            offers[e.number].replied, answered = True, offers[e.number].taken
         elif e.event == "got":
-            needs(e.number == front(offers), "not the least that is not decided")
+            needs(not asked and e.number == front(offers), "not the least that is not decided")
             offer = offers[e.number]
             needs(offer.is_there(), "withdrawn")
             needs(offer.value == e.value, "another value")
@@ -88,11 +138,20 @@ def legal(history, capacities, cores):
 
 def unrest(cores, names, links):
     """What keeps a run from being quiet, or None: `cores` are at their ends, `links` those after the history."""
+    if any(front(offers) is not None for offers in links[len(names.channels):]):
+        return "a request waits for the worker"
     for k, core in enumerate(cores):
         if core.word is not None:
             continue
         if core.ready:
             return f"core {k} has a ready thread"
+        own = len(names.channels) + k
+        if any(o.answer is not None and not o.replied for o in links[own]):
+            return f"core {k} has not had an answer"
+        if any(o.is_decided() and not o.known for o in links[own]):
+            return f"core {k} does not know of a request that was done or passed"
+        if core.to_offer(own) is not None and room(16, links[own]):
+            return f"core {k} has a request that waits, and room"
         for channel in names.channels:
             offers = links[channel.number]
             if channel.receiver == k and core.wants(channel.number) and front(offers) is not None:

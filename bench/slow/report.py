@@ -6,6 +6,7 @@ import sys
 import threading
 
 import cores
+import disk as outside
 import rules
 import tokens_and_trees as lang
 
@@ -42,14 +43,17 @@ def run_code(text, limit):
     except lang.Fault as f:
         return f.status, f.line.encode() + b"\n"
     codes = cores.Program(names, program, limit).codes()
-    cores.Run(names, codes, cores.Order(0, len(codes))).whole()
+    cores.Run(names, codes, cores.Order(0, len(codes)), outside.Disk({})).whole()
     return of(names, codes)
 
 
-def both(text, limit, seed=0, polls=False):
-    """The report of the tree and of its code, in the order of this seed; raises where they differ."""
+def both(text, limit, seed=0, polls=False, disk=None):
+    """The report of the tree and of its code over a disk, which is empty where none is given, in the order of this seed; raises
+    where they differ, and lang.Fault where the disk refuses the program's files."""
     program, names = load(text)
-    return of(names, cores.Program(names, program, limit).run(seed, polls)[0])
+    disk = disk or outside.Disk({})
+    disk.start([file.path for file in names.files])
+    return of(names, cores.Program(names, program, limit).run(seed, polls, disk)[0])
 
 
 def deep(act):

@@ -5,6 +5,7 @@ one."""
 from collections import deque
 
 LIMIT = 4_194_304
+FILE = 1_048_576
 
 
 class Trap(Exception):
@@ -125,16 +126,23 @@ class Thread:
 
 
 class Operation:
-    """A send or a receive that has not ended. `number` is that of its offer, where it was offered."""
+    """A send, a receive or a request of a file that has not ended. `number` is that of its offer, where it was offered; `begun` says
+    that the worker has taken a request and its core knows it. `what` is what it offers, or where a message goes, and `into` where a
+    read puts its bytes."""
 
-    def __init__(self, kind, link, thread, what):
-        self.kind, self.link, self.thread, self.what, self.number = kind, link, thread, what, None
+    def __init__(self, kind, link, thread, what, into=None):
+        self.kind, self.link, self.thread, self.what, self.into = kind, link, thread, what, into
+        self.number, self.begun = None, False
         self.block = thread.block
+
+    def phase(self):
+        return "started" if self.begun else "waiting" if self.number is None else "offered"
 
 
 class TreeCore:
     def __init__(self, names, core, limit):
         self.names, self.limit = names, limit
+        self.requests = len(names.channels) + core.number
         self.steps, self.out, self.live, self.turn = 0, bytearray(), names.slots, 0
         self.globals = {}
         for item in names.top.values():
@@ -155,31 +163,58 @@ class TreeCore:
 
     # ---- what may come in at a dispatch point
 
-    def oldest(self, kind, link):
-        """The oldest operation of the link that waits, or None."""
+    def oldest(self, link, receives):
+        """The oldest operation of the link that waits, or None: a receive, or another."""
         for o in self.operations:
-            if (o.kind, o.link, o.number) == (kind, link, None):
+            if (o.link, o.number) == (link, None) and (o.kind == "receive") == receives:
                 return o
         return None
 
     def to_offer(self, link):
-        o = self.oldest("send", link)
+        o = self.oldest(link, False)
         return None if o is None else o.what
 
     def wants(self, link):
-        return self.oldest("receive", link) is not None
+        return self.oldest(link, True) is not None
+
+    def under(self, link, number, begun):
+        """The operation that stands on the link under this number, or has begun there; or None."""
+        return next((o for o in self.operations if (o.link, o.number, o.begun) == (link, number, begun)), None)
 
     def has_offered(self, link, number):
-        return any((o.link, o.number) == (link, number) for o in self.operations)
+        return self.under(link, number, False) is not None
+
+    def has_begun(self, link, number):
+        return self.under(link, number, True) is not None
 
     def offer(self, link, number):
-        self.oldest("send", link).number = number
+        self.oldest(link, False).number = number
+
+    def is_taken(self, operation):
+        """Its peer has it: a message has moved, and a request is at work."""
+        if operation.kind == "send":
+            self.has_ended(operation, 0)
+        else:
+            operation.begun = True
 
     def know(self, link, number):
-        self.has_ended(next(o for o in self.operations if (o.link, o.number) == (link, number)), 0)
+        self.is_taken(self.under(link, number, False))
+
+    def reply(self, link, number, answer):
+        """A read puts as many of the bytes into its array as it asked for; what fits no request is a fault."""
+        o = self.under(link, number, True)
+        kind, what = answer
+        if o.kind == "read" and kind == "bytes":
+            what = what[:o.what[3]]
+            o.into[:len(what)] = list(what)
+            self.has_ended(o, len(what))
+        elif o.kind == "write" and kind == "count":
+            self.has_ended(o, what)
+        else:
+            self.has_ended(o, -2)
 
     def got(self, link, value):
-        o = self.oldest("receive", link)
+        o = self.oldest(link, True)
         cells, index = o.what
         cells[index] = value
         self.has_ended(o, 0)
@@ -192,9 +227,11 @@ class TreeCore:
     def cancel(self, block):
         """Each operation within the block either is done or never happens; the oldest is tried first."""
         block.marked = True
-        for o in [o for o in self.operations if o.block is not None and o.block.is_within(block)]:
-            withdrawn = o.number is None or self.outcome(o.link, o.number)
-            self.has_ended(o, -1 if withdrawn else 0)
+        for o in [o for o in self.operations if o.block is not None and o.block.is_within(block) and not o.begun]:
+            if o.number is None or self.outcome(o.link, o.number):
+                self.has_ended(o, -1)
+            else:
+                self.is_taken(o)
 
     def go(self):
         self.turn += 1
@@ -210,7 +247,7 @@ class TreeCore:
     def end(self):
         """How it ended, with what is seen of it."""
         values = [v for cells in self.globals.values() for v in cells]
-        waiting = [(o.link, "waiting" if o.number is None else "offered") for o in self.operations]
+        waiting = [(o.link, o.phase()) for o in self.operations]
         return self.word or "stalled", self.steps, bytes(self.out), values, waiting
 
     def run(self, running):
@@ -247,7 +284,7 @@ class TreeCore:
             elif running.block is not None and running.block.is_cancelled():
                 running.value = -1
             else:
-                self.operations.append(Operation(ask[0], ask[1], running, ask[2]))
+                self.operations.append(Operation(ask[0], ask[1], running, *ask[2:]))
                 return
 
     def lives_within(self, block):
@@ -338,6 +375,14 @@ class TreeCore:
             return (yield ("send", e.link, self.value(e.value, frame)))
         if e.kind == "Recv":
             return (yield ("receive", e.link, self.place(e.place, frame)))
+        if e.kind in ("Read", "Write"):
+            place, length = self.value(e.frm, frame), self.value(e.len, frame)
+            cells = self.cells(frame, e.decl)
+            if place < 0 or not 0 <= length <= min(256, len(cells)) or place + length > FILE:
+                raise Trap("file-range")
+            if e.kind == "Read":
+                return (yield ("read", self.requests, ("read", e.number, place, length), cells))
+            return (yield ("write", self.requests, ("write", e.number, place, bytes(v & 255 for v in cells[:length]))))
         return self.value(e, frame)
 
     def body(self, stmts, frame, t):

@@ -6,8 +6,10 @@ import importlib.util
 import pathlib
 import sys
 
+import disk as outside
 import report as oracle
 import rules
+import tokens_and_trees as lang
 
 TESTS = pathlib.Path(__file__).resolve().parent.parent.parent / "tests"
 
@@ -20,12 +22,25 @@ def tests_of_programs():
     return module
 
 
-def came(source, steps, want, orders, polls):
-    """The first report that is not the wanted one, or None."""
+def disk_of(files):
+    """A disk of the files of a test."""
+    return outside.Disk({name.encode(): content for name, content in files.items()})
+
+
+def came(source, steps, want, orders, polls, before, after):
+    """The first report that is not the wanted one, or file that is left otherwise, or None."""
     for seed in range(orders):
-        got = oracle.both(source, steps, seed, polls)
+        disk = disk_of(before)
+        try:
+            got = oracle.both(source, steps, seed, polls, disk)
+        except lang.Fault as f:
+            got = f.status, f.line.encode() + b"\n"
         if got != want:
             return f"in order {seed}: {got[0]}, {got[1][:600]!r}"
+        for name, held in after.items():
+            left = disk.files.get(name.encode())
+            if left != held:
+                return f"in order {seed}: in {name} is left {left!r}"
     return None
 
 
@@ -33,17 +48,17 @@ def main():
     orders = int(sys.argv[2]) if len(sys.argv) > 2 else 20
     read, bad, count = tests_of_programs().read, 0, 0
     for path in sorted(pathlib.Path(sys.argv[1]).glob("*.txt")):
-        words, _, source, status, output = read(path)
-        if words[0] != "run":
+        words, _, source, status, output, before, after = read(path)
+        if words[0] != "run" or "# Only real files show it." in path.read_text():
             continue
         count += 1
         steps, want = int(words[3]) if len(words) == 4 else 100_000, (status, output)
         rules.refusal(source, steps)
-        wrong = came(source, steps, want, orders, True)
+        wrong = came(source, steps, want, orders, True, before, after)
         if wrong:
             print(f"{path.name}: wanted {want}\nof ac, {wrong}")
         else:
-            wrong = came(source, steps, want, orders, False)
+            wrong = came(source, steps, want, orders, False, before, after)
             if wrong:
                 print(f"{path.name}: right in each order of ac, and not {wrong}")
             continue

@@ -444,7 +444,7 @@ class Names:
         self.slots = 0
         self.texts = []
         self.functions = 0
-        self.cores, self.channels = [], []
+        self.cores, self.channels, self.files = [], [], []
         for item in program.items:
             self.top.setdefault(item.name, item)
             item.owner = None
@@ -460,6 +460,9 @@ class Names:
             elif item.kind == "Channel":
                 item.number = len(self.channels)
                 self.channels.append(item)
+            elif item.kind == "File":
+                item.number = len(self.files)
+                self.files.append(item)
         self.funcs = [i for i in program.items if i.kind == "Function"]
         for f in self.funcs:
             self.function(f)
@@ -595,5 +598,9 @@ class Names:
         elif k in ("Send", "Recv"):
             e.link = self.find(e.channel).number
             self.expr(e.value if k == "Send" else e.place)
-        elif k != "Number":
-            raise Fault(15, f"not built at {e.at}")
+        elif k in ("Read", "Write"):
+            e.number = self.find(e.file).number
+            self.expr(e.frm)
+            self.expr(e.len)
+            e.decl = self.find(e.array)
+            e.level = self.level(e.decl)

@@ -1,8 +1,11 @@
-//! The files of the system as a library, and standard output as a sink. They tell no contents.
+//! The files of the system as a library and as a disk, and standard output as a sink. They tell no
+//! contents.
 #![tactic(auto)]
 
+mod disk;
 mod files;
 mod output;
 
+pub use disk::FileDisk;
 pub use files::FileLibrary;
 pub use output::StandardSink;

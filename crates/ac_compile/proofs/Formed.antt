@@ -48,8 +48,8 @@ module _ (program : Resolved) where
   takes_as_wanted _ _ count (call n f e) many = refl
   takes_as_wanted _ _ count (send channel lt) many = eq-eqb count 1 many
   takes_as_wanted _ _ count (recv channel lt) many = eq-eqb count 1 many
-  takes_as_wanted _ _ count (read file lt) many = refl
-  takes_as_wanted _ _ count (write file lt) many = refl
+  takes_as_wanted _ _ count (read file lt) many = eq-eqb count 3 many
+  takes_as_wanted _ _ count (write file lt) many = eq-eqb count 3 many
 
   module _ (r : Round) where
     as_many : (wants : List Want) (xs : List Value) → AreOperands program r wants xs → length xs ≡ length wants

@@ -36,5 +36,5 @@ enters_one program core f g h k =
 pub source_only : (program : Resolved) (core bound : ℕ) (journal : List Entry) (d e : Option CoreEnd) → Replays program core bound journal d → Replays program core bound journal e → d ≡ e
 source_only program core bound journal d e h k =
     let is = enters_one program core h.function k.function h.enters k.enters in
-    let ends = subst (λ (f : Function). ComesTo (step program bound) (first_state program f journal) d) is h.ends in
-    only_end (step program bound) (first_state program k.function journal) d e ends k.ends
+    let ends = subst (λ (f : Function). ComesTo (step program bound) (first_state program core f journal) d) is h.ends in
+    only_end (step program bound) (first_state program core k.function journal) d e ends k.ends

@@ -50,12 +50,12 @@ it_is_never_over h = let no : false ≡ true = sym (ap is_over (stays_there stay
 
 -- ---- a core without statements: its dispatch, and its end
 
-before_the_end : (j : ℕ) → j < 2 → is_over (and_then (first_state (program []) (function []) []) (moves (step (program []) 0) j)) ≡ false
+before_the_end : (j : ℕ) → j < 2 → is_over (and_then (first_state (program []) 0 (function []) []) (moves (step (program []) 0) j)) ≡ false
 before_the_end zero lt = refl
 before_the_end (suc zero) lt = refl
 before_the_end (suc (suc j)) lt = absurd (omega (arith, lt))
 
-pub a_core_without_statements_ends : CoreEnds (program []) (function []) 0 []
+pub a_core_without_statements_ends : CoreEnds (program []) 0 (function []) 0 []
 a_core_without_statements_ends = (2, (refl, before_the_end))
 
 -- ---- a core whose break stands in no loop: after it nothing is left to do, and the core stays
@@ -68,7 +68,7 @@ break_form = form breaks _ c.rolls-Break
 
 abbrev at_the_break : CoreState
 at_the_break =
-    let first = first_core (function (breaks ∷ [])) (first_shared []) (made (first_store (pos 0 ∷ pos 5 ∷ [])) None []) in
+    let first = first_core (function (breaks ∷ [])) (first_shared 0 []) (made (first_store (pos 0 ∷ pos 5 ∷ [])) None []) in
     record first { held = turned first.held; running = Some first_item; work = (thread_at first.threads first_item).work; ready = [] }
 
 abbrev after_it : CoreState
@@ -77,13 +77,13 @@ after_it = record at_the_break { held = stepped at_the_break.held; work = [] }
 it_breaks : step (program (breaks ∷ [])) 1 at_the_break ≡ On after_it
 it_breaks = rw (break_form, finish_by (program (breaks ∷ [])) breaks _ break_form) refl
 
-goes_on_from : (k : ℕ) → is_over (and_then (first_state (program (breaks ∷ [])) (function (breaks ∷ [])) []) (moves (step (program (breaks ∷ [])) 1) k)) ≡ false
+goes_on_from : (k : ℕ) → is_over (and_then (first_state (program (breaks ∷ [])) 0 (function (breaks ∷ [])) []) (moves (step (program (breaks ∷ [])) 1) k)) ≡ false
 goes_on_from zero = refl
 goes_on_from (suc zero) = refl
 goes_on_from (suc (suc k)) =
     ap (λ a. is_over (and_then a (moves (step (program (breaks ∷ [])) 1) k))) it_breaks ∙ ap is_over (stays_there (step (program (breaks ∷ [])) 1) after_it refl k)
 
-pub a_core_that_breaks_out_of_nothing_does_not : CoreEnds (program (breaks ∷ [])) (function (breaks ∷ [])) 1 [] → ⊥
+pub a_core_that_breaks_out_of_nothing_does_not : CoreEnds (program (breaks ∷ [])) 0 (function (breaks ∷ [])) 1 [] → ⊥
 a_core_that_breaks_out_of_nothing_does_not h = let no : false ≡ true = sym (goes_on_from h.0) ∙ h.1.0 in cc
 
 -- ---- a journal with an entry for which a core without statements does not wait
@@ -91,7 +91,7 @@ a_core_that_breaks_out_of_nothing_does_not h = let no : false ≡ true = sym (go
 abbrev an_entry : Entry
 an_entry = record { stamp = 1; turn = 1; event = Know 0 0 }
 
-pub the_first_does_not_fit : IsUnfit (program []) (function []) 0 (an_entry ∷ []) 0
+pub the_first_does_not_fit : IsUnfit (program []) 0 (function []) 0 (an_entry ∷ []) 0
 the_first_does_not_fit = record {
   inside = omega arith;
   unfit = (2, refl);
@@ -99,8 +99,8 @@ the_first_does_not_fit = record {
 }
 
 -- there is a lesser one
-pub it_is_not_the_second : IsUnfit (program []) (function []) 0 (an_entry ∷ an_entry ∷ []) 1 → ⊥
+pub it_is_not_the_second : IsUnfit (program []) 0 (function []) 0 (an_entry ∷ an_entry ∷ []) 1 → ⊥
 it_is_not_the_second h = h.before 0 (omega arith) (2, refl)
 
-pub no_entries_fit : IsUnfit (program []) (function []) 0 [] 0 → ⊥
+pub no_entries_fit : IsUnfit (program []) 0 (function []) 0 [] 0 → ⊥
 no_entries_fit h = let inside = h.inside in omega (arith, inside)

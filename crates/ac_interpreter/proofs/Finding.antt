@@ -1,18 +1,20 @@
 -- The oldest operation for which a test holds: by its place in equal lists, and as far as a search has come.
-use Rattle.std.proofs.Common.{◌≡◌, ℕ, pos, suc, ◌+◌, ◌<◌, ◌≤◌, List, ◌∷◌, length, get_or, set, drop, drop-cons, refl, sym, ap, ◌∙◌}
-use Rattle.std.specs.Prelude.{Option, Some, None, Bool, false, true, cond, find, position, is_some, slice_get}
+use Rattle.std.proofs.Common.{◌≡◌, ℕ, pos, suc, ◌+◌, ◌<◌, ◌≤◌, List, ◌∷◌, [], length, get_or, set, drop, drop-cons, refl, sym, ap, ◌∙◌}
+use Rattle.std.specs.Prelude.{Option, Some, None, Bool, false, true, not, ◌&&◌, cond, find, position, is_some, slice_get}
 use Rattle.std.specs.List.{position_from, remove}
 use Rattle.std.proofs.Math.ListN.{drop_of_length-le}
 use Rattle.std.proofs.lemmas.Iterator.Adapters.{position_from-zero}
 use Rattle.std.proofs.lemmas.Option.{slice_get_within, slice_get-get_or}
 use Rattle.cancel_scope.specs.declared.operation.Operation.{Operation}
 use Rattle.cancel_scope.specs.declared.operation.Asked.TheVariants as asked
-use Rattle.cancel_scope.specs.Outstanding.{started, change_first, without_first}
+use Rattle.cancel_scope.specs.Outstanding.{started, has_begun, change_first, without_first}
+use Rattle.core_state.specs.Cancelling.{is_to_try}
+use Rattle.ac_interpreter.specs.inner.Operations.{IsOldest}
 use Rattle.cancel_scope.proofs.Finding.{IsFirst, is_first, placed}
 use Rattle.cancel_scope.proofs.Finding as queue
 
 -- an operation, whatever it is
-abbrev any : Operation
+abbrev pub any : Operation
 any = started 0 (asked.Send (pos 0)) (record { number = 0 })
 
 some_of : (o : Option Operation) → is_some o ≡ true → (y : Operation) × (o ≡ Some y)
@@ -57,6 +59,33 @@ module _ (test : Operation → Bool) (xs ys : List Operation) where
 
     pub without_at : without_first test xs ≡ remove xs i
     without_at = first.without
+
+-- what stands at the place of the oldest is the oldest
+pub the_same : (os : List Operation) (test : Operation → Bool) (place : ℕ) (o there : Operation) → IsOldest test os place o → there ≡ get_or os place there → there ≡ o
+the_same os test place o there oldest is =
+    let found : Some there ≡ Some o = sym (found_at test os os place there (sym oldest.0) refl is) ∙ oldest.1 in
+    cc
+
+-- ---- what is found
+
+holds_by : (test : Operation → Bool) (x o : Operation) (xs : List Operation) (b : Bool) → test x ≡ b → cond b (Some x) (find test xs) ≡ Some o → (find test xs ≡ Some o → test o ≡ true) → test o ≡ true
+holds_by test x o xs true is h more = let same : x ≡ o = cc in sym (ap test same) ∙ is
+holds_by test x o xs false is h more = more h
+
+-- the test holds for it
+found_holds : (test : Operation → Bool) (xs : List Operation) (o : Operation) → find test xs ≡ Some o → test o ≡ true
+found_holds test [] o h = let no : ◌≡◌ {A = Option Operation} None (Some o) = h in cc
+found_holds test (x ∷ xs) o h = holds_by test x o xs (test x) refl h (found_holds test xs o)
+
+not_begun : (inside begun : Bool) → (inside && not begun) ≡ true → begun ≡ false
+not_begun true true h = sym h
+not_begun true false h = refl
+not_begun false true h = sym h
+not_begun false false h = refl
+
+-- its peer has not begun what is to be tried
+pub is_not_begun : (inside : Operation → Bool) (xs : List Operation) (o : Operation) → find (is_to_try inside) xs ≡ Some o → has_begun o.progress ≡ false
+is_not_begun inside xs o h = not_begun (inside o) (has_begun o.progress) (found_holds (is_to_try inside) xs o h)
 
 -- ---- as far as a search has come
 

@@ -13,26 +13,27 @@ use Rattle.work_item.specs.declared.ids.BlockId.{BlockId}
 use Rattle.work_item.specs.declared.cell.Cell.{Cell}
 use Rattle.work_item.specs.declared.cell.Cell.TheVariants as cell
 use Rattle.cancel_scope.specs.declared.operation.Asked.{Asked}
-use Rattle.work_item.specs.Store.{Store, no_int, int_in, next_frame, released}
+use Rattle.work_item.specs.Store.{Store, no_int, int_in, place_in, next_frame, released}
 use Rattle.core_state.specs.Frames.{begun, begun_with, first_store}
 use Rattle.core_state.specs.Moves.{Move, On, Over}
-use Rattle.core_state.specs.Shared.{output_limit, formatted, with_entry, core_end, first_shared, begins_with}
+use Rattle.core_state.specs.Shared.{output_limit, formatted, with_entry, core_end, begins_with}
+use Rattle.core_state.specs.Requests.{read_of, write_of}
 use Rattle.core_state.specs.Arrivals as arrivals
 use Rattle.core_state.specs.Arrivals.{Arrival, comes_in, at_point}
 use Rattle.ac_commands.specs.declared.value.Action.TheVariants as a
-use Rattle.ac_commands.specs.declared.command.Command.{Command}
+use Rattle.ac_commands.specs.declared.command.Command.{Command, out-Command}
 use Rattle.ac_commands.specs.declared.command.Command.TheOpen.{Command-F}
 use Rattle.ac_commands.specs.declared.program.Function.{Function}
 use Rattle.ac_commands.specs.declared.program.Resolved.{Resolved}
-use Rattle.ac_semantics.specs.Evaluation.{Acting, Ending, Outcome, Comes, Traps, Stops}
-use Rattle.ac_semantics.specs.Held.{Held, with_shared, with_store, any_marked, turned, seen_of}
+use Rattle.ac_semantics.specs.Evaluation.{Acting, Ending, Outcome, Comes, Traps, Stops, row_goes, resumes}
+use Rattle.ac_semantics.specs.Held.{Held, with_shared, with_store, stepped, any_marked, turned, seen_of}
 use Rattle.ac_semantics.specs.Work as work
 use Rattle.ac_semantics.specs.Statements as s
 use Rattle.ac_interpreter.specs.inner.Under.{held_under, core_under, unless_left, move_under, IsLater}
 use Rattle.ac_interpreter.proofs.Growing.{Moved, core_with_todo, IsOut, grown, Follows}
 use Rattle.ac_interpreter.proofs.Trying.{cancel_out, cancel_follows, cancel_grows}
 use Rattle.ac_semantics.specs.Threads.{CoreState, thread_at, none_within, arrives, wakes, woken, stops, Ended, path, operates, rests}
-use Rattle.ac_semantics.specs.Threads.{resumed, arrived, applied, dispatched, step_of, step, first_core, first_globals, first_state}
+use Rattle.ac_semantics.specs.Threads.{resumed, arrived, applied, dispatched, step_of, step, first_core, first_globals, shared_at_first, first_state}
 
 -- ---- another journal
 
@@ -113,6 +114,10 @@ module _ (past todo : List Entry) where
       let own = next_frame h.store in
       put_too h (begun_with h.store f.params f.slots (reverse operands)) (work.before own f.body (work.Back own ∷ ws))
 
+  requests_too : (it : Result Asked Trap) (ws : List work.Work) (h : Held) → s.requests it ws (held_under past todo h) ≡ next_under past todo (s.requests it ws h)
+  requests_too (Ok asked) ws h = refl
+  requests_too (Err trap) ws h = refl
+
   settles_too : (program : Resolved) (command : Command) (frame : FrameId) (ws : List work.Work) (h : Held) (out : Outcome)
       → s.settles program command frame ws (held_under past todo h) out ≡ next_under past todo (s.settles program command frame ws h out)
   settles_too program command frame ws h (Comes value) = refl
@@ -121,8 +126,10 @@ module _ (past todo : List Entry) where
   settles_too program command frame ws h (Stops (Acting (a.Call function)) operands around) = calls_too (slice_get program.functions function) operands _ h
   settles_too program command frame ws h (Stops (Acting (a.Send channel)) operands around) = refl
   settles_too program command frame ws h (Stops (Acting (a.Recv channel)) operands around) = refl
-  settles_too program command frame ws h (Stops (Acting (a.Read file)) operands around) = refl
-  settles_too program command frame ws h (Stops (Acting (a.Write file)) operands around) = refl
+  settles_too program command frame ws h (Stops (Acting (a.Read file)) operands around) =
+      requests_too (read_of file (s.place_operand operands) (s.length_operand operands) (place_in (s.last_of operands))) _ h
+  settles_too program command frame ws h (Stops (Acting (a.Write file)) operands around) =
+      requests_too (write_of h.store file (s.place_operand operands) (s.length_operand operands) (place_in (s.last_of operands))) _ h
 
   if_step_too : (test : Bool) (h : Held) (next next' : s.Next) → next' ≡ next_under past todo next
       → (if test then next' else s.Ends word.OutOfSteps (held_under past todo h)) ≡ next_under past todo (if test then next else s.Ends word.OutOfSteps h)
@@ -131,13 +138,14 @@ module _ (past todo : List Entry) where
 
   pub next_too : (program : Resolved) (bound : ℕ) (ws : List work.Work) (h : Held) → s.next_at program bound ws (held_under past todo h) ≡ next_under past todo (s.next_at program bound ws h)
   next_too program bound [] h = refl
-  next_too program bound (work.Do frame command ∷ ws) h = if_step_too (nat_lt h.shared.steps bound) h _ _ (settles_too program command frame ws _ _)
+  next_too program bound (work.Do frame command ∷ ws) h =
+      if_step_too (nat_lt h.shared.steps bound) h _ _ (settles_too program command frame ws (stepped h) (row_goes h.store frame Ending [] (s.operands_of (out-Command command)) []))
   next_too program bound (work.CallOff frame level slot ∷ ws) h = refl
   next_too program bound (work.Turn frame loop ∷ ws) h = refl
   next_too program bound (work.Close block ∷ ws) h = if_step_too (nat_lt h.shared.steps bound) h _ _ refl
   next_too program bound (work.Back own ∷ ws) h = refl
   next_too program bound (work.Pend frame command around ∷ ws) h = refl
-  next_too program bound (work.Given value frame command around ∷ ws) h = settles_too program command frame ws h _
+  next_too program bound (work.Given value frame command around ∷ ws) h = settles_too program command frame ws h (resumes h.store frame around value)
   next_too program bound (work.Leave ∷ ws) h = refl
   next_too program bound (work.End frame ∷ ws) h = refl
 
@@ -385,13 +393,14 @@ module _ (program : Resolved) (bound : ℕ) where
 
 -- ---- the beginning
 
-module _ (program : Resolved) (function : Function) where
+module _ (program : Resolved) (core : ℕ) (function : Function) where
   begins_too : (journal : List Entry) (r : Result Store Trap)
-      → begins_with (λ (end : Option CoreEnd). end) (first_globals program) (first_shared journal) r (λ store. On (first_core function (first_shared journal) store))
-      ≡ move_under [] journal (begins_with (λ (end : Option CoreEnd). end) (first_globals program) (first_shared []) r (λ store. On (first_core function (first_shared []) store)))
+      → begins_with (λ (end : Option CoreEnd). end) (first_globals program) (shared_at_first program core journal) r (λ store. On (first_core function (shared_at_first program core journal) store))
+      ≡ move_under [] journal (begins_with (λ (end : Option CoreEnd). end) (first_globals program) (shared_at_first program core []) r (λ store. On (first_core function
+      (shared_at_first program core []) store)))
   begins_too journal (Ok store) = refl
   begins_too [] (Err trap) = refl
   begins_too (e ∷ es) (Err trap) = refl
 
-  pub first_too : (journal : List Entry) → first_state program function journal ≡ move_under [] journal (first_state program function [])
+  pub first_too : (journal : List Entry) → first_state program core function journal ≡ move_under [] journal (first_state program core function [])
   first_too journal = begins_too journal (begun (first_store (first_globals program)) None (replicate function.slots no_int))

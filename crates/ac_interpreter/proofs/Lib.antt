@@ -7,8 +7,10 @@ mod Copying
 mod Outcomes
 mod Returning
 mod Finding
+mod Taken
 pub mod Ends
 mod Growing
+mod Bytes
 mod Trying
 mod Journals
 mod Turning

@@ -54,12 +54,12 @@ one_less (x ∷ xs) (suc k) e es h =
     let n : suc k + 1 ≡ suc (k + 1) = omega arith in
     ap (λ i. drop i (x ∷ xs)) n ∙ one_less xs k e es h
 
-module _ (p : Resolved) (b n : ℕ) (function : Function) (journal : List Entry) where
+module _ (p : Resolved) (b n core : ℕ) (function : Function) (journal : List Entry) where
   abbrev f : CoreState → Moved
   f = step p b
 
   abbrev first : Moved
-  first = first_state p function journal
+  first = first_state p core function journal
 
   -- after so many entries
   abbrev pub under : ℕ → Moved → Moved
@@ -72,7 +72,7 @@ module _ (p : Resolved) (b n : ℕ) (function : Function) (journal : List Entry)
   pub record Goes (k : ℕ) (m : Moved) : Type 0 where
     pub goes : GoesOn f first (under k m)
     pub over : IsOverBy f (under k m) n
-    pub stopped : under k m ≡ Over None → IsUnfit p function b journal k
+    pub stopped : under k m ≡ Over None → IsUnfit p core function b journal k
 
   -- ---- the first state, and the last
 
@@ -84,16 +84,16 @@ module _ (p : Resolved) (b n : ℕ) (function : Function) (journal : List Entry)
   none_dropped [] = refl
   none_dropped (x ∷ xs) = refl
 
-  first_under : (m : Moved) → m ≡ first_state p function [] → under 0 m ≡ first
+  first_under : (m : Moved) → m ≡ first_state p core function [] → under 0 m ≡ first
   first_under m h =
-      ap (under 0) h ∙ ap (λ (past : List Entry). move_under past (drop 0 journal) (first_state p function [])) (none_taken journal)
-      ∙ ap (λ (todo : List Entry). move_under [] todo (first_state p function [])) (none_dropped journal) ∙ sym (first_too p function journal)
+      ap (under 0) h ∙ ap (λ (past : List Entry). move_under past (drop 0 journal) (first_state p core function [])) (none_taken journal)
+      ∙ ap (λ (todo : List Entry). move_under [] todo (first_state p core function [])) (none_dropped journal) ∙ sym (first_too p core function journal)
 
-  pub begins : (m : Moved) → m ≡ first_state p function [] → IsOverBy f first n → Goes 0 m
+  pub begins : (m : Moved) → m ≡ first_state p core function [] → IsOverBy f first n → Goes 0 m
   begins m h over = record {
     goes = subst (GoesOn f first) (sym (first_under m h)) (GoesOn-none f first);
     over = subst (λ (a : Moved). IsOverBy f a n) (sym (first_under m h)) over;
-    stopped = λ o. is_unfit_first p function b journal (sym (first_under m h) ∙ o);
+    stopped = λ o. is_unfit_first p core function b journal (sym (first_under m h) ∙ o);
   }
 
   -- how it has ended
@@ -113,7 +113,7 @@ module _ (p : Resolved) (b n : ℕ) (function : Function) (journal : List Entry)
     under_none None some less = absurd (some refl)
     under_none (Some halt) some less = let n = length-drop k journal in some_in _ (drop k journal) (omega (arith, n, less))
 
-    pub is_stopped : (o : Option Halt) → o ≢ None → Goes k (end_or c o) → k < length journal → IsUnfit p function b journal k × RunEnds p function b journal None
+    pub is_stopped : (o : Option Halt) → o ≢ None → Goes k (end_or c o) → k < length journal → IsUnfit p core function b journal k × RunEnds p core function b journal None
     is_stopped o some known less =
         let over = under_none o some less in
         (known.stopped over, subst (GoesOn f first) over known.goes)
@@ -127,10 +127,10 @@ module _ (p : Resolved) (b n : ℕ) (function : Function) (journal : List Entry)
     over_here : IsOverBy f (On (core_there k c)) n
     over_here = subst (λ (a : Moved). IsOverBy f (under k a) n) is known.over
 
-    pub unfit_here : f (core_there k c) ≡ Over None → IsUnfit p function b journal k
-    unfit_here over = is_unfit p function b journal (core_there k c) goes_here k refl over
+    pub unfit_here : f (core_there k c) ≡ Over None → IsUnfit p core function b journal k
+    unfit_here over = is_unfit p core function b journal (core_there k c) goes_here k refl over
 
-    pub none_here : f (core_there k c) ≡ Over None → RunEnds p function b journal None
+    pub none_here : f (core_there k c) ≡ Over None → RunEnds p core function b journal None
     none_here over = subst (GoesOn f first) over (GoesOn-more f first (core_there k c) goes_here)
 
     -- the next move, after which so many have come in
@@ -140,7 +140,7 @@ module _ (p : Resolved) (b n : ℕ) (function : Function) (journal : List Entry)
           subst (λ (a : Moved). left_by f n (under i next) < left_by f n (under k a)) (sym is)
           (subst (λ (a : Moved). left_by f n a < left_by f n (On (core_there k c))) (sym h) (less_left f n (core_there k c) over_here))
 
-      next_goes : (under i next ≡ Over None → IsUnfit p function b journal i) → Goes i next
+      next_goes : (under i next ≡ Over None → IsUnfit p core function b journal i) → Goes i next
       next_goes stopped = record {
         goes = subst (GoesOn f first) (sym h) (GoesOn-more f first (core_there k c) goes_here);
         over = subst (λ (a : Moved). IsOverBy f a n) (sym h) (over_next f n (core_there k c) over_here);

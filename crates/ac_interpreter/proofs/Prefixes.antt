@@ -9,12 +9,12 @@ use Rattle.ac_base.specs.declared.ends.CoreEnd.{CoreEnd}
 use Rattle.ac_base.specs.declared.entry.Entry.{Entry}
 use Rattle.work_item.specs.Store.{Store, no_int}
 use Rattle.core_state.specs.Frames.{begun, first_store}
-use Rattle.core_state.specs.Shared.{core_end, first_shared, begins_with}
+use Rattle.core_state.specs.Shared.{core_end, begins_with}
 use Rattle.core_state.specs.Moves.{On, Over, moves, and_then, GoesOn}
 use Rattle.core_state.proofs.Runs.{GoesOn-more}
 use Rattle.ac_commands.specs.declared.program.Function.{Function}
 use Rattle.ac_commands.specs.declared.program.Resolved.{Resolved}
-use Rattle.ac_semantics.specs.Threads.{CoreState, step, first_state, first_core, first_globals}
+use Rattle.ac_semantics.specs.Threads.{CoreState, step, first_state, first_core, first_globals, shared_at_first}
 use Rattle.ac_interpreter.specs.Unfit.{RunEnds, IsUnfit}
 use Rattle.ac_interpreter.specs.inner.Under.{core_under, move_under}
 use Rattle.ac_interpreter.proofs.Growing.{Moved, core_with_todo, IsOut, grown, Follows}
@@ -230,12 +230,12 @@ split (x ∷ xs) (suc n) lt =
       whole = ap (λ ys. x ∷ r.first ∷ r.rest ++ ys) (left_more x xs n) ∙ ap (λ ys. x ∷ ys) r.whole;
     }
 
-module _ (program : Resolved) (function : Function) (bound : ℕ) where
+module _ (program : Resolved) (core : ℕ) (function : Function) (bound : ℕ) where
   abbrev go : CoreState → Moved
   go = step program bound
 
   abbrev first : List Entry → Moved
-  first journal = first_state program function journal
+  first journal = first_state program core function journal
 
   -- ---- a state of the run under a journal
 
@@ -243,7 +243,7 @@ module _ (program : Resolved) (function : Function) (bound : ℕ) where
     -- from this first move on, without a journal
     module _ (a : Entry) (rest later : List Entry) (whole : a ∷ rest ++ later ≡ journal) where
       run_of_all : GoesOn go (move_under [] (a ∷ rest ++ later) (first [])) (On c)
-      run_of_all = subst (λ (m : Moved). GoesOn go m (On c)) (ap first (sym whole) ∙ first_too program function (a ∷ rest ++ later)) goes
+      run_of_all = subst (λ (m : Moved). GoesOn go m (On c)) (ap first (sym whole) ∙ first_too program core function (a ∷ rest ++ later)) goes
 
       none_before : length c.held.shared.todo ≤ length later → (m : Moved) → GoesOn go (move_under [] (a ∷ rest ++ later) m) (On c)
           → GoesOn go (move_under [] (a ∷ rest) m) (Over None) → ⊥
@@ -263,21 +263,21 @@ module _ (program : Resolved) (function : Function) (bound : ℕ) where
           subst (GoesOn go (On (core_under [] (a ∷ rest) s))) (unfit_here program bound later at c last over) more
 
     before_it : (place : ℕ) → c.held.shared.todo ≡ drop place journal → (earlier : ℕ) → earlier < place → earlier < length journal
-        → RunEnds program function bound (take (earlier + 1) journal) None → ⊥
+        → RunEnds program core function bound (take (earlier + 1) journal) None → ⊥
     before_it place todo earlier lt inside x =
         let r = split journal earlier inside in
         let later = drop (earlier + 1) journal in
         let n = ap length todo in
         let k = length-drop place journal in
         let l = length-drop (earlier + 1) journal in
-        let all = subst (λ (m : Moved). GoesOn go m (Over None)) (ap first r.taken ∙ first_too program function (r.first ∷ r.rest)) x in
+        let all = subst (λ (m : Moved). GoesOn go m (Over None)) (ap first r.taken ∙ first_too program core function (r.first ∷ r.rest)) x in
         none_before r.first r.rest later r.whole (omega (arith, n, k, l, lt)) (first []) (run_of_all r.first r.rest later r.whole) all
 
-    none_at : (place : ℕ) → c.held.shared.todo ≡ drop place journal → go c ≡ Over None → place < length journal → RunEnds program function bound (take (place + 1) journal) None
+    none_at : (place : ℕ) → c.held.shared.todo ≡ drop place journal → go c ≡ Over None → place < length journal → RunEnds program core function bound (take (place + 1) journal) None
     none_at place todo over lt =
         let r = split journal place lt in
         let later = drop (place + 1) journal in
-        subst (λ (m : Moved). GoesOn go m (Over None)) (sym (ap first r.taken ∙ first_too program function (r.first ∷ r.rest)))
+        subst (λ (m : Moved). GoesOn go m (Over None)) (sym (ap first r.taken ∙ first_too program core function (r.first ∷ r.rest)))
         (none_there r.first r.rest later r.whole r.at (todo ∙ r.from) over (first []) (run_of_all r.first r.rest later r.whole))
 
     -- where the next move is an end of which nothing is seen, an entry is left
@@ -287,7 +287,7 @@ module _ (program : Resolved) (function : Function) (bound : ℕ) where
         let seen = subst IsOut over (subst (λ (x : CoreState). IsOut (go x)) (itself c [] out) (step_out program bound c)) in
         no_end_more seen.0 seen.1
 
-    pub is_unfit : (place : ℕ) → c.held.shared.todo ≡ drop place journal → go c ≡ Over None → IsUnfit program function bound journal place
+    pub is_unfit : (place : ℕ) → c.held.shared.todo ≡ drop place journal → go c ≡ Over None → IsUnfit program core function bound journal place
     is_unfit place todo over =
         let lt : place < length journal = ⊎_elim (λ lt. lt) (λ le. absurd (some_left place todo over le)) (cases_lt place (length journal)) in
         record {
@@ -298,20 +298,21 @@ module _ (program : Resolved) (function : Function) (bound : ℕ) where
 
   -- ---- a core that has no room for its first frame
 
-  first_seen : (r : Result Store Trap) → IsOut (begins_with (λ (end : Option CoreEnd). end) (first_globals program) (first_shared []) r (λ store. On (first_core function (first_shared []) store)))
+  first_seen : (r : Result Store Trap) → IsOut (begins_with (λ (end : Option CoreEnd). end) (first_globals program) (shared_at_first program core []) r (λ store. On (first_core function
+      (shared_at_first program core []) store)))
   first_seen (Ok store) = refl
-  first_seen (Err trap) = (core_end (word.Trapped trap) false (first_globals program) [] (first_shared []), refl)
+  first_seen (Err trap) = (core_end (word.Trapped trap) false (first_globals program) [] (shared_at_first program core []), refl)
 
   unfit_first : (e : Entry) (es : List Entry) (m : Moved) → move_under [] (e ∷ es) m ≡ Over None → move_under [] (e ∷ []) m ≡ Over None
   unfit_first e es (On c) h = not_both (core_under [] (e ∷ es) c) None h
   unfit_first e es (Over end) h = refl
 
-  pub is_unfit_first : (journal : List Entry) → first journal ≡ Over None → IsUnfit program function bound journal 0
+  pub is_unfit_first : (journal : List Entry) → first journal ≡ Over None → IsUnfit program core function bound journal 0
   is_unfit_first [] h =
       let seen = subst IsOut h (first_seen (begun (first_store (first_globals program)) None (replicate function.slots no_int))) in
       no_end_more seen.0 seen.1
   is_unfit_first (e ∷ es) h =
-      let here = first_too program function (e ∷ []) ∙ unfit_first e es (first []) (sym (first_too program function (e ∷ es)) ∙ h) in
+      let here = first_too program core function (e ∷ []) ∙ unfit_first e es (first []) (sym (first_too program core function (e ∷ es)) ∙ h) in
       record {
         inside = omega arith;
         unfit = (0, sym (ap (λ (m : Moved). and_then m (moves go 0)) here));

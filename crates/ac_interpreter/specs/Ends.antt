@@ -25,10 +25,10 @@ IsCount f a k = IsOverBy f a k × ((j : ℕ) → j < k → is_over (and_then a (
 abbrev pub HasCount : {S E : Type 0} → (S → Move S E) → Move S E → Type 0
 HasCount f a = (k : ℕ) × IsCount f a k
 
--- so it is with a core that enters this function, with this bound on its steps, under this journal
-abbrev pub CoreEnds : Resolved → Function → ℕ → List Entry → Type 0
-CoreEnds program function bound journal =
-    HasCount {S = CoreState} {E = Option CoreEnd} (step program bound) (first_state program function journal)
+-- so it is with the core of this number that enters this function, with this bound on its steps, under this journal
+abbrev pub CoreEnds : Resolved → ℕ → Function → ℕ → List Entry → Type 0
+CoreEnds program core function bound journal =
+    HasCount {S = CoreState} {E = Option CoreEnd} (step program bound) (first_state program core function journal)
 
 -- ---- there is one such number
 
@@ -57,6 +57,6 @@ module _ {S E : Type 0} (f : S → Move S E) (a : Move S E) where
   count_once x y =
       subst (IsFirst x) (same_number x y) (λ c. ap (λ (z : IsCount f a x.0). (x.0, z)) (count_is x.0 x.1 c)) y.1
 
-pub ends_once : (program : Resolved) (function : Function) (bound : ℕ) (journal : List Entry)
-    → IsProp (CoreEnds program function bound journal)
-ends_once program function bound journal = count_once (step program bound) (first_state program function journal)
+pub unique : (program : Resolved) (core : ℕ) (function : Function) (bound : ℕ) (journal : List Entry)
+    → IsProp (CoreEnds program core function bound journal)
+unique program core function bound journal = count_once (step program bound) (first_state program core function journal)

@@ -11,5 +11,6 @@ pub mod Released
 pub mod Chains
 pub mod Arrivals
 pub mod Under
+pub mod Outcomes
 pub mod Cancels
 pub mod Runs

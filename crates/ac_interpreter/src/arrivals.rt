@@ -1,17 +1,38 @@
 //! What an entry of a journal makes of the operations of a core.
 
-ghost use Rattle.std.specs.Prelude.{◌≡◌, find, position, Some, None, MatchBool, MatchOption, MatchResult};
+ghost use Rattle.std.specs.Prelude.{◌≡◌, ◌<◌, Bool, length, find, position, Some, None, MatchBool, MatchOption, MatchResult};
 ghost use Rattle.std.specs.List.{list_any};
-ghost use Rattle.cancel_scope.specs.Outstanding.{is_to_offer, is_offered, is_to_receive, without_first};
+ghost use Rattle.cancel_scope.specs.Outstanding.{is_to_offer, is_offered, is_begun, is_to_receive, without_first};
 ghost use Rattle.work_item.specs.Store.{Store};
-ghost use Rattle.core_state.specs.Arrivals.{goes_on_waiting, offers, is_offer, offers_on, is_withdrawal, is_room, keeps_room};
-ghost use Rattle.ac_interpreter.specs.inner.Operations.{is_sought};
+ghost use Rattle.cancel_scope.specs.declared.operation.Operation as c;
+ghost use Rattle.core_state.specs.Arrivals.{ok, goes_on_waiting, is_taken, offers, is_offer, offers_on, is_withdrawal, is_room, keeps_room};
+ghost use Rattle.ac_interpreter.specs.inner.Operations.{is_sought, IsOldest};
+ghost use Rattle.ac_interpreter.specs.inner.Arrivals.{left_after};
 ghost use Rattle.ac_interpreter.specs.inner.State.{held_of};
 
 use crate::held::Held;
 use crate::operation::{Operation, Sought};
-use ac_base::{Entry, Event, Message, Payload};
+use ac_base::{Answer, Entry, Event, Message, Payload};
 use work_item::Item;
+
+/// The value of an operation that is done.
+pub const OK: i64 = 0;
+
+/// The thread whose operation has ended, and the value with which it goes on.
+#[derive(Clone, Copy)]
+pub struct Woken {
+    pub item: Item,
+    pub value: i64,
+}
+
+impl Woken {
+    // The thread of an operation that is done.
+    fn done(item: Item) -> Woken
+        ensures { result ≡ record { item = item; value = ok } }
+    {
+        Woken { item, value: OK }
+    }
+}
 
 /// An entry that does not fit.
 #[derive(Clone, Copy)]
@@ -44,6 +65,21 @@ fn offer(operations: &mut Vec<Operation>, link: u32, number: u64, payload: &Payl
             true
         }
     }
+}
+
+/// The peer of the operation at a place has taken it: it has ended, and its thread goes on, or else it is a request, which has begun.
+pub fn be_taken(operations: &mut Vec<Operation>, place: usize) -> Option<Woken>
+    requires { place < length operations.old.items }
+    ensures { (store : Store) (test : c.Operation → Bool) (o : c.Operation) → IsOldest test operations.old.items place o
+        → is_taken store test operations.old.items o ≡ left_after store operations.new.items result }
+{
+    if operations[place].is_request() {
+        let operation = &mut operations[place];
+        operation.begin();
+        return None;
+    }
+    let operation = operations.remove(place);
+    Some(Woken::done(operation.item()))
 }
 
 // Takes away the oldest operation of those that are looked for.
@@ -126,11 +162,11 @@ fn keeps_room(link: u32, number: u64, past: &[Entry]) -> bool
 }
 
 impl Held {
-    ghost use Rattle.core_state.specs.Arrivals.{offers, ends_known, ends_received, passes_over, arrives};
+    ghost use Rattle.core_state.specs.Arrivals.{offers, is_known, is_answered, ends_received, passes_over, arrives};
     ghost use Rattle.ac_interpreter.specs.inner.Arrivals.{arrival_of};
 
     // An operation is offered.
-    fn offer(&mut self, link: u32, number: u64, payload: &Payload) -> Result<Option<Item>, Unfit>
+    fn offer(&mut self, link: u32, number: u64, payload: &Payload) -> Result<Option<Woken>, Unfit>
         ensures fits { MatchResult result
             (λ woken. offers self.old.memory self.old.operations.items link number payload.now
             (find (is_to_offer link) self.old.operations.items) ≡ Some (arrival_of self.new woken))
@@ -146,24 +182,49 @@ impl Held {
         }
     }
 
-    // An offer that was taken has ended.
-    fn end_offered(&mut self, link: u32, number: u64) -> Result<Option<Item>, Unfit>
+    // What was offered there was taken.
+    fn take_offered(&mut self, link: u32, number: u64) -> Result<Option<Woken>, Unfit>
         ensures fits { MatchResult result
-            (λ woken. ends_known self.old.memory self.old.operations.items link number
+            (λ woken. is_known self.old.memory self.old.operations.items link number
             (find (is_offered link number) self.old.operations.items) ≡ Some (arrival_of self.new woken))
-            (λ e. ends_known self.old.memory self.old.operations.items link number
+            (λ e. is_known self.old.memory self.old.operations.items link number
             (find (is_offered link number) self.old.operations.items) ≡ None) }
         ensures held { held_of self.new
             ≡ record (held_of self.old) { store = self.new.memory; operations = self.new.operations.items } }
     {
-        match take(&mut self.operations, Sought::Offered(link, number)) {
-            Some(operation) => Ok(Some(operation.item())),
+        match oldest(self.operations.as_slice(), Sought::Offered(link, number)) {
+            Some(place) => Ok(be_taken(&mut self.operations, place)),
+            None => Err(Unfit),
+        }
+    }
+
+    // A request that has begun there has its answer, and has ended.
+    fn end_answered(
+        &mut self,
+        link: u32,
+        number: u64,
+        answer: &Answer,
+    ) -> Result<Option<Woken>, Unfit>
+        ensures fits { MatchResult result
+            (λ woken. is_answered self.old.memory self.old.operations.items link number answer.now
+            (find (is_begun link number) self.old.operations.items) ≡ Some (arrival_of self.new woken))
+            (λ e. is_answered self.old.memory self.old.operations.items link number answer.now
+            (find (is_begun link number) self.old.operations.items) ≡ None) }
+        ensures held { held_of self.new
+            ≡ record (held_of self.old) { store = self.new.memory; operations = self.new.operations.items } }
+    {
+        match take(&mut self.operations, Sought::Begun(link, number)) {
+            Some(operation) => {
+                let value = operation.take_answer(&mut self.memory, answer);
+                let item = operation.item();
+                Ok(Some(Woken { item, value }))
+            }
             None => Err(Unfit),
         }
     }
 
     // The oldest operation that waits for a message has it, and has ended.
-    fn end_received(&mut self, link: u32, value: Message) -> Result<Option<Item>, Unfit>
+    fn end_received(&mut self, link: u32, value: Message) -> Result<Option<Woken>, Unfit>
         ensures fits { MatchResult result
             (λ woken. ends_received self.old.memory self.old.operations.items link value
             (find (is_to_receive link) self.old.operations.items) ≡ Some (arrival_of self.new woken))
@@ -175,14 +236,14 @@ impl Held {
         match take(&mut self.operations, Sought::ToReceive(link)) {
             Some(operation) => {
                 self.memory.write_at(operation.place(), 0, value);
-                Ok(Some(operation.item()))
+                Ok(Some(Woken::done(operation.item())))
             }
             None => Err(Unfit),
         }
     }
 
     // A withdrawn offer is passed over, and the operation that waits for a message goes on waiting.
-    fn pass_over(&mut self, link: u32) -> Result<Option<Item>, Unfit>
+    fn pass_over(&mut self, link: u32) -> Result<Option<Woken>, Unfit>
         ensures fits { MatchResult result
             (λ woken. passes_over self.old.memory self.old.operations.items
             (find (is_to_receive link) self.old.operations.items) ≡ Some (arrival_of self.new woken))
@@ -197,9 +258,9 @@ impl Held {
         }
     }
 
-    /// What an event makes of a core whose journal had these entries before, and the thread that goes on where an operation
+    /// What an event makes of a core whose journal had these entries before, and the thread that goes on where its operation
     /// has ended.
-    pub fn take_in(&mut self, past: &[Entry], event: &Event) -> Result<Option<Item>, Unfit>
+    pub fn take_in(&mut self, past: &[Entry], event: &Event) -> Result<Option<Woken>, Unfit>
         ensures fits { MatchResult result
             (λ woken. arrives past.now self.old.memory self.old.operations.items event.now ≡ Some (arrival_of self.new woken))
             (λ e. arrives past.now self.old.memory self.old.operations.items event.now ≡ None) }
@@ -217,7 +278,12 @@ impl Held {
                 }
                 self.offer(*link, *number, payload)
             }
-            Event::Know { link, number } => self.end_offered(*link, *number),
+            Event::Know { link, number } => self.take_offered(*link, *number),
+            Event::Reply {
+                link,
+                number,
+                answer,
+            } => self.end_answered(*link, *number, answer),
             Event::Got { link, value, .. } => self.end_received(*link, *value),
             Event::Pass { link, .. } => self.pass_over(*link),
             Event::Room { link, number } => {

@@ -4,6 +4,7 @@ ghost use Rattle.std.specs.Prelude.{◌≡◌, ◌+◌, ◌<◌, ◌≤◌, ◌^
 ghost use Rattle.work_item.specs.Store.{int_in, place_in};
 ghost use Rattle.work_item.specs.declared.cell.Cell.TheVariants as c;
 ghost use Rattle.core_state.specs.Frames.{within, one_place, part_at, block_in};
+ghost use Rattle.core_state.specs.Requests.{first_of};
 
 use ac_base::Trap;
 use std::marker::Model;
@@ -49,6 +50,25 @@ impl Span {
         ensures { result ≡ self.home }
     {
         self.home
+    }
+
+    /// How many elements it has.
+    pub fn len(self) -> u32
+        ensures { result ≡ self.len }
+    {
+        self.len
+    }
+
+    /// The first elements, so many.
+    pub fn first(self, len: u32) -> Span
+        requires { len ≤ self.len }
+        ensures { result ≡ first_of self len }
+    {
+        Span {
+            home: self.home,
+            start: self.start,
+            len,
+        }
     }
 
     /// The slot so many from the first one on.

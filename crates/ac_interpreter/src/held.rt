@@ -15,7 +15,7 @@ use std::marker::Model;
 use work_item::{BlockId, Cell, FrameId, Item};
 
 /// The steps and turns that a core has used, the bytes that it has printed, its globals and frames, whether each block that
-/// was born is marked as cancelled, and its operations that have not ended, the oldest first.
+/// was born is marked as cancelled, its operations that have not ended, the oldest first, and the link of its requests.
 #[derive(Drop)]
 pub struct Held {
     pub steps: u64,
@@ -24,6 +24,7 @@ pub struct Held {
     pub memory: Memory,
     pub marks: Vec<bool>,
     pub operations: Vec<Operation>,
+    pub requests: u32,
 }
 
 // The ints among them, and 0 for each that is none.

@@ -12,6 +12,7 @@ mod operation;
 mod operators;
 mod pending;
 mod replay;
+mod requests;
 mod resuming;
 mod running;
 mod statements;

@@ -6,9 +6,11 @@ ghost use Rattle.work_item.specs.Store.{global_at, with_global, int_at, with_int
 ghost use Rattle.work_item.specs.Store.{live_words, any_in, cleared, no_int, some_over};
 ghost use Rattle.ac_interpreter.specs.inner.Released.{is_over, one_ended};
 ghost use Rattle.core_state.specs.Frames.{has_words};
+ghost use Rattle.core_state.specs.Requests.{bytes_at, bytes_for, with_bytes_at};
 
 use crate::datum::{Datum, Span};
-use ac_base::NoMemory;
+use ac_base::{Bytes, List, NoMemory};
+use core_values::low_byte;
 use std::alloc::Global;
 use std::marker::Model;
 use work_item::FrameId;
@@ -332,6 +334,29 @@ impl Memory {
             None => self.put_global(slot, value),
             Some(frame) => self.set_cell(frame, slot, Datum::int(value)),
         }
+    }
+
+    /// The low 8 bits of each element of an array.
+    pub fn bytes_at(&self, alloc: Global, place: Span) -> Result<Bytes, NoMemory>
+        ensures { IfOk result (λ bytes. bytes ≡ bytes_at self.now place) }
+    {
+        let mut bytes = List::new(alloc);
+        for index in 0..place.len() {
+            bytes.push(low_byte(self.read_at(place, index)))?;
+        }
+        Ok(bytes)
+    }
+
+    /// Puts bytes into the elements of an array, one in each, as far as there are elements; how many it has put there.
+    pub fn write_bytes(&mut self, into: Span, bytes: &[u8]) -> u32
+        ensures memory { self.new ≡ with_bytes_at self.old into (bytes_for into bytes.now) }
+        ensures count { result ≡ length (bytes_for into bytes.now) }
+    {
+        let count = bytes.len().min(into.len() as usize) as u32;
+        for index in 0..count {
+            self.write_at(into, index, i64::from(bytes[index as usize]));
+        }
+        count
     }
 
     /// The globals, out of the memory.

@@ -41,7 +41,7 @@ fn after(journal: &[Entry], taken: usize) -> &[Entry]
 fn run_through(core: &mut Core, ending: &Ending) -> Result<usize, NoMemory>
     requires program { core.old.program.now ≡ ending.now.program.now }
     requires bound { core.old.bound ≡ ending.now.bound }
-    requires first { state_of core.old ≡ first_state ending.now.program.now ending.now.function.now [] }
+    requires first { state_of core.old ≡ first_state ending.now.program.now ending.now.core ending.now.function.now [] }
     ensures within { IfOk result (λ taken. taken ≤ length ending.now.journal.now) }
     ensures over { IfOk result (λ taken. taken ≡ length ending.now.journal.now → IsOver ending.now core.new) }
     ensures stopped { IfOk result (λ taken. taken < length ending.now.journal.now → IsStopped ending.now taken) }
@@ -60,13 +60,19 @@ fn run_through(core: &mut Core, ending: &Ending) -> Result<usize, NoMemory>
 /// What becomes of the run of a core under its journal.
 pub fn run_core(alloc: Global, ending: &Ending) -> Result<Run, NoMemory>
     ensures ends { IfOk result (λ run. (end : CoreEnd) → run ≡ r.Ends end
-        → RunEnds ending.now.program.now ending.now.function.now ending.now.bound ending.now.journal.now (Some end)) }
+        → RunEnds ending.now.program.now ending.now.core ending.now.function.now ending.now.bound ending.now.journal.now (Some end)) }
     ensures unfit { IfOk result (λ run. (place : ℕ) → run ≡ r.Misfit place
-        → IsUnfit ending.now.program.now ending.now.function.now ending.now.bound ending.now.journal.now place) }
+        → IsUnfit ending.now.program.now ending.now.core ending.now.function.now ending.now.bound ending.now.journal.now place) }
     ensures none { IfOk result (λ run. (place : ℕ) → run ≡ r.Misfit place
-        → RunEnds ending.now.program.now ending.now.function.now ending.now.bound ending.now.journal.now None) }
+        → RunEnds ending.now.program.now ending.now.core ending.now.function.now ending.now.bound ending.now.journal.now None) }
 {
-    let mut core = begin_core(alloc, ending.program, ending.function, ending.bound)?;
+    let mut core = begin_core(
+        alloc,
+        ending.program,
+        ending.core,
+        ending.function,
+        ending.bound,
+    )?;
     let taken = run_through(&mut core, ending)?;
     if taken < ending.journal.len() {
         return Ok(Run::Misfit {

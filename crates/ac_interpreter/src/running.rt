@@ -1,9 +1,10 @@
 //! A core that goes from step to step.
 
-ghost use Rattle.std.specs.Prelude.{◌≡◌, [], map, IfOk, Some, None, false, if◌then◌else◌};
+ghost use Rattle.std.specs.Prelude.{◌≡◌, ◌<◌, ◌^◌, [], length, map, IfOk, Some, None, false, if◌then◌else◌};
 ghost use Rattle.ac_base.specs.declared.ends.EndWord.TheVariants.{Trapped};
 ghost use Rattle.ac_base.specs.declared.ends.Trap.TheVariants.{StackFull};
 ghost use Rattle.cancel_scope.specs.Outstanding.{waiting_as};
+ghost use Rattle.core_state.specs.Shared.{request_link};
 ghost use Rattle.ac_semantics.specs.Threads.{with_starts, first_state};
 ghost use Rattle.ac_interpreter.specs.inner.Cores.{state_of};
 
@@ -20,9 +21,6 @@ use std::alloc::Global;
 use std::collections::VecDeque;
 use std::mem;
 use work_item::{FrameId, Item};
-
-/// The value of an operation that is done.
-pub const OK: i64 = 0;
 
 /// The value of an operation that never happens.
 pub const CANCELLED: i64 = -1;
@@ -266,16 +264,18 @@ fn first_halt(has_room: bool) -> Option<Halt>
     }
 }
 
-/// A core that is about to enter a function; where there is no room for its frame, it has ended.
+/// A core, by its number, that is about to enter a function; where there is no room for its frame, it has ended.
 pub fn begin_core<'a>(
     alloc: Global,
     program: &'a Resolved,
+    core: u32,
     function: &'a Function,
     bound: u64,
 ) -> Result<Core<'a>, NoMemory>
+    requires link { request_link (length program.now.channels) core < 2 ^ 32 }
     ensures program { IfOk result (λ c. c.program.now ≡ program.now) }
     ensures bound { IfOk result (λ c. c.bound ≡ bound) }
-    ensures first { IfOk result (λ c. state_of c ≡ first_state program.now function.now []) }
+    ensures first { IfOk result (λ c. state_of c ≡ first_state program.now core function.now []) }
 {
     let mut memory = Memory::new(alloc, program.slots)?;
     set_starts(&mut memory, program.starts.as_slice());
@@ -303,6 +303,7 @@ pub fn begin_core<'a>(
             memory,
             marks: Vec::new(alloc),
             operations: Vec::new(alloc),
+            requests: program.channels.len() as u32 + core,
         },
         running: None,
         work: Agenda::new(alloc),

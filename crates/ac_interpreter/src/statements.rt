@@ -10,6 +10,7 @@ ghost use Rattle.core_state.specs.Shared.{printed, formatted};
 ghost use Rattle.ac_semantics.specs.Held as h;
 ghost use Rattle.ac_semantics.specs.Statements as s;
 ghost use Rattle.ac_semantics.specs.Work as w;
+ghost use Rattle.ac_interpreter.specs.inner.Operations.{asked_or_trap};
 ghost use Rattle.ac_interpreter.specs.inner.Pending.{outcome_of};
 ghost use Rattle.ac_interpreter.specs.inner.State.{held_of, shared_of};
 ghost use Rattle.ac_interpreter.specs.inner.Nexts.{next_with};
@@ -19,6 +20,7 @@ use crate::held::Held;
 use crate::memory::Memory;
 use crate::operation::Asked;
 use crate::pending::{Around, Head, Outcome};
+use crate::requests::{read_of, write_of};
 use crate::resuming::{begin, resume};
 use crate::work::{Agenda, Work};
 use ac_base::{EndWord, List, NoMemory, Trap};
@@ -49,8 +51,8 @@ pub enum Next<'a> {
 
 // ---- operands of a statement
 
-// The one so many before the last.
-fn operand(operands: &[Datum], before: usize) -> Datum
+/// The one so many before the last.
+pub fn operand(operands: &[Datum], before: usize) -> Datum
     ensures { result ≡ slice_index_or (reverse operands.now) before no_int }
 {
     if before < operands.len() {
@@ -406,6 +408,18 @@ fn call<'a>(
     Ok(Next::Goes)
 }
 
+// ---- requests
+
+// A request starts on the core's own link, where its range is right.
+fn request<'a>(asked: Result<Asked, Trap>, held: &Held) -> Next<'a>
+    ensures { (ws : List w.Work) → next_with result (held_of held.now) ws ≡ s.requests (asked_or_trap asked) ws (held_of held.now) }
+{
+    match asked {
+        Ok(asked) => Next::Operates(held.requests, asked),
+        Err(trap) => Next::Ends(EndWord::Trapped(trap)),
+    }
+}
+
 // ---- statements
 
 // A statement goes on with what its operands come to.
@@ -451,7 +465,15 @@ fn settle<'a>(
             let place = last_array(operands.as_slice());
             Ok(Next::Operates(channel, Asked::Recv(place)))
         }
-        Outcome::Stops(Head::Acting(_), _) => Ok(Next::Stays),
+        Outcome::Stops(Head::Acting(Action::Read { file }), operands) => {
+            work.push(Work::Pend(frame, command, around))?;
+            Ok(request(read_of(file, operands.as_slice()), held))
+        }
+        Outcome::Stops(Head::Acting(Action::Write { file }), operands) => {
+            work.push(Work::Pend(frame, command, around))?;
+            let asked = write_of(alloc, &held.memory, file, operands.as_slice())?;
+            Ok(request(asked, held))
+        }
     }
 }
 

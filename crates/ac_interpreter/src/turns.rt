@@ -3,7 +3,8 @@
 ghost use Rattle.std.specs.Prelude.{◌≡◌, [], ◌∷◌, drop, nat_eq, true, MatchOption};
 ghost use Rattle.ac_interpreter.specs.inner.Under.{IsLater};
 
-use crate::running::{Core, OK};
+use crate::arrivals::Woken;
+use crate::running::Core;
 use crate::statements::{Next, next_step};
 use ac_base::{Entry, Event, NoMemory};
 use work_item::Item;
@@ -61,8 +62,8 @@ impl<'a> Core<'a> {
         ensures same { IsSameCore self.old self.new }
     {
         match self.held.take_in(past, event) {
-            Ok(Some(item)) => {
-                self.resume(item, OK)?;
+            Ok(Some(Woken { item, value })) => {
+                self.resume(item, value)?;
                 Ok(true)
             }
             Ok(None) => Ok(true),

@@ -1,3 +1,5 @@
 mod Finding
 mod Keeping
+mod Writing
 pub mod Examples
+pub mod FilesExamples

@@ -1,4 +1,6 @@
 pub mod Causes
+pub mod Disks
+pub mod Files
 pub mod Told
 pub mod Texts
 pub mod Views

@@ -1,8 +1,16 @@
 -- What contracts see of the objects in memory.
-use Rattle.std.specs.Prelude.{ℕ, Bool, List, [], None, Some, is_some, unwrap_or, if◌then◌else◌}
+use Rattle.std.specs.Prelude.{◌≡◌, ℕ, Bool, true, false, ⊤, min, length, find, nat_eq, List, [], ◌∷◌, ◌++◌, None, Some, Ok, Err}
+use Rattle.std.specs.Prelude.{is_some, unwrap_or, if◌then◌else◌, IfSome, refl}
 use Rattle.std.specs.declared.option.Option.{Option}
+use Rattle.std.specs.declared.result.Result.{Result}
+use Rattle.ac_outside.specs.declared.failed.BindFault.{BindFault}
+use Rattle.ac_outside.specs.declared.failed.BindFault.TheVariants.{Failed, NoMemory}
+use Rattle.ac_outside.specs.declared.failed.Torn.{Torn}
+use Rattle.ac_outside.specs.declared.memory_disk.DiskFail.{DiskFail}
 use Rattle.ac_outside.specs.declared.shelf.NamedBytes.{NamedBytes}
 use Rattle.ac_outside.specs.Told.{LibraryTold, SinkTold}
+use Rattle.ac_outside.specs.Disks.{DiskTold, Held}
+use Rattle.ac_outside.specs.Files.{file_at, written}
 use Rattle.ac_outside.specs.Texts.{text_of}
 
 -- texts by name, and what is left of the open one, where one was opened
@@ -64,3 +72,67 @@ pub record KeptBytes : Type 0 where
 
 abbrev pub told_by_kept : KeptBytes → SinkTold
 told_by_kept s = record { held = (if s.is_over then None else Some s.taken); faults = 0 }
+
+-- The files of a disk in memory: those that are bound, those that it was made of, and whether memory was
+-- given at every bind.
+pub record StoredFiles : Type 0 where
+  pub files : List NamedBytes
+  pub given : List NamedBytes
+  pub is_ready : Bool
+
+abbrev pub held_by : StoredFiles → ℕ → Held
+held_by s calls = record { files = s.files; found = text_of s.given; calls = calls }
+
+abbrev pub told_by_stored : StoredFiles → ℕ → ℕ → DiskTold
+told_by_stored s calls faults = record {
+  held = (if s.is_ready then Some (held_by s calls) else None);
+  bound = length s.files;
+  is_ready = s.is_ready;
+  faults = faults;
+}
+
+-- a disk in memory that tells its files has as many bound as it tells
+pub bound-told : (s : StoredFiles) (calls faults : ℕ)
+    → IfSome (told_by_stored s calls faults).held (λ held. (told_by_stored s calls faults).bound ≡ length held.files)
+bound-told s calls faults =
+    elim s.is_ready as (λ ready. IfSome (if ready then Some (held_by s calls) else None) (λ held. length s.files ≡ length held.files)) [
+      | true ↦ refl
+      | false ↦ tt
+    ]
+
+-- the files after a bind
+abbrev pub stored_bind : StoredFiles → List ℕ → Result ℕ BindFault → StoredFiles
+stored_bind s path (Ok len) = record s { files = s.files ++ file_at (text_of s.given) path ∷ [] }
+stored_bind s path (Err Failed) = s
+stored_bind s path (Err NoMemory) = record s { is_ready = false }
+
+-- the files after these bytes were written at a place of one of them
+abbrev pub stored_write : StoredFiles → ℕ → ℕ → List ℕ → StoredFiles
+stored_write s file from bytes = record s { files = written s.files file from bytes }
+
+-- a disk that does not fail
+pub record SafeFiles : Type 0 where
+  pub stored : StoredFiles
+  pub calls : ℕ
+
+abbrev pub told_by_safe_disk : SafeFiles → DiskTold
+told_by_safe_disk s = told_by_stored s.stored s.calls 0
+
+-- A disk that fails in the listed calls, which are numbered from 0, binds, reads and writes together.
+pub record FailingFiles : Type 0 where
+  pub stored : StoredFiles
+  pub calls : ℕ
+  pub fails : List DiskFail
+  pub faults : ℕ
+
+abbrev pub told_by_failing_disk : FailingFiles → DiskTold
+told_by_failing_disk s = told_by_stored s.stored s.calls s.faults
+
+-- how the call of this number fails, where it does
+abbrev pub fail_at : List DiskFail → ℕ → Option DiskFail
+fail_at fails call = find (λ fail. nat_eq fail.call call) fails
+
+-- what a write of these bytes answers that fails so, if at all
+abbrev pub torn_by : Option DiskFail → List ℕ → Result ⊤ Torn
+torn_by None bytes = Ok tt
+torn_by (Some fail) bytes = Err (record { taken = min (length bytes) fail.taken })

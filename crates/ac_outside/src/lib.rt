@@ -1,18 +1,26 @@
 //! What a program meets outside itself: a library of texts that it reads, a sink that it writes
-//! to, and objects in memory of both kinds.
+//! to, a disk whose files it keeps, and objects in memory of each kind.
 #![tactic(auto)]
 
+mod disk;
 mod failed;
 mod library;
 mod memory;
+mod memory_disk;
 mod names;
+mod overwrite;
 mod safe;
+mod safe_disk;
 mod shelf;
 mod sink;
+mod store;
 
-pub use failed::Failed;
+pub use disk::{Disk, FILE_BYTES};
+pub use failed::{BindFault, Failed, Torn};
 pub use library::Library;
 pub use memory::{MemoryLibrary, MemorySink};
+pub use memory_disk::{DiskFail, MemoryDisk};
 pub use safe::{KEPT, SafeLibrary, SafeSink};
+pub use safe_disk::SafeDisk;
 pub use shelf::NamedBytes;
 pub use sink::Sink;

@@ -79,7 +79,7 @@ it_is_ready = record { is_within = record { is_accepted = it_is_accepted; within
 -- ---- its run: both cores finish at once, and no message is sent
 
 abbrev pub its_end : MachineEnd
-its_end = record { core = core_end Finished false [] [] (record { steps = 0; turn = 1; output = []; past = []; todo = [] }); instructions = 2 }
+its_end = record { core = core_end Finished false [] [] (record { steps = 0; turn = 1; output = []; past = []; todo = []; requests = 1 }); instructions = 2 }
 
 abbrev pub its_run : Ended
 its_run = record { steps = 100; start = []; journals = journal [] ∷ journal [] ∷ journal [] ∷ []; cores = its_end ∷ its_end ∷ [] }

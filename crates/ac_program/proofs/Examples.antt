@@ -321,7 +321,7 @@ a_front_is_taken = record { front = codes "a"; rest = codes "b"; cut = refl; sho
 
 -- the core printed 7, in one step and nine instructions
 abbrev pub its_end : CoreEnd
-its_end = core_end Finished false [] [] (record { steps = 1; turn = 1; output = codes "7\n"; past = []; todo = [] })
+its_end = core_end Finished false [] [] (record { steps = 1; turn = 1; output = codes "7\n"; past = []; todo = []; requests = 0 })
 
 abbrev pub its_run : Ended
 its_run = record { steps = 100; start = []; journals = journal [] ∷ journal [] ∷ []; cores = record { core = its_end; instructions = 9 } ∷ [] }
@@ -332,12 +332,12 @@ f = record { name = codes "f"; is_async = true; gives_int = false; params = []; 
 abbrev pub e : Entered
 e = record { name = codes "f"; at = 0; params = []; words = 0 }
 
-source_prints_seven : and_then (first_state two f []) (moves (step two 100) 3) ≡ Over (Some its_end)
+source_prints_seven : and_then (first_state two 0 f []) (moves (step two 100) 3) ≡ Over (Some its_end)
 source_prints_seven = rw (prints, a_sum, finish_by two (c.Print 0 (sum_value ∷ [])) _ prints, decimal_digit 7 (omega arith)) refl where
   prints : out-Command (c.Print 0 (sum_value ∷ [])) ≡ Command-F.Print 0 (sum_value ∷ [])
   prints = form (c.Print 0 (sum_value ∷ [])) (Command-F.Print 0 (sum_value ∷ [])) (c.rolls-Print 0 (sum_value ∷ []))
 
-pub code_prints_seven : and_then (first_flat two_parts e []) (moves (exec two_parts 100) 10) ≡ Over (record { core = Some its_end; count = 9 })
+pub code_prints_seven : and_then (first_flat two_parts 0 e []) (moves (exec two_parts 100) 10) ≡ Over (record { core = Some its_end; count = 9 })
 code_prints_seven = rw (decimal_digit 7 (omega arith)) refl
 
 pub it_replays : Replays two 0 100 [] (Some its_end)

@@ -181,7 +181,7 @@ same_function : (entry : ℕ) (function : Entered) → slice_get (0 ∷ []) 0 �
 same_function zero function at_core at_entry = cc
 same_function (suc n) function at_core at_entry = cc
 
-silent_prints_nothing : (count k : ℕ) → Over (record { core = Some its_end; count = count }) ≡ and_then (first_flat silent e []) (moves (exec silent 100) k) → ⊥
+silent_prints_nothing : (count k : ℕ) → Over (record { core = Some its_end; count = count }) ≡ and_then (first_flat silent 0 e []) (moves (exec silent 100) k) → ⊥
 silent_prints_nothing count zero h = let n : 2 ≡ 0 = ap printed h in omega (arith, n)
 silent_prints_nothing count (suc zero) h = let n : 2 ≡ 0 = ap printed h in omega (arith, n)
 silent_prints_nothing count (suc (suc zero)) h = let n : 2 ≡ 0 = ap printed h in omega (arith, n)
@@ -198,7 +198,7 @@ abbrev pub machine : Parts → Move Flat FlatEnd → Machine
 machine code state = record { code = code; core = 0; bound = 100; journal = []; state = state; room = false }
 
 abbrev pub at_first : Move Flat FlatEnd
-at_first = first_flat two_parts e []
+at_first = first_flat two_parts 0 e []
 
 abbrev pub at_last : Move Flat FlatEnd
 at_last = Over (record { core = Some its_end; count = 9 })

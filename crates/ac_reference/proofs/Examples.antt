@@ -35,7 +35,7 @@ not_over : {A : Type 0} (end : CoreEnd) (m : Move CoreState (Option CoreEnd)) �
 not_over end m is h = let no : true ≡ false = subst (λ x. true ≡ x) is (ap is_over h) in cc
 
 -- its thread waits for no operation, and so it ends before the entry has come in
-no_end : (entries : List Entry) (end : CoreEnd) → RunEnds nothing (function []) 100 (an_entry ∷ entries) (Some end) → ⊥
+no_end : (entries : List Entry) (end : CoreEnd) → RunEnds nothing 0 (function []) 100 (an_entry ∷ entries) (Some end) → ⊥
 no_end entries end (zero, h) = not_over end _ refl h
 no_end entries end (suc zero, h) = not_over end _ refl h
 no_end entries end (suc (suc k), h) = let no : ◌≡◌ {A = Move CoreState (Option CoreEnd)} (Over (Some end)) (Over None) = h in cc

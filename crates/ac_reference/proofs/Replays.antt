@@ -36,11 +36,11 @@ has_function program core here f h there =
     slice_get_within program.functions here.entry f (subst (λ (x : Core). slice_get program.functions x.entry ≡ Some f) same h.function_is)
 
 -- the end by the function that the core enters
-pub end_there : (p : Resolved) (core bound : ℕ) (f : Function) → Enters p core f → (journal : List Entry) (end : Option CoreEnd) → Replays p core bound journal end → RunEnds p f bound journal end
+pub end_there : (p : Resolved) (core bound : ℕ) (f : Function) → Enters p core f → (journal : List Entry) (end : Option CoreEnd) → Replays p core bound journal end → RunEnds p core f bound journal end
 end_there p core bound f enters journal end h =
-    subst (λ (g : Function). RunEnds p g bound journal end) (one_function p core h.function f h.enters enters) h.ends
+    subst (λ (g : Function). RunEnds p core g bound journal end) (one_function p core h.function f h.enters enters) h.ends
 
-pub replay_of : (p : Resolved) (core bound : ℕ) (f : Function) → Enters p core f → (journal : List Entry) (end : Option CoreEnd) → RunEnds p f bound journal end → Replays p core bound journal end
+pub replay_of : (p : Resolved) (core bound : ℕ) (f : Function) → Enters p core f → (journal : List Entry) (end : Option CoreEnd) → RunEnds p core f bound journal end → Replays p core bound journal end
 replay_of p core bound f enters journal end h = record { function = f; enters = enters; ends = h }
 
 seen_or_none : {A : Type 0} (end : Option CoreEnd) → ((x : CoreEnd) → end ≡ Some x → A) → (end ≡ None → A) → A
@@ -52,11 +52,11 @@ module _ (p : Resolved) (core bound : ℕ) (one : (entries : List Entry) → IsO
   it_enters = let here = (one []).comes in (here.function, here.enters)
 
   module _ (f : Function) (enters : Enters p core f) where
-    pub it_ends : (journal : List Entry) → (end : Option CoreEnd) × RunEnds p f bound journal end
+    pub it_ends : (journal : List Entry) → (end : Option CoreEnd) × RunEnds p core f bound journal end
     it_ends journal = ((one journal).end, end_there p core bound f enters journal (one journal).end (one journal).comes)
 
     -- no journal has an end that is seen and one that is not
-    not_both : (journal : List Entry) → HasReplay p core bound journal → RunEnds p f bound journal None → ⊥
+    not_both : (journal : List Entry) → HasReplay p core bound journal → RunEnds p core f bound journal None → ⊥
     not_both journal h none =
         let only = one journal in
         let some = only.only (Some h.0) h.1 in
@@ -64,14 +64,14 @@ module _ (p : Resolved) (core bound : ℕ) (one : (entries : List Entry) → IsO
         let no : Some h.0 ≡ None = some ∙ sym other in
         cc
 
-    has_replay : (journal : List Entry) → (RunEnds p f bound journal None → ⊥) → HasReplay p core bound journal
+    has_replay : (journal : List Entry) → (RunEnds p core f bound journal None → ⊥) → HasReplay p core bound journal
     has_replay journal seen =
         let only = one journal in
         seen_or_none only.end
         (λ x is. (x, subst (λ (end : Option CoreEnd). Replays p core bound journal end) is only.comes))
         (λ is. absurd (seen (end_there p core bound f enters journal None (subst (λ (end : Option CoreEnd). Replays p core bound journal end) is only.comes))))
 
-    pub is_misfit : (journal : List Entry) (place : ℕ) → IsUnfit p f bound journal place → IsMisfit p core bound journal place
+    pub is_misfit : (journal : List Entry) (place : ℕ) → IsUnfit p core f bound journal place → IsMisfit p core bound journal place
     is_misfit journal place h = record {
       inside = h.inside;
       unfit = λ r. not_both (take (place + 1) journal) r h.unfit;
@@ -79,11 +79,12 @@ module _ (p : Resolved) (core bound : ℕ) (one : (entries : List Entry) → IsO
     }
 
 -- of an equal core
-pub unfit_there : (p q : Resolved) (f g : Function) (b d : ℕ) (xs ys : List Entry) (place : ℕ) → q ≡ p → g ≡ f → d ≡ b → ys ≡ xs → IsUnfit q g d ys place → IsUnfit p f b xs place
-unfit_there p q f g b d xs ys place program function bound journal h =
-    subst (λ (r : Resolved). IsUnfit r f b xs place) program
-    (subst (λ (x : Function). IsUnfit q x b xs place) function
-    (subst (λ (n : ℕ). IsUnfit q g n xs place) bound (subst (λ (es : List Entry). IsUnfit q g d es place) journal h)))
+pub unfit_there : (p q : Resolved) (a c : ℕ) (f g : Function) (b d : ℕ) (xs ys : List Entry) (place : ℕ) → q ≡ p → c ≡ a → g ≡ f → d ≡ b → ys ≡ xs → IsUnfit q c g d ys place → IsUnfit p a f b xs place
+unfit_there p q a c f g b d xs ys place program core function bound journal h =
+    subst (λ (r : Resolved). IsUnfit r a f b xs place) program
+    (subst (λ (n : ℕ). IsUnfit q n f b xs place) core
+    (subst (λ (x : Function). IsUnfit q c x b xs place) function
+    (subst (λ (n : ℕ). IsUnfit q c g n xs place) bound (subst (λ (es : List Entry). IsUnfit q c g d es place) journal h))))
 
 pub one_place : (x place : ℕ) → ◌≡◌ {A = Result CoreEnd ReplayFault} (Err (Misfit x)) (Err (Misfit place)) → x ≡ place
 one_place x place e = cc

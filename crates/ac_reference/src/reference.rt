@@ -1,8 +1,9 @@
 //! The run of a core under a journal.
 
-ghost use Rattle.std.specs.Prelude.{◌≡◌, ◌<◌, ℕ, List, [], length, Option, Some, None, Err, IfOk};
+ghost use Rattle.std.specs.Prelude.{◌≡◌, ◌<◌, ◌^◌, ℕ, List, [], length, Option, Some, None, Err, IfOk};
 ghost use Rattle.ac_base.specs.declared.ends.CoreEnd.{CoreEnd};
 ghost use Rattle.ac_base.specs.declared.entry.Entry.{Entry};
+ghost use Rattle.core_state.specs.Shared.{request_link};
 ghost use Rattle.ac_commands.specs.declared.program.Function.{Function};
 ghost use Rattle.ac_semantics.specs.Replay.{Enters, Replays};
 ghost use Rattle.ac_names.specs.Numbered.{core_names};
@@ -43,13 +44,14 @@ fn replayed(
     steps: u64,
     journal: &Journal,
 ) -> Result<CoreEnd, ReplayFault>
-    requires { (entries : List Entry) → IsOnly (λ (end : Option CoreEnd). Replays program.now core steps entries end) }
+    requires ends { (entries : List Entry) → IsOnly (λ (end : Option CoreEnd). Replays program.now core steps entries end) }
+    requires link { request_link (length program.now.channels) core < 2 ^ 32 }
     ensures ok { IfOk result (λ end. Replays program.now core steps journal.now.entries (Some end)) }
     ensures none { (place : ℕ) → result ≡ Err (Misfit place) → Replays program.now core steps journal.now.entries None }
     ensures misfit { (place : ℕ) → result ≡ Err (Misfit place) → IsMisfit program.now core steps journal.now.entries place }
 {
     let entered = entered(program, core);
-    let ending = Ending::new(program, entered, steps, journal.as_slice());
+    let ending = Ending::new(program, core, entered, steps, journal.as_slice());
     match run_core(alloc, &ending)? {
         Run::Ends(end) => Ok(end),
         Run::Misfit { place } => Err(ReplayFault::Misfit { place }),
@@ -76,7 +78,8 @@ impl Reference {
         ensures misfit { (place : ℕ) → result ≡ Err (Misfit place)
             → IsMisfit (resolved checked.now) core steps journal.now.entries place }
     {
-        // That the core comes to an end is known of its code.
+        // The tree is small, and that the core comes to an end is known of its code.
+        let _ = checked.tree();
         let _code = compile(alloc, checked)?;
         let program = resolve(alloc, checked)?;
         replayed(alloc, &program, core, steps, journal)

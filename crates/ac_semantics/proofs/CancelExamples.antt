@@ -59,7 +59,7 @@ abbrev pub second : List Work → Thread
 second ws = record { around = block 2 ∷ []; phase = Active; work = ws }
 
 abbrev pub has : List Entry → List Entry → List Bool → List Operation → Held
-has past todo marks operations = record held { shared = record (first_shared []) { past = past; todo = todo }; marks = marks; operations = operations }
+has past todo marks operations = record held { shared = record (first_shared 2 []) { past = past; todo = todo }; marks = marks; operations = operations }
 
 abbrev pub unmarked : List Bool
 unmarked = false ∷ false ∷ false ∷ []
@@ -149,7 +149,7 @@ abbrev pub cancelling : Resolved
 cancelling = record two_cores { functions = record (function (calls_off_and_sends ∷ [])) { slots = 1 } ∷ function [] ∷ [] }
 
 abbrev pub after : List Entry → ℕ → Move CoreState (Option CoreEnd)
-after journal count = and_then (first_state cancelling (record (function (calls_off_and_sends ∷ [])) { slots = 1 }) journal) (moves (step cancelling 9) count)
+after journal count = and_then (first_state cancelling 0 (record (function (calls_off_and_sends ∷ [])) { slots = 1 }) journal) (moves (step cancelling 9) count)
 
 -- the dispatch, the `do`, the cancel and its end, the send and its end, the `finish` and the end: four steps, and no entry is made
 pub it_is_cancelled_before_it_starts : after [] 8 ≡ Over (Some (record { word = Finished; steps = 4; output = []; globals = pos 0 ∷ pos 5 ∷ []; waiting = []; idle = false }))

@@ -151,10 +151,10 @@ program body = record {
 
 -- what so many moves come to, of which the first is the dispatch of the thread
 abbrev pub after : List Command → ℕ → ℕ → Move CoreState (Option CoreEnd)
-after body bound count = and_then (first_state (program body) (function body) []) (moves (step (program body) bound) count)
+after body bound count = and_then (first_state (program body) 0 (function body) []) (moves (step (program body) bound) count)
 
 abbrev pub ended : EndWord → ℕ → List ℕ → List ℤ → Move CoreState (Option CoreEnd)
-ended word steps output globals = Over (Some (core_end word false globals [] (record { steps = steps; turn = 1; output = output; past = []; todo = [] })))
+ended word steps output globals = Over (Some (core_end word false globals [] (record { steps = steps; turn = 1; output = output; past = []; todo = []; requests = 0 })))
 
 pub form : (x : Command) (y : Command-F Command) → roll-Command y ≡ x → out-Command x ≡ y
 form x y e = ap out-Command (sym e) ∙ out-roll-Command y
@@ -247,7 +247,7 @@ three_value : (s : Store) (around : List Context) → value s (number 3) around 
 three_value s around = number_goes s first_frame (pos 3) around
 
 -- the statement uses one step, and so does the one in f: the dispatch, the call, the return, what goes on, and the end
-pub a_call_in_a_sum : and_then (first_state two_functions (function (prints_a_call ∷ [])) []) (moves (step two_functions 9) 5) ≡ ended Finished 2 (codes "7\n") (pos 0 ∷ pos 5 ∷ [])
+pub a_call_in_a_sum : and_then (first_state two_functions 0 (function (prints_a_call ∷ [])) []) (moves (step two_functions 9) 5) ≡ ended Finished 2 (codes "7\n") (pos 0 ∷ pos 5 ∷ [])
 a_call_in_a_sum =
     rw (
       call_form,

@@ -4,3 +4,4 @@ pub mod Examples
 pub mod PartExamples
 pub mod OperationExamples
 pub mod CancelExamples
+pub mod RequestExamples

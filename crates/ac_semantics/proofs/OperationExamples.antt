@@ -67,7 +67,7 @@ with_work ws = record { around = []; phase = Active; work = ws }
 
 abbrev pub core : List Entry → List Operation → CoreState
 core todo operations = record {
-  held = record held { shared = record (first_shared []) { todo = todo }; operations = operations };
+  held = record held { shared = record (first_shared 2 []) { todo = todo }; operations = operations };
   running = None;
   work = [];
   ready = [];
@@ -81,7 +81,7 @@ it_waits_for_its_end = refl
 -- its value has come, and it is ready
 abbrev pub woken : List Entry → List Operation → CoreState
 woken past operations = record (core [] operations) {
-  held = record held { shared = record (first_shared []) { past = past }; operations = operations };
+  held = record held { shared = record (first_shared 2 []) { past = past }; operations = operations };
   ready = item 0 ∷ [];
   threads = with_work (given_nought ∷ Leave ∷ []) ∷ [];
 }
@@ -92,8 +92,8 @@ its_value_comes = (refl, refl)
 pub it_goes_to_the_back : (resumed (record (core [] []) { ready = item 1 ∷ [] }) (int 0) (Some (item 0))).ready ≡ item 1 ∷ item 0 ∷ []
 it_goes_to_the_back = refl
 
-pub an_entry_leaves_it_so : (arrived (core [] []) (first_shared []) (record { operations = []; store = held.store; woken = Some (item 0); value = pos 0 }) ≡ woken [] [])
-    × (arrived (core [] []) (first_shared []) (goes_on_waiting held.store (five ∷ [])) ≡ core [] (five ∷ []))
+pub an_entry_leaves_it_so : (arrived (core [] []) (first_shared 2 []) (record { operations = []; store = held.store; woken = Some (item 0); value = pos 0 }) ≡ woken [] [])
+    × (arrived (core [] []) (first_shared 2 []) (goes_on_waiting held.store (five ∷ [])) ≡ core [] (five ∷ []))
 an_entry_leaves_it_so = (refl, refl)
 
 abbrev pub at_turn : ℕ → Event → Entry
@@ -110,7 +110,7 @@ an_entry_of_a_later_turn = refl
 -- with a thread that is ready the core goes on
 pub the_ready_one_runs_before_it : rests (record (core (at_turn 1 (Know 0 3) ∷ []) (offered_as 3 five ∷ [])) { ready = item 0 ∷ [] })
     ≡ On (record (core (at_turn 1 (Know 0 3) ∷ []) (offered_as 3 five ∷ [])) {
-      held = record held { shared = record (first_shared []) { turn = 1; todo = at_turn 1 (Know 0 3) ∷ [] }; operations = offered_as 3 five ∷ [] };
+      held = record held { shared = record (first_shared 2 []) { turn = 1; todo = at_turn 1 (Know 0 3) ∷ [] }; operations = offered_as 3 five ∷ [] };
       running = Some (item 0);
       work = waits ∷ Leave ∷ [];
     })
@@ -124,7 +124,7 @@ abbrev pub hears : Operation
 hears = started 1 (asked.Recv both_globals) (item 0)
 
 pub a_pass_ends_nothing : rests (core (at_turn 0 (Pass 1 0) ∷ []) (hears ∷ []))
-    ≡ On (record (core [] []) { held = record held { shared = record (first_shared []) { past = at_turn 0 (Pass 1 0) ∷ [] }; operations = hears ∷ [] } })
+    ≡ On (record (core [] []) { held = record held { shared = record (first_shared 2 []) { past = at_turn 0 (Pass 1 0) ∷ [] }; operations = hears ∷ [] } })
 a_pass_ends_nothing = refl
 
 pub no_entry_comes : rests (core [] (five ∷ []))
@@ -149,7 +149,7 @@ two_cores = record (program (sends ∷ [])) {
 
 -- what so many moves of it come to under a journal
 abbrev pub after : List Entry → ℕ → Move CoreState (Option CoreEnd)
-after journal count = and_then (first_state two_cores (function (sends ∷ [])) journal) (moves (step two_cores 9) count)
+after journal count = and_then (first_state two_cores 0 (function (sends ∷ [])) journal) (moves (step two_cores 9) count)
 
 pub send_form : out-Command sends ≡ Command-F.Run sends_five
 send_form = form sends _ (c.rolls-Run sends_five)

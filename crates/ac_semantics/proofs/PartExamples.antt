@@ -34,7 +34,7 @@ use Rattle.ac_semantics.specs.Statements.{Goes, Ends, Arrives, Dies, Stays, or_t
 use Rattle.ac_semantics.specs.Statements.{with_variable, put_in, value_or_zero, some_body, test_or_true, loops, settles, goes_on_with, if_step, next_at, next_of}
 use Rattle.ac_semantics.specs.Threads.{Thread, nobody, Phase, Active, AtFinish, Ended, CoreState, thread_at, is_among, is_living, none_within, may_pass, with_phase, stops}
 use Rattle.ac_semantics.specs.Threads.{is_within, woken, arrives, dispatched}
-use Rattle.ac_semantics.specs.Threads.{goes_on, wakes, wakes_owner, applied, step_of, first_item, first_core, with_starts, first_globals}
+use Rattle.ac_semantics.specs.Threads.{goes_on, wakes, wakes_owner, applied, step_of, first_item, first_core, with_starts, first_globals, shared_at_first}
 use Rattle.ac_semantics.proofs.Forms.{link_goes, operand_goes, number_goes}
 use Rattle.ac_semantics.proofs.Examples.{number, link, two_globals, program, function, leaves, form, finish_by}
 use Rattle.ac_semantics.specs.Replay.{Enters}
@@ -113,10 +113,10 @@ a_row_goes s = simp (operand_goes s first_frame, number_goes s first_frame)
 -- ---- what is held
 
 abbrev pub held : Held
-held = record { shared = first_shared []; store = two_globals; marks = false ∷ true ∷ false ∷ []; operations = [] }
+held = record { shared = first_shared 2 []; store = two_globals; marks = false ∷ true ∷ false ∷ []; operations = [] }
 
 abbrev pub ends_so : EndWord → Bool → CoreEnd
-ends_so word idle = core_end word idle (pos 8 ∷ pos 9 ∷ []) [] (first_shared [])
+ends_so word idle = core_end word idle (pos 8 ∷ pos 9 ∷ []) [] (first_shared 2 [])
 
 pub held_and_changed : ((stepped held).shared.steps ≡ 1) × ((turned held).shared.turn ≡ 1) × ((with_shared held (stepped held).shared).shared.steps ≡ 1)
     × ((with_store held (first_store [])).store ≡ first_store []) × (seen_of Finished true held ≡ Some (ends_so Finished true))
@@ -238,7 +238,7 @@ pub one_move : (step_of (program []) 0 core None ≡ Over (Some (ends_so Stalled
 one_move = (refl, refl)
 
 pub at_first : (first_item ≡ item 0) × (first_globals (program []) ≡ pos 0 ∷ pos 5 ∷ []) × (with_starts (record { slot = 0; value = pos 7 } ∷ []) (pos 8 ∷ pos 9 ∷ []) ≡ pos 7 ∷ pos 9 ∷ [])
-    × (first_core (function (c.Break ∷ [])) (first_shared []) two_globals
+    × (first_core (function (c.Break ∷ [])) (first_shared 2 []) two_globals
     ≡ record {
       held = record held { marks = [] };
       running = None;
@@ -246,7 +246,8 @@ pub at_first : (first_item ≡ item 0) × (first_globals (program []) ≡ pos 0 
       ready = item 0 ∷ [];
       threads = record { around = []; phase = Active; work = Do first_frame c.Break ∷ Leave ∷ [] } ∷ [];
     })
-at_first = (refl, refl, refl, refl)
+    × (shared_at_first (record (program []) { channels = record { from = 0; to = 1; capacity = 1 } ∷ [] }) 1 [] ≡ first_shared 2 [])
+at_first = (refl, refl, refl, refl, refl)
 
 -- ---- the wholes of these
 

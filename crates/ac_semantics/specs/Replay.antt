@@ -18,4 +18,4 @@ pub record Enters (program : Resolved) (core : ℕ) (function : Function) : Type
 pub record Replays (program : Resolved) (core bound : ℕ) (journal : List Entry) (end : Option CoreEnd) : Type 0 where
   pub function : Function
   pub enters : Enters program core function
-  pub ends : ComesTo (step program bound) (first_state program function journal) end
+  pub ends : ComesTo (step program bound) (first_state program core function journal) end

@@ -14,11 +14,12 @@ use Rattle.cancel_scope.specs.declared.operation.Asked.TheVariants as asked
 use Rattle.core_state.specs.Arithmetic.{at_zero}
 use Rattle.core_state.specs.Frames.{set_element, begun, begun_with, block_in}
 use Rattle.core_state.specs.Shared.{printed, formatted}
+use Rattle.core_state.specs.Requests.{read_of, write_of}
 use Rattle.ac_commands.specs.declared.value.Value.{Value}
 use Rattle.ac_commands.specs.declared.value.Value.TheVariants as v
 use Rattle.ac_commands.specs.declared.value.Place.{Place}
 use Rattle.ac_commands.specs.declared.value.Place.TheVariants as p
-use Rattle.ac_commands.specs.declared.value.Action.TheVariants.{Call, Send, Recv}
+use Rattle.ac_commands.specs.declared.value.Action.TheVariants.{Call, Send, Recv, Read, Write}
 use Rattle.ac_commands.specs.declared.command.Target.{Target}
 use Rattle.ac_commands.specs.declared.command.Target.TheVariants as t
 use Rattle.ac_commands.specs.declared.command.Command.{Command, out-Command}
@@ -158,6 +159,19 @@ calls (Some f) operands ws s =
     or_trap s (begun_with s.store f.params f.slots (reverse operands)) (λ store.
     Goes (with_store s store) (before (next_frame s.store) f.body (Back (next_frame s.store) ∷ ws)))
 
+-- ---- requests
+
+-- what a read or a write asks for starts on the core's own link, where its range is right
+abbrev pub requests : Result Asked Trap → List Work → Held → Next
+requests it ws s = or_trap s it (λ asked. Operates s.shared.requests asked s ws)
+
+-- a request has a place in its file, a length and an array, in this order
+abbrev pub place_operand : List Cell → ℤ
+place_operand operands = int_in (last_of (before_last (before_last operands)))
+
+abbrev pub length_operand : List Cell → ℤ
+length_operand operands = int_in (last_of (before_last operands))
+
 -- ---- statements
 
 -- a statement goes on with what its operands come to
@@ -171,7 +185,12 @@ settles program command frame ws s (Stops (Acting (Send channel)) operands aroun
     Operates channel (asked.Send (int_in (last_of operands))) s (Pend frame command around ∷ ws)
 settles program command frame ws s (Stops (Acting (Recv channel)) operands around) =
     Operates channel (asked.Recv (place_in (last_of operands))) s (Pend frame command around ∷ ws)
-settles program command frame ws s (Stops (Acting action) operands around) = Stays
+settles program command frame ws s (Stops (Acting (Read file)) operands around) =
+    requests (read_of file (place_operand operands) (length_operand operands) (place_in (last_of operands)))
+    (Pend frame command around ∷ ws) s
+settles program command frame ws s (Stops (Acting (Write file)) operands around) =
+    requests (write_of s.store file (place_operand operands) (length_operand operands) (place_in (last_of operands)))
+    (Pend frame command around ∷ ws) s
 
 -- a statement, whose step is used
 abbrev pub does : Resolved → Command → FrameId → List Work → Held → Next

@@ -13,7 +13,7 @@ use Rattle.cancel_scope.specs.declared.operation.Asked.{Asked}
 use Rattle.cancel_scope.specs.declared.operation.Operation.{Operation}
 use Rattle.core_state.specs.Moves.{Move, On, Over}
 use Rattle.core_state.specs.Frames.{first_frame}
-use Rattle.core_state.specs.Shared.{Shared, first_shared, begins, if_turn}
+use Rattle.core_state.specs.Shared.{Shared, request_link, first_shared, begins, if_turn}
 use Rattle.core_state.specs.Arrivals.{Arrival, point, cancelled}
 use Rattle.core_state.specs.Cancelling.{cancels}
 use Rattle.ac_commands.specs.declared.program.Function.{Function}
@@ -205,8 +205,12 @@ with_starts (x ∷ starts) globals = with_starts starts (slice_set globals x.slo
 abbrev pub first_globals : Resolved → List ℤ
 first_globals program = with_starts program.starts (replicate program.slots (pos 0))
 
+-- before its first step the whole journal is to come, and its requests have their link
+abbrev pub shared_at_first : Resolved → ℕ → List Entry → Shared
+shared_at_first program core journal = first_shared (request_link (length program.channels) core) journal
+
 -- where its words are over their limit, the core has ended before its first step
-abbrev pub first_state : Resolved → Function → List Entry → Move CoreState (Option CoreEnd)
-first_state program function journal =
-    begins (λ e. e) (first_globals program) (first_shared journal) function.slots (λ store.
-    On (first_core function (first_shared journal) store))
+abbrev pub first_state : Resolved → ℕ → Function → List Entry → Move CoreState (Option CoreEnd)
+first_state program core function journal =
+    begins (λ e. e) (first_globals program) (shared_at_first program core journal) function.slots (λ store.
+    On (first_core function (shared_at_first program core journal) store))

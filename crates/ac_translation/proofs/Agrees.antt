@@ -1,24 +1,25 @@
 -- The code of a program has the same runs as the program.
 use Rattle.std.proofs.Common.{◌≡◌, ℕ, zero, suc, ◌+◌, List, [], ◌∷◌, map, replicate, Option, Some, None, true, refl, sym, ap, ◌∙◌, subst, ◌↔◌}
 use Rattle.std.specs.Prelude.{slice_get, slice_set, ℤ, pos}
+use Rattle.std.proofs.lemmas.List.{length-map}
 use Rattle.ac_base.specs.declared.ends.CoreEnd.{CoreEnd}
 use Rattle.ac_base.specs.declared.entry.Entry.{Entry}
 use Rattle.work_item.specs.Store.{no_int}
 use Rattle.core_state.specs.Moves.{On, ComesTo}
 use Rattle.core_state.specs.Frames.{begun, first_store, first_frame}
-use Rattle.core_state.specs.Shared.{first_shared, begins}
+use Rattle.core_state.specs.Shared.{Shared, request_link, first_shared, begins}
 use Rattle.core_state.proofs.Beginnings.{BothBegin, same_comes}
 use Rattle.ac_commands.specs.declared.program.Core.{Core}
 use Rattle.ac_commands.specs.declared.program.Function.{Function}
 use Rattle.ac_commands.specs.declared.program.Start as program
 use Rattle.ac_commands.specs.declared.program.Resolved.{Resolved}
 use Rattle.ac_semantics.specs.Work.{Leave, before}
-use Rattle.ac_semantics.specs.Threads.{step, with_starts, first_globals, first_state}
+use Rattle.ac_semantics.specs.Threads.{step, with_starts, first_globals, shared_at_first, first_state}
 use Rattle.ac_semantics.specs.Replay.{Enters, Replays}
 use Rattle.stack_code.specs.declared.parts.Entered.{Entered}
 use Rattle.stack_code.specs.Parts.{Parts}
-use Rattle.code_meaning.specs.Machine.{FlatEnd, told, exec, with_starts as starts_made, first_globals as globals_made, first_core as first_machine, first_flat, Runs}
-use Rattle.ac_translation.specs.Translation.{body_code, last_code, functions_code, no_exits, start_of, code_of}
+use Rattle.code_meaning.specs.Machine.{FlatEnd, told, exec, with_starts as starts_made, first_globals as globals_made, first_core as first_machine, shared_at_first as shared_there, first_flat, Runs}
+use Rattle.ac_translation.specs.Translation.{body_code, last_code, functions_code, no_exits, start_of, ends_of, code_of}
 use Rattle.ac_translation.proofs.WellFormed.{in_function, are_well_formed, IsWellFormed}
 use Rattle.ac_translation.specs.Same.{IsSame}
 use Rattle.ac_translation.proofs.Sized.{body_sized}
@@ -78,24 +79,29 @@ module _ (program : Resolved) where
         nothing = refl;
       }))
 
-  both_begin : (f : Function) (e : Entered) → EntersAt code.instrs f e → are_well_formed f.body in_function ≡ true → (bound : ℕ) (journal : List Entry)
-      → BothBegin (Accords code program bound) (λ (x : FlatEnd). x.core) (first_state program f journal) (first_flat code e journal)
-  both_begin f e h form bound journal =
+  -- the requests of a core have the same link
+  requests_are : (core : ℕ) (journal : List Entry) → shared_there code core journal ≡ shared_at_first program core journal
+  requests_are core journal = ap (λ channels. first_shared (request_link channels core) journal) (length-map program.channels ends_of)
+
+  both_begin : (f : Function) (e : Entered) → EntersAt code.instrs f e → are_well_formed f.body in_function ≡ true → (core bound : ℕ) (journal : List Entry)
+      → BothBegin (Accords code program bound) (λ (x : FlatEnd). x.core) (first_state program core f journal) (first_flat code core e journal)
+  both_begin f e h form core bound journal =
       let globals = starts_are program.starts (replicate program.slots (pos 0)) in
-      let s = first_shared journal in
-      let start = λ (gs : List ℤ) (words : ℕ). begins (told 0) gs s words (λ store. On (first_machine e s store)) in
-      let same : start (first_globals program) f.slots ≡ first_flat code e journal = ap (λ gs. start gs f.slots) (sym globals) ∙ ap (start (globals_made code)) (sym h.words) in
+      let s = shared_at_first program core journal in
+      let start = λ (gs : List ℤ) (s : Shared) (words : ℕ). begins (told 0) gs s words (λ store. On (first_machine e s store)) in
+      let same : start (first_globals program) s f.slots ≡ first_flat code core e journal = ap (λ gs. start gs s f.slots) (sym globals) ∙ ap (start (globals_made code) s) (sym h.words)
+      ∙ ap (λ s. start (globals_made code) s e.words) (sym (requests_are core journal)) in
       let made = begun (first_store (first_globals program)) None (replicate f.slots no_int) in
-      subst (BothBegin (Accords code program bound) (λ (x : FlatEnd). x.core) (first_state program f journal)) same
+      subst (BothBegin (Accords code program bound) (λ (x : FlatEnd). x.core) (first_state program core f journal)) same
       (cores_begin (Accords code program bound) (first_globals program) s made f e (λ store. together (first_stands code f e s store (first_works f e h form))))
 
   runs_same : IsWellFormed program → (f : Function) (e : Entered) → EntersAt code.instrs f e → are_well_formed f.body in_function ≡ true
-      → (bound : ℕ) (journal : List Entry) (end : Option CoreEnd) →
-      ComesTo (step program bound) (first_state program f journal) end ↔ ((count : ℕ) × ComesTo (exec code bound) (first_flat code e journal) (record { core = end; count = count }))
-  runs_same fine f e h form bound journal end =
+      → (core bound : ℕ) (journal : List Entry) (end : Option CoreEnd) →
+      ComesTo (step program bound) (first_state program core f journal) end ↔ ((count : ℕ) × ComesTo (exec code bound) (first_flat code core e journal) (record { core = end; count = count }))
+  runs_same fine f e h form core bound journal end =
       let both = same_comes (step program bound) (exec code bound) (Accords code program bound) (λ (x : FlatEnd). x.core) (core_follows code program is_code fine bound)
-      (first_state program f journal) (first_flat code e journal) (both_begin f e h form bound journal) end in (
-        λ x. let y = both.0 x in (y.0.count, subst (λ o. ComesTo (exec code bound) (first_flat code e journal) (record { core = o; count = y.0.count })) y.2 y.1),
+      (first_state program core f journal) (first_flat code core e journal) (both_begin f e h form core bound journal) end in (
+        λ x. let y = both.0 x in (y.0.count, subst (λ o. ComesTo (exec code bound) (first_flat code core e journal) (record { core = o; count = y.0.count })) y.2 y.1),
         λ x. both.1 (record { core = end; count = x.0 }, x.1, refl),
       )
 
@@ -104,7 +110,7 @@ module _ (program : Resolved) where
     forth h =
         let enters = h.enters in
         let e = entry_of code.instrs h.function (slice_get program.functions enters.here.entry) (slice_get code.functions enters.here.entry) (pairs enters.here.entry) enters.function_is in
-        let x = (runs_same fine h.function e.entered e.enters (fine.bodies enters.here.entry h.function enters.function_is) bound journal end).0 h.ends in
+        let x = (runs_same fine h.function e.entered e.enters (fine.bodies enters.here.entry h.function enters.function_is) core bound journal end).0 h.ends in
         (x.0, record { function = e.entered; begins = record { entry = enters.here.entry; entry_is = entry_is program.cores core enters.here enters.core_is; function_is = e.is }; comes = x.1 })
 
     back : ((count : ℕ) × Runs code core bound journal (record { core = end; count = count })) → Replays program core bound journal end
@@ -116,7 +122,7 @@ module _ (program : Resolved) where
         record {
           function = f.function;
           enters = enters;
-          ends = (runs_same fine f.function h.1.function f.enters (fine.bodies c.core.entry f.function enters.function_is) bound journal end).1
+          ends = (runs_same fine f.function h.1.function f.enters (fine.bodies c.core.entry f.function enters.function_is) core bound journal end).1
               (h.0, h.1.comes);
         }
 

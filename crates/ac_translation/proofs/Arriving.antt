@@ -6,14 +6,16 @@ use Rattle.ac_base.specs.declared.entry.Entry.{Entry}
 use Rattle.ac_base.specs.declared.entry.Event.{Event}
 use Rattle.ac_base.specs.declared.entry.Event.TheVariants as event
 use Rattle.ac_base.specs.declared.entry.Payload.{Payload}
+use Rattle.ac_base.specs.declared.entry.Answer.{Answer}
 use Rattle.work_item.specs.declared.ids.Item.{Item}
 use Rattle.work_item.specs.declared.cell.Cell.{Cell}
 use Rattle.work_item.specs.declared.cell.Cell.TheVariants as cell
 use Rattle.work_item.specs.Store.{Store}
 use Rattle.cancel_scope.specs.declared.operation.Operation.{Operation}
-use Rattle.cancel_scope.specs.Outstanding.{is_to_offer, is_offered, is_to_receive, carries, offered_as, change_first, without_first}
+use Rattle.cancel_scope.specs.Outstanding.{is_to_offer, is_offered, is_begun, is_to_receive, is_request, carries, offered_as, as_begun, change_first, without_first}
 use Rattle.core_state.specs.Shared.{Shared}
-use Rattle.core_state.specs.Arrivals.{Arrival, goes_on_waiting, offers_on, keeps_room, has_ended_as, offers, ends_known, ends_received, passes_over, gives_room, arrives}
+use Rattle.core_state.specs.Arrivals.{Arrival, goes_on_waiting, offers_on, keeps_room, has_ended, has_ended_as, offers}
+use Rattle.core_state.specs.Arrivals.{is_taken, is_known, is_answered, ends_received, passes_over, gives_room, arrives}
 use Rattle.ac_semantics.specs.Held.{Held}
 use Rattle.ac_semantics.specs.Work.{Work, Pend, closes, given}
 use Rattle.ac_semantics.specs.Threads.{Phase, Active, Thread, nobody, arrived}
@@ -33,13 +35,14 @@ abbrev who : Operation → ℕ
 who o = o.item.number
 
 -- an operation goes on as another one of the same thread
-changed_asked : (u : ℕ) (test : Operation → Bool) (number : ℕ) (os : List Operation) → asked_by u (change_first test (offered_as number) os) ≡ asked_by u os
-changed_asked u test number [] = refl
-changed_asked u test number (o ∷ os) = go (test o) (changed_asked u test number os)
+changed_asked : (u : ℕ) (test : Operation → Bool) (change : Operation → Operation) → ((o : Operation) → (change o).item ≡ o.item) → (os : List Operation)
+    → asked_by u (change_first test change os) ≡ asked_by u os
+changed_asked u test change keeps [] = refl
+changed_asked u test change keeps (o ∷ os) = go (test o) (changed_asked u test change keeps os)
   where
-    go : (b : Bool) → asked_by u (change_first test (offered_as number) os) ≡ asked_by u os
-        → asked_by u (if b then offered_as number o ∷ os else o ∷ change_first test (offered_as number) os) ≡ asked_by u (o ∷ os)
-    go true h = refl
+    go : (b : Bool) → asked_by u (change_first test change os) ≡ asked_by u os
+        → asked_by u (if b then change o ∷ os else o ∷ change_first test change os) ≡ asked_by u (o ∷ os)
+    go true h = ap (λ (t : Item). one u t.number + asked_by u os) (keeps o)
     go false h = ap (λ n. one u (who o) + n) h
 
 -- the first that is found is taken away
@@ -72,13 +75,26 @@ offers_balance store os link number payload x (Some o) e = go (carries o.asked p
   where
     go : (b : Bool) → (if b then Some (goes_on_waiting store (change_first (is_to_offer link) (offered_as number) os)) else None) ≡ Some x → Balances os x
     go true e = same_balance os x (goes_on_waiting store (change_first (is_to_offer link) (offered_as number) os)) e
-        (record { by = λ u. let k = changed_asked u (is_to_offer link) number os in omega (arith, k) })
+        (record { by = λ u. let k = changed_asked u (is_to_offer link) (offered_as number) (λ o. refl) os in omega (arith, k) })
     go false e = cc
 
+-- its peer has taken the first of those for which a test holds
+pub taken_balance : (store : Store) (os : List Operation) (test : Operation → Bool) (o : Operation) → find test os ≡ Some o → Balances os (is_taken store test os o)
+taken_balance store os test o f = go (is_request o.asked)
+  where
+    go : (b : Bool) → Balances os (if b then goes_on_waiting store (change_first test as_begun os) else has_ended store (without_first test os) o)
+    go true = record { by = λ u. let k = changed_asked u test as_begun (λ o. refl) os in omega (arith, k) }
+    go false = record { by = λ u. without_asked u test o os f }
+
 known_balance : (store : Store) (os : List Operation) (link number : ℕ) (x : Arrival) (found : Option Operation) → find (is_offered link number) os ≡ found
-    → ends_known store os link number found ≡ Some x → Balances os x
+    → is_known store os link number found ≡ Some x → Balances os x
 known_balance store os link number x None f e = cc
-known_balance store os link number x (Some o) f e = same_balance os x _ e (record { by = λ u. without_asked u (is_offered link number) o os f })
+known_balance store os link number x (Some o) f e = same_balance os x _ e (taken_balance store os (is_offered link number) o f)
+
+answered_balance : (store : Store) (os : List Operation) (link number : ℕ) (answer : Answer) (x : Arrival) (found : Option Operation) → find (is_begun link number) os ≡ found
+    → is_answered store os link number answer found ≡ Some x → Balances os x
+answered_balance store os link number answer x None f e = cc
+answered_balance store os link number answer x (Some o) f e = same_balance os x _ e (record { by = λ u. without_asked u (is_begun link number) o os f })
 
 received_balance : (store : Store) (os : List Operation) (link : ℕ) (value : ℤ) (x : Arrival) (found : Option Operation) → find (is_to_receive link) os ≡ found
     → ends_received store os link value found ≡ Some x → Balances os x
@@ -108,6 +124,7 @@ arrival_balance past store os (event.Know link number) x e = known_balance store
 arrival_balance past store os (event.Got link number value) x e = received_balance store os link value x (find (is_to_receive link) os) refl e
 arrival_balance past store os (event.Pass link number) x e = passed_balance store os x (find (is_to_receive link) os) e
 arrival_balance past store os (event.Room link number) x e = room_balance store os x (keeps_room link number past) e
+arrival_balance past store os (event.Reply link number answer) x e = answered_balance store os link number answer x (find (is_begun link number) os) refl e
 arrival_balance past store os other x e = cc
 
 -- ---- the value of an operation

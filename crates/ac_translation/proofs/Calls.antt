@@ -1,17 +1,20 @@
 -- Calls, operations, and what calls give back.
 use Rattle.std.proofs.Common.{◌≡◌, ℕ, ◌+◌, ◌≤◌, List, [], ◌∷◌, ◌++◌, length, Option, Some, None, true, false, refl, sym, ap, ◌∙◌, subst, arith, length-append}
-use Rattle.std.specs.Prelude.{slice_get, nat_le, reverse}
+use Rattle.std.specs.Prelude.{slice_get, nat_le, reverse, Result, Ok, Err}
 use Rattle.std.proofs.Math.Seq.{take-append_seam, drop-append_seam}
 use Rattle.std.proofs.lemmas.Bool.{eqb-true}
 use Rattle.std.proofs.lemmas.Bool.Decides.{nat_tests}
+use Rattle.ac_base.specs.declared.ends.Trap.{Trap}
 use Rattle.ac_base.specs.declared.ends.EndWord.TheVariants.{Finished}
 use Rattle.work_item.specs.declared.ids.FrameId.{FrameId}
 use Rattle.work_item.specs.declared.cell.Cell.{Cell}
 use Rattle.work_item.specs.declared.cell.Cell.TheVariants as cell
 use Rattle.work_item.specs.Store.{Store, int_in, place_in, next_frame, released}
+use Rattle.cancel_scope.specs.declared.operation.Asked.{Asked}
 use Rattle.cancel_scope.specs.declared.operation.Asked.TheVariants as asked
 use Rattle.core_state.specs.Moves.{Move, On}
 use Rattle.core_state.specs.Frames.{begun_with}
+use Rattle.core_state.specs.Requests.{read_of, write_of}
 use Rattle.core_state.proofs.Simulation.{arrived}
 use Rattle.ac_commands.specs.declared.value.Action.{Action}
 use Rattle.ac_commands.specs.declared.value.Action.TheVariants.{Call, Send, Recv, Read, Write}
@@ -21,12 +24,13 @@ use Rattle.ac_commands.specs.declared.program.Resolved.{Resolved}
 use Rattle.ac_semantics.specs.Evaluation.{Acting, Context, Stops}
 use Rattle.ac_semantics.specs.Held.{Held, with_store, seen_of}
 use Rattle.ac_semantics.specs.Work.{Work, Do, Pend, Given, CallOff, Turn, Close, Back, Leave, End, before}
-use Rattle.ac_semantics.specs.Statements.{Next, Goes, Operates, last_of, returns, calls, settles}
+use Rattle.ac_semantics.specs.Statements.{Next, Goes, Operates, last_of, returns, calls, requests, place_operand, length_operand, settles}
 use Rattle.ac_semantics.specs.Threads.{CoreState, goes_on}
+use Rattle.stack_code.specs.declared.instr.Instr.{Instr}
 use Rattle.stack_code.specs.declared.instr.Instr.TheVariants as i
 use Rattle.stack_code.specs.declared.parts.Entered.{Entered}
 use Rattle.stack_code.specs.Parts.{Parts}
-use Rattle.code_meaning.specs.Machine.{Caller, Flat, FlatEnd, counted, on_many, or_trap as or_end, calls as enters, returns as gives_back}
+use Rattle.code_meaning.specs.Machine.{Caller, Flat, FlatEnd, counted, on_many, or_trap as or_end, begin, requests as requests_there, calls as enters, returns as gives_back}
 use Rattle.ac_translation.specs.Translation.{action_code, body_code, last_code}
 use Rattle.ac_translation.proofs.WellFormed.{takes, in_function, are_well_formed, IsWellFormed}
 use Rattle.ac_translation.proofs.Sized.{body_sized}
@@ -117,6 +121,23 @@ module _ (code : Parts) (program : Resolved) (same : IsCodeOf code program) (fin
   takes_one place (v ∷ []) below s next e f = f v
   takes_one place (v ∷ w ∷ values) below s next e f = absurd (omega (arith, e))
 
+  -- what takes three, the last of which is the first
+  takes_three : (place : ℕ) (values below : List Cell) (s : Held) (next : List Cell → Next) → length values ≡ 3 →
+      ((u v w : Cell) → FollowsAt code bound R a c s place (u ∷ v ∷ w ∷ below) (next (u ∷ v ∷ w ∷ []))) → FollowsAt code bound R a c s place (values ++ below) (next values)
+  takes_three place [] below s next e f = absurd (omega (arith, e))
+  takes_three place (u ∷ []) below s next e f = absurd (omega (arith, e))
+  takes_three place (u ∷ v ∷ []) below s next e f = absurd (omega (arith, e))
+  takes_three place (u ∷ v ∷ w ∷ []) below s next e f = f u v w
+  takes_three place (u ∷ v ∷ w ∷ y ∷ values) below s next e f = absurd (omega (arith, e))
+
+  -- what is asked for starts on the core's own link, or its range is wrong in both
+  requests_follow : Turns code bound R a c → (it : Result Asked Trap) (instr : Instr) (s : Held) (place : ℕ) (operands below : List Cell) (rest : List Work) → Born s →
+      slice_get code.instrs place ≡ Some instr →
+      ((k : ℕ) → begin code bound (flat a s place operands k) a.running (Some instr) ≡ requests_there (flat a s place operands k) a.running it below) →
+      Sleeps code.instrs a.activation (place + 1) below rest → FollowsAt code bound R a c s place operands (requests it rest s)
+  requests_follow turns (Ok asked) instr s place operands below rest b is begins d = turns.waits s.shared.requests asked instr s place operands below rest b is begins d
+  requests_follow turns (Err trap) instr s place operands below rest b is begins d = ends_follows code bound R a c instr _ counted is refl begins
+
   -- what an action does with its operands
   pub acts_follow : Turns code bound R a c → (action : Action) (count : ℕ) (x : Command) (around : List Context) (ws : List Work) (s : Held) (place : ℕ) (values below : List Cell) → Born s →
       slice_get code.instrs place ≡ Some (action_code action count) → count ≡ length values → takes action count ≡ true → Sleeps code.instrs a.activation (place + 1) below
@@ -127,13 +148,21 @@ module _ (code : Parts) (program : Resolved) (same : IsCodeOf code program) (fin
   acts_follow turns (Send channel) count x around ws s place values below b is many one d =
       let rest = Pend a.activation.frame x around ∷ ws in
       takes_one place values below s (λ v. Operates channel (asked.Send (int_in v)) s rest) (sym many ∙ eqb-true count 1 one)
-      (λ v. turns.waits channel (asked.Send (int_in v)) (i.Send channel) s place v below rest b is (λ k. refl) d)
+      (λ v. turns.waits channel (asked.Send (int_in v)) (i.Send channel) s place (v ∷ below) below rest b is (λ k. refl) d)
   acts_follow turns (Recv channel) count x around ws s place values below b is many one d =
       let rest = Pend a.activation.frame x around ∷ ws in
       takes_one place values below s (λ v. Operates channel (asked.Recv (place_in v)) s rest) (sym many ∙ eqb-true count 1 one)
-      (λ v. turns.waits channel (asked.Recv (place_in v)) (i.Recv channel) s place v below rest b is (λ k. refl) d)
-  acts_follow turns (Read file) count x around ws s place values below b is many one d = stays_follow code bound R a c (i.Read file) is (λ k. refl)
-  acts_follow turns (Write file) count x around ws s place values below b is many one d = stays_follow code bound R a c (i.Write file) is (λ k. refl)
+      (λ v. turns.waits channel (asked.Recv (place_in v)) (i.Recv channel) s place (v ∷ below) below rest b is (λ k. refl) d)
+  acts_follow turns (Read file) count x around ws s place values below b is many three d =
+      let rest = Pend a.activation.frame x around ∷ ws in
+      let asks_for = λ (vs : List Cell). read_of file (place_operand vs) (length_operand vs) (place_in (last_of vs)) in
+      takes_three place values below s (λ vs. requests (asks_for vs) rest s) (sym many ∙ eqb-true count 3 three)
+      (λ u v w. requests_follow turns (asks_for (u ∷ v ∷ w ∷ [])) (i.Read file) s place (u ∷ v ∷ w ∷ below) below rest b is (λ k. refl) d)
+  acts_follow turns (Write file) count x around ws s place values below b is many three d =
+      let rest = Pend a.activation.frame x around ∷ ws in
+      let asks_for = λ (vs : List Cell). write_of s.store file (place_operand vs) (length_operand vs) (place_in (last_of vs)) in
+      takes_three place values below s (λ vs. requests (asks_for vs) rest s) (sym many ∙ eqb-true count 3 three)
+      (λ u v w. requests_follow turns (asks_for (u ∷ v ∷ w ∷ [])) (i.Write file) s place (u ∷ v ∷ w ∷ below) below rest b is (λ k. refl) d)
 
   -- the innermost call gives a value, and what was left of it is dropped
   pub returns_follow : (ws : List Work) (scope : Scope) (place : ℕ) → scope.block ≡ false → DoesAt scope place ws → (s : Held) (at : ℕ) (o : Cell) → Born s → slice_get code.instrs at ≡ Some i.Ret →

@@ -1,6 +1,6 @@
 -- A thread cancels a block: in the source and in the machine the same operation is tried, and with the same outcome.
 use Rattle.std.proofs.Common.{◌≡◌, ◌≢◌, ℕ, zero, suc, ◌+◌, ◌<◌, ◌≤◌, List, [], ◌∷◌, ◌++◌, set, Option, Some, None, Bool, true, false, refl, sym, ap, ◌∙◌, subst, arith}
-use Rattle.std.specs.Prelude.{ℤ, find, slice_get, nat_eq, if◌then◌else◌}
+use Rattle.std.specs.Prelude.{find, slice_get, nat_eq, not, ◌&&◌, if◌then◌else◌}
 use Rattle.std.specs.List.{list_any}
 use Rattle.std.proofs.lemmas.List.{length-set, get_or-set_other, set_comm}
 use Rattle.ac_base.specs.declared.ends.EndWord.TheVariants.{Stalled}
@@ -11,13 +11,13 @@ use Rattle.work_item.specs.declared.cell.Cell.TheVariants as cell
 use Rattle.work_item.specs.Store.{cell_at}
 use Rattle.cancel_scope.specs.declared.operation.Operation.{Operation}
 use Rattle.cancel_scope.specs.declared.operation.Progress.{Progress}
-use Rattle.cancel_scope.specs.declared.operation.Progress.TheVariants.{Waiting, Offered}
-use Rattle.cancel_scope.specs.Outstanding.{without_first}
+use Rattle.cancel_scope.specs.declared.operation.Progress.TheVariants.{Waiting, Offered, Started}
+use Rattle.cancel_scope.specs.Outstanding.{is_request, as_begun, has_begun, change_first, without_first}
 use Rattle.core_state.specs.Moves.{On}
 use Rattle.core_state.specs.Frames.{block_in}
 use Rattle.core_state.specs.Shared.{Shared, with_entry}
-use Rattle.core_state.specs.Arrivals.{Arrival, has_ended_as, cancelled}
-use Rattle.core_state.specs.Cancelling.{outcome}
+use Rattle.core_state.specs.Arrivals.{Arrival, goes_on_waiting, has_ended, has_ended_as, cancelled}
+use Rattle.core_state.specs.Cancelling.{Outcome, NeverHappens, IsTaken, by_outcome, outcome, is_to_try}
 use Rattle.ac_semantics.specs.Held.{Held, with_mark, seen_of}
 use Rattle.ac_semantics.specs.Work.{Work, closes, given}
 use Rattle.ac_semantics.specs.Statements.{Cancels}
@@ -26,6 +26,7 @@ use Rattle.stack_code.specs.declared.instr.Instr.TheVariants as i
 use Rattle.stack_code.specs.Parts.{Parts}
 use Rattle.code_meaning.specs.Machine.{Block, Flat, Thread as Stack, block_at, with_block, counted, round, marked, with_mark as marked_at, is_inside as is_inside_there, given as gives}
 use Rattle.code_meaning.specs.Machine.{arrived as arrives_there, begin}
+use Rattle.ac_translation.proofs.WellFormed.{both_true}
 use Rattle.ac_translation.proofs.Tables.{first, one_same}
 use Rattle.ac_translation.proofs.Blocks.{Lives, entered_of, at, Good, path_of}
 use Rattle.ac_translation.proofs.Tracks.{tracks_mark}
@@ -34,7 +35,7 @@ use Rattle.ac_translation.proofs.Wakes.{is_active, asked_by, runs_without}
 use Rattle.ac_translation.proofs.Keeps.{Activation, Around, flat, SameBirths, FollowsAt, turn_follows, ends_follows}
 use Rattle.ac_translation.proofs.Works.{Works, works_closes, sleeps_closes}
 use Rattle.ac_translation.proofs.Standing.{running, around_of, seated, stack_at, Parked, Together, Stands, runs, with_births, sitting, Seat, seat_of, on_together}
-use Rattle.ac_translation.proofs.Arriving.{Balances, ended_balance, runs_not, woken_together}
+use Rattle.ac_translation.proofs.Arriving.{Balances, taken_balance, ended_balance, none_together, runs_not, woken_together}
 
 -- ---- two tests that agree on the operations of a core
 
@@ -54,6 +55,24 @@ module _ (all : List Operation) (f g : Operation → Bool) (same : (o : Operatio
   without_agrees [] le = refl
   without_agrees (o ∷ os) le =
       ap (λ q. if q then os else o ∷ without_first f os) (agrees o os le) ∙ ap (λ r. if g o then os else o ∷ r) (without_agrees os (tail o os le))
+
+  change_agrees : (change : Operation → Operation) (os : List Operation) → ((u : ℕ) → asked_by u os ≤ asked_by u all) → change_first f change os ≡ change_first g change os
+  change_agrees change [] le = refl
+  change_agrees change (o ∷ os) le =
+      ap (λ q. if q then change o ∷ os else o ∷ change_first f change os) (agrees o os le)
+      ∙ ap (λ r. if g o then change o ∷ os else o ∷ r) (change_agrees change os (tail o os le))
+
+-- the first for which a test holds passes it
+found_passes : (test : Operation → Bool) (os : List Operation) (o : Operation) → find test os ≡ Some o → test o ≡ true
+found_passes test [] o e = cc
+found_passes test (p ∷ os) o e = go (test p) refl (found_passes test os o)
+  where
+    go : (q : Bool) → test p ≡ q → (find test os ≡ Some o → test o ≡ true) → test o ≡ true
+    go true t h =
+        let is : Some p ≡ Some o = ap (λ (q : Bool). if q then Some p else find test os) (sym t) ∙ e in
+        let same : p ≡ o = cc in
+        subst (λ z. test z ≡ true) same t
+    go false t h = h (ap (λ (q : Bool). if q then Some p else find test os) (sym t) ∙ e)
 
 -- what is told of an operation's thread
 asleep : (code : Parts) (th : Thread) (stack : Stack) (n : ℕ) → 0 < n → (p : Parked code.instrs n th stack) → closes th.work ≡ p.activation.entered
@@ -149,15 +168,38 @@ module _ (code : Parts) (bound : ℕ) (s0 : Held) (t : Item) (ws : List Work) (r
           ∙ among_any block (path_of (at all u))
           ∙ ap (is_among block) (sym stands_in)
 
-    find_same : (k : ℕ) → find (is_inside_there (m k) block) s.operations ≡ find (is_inside ts block) s.operations
-    find_same k = find_agrees s.operations (is_inside_there (m k) block) (is_inside ts block) (λ o asked. inside_same o asked k) s.operations (λ u. omega arith)
+    -- those inside that have not begun are tried
+    abbrev tests : Operation → Bool
+    tests = is_to_try (is_inside ts block)
 
-    without_same : (k : ℕ) → without_first (is_inside_there (m k) block) s.operations ≡ without_first (is_inside ts block) s.operations
-    without_same k = without_agrees s.operations (is_inside_there (m k) block) (is_inside ts block) (λ o asked. inside_same o asked k) s.operations (λ u. omega arith)
+    abbrev tests_there : ℕ → Operation → Bool
+    tests_there k = is_to_try (is_inside_there (m k) block)
+
+    tried_alike : (k : ℕ) (o : Operation) → 0 < asked_by o.item.number s.operations → tests_there k o ≡ tests o
+    tried_alike k o asked = ap (λ q. q && not (has_begun o.progress)) (inside_same o asked k)
+
+    find_same : (k : ℕ) → find (tests_there k) s.operations ≡ find tests s.operations
+    find_same k = find_agrees s.operations (tests_there k) tests (tried_alike k) s.operations (λ u. omega arith)
+
+    without_same : (k : ℕ) → without_first (tests_there k) s.operations ≡ without_first tests s.operations
+    without_same k = without_agrees s.operations (tests_there k) tests (tried_alike k) s.operations (λ u. omega arith)
+
+    change_same : (k : ℕ) → change_first (tests_there k) as_begun s.operations ≡ change_first tests as_begun s.operations
+    change_same k = change_agrees s.operations (tests_there k) tests (tried_alike k) as_begun s.operations (λ u. omega arith)
+
+    -- both make the same of the operation that is tried
+    outcome_same : (o : Operation) (it : Outcome) (k : ℕ) → by_outcome it s.store (tests_there k) s.operations o ≡ by_outcome it s.store tests s.operations o
+    outcome_same o NeverHappens k = ap (λ os. has_ended_as cancelled s.store os o) (without_same k)
+    outcome_same o IsTaken k = go (is_request o.asked)
+      where
+        go : (q : Bool) → (if q then goes_on_waiting s.store (change_first (tests_there k) as_begun s.operations) else has_ended s.store (without_first (tests_there k) s.operations) o)
+            ≡ (if q then goes_on_waiting s.store (change_first tests as_begun s.operations) else has_ended s.store (without_first tests s.operations) o)
+        go true = ap (goes_on_waiting s.store) (change_same k)
+        go false = ap (λ os. has_ended s.store os o) (without_same k)
 
     -- ---- none is left
 
-    goes_follow : find (is_inside ts block) s.operations ≡ None → At
+    goes_follow : find tests s.operations ≡ None → At
     goes_follow none =
         let on = on_together code.instrs ts t again activation (again_seat) work (works_closes code.instrs activation (place + 1) [] work w') h in
         turn_follows code bound R a c (i.Cancel level slot) (goes_on c (with_mark s block) work)
@@ -169,70 +211,82 @@ module _ (code : Parts) (bound : ℕ) (s0 : Held) (t : Item) (ws : List Work) (r
 
     -- ---- one is tried
 
-    module _ (o : Operation) (found : find (is_inside ts block) s.operations ≡ Some o) where
-      abbrev rest : List Operation
-      rest = without_first (is_inside ts block) s.operations
+    -- what it makes of the operations
+    module _ (shared : Shared) (y : Arrival) (balance : Balances s.operations y) where
+      abbrev held : Held
+      held = record s { shared = shared; store = y.store; marks = set s.marks block.number true; operations = y.operations }
 
-      abbrev ended : ℤ → Arrival
-      ended value = has_ended_as value s.store rest o
+      abbrev Stood : ℕ → Type 0
+      Stood k = R (arrived (goes_on c (with_mark s block) again) shared y) (arrives_there (marked (m k) block) shared y)
 
-      balance : (value : ℤ) → Balances s.operations (ended value)
-      balance value = ended_balance value s.store s.operations (is_inside ts block) o found
+      -- none has ended
+      waits_on : (k : ℕ) → y.woken ≡ None → Stood k
+      waits_on k e =
+          rw e (runs held t again ready ts activation place [] stacks bs' k x.was_active x.was_around
+          (mark_together code block (none_together code s ready (Some t) all stacks bs h y balance e)) w)
 
-      module _ (shared : Shared) (value : ℤ) where
-        abbrev held : Held
-        held = record s { shared = shared; marks = set s.marks block.number true; operations = rest }
+      -- that of this thread has ended
+      module _ (other : Item) (e : y.woken ≡ Some other) where
+        apart' : t.number ≢ other.number
+        apart' = runs_not code s ready (Some t) all stacks bs h y balance other e
 
-        apart' : t.number ≢ o.item.number
-        apart' = runs_not code s ready (Some t) all stacks bs h (ended value) (balance value) o.item refl
-
-        unchanged' : at all o.item.number ≡ thread_at ts o.item
-        unchanged' = get_or-set_other ts t.number o.item.number (sitting ts t Active again) nobody (λ e. apart' (sym e))
+        unchanged' : at all other.number ≡ thread_at ts other
+        unchanged' = get_or-set_other ts t.number other.number (sitting ts t Active again) nobody (λ e. apart' (sym e))
 
         abbrev woken : Thread
-        woken = record (thread_at ts o.item) { phase = Active; work = given (cell.Int value) (thread_at ts o.item).work }
+        woken = record (thread_at ts other) { phase = Active; work = given (cell.Int y.value) (thread_at ts other).work }
 
         abbrev ts' : List Thread
-        ts' = set ts o.item.number woken
+        ts' = set ts other.number woken
 
         still : thread_at ts' t ≡ thread_at ts t
-        still = get_or-set_other ts o.item.number t.number woken nobody (λ e. apart' e)
+        still = get_or-set_other ts other.number t.number woken nobody (λ e. apart' e)
 
-        seated_is : set all o.item.number (record (at all o.item.number) { phase = Active; work = given (cell.Int value) (at all o.item.number).work }) ≡ seated ts' t again
+        seated_is : set all other.number (record (at all other.number) { phase = Active; work = given (cell.Int y.value) (at all other.number).work }) ≡ seated ts' t again
         seated_is =
-            ap (λ (y : Thread). set all o.item.number (record y { phase = Active; work = given (cell.Int value) y.work })) unchanged'
-            ∙ set_comm ts t.number o.item.number (sitting ts t Active again) woken apart'
-            ∙ ap (λ (y : Thread). set ts' t.number (record y { phase = Active; work = again })) (sym still)
+            ap (λ (z : Thread). set all other.number (record z { phase = Active; work = given (cell.Int y.value) z.work })) unchanged'
+            ∙ set_comm ts t.number other.number (sitting ts t Active again) woken apart'
+            ∙ ap (λ (z : Thread). set ts' t.number (record z { phase = Active; work = again })) (sym still)
 
         abbrev stacks' : List Stack
-        stacks' = set stacks o.item.number (gives (cell.Int value) (stack_at stacks o.item.number))
+        stacks' = set stacks other.number (gives (cell.Int y.value) (stack_at stacks other.number))
 
-        together : Together code.instrs (seated ts' t again) held.marks rest (ready ++ o.item ∷ []) (Some t) stacks' bs'
+        together : Together code.instrs (seated ts' t again) held.marks y.operations (ready ++ other ∷ []) (Some t) stacks' bs'
         together =
-            subst (λ ys. Together code.instrs ys held.marks rest (ready ++ o.item ∷ []) (Some t) stacks' bs') seated_is
-            (mark_together code block (woken_together code s ready (Some t) all stacks bs h (ended value) (balance value) o.item refl))
+            subst (λ ys. Together code.instrs ys held.marks y.operations (ready ++ other ∷ []) (Some t) stacks' bs') seated_is
+            (mark_together code block (woken_together code s ready (Some t) all stacks bs h y balance other e))
 
-        stands : (k : ℕ) → R (arrived (goes_on c (with_mark s block) again) shared (ended value)) (arrives_there (marked (m k) block) shared (ended value))
-        stands k =
-            runs held t again (ready ++ o.item ∷ []) ts' activation place [] stacks' bs' k (ap (λ (y : Thread). y.phase) still ∙ x.was_active)
-            (x.was_around ∙ ap (λ (y : Thread). y.around) (sym still)) together w
+        wakes : (k : ℕ) → Stood k
+        wakes k =
+            rw e (runs held t again (ready ++ other ∷ []) ts' activation place [] stacks' bs' k (ap (λ (z : Thread). z.phase) still ∙ x.was_active)
+            (x.was_around ∙ ap (λ (z : Thread). z.around) (sym still)) together w)
 
-      -- it has ended
-      ends_follow : (shared : Shared) (value : ℤ) → applied c t (Cancels block s again work) ≡ On (arrived (goes_on c (with_mark s block) again) shared (ended value))
-          → ((k : ℕ) → begin code bound (m k) t (Some (i.Cancel level slot)) ≡ On (arrives_there (marked (m k) block) shared (has_ended_as value s.store (without_first (is_inside_there
-          (m k) block) s.operations) o)))
+      stands : (woken : Option Item) → y.woken ≡ woken → (k : ℕ) → Stood k
+      stands None e k = waits_on k e
+      stands (Some other) e k = wakes other e k
+
+    module _ (o : Operation) (found : find tests s.operations ≡ Some o) where
+      abbrev made : Outcome → Arrival
+      made it = by_outcome it s.store tests s.operations o
+
+      balance : (it : Outcome) → Balances s.operations (made it)
+      balance NeverHappens = ended_balance cancelled s.store s.operations tests o found
+      balance IsTaken = taken_balance s.store s.operations tests o found
+
+      made_follows : (shared : Shared) (it : Outcome) → applied c t (Cancels block s again work) ≡ On (arrived (goes_on c (with_mark s block) again) shared (made it))
+          → ((k : ℕ) → begin code bound (m k) t (Some (i.Cancel level slot)) ≡ On (arrives_there (marked (m k) block) shared (by_outcome it s.store (tests_there k) s.operations o)))
           → At
-      ends_follow shared value here there =
-          turn_follows code bound R a c (i.Cancel level slot) (arrived (goes_on c (with_mark s block) again) shared (ended value)) (λ k. arrives_there (marked (m k) block) shared
-          (ended value)) is here
-          (λ k. there k ∙ ap (λ os. On (arrives_there (marked (m k) block) shared (has_ended_as value s.store os o))) (without_same k)) (stands shared value)
+      made_follows shared it here there =
+          turn_follows code bound R a c (i.Cancel level slot) (arrived (goes_on c (with_mark s block) again) shared (made it)) (λ k. arrives_there (marked (m k) block) shared (made it)) is
+          here
+          (λ k. there k ∙ ap (λ y. On (arrives_there (marked (m k) block) shared y)) (outcome_same o it k)) (stands shared (made it) (balance it) (made it).woken refl)
 
       entry_follows : (number : ℕ) → o.progress ≡ Offered number → (y : Entry) (ys : List Entry) → s.shared.todo ≡ y ∷ ys → nat_eq y.turn s.shared.turn ≡ true
-          → (r : Option ℤ) → outcome o.link number y.event ≡ r → At
+          → (r : Option Outcome) → outcome o.link number y.event ≡ r → At
       entry_follows number p y ys e now None r =
           ends_follows code bound R a c (i.Cancel level slot) None counted is (rw (found, p, e, now, r) refl) (λ k. rw (find_same k, found, p, e, now, r) refl)
-      entry_follows number p y ys e now (Some value) r =
-          ends_follow (with_entry s.shared y ys) value (rw (found, p, e, now, r) refl) (λ k. rw (find_same k, found, p, e, now, r) refl)
+      entry_follows number p y ys e now (Some it) r =
+          made_follows (with_entry s.shared y ys) it (rw (found, p, e, now, r) refl) (λ k. rw (find_same k, found, p, e, now, r) refl)
 
       turn_follows_here : (number : ℕ) → o.progress ≡ Offered number → (y : Entry) (ys : List Entry) → s.shared.todo ≡ y ∷ ys → (q : Bool) → nat_eq y.turn s.shared.turn ≡ q → At
       turn_follows_here number p y ys e true now = entry_follows number p y ys e now (outcome o.link number y.event) refl
@@ -244,12 +298,20 @@ module _ (code : Parts) (bound : ℕ) (s0 : Held) (t : Item) (ws : List Work) (r
           ends_follows code bound R a c (i.Cancel level slot) (seen_of Stalled false s) counted is (rw (found, p, e) refl) (λ k. rw (find_same k, found, p, e) refl)
       offered_follows number p (y ∷ ys) e = turn_follows_here number p y ys e (nat_eq y.turn s.shared.turn) refl
 
+      -- what has begun is not found
+      not_begun : (number : ℕ) → o.progress ≢ Started number
+      not_begun number p =
+          let passes = both_true (is_inside ts block o) (not (has_begun o.progress)) (found_passes tests s.operations o found) in
+          let no : not true ≡ true = subst (λ (q : Progress). not (has_begun q) ≡ true) p passes.1 in
+          cc
+
       tried_follows : (p : Progress) → o.progress ≡ p → At
-      tried_follows Waiting p = ends_follow s.shared cancelled (rw (found, p) refl) (λ k. rw (find_same k, found, p) refl)
+      tried_follows Waiting p = made_follows s.shared NeverHappens (rw (found, p) refl) (λ k. rw (find_same k, found, p) refl)
       tried_follows (Offered number) p = offered_follows number p s.shared.todo refl
+      tried_follows (Started number) p = absurd (not_begun number p)
 
     -- the oldest operation within is tried, or the thread goes on
-    pub cancel_follows : (r : Option Operation) → find (is_inside ts block) s.operations ≡ r → At
+    pub cancel_follows : (r : Option Operation) → find tests s.operations ≡ r → At
     cancel_follows None e = goes_follow e
     cancel_follows (Some o) e = tried_follows o e o.progress refl
 
@@ -257,4 +319,4 @@ module _ (code : Parts) (bound : ℕ) (s0 : Held) (t : Item) (ws : List Work) (r
       Works code.instrs activation place [] again → Works code.instrs activation (place + 1) [] work →
       FollowsAt code bound R a c s place [] (Cancels (block_in (cell_at s.store activation.frame level slot)) s again work)
   cancels_follow level slot s place again work b is w w' =
-      cancel_follows level slot s place again work b is w w' (find (is_inside ts (block_in (cell_at s.store activation.frame level slot))) s.operations) refl
+      cancel_follows level slot s place again work b is w w' (find (is_to_try (is_inside ts (block_in (cell_at s.store activation.frame level slot)))) s.operations) refl

@@ -4,7 +4,7 @@ use Rattle.ac_tree.specs.declared.expr.BinaryOp.TheVariants as b
 use Rattle.ac_tree.specs.declared.expr.UnaryOp.TheVariants as u
 use Rattle.ac_commands.specs.declared.value.Place.TheVariants as p
 use Rattle.ac_commands.specs.declared.value.Array.TheVariants as a
-use Rattle.ac_commands.specs.declared.value.Action.TheVariants.{Call, Send, Recv}
+use Rattle.ac_commands.specs.declared.value.Action.TheVariants.{Call, Send, Recv, Read, Write}
 use Rattle.ac_commands.specs.declared.value.Value.TheVariants as v
 use Rattle.ac_commands.specs.declared.command.Target.TheVariants as t
 use Rattle.stack_code.specs.declared.instr.Instr.{Instr}
@@ -151,11 +151,13 @@ pub the_rest_of_a_chain : code_at 4 (chained_code ((b.Add, one (i.Push (pos 2)))
 the_rest_of_a_chain = refl
 
 -- only a call tells how many operands it takes
-pub actions_after_their_operands : action_code (Call 3) 2 ∷ action_code (Send 3) 1 ∷ action_code (Recv 3) 1 ∷ [] ≡ i.Call 3 2 ∷ i.Send 3 ∷ i.Recv 3 ∷ []
+pub actions_after_their_operands : action_code (Call 3) 2 ∷ action_code (Send 3) 1 ∷ action_code (Recv 3) 1 ∷ action_code (Read 3) 3 ∷ action_code (Write 3) 3 ∷ []
+    ≡ i.Call 3 2 ∷ i.Send 3 ∷ i.Recv 3 ∷ i.Read 3 ∷ i.Write 3 ∷ []
 actions_after_their_operands = refl
 
--- a call takes any number of operands, and an operation on a channel takes one
-pub how_many_an_action_takes : takes (Call 3) 2 ∷ takes (Send 3) 1 ∷ takes (Send 3) 2 ∷ takes (Recv 3) 0 ∷ [] ≡ true ∷ true ∷ false ∷ false ∷ []
+-- a call takes any number of operands, an operation on a channel takes one, and one of a file takes three
+pub how_many_an_action_takes : takes (Call 3) 2 ∷ takes (Send 3) 1 ∷ takes (Send 3) 2 ∷ takes (Recv 3) 0 ∷ takes (Read 3) 3 ∷ takes (Read 3) 2 ∷ takes (Write 3) 3 ∷ takes (Write 3) 4 ∷ []
+    ≡ true ∷ true ∷ false ∷ false ∷ true ∷ false ∷ true ∷ false ∷ []
 how_many_an_action_takes = refl
 
 -- of a send with a part that does not fit, and of one with two parts that do

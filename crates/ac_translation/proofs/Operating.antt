@@ -51,11 +51,11 @@ module _ (code : Parts) (bound : ℕ) (s0 : Held) (t : Item) (ws : List Work) (r
       (here ∙ ap (any_marked s.marks) (stood ∙ sym stands))
 
   -- it stands in none, and waits
-  waits_there : (link : ℕ) (asked : Asked) (instr : Instr) (s : Held) (place : ℕ) (value : Cell) (below : List Cell) (work : List Work) → SameBirths s0 s →
+  waits_there : (link : ℕ) (asked : Asked) (instr : Instr) (s : Held) (place : ℕ) (operands below : List Cell) (work : List Work) → SameBirths s0 s →
       slice_get code.instrs place ≡ Some instr → any_marked s.marks (path work (thread_at ts t)) ≡ false →
-      ((k : ℕ) → begin code bound (flat a s place (value ∷ below) k) t (Some instr) ≡ On (operates (flat a s place (value ∷ below) k) t link asked below)) →
-      Sleeps code.instrs activation (place + 1) below work → FollowsAt code bound R a c s place (value ∷ below) (Operates link asked s work)
-  waits_there link asked instr s place value below work b is free begins w =
+      ((k : ℕ) → begin code bound (flat a s place operands k) t (Some instr) ≡ On (operates (flat a s place operands k) t link asked below)) →
+      Sleeps code.instrs activation (place + 1) below work → FollowsAt code bound R a c s place operands (Operates link asked s work)
+  waits_there link asked instr s place operands below work b is free begins w =
       let h = with_births code.instrs s0 s b h0 in
       let all = seated ts t ws in
       let new = sitting ts t Active work in
@@ -84,12 +84,12 @@ module _ (code : Parts) (bound : ℕ) (s0 : Held) (t : Item) (ws : List Work) (r
       (λ k. rests (with_started s link asked t) ready ts' (set stacks t.number kept) bs (counted k) together)
 
   -- it has the value at once, and runs on
-  goes_there : (link : ℕ) (asked : Asked) (instr : Instr) (s : Held) (place : ℕ) (value : Cell) (below : List Cell) (work : List Work) → SameBirths s0 s →
+  goes_there : (link : ℕ) (asked : Asked) (instr : Instr) (s : Held) (place : ℕ) (operands below : List Cell) (work : List Work) → SameBirths s0 s →
       slice_get code.instrs place ≡ Some instr → any_marked s.marks (path work (thread_at ts t)) ≡ true →
-      ((k : ℕ) → begin code bound (flat a s place (value ∷ below) k) t (Some instr)
+      ((k : ℕ) → begin code bound (flat a s place operands k) t (Some instr)
       ≡ On (flat a s (place + 1) (cell.Int cancelled ∷ below) (counted k))) →
-      Sleeps code.instrs activation (place + 1) below work → FollowsAt code bound R a c s place (value ∷ below) (Operates link asked s work)
-  goes_there link asked instr s place value below work b is marked begins w =
+      Sleeps code.instrs activation (place + 1) below work → FollowsAt code bound R a c s place operands (Operates link asked s work)
+  goes_there link asked instr s place operands below work b is marked begins w =
       let h = with_births code.instrs s0 s b h0 in
       let given_now = given_works code.instrs (cell.Int cancelled) activation (place + 1) below work w in
       let on = on_together code.instrs ts t ws activation x (given (cell.Int cancelled) work) (works_closes code.instrs activation (place + 1) (cell.Int cancelled ∷ below) _ given_now) h in
@@ -97,16 +97,16 @@ module _ (code : Parts) (bound : ℕ) (s0 : Held) (t : Item) (ws : List Work) (r
       (ap (λ q. On (operates_there q c t link asked s work)) marked) begins
       (λ k. runs s t (given (cell.Int cancelled) work) ready ts activation (place + 1) (cell.Int cancelled ∷ below) stacks bs (counted k) x.was_active x.was_around on given_now)
 
-  pub waits_follow : (link : ℕ) (asked : Asked) (instr : Instr) (s : Held) (place : ℕ) (value : Cell) (below : List Cell) (work : List Work) → SameBirths s0 s →
+  pub waits_follow : (link : ℕ) (asked : Asked) (instr : Instr) (s : Held) (place : ℕ) (operands below : List Cell) (work : List Work) → SameBirths s0 s →
       slice_get code.instrs place ≡ Some instr →
-      ((k : ℕ) → begin code bound (flat a s place (value ∷ below) k) t (Some instr) ≡ asks (flat a s place (value ∷ below) k) t link asked below) →
-      Sleeps code.instrs activation (place + 1) below work → FollowsAt code bound R a c s place (value ∷ below) (Operates link asked s work)
-  waits_follow link asked instr s place value below work b is begins w = go (any_marked s.marks (path work (thread_at ts t))) refl
+      ((k : ℕ) → begin code bound (flat a s place operands k) t (Some instr) ≡ asks (flat a s place operands k) t link asked below) →
+      Sleeps code.instrs activation (place + 1) below work → FollowsAt code bound R a c s place operands (Operates link asked s work)
+  waits_follow link asked instr s place operands below work b is begins w = go (any_marked s.marks (path work (thread_at ts t))) refl
     where
-      by : (q : Bool) → any_marked s.marks (path work (thread_at ts t)) ≡ q → (k : ℕ) → begin code bound (flat a s place (value ∷ below) k) t (Some instr)
-          ≡ asks_in q (flat a s place (value ∷ below) k) t link asked below
-      by q e k = begins k ∙ ap (λ z. asks_in z (flat a s place (value ∷ below) k) t link asked below) (cancelled_same s work place below b w ∙ e)
+      by : (q : Bool) → any_marked s.marks (path work (thread_at ts t)) ≡ q → (k : ℕ) → begin code bound (flat a s place operands k) t (Some instr)
+          ≡ asks_in q (flat a s place operands k) t link asked below
+      by q e k = begins k ∙ ap (λ z. asks_in z (flat a s place operands k) t link asked below) (cancelled_same s work place below b w ∙ e)
 
-      go : (q : Bool) → any_marked s.marks (path work (thread_at ts t)) ≡ q → FollowsAt code bound R a c s place (value ∷ below) (Operates link asked s work)
-      go true e = goes_there link asked instr s place value below work b is e (by true e) w
-      go false e = waits_there link asked instr s place value below work b is e (by false e) w
+      go : (q : Bool) → any_marked s.marks (path work (thread_at ts t)) ≡ q → FollowsAt code bound R a c s place operands (Operates link asked s work)
+      go true e = goes_there link asked instr s place operands below work b is e (by true e) w
+      go false e = waits_there link asked instr s place operands below work b is e (by false e) w

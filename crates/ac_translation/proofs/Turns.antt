@@ -29,10 +29,10 @@ pub record Turns (code : Parts) (bound : ℕ) (R : CoreState → Flat → Type 0
       FollowsAt code bound R a c s place [] (or_trap s (begun s.store (Some a.activation.frame) (replicate slots no_int)) (λ t. Starts (with_store s t) (next_frame s.store) own ws))
   pub yields : (s : Held) (place : ℕ) (ws : List Work) → SameBirths c.held s → slice_get code.instrs place ≡ Some i.Yield → Works code.instrs a.activation (place + 1) [] ws →
       FollowsAt code bound R a c s place [] (Yields s ws)
-  pub waits : (link : ℕ) (asked : Asked) (instr : Instr) (s : Held) (place : ℕ) (value : Cell) (below : List Cell) (ws : List Work) → SameBirths c.held s →
+  pub waits : (link : ℕ) (asked : Asked) (instr : Instr) (s : Held) (place : ℕ) (operands below : List Cell) (ws : List Work) → SameBirths c.held s →
       slice_get code.instrs place ≡ Some instr →
-      ((k : ℕ) → begin code bound (flat a s place (value ∷ below) k) a.running (Some instr) ≡ asks (flat a s place (value ∷ below) k) a.running link asked below) →
-      Sleeps code.instrs a.activation (place + 1) below ws → FollowsAt code bound R a c s place (value ∷ below) (Operates link asked s ws)
+      ((k : ℕ) → begin code bound (flat a s place operands k) a.running (Some instr) ≡ asks (flat a s place operands k) a.running link asked below) →
+      Sleeps code.instrs a.activation (place + 1) below ws → FollowsAt code bound R a c s place operands (Operates link asked s ws)
   pub cancels : (level slot : ℕ) (s : Held) (place : ℕ) (again ws : List Work) → SameBirths c.held s → slice_get code.instrs place ≡ Some (i.Cancel level slot) →
       Works code.instrs a.activation place [] again → Works code.instrs a.activation (place + 1) [] ws →
       FollowsAt code bound R a c s place [] (Cancels (block_in (cell_at s.store a.activation.frame level slot)) s again ws)

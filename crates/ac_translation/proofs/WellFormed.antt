@@ -1,8 +1,8 @@
--- Programs that are well formed: each statement stands within what it needs round it, and each operation on a channel has one operand.
+-- Programs that are well formed: each statement stands within what it needs round it, and each operation has as many operands as it takes.
 use Rattle.std.proofs.Common.{refl}
 use Rattle.std.specs.Prelude.{◌≡◌, ℕ, List, [], ◌∷◌, length, map, Option, Some, None, Bool, true, false, not, ◌&&◌, nat_eq, slice_get}
 use Rattle.ac_commands.specs.declared.value.Action.{Action}
-use Rattle.ac_commands.specs.declared.value.Action.TheVariants.{Send, Recv}
+use Rattle.ac_commands.specs.declared.value.Action.TheVariants.{Call, Send, Recv, Read, Write}
 use Rattle.ac_commands.specs.declared.value.Value.{Value, roll-Value, map-Value, fold-Value, fold-roll-Value}
 use Rattle.ac_commands.specs.declared.value.ValueLink.{ValueLink, fold-ValueLink, fold-roll-ValueLink}
 use Rattle.ac_commands.specs.declared.value.Value.TheOpen.{Value-F, ValueLink-F}
@@ -14,11 +14,13 @@ use Rattle.ac_semantics.specs.Statements.{operands_of}
 
 -- ---- expressions
 
--- an operation on a channel takes one operand
+-- an operation on a channel takes one operand, and one of a file a place in the file, a length and an array
 abbrev pub takes : Action → ℕ → Bool
+takes (Call function) count = true
 takes (Send channel) count = nat_eq count 1
 takes (Recv channel) count = nat_eq count 1
-takes _ count = true
+takes (Read file) count = nat_eq count 3
+takes (Write file) count = nat_eq count 3
 
 abbrev pub all_true : List Bool → Bool
 all_true [] = true

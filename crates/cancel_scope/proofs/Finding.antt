@@ -1,5 +1,5 @@
 -- The first of a list for which a test holds, and its place.
-use Rattle.std.proofs.Common.{◌≡◌, ℕ, suc, ◌+◌, List, [], ◌∷◌, set, refl, sym, ap, ◌∙◌, subst, arith}
+use Rattle.std.proofs.Common.{◌≡◌, ℕ, suc, ◌+◌, ◌<◌, List, [], ◌∷◌, length, set, refl, sym, ap, ◌∙◌, subst, arith}
 use Rattle.std.specs.Prelude.{Option, Some, None, Bool, true, false, cond, find, position, is_some, slice_get, if◌then◌else◌}
 use Rattle.std.specs.List.{remove, position_from}
 use Rattle.std.proofs.lemmas.Iterator.Adapters.{position_from-zero}
@@ -60,6 +60,7 @@ placed test xs = ap is_some (position_from-zero test xs) ∙ placed_from test 0 
 module _ (test : Operation → Bool) where
   -- the first stands at this place
   pub record IsFirst (xs : List Operation) (i : ℕ) : Type 0 where
+    pub within : i < length xs
     pub found : find test xs ≡ slice_get xs i
     pub changed : (change : Operation → Operation) (o : Operation) → slice_get xs i ≡ Some o → change_first test change xs ≡ set xs i (change o)
     pub without : without_first test xs ≡ remove xs i
@@ -74,6 +75,7 @@ module _ (test : Operation → Bool) where
     place = 0;
     sums = omega (arith, e);
     first = record {
+      within = omega arith;
       found = ap (λ (b : Bool). cond b (Some x) (find test xs)) is;
       changed = λ change o at.
           let same : x ≡ o = cc in
@@ -91,6 +93,7 @@ module _ (test : Operation → Bool) where
         place = suc n;
         sums = omega (arith, sums);
         first = record {
+          within = let lt = first.within in omega (arith, lt);
           found = ap (λ (b : Bool). cond b (Some x) (find test xs)) is ∙ first.found;
           changed = λ change o at.
               ap (λ (b : Bool). if b then change x ∷ xs else x ∷ change_first test change xs) is ∙ ap (λ ys. x ∷ ys) (first.changed change o at);

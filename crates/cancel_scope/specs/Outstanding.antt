@@ -1,5 +1,5 @@
 -- The operations of a core that have not ended, the oldest first, and which of them an event is about.
-use Rattle.std.specs.Prelude.{ℕ, List, [], ◌∷◌, Bool, true, false, ◌&&◌, nat_eq, if◌then◌else◌}
+use Rattle.std.specs.Prelude.{ℕ, List, [], ◌∷◌, Bool, true, false, not, ◌&&◌, nat_eq, bytes_eq, if◌then◌else◌}
 use Rattle.std.specs.Ordering.{int_eq}
 use Rattle.ac_base.specs.declared.entry.Payload.{Payload}
 use Rattle.ac_base.specs.declared.entry.Payload.TheVariants as payload
@@ -22,33 +22,63 @@ started link asked item = record { link = link; asked = asked; item = item; prog
 abbrev pub offered_as : ℕ → Operation → Operation
 offered_as number o = record o { progress = progress.Offered number }
 
-abbrev pub is_send : Asked → Bool
-is_send (asked.Send value) = true
-is_send (asked.Recv place) = false
+-- how far a request has come once its peer has begun it, and its core knows that
+abbrev pub past_offer : Progress → Progress
+past_offer progress.Waiting = progress.Waiting
+past_offer (progress.Offered number) = progress.Started number
+past_offer (progress.Started number) = progress.Started number
+
+abbrev pub as_begun : Operation → Operation
+as_begun o = record o { progress = past_offer o.progress }
+
+-- it goes to its peer as an offer; a message comes to what waits for one
+abbrev pub is_outgoing : Asked → Bool
+is_outgoing (asked.Recv place) = false
+is_outgoing _ = true
+
+-- of a file: it ends by an answer, and not as soon as its peer has taken it
+abbrev pub is_request : Asked → Bool
+is_request (asked.Read file from into) = true
+is_request (asked.Write file from bytes) = true
+is_request _ = false
 
 abbrev pub is_waiting : Progress → Bool
 is_waiting progress.Waiting = true
-is_waiting (progress.Offered number) = false
+is_waiting _ = false
+
+abbrev pub has_begun : Progress → Bool
+has_begun (progress.Started number) = true
+has_begun _ = false
 
 abbrev pub is_under : ℕ → Progress → Bool
-is_under number progress.Waiting = false
 is_under number (progress.Offered n) = nat_eq n number
+is_under number _ = false
+
+abbrev pub has_begun_under : ℕ → Progress → Bool
+has_begun_under number (progress.Started n) = nat_eq n number
+has_begun_under number _ = false
 
 -- it is to be offered on that link
 abbrev pub is_to_offer : ℕ → Operation → Bool
-is_to_offer link o = nat_eq o.link link && (is_send o.asked && is_waiting o.progress)
+is_to_offer link o = nat_eq o.link link && (is_outgoing o.asked && is_waiting o.progress)
 
 -- it stands on that link under that number
 abbrev pub is_offered : ℕ → ℕ → Operation → Bool
 is_offered link number o = nat_eq o.link link && is_under number o.progress
 
+-- it has begun there under that number
+abbrev pub is_begun : ℕ → ℕ → Operation → Bool
+is_begun link number o = nat_eq o.link link && has_begun_under number o.progress
+
 -- it waits for a message from that link
 abbrev pub is_to_receive : ℕ → Operation → Bool
-is_to_receive link o = nat_eq o.link link && (if is_send o.asked then false else true)
+is_to_receive link o = nat_eq o.link link && not (is_outgoing o.asked)
 
 -- an offer of it carries this
 abbrev pub carries : Asked → Payload → Bool
 carries (asked.Send value) (payload.Int message) = int_eq value message
+carries (asked.Read file from into) (payload.Read f a n) = nat_eq file f && (nat_eq from a && nat_eq into.len n)
+carries (asked.Write file from bytes) (payload.Write f a bs) = nat_eq file f && (nat_eq from a && bytes_eq bytes bs)
 carries _ _ = false
 
 -- ---- all of them
@@ -67,6 +97,7 @@ without_first test (o ∷ os) = if test o then os else o ∷ without_first test 
 abbrev pub phase_of : Progress → Phase
 phase_of progress.Waiting = phase.Waiting
 phase_of (progress.Offered number) = phase.Offered
+phase_of (progress.Started number) = phase.Started
 
 abbrev pub waiting_as : Operation → Waiting
 waiting_as o = record { link = o.link; phase = phase_of o.progress }

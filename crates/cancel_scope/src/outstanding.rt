@@ -1,9 +1,11 @@
 //! The operations of a core that have not ended.
 
-ghost use Rattle.std.specs.Prelude.{◌≡◌, ◌+◌, ◌≤◌, ◌<◌, [], ◌∷◌, ◌++◌, position, find, is_some, map, length, slice_get, Some, OnOk, IfOk};
+ghost use Rattle.std.specs.Prelude.{◌≡◌, ◌+◌, ◌≤◌, ◌<◌, [], ◌∷◌, ◌++◌, position, find, is_some, map, length};
+ghost use Rattle.std.specs.Prelude.{slice_get, slice_set, Some, OnOk, IfOk, option_copied};
+ghost use Rattle.cancel_scope.specs.declared.operation.Operation.{Operation};
 ghost use Rattle.std.specs.List.{list_any, remove};
-ghost use Rattle.cancel_scope.specs.Outstanding.{offered_as, is_to_offer, is_offered, is_to_receive, waiting_as, waits_on};
-ghost use Rattle.cancel_scope.specs.Outstanding.{change_first, without_first};
+ghost use Rattle.cancel_scope.specs.Outstanding.{offered_as, as_begun, is_to_offer, is_offered, is_begun, is_to_receive};
+ghost use Rattle.cancel_scope.specs.Outstanding.{waiting_as, waits_on, change_first, without_first};
 
 use crate::operation::Operation;
 use ac_base::{List, NoMemory, Waiting};
@@ -95,11 +97,11 @@ impl Outstanding {
     /// The operation at a place; the oldest is at 0.
     ///
     /// Condition: the place is below the length.
-    pub fn get(&self, place: usize) -> Operation
+    pub fn get(&self, place: usize) -> &Operation
         requires { place < length self.now.operations }
-        ensures { slice_get self.now.operations place ≡ Some result }
+        ensures { slice_get self.now.operations place ≡ Some result.now }
     {
-        self.operations[place]
+        &self.operations[place]
     }
 
     // The place of the oldest operation that is to be offered on a link.
@@ -118,6 +120,15 @@ impl Outstanding {
             .position(|o| o.is_offered(link, number))
     }
 
+    // The place of the operation that has begun on a link under a number.
+    fn first_begun(&self, link: u32, number: u64) -> Option<usize>
+        ensures { result ≡ position (is_begun link number) self.now.operations }
+    {
+        self.operations
+            .iter()
+            .position(|o| o.is_begun(link, number))
+    }
+
     // The place of the oldest operation that waits for a message from a link.
     fn first_to_receive(&self, link: u32) -> Option<usize>
         ensures { result ≡ position (is_to_receive link) self.now.operations }
@@ -126,10 +137,18 @@ impl Outstanding {
     }
 
     /// The oldest operation that is to be offered on a link.
-    pub fn to_offer(&self, link: u32) -> Option<Operation>
-        ensures { result ≡ find (is_to_offer link) self.now.operations }
+    pub fn to_offer(&self, link: u32) -> Option<&Operation>
+        ensures { option_copied result ≡ find (is_to_offer link) self.now.operations }
     {
         let place = self.first_to_offer(link)?;
+        Some(self.get(place))
+    }
+
+    /// The operation that stands on a link under a number.
+    pub fn offered(&self, link: u32, number: u64) -> Option<&Operation>
+        ensures { option_copied result ≡ find (is_offered link number) self.now.operations }
+    {
+        let place = self.first_offered(link, number)?;
         Some(self.get(place))
     }
 
@@ -147,8 +166,31 @@ impl Outstanding {
         ensures spare { self.new.spare ≡ self.old.spare }
     {
         if let Some(place) = self.first_to_offer(link) {
-            self.operations[place] = self.get(place).offered(number);
+            self.operations[place].offer(number);
         }
+    }
+
+    /// The operation that stands on a link under a number has begun.
+    pub fn begin_offered(&mut self, link: u32, number: u64)
+        ensures operations { self.new.operations
+            ≡ change_first (is_offered link number) as_begun self.old.operations }
+        ensures spare { self.new.spare ≡ self.old.spare }
+    {
+        if let Some(place) = self.first_offered(link, number) {
+            self.operations[place].begin();
+        }
+    }
+
+    /// The operation at a place has begun, where it was offered.
+    ///
+    /// Condition: the place is below the length.
+    pub fn begin_at(&mut self, place: usize)
+        requires { place < length self.old.operations }
+        ensures operations { (o : Operation) → slice_get self.old.operations place ≡ Some o
+            → self.new.operations ≡ slice_set self.old.operations place (as_begun o) }
+        ensures spare { self.new.spare ≡ self.old.spare }
+    {
+        self.operations[place].begin();
     }
 
     /// Takes away the operation that stands on a link under a number, and gives it.
@@ -158,6 +200,16 @@ impl Outstanding {
             ≡ without_first (is_offered link number) self.old.operations }
     {
         let place = self.first_offered(link, number)?;
+        Some(self.end_at(place))
+    }
+
+    /// Takes away the operation that has begun on a link under a number, and gives it.
+    pub fn end_begun(&mut self, link: u32, number: u64) -> Option<Operation>
+        ensures result { result ≡ find (is_begun link number) self.old.operations }
+        ensures operations { self.new.operations
+            ≡ without_first (is_begun link number) self.old.operations }
+    {
+        let place = self.first_begun(link, number)?;
         Some(self.end_at(place))
     }
 

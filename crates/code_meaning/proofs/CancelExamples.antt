@@ -50,7 +50,7 @@ within number operands = record nobody { operands = operands; block = Some (bloc
 
 abbrev pub core : List Entry → List Operation → Flat
 core todo operations = record (here []) {
-  shared = record (first_shared []) { todo = todo };
+  shared = record (first_shared 2 []) { todo = todo };
   operations = operations;
   current = record (within 0 []) { place = 4 };
   threads = nobody ∷ within 1 [] ∷ within 2 [] ∷ [];
@@ -63,7 +63,7 @@ who_is_inside = (refl, refl, refl)
 -- the block 0 is marked, and the thread 1 has this value and is ready; the running one stays at its instruction
 abbrev pub ended : Cell → List Entry → List Operation → Flat
 ended value past operations = record (core [] operations) {
-  shared = record (first_shared []) { past = past };
+  shared = record (first_shared 2 []) { past = past };
   ready = item 1 ∷ [];
   threads = nobody ∷ within 1 (value ∷ []) ∷ within 2 [] ∷ [];
   blocks = blocks true;

@@ -19,12 +19,12 @@ use Rattle.stack_code.proofs.Examples.{entered, code_of, begins_so, keeps_three,
 
 -- what so many moves come to, of which the first is the dispatch of the thread
 abbrev pub after : ℕ → List Instr → ℕ → ℕ → Move Flat FlatEnd
-after words instrs bound count = and_then (first_flat (code_of words instrs) (entered words) []) (moves (exec (code_of words instrs) bound) count)
+after words instrs bound count = and_then (first_flat (code_of words instrs) 0 (entered words) []) (moves (exec (code_of words instrs) bound) count)
 
 -- the core ended so, after so many steps, having printed this, with these globals and so many instructions
 abbrev pub ended : EndWord → ℕ → List ℕ → List ℤ → ℕ → Move Flat FlatEnd
 ended word steps output globals count =
-    Over (record { core = Some (core_end word false globals [] (record { steps = steps; turn = 1; output = output; past = []; todo = [] })); count = count })
+    Over (record { core = Some (core_end word false globals [] (record { steps = steps; turn = 1; output = output; past = []; todo = []; requests = 0 })); count = count })
 
 -- ---- runs
 
@@ -37,7 +37,7 @@ it_prints_seven = rw (decimal_digit 7 (omega arith)) refl
 
 -- the same as an end of the core
 pub it_is_an_end : Runs (code_of 0 prints_seven) 0 100 []
-    (record { core = Some (core_end Finished false (pos 0 ∷ pos 5 ∷ []) [] (record { steps = 1; turn = 1; output = codes "7\n"; past = []; todo = [] })); count = 9 })
+    (record { core = Some (core_end Finished false (pos 0 ∷ pos 5 ∷ []) [] (record { steps = 1; turn = 1; output = codes "7\n"; past = []; todo = []; requests = 0 })); count = 9 })
 it_is_an_end = record { function = entered 0; begins = begins_so 0 prints_seven; comes = (10, sym it_prints_seven) }
 
 -- return 0; takes two instructions, and not three
@@ -50,7 +50,7 @@ counted (Over end) = end.count
 
 pub no_end_with_another_count : (core : Option CoreEnd) → Runs (code_of 0 returns) 0 100 [] (record { core = core; count = 3 }) → ⊥
 no_end_with_another_count core r = no_end r.comes.0 (rw same at r.comes.1) where
-  no_end : (k : ℕ) → Over (record { core = core; count = 3 }) ≡ and_then (first_flat (code_of 0 returns) (entered 0) []) (moves (exec (code_of 0 returns) 100) k) → ⊥
+  no_end : (k : ℕ) → Over (record { core = core; count = 3 }) ≡ and_then (first_flat (code_of 0 returns) 0 (entered 0) []) (moves (exec (code_of 0 returns) 100) k) → ⊥
   no_end zero h = let n : 3 ≡ 0 = ap counted h in omega (arith, n)
   no_end (suc zero) h = let n : 3 ≡ 0 = ap counted h in omega (arith, n)
   no_end (suc (suc zero)) h = let n : 3 ≡ 0 = ap counted h in omega (arith, n)

@@ -1,3 +1,4 @@
 pub mod Examples
 pub mod MachineExamples
 pub mod CancelExamples
+pub mod RequestExamples

@@ -7,7 +7,7 @@ use Rattle.ac_base.specs.declared.ends.EndWord.TheVariants.{Finished, Trapped, O
 use Rattle.core_state.specs.Moves.{Move, On, Over}
 use Rattle.core_state.specs.Shared.{core_end, first_shared}
 use Rattle.stack_code.specs.declared.instr.Instr.TheVariants as i
-use Rattle.code_meaning.specs.Machine.{Flat, FlatEnd, with_starts, first_globals, first_item, first_core, Caller, one_operand, block_at, one_more, told, text_at, dispatched, calls}
+use Rattle.code_meaning.specs.Machine.{Flat, FlatEnd, with_starts, first_globals, first_item, first_core, shared_at_first, Caller, one_operand, block_at, one_more, told, text_at, dispatched, calls}
 use Rattle.code_meaning.specs.Machine.{operates, given, resumed, arrived, rests}
 use Rattle.cancel_scope.specs.declared.operation.Asked.TheVariants.{Send, Recv}
 use Rattle.cancel_scope.specs.Outstanding.{started, offered_as}
@@ -43,7 +43,7 @@ int value = cell.Int (pos value)
 -- the first thread runs, and stands at that address with these operands, after so many instructions
 abbrev pub at_place : ℕ → List Cell → ℕ → Flat
 at_place place operands count = record {
-  shared = first_shared [];
+  shared = first_shared 2 [];
   store = no_frames 1;
   operations = [];
   running = Some (item 0);
@@ -58,15 +58,15 @@ abbrev pub here : List Cell → Flat
 here operands = at_place 4 operands 7
 
 abbrev pub over : EndWord → Bool → ℕ → Move Flat FlatEnd
-over word idle count = Over (record { core = Some (core_end word idle (pos 0 ∷ []) [] (first_shared [])); count = count })
+over word idle count = Over (record { core = Some (core_end word idle (pos 0 ∷ []) [] (first_shared 2 [])); count = count })
 
 pub threads_at_their_numbers : thread_at (nobody ∷ (here []).current ∷ []) (item 1) ∷ thread_at (nobody ∷ []) (item 1) ∷ [] ≡ (here []).current ∷ nobody ∷ []
 threads_at_their_numbers = refl
 
-pub what_is_seen : seen_of Finished true (here []) ≡ Some (core_end Finished true (pos 0 ∷ []) [] (first_shared []))
+pub what_is_seen : seen_of Finished true (here []) ≡ Some (core_end Finished true (pos 0 ∷ []) [] (first_shared 2 []))
 what_is_seen = refl
 
-pub parts_are_replaced : ((with_shared (here []) (record (first_shared []) { steps = 3 })).shared.steps ≡ 3) × ((with_store (here []) (no_frames 2)).store ≡ no_frames 2)
+pub parts_are_replaced : ((with_shared (here []) (record (first_shared 2 []) { steps = 3 })).shared.steps ≡ 3) × ((with_store (here []) (no_frames 2)).store ≡ no_frames 2)
 parts_are_replaced = (refl, refl)
 
 pub it_goes_there : goes_to 9 (here []) (int 1 ∷ []) ≡ On (at_place 9 (int 1 ∷ []) 8)
@@ -148,9 +148,10 @@ one_move = (refl, refl)
 pub globals_at_first : (with_starts (start 1 (pos 5) ∷ []) (pos 8 ∷ pos 9 ∷ []) ≡ pos 8 ∷ pos 5 ∷ []) × (first_globals (code_of 0 []) ≡ pos 0 ∷ pos 5 ∷ [])
 globals_at_first = (refl, refl)
 
-pub a_core_at_first : (first_item ≡ item 0) × (first_core (record (entered 0) { at = 6 }) (first_shared []) (no_frames 1)
+pub a_core_at_first : (first_item ≡ item 0) × (first_core (record (entered 0) { at = 6 }) (first_shared 2 []) (no_frames 1)
     ≡ record (at_place 0 [] 0) { running = None; ready = item 0 ∷ []; threads = record nobody { place = 6 } ∷ [] })
-a_core_at_first = (refl, refl)
+    × (shared_at_first (record (code_of 0 []) { ends = record { from = 0; to = 1 } ∷ [] }) 1 [] ≡ first_shared 2 [])
+a_core_at_first = (refl, refl, refl)
 
 -- ---- more of what moves are made of
 
@@ -208,7 +209,7 @@ it_waits = refl
 -- the send was offered, and an entry tells that it was taken
 abbrev pub offered : List Entry → Flat
 offered todo = record sending {
-  shared = record (first_shared []) { todo = todo };
+  shared = record (first_shared 2 []) { todo = todo };
   operations = offered_as 3 (started 0 (Send (pos 5)) (item 0)) ∷ [];
 }
 
@@ -217,13 +218,13 @@ known = record { stamp = 4; turn = 0; event = Know 0 3 }
 
 -- it has ended: its thread is ready, with OK above the 1
 pub the_send_has_ended : rests (offered (known ∷ [])) ≡ On (record sending {
-  shared = record (first_shared []) { past = known ∷ [] };
+  shared = record (first_shared 2 []) { past = known ∷ [] };
   operations = [];
   ready = item 0 ∷ [];
   threads = record nobody { place = 5; operands = int 0 ∷ int 1 ∷ [] } ∷ [];
 })
 the_send_has_ended = refl
 
-pub what_an_entry_makes : (arrived sending (first_shared []) (goes_on_waiting (no_frames 1) []) ≡ record sending { operations = [] })
+pub what_an_entry_makes : (arrived sending (first_shared 2 []) (goes_on_waiting (no_frames 1) []) ≡ record sending { operations = [] })
     × (resumed sending (int 0) None ≡ sending) × ((given (int 0) nobody).operands ≡ int 0 ∷ [])
 what_an_entry_makes = (refl, refl, refl)

@@ -24,7 +24,8 @@ use Rattle.core_state.specs.Arithmetic.{Computed, at_zero, truth, negated, not_t
 use Rattle.core_state.specs.Arithmetic.{product_of, quotient, remainder, shifted_left, shifted_right, is_equal}
 use Rattle.core_state.specs.Arithmetic.{is_not_equal, is_less, is_at_most, both_bits, either_bits, differing_bits}
 use Rattle.core_state.specs.Frames.{element, set_element, part_at, begun, begun_with, first_frame, with_entered, block_in}
-use Rattle.core_state.specs.Shared.{Shared, with_step, with_turn, first_shared, printed, formatted, seen, if_turn, begins}
+use Rattle.core_state.specs.Shared.{Shared, with_step, with_turn, request_link, first_shared, printed, formatted, seen, if_turn, begins}
+use Rattle.core_state.specs.Requests.{read_of, write_of}
 use Rattle.core_state.specs.Arrivals.{Arrival, point, cancelled}
 use Rattle.core_state.specs.Cancelling.{cancels}
 use Rattle.stack_code.specs.declared.instr.Instr.{Instr}
@@ -276,6 +277,10 @@ asks_in false m t link asked below = On (operates m t link asked below)
 abbrev pub asks : Flat → Item → ℕ → Asked → List Cell → Move Flat FlatEnd
 asks m t link asked below = asks_in (is_cancelled m.blocks m.current.block) m t link asked below
 
+-- what a read or a write asks for starts on the core's own link, where its range is right
+abbrev pub requests : Flat → Item → Result Asked Trap → List Cell → Move Flat FlatEnd
+requests m t it below = or_trap m it (λ asked. asks m t m.shared.requests asked below)
+
 -- with the value of its operation on top of its operands
 abbrev pub given : Cell → Thread → Thread
 given value h = record h { operands = value ∷ h.operands }
@@ -405,8 +410,11 @@ begin code bound m t (Some (i.Send channel)) =
     on_top m (λ x below. asks m t channel (asked.Send (int_in x)) below) m.current.operands
 begin code bound m t (Some (i.Recv channel)) =
     on_top m (λ x below. asks m t channel (asked.Recv (place_in x)) below) m.current.operands
-begin code bound m t (Some (i.Read file)) = On m
-begin code bound m t (Some (i.Write file)) = On m
+-- the place in the file, the length and the array
+begin code bound m t (Some (i.Read file)) =
+    on_three m (λ x y z below. requests m t (read_of file (int_in x) (int_in y) (place_in z)) below) m.current.operands
+begin code bound m t (Some (i.Write file)) =
+    on_three m (λ x y z below. requests m t (write_of m.store file (int_in x) (int_in y) (place_in z)) below) m.current.operands
 
 -- the front of the ready list runs, which is no instruction, or the core waits
 abbrev pub dispatched : Flat → List Item → Move Flat FlatEnd
@@ -460,14 +468,18 @@ first_core function s store =
       count = 0;
     }
 
+-- before its first step the whole journal is to come, and its requests have their link
+abbrev pub shared_at_first : Parts → ℕ → List Entry → Shared
+shared_at_first code core journal = first_shared (request_link (length code.ends) core) journal
+
 -- where its words are over their limit, the core has ended before its first step
-abbrev pub first_flat : Parts → Entered → List Entry → Move Flat FlatEnd
-first_flat code function journal =
-    begins (told 0) (first_globals code) (first_shared journal) function.words (λ store.
-    On (first_core function (first_shared journal) store))
+abbrev pub first_flat : Parts → ℕ → Entered → List Entry → Move Flat FlatEnd
+first_flat code core function journal =
+    begins (told 0) (first_globals code) (shared_at_first code core journal) function.words (λ store.
+    On (first_core function (shared_at_first code core journal) store))
 
 -- the code of the core, with at most so many steps, comes to this end under this journal
 pub record Runs (code : Parts) (core bound : ℕ) (journal : List Entry) (end : FlatEnd) : Type 0 where
   pub function : Entered
   pub begins : Begins code core function
-  pub comes : ComesTo (exec code bound) (first_flat code function journal) end
+  pub comes : ComesTo (exec code bound) (first_flat code core function journal) end

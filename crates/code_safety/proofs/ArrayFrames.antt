@@ -11,14 +11,13 @@ use Rattle.work_item.specs.Store.{Store, no_int, no_cells, cells_of}
 use Rattle.cancel_scope.specs.declared.operation.Asked.{Asked}
 use Rattle.cancel_scope.specs.declared.operation.Asked.TheVariants as asked
 use Rattle.cancel_scope.specs.declared.operation.Operation.{Operation}
-use Rattle.core_state.specs.Arrivals.{place_for}
 use Rattle.stack_code.specs.declared.shape.Kind.{Kind}
 use Rattle.stack_code.specs.declared.shape.Kind.TheVariants as kind
 use Rattle.stack_code.specs.declared.shape.Shape.{Shape}
 use Rattle.stack_code.specs.Parts.{Parts}
 use Rattle.code_meaning.specs.Machine.{Caller, Thread, Flat, thread_at, given}
 use Rattle.code_safety.specs.Fit.{Birth, HoldsInts, HasKind, HaveKinds, IsStore, IsAsked, AreCallers, bottom, above, IsFit, life_at, is_living, going_on}
-use Rattle.code_safety.specs.Living.{LivesAs, as_running, as_ready, as_operating, as_waiting, HasSlots, LiesThere, ArrayLiesThere}
+use Rattle.code_safety.specs.Living.{LivesAs, as_running, as_ready, as_operating, as_waiting, HasSlots, ArrayLiesThere, AskedLiesThere}
 use Rattle.code_safety.proofs.Plain.{at_same_birth}
 use Rattle.code_safety.proofs.LinkedFrames.{lives_there}
 use Rattle.code_safety.proofs.LivingThreads.{is_life, not_running, ready_once, operating_once}
@@ -55,9 +54,11 @@ module _ (code : Parts) (births : List Birth) (s : Store) (st : IsStore code bir
   callers_lie t start _ _ _ _ (above f shape c callers u n one older waits rest) =
       All-cons (λ (z : Caller). All (ArrayLiesThere s) z.operands) c callers (kinds_lie waits.kinds c.operands waits.activation.have) (callers_lie t start c.frame u callers n rest)
 
-  asked_lies : (a : Asked) → IsAsked code births a → LiesThere s (place_for a)
-  asked_lies (asked.Send value) h = omega arith
+  asked_lies : (a : Asked) → IsAsked code births a → AskedLiesThere s a
+  asked_lies (asked.Send value) h = tt
   asked_lies (asked.Recv place) h = ints_lie place.home place.start place.len h.ints
+  asked_lies (asked.Read file from into) h = ints_lie into.home into.start into.len h.ints
+  asked_lies (asked.Write file from bytes) h = tt
 
 -- ---- what a thread can name
 
@@ -96,6 +97,6 @@ module _ (code : Parts) (m : Flat) (fit : IsFit code m) where
             (callers_lie code fit.births m.store fit.store t (life_at fit.lives t).start (own t).frame i.shape (own t).callers i.below i.callers),
       )
 
-  -- and where an operation puts what it receives
-  pub received_in_its_frame : All (λ (o : Operation). LiesThere m.store (place_for o.asked)) m.operations
+  -- and where an operation puts what it receives or reads
+  pub received_in_its_frame : All (λ (o : Operation). AskedLiesThere m.store o.asked) m.operations
   received_in_its_frame k d lt = asked_lies code fit.births m.store fit.store (slice_index_or m.operations k d).asked (fit.asks k d lt)

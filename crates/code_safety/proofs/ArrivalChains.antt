@@ -1,5 +1,5 @@
--- No reference dangles where an entry comes in: an int is set, and the thread whose operation has ended goes on with one more.
-use Rattle.std.proofs.Common.{◌≡◌, ◌⊎◌, ℕ, ◌+◌, ◌<◌, List, [], ◌∷◌, ◌++◌, length, Option, Some, None, Bool, true, false, refl, sym, ap, ◌∙◌, subst, inl, inr, arith}
+-- No reference dangles where an entry comes in: ints are set, and the thread whose operation has ended goes on with one more.
+use Rattle.std.proofs.Common.{◌≡◌, ◌⊎◌, ◌+◌, ◌<◌, List, [], ◌∷◌, ◌++◌, length, Option, Some, None, Bool, true, false, refl, sym, ap, ◌∙◌, subst, inl, inr, arith}
 use Rattle.std.specs.Prelude.{ℤ, All, nat_eq, if◌then◌else◌}
 use Rattle.std.proofs.lemmas.List.{get_or-set_same, get_or-set_other}
 use Rattle.std.proofs.lemmas.List.Elements.{All-weaker}
@@ -9,12 +9,13 @@ use Rattle.work_item.specs.declared.ids.FrameId.{FrameId}
 use Rattle.work_item.specs.declared.ids.BlockId.{BlockId}
 use Rattle.work_item.specs.Store.{Store, with_int_at}
 use Rattle.cancel_scope.specs.declared.operation.Operation.{Operation}
-use Rattle.cancel_scope.specs.Outstanding.{offered_as}
+use Rattle.cancel_scope.specs.Outstanding.{as_begun, offered_as}
 use Rattle.core_state.specs.Moves.{On}
 use Rattle.core_state.specs.Shared.{Shared, with_entry}
 use Rattle.core_state.specs.Arrivals as arrivals
 use Rattle.work_item.specs.declared.cell.Cell.TheVariants as cell
 use Rattle.core_state.specs.Arrivals.{ok, Arrival, goes_on_waiting, has_ended_as, comes_in, at_point}
+use Rattle.core_state.specs.Requests.{value_of, with_answer}
 use Rattle.stack_code.specs.Parts.{Parts}
 use Rattle.code_meaning.specs.Machine.{Thread, Block, Flat, given, block_at, thread_at, nobody, told, arrived, dispatched, rests}
 use Rattle.code_safety.specs.Fit.{life_at, one_at, occurs, items_of, IsFit}
@@ -23,52 +24,56 @@ use Rattle.code_safety.specs.Chains.{AskedOnChain, HasStack, IsActive, AreChaine
 use Rattle.code_safety.proofs.Lives.{one_same, one_other, same_item, occurs_append, living_within, going_is, going_lives}
 use Rattle.code_safety.proofs.Waiting.{occurs_between, all_others, one_of_all, all_between}
 use Rattle.code_safety.proofs.Plain.{Onward}
-use Rattle.code_safety.proofs.Arriving.{Comes, offered, known, received, passed, comes_of}
+use Rattle.code_safety.proofs.Arriving.{Comes, offered, known, begun, answered, received, passed, comes_of}
 use Rattle.code_safety.proofs.Removing.{same_or_other}
 use Rattle.code_safety.proofs.LivingThreads.{not_going, not_both, operating_once}
 use Rattle.code_safety.proofs.LinkedFrames.{SameFrames, same_frames, int_frames, linked_same}
 use Rattle.code_safety.proofs.Stacks.{stack_pushed}
+use Rattle.code_safety.proofs.Transfers.{answer_frames}
 
 module _ (code : Parts) (m : Flat) (fit : IsFit code m) (chained : AreChained code m) (shared : Shared) where
   abbrev Asks : Operation → Type 0
   Asks o = AskedOnChain chained.origins (thread_at m.threads o.item).frame o.asked
 
-  -- ---- an operation is offered
+  -- ---- an operation comes further: it is offered, or has begun
 
-  module _ (front back : List Operation) (o : Operation) (is : m.operations ≡ front ++ o ∷ back) (number : ℕ) where
-    abbrev now_offered : Operation
-    now_offered = offered_as number o
+  module _ (front back : List Operation) (o : Operation) (is : m.operations ≡ front ++ o ∷ back) (p : Operation) (item : p.item ≡ o.item) (asks : p.asked ≡ o.asked) where
+    abbrev changed : Flat
+    changed = arrived m shared (goes_on_waiting m.store (front ++ p ∷ back))
 
-    abbrev offering : Flat
-    offering = arrived m shared (goes_on_waiting m.store (front ++ now_offered ∷ back))
+    same_items : (u : Item) → occurs u.number (items_of m.operations) ≡ occurs u.number (items_of changed.operations)
+    same_items u =
+        ap (λ os. occurs u.number (items_of os)) is ∙ occurs_between u.number front back o
+        ∙ ap (λ (z : Item). one_at u.number z + occurs u.number (items_of (front ++ back))) (sym item) ∙ sym (occurs_between u.number front back p)
 
-    same_items : (u : Item) → occurs u.number (items_of m.operations) ≡ occurs u.number (items_of offering.operations)
-    same_items u = ap (λ os. occurs u.number (items_of os)) is ∙ occurs_between u.number front back o ∙ sym (occurs_between u.number front back now_offered)
+    changed_back : (u : Item) (h : Thread) → LivesAs changed u h → LivesAs m u h
+    changed_back _ _ (as_running u e) = as_running u e
+    changed_back _ _ (as_ready u some) = as_ready u some
+    changed_back _ _ (as_operating u some) = let e = same_items u in as_operating u (omega (arith, some, e))
+    changed_back _ _ (as_waiting u c x here owner w) = as_waiting u c x here owner w
 
-    offered_back : (u : Item) (h : Thread) → LivesAs offering u h → LivesAs m u h
-    offered_back _ _ (as_running u e) = as_running u e
-    offered_back _ _ (as_ready u some) = as_ready u some
-    offered_back _ _ (as_operating u some) = let e = same_items u in as_operating u (omega (arith, some, e))
-    offered_back _ _ (as_waiting u c x here owner w) = as_waiting u c x here owner w
+    changed_on : (u : Item) (h : Thread) → LivesAs m u h → LivesAs changed u h
+    changed_on _ _ (as_running u e) = as_running u e
+    changed_on _ _ (as_ready u some) = as_ready u some
+    changed_on _ _ (as_operating u some) = let e = same_items u in as_operating u (omega (arith, some, e))
+    changed_on _ _ (as_waiting u c x here owner w) = as_waiting u c x here owner w
 
-    offered_on : (u : Item) (h : Thread) → LivesAs m u h → LivesAs offering u h
-    offered_on _ _ (as_running u e) = as_running u e
-    offered_on _ _ (as_ready u some) = as_ready u some
-    offered_on _ _ (as_operating u some) = let e = same_items u in as_operating u (omega (arith, some, e))
-    offered_on _ _ (as_waiting u c x here owner w) = as_waiting u c x here owner w
+    asks_too : Asks o → Asks p
+    asks_too a = subst (λ (z : Item). AskedOnChain chained.origins (thread_at m.threads z).frame p.asked) (sym item)
+        (subst (AskedOnChain chained.origins (thread_at m.threads o.item).frame) (sym asks) a)
 
-    offered_chained : AreChained code offering
-    offered_chained = record {
+    pub changed_chained : AreChained code changed
+    changed_chained = record {
       origins = chained.origins;
       sites = chained.sites;
       long = chained.long;
       many = chained.many;
       older = chained.older;
-      frames = linked_same chained.origins m offering (same_frames chained.origins m.store)
-          (λ f a. record { item = a.item; thread = a.thread; living = offered_on a.item a.thread a.living; has = a.has }) chained.frames;
-      threads = λ u h l. chained.threads u h (offered_back u h l);
+      frames = linked_same chained.origins m changed (same_frames chained.origins m.store)
+          (λ f a. record { item = a.item; thread = a.thread; living = changed_on a.item a.thread a.living; has = a.has }) chained.frames;
+      threads = λ u h l. chained.threads u h (changed_back u h l);
       waiting = chained.waiting;
-      operations = let all = subst (All Asks) is chained.operations in all_between Asks back now_offered front (all_others Asks back o front all) (one_of_all Asks back o front all);
+      operations = let all = subst (All Asks) is chained.operations in all_between Asks back p front (all_others Asks back o front all) (asks_too (one_of_all Asks back o front all));
     }
 
   -- ---- an operation goes on waiting
@@ -227,8 +232,11 @@ module _ (code : Parts) (m : Flat) (fit : IsFit code m) (chained : AreChained co
 
   pub comes_chained : (x : Arrival) → Comes m.store m.operations x → AreChained code (arrived m shared x)
   comes_chained _ passed = passed_chained
-  comes_chained _ (offered front back o number is test) = offered_chained front back o is number
-  comes_chained _ (known front back o is) = ended_chained front back o is ok m.store (same_frames chained.origins m.store)
+  comes_chained _ (offered front back o number is test) = changed_chained front back o is (offered_as number o) refl refl
+  comes_chained _ (begun front back o number is request under) = changed_chained front back o is (as_begun o) refl refl
+  comes_chained _ (answered front back o answer is) =
+      ended_chained front back o is (value_of o.asked answer) (with_answer m.store o.asked answer) (answer_frames chained.origins m.store o.asked answer)
+  comes_chained _ (known front back o is plain) = ended_chained front back o is ok m.store (same_frames chained.origins m.store)
   comes_chained _ (received front back o place value is a) =
       ended_chained front back o is ok (with_int_at m.store place 0 value) (int_frames chained.origins m.store place.home (place.start + 0) value)
 

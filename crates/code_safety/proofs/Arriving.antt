@@ -1,8 +1,9 @@
 -- What an entry that comes in makes of a state, and that the state stays fit.
 use Rattle.std.proofs.Common.{◌≡◌, ℕ, ◌+◌, ◌<◌, List, [], ◌∷◌, ◌++◌, length, Option, Some, None, Bool, true, false, refl, sym, ap, ◌∙◌, subst, inl, inr, arith}
-use Rattle.std.specs.Prelude.{All, ℤ, pos, find, nat_eq, slice_set, if◌then◌else◌, ◌&&◌}
-use Rattle.std.proofs.lemmas.Bool.{and_parts}
+use Rattle.std.specs.Prelude.{All, ℤ, pos, find, nat_eq, slice_set, if◌then◌else◌, not, ◌&&◌}
+use Rattle.std.proofs.lemmas.Bool.{and_parts, eqb-true}
 use Rattle.std.proofs.lemmas.List.{length-set, get_or-set_same, get_or-set_other}
+use Rattle.ac_base.specs.declared.entry.Answer.{Answer}
 use Rattle.ac_base.specs.declared.entry.Entry.{Entry}
 use Rattle.ac_base.specs.declared.entry.Event.{Event}
 use Rattle.ac_base.specs.declared.entry.Event.TheVariants as event
@@ -16,9 +17,12 @@ use Rattle.work_item.specs.Store.{Store, no_int, with_int_at}
 use Rattle.cancel_scope.specs.declared.operation.Asked.{Asked}
 use Rattle.cancel_scope.specs.declared.operation.Asked.TheVariants as asked
 use Rattle.cancel_scope.specs.declared.operation.Operation.{Operation}
-use Rattle.cancel_scope.specs.Outstanding.{carries, change_first, is_offered, is_send, is_to_offer, is_to_receive, is_waiting, offered_as, without_first}
+use Rattle.cancel_scope.specs.declared.operation.Progress.{Progress}
+use Rattle.cancel_scope.specs.declared.operation.Progress.TheVariants.{Waiting, Offered, Started}
+use Rattle.cancel_scope.specs.Outstanding.{as_begun, carries, change_first, is_begun, is_offered, is_outgoing, is_request, is_to_offer, is_to_receive, is_under, is_waiting, offered_as, without_first}
 use Rattle.core_state.specs.Arrivals as arrivals
-use Rattle.core_state.specs.Arrivals.{Arrival, ends_known, ends_received, goes_on_waiting, has_ended, keeps_room, offers, offers_on, passes_over, gives_room, with_message}
+use Rattle.core_state.specs.Arrivals.{Arrival, ends_received, goes_on_waiting, has_ended, has_ended_as, is_answered, is_known, keeps_room, offers, offers_on, passes_over, gives_room, with_message}
+use Rattle.core_state.specs.Requests.{value_of, with_answer}
 use Rattle.core_state.specs.Shared.{Shared}
 use Rattle.stack_code.specs.declared.shape.Kind.{Kind}
 use Rattle.stack_code.specs.declared.shape.Kind.TheVariants as kind
@@ -30,16 +34,21 @@ use Rattle.code_safety.specs.Fit.{occurs, one_at, one_if, runs}
 use Rattle.code_safety.proofs.Lives.{going_is, going_lives, life_cases, living_within, occurs_append, one_at_most, one_same, one_true, same_item}
 use Rattle.code_safety.proofs.Own.{all_kept, block_bound, block_kept, is_bound, rooted_of, same_phase, same_start}
 use Rattle.code_safety.proofs.Settings.{KeepsStore, same_store, set_element_at}
+use Rattle.code_safety.proofs.Transfers.{answer_kept}
 use Rattle.code_safety.proofs.Turns.{alive_kept}
 use Rattle.code_safety.proofs.Waiting.{IsFound, all_between, all_others, found_at, occurs_between, one_of_all, waits_alike, waits_for_another, waits_for_it, waits_for_none}
 
 -- ---- what can come in
 
--- one of the operations is offered, or has ended and had received nothing or a message, or goes on waiting
+-- one of the operations is offered, or has begun, or has ended and had received nothing, a message or an answer, or goes on waiting
 pub data Comes (store : Store) (os : List Operation) : Arrival → Type 0 where
-  offered : (front back : List Operation) (o : Operation) (number : ℕ) → os ≡ front ++ o ∷ back → (is_send o.asked && is_waiting o.progress) ≡ true
+  offered : (front back : List Operation) (o : Operation) (number : ℕ) → os ≡ front ++ o ∷ back → (is_outgoing o.asked && is_waiting o.progress) ≡ true
       → Comes store os (goes_on_waiting store (front ++ offered_as number o ∷ back))
-  known : (front back : List Operation) (o : Operation) → os ≡ front ++ o ∷ back → Comes store os (has_ended store (front ++ back) o)
+  known : (front back : List Operation) (o : Operation) → os ≡ front ++ o ∷ back → is_request o.asked ≡ false → Comes store os (has_ended store (front ++ back) o)
+  begun : (front back : List Operation) (o : Operation) (number : ℕ) → os ≡ front ++ o ∷ back → is_request o.asked ≡ true → o.progress ≡ Offered number
+      → Comes store os (goes_on_waiting store (front ++ as_begun o ∷ back))
+  answered : (front back : List Operation) (o : Operation) (answer : Answer) → os ≡ front ++ o ∷ back
+      → Comes store os (has_ended_as (value_of o.asked answer) (with_answer store o.asked answer) (front ++ back) o)
   received : (front back : List Operation) (o : Operation) (place : Place) (value : ℤ) → os ≡ front ++ o ∷ back → o.asked ≡ asked.Recv place
       → Comes store os (has_ended (with_int_at store place 0 value) (front ++ back) o)
   passed : Comes store os (goes_on_waiting store os)
@@ -53,31 +62,50 @@ module _ (store : Store) (os : List Operation) (x : Arrival) where
       go f true k =
           let same : goes_on_waiting store (f.front ++ offered_as number o ∷ f.back) ≡ x =
           (let is : goes_on_waiting store (change_first (is_to_offer link) (offered_as number) os) ≡ x = cc in ap (goes_on_waiting store) (sym (f.changed (offered_as number))) ∙ is) in
-          let both = and_parts (nat_eq o.link link) (is_send o.asked && is_waiting o.progress) f.passes in
+          let both = and_parts (nat_eq o.link link) (is_outgoing o.asked && is_waiting o.progress) f.passes in
           subst (Comes store os) same (offered f.front f.back o number f.is both.1)
       go f false k = let no : None ≡ Some x = k in absurd (cc)
 
-  known_comes : (link number : ℕ) (o : Option Operation) → find (is_offered link number) os ≡ o → ends_known store os link number o ≡ Some x → Comes store os x
+  -- a send has ended, and a request has begun
+  known_comes : (link number : ℕ) (o : Option Operation) → find (is_offered link number) os ≡ o → is_known store os link number o ≡ Some x → Comes store os x
   known_comes link number None e h = let no : None ≡ Some x = h in absurd (cc)
-  known_comes link number (Some o) e h =
-      let f = found_at (is_offered link number) os o e in
-      let is : has_ended store (without_first (is_offered link number) os) o ≡ x = cc in
-      subst (Comes store os) (ap (λ l. has_ended store l o) (sym f.without) ∙ is) (known f.front f.back o f.is)
+  known_comes link number (Some o) e h = go (found_at (is_offered link number) os o e) (is_request o.asked) refl h
+    where
+      under : (p : Progress) → is_under number p ≡ true → p ≡ Offered number
+      under Waiting t = let no : false ≡ true = t in absurd (cc)
+      under (Offered n) t = ap (λ k. Offered k) (eqb-true n number t)
+      under (Started n) t = let no : false ≡ true = t in absurd (cc)
+
+      go : (f : IsFound (is_offered link number) os o) (b : Bool) → is_request o.asked ≡ b
+          → Some (if b then goes_on_waiting store (change_first (is_offered link number) as_begun os) else has_ended store (without_first (is_offered link number) os) o) ≡ Some x → Comes store os x
+      go f true r k =
+          let is : goes_on_waiting store (change_first (is_offered link number) as_begun os) ≡ x = cc in
+          let both = and_parts (nat_eq o.link link) (is_under number o.progress) f.passes in
+          subst (Comes store os) (ap (goes_on_waiting store) (sym (f.changed as_begun)) ∙ is) (begun f.front f.back o number f.is r (under o.progress both.1))
+      go f false r k =
+          let is : has_ended store (without_first (is_offered link number) os) o ≡ x = cc in
+          subst (Comes store os) (ap (λ l. has_ended store l o) (sym f.without) ∙ is) (known f.front f.back o f.is r)
+
+  answered_comes : (link number : ℕ) (answer : Answer) (o : Option Operation) → find (is_begun link number) os ≡ o → is_answered store os link number answer o ≡ Some x → Comes store os x
+  answered_comes link number answer None e h = let no : None ≡ Some x = h in absurd (cc)
+  answered_comes link number answer (Some o) e h =
+      let f = found_at (is_begun link number) os o e in
+      let is : has_ended_as (value_of o.asked answer) (with_answer store o.asked answer) (without_first (is_begun link number) os) o ≡ x = cc in
+      subst (Comes store os) (ap (λ l. has_ended_as (value_of o.asked answer) (with_answer store o.asked answer) l o) (sym f.without) ∙ is) (answered f.front f.back o answer f.is)
 
   received_comes : (link : ℕ) (value : ℤ) (o : Option Operation) → find (is_to_receive link) os ≡ o → ends_received store os link value o ≡ Some x → Comes store os x
   received_comes link value None e h = let no : None ≡ Some x = h in absurd (cc)
   received_comes link value (Some o) e h =
       let f = found_at (is_to_receive link) os o e in
       let is : has_ended (with_message store o value) (without_first (is_to_receive link) os) o ≡ x = cc in
-      let both = and_parts (nat_eq o.link link) (if is_send o.asked then false else true) f.passes in
+      let both = and_parts (nat_eq o.link link) (not (is_outgoing o.asked)) f.passes in
       go f o.asked refl both.1 (ap (λ l. has_ended (with_message store o value) l o) (sym f.without) ∙ is)
     where
-      go : (f : IsFound (is_to_receive link) os o) (a : Asked) → o.asked ≡ a → (if is_send a then false else true) ≡ true → has_ended (with_message store o value) (f.front ++ f.back) o ≡ x
-          → Comes store os x
-      go f (asked.Send v) e t same = let no : false ≡ true = t in absurd (cc)
+      go : (f : IsFound (is_to_receive link) os o) (a : Asked) → o.asked ≡ a → not (is_outgoing a) ≡ true → has_ended (with_message store o value) (f.front ++ f.back) o ≡ x → Comes store os x
       go f (asked.Recv place) e t same =
           let here : with_message store o value ≡ with_int_at store place 0 value = ap (λ a. with_int_at store (arrivals.place_for a) 0 value) e in
           subst (Comes store os) (ap (λ s. has_ended s (f.front ++ f.back) o) (sym here) ∙ same) (received f.front f.back o place value f.is e)
+      go f a e t same = let no : false ≡ true = t in absurd (cc)
 
   passed_comes : (link : ℕ) (o : Option Operation) → find (is_to_receive link) os ≡ o → passes_over store os o ≡ Some x → Comes store os x
   passed_comes link None e h = let no : None ≡ Some x = h in absurd (cc)
@@ -99,6 +127,7 @@ module _ (store : Store) (os : List Operation) (x : Arrival) where
   comes_of past (event.Got link number value) h = received_comes link value (find (is_to_receive link) os) refl h
   comes_of past (event.Pass link number) h = passed_comes link (find (is_to_receive link) os) refl h
   comes_of past (event.Room link number) h = room_comes (keeps_room link number past) h
+  comes_of past (event.Reply link number answer) h = answered_comes link number answer (find (is_begun link number) os) refl h
   comes_of past v h = let no : None ≡ Some x = h in absurd (cc)
 
 -- ---- another int in the place of the one that is awaited
@@ -156,8 +185,9 @@ module _ (code : Parts) (m : Flat) (fit : IsFit code m) (shared : Shared) (front
       let most = one_at_most (is_going (life_at fit.lives t).phase) in
       omega (arith, l, r, k, one, most)
 
-  offered_fit : (number : ℕ) → IsFit code (arrived m shared (goes_on_waiting m.store (front ++ offered_as number o ∷ back)))
-  offered_fit number = record {
+  -- it has come further, and its thread waits on
+  pub changed_fit : (p : Operation) → p.item ≡ t → p.asked ≡ o.asked → IsFit code (arrived m shared (goes_on_waiting m.store (front ++ p ∷ back)))
+  changed_fit p item asks = record {
     births = fit.births;
     lives = fit.lives;
     store = fit.store;
@@ -168,13 +198,13 @@ module _ (code : Parts) (m : Flat) (fit : IsFit code m) (shared : Shared) (front
     listed = λ u.
         let l = fit.listed u in
         let was = split u in
-        let now : occurs u (items_of (front ++ offered_as number o ∷ back)) ≡ one_at u t + occurs u (items_of (front ++ back)) = occurs_between u front back (offered_as number o) in
+        let now : occurs u (items_of (front ++ p ∷ back)) ≡ one_at u t + occurs u (items_of (front ++ back)) =
+        occurs_between u front back p ∙ ap (λ (z : Item). one_at u z + occurs u (items_of (front ++ back))) item in
         omega (arith, l, was, now);
-    asks = all_between (λ (p : Operation). IsAsked code fit.births p.asked) back (offered_as number o) front asks_others its_asked;
+    asks = all_between (λ (q : Operation). IsAsked code fit.births q.asked) back p front asks_others (subst (IsAsked code fit.births) (sym asks) its_asked);
     many = fit.many;
     current = fit.current;
-    parked = λ u l not.
-        waits_alike u (thread_at m.threads u) front back o (offered_as number o) refl ∙ ap (λ os. going_on os u (thread_at m.threads u)) (sym is) ∙ fit.parked u l not;
+    parked = λ u l not. waits_alike u (thread_at m.threads u) front back o p item ∙ ap (λ os. going_on os u (thread_at m.threads u)) (sym is) ∙ fit.parked u l not;
   }
 
   -- ---- its end
@@ -327,8 +357,12 @@ module _ (code : Parts) (m : Flat) (fit : IsFit code m) (one : HasOneUse code) (
 
   pub arrived_fit : (x : Arrival) → Comes m.store m.operations x → IsFit code (arrived m shared x)
   arrived_fit _ passed = passed_fit
-  arrived_fit _ (offered front back o number is waiting) = offered_fit code m fit shared front back o is number
-  arrived_fit _ (known front back o is) = ended_fit code m fit shared front back o is m.store (same_store code fit.births m.store fit.store) (pos 0)
+  arrived_fit _ (offered front back o number is waiting) = changed_fit code m fit shared front back o is (offered_as number o) refl refl
+  arrived_fit _ (begun front back o number is request under) = changed_fit code m fit shared front back o is (as_begun o) refl refl
+  arrived_fit _ (answered front back o answer is) =
+      let keeps = answer_kept code fit.births one m.store fit.store o.asked answer (its_asked code m fit shared front back o is) in
+      ended_fit code m fit shared front back o is (with_answer m.store o.asked answer) keeps (value_of o.asked answer)
+  arrived_fit _ (known front back o is plain) = ended_fit code m fit shared front back o is m.store (same_store code fit.births m.store fit.store) (pos 0)
   arrived_fit _ (received front back o place value is asks) =
       let a : IsAsked code fit.births (asked.Recv place) = subst (IsAsked code fit.births) asks (its_asked code m fit shared front back o is) in
       let some : 0 < place.len = let k = a.single refl in omega (arith, k) in

@@ -14,7 +14,7 @@ use Rattle.work_item.specs.Store.{Store, Frame, made, no_int}
 use Rattle.cancel_scope.specs.declared.operation.Operation.{Operation}
 use Rattle.core_state.specs.Moves.{Move, On, Over, moves, and_then, EndsAs, ComesTo}
 use Rattle.core_state.specs.Frames.{first_store, first_frame, has_words}
-use Rattle.core_state.specs.Shared.{Shared, first_shared, seen}
+use Rattle.core_state.specs.Shared.{Shared, seen}
 use Rattle.core_state.proofs.Runs.{GoesOn-none}
 use Rattle.stack_code.specs.declared.parts.Entered.{Entered}
 use Rattle.stack_code.specs.declared.parts.Start.{Start}
@@ -24,7 +24,7 @@ use Rattle.stack_code.specs.Shapes.{first, params_of, params_in}
 use Rattle.stack_code.specs.Valid.{IsValid, IsEntry, begins}
 use Rattle.stack_code.specs.Kept.{IsRanked}
 use Rattle.code_meaning.specs.Meant.{IsMeant}
-use Rattle.code_meaning.specs.Machine.{Flat, FlatEnd, Thread, nobody, exec, told, with_starts, first_globals, first_item, first_core, first_flat}
+use Rattle.code_meaning.specs.Machine.{Flat, FlatEnd, Thread, nobody, exec, told, with_starts, first_globals, first_item, first_core, shared_at_first, first_flat}
 use Rattle.code_safety.specs.Fit.{Birth, IsStore, last, bottom, outside, IsThread, Going, AtFinish, Life, no_life, life_at, is_living, is_going}
 use Rattle.code_safety.specs.Fit.{IsAlive, IsAsked, IsFit, one_if, one_at}
 use Rattle.code_safety.specs.Left.{left_to_come}
@@ -173,17 +173,18 @@ module _ (code : Parts) (bound : ℕ) (v : IsValid code) (meant : IsMeant code) 
           (r.0, (suc r.1.0, ap (λ x. and_then x (moves (exec code bound) r.1.0)) same ∙ r.1.1))
 
   module _ (core : ℕ) (function : Entered) (b : Begins code core function) (journal : List Entry) where
-    pub comes_to : (e : FlatEnd) × ComesTo (exec code bound) (first_flat code function journal) e
+    pub comes_to : (e : FlatEnd) × ComesTo (exec code bound) (first_flat code core function journal) e
     comes_to = go (has_words (first_store (first_globals code)) (length (replicate function.words no_int))) refl
       where
-        go : (r : Bool) → has_words (first_store (first_globals code)) (length (replicate function.words no_int)) ≡ r → (e : FlatEnd) × ComesTo (exec code bound) (first_flat code function journal) e
+        go : (r : Bool) → has_words (first_store (first_globals code)) (length (replicate function.words no_int)) ≡ r
+            → (e : FlatEnd) × ComesTo (exec code bound) (first_flat code core function journal) e
         go true room =
-            let fit = first_fit code v core function b (first_shared journal) room in
-            let m = first_core function (first_shared journal) (made (first_store (first_globals code)) None (replicate function.words no_int)) in
+            let fit = first_fit code v core function b (shared_at_first code core journal) room in
+            let m = first_core function (shared_at_first code core journal) (made (first_store (first_globals code)) None (replicate function.words no_int)) in
             let r = ends_from (suc (left_to_come ranks bound m)) m fit (omega arith) in
             (r.0, (r.1.0, rw room (sym r.1.1)))
         go false room = (
-          told 0 (seen (word.Trapped StackFull) false (first_globals code) [] (first_shared journal)),
+          told 0 (seen (word.Trapped StackFull) false (first_globals code) [] (shared_at_first code core journal)),
           rw room
-              (GoesOn-none (exec code bound) (Over (told 0 (seen (word.Trapped StackFull) false (first_globals code) [] (first_shared journal))))),
+              (GoesOn-none (exec code bound) (Over (told 0 (seen (word.Trapped StackFull) false (first_globals code) [] (shared_at_first code core journal))))),
         )

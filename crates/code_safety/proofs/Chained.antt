@@ -119,6 +119,8 @@ module _ (old new : List Origin) (f h : FrameId) (onto : (g : FrameId) → OnCha
   pub asked_onto : (a : Asked) → AskedOnChain old f a → AskedOnChain new h a
   asked_onto (asked.Send value) n = tt
   asked_onto (asked.Recv place) n = home_onto place.home n
+  asked_onto (asked.Read file from into) n = home_onto into.home n
+  asked_onto (asked.Write file from bytes) n = tt
 
 module _ (origins : List Origin) (f : FrameId) where
   pub name_at : (xs : List Cell) (n : ℕ) → AllName origins f xs → Names origins f (slice_index_or xs n no_int)

@@ -2,6 +2,7 @@
 use Rattle.std.proofs.Common.{◌≡◌, ℕ, zero, suc, pos, List, [], ◌∷◌, codes, true, Option, Some, None, refl, sym, ap, ◌∙◌, inr, arith}
 use Rattle.std.specs.Prelude.{slice_get}
 use Rattle.std.proofs.lemmas.List.Elements.{All-nil, All-cons, All-head}
+use Rattle.work_item.specs.declared.cell.Place.{Place}
 use Rattle.cancel_scope.specs.declared.operation.Asked.TheVariants as asked
 use Rattle.cancel_scope.specs.declared.operation.Operation.{Operation}
 use Rattle.cancel_scope.specs.Outstanding.{started}
@@ -16,7 +17,7 @@ use Rattle.stack_code.specs.declared.shape.Leads.TheVariants.{One, Two}
 use Rattle.stack_code.specs.Parts.{Parts, Begins}
 use Rattle.stack_code.specs.Shapes.{first, pushed}
 use Rattle.stack_code.specs.Valid.{Reaches, begins, goes}
-use Rattle.code_safety.specs.KeptEnds.{outermost, ReachesFunction, enters, calls, ReachesInstr, IsSender, IsReceiver, KeepsEnds, IsAtEnd, AreAtEnds, each_as}
+use Rattle.code_safety.specs.KeptEnds.{outermost, ReachesFunction, enters, calls, ReachesInstr, IsSender, IsReceiver, KeepsEnds, IsOwnLink, IsAtEnd, AreAtEnds, each_as}
 
 -- ---- bodies
 
@@ -215,6 +216,25 @@ a_send_at_its_end = it_is_the_sender
 
 pub a_send_at_the_other_end : IsAtEnd (with_ends (ends 0 1) []) 1 0 (asked.Send (pos 5)) → ⊥
 a_send_at_the_other_end h = the_other_core_is_not h
+
+-- the own links of the cores come after the one channel
+pub own_links : IsOwnLink (with_ends (ends 0 1) []) 0 1 × IsOwnLink (with_ends (ends 0 1) []) 1 2
+own_links = (refl, refl)
+
+pub the_link_of_another_core : IsOwnLink (with_ends (ends 0 1) []) 0 2 → ⊥
+the_link_of_another_core h = let no : 2 ≡ 1 = h in omega (arith, no)
+
+abbrev element : Place
+element = record { home = None; start = 0; len = 1 }
+
+pub a_read_at_its_end : IsAtEnd (with_ends (ends 0 1) []) 1 2 (asked.Read 3 64 element)
+a_read_at_its_end = refl
+
+pub a_write_at_its_end : IsAtEnd (with_ends (ends 0 1) []) 1 2 (asked.Write 3 64 (7 ∷ []))
+a_write_at_its_end = refl
+
+pub a_read_on_a_channel : IsAtEnd (with_ends (ends 0 1) []) 0 0 (asked.Read 3 64 element) → ⊥
+a_read_on_a_channel h = let no : 0 ≡ 1 = h in omega (arith, no)
 
 -- a core whose only operation sends on the channel
 abbrev sends : Operation

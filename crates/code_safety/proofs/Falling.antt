@@ -14,12 +14,12 @@ use Rattle.cancel_scope.specs.Outstanding.{started}
 use Rattle.core_state.specs.Moves.{On}
 use Rattle.core_state.specs.Frames.{begun, begun_with}
 use Rattle.core_state.specs.Shared.{Shared}
+use Rattle.core_state.specs.Requests.{bytes_at, first_of}
 use Rattle.stack_code.specs.declared.instr.Instr.{Instr}
 use Rattle.stack_code.specs.declared.instr.Instr.TheVariants as i
 use Rattle.stack_code.specs.declared.parts.Entered.{Entered}
 use Rattle.stack_code.specs.declared.shape.Kind.TheVariants as kind
 use Rattle.stack_code.specs.declared.shape.Shape.{Shape}
-use Rattle.stack_code.specs.declared.shape.Want.{Want}
 use Rattle.stack_code.specs.declared.shape.Want.TheVariants as want
 use Rattle.stack_code.specs.declared.shape.Leads.{Leads}
 use Rattle.stack_code.specs.declared.shape.Leads.TheVariants.{One, Two}
@@ -28,7 +28,7 @@ use Rattle.stack_code.specs.Shapes as shapes
 use Rattle.stack_code.specs.Shapes.{effect, after, pushed, with_operands, first, entered, inner, body_with, is_entered, LeadsTo}
 use Rattle.stack_code.specs.Valid.{IsValid, Goes}
 use Rattle.stack_code.specs.Kept.{IsRanked}
-use Rattle.code_meaning.specs.Machine.{Flat, Thread, Block, Caller, at, operates, begin, counted, block_at, with_block, with_store, thread_at, nobody, stops, starts, one_more, counted_in}
+use Rattle.code_meaning.specs.Machine.{Flat, Thread, Block, Caller, at, asks, operates, begin, counted, block_at, with_block, with_store, thread_at, nobody, stops, starts, one_more, counted_in}
 use Rattle.code_meaning.specs.Machine.{calls, returns, arrives, arrives_in, arrives_at, dies, dies_in, counted_out}
 use Rattle.code_safety.specs.Fit.{IsThread, Phase, Gone, Going, AtFinish, life_at, is_living, is_going, one_if, occurs, innermost_in, IsFit, items_of}
 use Rattle.code_safety.specs.Left.{grown, at_weight, callers_weight, thread_weight, parked_weight, ready_weight, operation_weight, operations_weight, owner_weight, waiting_weight}
@@ -40,11 +40,11 @@ use Rattle.code_safety.proofs.Making.{there_within}
 use Rattle.code_safety.proofs.Own.{phase_of, within_of, thread_of}
 use Rattle.code_safety.proofs.Calling.{call_enough, return_top}
 use Rattle.code_safety.proofs.Finishing.{arrival}
-use Rattle.code_safety.proofs.Operating.{Operates, operating, given_value, value_next}
+use Rattle.code_safety.proofs.Operating.{Operates, operating, transferring, transfer_on, given_value, value_next}
 use Rattle.code_safety.proofs.Starting.{starting}
 use Rattle.code_safety.proofs.Dying.{leaving}
 use Rattle.code_safety.proofs.Turns.{resting, running_once, running_free, front_goes, front_once}
-use Rattle.code_safety.proofs.Weights.{one_or_two, grown_some, grown_one, grown_two, weight_within, step_falls, ready_same, operations_same, waiting_same, ready_append}
+use Rattle.code_safety.proofs.Weights.{one_to_three, grown_some, grown_one, grown_two, weight_within, step_falls, ready_same, operations_same, waiting_same, ready_append}
 
 module _ (code : Parts) (bound : ℕ) (m : Flat) (fit : IsFit code m) (v : IsValid code) (ranks : List ℕ) (ranked : IsRanked code ranks) where
   abbrev Less : Flat → Type 0
@@ -114,7 +114,7 @@ module _ (code : Parts) (bound : ℕ) (m : Flat) (fit : IsFit code m) (v : IsVal
           no_step = λ e. other (let both : Some instr ≡ Some i.Step = sym here ∙ e in cc);
         })
 
-    one_falls : (instr : Instr) → slice_get code.instrs place ≡ Some instr → (instr ≡ i.Step → ⊥) → (to : ℕ) (u : Shape) → Goes code place s to u → 3 + at_weight ranks to < at_weight ranks place
+    one_falls : (instr : Instr) → slice_get code.instrs place ≡ Some instr → (instr ≡ i.Step → ⊥) → (to : ℕ) (u : Shape) → Goes code place s to u → 4 + at_weight ranks to < at_weight ranks place
     one_falls instr here other to u goes = grown_one (slice_index ranks to) (slice_index ranks place) (rank_falls instr here other to u goes)
 
     -- ---- in the same activation
@@ -133,9 +133,10 @@ module _ (code : Parts) (bound : ℕ) (m : Flat) (fit : IsFit code m) (v : IsVal
 
         go : Spends bound instr m.shared.steps next.shared.steps → Less next
         go (one is lt e) =
+            let some = grown_some (slice_index ranks place) in
             let f = step_falls bound m.shared.steps (grown (sum ranks)) (at_weight ranks next.current.place) (at_weight ranks place)
             (callers_weight ranks m.current.callers + resting_weight m) lt
-            (weight_within ranks next.current.place) (grown_some (slice_index ranks place)) in
+            (weight_within ranks next.current.place) (omega (arith, some)) in
             let a = run_next in
             let b = resting_next in
             let c = runs_now in
@@ -280,16 +281,16 @@ module _ (code : Parts) (bound : ℕ) (m : Flat) (fit : IsFit code m) (v : IsVal
 
     -- ---- an operation starts
 
-    operates_falls : (w : Want) (instr : Instr) → slice_get code.instrs place ≡ Some instr → (instr ≡ i.Step → ⊥) → (z : Operates code bound m fit t run w instr) → (link : ℕ) (a : Asked)
+    operates_falls : (instr : Instr) → slice_get code.instrs place ≡ Some instr → (instr ≡ i.Step → ⊥) → (z : Operates code bound m fit t run instr) → (link : ℕ) (a : Asked)
         → Less (operates m t link a z.below)
-    operates_falls w instr here other z link a =
+    operates_falls instr here other z link a =
         let lt = one_falls instr here other (place + 1) (pushed kind.Int (with_operands s z.kinds)) z.goes in
         let kept = at m.current (place + 1) z.below in
         let new = started link a t in
         let threads = slice_set m.threads t.number kept in
         let all : operations_weight ranks threads (m.operations ++ new ∷ []) ≡ operations_weight ranks threads m.operations + (operation_weight ranks threads new + 0) =
         total_append (operation_weight ranks threads) m.operations (new ∷ []) in
-        let most = (one_or_two new).1 in
+        let most = (one_to_three new).1 in
         let own : parked_weight ranks threads t ≡ 1 + (at_weight ranks (place + 1) + callers_weight ranks m.current.callers) = ap (λ h. 1 + thread_weight ranks h) (own_thread kept) in
         let r = ready_kept kept in
         let q = operations_kept kept in
@@ -297,21 +298,37 @@ module _ (code : Parts) (bound : ℕ) (m : Flat) (fit : IsFit code m) (v : IsVal
         let c = runs_now in
         omega (arith, lt, all, most, own, r, q, w, c)
 
+    started_falls : (instr : Instr) → slice_get code.instrs place ≡ Some instr → (instr ≡ i.Step → ⊥) → (z : Operates code bound m fit t run instr) → (link : ℕ) (a : Asked)
+        → Onward Less (asks m t link a z.below)
+    started_falls instr here other z link a =
+        asks_on Less m t link a z.below (plain_falls instr here (given_value code bound m fit t run instr z other) (value_next code bound m fit t run instr z other))
+        (operates_falls instr here other z link a)
+
     pub send_falls : (channel : ℕ) (leads : Leads) → slice_get code.instrs place ≡ Some (i.Send channel) → effect code place (i.Send channel) s ≡ Some leads
         → Onward Less (begin code bound m t (Some (i.Send channel)))
     send_falls channel leads here finds =
         let z = operating code bound m fit t run want.Int (i.Send channel) channel leads here refl finds in
-        top_on Less m _ m.current.operands z.top z.below z.is (asks_on Less m t channel (asked.Send (int_in z.top)) z.below
-        (plain_falls (i.Send channel) here (given_value code bound m fit t run want.Int (i.Send channel) z (λ e. cc)) (value_next code bound m fit t run want.Int (i.Send channel) z (λ e. cc)))
-        (operates_falls want.Int (i.Send channel) here (λ e. cc) z channel (asked.Send (int_in z.top))))
+        top_on Less m _ m.current.operands z.top z.on.below z.is (started_falls (i.Send channel) here (λ e. cc) z.on channel (asked.Send (int_in z.top)))
 
     pub receive_falls : (channel : ℕ) (leads : Leads) → slice_get code.instrs place ≡ Some (i.Recv channel) → effect code place (i.Recv channel) s ≡ Some leads
         → Onward Less (begin code bound m t (Some (i.Recv channel)))
     receive_falls channel leads here finds =
         let z = operating code bound m fit t run want.One (i.Recv channel) channel leads here refl finds in
-        top_on Less m _ m.current.operands z.top z.below z.is (asks_on Less m t channel (asked.Recv (place_in z.top)) z.below
-        (plain_falls (i.Recv channel) here (given_value code bound m fit t run want.One (i.Recv channel) z (λ e. cc)) (value_next code bound m fit t run want.One (i.Recv channel) z (λ e. cc)))
-        (operates_falls want.One (i.Recv channel) here (λ e. cc) z channel (asked.Recv (place_in z.top))))
+        top_on Less m _ m.current.operands z.top z.on.below z.is (started_falls (i.Recv channel) here (λ e. cc) z.on channel (asked.Recv (place_in z.top)))
+
+    pub read_falls : (file : ℕ) (leads : Leads) → slice_get code.instrs place ≡ Some (i.Read file) → effect code place (i.Read file) s ≡ Some leads
+        → Onward Less (begin code bound m t (Some (i.Read file)))
+    read_falls file leads here finds =
+        let z = transferring code bound m fit t run (i.Read file) file leads here refl finds in
+        transfer_on code bound m fit t run Less (i.Read file) z (λ from elements. asked.Read file from elements)
+        (λ from len le. started_falls (i.Read file) here (λ e. cc) z.on m.shared.requests (asked.Read file from (first_of (place_in z.array) len)))
+
+    pub write_falls : (file : ℕ) (leads : Leads) → slice_get code.instrs place ≡ Some (i.Write file) → effect code place (i.Write file) s ≡ Some leads
+        → Onward Less (begin code bound m t (Some (i.Write file)))
+    write_falls file leads here finds =
+        let z = transferring code bound m fit t run (i.Write file) file leads here refl finds in
+        transfer_on code bound m fit t run Less (i.Write file) z (λ from elements. asked.Write file from (bytes_at m.store elements))
+        (λ from len le. started_falls (i.Write file) here (λ e. cc) z.on m.shared.requests (asked.Write file from (bytes_at m.store (first_of (place_in z.array) len))))
 
     -- ---- an arrival
 
@@ -324,7 +341,7 @@ module _ (code : Parts) (bound : ℕ) (m : Flat) (fit : IsFit code m) (v : IsVal
         let n = a.innermost in
         subst (λ o. Onward Less (arrives m t o)) (sym n.is) (subst (λ o. Onward Less (arrives_in m t n.b o)) (sym n.here) (go n.b n.x n.here n.owner lt (nat_eq n.x.count 0)))
       where
-        go : (b : BlockId) (x : Block) → block_at m.blocks b ≡ Some x → x.owner ≡ t → 3 + at_weight ranks (place + 1) < at_weight ranks place → (z : Bool) → Onward Less (arrives_at z m t b x)
+        go : (b : BlockId) (x : Block) → block_at m.blocks b ≡ Some x → x.owner ≡ t → 4 + at_weight ranks (place + 1) < at_weight ranks place → (z : Bool) → Onward Less (arrives_at z m t b x)
         go b x at owner lt true =
             let set = total_set (owner_weight ranks m.threads) m.blocks b.number None None (there_within m.blocks b.number x at) in
             let w : waiting_weight ranks m.threads (with_block m.blocks b None) + owner_weight ranks m.threads (block_at m.blocks b) ≡ waiting_weight ranks m.threads m.blocks + 0 = set in

@@ -11,7 +11,7 @@ use Rattle.work_item.specs.declared.cell.Cell.{Cell}
 use Rattle.work_item.specs.declared.cell.Cell.TheVariants as cell
 use Rattle.cancel_scope.specs.declared.operation.Asked.TheVariants as asked
 use Rattle.cancel_scope.specs.declared.operation.Operation.{Operation}
-use Rattle.cancel_scope.specs.Outstanding.{offered_as, started}
+use Rattle.cancel_scope.specs.Outstanding.{as_begun, offered_as, started}
 use Rattle.code_safety.specs.Fit.{Birth, Born, is_int, HoldsInts, HasKind, HaveKinds, AreSlots, AreInBodies, one_if, own_in, own_blocks, Phase, Gone, Going, AtFinish}
 use Rattle.code_safety.specs.Fit.{runs, total, HasEntered, outside, inside, items_of, going_on, IsAsked}
 use Rattle.code_safety.specs.Left.{entries_left, grown, operation_weight, operations_weight, left, left_to_come}
@@ -170,28 +170,45 @@ a_message_goes_into_one_int = (tt, one_global_is_one_int)
 pub it_does_not_go_into_two : IsAsked small [] (asked.Recv (record { home = None; start = 0; len = 2 })) → ⊥
 it_does_not_go_into_two h = two_are_not h
 
+-- the thread 3 reads from the place 4 of the file 6 into both globals, and the thread 4 writes two bytes there
+abbrev pub reads : Operation
+reads = started 2 (asked.Read 6 4 (record { home = None; start = 0; len = 2 })) (item 3)
+
+abbrev pub writes : Operation
+writes = started 2 (asked.Write 6 4 (66 ∷ 9 ∷ [])) (item 4)
+
+pub what_is_read_goes_into_an_array : IsAsked small [] reads.asked × IsAsked small [] writes.asked
+what_is_read_goes_into_an_array = (record { short = omega arith; ints = omega arith; single = λ e. cc }, tt)
+
+pub no_third_global_is_read_into : IsAsked small [] (asked.Read 6 4 (record { home = None; start = 0; len = 3 })) → ⊥
+no_third_global_is_read_into h = let room : 3 ≤ 2 = h.ints in omega (arith, room)
+
 -- ---- what is left to do
 
 -- an offer and an end are still to come, an end alone, and a message
 pub entries_before_an_end : entries_left sends ∷ entries_left (offered_as 3 sends) ∷ entries_left receives ∷ [] ≡ 2 ∷ 1 ∷ 1 ∷ []
 entries_before_an_end = refl
 
-pub weights_of_ranks : grown 0 ∷ grown 1 ∷ grown 2 ∷ [] ≡ 2 ∷ 6 ∷ 14 ∷ []
+-- an offer, a beginning and an answer, then a beginning and an answer, and then an answer alone
+pub entries_before_an_answer : entries_left reads ∷ entries_left (offered_as 3 reads) ∷ entries_left (as_begun (offered_as 3 reads)) ∷ entries_left writes ∷ [] ≡ 3 ∷ 2 ∷ 1 ∷ 3 ∷ []
+entries_before_an_answer = refl
+
+pub weights_of_ranks : grown 0 ∷ grown 1 ∷ grown 2 ∷ [] ≡ 3 ∷ 8 ∷ 18 ∷ []
 weights_of_ranks = refl
 
--- the threads stand at the address 1, whose rank is 1: each has a dispatch before it, and then 6
+-- the threads stand at the address 1, whose rank is 1: each has a dispatch before it, and then 8
 abbrev pub threads : List Thread
 threads = nobody ∷ record nobody { place = 1 } ∷ record nobody { place = 1 } ∷ []
 
-pub weights_of_operations : operation_weight (2 ∷ 1 ∷ []) threads sends ∷ operation_weight (2 ∷ 1 ∷ []) threads receives ∷ [] ≡ 9 ∷ 8 ∷ []
+pub weights_of_operations : operation_weight (2 ∷ 1 ∷ []) threads sends ∷ operation_weight (2 ∷ 1 ∷ []) threads receives ∷ [] ≡ 11 ∷ 10 ∷ []
 weights_of_operations = refl
 
-pub the_weight_of_both : operations_weight (2 ∷ 1 ∷ []) threads (sends ∷ receives ∷ []) ≡ 17
+pub the_weight_of_both : operations_weight (2 ∷ 1 ∷ []) threads (sends ∷ receives ∷ []) ≡ 21
 the_weight_of_both = refl
 
--- its thread stands at the address 5, whose rank is 1; an end is left to it, with a dispatch and then 6; and one entry is to come
+-- its thread stands at the address 5, whose rank is 1; an end is left to it, with a dispatch and then 8; and one entry is to come
 abbrev ranks_of_six : List ℕ
 ranks_of_six = 0 ∷ 0 ∷ 0 ∷ 0 ∷ 0 ∷ 1 ∷ []
 
-pub one_entry_is_to_come : (left ranks_of_six 0 (offered (known ∷ [])) ≡ 8) × (left_to_come ranks_of_six 0 (offered (known ∷ [])) ≡ 9)
+pub one_entry_is_to_come : (left ranks_of_six 0 (offered (known ∷ [])) ≡ 10) × (left_to_come ranks_of_six 0 (offered (known ∷ [])) ≡ 11)
 one_entry_is_to_come = (refl, refl)

@@ -20,11 +20,11 @@ use Rattle.cancel_scope.specs.declared.operation.Asked.{Asked}
 use Rattle.cancel_scope.specs.declared.operation.Asked.TheVariants as asked
 use Rattle.cancel_scope.specs.declared.operation.Operation.{Operation}
 use Rattle.cancel_scope.specs.declared.operation.Progress.{Progress}
-use Rattle.cancel_scope.specs.declared.operation.Progress.TheVariants.{Waiting, Offered}
-use Rattle.cancel_scope.specs.Outstanding.{without_first}
-use Rattle.core_state.specs.Arrivals.{Arrival, at_point, comes_in, has_ended_as}
-use Rattle.core_state.specs.Cancelling.{outcome, ends_by, decided, tried, tries}
-use Rattle.core_state.specs.Shared.{Shared, first_shared, begins_with, with_entry, with_step, with_turn, printed, formatted, output_limit, seen}
+use Rattle.cancel_scope.specs.declared.operation.Progress.TheVariants.{Waiting, Offered, Started}
+use Rattle.core_state.specs.Arrivals.{Arrival, at_point, comes_in}
+use Rattle.core_state.specs.Cancelling.{Outcome, NeverHappens, by_outcome, outcome, goes_by, decided, tried, tries, is_to_try}
+use Rattle.core_state.specs.Shared.{Shared, begins_with, with_entry, with_step, with_turn, printed, formatted, output_limit, seen}
+use Rattle.core_state.specs.Requests.{read_of, write_of}
 use Rattle.core_state.proofs.Runs.{GoesOn-more}
 use Rattle.stack_code.specs.declared.instr.Instr.{Instr}
 use Rattle.stack_code.specs.declared.instr.Instr.TheVariants as i
@@ -34,7 +34,7 @@ use Rattle.code_meaning.specs.Machine as flat
 use Rattle.code_meaning.specs.Machine.{Flat, FlatEnd, nobody, Caller, Block, arrived, resumed, begin, exec, exec_of, dispatched, told, with_store, with_shared, or_trap, on_top, on_two, on_three}
 use Rattle.code_meaning.specs.Machine.{on_many, one_operand}
 use Rattle.code_meaning.specs.Machine.{two_operands, always, text_at}
-use Rattle.code_meaning.specs.Machine.{calls, returns, arrives, arrives_in, arrives_at, dies, dies_in, counted_out, block_at, first_flat, first_core, first_globals, thread_at}
+use Rattle.code_meaning.specs.Machine.{calls, returns, arrives, arrives_in, arrives_at, dies, dies_in, counted_out, block_at, shared_at_first, first_flat, first_core, first_globals, thread_at}
 
 -- one entry more is still to come
 abbrev pub more_shared : Entry → Shared → Shared
@@ -152,6 +152,9 @@ module _ (e : Entry) (m : Flat) where
       by true = (refl, kept)
       by false = (refl, kept)
 
+  requests_too : (t : Item) (it : Result Asked Trap) (below : List Cell) → T (flat.requests m t it below) (flat.requests m' t it below)
+  requests_too t it below = trap_too it _ _ (λ a. asks_too t m.shared.requests a below)
+
   module _ (code : Parts) (bound : ℕ) (t : Item) where
     step_too : T (begin code bound m t (Some i.Step)) (begin code bound m' t (Some i.Step))
     step_too = by (nat_lt m.shared.steps bound) (flat.ends (flat.seen_of word.OutOfSteps false m) m.count) (flat.ends (flat.seen_of word.OutOfSteps false m') m.count) tt
@@ -210,8 +213,8 @@ module _ (e : Entry) (m : Flat) where
     begin_too (Some i.Yield) p = (refl, kept)
     begin_too (Some (i.Send channel)) p = top_too _ _ m.current.operands (λ x below. asks_too t channel (asked.Send (int_in x)) below)
     begin_too (Some (i.Recv channel)) p = top_too _ _ m.current.operands (λ x below. asks_too t channel (asked.Recv (place_in x)) below)
-    begin_too (Some (i.Read file)) p = (refl, kept)
-    begin_too (Some (i.Write file)) p = (refl, kept)
+    begin_too (Some (i.Read file)) p = three_too _ _ m.current.operands (λ x y z below. requests_too t (read_of file (int_in x) (int_in y) (place_in z)) below)
+    begin_too (Some (i.Write file)) p = three_too _ _ m.current.operands (λ x y z below. requests_too t (write_of m.store file (int_in x) (int_in y) (place_in z)) below)
 
 -- ---- a move
 
@@ -304,44 +307,51 @@ module _ (code : Parts) (bound : ℕ) (e : Entry) where
     after = more_to_come e m
 
     abbrev inside : Operation → Bool
-    inside = flat.is_inside m block
+    inside = is_to_try (flat.is_inside m block)
 
-    abbrev pub made : ℤ → Operation → Arrival
-    made value o = has_ended_as value m.store (without_first inside m.operations) o
+    abbrev pub made : Outcome → Operation → Arrival
+    made it o = by_outcome it m.store inside m.operations o
 
-    -- an operation ends with this value, after so many entries
-    ends_follow : (o : Operation) (value : ℤ) (s : Shared) → s.turn ≡ m.shared.turn
-        → Follows e m.shared.turn (On (arrived (flat.marked m block) s (made value o))) (On (arrived (flat.marked after block) (more_shared e s) (made value o)))
-    ends_follow o value s same = (omega (arith, same), λ le. refl)
+    -- an operation has been tried, after so many entries
+    made_follows : (x : Arrival) (s : Shared) → s.turn ≡ m.shared.turn
+        → Follows e m.shared.turn (On (arrived (flat.marked m block) s x)) (On (arrived (flat.marked after block) (more_shared e s) x))
+    made_follows x s same = by x.woken
+      where
+        by : (o : Option Item) → Follows e m.shared.turn
+            (On (resumed (record (flat.marked m block) { shared = s; store = x.store; operations = x.operations }) (cell.Int x.value) o))
+            (On (resumed (record (flat.marked after block) { shared = more_shared e s; store = x.store; operations = x.operations }) (cell.Int x.value) o))
+        by None = (omega (arith, same), λ le. refl)
+        by (Some t) = (omega (arith, same), λ le. refl)
 
-    outcome_follows : (o : Operation) (first : Entry) (rest : List Entry) (r : Option ℤ) → Follows e m.shared.turn
-        (ends_by (told (flat.counted m.count)) (λ value. On (arrived (flat.marked m block) (with_entry m.shared first rest) (made value o))) r)
-        (ends_by (told (flat.counted m.count)) (λ value. On (arrived (flat.marked after block) (with_entry (more_shared e m.shared) first (rest ++ e ∷ [])) (made value o))) r)
+    outcome_follows : (o : Operation) (first : Entry) (rest : List Entry) (r : Option Outcome) → Follows e m.shared.turn
+        (goes_by (told (flat.counted m.count)) (λ it. On (arrived (flat.marked m block) (with_entry m.shared first rest) (made it o))) r)
+        (goes_by (told (flat.counted m.count)) (λ it. On (arrived (flat.marked after block) (with_entry (more_shared e m.shared) first (rest ++ e ∷ [])) (made it o))) r)
     outcome_follows o first rest None = tt
-    outcome_follows o first rest (Some value) = ends_follow o value (with_entry m.shared first rest) refl
+    outcome_follows o first rest (Some it) = made_follows (made it o) (with_entry m.shared first rest) refl
 
     decided_follows : (o : Operation) (number : ℕ) (todo : List Entry) → Follows e m.shared.turn
-        (decided (told (flat.counted m.count)) m.shared m.store.globals m.operations o.link number (λ s value. On (arrived (flat.marked m block) s (made value o))) todo)
-        (decided (told (flat.counted m.count)) (more_shared e m.shared) m.store.globals m.operations o.link number (λ s value. On (arrived (flat.marked after block) s (made value o)))
+        (decided (told (flat.counted m.count)) m.shared m.store.globals m.operations o.link number (λ s it. On (arrived (flat.marked m block) s (made it o))) todo)
+        (decided (told (flat.counted m.count)) (more_shared e m.shared) m.store.globals m.operations o.link number (λ s it. On (arrived (flat.marked after block) s (made it o)))
         (todo ++ e ∷ []))
     decided_follows o number [] = tt
     decided_follows o number (first ∷ rest) = by (nat_eq first.turn m.shared.turn)
       where
         by : (b : Bool) → Follows e m.shared.turn
-            (if b then ends_by (told (flat.counted m.count)) (λ value. On (arrived (flat.marked m block) (with_entry m.shared first rest) (made value o))) (outcome o.link number first.event)
+            (if b then goes_by (told (flat.counted m.count)) (λ it. On (arrived (flat.marked m block) (with_entry m.shared first rest) (made it o))) (outcome o.link number first.event)
             else Over (told (flat.counted m.count) None))
             (if b
-            then ends_by (told (flat.counted m.count)) (λ value. On (arrived (flat.marked after block) (with_entry (more_shared e m.shared) first (rest ++ e ∷ [])) (made value o)))
+            then goes_by (told (flat.counted m.count)) (λ it. On (arrived (flat.marked after block) (with_entry (more_shared e m.shared) first (rest ++ e ∷ [])) (made it o)))
             (outcome o.link number first.event)
             else Over (told (flat.counted m.count) None))
         by true = outcome_follows o first rest (outcome o.link number first.event)
         by false = tt
 
     tried_follows : (o : Operation) (p : Progress) → Follows e m.shared.turn
-        (tried (told (flat.counted m.count)) m.shared m.store.globals m.operations o.link p (λ s value. On (arrived (flat.marked m block) s (made value o))))
-        (tried (told (flat.counted m.count)) (more_shared e m.shared) m.store.globals m.operations o.link p (λ s value. On (arrived (flat.marked after block) s (made value o))))
-    tried_follows o Waiting = ends_follow o arrivals.cancelled m.shared refl
+        (tried (told (flat.counted m.count)) m.shared m.store.globals m.operations o.link p (λ s it. On (arrived (flat.marked m block) s (made it o))))
+        (tried (told (flat.counted m.count)) (more_shared e m.shared) m.store.globals m.operations o.link p (λ s it. On (arrived (flat.marked after block) s (made it o))))
+    tried_follows o Waiting = made_follows (made NeverHappens o) m.shared refl
     tried_follows o (Offered number) = decided_follows o number m.shared.todo
+    tried_follows o (Started number) = tt
 
     calls_off_follows : Follows e m.shared.turn (flat.calls_off m block) (flat.calls_off after block)
     calls_off_follows = by (find inside m.operations)
@@ -382,12 +392,12 @@ module _ (code : Parts) (bound : ℕ) (e : Entry) where
   moves_follow zero m = (omega arith, λ le. refl)
   moves_follow (suc k) m = then_follows k m.shared.turn (λ next. moves_follow k next) (exec code bound m) (exec code bound (more_to_come e m)) (exec_follows m)
 
-  first_follows : (function : Entered) (journal : List Entry) → Follows e 0 (first_flat code function journal) (first_flat code function (journal ++ e ∷ []))
-  first_follows function journal = by (begun (first_store (first_globals code)) None (replicate function.words no_int))
+  first_follows : (core : ℕ) (function : Entered) (journal : List Entry) → Follows e 0 (first_flat code core function journal) (first_flat code core function (journal ++ e ∷ []))
+  first_follows core function journal = by (begun (first_store (first_globals code)) None (replicate function.words no_int))
     where
       by : (r : Result Store Trap) →
-          Follows e 0 (begins_with (told 0) (first_globals code) (first_shared journal) r (λ store. On (first_core function (first_shared journal) store)))
-          (begins_with (told 0) (first_globals code) (first_shared (journal ++ e ∷ [])) r (λ store. On (first_core function (first_shared (journal ++ e ∷ [])) store)))
+          Follows e 0 (begins_with (told 0) (first_globals code) (shared_at_first code core journal) r (λ store. On (first_core function (shared_at_first code core journal) store)))
+          (begins_with (told 0) (first_globals code) (shared_at_first code core (journal ++ e ∷ [])) r (λ store. On (first_core function (shared_at_first code core (journal ++ e ∷ [])) store)))
       by (Ok store) = (omega arith, λ le. refl)
       by (Err trap) = tt
 
@@ -410,14 +420,14 @@ module _ (code : Parts) (bound : ℕ) (e : Entry) where
     pub running : m.running ≡ Some t
     pub here : slice_get code.instrs m.current.place ≡ Some (i.Cancel level slot)
     pub block_is : block_in (cell_at m.store m.current.frame level slot) ≡ block
-    pub found : find (flat.is_inside m block) m.operations ≡ Some o
+    pub found : find (is_to_try (flat.is_inside m block)) m.operations ≡ Some o
     pub offered : o.progress ≡ Offered number
 
   -- at such a cancel with no entry to come, one of its turn that is the outcome is the next that comes in
-  pub decides_next : (m : Flat) (t : Item) (block : BlockId) (o : Operation) (number : ℕ) (value : ℤ) → TriesNext m t block o number → m.shared.todo ≡ [] → e.turn ≡ m.shared.turn
-      → outcome o.link number e.event ≡ Some value
-      → exec code bound (more_to_come e m) ≡ On (arrived (flat.marked m block) (with_entry m.shared e []) (made m block value o))
-  decides_next m t block o number value next none now is =
+  pub decides_next : (m : Flat) (t : Item) (block : BlockId) (o : Operation) (number : ℕ) (it : Outcome) → TriesNext m t block o number → m.shared.todo ≡ [] → e.turn ≡ m.shared.turn
+      → outcome o.link number e.event ≡ Some it
+      → exec code bound (more_to_come e m) ≡ On (arrived (flat.marked m block) (with_entry m.shared e []) (made m block it o))
+  decides_next m t block o number it next none now is =
       let found = next.found in
       let offered = next.offered in
       let same = eq-eqb e.turn m.shared.turn now in
@@ -428,14 +438,14 @@ module _ (code : Parts) (bound : ℕ) (e : Entry) where
 
   -- ---- a run
 
-  module _ (function : Entered) (journal : List Entry) (m : Flat) (run : GoesOn (exec code bound) (first_flat code function journal) (On m)) where
+  module _ (core : ℕ) (function : Entered) (journal : List Entry) (m : Flat) (run : GoesOn (exec code bound) (first_flat code core function journal) (On m)) where
     abbrev longer : Move Flat FlatEnd
-    longer = first_flat code function (journal ++ e ∷ [])
+    longer = first_flat code core function (journal ++ e ∷ [])
 
     -- a run to a state is also a run to it with one more entry still to come, where its turn is that of the state or a later one
     pub run_more : m.shared.turn ≤ e.turn → GoesOn (exec code bound) longer (On (more_to_come e m))
     run_more le =
-        let f = then_follows run.0 0 (λ next. moves_follow run.0 next) (first_flat code function journal) longer (first_follows function journal) in
+        let f = then_follows run.0 0 (λ next. moves_follow run.0 next) (first_flat code core function journal) longer (first_follows core function journal) in
         let g : Follows e 0 (On m) (and_then longer (moves (exec code bound) run.0)) = subst (λ a. Follows e 0 a (and_then longer (moves (exec code bound) run.0))) (sym run.1) f in
         (run.0, sym (g.1 le))
 
@@ -446,9 +456,9 @@ module _ (code : Parts) (bound : ℕ) (e : Entry) where
         subst (GoesOn (exec code bound) longer) (comes_next m x idle none now fits) (GoesOn-more (exec code bound) longer (more_to_come e m) (run_more (omega (arith, now))))
 
     -- and where it is the outcome of an offer that a cancel tries
-    pub run_decides : (t : Item) (block : BlockId) (o : Operation) (number : ℕ) (value : ℤ) → TriesNext m t block o number → m.shared.todo ≡ [] → e.turn ≡ m.shared.turn
-        → outcome o.link number e.event ≡ Some value
-        → GoesOn (exec code bound) longer (On (arrived (flat.marked m block) (with_entry m.shared e []) (made m block value o)))
-    run_decides t block o number value next none now is =
-        subst (GoesOn (exec code bound) longer) (decides_next m t block o number value next none now is)
+    pub run_decides : (t : Item) (block : BlockId) (o : Operation) (number : ℕ) (it : Outcome) → TriesNext m t block o number → m.shared.todo ≡ [] → e.turn ≡ m.shared.turn
+        → outcome o.link number e.event ≡ Some it
+        → GoesOn (exec code bound) longer (On (arrived (flat.marked m block) (with_entry m.shared e []) (made m block it o)))
+    run_decides t block o number it next none now is =
+        subst (GoesOn (exec code bound) longer) (decides_next m t block o number it next none now is)
         (GoesOn-more (exec code bound) longer (more_to_come e m) (run_more (omega (arith, now))))

@@ -47,6 +47,8 @@ module _ (code : Parts) (old new : List Birth) (grown : Grown old new) where
   pub asked_grown : (a : Asked) → IsAsked code old a → IsAsked code new a
   asked_grown (asked.Send value) h = tt
   asked_grown (asked.Recv place) h = kind_grown (kind.Reference true) (cell.Array place) h
+  asked_grown (asked.Read file from into) h = kind_grown (kind.Reference false) (cell.Array into) h
+  asked_grown (asked.Write file from bytes) h = tt
 
   pub slots_grown : (home : Home) (cells : List Cell) → AreSlots code old home cells → AreSlots code new home cells
   slots_grown home cells h slot x e =

@@ -10,6 +10,7 @@ pub mod Arguments
 pub mod Calling
 pub mod Turns
 pub mod PlainFit
+pub mod Transfers
 pub mod Operating
 pub mod Arriving
 pub mod Entering

@@ -47,6 +47,19 @@ same_frames origins s = record {
   on = λ f x e. (x, (e, refl));
 }
 
+pub then_frames : (origins : List Origin) (s t u : Store) → SameFrames origins s t → SameFrames origins t u → SameFrames origins s u
+then_frames origins s t u first next = record {
+  count = next.count ∙ first.count;
+  back = λ f z e.
+      let y = next.back f z e in
+      let x = first.back f y.0 y.1.0 in
+      (x.0, (x.1.0, (y.1.1.0 ∙ x.1.1.0, (y.1.1.1.0 ∙ x.1.1.1.0, λ a. y.1.1.1.1 (x.1.1.1.1 a)))));
+  on = λ f x e.
+      let y = first.on f x e in
+      let z = next.on f y.0 y.1.0 in
+      (z.0, (z.1.0, z.1.1 ∙ y.1.1));
+}
+
 pub global_frames : (origins : List Origin) (s : Store) (slot : ℕ) (value : ℤ) → SameFrames origins s (with_global s slot value)
 global_frames origins s slot value = record {
   count = refl;

@@ -9,13 +9,13 @@ use Rattle.work_item.specs.declared.cell.Cell.TheVariants as cell
 use Rattle.work_item.specs.Store.{Frame}
 use Rattle.work_item.specs.Conditions.{ParentLives}
 use Rattle.work_item.specs.declared.cell.Place.{Place}
-use Rattle.cancel_scope.specs.declared.operation.Asked.TheVariants.{Send, Recv}
+use Rattle.cancel_scope.specs.declared.operation.Asked.TheVariants.{Send, Recv, Read, Write}
 use Rattle.cancel_scope.specs.declared.operation.Operation.{Operation}
 use Rattle.cancel_scope.specs.Outstanding.{started}
 use Rattle.core_state.specs.Shared.{first_shared}
 use Rattle.code_meaning.specs.Machine.{Thread, Block, Flat, nobody}
 use Rattle.code_safety.specs.Living.{LivesAs, as_running, as_ready, as_operating, as_waiting, IsOfCaller, HasFrame, RefersToLiving, AllReferToLiving, ActivationLives, CallersLive}
-use Rattle.code_safety.specs.Living.{AskedLives, NamesLiving, HasSlots, LiesThere, ArrayLiesThere}
+use Rattle.code_safety.specs.Living.{AskedLives, AskedLiesThere, NamesLiving, HasSlots, LiesThere, ArrayLiesThere}
 use Rattle.code_safety.specs.Chains.{Origin, AtEntry, CalledIn, StartedIn, link_of, parent_of, Came, OnChain, itself, further, LiesIn, directly, deeper}
 use Rattle.code_safety.specs.Chains.{HomeOnChain, AllName, AskedOnChain, HasEnteredIn, none_in, one_in, Starts}
 
@@ -47,7 +47,7 @@ called_frame = record { parent = None; cells = array ∷ []; over = false }
 -- the function is about to read an element
 abbrev reading : Option Frame → Flat
 reading caller = record {
-  shared = first_shared [];
+  shared = first_shared 0 [];
   store = record { globals = []; frames = caller ∷ Some called_frame ∷ [] };
   operations = [];
   running = Some first;
@@ -155,6 +155,20 @@ what_is_received_into_a_living_frame = (refl, tt)
 pub what_is_received_into_no_frame : AskedLives (reading None).store (Recv place) → ⊥
 what_is_received_into_no_frame h = let no : false ≡ true = h in cc
 
+pub what_is_read_into_a_living_frame : AskedLives whole.store (Read 6 4 place) × AskedLives (reading None).store (Write 6 4 (66 ∷ []))
+what_is_read_into_a_living_frame = (refl, tt)
+
+pub what_is_read_into_no_frame : AskedLives (reading None).store (Read 6 4 place) → ⊥
+what_is_read_into_no_frame h = let no : false ≡ true = h in cc
+
+-- into its two slots, and not into a third
+pub where_it_is_received_or_read : AskedLiesThere whole.store (Recv place) × AskedLiesThere whole.store (Read 6 4 place) × AskedLiesThere whole.store (Send (pos 5))
+    × AskedLiesThere whole.store (Write 6 4 (66 ∷ []))
+where_it_is_received_or_read = (λ lives. omega arith, λ lives. omega arith, tt, tt)
+
+pub no_third_slot_is_read_into : AskedLiesThere whole.store (Read 6 4 (record place { len = 3 })) → ⊥
+no_third_slot_is_read_into h = three_slots_do_not h
+
 -- a state in which the frame for a message is gone
 pub no_frame_for_the_message : NamesLiving (receiving None into_the_array) → ⊥
 no_frame_for_the_message n = what_is_received_into_no_frame (n.operations 0 (started 0 (Recv place) first) (omega arith))
@@ -221,6 +235,12 @@ the_body_receives_into_the_entry = (out_to_the_entry, tt)
 
 pub the_entry_receives_into_no_body : AskedOnChain origins outer (Recv (record { home = Some body; start = 0; len = 1 })) → ⊥
 the_entry_receives_into_no_body h = not_inwards h
+
+pub the_body_reads_into_the_entry : AskedOnChain origins body (Read 6 4 place) × AskedOnChain origins outer (Write 6 4 (66 ∷ []))
+the_body_reads_into_the_entry = (out_to_the_entry, tt)
+
+pub the_entry_reads_into_no_body : AskedOnChain origins outer (Read 6 4 (record { home = Some body; start = 0; len = 1 })) → ⊥
+the_entry_reads_into_no_body h = not_inwards h
 
 -- ---- blocks and threads
 

@@ -30,7 +30,7 @@ use Rattle.code_safety.proofs.Plain.{is_plain, Onward, on_both, on_each, Next, o
 use Rattle.code_safety.proofs.Own.{thread_of}
 use Rattle.code_safety.proofs.PlainFit.{plain_fit}
 use Rattle.code_safety.proofs.Turns.{yield_fit, dispatch_fit}
-use Rattle.code_safety.proofs.Operating.{send_fit, receive_fit}
+use Rattle.code_safety.proofs.Operating.{send_fit, receive_fit, read_fit, write_fit}
 use Rattle.code_safety.proofs.CancelSafety.{cancel_better}
 use Rattle.code_safety.proofs.Arriving.{comes_of, arrived_fit}
 use Rattle.code_safety.proofs.ArrivalWeights.{arrived_falls}
@@ -39,7 +39,8 @@ use Rattle.code_safety.proofs.Entering.{enter_fit}
 use Rattle.code_safety.proofs.Finishing.{finish_fit}
 use Rattle.code_safety.proofs.Starting.{async_fit}
 use Rattle.code_safety.proofs.Dying.{end_fit}
-use Rattle.code_safety.proofs.Falling.{dispatch_falls, plain_falls, call_falls, return_falls, enter_falls, yield_falls, send_falls, receive_falls, finish_falls, async_falls, end_falls}
+use Rattle.code_safety.proofs.Falling.{dispatch_falls, plain_falls, call_falls, return_falls, enter_falls, yield_falls, send_falls, receive_falls, read_falls, write_falls}
+use Rattle.code_safety.proofs.Falling.{finish_falls, async_falls, end_falls}
 
 -- ---- one move
 
@@ -92,8 +93,10 @@ module _ (code : Parts) (bound : ℕ) (v : IsValid code) (meant : IsMeant code) 
         (send_fit code bound m fit t run channel leads here finds) (send_falls code bound m fit v ranks ranked t run channel leads here finds)
     by_instr (i.Recv channel) leads here finds a other = on_both (IsFit code) Less (begin code bound m t (Some (i.Recv channel)))
         (receive_fit code bound m fit t run channel leads here finds) (receive_falls code bound m fit v ranks ranked t run channel leads here finds)
-    by_instr (i.Read file) leads here finds a other = let no : false ≡ true = a in absurd (cc)
-    by_instr (i.Write file) leads here finds a other = let no : false ≡ true = a in absurd (cc)
+    by_instr (i.Read file) leads here finds a other = on_both (IsFit code) Less (begin code bound m t (Some (i.Read file)))
+        (read_fit code bound m fit t run file leads here finds) (read_falls code bound m fit v ranks ranked t run file leads here finds)
+    by_instr (i.Write file) leads here finds a other = on_both (IsFit code) Less (begin code bound m t (Some (i.Write file)))
+        (write_fit code bound m fit t run file leads here finds) (write_falls code bound m fit v ranks ranked t run file leads here finds)
     by_instr instr leads here finds a other = plain_on instr leads here finds refl
 
     there : Fits code place s

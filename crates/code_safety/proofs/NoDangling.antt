@@ -44,7 +44,7 @@ use Rattle.code_safety.proofs.TurnChains.{yield_chained, turn_chained}
 use Rattle.code_safety.proofs.CallChains.{call_chained, return_chained}
 use Rattle.code_safety.proofs.StartChains.{async_chained}
 use Rattle.code_safety.proofs.EndChains.{end_chained}
-use Rattle.code_safety.proofs.OperationChains.{send_chained, receive_chained}
+use Rattle.code_safety.proofs.OperationChains.{send_chained, receive_chained, read_chained, write_chained}
 use Rattle.code_safety.proofs.ArrivalChains.{rests_chained}
 
 -- ---- one move
@@ -72,8 +72,8 @@ module _ (code : Parts) (bound : ℕ) (m : Flat) (v : IsValid code) (meant : IsM
     by_instr (i.Cancel level slot) leads here finds a = cancel_chained code bound v m fit t run level slot here (block_in (cell_at m.store m.current.frame level slot)) chained
     by_instr (i.Send channel) leads here finds a = send_chained code bound m v fit chained t run channel leads here finds
     by_instr (i.Recv channel) leads here finds a = receive_chained code bound m v fit chained t run channel leads here finds
-    by_instr (i.Read file) leads here finds a = let no : false ≡ true = a in absurd (cc)
-    by_instr (i.Write file) leads here finds a = let no : false ≡ true = a in absurd (cc)
+    by_instr (i.Read file) leads here finds a = read_chained code bound m v fit chained t run file leads here finds
+    by_instr (i.Write file) leads here finds a = write_chained code bound m v fit chained t run file leads here finds
     by_instr instr leads here finds a = plain_chained code bound m v fit chained t run instr leads here finds refl
 
     there : Fits code place s
@@ -211,10 +211,12 @@ module _ (code : Parts) (m : Flat) (fit : IsFit code m) (chained : AreChained co
       let k = chained.frames f x e in
       k.link p (ap link_of (body_origin k.origin p (sym k.parent ∙ q)))
 
-  -- the thread of an operation lives, and so does the frame of its chain into which it receives
+  -- the thread of an operation lives, and so does the frame of its chain into which it receives or reads
   asked_lives : (a : Asked) (f : FrameId) → Lives m.store f → AskedOnChain chained.origins f a → AskedLives m.store a
   asked_lives (asked.Send value) f l n = tt
   asked_lives (asked.Recv place) f l n = home_lives f l place.home n
+  asked_lives (asked.Read file from into) f l n = home_lives f l into.home n
+  asked_lives (asked.Write file from bytes) f l n = tt
 
   operations_live : All (λ (o : Operation). AskedLives m.store o.asked) m.operations
   operations_live k d lt =

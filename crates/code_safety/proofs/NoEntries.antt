@@ -21,32 +21,33 @@ use Rattle.core_state.specs.Arithmetic.{shifted_left, shifted_right, is_equal, i
 use Rattle.core_state.specs.Frames.{block_in, element, set_element, part_at, begun, begun_with, first_store}
 use Rattle.core_state.specs.Arrivals as arrivals
 use Rattle.core_state.specs.Arrivals.{Arrival, at_point, comes_in}
-use Rattle.core_state.specs.Cancelling.{tries}
-use Rattle.core_state.specs.Shared.{first_shared, begins_with, with_entry, with_step, with_turn, printed, formatted, output_limit, seen, seen_left}
+use Rattle.core_state.specs.Cancelling.{is_to_try, tries}
+use Rattle.core_state.specs.Shared.{begins_with, with_entry, with_step, with_turn, printed, formatted, output_limit, seen, seen_left}
 use Rattle.stack_code.specs.declared.instr.Instr.{Instr}
 use Rattle.stack_code.specs.declared.instr.Instr.TheVariants as i
 use Rattle.stack_code.specs.declared.parts.Entered.{Entered}
 use Rattle.stack_code.specs.Parts.{Parts}
 use Rattle.code_meaning.specs.Alone.{is_alone, starts_none, IsAlone}
 use Rattle.code_meaning.specs.Machine as flat
-use Rattle.code_meaning.specs.Machine.{Flat, FlatEnd, Caller, Block, nobody, arrived, begin, exec, exec_of, dispatched, told, with_store, with_shared, or_trap, on_top, on_two, on_three, on_many}
+use Rattle.code_meaning.specs.Machine.{Flat, FlatEnd, Caller, Block, nobody, arrived, begin, exec, exec_of, dispatched, shared_at_first, told, with_store, with_shared, or_trap}
+use Rattle.code_meaning.specs.Machine.{on_top, on_two, on_three, on_many}
 use Rattle.code_meaning.specs.Machine.{one_operand, two_operands, always, text_at, calls, returns, starts, arrives, arrives_in, arrives_at, dies, dies_in, counted_out, block_at, thread_at}
 use Rattle.code_meaning.specs.Machine.{first_flat, first_core, first_globals, is_inside, marked, counted, calls_off, Runs}
 use Rattle.code_safety.proofs.Plain.{Onward}
 
 -- ---- an instruction
 
--- a move leaves the operations and the entries as they are, and an end before an entry to come shows nothing
+-- a move leaves the operations, the entries and the link of requests as they are, and an end before an entry to come shows nothing
 abbrev pub Leaves : Flat → Move Flat FlatEnd → Type 0
-Leaves m (On n) = (n.operations ≡ m.operations) × ((n.shared.todo ≡ m.shared.todo) × (n.shared.past ≡ m.shared.past))
+Leaves m (On n) = (n.operations ≡ m.operations) × ((n.shared.todo ≡ m.shared.todo) × ((n.shared.past ≡ m.shared.past) × (n.shared.requests ≡ m.shared.requests)))
 Leaves m (Over x) = (e : Entry) (es : List Entry) → m.shared.todo ≡ e ∷ es → x.core ≡ None
 
 module _ (m : Flat) where
   abbrev L : Move Flat FlatEnd → Type 0
   L = Leaves m
 
-  same : (m.operations ≡ m.operations) × ((m.shared.todo ≡ m.shared.todo) × (m.shared.past ≡ m.shared.past))
-  same = (refl, (refl, refl))
+  same : (m.operations ≡ m.operations) × ((m.shared.todo ≡ m.shared.todo) × ((m.shared.past ≡ m.shared.past) × (m.shared.requests ≡ m.shared.requests)))
+  same = (refl, (refl, (refl, refl)))
 
   unseen : (why : EndWord) (idle : Bool) (e : Entry) (es : List Entry) → m.shared.todo ≡ e ∷ es → seen why idle m.store.globals m.operations m.shared ≡ None
   unseen why idle e es k = ap (seen_left why idle m.store.globals m.operations m.shared) k
@@ -233,8 +234,8 @@ module _ (m : Flat) (free : IsFree m) where
       subst
       (λ (os : List Operation).
       Leaves m
-      (tries (told (counted m.count)) m.shared m.store os (is_inside m block) (λ shared x. On (arrived (marked m block) shared x)) (flat.goes (marked m block) m.current.operands)
-      (find (is_inside m block) os)))
+      (tries (told (counted m.count)) m.shared m.store os (is_to_try (is_inside m block)) (λ shared x. On (arrived (marked m block) shared x)) (flat.goes (marked m block) m.current.operands)
+      (find (is_to_try (is_inside m block)) os)))
       (sym free.0) (same m)
 
   begin_free : (code : Parts) (bound : ℕ) (t : Item) (instr : Instr) → starts_none instr ≡ true → Leaves m (begin code bound m t (Some instr))
@@ -264,7 +265,7 @@ module _ (code : Parts) (bound : ℕ) (alone : IsAlone code) where
     stays_free = go (exec code bound m) exec_leaves
       where
         go : (x : Move Flat FlatEnd) → Leaves m x → Onward IsFree x
-        go (On n) l = (l.0 ∙ free.0, l.1.1 ∙ free.1)
+        go (On n) l = (l.0 ∙ free.0, l.1.1.0 ∙ free.1)
         go (Over x) l = tt
 
   -- ---- a run
@@ -276,20 +277,21 @@ module _ (code : Parts) (bound : ℕ) (alone : IsAlone code) where
       where
         go : ((n : Flat) → IsFree n → n.shared.todo ≡ e ∷ es → moves (exec code bound) k n ≡ Over end → end.core ≡ None) → (a : Move Flat FlatEnd) → Leaves m a
             → and_then a (moves (exec code bound) k) ≡ Over end → end.core ≡ None
-        go later (On n) l h = later n (l.0 ∙ free.0, l.1.1 ∙ free.1) (l.1.0 ∙ to) h
+        go later (On n) l h = later n (l.0 ∙ free.0, l.1.1.0 ∙ free.1) (l.1.0 ∙ to) h
         go later (Over x) l h =
             let is : x ≡ end = let over : Over x ≡ Over end = h in cc in
             subst (λ (y : FlatEnd). y.core ≡ None) is (l e es to)
 
-    from_first : (function : Entered) (k : ℕ) → Over end ≡ and_then (first_flat code function (e ∷ es)) (moves (exec code bound) k) → end.core ≡ None
-    from_first function k h = go (begun (first_store (first_globals code)) None (replicate function.words no_int)) h
+    from_first : (core : ℕ) (function : Entered) (k : ℕ) → Over end ≡ and_then (first_flat code core function (e ∷ es)) (moves (exec code bound) k) → end.core ≡ None
+    from_first core function k h = go (begun (first_store (first_globals code)) None (replicate function.words no_int)) h
       where
         go : (r : Result Store Trap)
-            → Over end ≡ and_then (begins_with (told 0) (first_globals code) (first_shared (e ∷ es)) r (λ store. On (first_core function (first_shared (e ∷ es)) store))) (moves (exec code bound) k)
+            → Over end ≡ and_then (begins_with (told 0) (first_globals code) (shared_at_first code core (e ∷ es)) r
+            (λ store. On (first_core function (shared_at_first code core (e ∷ es)) store))) (moves (exec code bound) k)
             → end.core ≡ None
-        go (Ok store) h = none_seen k (first_core function (first_shared (e ∷ es)) store) (refl, refl) refl (sym h)
+        go (Ok store) h = none_seen k (first_core function (shared_at_first code core (e ∷ es)) store) (refl, refl) refl (sym h)
         go (Err trap) h = let over : Over end ≡ Over (told 0 None) = h in let is : end ≡ told 0 None = cc in ap (λ (y : FlatEnd). y.core) is
 
 -- where an entry is still to come at the beginning, nothing is seen of the end
 pub alone_takes_none : (code : Parts) (core bound : ℕ) (e : Entry) (es : List Entry) (end : FlatEnd) → IsAlone code → Runs code core bound (e ∷ es) end → end.core ≡ None
-alone_takes_none code core bound e es end alone runs = from_first code bound alone e es end runs.function runs.comes.0 runs.comes.1
+alone_takes_none code core bound e es end alone runs = from_first code bound alone e es end core runs.function runs.comes.0 runs.comes.1

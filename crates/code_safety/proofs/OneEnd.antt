@@ -44,7 +44,7 @@ module _ (code : Parts) (v : IsValid code) (core : ℕ) (lt : core < length code
           c.0,
           record {
             comes = runs;
-            only = λ other r. same_end code bound (first_flat code b.0 journal) other c.0
-                (subst (λ (f : Entered). ComesTo (exec code bound) (first_flat code f journal) other) (same_function code core r.function b.0 r.begins b.1) r.comes) c.1;
+            only = λ other r. same_end code bound (first_flat code core b.0 journal) other c.0
+                (subst (λ (f : Entered). ComesTo (exec code bound) (first_flat code core f journal) other) (same_function code core r.function b.0 r.begins b.1) r.comes) c.1;
           },
         )

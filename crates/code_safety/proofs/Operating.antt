@@ -1,17 +1,19 @@
 -- A state stays fit where its thread starts an operation, and waits for its end.
-use Rattle.std.proofs.Common.{◌≡◌, ℕ, ◌+◌, List, [], ◌∷◌, ◌++◌, Some, None, refl, sym, ap, ◌∙◌, arith}
+use Rattle.std.proofs.Common.{◌≡◌, ℕ, ◌+◌, ◌≤◌, List, [], ◌∷◌, ◌++◌, Some, None, refl, sym, ap, ◌∙◌, subst, arith}
 use Rattle.std.specs.Prelude.{nat_lt, slice_get, if◌then◌else◌}
 use Rattle.std.proofs.lemmas.List.{append-nil}
 use Rattle.std.proofs.lemmas.List.Elements.{All-push}
 use Rattle.work_item.specs.declared.ids.Item.{Item}
 use Rattle.work_item.specs.declared.cell.Cell.{Cell}
 use Rattle.work_item.specs.declared.cell.Cell.TheVariants as cell
+use Rattle.work_item.specs.declared.cell.Place.{Place}
 use Rattle.work_item.specs.Store.{int_in, place_in, no_int}
 use Rattle.cancel_scope.specs.declared.operation.Asked.{Asked}
 use Rattle.cancel_scope.specs.declared.operation.Asked.TheVariants as asked
 use Rattle.cancel_scope.specs.declared.operation.Operation.{Operation}
 use Rattle.cancel_scope.specs.Outstanding.{started}
 use Rattle.core_state.specs.Arrivals.{cancelled}
+use Rattle.core_state.specs.Requests.{bytes_at, first_of, if_in_range}
 use Rattle.stack_code.specs.declared.instr.Instr.{Instr}
 use Rattle.stack_code.specs.declared.instr.Instr.TheVariants as i
 use Rattle.stack_code.specs.declared.shape.Kind.{Kind}
@@ -22,18 +24,19 @@ use Rattle.stack_code.specs.declared.shape.Want.TheVariants as want
 use Rattle.stack_code.specs.declared.shape.Leads.{Leads}
 use Rattle.stack_code.specs.declared.shape.Leads.TheVariants.{One}
 use Rattle.stack_code.specs.Parts.{Parts}
-use Rattle.stack_code.specs.Shapes.{after, channels_of, effect, pushed, pushes, with_operands}
+use Rattle.stack_code.specs.Shapes.{after, channels_of, effect, pushed, pushes, transfers, with_operands}
 use Rattle.stack_code.specs.Valid as valid
 use Rattle.stack_code.specs.Valid.{Goes}
-use Rattle.code_meaning.specs.Machine.{Flat, Thread, at, counted, begin, given, operates}
+use Rattle.code_meaning.specs.Machine.{Flat, Thread, asks, at, counted, begin, given, on_three, operates, requests}
 use Rattle.code_safety.specs.Fit.{HaveKinds, IsAsked, IsFit, IsThread, going_on, items_of, life_at, occurs, one_at}
 use Rattle.code_safety.proofs.Lasting.{callers_as}
 use Rattle.code_safety.proofs.Lives.{same_item}
 use Rattle.code_safety.proofs.Own.{thread_of}
-use Rattle.code_safety.proofs.Plain.{Onward, Next, none, top_on, asks_on}
+use Rattle.code_safety.proofs.Plain.{Onward, Next, none, top_on, three_on, trap_on, asks_on}
 use Rattle.code_safety.proofs.PlainFit.{plain_fit}
 use Rattle.code_safety.proofs.Settings.{same_store}
 use Rattle.code_safety.proofs.Taken.{IsWanted, after_is, if_is, none_wanted, top_of}
+use Rattle.code_safety.proofs.Transfers.{range_is, first_ints}
 use Rattle.code_safety.proofs.Turns.{rests_fit, resting}
 use Rattle.code_safety.proofs.Waiting.{occurs_between, waits_for_another, waits_for_it}
 
@@ -47,37 +50,87 @@ module _ (code : Parts) (bound : ℕ) (m : Flat) (fit : IsFit code m) (t : Item)
   abbrev place : ℕ
   place = m.current.place
 
-  -- what an instruction finds that starts an operation: an operand as it wants it, in whose place the value comes
-  pub record Operates (w : Want) (instr : Instr) : Type 0 where
-    pub top : Cell
+  -- an instruction that starts an operation has taken its operands, in whose place the value comes
+  pub record Operates (instr : Instr) : Type 0 where
     pub below : List Cell
-    pub is : m.current.operands ≡ top ∷ below
-    pub wanted : IsWanted code fit.births w top
     pub kinds : List Kind
     pub have : HaveKinds code fit.births kinds below
     pub goes : Goes code place s (place + 1) (pushed kind.Int (with_operands s kinds))
 
+  -- of a channel: one operand as it wants it
+  pub record TakesOne (w : Want) (instr : Instr) : Type 0 where
+    pub on : Operates instr
+    pub top : Cell
+    pub is : m.current.operands ≡ top ∷ on.below
+    pub wanted : IsWanted code fit.births w top
+
   pub operating : (w : Want) (instr : Instr) (channel : ℕ) (leads : Leads) → slice_get code.instrs place ≡ Some instr
-      → effect code place instr s ≡ (if nat_lt channel (channels_of code) then after (w ∷ []) s (pushes place kind.Int) else None) → effect code place instr s ≡ Some leads → Operates w instr
+      → effect code place instr s ≡ (if nat_lt channel (channels_of code) then after (w ∷ []) s (pushes place kind.Int) else None) → effect code place instr s ≡ Some leads → TakesOne w instr
   operating w instr channel leads here same finds =
       let c = if_is (nat_lt channel (channels_of code)) (after (w ∷ []) s (pushes place kind.Int)) leads (sym same ∙ finds) in
       let a = after_is (w ∷ []) s (pushes place kind.Int) leads c.1 in
       let o = top_of code fit.births w [] s.operands a.0 m.current.operands a.1.0 h.top.have in
       record {
+        on = record {
+          below = o.below;
+          kinds = a.0;
+          have = none_wanted code fit.births o.kinds a.0 o.below o.taken o.have;
+          goes = record {
+            fits = record { instr = instr; leads = One (place + 1) (pushed kind.Int (with_operands s a.0)); here = here; finds = finds ∙ sym a.1.1 };
+            leads = (refl, refl);
+          };
+        };
         top = o.top;
-        below = o.below;
         is = o.is;
         wanted = o.wanted;
-        kinds = a.0;
-        have = none_wanted code fit.births o.kinds a.0 o.below o.taken o.have;
-        goes = record {
-          fits = record { instr = instr; leads = One (place + 1) (pushed kind.Int (with_operands s a.0)); here = here; finds = finds ∙ sym a.1.1 };
-          leads = (refl, refl);
-        };
       }
 
+  -- of a file: an array, a length and a place in the file
+  pub record TakesThree (instr : Instr) : Type 0 where
+    pub on : Operates instr
+    pub array : Cell
+    pub long : Cell
+    pub from : Cell
+    pub is : m.current.operands ≡ array ∷ long ∷ from ∷ on.below
+    pub wanted : IsWanted code fit.births want.Reference array
+
+  pub transferring : (instr : Instr) (file : ℕ) (leads : Leads) → slice_get code.instrs place ≡ Some instr → effect code place instr s ≡ transfers place file s
+      → effect code place instr s ≡ Some leads → TakesThree instr
+  transferring instr file leads here same finds =
+      let c = if_is (nat_lt file 16) (after (want.Reference ∷ want.Int ∷ want.Int ∷ []) s (pushes place kind.Int)) leads (sym same ∙ finds) in
+      let a = after_is (want.Reference ∷ want.Int ∷ want.Int ∷ []) s (pushes place kind.Int) leads c.1 in
+      let o = top_of code fit.births want.Reference (want.Int ∷ want.Int ∷ []) s.operands a.0 m.current.operands a.1.0 h.top.have in
+      let p = top_of code fit.births want.Int (want.Int ∷ []) o.kinds a.0 o.below o.taken o.have in
+      let q = top_of code fit.births want.Int [] p.kinds a.0 p.below p.taken p.have in
+      record {
+        on = record {
+          below = q.below;
+          kinds = a.0;
+          have = none_wanted code fit.births q.kinds a.0 q.below q.taken q.have;
+          goes = record {
+            fits = record { instr = instr; leads = One (place + 1) (pushed kind.Int (with_operands s a.0)); here = here; finds = finds ∙ sym a.1.1 };
+            leads = (refl, refl);
+          };
+        };
+        array = o.top;
+        long = p.top;
+        from = q.top;
+        is = o.is ∙ ap (λ l. o.top ∷ l) (p.is ∙ ap (λ l. p.top ∷ l) q.is);
+        wanted = o.wanted;
+      }
+
+  -- a request is of the first elements of the array, no more than there are, or its range is wrong and the core ends
+  pub transfer_on : (P : Flat → Type 0) (instr : Instr) (z : TakesThree instr) (ask : ℕ → Place → Asked)
+      → ((at len : ℕ) → len ≤ (place_in z.array).len → Onward P (asks m t m.shared.requests (ask at (first_of (place_in z.array) len)) z.on.below))
+      → Onward P (on_three m (λ x y w below. requests m t (if_in_range (place_in w) (int_in x) (int_in y) ask) below) m.current.operands)
+  transfer_on P instr z ask h = three_on P m _ m.current.operands z.array z.long z.from z.on.below z.is
+      (trap_on P m (if_in_range (place_in z.array) (int_in z.from) (int_in z.long) ask) (λ a. asks m t m.shared.requests a z.on.below)
+      (λ a e.
+      let r = range_is (place_in z.array) (int_in z.from) (int_in z.long) ask a e in
+      subst (λ a. Onward P (asks m t m.shared.requests a z.on.below)) r.1.1.1 (h r.0 r.1.0 r.1.1.0)))
+
   -- in a cancelled block the value is there at once
-  module _ (w : Want) (instr : Instr) (z : Operates w instr) (other : instr ≡ i.Step → ⊥) where
+  module _ (instr : Instr) (z : Operates instr) (other : instr ≡ i.Step → ⊥) where
     abbrev pub given_value : Flat
     given_value = record m { current = at m.current (place + 1) (cell.Int cancelled ∷ z.below); count = counted m.count }
 
@@ -93,7 +146,7 @@ module _ (code : Parts) (bound : ℕ) (m : Flat) (fit : IsFit code m) (t : Item)
       others = refl;
     }
 
-  module _ (w : Want) (instr : Instr) (z : Operates w instr) (link : ℕ) (a : Asked) (asks : IsAsked code fit.births a) where
+  module _ (instr : Instr) (z : Operates instr) (link : ℕ) (a : Asked) (asks : IsAsked code fit.births a) where
     abbrev kept : Thread
     kept = at m.current (place + 1) z.below
 
@@ -134,18 +187,40 @@ module _ (code : Parts) (bound : ℕ) (m : Flat) (fit : IsFit code m) (t : Item)
   asked_of (cell.Array p) k = k
   asked_of (cell.Block b) k = absurd k
 
+  -- what is read goes into the first elements of an array
+  first_asked : (file at len : ℕ) (x : Cell) → IsWanted code fit.births want.Reference x → len ≤ (place_in x).len → IsAsked code fit.births (asked.Read file at (first_of (place_in x) len))
+  first_asked file at len (cell.Int v) k le = absurd k
+  first_asked file at len (cell.Array p) k le = first_ints code fit.births p len le k
+  first_asked file at len (cell.Block b) k le = absurd k
+
+  -- its value is there, or its thread waits
+  started_on : (instr : Instr) (z : Operates instr) → (instr ≡ i.Step → ⊥) → (link : ℕ) (a : Asked) → IsAsked code fit.births a → Onward (IsFit code) (asks m t link a z.below)
+  started_on instr z other link a k = asks_on (IsFit code) m t link a z.below
+      (plain_fit code bound m fit t run instr (given_value instr z other) (value_next instr z other)) (operates_fit instr z link a k)
+
   pub send_fit : (channel : ℕ) (leads : Leads) → slice_get code.instrs place ≡ Some (i.Send channel) → effect code place (i.Send channel) s ≡ Some leads
       → Onward (IsFit code) (begin code bound m t (Some (i.Send channel)))
   send_fit channel leads here finds =
       let z = operating want.Int (i.Send channel) channel leads here refl finds in
-      top_on (IsFit code) m _ m.current.operands z.top z.below z.is (asks_on (IsFit code) m t channel (asked.Send (int_in z.top)) z.below
-      (plain_fit code bound m fit t run (i.Send channel) (given_value want.Int (i.Send channel) z (λ e. cc)) (value_next want.Int (i.Send channel) z (λ e. cc)))
-      (operates_fit want.Int (i.Send channel) z channel (asked.Send (int_in z.top)) tt))
+      top_on (IsFit code) m _ m.current.operands z.top z.on.below z.is (started_on (i.Send channel) z.on (λ e. cc) channel (asked.Send (int_in z.top)) tt)
 
   pub receive_fit : (channel : ℕ) (leads : Leads) → slice_get code.instrs place ≡ Some (i.Recv channel) → effect code place (i.Recv channel) s ≡ Some leads
       → Onward (IsFit code) (begin code bound m t (Some (i.Recv channel)))
   receive_fit channel leads here finds =
       let z = operating want.One (i.Recv channel) channel leads here refl finds in
-      top_on (IsFit code) m _ m.current.operands z.top z.below z.is (asks_on (IsFit code) m t channel (asked.Recv (place_in z.top)) z.below
-      (plain_fit code bound m fit t run (i.Recv channel) (given_value want.One (i.Recv channel) z (λ e. cc)) (value_next want.One (i.Recv channel) z (λ e. cc)))
-      (operates_fit want.One (i.Recv channel) z channel (asked.Recv (place_in z.top)) (asked_of z.top z.wanted)))
+      top_on (IsFit code) m _ m.current.operands z.top z.on.below z.is
+      (started_on (i.Recv channel) z.on (λ e. cc) channel (asked.Recv (place_in z.top)) (asked_of z.top z.wanted))
+
+  pub read_fit : (file : ℕ) (leads : Leads) → slice_get code.instrs place ≡ Some (i.Read file) → effect code place (i.Read file) s ≡ Some leads
+      → Onward (IsFit code) (begin code bound m t (Some (i.Read file)))
+  read_fit file leads here finds =
+      let z = transferring (i.Read file) file leads here refl finds in
+      transfer_on (IsFit code) (i.Read file) z (λ at into. asked.Read file at into)
+      (λ at len le. started_on (i.Read file) z.on (λ e. cc) m.shared.requests (asked.Read file at (first_of (place_in z.array) len)) (first_asked file at len z.array z.wanted le))
+
+  pub write_fit : (file : ℕ) (leads : Leads) → slice_get code.instrs place ≡ Some (i.Write file) → effect code place (i.Write file) s ≡ Some leads
+      → Onward (IsFit code) (begin code bound m t (Some (i.Write file)))
+  write_fit file leads here finds =
+      let z = transferring (i.Write file) file leads here refl finds in
+      transfer_on (IsFit code) (i.Write file) z (λ at from. asked.Write file at (bytes_at m.store from))
+      (λ at len le. started_on (i.Write file) z.on (λ e. cc) m.shared.requests (asked.Write file at (bytes_at m.store (first_of (place_in z.array) len))) tt)

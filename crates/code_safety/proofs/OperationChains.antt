@@ -11,6 +11,8 @@ use Rattle.cancel_scope.specs.declared.operation.Asked.{Asked}
 use Rattle.cancel_scope.specs.declared.operation.Asked.TheVariants as asked
 use Rattle.cancel_scope.specs.declared.operation.Operation.{Operation}
 use Rattle.cancel_scope.specs.Outstanding.{started}
+use Rattle.core_state.specs.Requests.{bytes_at, first_of}
+use Rattle.stack_code.specs.declared.instr.Instr.{Instr}
 use Rattle.stack_code.specs.declared.instr.Instr.TheVariants as i
 use Rattle.stack_code.specs.declared.shape.Kind.{Kind}
 use Rattle.stack_code.specs.declared.shape.Kind.TheVariants as kind
@@ -21,7 +23,7 @@ use Rattle.stack_code.specs.Parts.{Parts}
 use Rattle.stack_code.specs.Shapes.{effect, pushed, with_operands}
 use Rattle.stack_code.specs.Valid as valid
 use Rattle.stack_code.specs.Valid.{Reaches, IsValid}
-use Rattle.code_meaning.specs.Machine.{Thread, Flat, begin, at, counted, operates, thread_at}
+use Rattle.code_meaning.specs.Machine.{Thread, Flat, asks, begin, at, counted, operates, thread_at}
 use Rattle.code_safety.specs.Fit.{IsThread, life_at, one_at, occurs, items_of, IsFit}
 use Rattle.code_safety.specs.Living.{LivesAs, as_running, as_ready, as_operating, HasFrame}
 use Rattle.code_safety.specs.Chains.{AllName, AskedOnChain, HasStack, IsActive, AreChained}
@@ -29,7 +31,7 @@ use Rattle.code_safety.proofs.Lives.{one_same, one_other, same_item}
 use Rattle.code_safety.proofs.Waiting.{occurs_between}
 use Rattle.code_safety.proofs.Own.{thread_of, all_kept, block_bound}
 use Rattle.code_safety.proofs.Plain.{Onward, top_on, asks_on}
-use Rattle.code_safety.proofs.Operating.{operating, given_value, value_next}
+use Rattle.code_safety.proofs.Operating.{Operates, operating, transferring, transfer_on, given_value, value_next}
 use Rattle.code_safety.proofs.Chained.{place_on}
 use Rattle.code_safety.proofs.LivingThreads.{not_running}
 use Rattle.code_safety.proofs.LinkedFrames.{same_frames, linked_same}
@@ -115,27 +117,44 @@ module _ (code : Parts) (bound : ℕ) (m : Flat) (v : IsValid code) (fit : IsFit
         (λ c w. absurd (not_running code m fit t c w.block w.here w.owner w.waits run)) (λ u h l ne. all_kept m.blocks u (block_bound h.block))
         (λ u h l ne. starts_on m.blocks (life_at fit.lives u).start)
 
+  -- its value is there, or its thread waits
+  started_on : (instr : Instr) (z : Operates code bound m fit t run instr) → (instr ≡ i.Step → ⊥) → (link : ℕ) (what : Asked) → AskedOnChain chained.origins top what
+      → AllName chained.origins top z.below → Onward (AreChained code) (asks m t link what z.below)
+  started_on instr z other link what asks names = asks_on (AreChained code) m t link what z.below
+      (plain_next code bound m v fit chained t run instr (given_value code bound m fit t run instr z other) (value_next code bound m fit t run instr z other)
+      (record { operands = (tt, names); store = same_frames chained.origins m.store }))
+      (operates_chained link what asks z.below names z.kinds (valid.goes place s (place + 1) (pushed kind.Int (with_operands s z.kinds)) own.top.reached z.goes))
+
   -- what is asked for is read off the topmost operand
   pub send_chained : (channel : ℕ) (leads : Leads) → slice_get code.instrs place ≡ Some (i.Send channel) → effect code place (i.Send channel) s ≡ Some leads
       → Onward (AreChained code) (begin code bound m t (Some (i.Send channel)))
   send_chained channel leads here finds =
       let z = operating code bound m fit t run want.Int (i.Send channel) channel leads here refl finds in
       let names = subst (AllName chained.origins top) z.is names_here in
-      top_on (AreChained code) m _ m.current.operands z.top z.below z.is
-      (asks_on (AreChained code) m t channel (asked.Send (int_in z.top)) z.below
-      (plain_next code bound m v fit chained t run (i.Send channel) (given_value code bound m fit t run want.Int (i.Send channel) z (λ e. cc))
-      (value_next code bound m fit t run want.Int (i.Send channel) z (λ e. cc)) (record { operands = (tt, names.1); store = same_frames chained.origins m.store }))
-      (operates_chained channel (asked.Send (int_in z.top)) tt z.below names.1 z.kinds
-      (valid.goes place s (place + 1) (pushed kind.Int (with_operands s z.kinds)) own.top.reached z.goes)))
+      top_on (AreChained code) m _ m.current.operands z.top z.on.below z.is (started_on (i.Send channel) z.on (λ e. cc) channel (asked.Send (int_in z.top)) tt names.1)
 
   pub receive_chained : (channel : ℕ) (leads : Leads) → slice_get code.instrs place ≡ Some (i.Recv channel) → effect code place (i.Recv channel) s ≡ Some leads
       → Onward (AreChained code) (begin code bound m t (Some (i.Recv channel)))
   receive_chained channel leads here finds =
       let z = operating code bound m fit t run want.One (i.Recv channel) channel leads here refl finds in
       let names = subst (AllName chained.origins top) z.is names_here in
-      top_on (AreChained code) m _ m.current.operands z.top z.below z.is
-      (asks_on (AreChained code) m t channel (asked.Recv (place_in z.top)) z.below
-      (plain_next code bound m v fit chained t run (i.Recv channel) (given_value code bound m fit t run want.One (i.Recv channel) z (λ e. cc))
-      (value_next code bound m fit t run want.One (i.Recv channel) z (λ e. cc)) (record { operands = (tt, names.1); store = same_frames chained.origins m.store }))
-      (operates_chained channel (asked.Recv (place_in z.top)) (place_on chained.origins top z.top names.0) z.below names.1 z.kinds
-      (valid.goes place s (place + 1) (pushed kind.Int (with_operands s z.kinds)) own.top.reached z.goes)))
+      top_on (AreChained code) m _ m.current.operands z.top z.on.below z.is
+      (started_on (i.Recv channel) z.on (λ e. cc) channel (asked.Recv (place_in z.top)) (place_on chained.origins top z.top names.0) names.1)
+
+  -- and so is the array of a request
+  pub read_chained : (file : ℕ) (leads : Leads) → slice_get code.instrs place ≡ Some (i.Read file) → effect code place (i.Read file) s ≡ Some leads
+      → Onward (AreChained code) (begin code bound m t (Some (i.Read file)))
+  read_chained file leads here finds =
+      let z = transferring code bound m fit t run (i.Read file) file leads here refl finds in
+      let names = subst (AllName chained.origins top) z.is names_here in
+      transfer_on code bound m fit t run (AreChained code) (i.Read file) z (λ at into. asked.Read file at into)
+      (λ at len le. started_on (i.Read file) z.on (λ e. cc) m.shared.requests (asked.Read file at (first_of (place_in z.array) len))
+      (place_on chained.origins top z.array names.0) names.1.1.1)
+
+  pub write_chained : (file : ℕ) (leads : Leads) → slice_get code.instrs place ≡ Some (i.Write file) → effect code place (i.Write file) s ≡ Some leads
+      → Onward (AreChained code) (begin code bound m t (Some (i.Write file)))
+  write_chained file leads here finds =
+      let z = transferring code bound m fit t run (i.Write file) file leads here refl finds in
+      let names = subst (AllName chained.origins top) z.is names_here in
+      transfer_on code bound m fit t run (AreChained code) (i.Write file) z (λ at from. asked.Write file at (bytes_at m.store from))
+      (λ at len le. started_on (i.Write file) z.on (λ e. cc) m.shared.requests (asked.Write file at (bytes_at m.store (first_of (place_in z.array) len))) tt names.1.1.1)

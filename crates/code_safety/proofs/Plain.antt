@@ -97,7 +97,7 @@ module _ (P : Flat → Type 0) (m : Flat) where
   pub two_on : (go : Cell → Cell → List Cell → Move Flat FlatEnd) (ops : List Cell) (y x : Cell) (below : List Cell) → ops ≡ y ∷ x ∷ below → Onward P (go x y below) → Onward P (on_two m go ops)
   two_on go ops y x below e h = subst (λ l. Onward P (on_two m go l)) (sym e) h
 
-  three_on : (go : Cell → Cell → Cell → List Cell → Move Flat FlatEnd) (ops : List Cell) (z y x : Cell) (below : List Cell) → ops ≡ z ∷ y ∷ x ∷ below → Onward P (go x y z below)
+  pub three_on : (go : Cell → Cell → Cell → List Cell → Move Flat FlatEnd) (ops : List Cell) (z y x : Cell) (below : List Cell) → ops ≡ z ∷ y ∷ x ∷ below → Onward P (go x y z below)
       → Onward P (on_three m go ops)
   three_on go ops z y x below e h = subst (λ l. Onward P (on_three m go l)) (sym e) h
 

@@ -48,30 +48,41 @@ module _ (code : Parts) (one : HasOneUse code) (home : Home) (slot : ℕ) where
 
 -- ---- one frame
 
+-- each frame stays, with as many slots, whether its activation or body has ended or not
+abbrev pub KeepsFrames : Store → Store → Type 0
+KeepsFrames s t = (f : FrameId) (x : Frame) → frame_at s f ≡ Some x → (y : Frame) × ((frame_at t f ≡ Some y) × (Outline x y × (y.over ≡ x.over)))
+
 pub record KeepsStore (code : Parts) (births : List Birth) (s t : Store) : Type 0 where
   pub store : IsStore code births t
+  pub frames : KeepsFrames s t
   pub carries : Carries s t (λ f. Unit {0})
+
+carries_all : (s t : Store) → KeepsFrames s t → Carries s t (λ f. Unit {0})
+carries_all s t frames = record {
+  going = λ f x e going p. let c = frames f x e in (c.0, (c.1.0, (c.1.1.0, c.1.1.1 ∙ going)));
+  round = λ f p y z e up lt at_p. let c = frames p z at_p in (c.0, (c.1.0, c.1.1.0));
+}
+
+pub keeps_store : (code : Parts) (births : List Birth) (s t : Store) → IsStore code births t → KeepsFrames s t → KeepsStore code births s t
+keeps_store code births s t store frames = record { store = store; frames = frames; carries = carries_all s t frames }
+
+-- one change after another
+pub then_kept : (code : Parts) (births : List Birth) (s t u : Store) → KeepsStore code births s t → KeepsStore code births t u → KeepsStore code births s u
+then_kept code births s t u first next = keeps_store code births s u next.store (λ f x e.
+    let y = first.frames f x e in
+    let z = next.frames f y.0 y.1.0 in
+    let outline : Outline x z.0 = record { parent = z.1.1.0.parent ∙ y.1.1.0.parent; slots = z.1.1.0.slots ∙ y.1.1.0.slots } in
+    (z.0, (z.1.0, (outline, z.1.1.1 ∙ y.1.1.1))))
 
 pub same_outline : (x : Frame) → Outline x x
 same_outline x = record { parent = refl; slots = refl }
 
 pub same_store : (code : Parts) (births : List Birth) (s : Store) → IsStore code births s → KeepsStore code births s s
-same_store code births s h = record {
-  store = h;
-  carries = record {
-    going = λ f x e g p. (x, (e, (same_outline x, g)));
-    round = λ f p y z e up lt there. (z, (there, same_outline z));
-  };
-}
+same_store code births s h = keeps_store code births s s h (λ f x e. (x, (e, (same_outline x, refl))))
 
 pub set_global : (code : Parts) (births : List Birth) (s : Store) (slot : ℕ) (value : ℤ) → IsStore code births s → KeepsStore code births s (with_global s slot value)
-set_global code births s slot value h = record {
-  store = record { long = h.long; globals = length-set s.globals slot value ∙ h.globals; few = h.few; frames = h.frames };
-  carries = record {
-    going = λ f x e g p. (x, (e, (same_outline x, g)));
-    round = λ f p y z e up lt there. (z, (there, same_outline z));
-  };
-}
+set_global code births s slot value h = keeps_store code births s (with_global s slot value)
+    (record { long = h.long; globals = length-set s.globals slot value ∙ h.globals; few = h.few; frames = h.frames }) (λ f x e. (x, (e, (same_outline x, refl))))
 
 pub at_set : (frames : List (Option Frame)) (n : ℕ) (cells : List Cell) → slice_index_or (slice_set frames n (some_with cells (slice_index_or frames n None))) n None
     ≡ some_with cells (slice_index_or frames n None)
@@ -138,25 +149,15 @@ module _ (code : Parts) (births : List Birth) (s : Store) (g : FrameId) (cells :
       | inr b ↦ h.frames f y b
     ]
 
-    carried : (f : FrameId) (x : Frame) → frame_at s f ≡ Some x → (y : Frame) × ((frame_at after f ≡ Some y) × (Outline x y × (y.over ≡ x.over)))
+    carried : KeepsFrames s after
     carried f x e = elim (on_from f x e) as (λ _. (y : Frame) × ((frame_at after f ≡ Some y) × (Outline x y × (y.over ≡ x.over)))) [
       | inl b ↦ (changed x, (b.1, (outline f x b.0 e, refl)))
       | inr b ↦ (x, (b, (same_outline x, refl)))
     ]
 
     pub set_cells : KeepsStore code births s after
-    set_cells = record {
-      store = record {
-        long = h.long ∙ sym (length-set s.frames g.number (some_with cells (frame_at s g)));
-        globals = h.globals;
-        few = h.few;
-        frames = frames_kept;
-      };
-      carries = record {
-        going = λ f x e going p. let c = carried f x e in (c.0, (c.1.0, (c.1.1.0, c.1.1.1 ∙ going)));
-        round = λ f p y z e up lt at_p. let c = carried p z at_p in (c.0, (c.1.0, c.1.1.0));
-      };
-    }
+    set_cells = keeps_store code births s after
+        (record { long = h.long ∙ sym (length-set s.frames g.number (some_with cells (frame_at s g))); globals = h.globals; few = h.few; frames = frames_kept }) carried
 
 -- ---- slots
 
@@ -221,15 +222,17 @@ module _ (code : Parts) (births : List Birth) (s : Store) (h : IsStore code birt
         λ birth born. slots_cleared code births birth.home (cells_of s g) slot len (slots_there x birth e born) (each birth born),
       ))
 
+-- a slot of an array of ints
+pub set_int : (code : Parts) (births : List Birth) (s : Store) → HasOneUse code → IsStore code births s → (home : Option FrameId) (start len slot : ℕ) (value : ℤ) → start ≤ slot
+    → slot < start + len → HoldsInts code births home start len → KeepsStore code births s (with_int_from s home slot value)
+set_int code births s one h None start len slot value le lt i = set_global code births s slot value h
+set_int code births s one h (Some f) start len slot value le lt i = set_slot code births s h f slot (cell.Int value) (λ birth born.
+    let same : i.birth ≡ birth = let both : Some i.birth ≡ Some birth = sym i.born ∙ born in cc in
+    let free = i.plain slot le lt in
+    int_slot code one birth.home slot births value (subst (λ (b : Birth). is_array code b.home slot ≡ false) same free))
+
 -- an element of an array of ints
 pub set_element_at : (code : Parts) (births : List Birth) (s : Store) → HasOneUse code → IsStore code births s → (b : Bool) (place : Place) (index : ℕ) (value : ℤ) → index < place.len
     → IsIntArray code births b place
     → KeepsStore code births s (with_int_at s place index value)
-set_element_at code births s one h b place index value lt a = go place.home a.ints
-  where
-    go : (home : Option FrameId) → HoldsInts code births home place.start place.len → KeepsStore code births s (with_int_from s home (place.start + index) value)
-    go None i = set_global code births s (place.start + index) value h
-    go (Some f) i = set_slot code births s h f (place.start + index) (cell.Int value) (λ birth born.
-        let same : i.birth ≡ birth = let both : Some i.birth ≡ Some birth = sym i.born ∙ born in cc in
-        let free = i.plain (place.start + index) (omega arith) (omega (arith, lt)) in
-        int_slot code one birth.home (place.start + index) births value (subst (λ (b : Birth). is_array code b.home (place.start + index) ≡ false) same free))
+set_element_at code births s one h b place index value lt a = set_int code births s one h place.home place.start place.len (place.start + index) value (omega arith) (omega (arith, lt)) a.ints

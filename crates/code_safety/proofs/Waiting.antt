@@ -107,12 +107,12 @@ module _ (t : Item) (h : Thread) where
       go true rest = refl
       go false rest = rest
 
-  -- that an operation is offered makes no difference
+  -- how far an operation has come makes no difference
   pub waits_alike : (front back : List Operation) (o p : Operation) → p.item ≡ o.item → going_on (front ++ p ∷ back) t h ≡ going_on (front ++ o ∷ back) t h
   waits_alike [] back o p e = ap (λ (u : Item). if nat_eq t.number u.number then given no_int h else going_on back t h) e
   waits_alike (x ∷ front) back o p e = ap (λ z. if nat_eq t.number x.item.number then given no_int h else z) (waits_alike front back o p e)
 
--- ---- where they put what they receive
+-- ---- where they put what they receive or read
 
 pub asks_grown : (code : Parts) (old new : List Birth) → Grown old new → (os : List Operation) → All (λ (o : Operation). IsAsked code old o.asked) os
     → All (λ (o : Operation). IsAsked code new o.asked) os

@@ -1,30 +1,32 @@
 -- How the bound on what a core can still do changes with its threads.
 use Rattle.std.proofs.Common.{◌≡◌, ℕ, zero, suc, ◌+◌, ◌-◌, ◌*◌, ◌≤◌, ◌<◌, List, [], ◌∷◌, ◌++◌, length, Option, Some, None, Bool, true, false, refl, ap, ◌∙◌, inl, inr, arith}
-use Rattle.std.specs.Prelude.{◌&&◌, sum, slice_index, slice_index_or, if◌then◌else◌}
+use Rattle.std.specs.Prelude.{◌&&◌, not, sum, slice_index, slice_index_or, if◌then◌else◌}
 use Rattle.std.proofs.lemmas.Bool.{cases_lt}
 use Rattle.std.proofs.lemmas.List.{get_or_past}
 use Rattle.std.proofs.lemmas.List.Sums.{get_or-le-sum_by}
 use Rattle.work_item.specs.declared.ids.Item.{Item}
 use Rattle.cancel_scope.specs.declared.operation.Operation.{Operation}
-use Rattle.cancel_scope.specs.Outstanding.{is_send, is_waiting}
+use Rattle.cancel_scope.specs.declared.operation.Progress.{Progress}
+use Rattle.cancel_scope.specs.declared.operation.Progress.TheVariants.{Waiting, Offered, Started}
+use Rattle.cancel_scope.specs.Outstanding.{is_outgoing, is_request, is_waiting, has_begun, offered_as, as_begun}
 use Rattle.code_meaning.specs.Machine.{Thread, Block, thread_at}
-use Rattle.code_safety.specs.Fit.{one_at, occurs, items_of}
+use Rattle.code_safety.specs.Fit.{one_if, one_at, occurs, items_of}
 use Rattle.code_safety.specs.Left.{grown, at_weight, thread_weight, parked_weight, ready_weight, entries_left, operation_weight, operations_weight, owner_weight, waiting_weight}
-use Rattle.code_safety.proofs.Lives.{one_same}
+use Rattle.code_safety.proofs.Lives.{one_same, one_at_most}
 
 -- ---- ranks
 
-pub grown_some : (r : ℕ) → 2 ≤ grown r
+pub grown_some : (r : ℕ) → 3 ≤ grown r
 grown_some zero = omega arith
-grown_some (suc r) = omega arith
+grown_some (suc r) = let h = grown_some r in omega (arith, h)
 
 grown_le : (q r : ℕ) → q ≤ r → grown q ≤ grown r
 grown_le zero r h = grown_some r
 grown_le (suc q) zero h = absurd (omega (arith, h))
 grown_le (suc q) (suc r) h = let x : grown q ≤ grown r = grown_le q r (omega (arith, h)) in omega (arith, x)
 
--- one of lower rank, and an operation and a dispatch
-pub grown_one : (q r : ℕ) → q < r → 3 + grown q < grown r
+-- one of lower rank, and an operation of three entries and a dispatch
+pub grown_one : (q r : ℕ) → q < r → 4 + grown q < grown r
 grown_one q zero h = absurd (omega (arith, h))
 grown_one q (suc r) h = let x : grown q ≤ grown r = grown_le q r (omega (arith, h)) in let s = grown_some q in omega (arith, x, s)
 
@@ -51,13 +53,32 @@ step_falls bound steps all x y rest lt le some = let e : bound - steps ≡ (boun
 
 -- ---- entries
 
-by_two : (b : Bool) → (1 ≤ (if b then 2 else 1)) × ((if b then 2 else 1) ≤ 2)
-by_two true = (omega arith, omega arith)
-by_two false = (omega arith, omega arith)
+-- an operation has one to three entries before it
+pub one_to_three : (o : Operation) → (1 ≤ entries_left o) × (entries_left o ≤ 3)
+one_to_three o =
+    let offer = one_at_most (is_outgoing o.asked && is_waiting o.progress) in
+    let begins = one_at_most (is_request o.asked && not (has_begun o.progress)) in
+    (omega arith, omega (arith, offer, begins))
 
--- an operation has one or two entries before it
-pub one_or_two : (o : Operation) → (1 ≤ entries_left o) × (entries_left o ≤ 2)
-one_or_two o = by_two (is_send o.asked && is_waiting o.progress)
+-- one less once it is offered
+pub one_less_offered : (o : Operation) (number : ℕ) → (is_outgoing o.asked && is_waiting o.progress) ≡ true → entries_left o ≡ 1 + entries_left (offered_as number o)
+one_less_offered o number waits = go (is_outgoing o.asked) (is_request o.asked) o.progress waits
+  where
+    go : (b r : Bool) (p : Progress) → (b && is_waiting p) ≡ true
+        → one_if (b && is_waiting p) + (one_if (r && not (has_begun p)) + 1) ≡ 1 + (one_if (b && false) + (one_if (r && true) + 1))
+    go true true Waiting e = refl
+    go true false Waiting e = refl
+    go true r (Offered n) e = let no : false ≡ true = e in absurd (cc)
+    go true r (Started n) e = let no : false ≡ true = e in absurd (cc)
+    go false r p e = let no : false ≡ true = e in absurd (cc)
+
+-- and once a request that was offered has begun
+pub one_less_begun : (o : Operation) (number : ℕ) → is_request o.asked ≡ true → o.progress ≡ Offered number → entries_left o ≡ 1 + entries_left (as_begun o)
+one_less_begun o number request offered = rw (offered, request) (go (is_outgoing o.asked))
+  where
+    go : (b : Bool) → one_if (b && false) + (1 + 1) ≡ 1 + (one_if (b && false) + (0 + 1))
+    go true = refl
+    go false = refl
 
 -- ---- other threads
 

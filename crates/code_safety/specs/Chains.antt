@@ -115,10 +115,12 @@ pub record HasStack (code : Parts) (origins : List Origin) (blocks : List (Optio
 
 -- ---- operations
 
--- where an operation of the activation in that frame puts what it receives
+-- where an operation of the activation in that frame puts what it receives or reads
 abbrev pub AskedOnChain : List Origin → FrameId → Asked → Type 0
 AskedOnChain origins f (asked.Send value) = Unit {0}
 AskedOnChain origins f (asked.Recv place) = HomeOnChain origins f place.home
+AskedOnChain origins f (asked.Read file from into) = HomeOnChain origins f into.home
+AskedOnChain origins f (asked.Write file from bytes) = Unit {0}
 
 -- ---- the whole
 

@@ -280,10 +280,12 @@ abbrev pub going_on : List Operation → Item → Thread → Thread
 going_on [] t h = h
 going_on (o ∷ os) t h = if nat_eq t.number o.item.number then given no_int h else going_on os t h
 
--- a message is received into one int
+-- a message is received into one int, and what is read comes into an array of ints
 abbrev pub IsAsked : Parts → List Birth → Asked → Type 0
 IsAsked code births (asked.Send value) = Unit {0}
 IsAsked code births (asked.Recv place) = IsIntArray code births true place
+IsAsked code births (asked.Read file from into) = IsIntArray code births false into
+IsAsked code births (asked.Write file from bytes) = Unit {0}
 
 -- ---- all of it
 

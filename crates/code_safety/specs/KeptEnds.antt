@@ -1,8 +1,9 @@
 -- What a core of a code reaches, and codes in which each core uses a channel only at its own end.
-use Rattle.std.specs.Prelude.{◌≡◌, ℕ, List, [], ◌∷◌, map, All, Option, Some, None, slice_get, slice_index}
+use Rattle.std.specs.Prelude.{◌≡◌, ℕ, List, [], ◌∷◌, length, map, All, Option, Some, None, slice_get, slice_index}
 use Rattle.cancel_scope.specs.declared.operation.Asked.{Asked}
 use Rattle.cancel_scope.specs.declared.operation.Asked.TheVariants as asked
 use Rattle.cancel_scope.specs.declared.operation.Operation.{Operation}
+use Rattle.core_state.specs.Shared.{request_link}
 use Rattle.stack_code.specs.declared.instr.Instr.{Instr}
 use Rattle.stack_code.specs.declared.instr.Instr.TheVariants as i
 use Rattle.stack_code.specs.declared.parts.ChannelEnds.{ChannelEnds}
@@ -63,10 +64,16 @@ pub record KeepsEnds (code : Parts) : Type 0 where
 
 -- ---- the operations of a core
 
+-- the link is that on which the core asks for reads and writes of files
+abbrev pub IsOwnLink : Parts → ℕ → ℕ → Type 0
+IsOwnLink code core link = link ≡ request_link (length code.ends) core
+
 -- the core is that end of the link at which the operation is started
 abbrev pub IsAtEnd : Parts → ℕ → ℕ → Asked → Type 0
 IsAtEnd code core link (asked.Send value) = IsSender code core link
 IsAtEnd code core link (asked.Recv place) = IsReceiver code core link
+IsAtEnd code core link (asked.Read file from into) = IsOwnLink code core link
+IsAtEnd code core link (asked.Write file from bytes) = IsOwnLink code core link
 
 abbrev pub AreAtEnds : Parts → ℕ → List Operation → Type 0
 AreAtEnds code core operations = All (λ (o : Operation). IsAtEnd code core o.link o.asked) operations
@@ -77,7 +84,9 @@ AreAtEnds code core operations = All (λ (o : Operation). IsAtEnd code core o.li
 abbrev pub each_as : Parts → ℕ → Parts
 each_as code core = record code { entries = map (λ (entry : ℕ). slice_index code.entries core) code.entries }
 
--- The core can stand so: where its threads are this core reaches, and each operation that has not ended is at its own end.
+-- The core can stand so: where its threads are this core reaches, it asks for reads and writes on its own link, and each operation that has
+-- not ended is at its own end.
 pub record KeepsOwnEnds (code : Parts) (core : ℕ) (m : Flat) : Type 0 where
   pub fit : IsFit (each_as code core) m
+  pub requests : IsOwnLink code core m.shared.requests
   pub operations : AreAtEnds code core m.operations

@@ -1,16 +1,16 @@
 -- A bound on what a core can still do before it ends.
 use Rattle.std.specs.Prelude.{ℕ, zero, suc, ◌+◌, ◌-◌, ◌*◌, List, [], ◌∷◌, length, Option, Some, None, sum, slice_index}
-use Rattle.std.specs.Prelude.{if◌then◌else◌, ◌&&◌}
+use Rattle.std.specs.Prelude.{if◌then◌else◌, not, ◌&&◌}
 use Rattle.work_item.specs.declared.ids.Item.{Item}
 use Rattle.cancel_scope.specs.declared.operation.Operation.{Operation}
-use Rattle.cancel_scope.specs.Outstanding.{is_send, is_waiting}
+use Rattle.cancel_scope.specs.Outstanding.{is_outgoing, is_request, is_waiting, has_begun}
 use Rattle.code_meaning.specs.Machine.{Caller, Thread, Block, Flat, thread_at}
-use Rattle.code_safety.specs.Fit.{total}
+use Rattle.code_safety.specs.Fit.{one_if, total}
 
 -- twice and two: an address of that rank may be left for two of lower ranks, with a dispatch between, or for one of a lower rank, with an
--- operation between
+-- operation of three entries between
 abbrev pub grown : ℕ → ℕ
-grown zero = 2
+grown zero = 3
 grown (suc r) = 2 * grown r + 2
 
 abbrev pub at_weight : List ℕ → ℕ → ℕ
@@ -31,9 +31,10 @@ abbrev pub ready_weight : List ℕ → List Thread → List Item → ℕ
 ready_weight ranks threads [] = 0
 ready_weight ranks threads (t ∷ ready) = parked_weight ranks threads t + ready_weight ranks threads ready
 
--- an operation has its end before it, and an offer before that where it is to be offered
+-- an operation has its end before it, and before that its offer where it is to be offered, and the beginning of a request that has not
+-- begun
 abbrev pub entries_left : Operation → ℕ
-entries_left o = if is_send o.asked && is_waiting o.progress then 2 else 1
+entries_left o = one_if (is_outgoing o.asked && is_waiting o.progress) + (one_if (is_request o.asked && not (has_begun o.progress)) + 1)
 
 abbrev pub operation_weight : List ℕ → List Thread → Operation → ℕ
 operation_weight ranks threads o = entries_left o + parked_weight ranks threads o.item

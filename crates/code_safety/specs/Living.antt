@@ -52,10 +52,12 @@ abbrev pub CallersLive : Store → List Caller → Type 0
 CallersLive s [] = Unit {0}
 CallersLive s (c ∷ callers) = ActivationLives s c.frame c.operands × CallersLive s callers
 
--- a message is received into a frame that lives, or into the globals
+-- a message is received into a frame that lives, or into the globals, and so is what is read
 abbrev pub AskedLives : Store → Asked → Type 0
 AskedLives s (asked.Send value) = Unit {0}
 AskedLives s (asked.Recv place) = HomeLives s place.home
+AskedLives s (asked.Read file from into) = HomeLives s into.home
+AskedLives s (asked.Write file from bytes) = Unit {0}
 
 pub record NamesLiving (m : Flat) : Type 0 where
   pub threads : (t : Item) (h : Thread) → LivesAs m t h → ActivationLives m.store h.frame h.operands × CallersLive m.store h.callers
@@ -77,3 +79,10 @@ LiesThere s place = HasSlots s place.home (place.start + place.len)
 abbrev pub ArrayLiesThere : Store → Cell → Type 0
 ArrayLiesThere s (cell.Array place) = LiesThere s place
 ArrayLiesThere s _ = Unit {0}
+
+-- and so does where an operation puts what it receives or reads
+abbrev pub AskedLiesThere : Store → Asked → Type 0
+AskedLiesThere s (asked.Send value) = Unit {0}
+AskedLiesThere s (asked.Recv place) = LiesThere s place
+AskedLiesThere s (asked.Read file from into) = LiesThere s into
+AskedLiesThere s (asked.Write file from bytes) = Unit {0}

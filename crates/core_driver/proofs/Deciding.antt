@@ -1,6 +1,6 @@
 -- The offer that a cancel tries stands at its link, so it may be withdrawn; and the core goes on by what its link answers.
 use Rattle.std.proofs.Common.{◌≡◌, ℕ, ◌+◌, ◌<◌, ◌≤◌, List, [], ◌∷◌, length, Option, Some, None, Bool, true, false, refl, sym, ap, ◌∙◌, subst, arith}
-use Rattle.std.specs.Prelude.{IfNone, ℤ, find, nat_eq, is_none, ◌&&◌, if◌then◌else◌}
+use Rattle.std.specs.Prelude.{IfNone, find, nat_eq, is_none, ◌&&◌, if◌then◌else◌}
 use Rattle.std.proofs.lemmas.Bool.{eq-eqb}
 use Rattle.ac_links.specs.Link.{link_of}
 use Rattle.ac_links.specs.Views.{may_withdraw}
@@ -13,6 +13,7 @@ use Rattle.cancel_scope.specs.Outstanding.{is_offered, is_under}
 use Rattle.core_channels.specs.Laws.{Told}
 use Rattle.core_ports.specs.Ends.{offer_at}
 use Rattle.core_ports.specs.Tells.{Tells}
+use Rattle.core_state.specs.Cancelling.{Outcome, is_to_try}
 use Rattle.core_state.specs.Moves.{Move, On, Over}
 use Rattle.stack_code.specs.Parts.{Parts}
 use Rattle.code_meaning.specs.Machine.{Flat, FlatEnd, is_inside}
@@ -68,18 +69,19 @@ stands_under o t h = by o.progress h
     by : (p : Progress) → tried_as o.link p ≡ Some t → (nat_eq o.link t.link && is_under t.number p) ≡ true
     by progress.Waiting h = let no : None ≡ Some t = h in absurd (cc)
     by (progress.Offered n) h = under n h
+    by (progress.Started n) h = let no : None ≡ Some t = h in absurd (cc)
 
 pub tried_stands : (code : Parts) (state : Move Flat FlatEnd) (t : Tried) → tried_of code state ≡ Some t → 1 ≤ standing_of t.link t.number (operations_of state)
 tried_stands code (Over x) t h = let no : None ≡ Some t = h in absurd (cc)
 tried_stands code (On m) t h = by (cancelled_in code m) h
   where
-    found : (block : BlockId) (q : Option Operation) → find (is_inside m block) m.operations ≡ q → tried_in q ≡ Some t → 1 ≤ standing_of t.link t.number m.operations
+    found : (block : BlockId) (q : Option Operation) → find (is_to_try (is_inside m block)) m.operations ≡ q → tried_in q ≡ Some t → 1 ≤ standing_of t.link t.number m.operations
     found block None is h = let no : None ≡ Some t = h in absurd (cc)
-    found block (Some o) is h = found_counts (is_inside m block) (is_offered t.link t.number) m.operations o is (stands_under o t h)
+    found block (Some o) is h = found_counts (is_to_try (is_inside m block)) (is_offered t.link t.number) m.operations o is (stands_under o t h)
 
     by : (c : Option BlockId) → tried_within m c ≡ Some t → 1 ≤ standing_of t.link t.number m.operations
     by None h = let no : None ≡ Some t = h in absurd (cc)
-    by (Some block) h = found block (find (is_inside m block) m.operations) refl h
+    by (Some block) h = found block (find (is_to_try (is_inside m block)) m.operations) refl h
 
 -- ---- the call of its link
 
@@ -113,7 +115,7 @@ module _ (m b : Machine) (o : Outside) (h : InStep m o) (same : IsSameCore m b) 
     tried_on = subst (λ (code : Parts). tried.link < length code.ends) same.code (stands_on b o (with_room m b o h same state run) (all asks_on) tried.link tried.number stands)
 
     -- the outcome was told, and is recorded
-    module _ (p : Outside) (t : Told) (call : Called o p (Some t)) (n : Machine) (value : ℤ) (done : HasDecided b tried value t.event t.stamp n) (on : link_of t.event ≡ tried.link)
+    module _ (p : Outside) (t : Told) (call : Called o p (Some t)) (n : Machine) (it : Outcome) (done : HasDecided b tried it t.event t.stamp n) (on : link_of t.event ≡ tried.link)
         (less : (ranks : List ℕ) → work_left ranks n < work_left ranks b) (goes : IsOnItsWay n) where
       pub decided_holds : Holds m o n p
       decided_holds = recorded_holds m b o h same state run p t call n done.flat.shared.turn (record { journal = done.journal; code = done.code; core = done.core; bound = done.bound }) goes

@@ -97,7 +97,7 @@ fn try_offer<P: Ports>(
     machine.make_room()?;
     match ports.offer(link, Payload::Int(value), clock) {
         Offering::Offered { number, stamp } => {
-            machine.offered(link, number, value, stamp);
+            machine.offered(link, number, Payload::Int(value), stamp);
             Ok(false)
         }
         Offering::NoRoom(_) => Ok(false),

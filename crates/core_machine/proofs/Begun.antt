@@ -5,18 +5,18 @@ use Rattle.std.proofs.lemmas.List.{length-replicate}
 use Rattle.std.proofs.lemmas.List.Elements.{All-nil}
 use Rattle.ac_base.specs.declared.ends.Trap.TheVariants.{StackFull}
 use Rattle.cancel_scope.specs.declared.operation.Operation.{Operation}
-use Rattle.cancel_scope.specs.Outstanding.{is_send, is_waiting}
+use Rattle.cancel_scope.specs.Outstanding.{is_outgoing, is_request, is_waiting}
 use Rattle.work_item.specs.Store.{Store, Frame, made, no_frames, no_int}
 use Rattle.core_state.specs.Moves.{Move, On, GoesOn}
 use Rattle.core_state.proofs.Runs.{GoesOn-none}
 use Rattle.core_state.specs.Frames.{has_words, begun, first_frame}
-use Rattle.core_state.specs.Shared.{first_shared}
+use Rattle.core_state.specs.Shared.{Shared, first_shared}
 use Rattle.stack_code.specs.declared.parts.Entered.{Entered}
 use Rattle.stack_code.specs.declared.parts.Start.{Start}
 use Rattle.stack_code.specs.Parts.{Parts, Begins}
 use Rattle.stack_code.specs.Valid.{IsValid}
 use Rattle.code_meaning.specs.Meant.{IsMeant}
-use Rattle.code_meaning.specs.Machine.{Flat, FlatEnd, nobody, exec, first_flat, first_item, first_core, with_starts, first_globals}
+use Rattle.code_meaning.specs.Machine.{Flat, FlatEnd, nobody, exec, first_flat, first_item, first_core, shared_at_first, with_starts, first_globals}
 use Rattle.code_safety.specs.Fit.{IsFit}
 use Rattle.code_safety.specs.Chains.{AreChained}
 use Rattle.code_safety.proofs.Beginnings.{first_fit}
@@ -53,14 +53,19 @@ framed code function = made (bare code) None (replicate function.words no_int)
 pub first_stands : (m : Running) (function : Entered) → m.outstanding.operations ≡ [] → m.schedule.running ≡ None → m.schedule.ready ≡ first_item ∷ []
     → m.threads.threads ≡ record nobody { place = function.at } ∷ []
     → m.blocks.blocks ≡ []
-    → m.place ≡ 0 → m.frame ≡ first_frame → m.operands ≡ [] → m.callers ≡ [] → m.block ≡ None → m.journal.entries ≡ [] → m.output.items ≡ [] → m.steps ≡ 0 → m.turn ≡ 0 → m.count ≡ 0
-    → flat_of m ≡ first_core function (first_shared []) m.frames
-first_stands m function operations running ready threads blocks place frame operands callers block journal output steps turn count =
-    rw (operations, running, ready, threads, blocks, place, frame, operands, callers, block, journal, output, steps, turn, count) refl
+    → (requests : ℕ) → m.requests ≡ requests → m.place ≡ 0 → m.frame ≡ first_frame → m.operands ≡ [] → m.callers ≡ [] → m.block ≡ None → m.journal.entries ≡ [] → m.output.items ≡ [] → m.steps ≡ 0
+    → m.turn ≡ 0 → m.count ≡ 0
+    → flat_of m ≡ first_core function (first_shared requests []) m.frames
+first_stands m function operations running ready threads blocks requests link place frame operands callers block journal output steps turn count =
+    rw (operations, running, ready, threads, blocks, link, place, frame, operands, callers, block, journal, output, steps, turn, count) refl
 
-module _ (m : Running) (function : Entered) (b : Begins m.code.now m.core function) (journal : m.journal.entries ≡ []) (first : flat_of m ≡ first_core function (first_shared []) m.frames) where
+module _ (m : Running) (function : Entered) (b : Begins m.code.now m.core function) (journal : m.journal.entries ≡ [])
+    (first : flat_of m ≡ first_core function (shared_at_first m.code.now m.core []) m.frames) where
+  abbrev shared : Shared
+  shared = shared_at_first m.code.now m.core []
+
   abbrev start : Move Flat FlatEnd
-  start = first_flat m.code.now function m.journal.entries
+  start = first_flat m.code.now m.core function m.journal.entries
 
   first_begun : (r : Bool) → has_words (bare m.code.now) function.words ≡ r →
       begun (bare m.code.now) None (replicate function.words no_int) ≡ (if r then Ok (framed m.code.now function) else Err StackFull)
@@ -70,16 +75,16 @@ module _ (m : Running) (function : Entered) (b : Begins m.code.now m.core functi
 
   stands_first : m.ended ≡ None → m.frames ≡ framed m.code.now function → has_words (bare m.code.now) function.words ≡ true → state_of m ≡ start
   stands_first still store room =
-      let stands : state_of m ≡ On (first_core function (first_shared []) (framed m.code.now function)) =
-      ap (end_or (flat_of m)) still ∙ ap (λ f. On f) (first ∙ ap (first_core function (first_shared [])) store) in
-      let begins : start ≡ On (first_core function (first_shared []) (framed m.code.now function)) = rw (first_begun true room, journal) refl in
+      let stands : state_of m ≡ On (first_core function shared (framed m.code.now function)) =
+      ap (end_or (flat_of m)) still ∙ ap (λ f. On f) (first ∙ ap (first_core function shared) store) in
+      let begins : start ≡ On (first_core function shared (framed m.code.now function)) = rw (first_begun true room, journal) refl in
       stands ∙ sym begins
 
   ends_first : m.ended ≡ Some (Trapped StackFull) → m.frames ≡ bare m.code.now → has_words (bare m.code.now) function.words ≡ false → state_of m ≡ start
   ends_first over store room =
-      let ends : state_of m ≡ end_or (first_core function (first_shared []) (bare m.code.now)) (Some (Trapped StackFull)) =
-      ap (end_or (flat_of m)) over ∙ ap (λ f. end_or f (Some (Trapped StackFull))) (first ∙ ap (first_core function (first_shared [])) store) in
-      let begins : start ≡ end_or (first_core function (first_shared []) (bare m.code.now)) (Some (Trapped StackFull)) = rw (first_begun false room, journal) refl in
+      let ends : state_of m ≡ end_or (first_core function shared (bare m.code.now)) (Some (Trapped StackFull)) =
+      ap (end_or (flat_of m)) over ∙ ap (λ f. end_or f (Some (Trapped StackFull))) (first ∙ ap (first_core function shared) store) in
+      let begins : start ≡ end_or (first_core function shared (bare m.code.now)) (Some (Trapped StackFull)) = rw (first_begun false room, journal) refl in
       ends ∙ sym begins
 
   module _ (begun : HasBegun (bare m.code.now) m.frames function.words m.ended) where
@@ -112,16 +117,17 @@ module _ (m : Running) (function : Entered) (b : Begins m.code.now m.core functi
         tracks_none : Tracks [] []
         tracks_none = record {
           each = λ l n. refl;
-          receives = All-nil (λ (o : Operation). is_send o.asked ≡ false → is_waiting o.progress ≡ true);
+          receives = All-nil (λ (o : Operation). is_outgoing o.asked ≡ false → is_waiting o.progress ≡ true);
+          files = All-nil (λ (o : Operation). is_request o.asked ≡ false);
         }
 
         stands : m.frames ≡ framed m.code.now function → has_words (bare m.code.now) function.words ≡ true → IsFit m.code.now (flat_of m)
         stands store room =
             let long : has_words (bare m.code.now) (length (replicate function.words no_int)) ≡ true = ap (has_words (bare m.code.now)) (length-replicate function.words no_int) ∙ room in
-            subst (IsFit m.code.now) (sym (first ∙ ap (first_core function (first_shared [])) store)) (first_fit m.code.now v m.core function b (first_shared []) long)
+            subst (IsFit m.code.now) (sym (first ∙ ap (first_core function shared) store)) (first_fit m.code.now v m.core function b shared long)
 
         chains : (o : Option Ending) → o ≡ None → HasBegun (bare m.code.now) m.frames function.words o → AreChained m.code.now (flat_of m)
-        chains None e h = subst (AreChained m.code.now) (sym (first ∙ ap (first_core function (first_shared [])) h.1)) (first_chained m.code.now m.core function b (first_shared []))
+        chains None e h = subst (AreChained m.code.now) (sym (first ∙ ap (first_core function shared) h.1)) (first_chained m.code.now m.core function b shared)
         chains (Some ending) e h = let no : Some ending ≡ None = e in absurd (cc)
 
         go : (o : Option Ending) → o ≡ None → HasBegun (bare m.code.now) m.frames function.words o → IsFit m.code.now (flat_of m)

@@ -1,6 +1,7 @@
 -- What a cancel makes of a running core, and what a send or receive in a cancelled block does.
 use Rattle.std.proofs.Common.{◌≡◌, ℕ, ◌+◌, List, [], ◌∷◌, ◌++◌, Option, Some, None, IsSome, Bool, true, false, refl, sym, ap, ◌∙◌, subst}
-use Rattle.std.specs.Prelude.{find, drop, ◌||◌}
+use Rattle.std.specs.Prelude.{find, drop, not, ◌||◌}
+use Rattle.std.proofs.lemmas.Bool.{and_parts}
 use Rattle.std.specs.List.{list_any}
 use Rattle.work_item.specs.declared.ids.Item.{Item}
 use Rattle.work_item.specs.declared.ids.BlockId.{BlockId}
@@ -12,11 +13,11 @@ use Rattle.cancel_scope.specs.declared.operation.Asked.{Asked}
 use Rattle.cancel_scope.specs.declared.operation.Progress.{Progress}
 use Rattle.cancel_scope.specs.declared.operation.Progress.TheVariants as progress
 use Rattle.cancel_scope.specs.declared.operation.Operation.{Operation}
-use Rattle.cancel_scope.specs.Outstanding.{started, without_first}
+use Rattle.cancel_scope.specs.Outstanding.{started, has_begun, without_first}
 use Rattle.cancel_scope.specs.Roomy.{Roomy}
 use Rattle.core_state.specs.Moves.{Move, On}
-use Rattle.core_state.specs.Arrivals.{cancelled, has_ended_as}
-use Rattle.core_state.specs.Cancelling.{tried, tries}
+use Rattle.core_state.specs.Arrivals.{cancelled}
+use Rattle.core_state.specs.Cancelling.{by_outcome, is_to_try, tried, tries}
 use Rattle.core_state.specs.Frames.{block_in}
 use Rattle.finish_block.specs.declared.block.Block as kept
 use Rattle.finish_block.specs.Table as table
@@ -26,6 +27,7 @@ use Rattle.thread_table.specs.Operands.{on_top}
 use Rattle.stack_code.specs.declared.instr.Instr.TheVariants as i
 use Rattle.code_meaning.specs.Machine as flat
 use Rattle.code_meaning.specs.Machine.{Flat, FlatEnd, arrived, asks, asks_in, block_at, counted, goes, is_cancelled, is_inside, marked, operates, resumed, told}
+use Rattle.code_safety.proofs.Waiting.{found_at}
 use Rattle.core_machine.specs.declared.running.Running.{Running}
 use Rattle.core_machine.specs.Blocks.{block_of, blocks_of}
 use Rattle.core_machine.specs.State.{flat_of, end_or, state_of}
@@ -96,6 +98,9 @@ module _ (m : Running) (still : m.ended ≡ None) (level slot : ℕ) (block : Bl
   abbrev now : Flat
   now = marked f block
 
+  abbrev test : Operation → Bool
+  test = is_to_try (is_inside f block)
+
   -- the core with the block marked
   stands : (b : Running) → b ≡ record m { schedule = s; blocks = blocks } → flat_of b ≡ now
   stands b e =
@@ -103,32 +108,40 @@ module _ (m : Running) (still : m.ended ≡ None) (level slot : ℕ) (block : Bl
       ∙ ap (λ (x : Table). record f { blocks = blocks_of x.blocks }) marks ∙ ap (λ bs. record f { blocks = bs }) (marked_blocks m.blocks.blocks block)
 
   -- none is left to try
-  pub goes_past : find (is_inside f block) f.operations ≡ None → (after : Running) → after ≡ record m { schedule = s; blocks = blocks; place = m.place + 1; count = counted m.count }
+  pub goes_past : find test f.operations ≡ None → (after : Running) → after ≡ record m { schedule = s; blocks = blocks; place = m.place + 1; count = counted m.count }
       → Does m (i.Cancel level slot) after
   goes_past none after e =
       let was : Running = record m { schedule = s; blocks = blocks } in
       let past : Flat → Flat = λ x. record x { current = flat.at x.current (x.current.place + 1) x.current.operands; count = counted x.count } in
       let ends : state_of after ≡ On (past (flat_of was)) = ap state_of e ∙ ap (end_or (past (flat_of was))) still in
       let ways : (Option Operation) → Move Flat FlatEnd =
-      λ r. tries (told (counted m.count)) f.shared f.store f.operations (is_inside f block) (λ shared x. On (arrived now shared x)) (goes now f.current.operands) r in
+      λ r. tries (told (counted m.count)) f.shared f.store f.operations test (λ shared x. On (arrived now shared x)) (goes now f.current.operands) r in
       ends ∙ ap (λ (x : Flat). On (past x)) (stands was refl) ∙ sym (ap (λ b. flat.calls_off f b) (sym is) ∙ ap ways none)
 
   -- the oldest, which was not offered, has ended
-  pub tries_oldest : (o : Operation) → find (is_inside f block) f.operations ≡ Some o → o.progress ≡ progress.Waiting → (q : Roomy) → q.operations ≡ without_first (is_inside f block) f.operations
+  pub tries_oldest : (o : Operation) → find test f.operations ≡ Some o → o.progress ≡ progress.Waiting → (q : Roomy) → q.operations ≡ without_first test f.operations
       → (between after : Running) → between ≡ record m { schedule = s; outstanding = q; blocks = blocks } → flat_of after ≡ resumed (flat_of between) (cell.Int cancelled) (Some o.item)
       → after.ended ≡ between.ended → Does m (i.Cancel level slot) after
   tries_oldest o found waits q left between after e now_is ended =
       let was : Running = record m { schedule = s; blocks = blocks } in
-      let gone : flat_of between ≡ record now { operations = without_first (is_inside f block) f.operations } =
+      let gone : flat_of between ≡ record now { operations = without_first test f.operations } =
       ap flat_of e ∙ ap (λ (x : Flat). record x { operations = q.operations }) (stands was refl) ∙ ap (λ (os : List Operation). record now { operations = os }) left in
       let ways : (Option Operation) → Move Flat FlatEnd =
-      λ r. tries (told (counted m.count)) f.shared f.store f.operations (is_inside f block) (λ shared x. On (arrived now shared x)) (goes now f.current.operands) r in
+      λ r. tries (told (counted m.count)) f.shared f.store f.operations test (λ shared x. On (arrived now shared x)) (goes now f.current.operands) r in
       let tried_now : Progress → Move Flat FlatEnd = λ p. tried (told (counted m.count)) f.shared f.store.globals f.operations o.link p
-      (λ shared value. On (arrived now shared (has_ended_as value f.store (without_first (is_inside f block) f.operations) o))) in
+      (λ shared it. On (arrived now shared (by_outcome it f.store test f.operations o))) in
       let over : after.ended ≡ None = ended ∙ ap (λ (x : Running). x.ended) e ∙ still in
       ap (end_or (flat_of after)) over ∙ ap (λ (x : Flat). On x) (now_is ∙ ap (λ (x : Flat). resumed x (cell.Int cancelled) (Some o.item)) gone)
       ∙ sym (ap (λ b. flat.calls_off f b) (sym is) ∙ ap ways found ∙ ap tried_now waits)
 
--- the oldest operation within the block was offered
-pub asks_of : (m : Flat) (block : BlockId) (o : Operation) (number : ℕ) → find (is_inside m block) m.operations ≡ Some o → o.progress ≡ progress.Offered number → IsSome (tried_within m (Some block))
+-- what is tried has not begun
+pub none_begun : (m : Flat) (block : BlockId) (o : Operation) (number : ℕ) → find (is_to_try (is_inside m block)) m.operations ≡ Some o → o.progress ≡ progress.Started number → ⊥
+none_begun m block o number found is =
+    let both = and_parts (is_inside m block o) (not (has_begun o.progress)) (found_at (is_to_try (is_inside m block)) m.operations o found).passes in
+    let no : false ≡ true = sym (ap (λ p. not (has_begun p)) is) ∙ both.1 in
+    cc
+
+-- the oldest operation within the block that has not begun was offered
+pub asks_of : (m : Flat) (block : BlockId) (o : Operation) (number : ℕ) → find (is_to_try (is_inside m block)) m.operations ≡ Some o → o.progress ≡ progress.Offered number → IsSome (tried_within m
+    (Some block))
 asks_of m block o number found is = subst (λ (r : Option Operation). IsSome (tried_in r)) (sym found) (subst (λ p. IsSome (tried_as o.link p)) (sym is) refl)

@@ -1,6 +1,6 @@
 -- What a core makes of the outcome of an offer that a cancel tries.
 use Rattle.std.proofs.Common.{◌≡◌, ℕ, suc, ◌<◌, List, [], ◌∷◌, ◌++◌, Option, Some, None, IsSome, Bool, true, false, refl, sym, ap, ◌∙◌, subst, arith}
-use Rattle.std.specs.Prelude.{ℤ, find, is_some, position, slice_get}
+use Rattle.std.specs.Prelude.{ℤ, find, is_some, position, slice_get, slice_set, if◌then◌else◌}
 use Rattle.std.specs.List.{remove}
 use Rattle.ac_base.specs.Log.{Log}
 use Rattle.ac_base.specs.declared.entry.Entry.{Entry}
@@ -10,13 +10,13 @@ use Rattle.work_item.specs.declared.ids.BlockId.{BlockId}
 use Rattle.work_item.specs.declared.cell.Cell.TheVariants as cell
 use Rattle.work_item.specs.Store.{cell_at}
 use Rattle.cancel_scope.specs.declared.operation.Progress.{Progress}
-use Rattle.cancel_scope.specs.declared.operation.Progress.TheVariants.{Waiting, Offered}
+use Rattle.cancel_scope.specs.declared.operation.Progress.TheVariants.{Waiting, Offered, Started}
 use Rattle.cancel_scope.specs.declared.operation.Operation.{Operation}
-use Rattle.cancel_scope.specs.Outstanding.{without_first}
+use Rattle.cancel_scope.specs.Outstanding.{as_begun, change_first, is_request, without_first}
 use Rattle.cancel_scope.specs.Roomy.{Roomy}
 use Rattle.core_state.specs.Moves.{On, GoesOn}
-use Rattle.core_state.specs.Arrivals.{has_ended_as}
-use Rattle.core_state.specs.Cancelling.{outcome}
+use Rattle.core_state.specs.Arrivals.{Arrival, cancelled, goes_on_waiting, has_ended, has_ended_as, ok}
+use Rattle.core_state.specs.Cancelling.{Outcome, NeverHappens, IsTaken, is_to_try, outcome}
 use Rattle.core_state.specs.Frames.{block_in}
 use Rattle.core_state.specs.Shared.{Shared, with_entry}
 use Rattle.finish_block.specs.Table as table
@@ -29,11 +29,12 @@ use Rattle.code_meaning.specs.Meant.{IsMeant}
 use Rattle.code_safety.specs.Chains.{AreChained}
 use Rattle.code_safety.specs.Fit.{IsFit}
 use Rattle.code_safety.specs.Left.{left}
-use Rattle.code_safety.proofs.ArrivalWeights.{ended_falls}
-use Rattle.code_safety.proofs.Arriving.{ended_fit}
-use Rattle.code_safety.proofs.CancelSafety.{ended_safe}
+use Rattle.code_safety.proofs.ArrivalChains.{comes_chained, ended_chained}
+use Rattle.code_safety.proofs.ArrivalWeights.{begun_falls, ended_falls}
+use Rattle.code_safety.proofs.Arriving.{Comes, arrived_fit, begun, ended_fit}
 use Rattle.code_safety.proofs.Journal.{run_decides}
-use Rattle.code_safety.proofs.Marking.{marked_fit, marked_left}
+use Rattle.code_safety.proofs.LinkedFrames.{same_frames}
+use Rattle.code_safety.proofs.Marking.{marked_chained, marked_fit, marked_left}
 use Rattle.code_safety.proofs.Settings.{same_store}
 use Rattle.code_safety.proofs.Waiting.{IsFound, found_at}
 use Rattle.core_machine.specs.declared.ending.Ending.{Ending}
@@ -44,11 +45,11 @@ use Rattle.core_machine.specs.State.{shared_of, flat_of, end_or, state_of, machi
 use Rattle.core_machine.specs.Tracks.{Tracks}
 use Rattle.core_machine.specs.Tried.{cancelled_at, cancelled_by, cancelled_in, tried_as, tried_in, tried_of, tried_within}
 use Rattle.core_machine.specs.inner.Changes.{IsSameCode, entry_now}
-use Rattle.core_machine.specs.inner.Deciding.{Decides, ended_within}
+use Rattle.core_machine.specs.inner.Deciding.{Decides, Makes, decided_within}
 use Rattle.core_machine.specs.inner.Left.{left_from, left_of}
-use Rattle.core_machine.proofs.Sound.{on_its_way, running}
+use Rattle.core_machine.proofs.Sound.{on_its_way, resumed_operations, resumed_shared, running}
 use Rattle.core_machine.proofs.Standing.{tracks_decided}
-use Rattle.core_machine.proofs.Rounds.{marked_blocks, none_within, oldest_found, oldest_without}
+use Rattle.core_machine.proofs.Rounds.{marked_blocks, none_within, oldest_changed, oldest_found, oldest_without}
 
 -- ---- a core that asks for an outcome
 
@@ -65,10 +66,10 @@ module _ (m : Running) (asks : IsSome (tried_of m.code.now (state_of m))) where
   within = subst (λ o. IsSome (tried_of m.code.now (end_or (flat_of m) o))) (asks_on m asks) asks
 
   -- an operation lies within the block at whose cancel the running thread stands
-  pub asks_place : (block : BlockId) → cancelled_in m.code.now (flat_of m) ≡ Some block → position (is_inside (flat_of m) block) m.outstanding.operations ≡ None → ⊥
+  pub asks_place : (block : BlockId) → cancelled_in m.code.now (flat_of m) ≡ Some block → position (is_to_try (is_inside (flat_of m) block)) m.outstanding.operations ≡ None → ⊥
   asks_place block is e =
       let h = subst (λ o. IsSome (tried_within (flat_of m) o)) is within in
-      let no : false ≡ true = subst (λ o. IsSome (tried_in o)) (none_within (is_inside (flat_of m) block) m.outstanding.operations e) h in
+      let no : false ≡ true = subst (λ o. IsSome (tried_in o)) (none_within (is_to_try (is_inside (flat_of m) block)) m.outstanding.operations e) h in
       cc
 
 -- ---- for which offer it asks
@@ -79,7 +80,7 @@ still_on (Some ending) h = let no : true ≡ false = h in absurd (cc)
 
 module _ (m : Running) (still : m.ended ≡ None) (block : BlockId) (cancels : cancelled_in m.code.now (flat_of m) ≡ Some block) where
   abbrev test : Operation → Bool
-  test = is_inside (flat_of m) block
+  test = is_to_try (is_inside (flat_of m) block)
 
   tried_there : tried_of m.code.now (state_of m) ≡ tried_in (find test m.outstanding.operations)
   tried_there = ap (λ o. tried_of m.code.now (end_or (flat_of m) o)) still ∙ ap (tried_within (flat_of m)) cancels
@@ -134,46 +135,81 @@ stands_under o tried e = by o.progress refl e
     by (Offered number) is e =
         let same : (record { link = o.link; number = number }) ≡ tried = cc in
         record { link = ap (λ (x : Tried). x.link) same; under = is ∙ ap (λ (x : Tried). Offered x.number) same }
+    by (Started number) is e = let no : None ≡ Some tried = e in absurd (cc)
 
--- ---- the operation has ended, the block is marked, and the entry is in the journal
+-- ---- the block is marked, and the entry is in the journal
 
-module _ (m b after : Running) (block : BlockId) (cancels : cancelled_in m.code.now (flat_of m) ≡ Some block) (n : ℕ) (o : Operation) (event : Event) (stamp : ℕ) (value : ℤ)
-    (first : position (is_inside (flat_of m) block) m.outstanding.operations ≡ Some n) (there : slice_get m.outstanding.operations n ≡ Some o) where
+module _ (m b : Running) (block : BlockId) (event : Event) (stamp : ℕ) where
   abbrev pub noted : Roomy → table.Table → Log → Running
   noted q t j = record m { outstanding = q; blocks = t; journal = j }
 
-  noted_is : (q : Roomy) (t : table.Table) (j : Log) → b ≡ noted q t j → q.operations ≡ remove m.outstanding.operations n → t ≡ table.marked m.blocks block
+  noted_is : (q : Roomy) (t : table.Table) (j : Log) (os : List Operation) → b ≡ noted q t j → q.operations ≡ os → t ≡ table.marked m.blocks block
       → j.entries ≡ m.journal.entries ++ entry_now m event stamp ∷ []
-      → flat_of b ≡ record (marked (flat_of m) block) {
-        shared = with_entry (shared_of m) (entry_now m event stamp) [];
-        operations = without_first (is_inside
-            (flat_of m) block) m.outstanding.operations;
-      }
-  noted_is q t j is ops mark entries =
+      → flat_of b ≡ record (marked (flat_of m) block) { shared = with_entry (shared_of m) (entry_now m event stamp) []; operations = os }
+  noted_is q t j os is ops mark entries =
       ap flat_of is
       ∙ ap (λ es. record (flat_of m) { shared = record (shared_of m) { past = es }; operations = q.operations; blocks = blocks_of t.blocks }) entries
-      ∙ ap (λ os. record (flat_of m) { shared = with_entry (shared_of m) (entry_now m event stamp) []; operations = os; blocks = blocks_of t.blocks })
-      (ops ∙ sym (oldest_without (is_inside (flat_of m) block) m.outstanding.operations n o first there))
-      ∙ ap (λ bs. record (flat_of m) { shared = with_entry (shared_of m) (entry_now m event stamp) []; operations = without_first (is_inside (flat_of m) block) m.outstanding.operations; blocks = bs })
+      ∙ ap (λ l. record (flat_of m) { shared = with_entry (shared_of m) (entry_now m event stamp) []; operations = l; blocks = blocks_of t.blocks }) ops
+      ∙ ap (λ bs. record (flat_of m) { shared = with_entry (shared_of m) (entry_now m event stamp) []; operations = os; blocks = bs })
       (ap (λ (x : table.Table). blocks_of x.blocks) mark ∙ marked_blocks m.blocks.blocks block)
 
-  pub decides : (q : Roomy) (t : table.Table) (j : Log) → b ≡ noted q t j → q.operations ≡ remove m.outstanding.operations n → t ≡ table.marked m.blocks block
-      → j.entries ≡ m.journal.entries ++ entry_now m event stamp ∷ [] → flat_of after ≡ resumed (flat_of b) (cell.Int value) (Some o.item) → after.ended ≡ b.ended → IsSameCode b after
-      → Decides m value event stamp after
-  decides q t j is ops mark entries flat ended same = record {
-    block = block;
-    cancels = cancels;
-    operation = o;
-    found = oldest_found (is_inside (flat_of m) block) m.outstanding.operations n o first there;
-    flat = flat ∙ ap (λ (f : Flat). resumed f (cell.Int value) (Some o.item)) (noted_is q t j is ops mark entries);
-    ended = ended ∙ ap (λ (y : Running). y.ended) is;
-    same = record { code = same.code ∙ ap (λ (y : Running). y.code.now) is; core = same.core ∙ ap (λ (y : Running). y.core) is; bound = same.bound ∙ ap (λ (y : Running). y.bound) is };
+  -- an operation has ended
+  pub makes_end : (after : Running) (value : ℤ) (n : ℕ) (o p : Operation) (q : Roomy) (t : table.Table) (j : Log) → slice_get m.outstanding.operations n ≡ Some p
+      → slice_get m.outstanding.operations n ≡ Some o → b ≡ noted q t j
+      → q.operations ≡ remove m.outstanding.operations n → t ≡ table.marked m.blocks block → j.entries ≡ m.journal.entries ++ entry_now m event stamp ∷ []
+      → flat_of after ≡ resumed (flat_of b) (cell.Int value) (Some p.item) → after.ended ≡ b.ended → IsSameCode b after
+      → Makes m block event stamp (has_ended_as value m.frames (remove m.outstanding.operations n) o) after
+  makes_end after value n o p q t j here there is ops mark entries flat ended same =
+      let one : p ≡ o = let both : Some p ≡ Some o = sym here ∙ there in cc in
+      record {
+        flat = flat ∙ ap (λ (f : Flat). resumed f (cell.Int value) (Some p.item)) (noted_is q t j (remove m.outstanding.operations n) is ops mark entries)
+            ∙ ap (λ (x : Operation). arrived (marked (flat_of m) block) (with_entry (shared_of m) (entry_now m event stamp) [])
+            (has_ended_as value m.frames (remove m.outstanding.operations n) x)) one;
+        ended = ended ∙ ap (λ (y : Running). y.ended) is;
+        same = record { code = same.code ∙ ap (λ (y : Running). y.code.now) is; core = same.core ∙ ap (λ (y : Running). y.core) is; bound = same.bound ∙ ap (λ (y : Running). y.bound) is };
+      }
+
+  -- an operation goes on
+  pub makes_change : (q : Roomy) (t : table.Table) (j : Log) (os : List Operation) → b ≡ noted q t j → q.operations ≡ os → t ≡ table.marked m.blocks block
+      → j.entries ≡ m.journal.entries ++ entry_now m event stamp ∷ [] → Makes m block event stamp (goes_on_waiting m.frames os) b
+  makes_change q t j os is ops mark entries = record {
+    flat = noted_is q t j os is ops mark entries;
+    ended = ap (λ (y : Running). y.ended) is;
+    same = record { code = ap (λ (y : Running). y.code.now) is; core = ap (λ (y : Running). y.core) is; bound = ap (λ (y : Running). y.bound) is };
   }
+
+-- ---- what is made of the operation that is tried
+
+module _ (m after : Running) (block : BlockId) (cancels : cancelled_in m.code.now (flat_of m) ≡ Some block) (n : ℕ) (o : Operation) (event : Event) (stamp : ℕ)
+    (first : position (is_to_try (is_inside (flat_of m) block)) m.outstanding.operations ≡ Some n) (there : slice_get m.outstanding.operations n ≡ Some o) where
+  abbrev sought : Operation → Bool
+  sought = is_to_try (is_inside (flat_of m) block)
+
+  decides : (it : Outcome) → Makes m block event stamp (decided_within (flat_of m) block it o) after → Decides m it event stamp after
+  decides it makes = record { block = block; cancels = cancels; operation = o; found = oldest_found sought m.outstanding.operations n o first there; makes = makes }
+
+  gone : (value : ℤ) → has_ended_as value m.frames (remove m.outstanding.operations n) o ≡ has_ended_as value m.frames (without_first sought m.outstanding.operations) o
+  gone value = ap (λ os. has_ended_as value m.frames os o) (sym (oldest_without sought m.outstanding.operations n o first there))
+
+  pub never_happens : Makes m block event stamp (has_ended_as cancelled m.frames (remove m.outstanding.operations n) o) after → Decides m NeverHappens event stamp after
+  never_happens makes = decides NeverHappens (subst (λ x. Makes m block event stamp x after) (gone cancelled) makes)
+
+  pub is_done : is_request o.asked ≡ false → Makes m block event stamp (has_ended_as ok m.frames (remove m.outstanding.operations n) o) after → Decides m IsTaken event stamp after
+  is_done other makes = decides IsTaken (subst (λ x. Makes m block event stamp x after)
+      (gone ok ∙ sym (ap (λ b. if b then goes_on_waiting m.frames (change_first sought as_begun m.outstanding.operations) else has_ended m.frames
+      (without_first sought m.outstanding.operations) o) other))
+      makes)
+
+  pub has_begun : is_request o.asked ≡ true → Makes m block event stamp (goes_on_waiting m.frames (slice_set m.outstanding.operations n (as_begun o))) after → Decides m IsTaken event stamp after
+  has_begun request makes = decides IsTaken (subst (λ x. Makes m block event stamp x after)
+      (ap (goes_on_waiting m.frames) (sym (oldest_changed sought m.outstanding.operations n o first there as_begun))
+      ∙ sym (ap (λ b. if b then goes_on_waiting m.frames (change_first sought as_begun m.outstanding.operations) else has_ended m.frames (without_first sought m.outstanding.operations) o) request))
+      makes)
 
 -- ---- what holds after it
 
-module _ (before after : Running) (tried : Tried) (value : ℤ) (event : Event) (stamp : ℕ) (still : before.ended ≡ None) (sound : IsSound before) (h : Decides before value event stamp after)
-    (offered : tried_in (Some h.operation) ≡ Some tried) (is : outcome tried.link tried.number event ≡ Some value) where
+module _ (before after : Running) (tried : Tried) (it : Outcome) (event : Event) (stamp : ℕ) (still : before.ended ≡ None) (sound : IsSound before) (h : Decides before it event stamp after)
+    (offered : tried_in (Some h.operation) ≡ Some tried) (is : outcome tried.link tried.number event ≡ Some it) where
   abbrev entry : Entry
   entry = entry_now before event stamp
 
@@ -189,14 +225,20 @@ module _ (before after : Running) (tried : Tried) (value : ℤ) (event : Event) 
   abbrev o : Operation
   o = h.operation
 
+  abbrev tries : Operation → Bool
+  tries = is_to_try (is_inside m h.block)
+
+  abbrev now : Flat
+  now = marked m h.block
+
   fit : IsFit code m
   fit = sound.fit still
 
-  now_fit : IsFit code (marked m h.block)
+  now_fit : IsFit code now
   now_fit = marked_fit code m fit h.block
 
-  place : IsFound (is_inside m h.block) m.operations o
-  place = found_at (is_inside m h.block) m.operations o h.found
+  place : IsFound tries m.operations o
+  place = found_at tries m.operations o h.found
 
   stood : StandsAt code m h.block
   stood = stands_at code m h.block h.cancels
@@ -204,53 +246,81 @@ module _ (before after : Running) (tried : Tried) (value : ℤ) (event : Event) 
   under : StandsUnder o tried
   under = stands_under o tried offered
 
+  -- the operation has ended, or it is a request and has begun
+  of_outcome : (P : Arrival → Type 0) → ((value : ℤ) → P (has_ended_as value m.store (place.front ++ place.back) o))
+      → (is_request o.asked ≡ true → P (goes_on_waiting m.store (place.front ++ as_begun o ∷ place.back))) → P (decided_within m h.block it o)
+  of_outcome P ended begins = by it
+    where
+      by_asked : (b : Bool) → is_request o.asked ≡ b → P (if b then goes_on_waiting m.store (change_first tries as_begun m.operations) else has_ended m.store (without_first tries m.operations) o)
+      by_asked true r = subst (λ os. P (goes_on_waiting m.store os)) (sym (place.changed as_begun)) (begins r)
+      by_asked false r = subst (λ os. P (has_ended m.store os o)) (sym place.without) (ended ok)
+
+      by : (z : Outcome) → P (decided_within m h.block z o)
+      by NeverHappens = subst (λ os. P (has_ended_as cancelled m.store os o)) (sym place.without) (ended cancelled)
+      by IsTaken = by_asked (is_request o.asked) refl
+
+  comes_begun : is_request o.asked ≡ true → Comes m.store m.operations (goes_on_waiting m.store (place.front ++ as_begun o ∷ place.back))
+  comes_begun request = begun place.front place.back o tried.number place.is request under.under
+
   pub decided_journal : after.journal.entries ≡ before.journal.entries ++ entry ∷ []
-  decided_journal = ap (λ (f : Flat). f.shared.past) h.flat
+  decided_journal = ap (λ (f : Flat). f.shared.past) h.makes.flat ∙ ap (λ (s : Shared). s.past)
+      (resumed_shared (record now { shared = shared; store = (decided_within m h.block it o).store; operations = (decided_within m h.block it o).operations })
+      (cell.Int (decided_within m h.block it o).value) (decided_within m h.block it o).woken)
+
+  decided_operations : after.outstanding.operations ≡ (decided_within m h.block it o).operations
+  decided_operations = ap (λ (f : Flat). f.operations) h.makes.flat
+      ∙ resumed_operations (record now { shared = shared; store = (decided_within m h.block it o).store; operations = (decided_within m h.block it o).operations })
+      (cell.Int (decided_within m h.block it o).value) (decided_within m h.block it o).woken
 
   pub decided_on : after.ended ≡ None
-  decided_on = h.ended ∙ still
+  decided_on = h.makes.ended ∙ still
 
   decided_fit : IsFit code (flat_of after)
-  decided_fit = subst (IsFit code) (sym h.flat) (subst (λ os. IsFit code (arrived (marked m h.block) shared (has_ended_as value m.store os o))) (sym place.without)
-      (ended_fit code (marked m h.block) now_fit shared place.front place.back o place.is m.store (same_store code now_fit.births m.store now_fit.store) value))
+  decided_fit = subst (IsFit code) (sym h.makes.flat) (of_outcome (λ x. IsFit code (arrived now shared x))
+      (λ value. ended_fit code now now_fit shared place.front place.back o place.is m.store (same_store code now_fit.births m.store now_fit.store) value)
+      (λ request. arrived_fit code now now_fit sound.valid.one_use shared (goes_on_waiting m.store (place.front ++ as_begun o ∷ place.back)) (comes_begun request)))
+
+  now_chained : AreChained code now
+  now_chained = marked_chained code m fit h.block (sound.chained still) stood.t stood.run
 
   decided_chained : AreChained code (flat_of after)
-  decided_chained = subst (AreChained code) (sym h.flat)
-      (ended_safe code before.bound sound.valid m fit stood.t stood.run stood.level stood.slot stood.here h.block (sound.chained still) o h.found shared value refl (omega arith))
+  decided_chained = subst (AreChained code) (sym h.makes.flat) (of_outcome (λ x. AreChained code (arrived now shared x))
+      (λ value. ended_chained code now now_fit now_chained shared place.front place.back o place.is value m.store (same_frames now_chained.origins m.store))
+      (λ request. comes_chained code now now_fit now_chained shared (goes_on_waiting m.store (place.front ++ as_begun o ∷ place.back)) (comes_begun request)))
 
   decided_tracks : Tracks after.journal.entries after.outstanding.operations
   decided_tracks =
-      let tracks = tracks_decided before.journal.entries before.outstanding.operations (sound.tracks still) entry (is_inside m h.block) o tried.link tried.number value h.found
+      let tracks = tracks_decided before.journal.entries before.outstanding.operations (sound.tracks still) entry before.frames tries o tried.link tried.number it h.found
       under.link under.under is in
-      let operations : after.outstanding.operations ≡ without_first (is_inside m h.block) m.operations = ap (λ (f : Flat). f.operations) h.flat in
-      subst (λ past. Tracks past after.outstanding.operations) (sym decided_journal) (subst (Tracks (before.journal.entries ++ entry ∷ [])) (sym operations) tracks)
+      subst (λ past. Tracks past after.outstanding.operations) (sym decided_journal) (subst (Tracks (before.journal.entries ++ entry ∷ [])) (sym decided_operations) tracks)
 
   pub decided_sound : IsSound after
   decided_sound =
       let r = sound.ran in
-      let run = subst (GoesOn (exec code before.bound) (first_flat code r.function before.journal.entries)) (running m before.ended still) r.goes in
-      let its : outcome o.link tried.number event ≡ Some value = ap (λ l. outcome l tried.number event) under.link ∙ is in
-      let comes = run_decides code before.bound entry r.function before.journal.entries m run stood.t h.block o tried.number value
+      let run = subst (GoesOn (exec code before.bound) (first_flat code before.core r.function before.journal.entries)) (running m before.ended still) r.goes in
+      let its : outcome o.link tried.number event ≡ Some it = ap (λ l. outcome l tried.number event) under.link ∙ is in
+      let comes = run_decides code before.bound entry before.core r.function before.journal.entries m run stood.t h.block o tried.number it
       (record { level = stood.level; slot = stood.slot; running = stood.run; here = stood.here; block_is = stood.block_is; found = h.found; offered = under.under }) refl refl its in
       record {
-        fit = λ e. subst (λ c. IsFit c (flat_of after)) (sym h.same.code) decided_fit;
-        chained = λ e. subst (λ c. AreChained c (flat_of after)) (sym h.same.code) decided_chained;
+        fit = λ e. subst (λ c. IsFit c (flat_of after)) (sym h.makes.same.code) decided_fit;
+        chained = λ e. subst (λ c. AreChained c (flat_of after)) (sym h.makes.same.code) decided_chained;
         tracks = λ e. decided_tracks;
-        valid = subst IsValid (sym h.same.code) sound.valid;
-        meant = subst IsMeant (sym h.same.code) sound.meant;
+        valid = subst IsValid (sym h.makes.same.code) sound.valid;
+        meant = subst IsMeant (sym h.makes.same.code) sound.meant;
         ran = on_its_way (machine_of after) code before.core before.bound (before.journal.entries ++ entry ∷ [])
-            (On (arrived (marked m h.block) shared (ended_within m h.block value o))) r.function h.same.code h.same.core h.same.bound decided_journal
-            (running (flat_of after) after.ended decided_on ∙ ap (λ f. On f) h.flat) r.begins comes;
+            (On (arrived now shared (decided_within m h.block it o))) r.function h.makes.same.code h.makes.same.core h.makes.same.bound decided_journal
+            (running (flat_of after) after.ended decided_on ∙ ap (λ f. On f) h.makes.flat) r.begins comes;
       }
 
   -- less is left to do
   pub decided_less : (ranks : List ℕ) → left_of ranks after < left_of ranks before
   decided_less ranks =
-      let less = ended_falls code before.bound (marked m h.block) now_fit ranks shared refl place.front place.back o place.is value m.store in
+      let less = of_outcome (λ x. left ranks before.bound (arrived now shared x) < left ranks before.bound now)
+      (λ value. let falls = ended_falls code before.bound now now_fit ranks shared refl place.front place.back o place.is value m.store in omega (arith, falls))
+      (λ request. let falls = begun_falls code before.bound now now_fit ranks shared refl place.front place.back o place.is tried.number request under.under in omega (arith, falls)) in
       let mark = marked_left code m fit h.block ranks before.bound in
-      let now : left ranks after.bound (flat_of after) ≡ left ranks before.bound (arrived (marked m h.block) shared (has_ended_as value m.store (place.front ++ place.back) o)) =
-      ap (λ bound. left ranks bound (flat_of after)) h.same.bound ∙ ap (left ranks before.bound) h.flat
-      ∙ ap (λ os. left ranks before.bound (arrived (marked m h.block) shared (has_ended_as value m.store os o))) place.without in
+      let now_left : left ranks after.bound (flat_of after) ≡ left ranks before.bound (arrived now shared (decided_within m h.block it o)) =
+      ap (λ bound. left ranks bound (flat_of after)) h.makes.same.bound ∙ ap (left ranks before.bound) h.makes.flat in
       let was : left_of ranks before ≡ suc (left ranks before.bound m) = ap (λ p. left_from p (left ranks before.bound m)) still in
-      let then : left_of ranks after ≡ suc (left ranks after.bound (flat_of after)) = ap (λ p. left_from p (left ranks after.bound (flat_of after))) decided_on in
-      omega (arith, less, mark, now, was, then)
+      let later : left_of ranks after ≡ suc (left ranks after.bound (flat_of after)) = ap (λ p. left_from p (left ranks after.bound (flat_of after))) decided_on in
+      omega (arith, less, mark, now_left, was, later)

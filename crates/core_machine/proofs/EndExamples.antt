@@ -22,7 +22,7 @@ core_in state = record { code = code_of 0 prints_seven; core = 0; bound = 100; j
 -- it has ended so
 pub it_comes_to_its_end : ComesToEnd (core_in (ended Finished 1 (codes "7\n") (pos 0 ∷ pos 5 ∷ []) 9))
 it_comes_to_its_end = record {
-  end = record { core = core_end Finished false (pos 0 ∷ pos 5 ∷ []) [] (record { steps = 1; turn = 1; output = codes "7\n"; past = []; todo = [] }); instructions = 9 };
+  end = record { core = core_end Finished false (pos 0 ∷ pos 5 ∷ []) [] (record { steps = 1; turn = 1; output = codes "7\n"; past = []; todo = []; requests = 0 }); instructions = 9 };
   comes = it_is_an_end;
   seen = λ stopped. (refl, refl);
   busy = λ ended. refl;

@@ -1,22 +1,21 @@
 -- What a core makes of an event that comes in.
-use Rattle.std.proofs.Common.{◌≡◌, ℕ, List, [], ◌∷◌, ◌++◌, Option, Some, None, IsSome, Bool, true, false, refl, sym, ap, ◌∙◌}
-use Rattle.std.specs.Prelude.{ℤ, find, IfSome, if◌then◌else◌}
+use Rattle.std.proofs.Common.{◌≡◌, ℕ, List, [], ◌∷◌, ◌++◌, Option, Some, None, IsSome, Bool, true, false, refl, sym, ap, ◌∙◌, subst}
+use Rattle.std.specs.Prelude.{find, IfSome, if◌then◌else◌, ℤ}
 use Rattle.std.proofs.lemmas.Bool.{eq-eqb}
-use Rattle.std.proofs.lemmas.Bool.Decides.{Decides-int_eq}
 use Rattle.ac_base.specs.Log.{Log}
 use Rattle.ac_base.specs.declared.entry.Entry.{Entry}
 use Rattle.ac_base.specs.declared.entry.Event.{Event}
 use Rattle.ac_base.specs.declared.entry.Event.TheVariants as event
-use Rattle.ac_base.specs.declared.entry.Payload.TheVariants as payload
+use Rattle.ac_base.specs.declared.entry.Payload.{Payload}
 use Rattle.work_item.specs.declared.cell.Cell.TheVariants as cell
 use Rattle.work_item.specs.declared.cell.Place.{Place}
 use Rattle.work_item.specs.Store.{Store, with_int_at}
 use Rattle.cancel_scope.specs.declared.operation.Asked.TheVariants as asked
 use Rattle.cancel_scope.specs.declared.operation.Operation.{Operation}
-use Rattle.cancel_scope.specs.Outstanding.{is_to_offer, is_offered, is_to_receive, carries, offered_as, change_first, without_first}
+use Rattle.cancel_scope.specs.Outstanding.{is_to_offer, is_offered, is_to_receive, is_request, carries, offered_as, as_begun, change_first, without_first}
 use Rattle.cancel_scope.specs.Roomy.{Roomy}
 use Rattle.core_state.specs.Arrivals as arrivals
-use Rattle.core_state.specs.Arrivals.{goes_on_waiting, has_ended, offers, offers_on, ends_known, ends_received, passes_over, gives_room, keeps_room, with_message, ok}
+use Rattle.core_state.specs.Arrivals.{Arrival, goes_on_waiting, has_ended, offers, offers_on, is_known, ends_received, passes_over, gives_room, keeps_room, with_message, ok}
 use Rattle.core_state.specs.Shared.{Shared, with_entry}
 use Rattle.code_meaning.specs.Machine.{Flat, resumed}
 use Rattle.core_machine.specs.declared.running.Running.{Running}
@@ -66,35 +65,64 @@ module _ (m : Running) (v : Event) (stamp : ℕ) where
 
 -- ---- an offer
 
-sends_it : (store : Store) (os : List Operation) (link number : ℕ) (value : ℤ) (f : Option Operation) → IsSome f → IfSome f (λ (o : Operation). o.asked ≡ asked.Send value)
-    → offers store os link number (payload.Int value) f ≡ Some (goes_on_waiting store (change_first (is_to_offer link) (offered_as number) os))
-sends_it store os link number value None some e = let no : false ≡ true = some in absurd (cc)
-sends_it store os link number value (Some o) some e =
-    ap (λ a. if carries a (payload.Int value) then Some (goes_on_waiting store (change_first (is_to_offer link) (offered_as number) os)) else None) e
-    ∙ ap (λ b. if b then Some (goes_on_waiting store (change_first (is_to_offer link) (offered_as number) os)) else None) ((Decides-int_eq value value).1 refl)
+offers_it : (store : Store) (os : List Operation) (link number : ℕ) (p : Payload) (f : Option Operation) → IsSome f → IfSome f (λ (o : Operation). carries o.asked p ≡ true)
+    → offers store os link number p f ≡ Some (goes_on_waiting store (change_first (is_to_offer link) (offered_as number) os))
+offers_it store os link number p None some e = let no : false ≡ true = some in absurd (cc)
+offers_it store os link number p (Some o) some e = ap (λ b. if b then Some (goes_on_waiting store (change_first (is_to_offer link) (offered_as number) os)) else None) e
 
-pub offer_enters : (m after : Running) (q : Roomy) (j : Log) (link number stamp : ℕ) (value : ℤ) → number ≡ offers_on link m.journal.entries → IsSome (find (is_to_offer link) m.outstanding.operations)
-    → IfSome (find (is_to_offer link) m.outstanding.operations) (λ (o : Operation). o.asked ≡ asked.Send value)
-    → after ≡ noted m (event.Offer link number (payload.Int value)) stamp q m.frames j → q.operations ≡ change_first (is_to_offer link) (offered_as number) m.outstanding.operations
-    → j.entries ≡ m.journal.entries ++ entry_now m (event.Offer link number (payload.Int value)) stamp ∷ []
-    → Enters m (event.Offer link number (payload.Int value)) stamp after
-offer_enters m after q j link number stamp value next some sends is ops entries =
+pub offer_enters : (m after : Running) (q : Roomy) (j : Log) (link number stamp : ℕ) (p : Payload) → number ≡ offers_on link m.journal.entries → IsSome (find
+    (is_to_offer link) m.outstanding.operations)
+    → IfSome (find (is_to_offer link) m.outstanding.operations) (λ (o : Operation). carries o.asked p ≡ true)
+    → after ≡ noted m (event.Offer link number p) stamp q m.frames j → q.operations ≡ change_first (is_to_offer link) (offered_as number) m.outstanding.operations
+    → j.entries ≡ m.journal.entries ++ entry_now m (event.Offer link number p) stamp ∷ []
+    → Enters m (event.Offer link number p) stamp after
+offer_enters m after q j link number stamp p next some sends is ops entries =
     let os = m.outstanding.operations in
-    let v = event.Offer link number (payload.Int value) in
+    let v = event.Offer link number p in
     let fits : arrivals.arrives m.journal.entries m.frames os v ≡ Some (goes_on_waiting m.frames (change_first (is_to_offer link) (offered_as number) os)) =
-    ap (λ (b : Bool). if b then offers m.frames os link number (payload.Int value) (find (is_to_offer link) os) else None) (eq-eqb number (offers_on link m.journal.entries) next)
-    ∙ sends_it m.frames os link number value (find (is_to_offer link) os) some sends in
+    ap (λ (b : Bool). if b then offers m.frames os link number p (find (is_to_offer link) os) else None) (eq-eqb number (offers_on link m.journal.entries) next)
+    ∙ offers_it m.frames os link number p (find (is_to_offer link) os) some sends in
     waiting_enters m v stamp after q j (change_first (is_to_offer link) (offered_as number) os) fits is ops entries
 
 -- ---- ends
 
+-- of a request and of another
+pub known_begins : (store : Store) (os : List Operation) (link number : ℕ) (f : Option Operation) → IsSome f → IfSome f (λ (o : Operation). is_request o.asked ≡ true)
+    → is_known store os link number f ≡ Some (goes_on_waiting store (change_first (is_offered link number) as_begun os))
+known_begins store os link number None some e = let no : false ≡ true = some in absurd (cc)
+known_begins store os link number (Some o) some e =
+    ap (λ b. Some (if b then goes_on_waiting store (change_first (is_offered link number) as_begun os) else has_ended store (without_first (is_offered link number) os) o)) e
+
+known_ends : (store : Store) (os : List Operation) (link number : ℕ) (f : Option Operation) (o : Operation) → f ≡ Some o → IfSome f (λ (p : Operation). is_request p.asked ≡ false)
+    → is_known store os link number f ≡ Some (has_ended store (without_first (is_offered link number) os) o)
+known_ends store os link number None o is e = let no : None ≡ Some o = is in absurd (cc)
+known_ends store os link number (Some p) o is e =
+    let same : p ≡ o = cc in
+    ap (λ b. Some (if b then goes_on_waiting store (change_first (is_offered link number) as_begun os) else has_ended store (without_first (is_offered link number) os) p)) e
+    ∙ ap (λ y. Some (has_ended store (without_first (is_offered link number) os) y)) same
+
+pub begun_enters : (m after : Running) (q : Roomy) (j : Log) (link number stamp : ℕ) → IsSome (find (is_offered link number) m.outstanding.operations)
+    → IfSome (find (is_offered link number) m.outstanding.operations) (λ (o : Operation). is_request o.asked ≡ true)
+    → after ≡ noted m (event.Know link number) stamp q m.frames j → q.operations ≡ change_first (is_offered link number) as_begun m.outstanding.operations
+    → j.entries ≡ m.journal.entries ++ entry_now m (event.Know link number) stamp ∷ [] → Enters m (event.Know link number) stamp after
+begun_enters m after q j link number stamp some request is ops entries =
+    let os = m.outstanding.operations in
+    waiting_enters m (event.Know link number) stamp after q j (change_first (is_offered link number) as_begun os)
+    (known_begins m.frames os link number (find (is_offered link number) os) some request) is ops entries
+
+-- whether the operation that stands there is a request
+pub is_the_request : (f : Option Operation) (o : Operation) (b : Bool) → f ≡ Some o → is_request o.asked ≡ b → IfSome f (λ (p : Operation). is_request p.asked ≡ b)
+is_the_request f o b found is = subst (λ (r : Option Operation). IfSome r (λ (p : Operation). is_request p.asked ≡ b)) (sym found) is
+
 pub know_enters : (m b after : Running) (q : Roomy) (j : Log) (link number stamp : ℕ) (o : Operation) → find (is_offered link number) m.outstanding.operations ≡ Some o
+    → IfSome (find (is_offered link number) m.outstanding.operations) (λ (p : Operation). is_request p.asked ≡ false)
     → b ≡ noted m (event.Know link number) stamp q m.frames j → q.operations ≡ without_first (is_offered link number) m.outstanding.operations
     → j.entries ≡ m.journal.entries ++ entry_now m (event.Know link number) stamp ∷ [] → flat_of after ≡ resumed (flat_of b) (cell.Int ok) (Some o.item) → after.ended ≡ b.ended → IsSameCode b after
     → Enters m (event.Know link number) stamp after
-know_enters m b after q j link number stamp o found is ops entries flat ended same =
+know_enters m b after q j link number stamp o found other is ops entries flat ended same =
     let os = m.outstanding.operations in
-    ended_enters m (event.Know link number) stamp b after q m.frames m.frames j (without_first (is_offered link number) os) o (ap (ends_known m.frames os link number) found)
+    ended_enters m (event.Know link number) stamp b after q m.frames m.frames j (without_first (is_offered link number) os) o
+    (known_ends m.frames os link number (find (is_offered link number) os) o found other)
     is ops refl entries flat ended same
 
 pub got_enters : (m b after : Running) (q : Roomy) (store : Store) (j : Log) (link number stamp : ℕ) (value : ℤ) (o : Operation) (place : Place)

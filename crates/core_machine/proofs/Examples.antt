@@ -1,13 +1,13 @@
 -- What callers see of a core, and the activations, blocks and threads that stand for those of its code.
 use Rattle.std.proofs.Common.{◌≡◌, ℕ, refl, pos, Bool, true, false, List, [], ◌∷◌, Some, None, arith}
-use Rattle.std.proofs.lemmas.List.Elements.{All-nil}
+use Rattle.std.proofs.lemmas.List.Elements.{All-nil, All-head, All-push}
 use Rattle.ac_base.specs.declared.entry.Entry.{Entry}
 use Rattle.ac_base.specs.declared.entry.Event.TheVariants as event
 use Rattle.ac_base.specs.declared.entry.Payload.TheVariants as payload
 use Rattle.ac_base.specs.declared.ends.Phase.TheVariants.{Waiting}
-use Rattle.cancel_scope.specs.declared.operation.Asked.TheVariants.{Send, Recv}
+use Rattle.cancel_scope.specs.declared.operation.Asked.TheVariants.{Send, Recv, Read}
 use Rattle.cancel_scope.specs.declared.operation.Operation.{Operation}
-use Rattle.cancel_scope.specs.Outstanding.{started, offered_as, is_send, is_waiting}
+use Rattle.cancel_scope.specs.Outstanding.{started, offered_as, as_begun, is_outgoing, is_request, is_waiting}
 use Rattle.ac_base.specs.declared.ends.EndWord.TheVariants.{Finished, Trapped, OutOfSteps, Stalled}
 use Rattle.ac_base.specs.declared.ends.Trap.TheVariants.{ZeroDivisor}
 use Rattle.ac_base.specs.declared.ends.CoreEnd.{CoreEnd}
@@ -24,7 +24,7 @@ use Rattle.core_machine.specs.declared.ending.Ending.TheVariants as ending
 use Rattle.core_machine.specs.Words.{word_of}
 use Rattle.core_machine.specs.Machine.{none_ready, is_resting, is_idle, has_ended, IsSeen, waiting_at_end, waiting_of, waits, HasEnded}
 use Rattle.core_machine.specs.Blocks.{blocks_of, block_of}
-use Rattle.core_machine.specs.Tracks.{is_offer_of, is_end_of, offers_of, ends_of, standing_of, Tracks}
+use Rattle.core_machine.specs.Tracks.{is_offer_of, is_end_of, offers_of, ends_of, standing_of, AskForNoFile, Tracks}
 use Rattle.core_machine.specs.inner.Changes.{with_woken, item_of}
 use Rattle.core_machine.specs.declared.running.Running.{Running}
 use Rattle.core_machine.specs.State.{shared_of, thread_of, flat_of, end_or, state_of, has_room, machine_of}
@@ -54,7 +54,7 @@ store = no_frames 2
 
 abbrev pub running : Flat
 running = record {
-  shared = record (first_shared []) { steps = 1; turn = 1 };
+  shared = record (first_shared 2 []) { steps = 1; turn = 1 };
   operations = [];
   store = store;
   running = None;
@@ -101,6 +101,10 @@ sends = started 0 (Send (pos 5)) second
 abbrev pub hears : Operation
 hears = started 1 (Recv (record { home = None; start = 0; len = 1 })) first
 
+-- on the link of its requests 4 bytes of the file 6 are asked for, from the place 9 on
+abbrev pub asks : Operation
+asks = started 2 (Read 6 9 (record { home = None; start = 0; len = 4 })) first
+
 abbrev pub with_operations : Flat
 with_operations = record running { operations = sends ∷ hears ∷ [] }
 
@@ -131,6 +135,10 @@ pub how_many_there_are : (offers_of 0 0 (offer ∷ known ∷ []) ≡ 1) × (ends
     × (standing_of 0 0 (sends ∷ []) ≡ 0)
 how_many_there_are = (refl, refl, refl, refl)
 
+-- a request that has begun stands under no offer: its offer has ended
+pub one_has_begun : (standing_of 2 0 (offered_as 0 asks ∷ []) ≡ 1) × (standing_of 2 0 (as_begun (offered_as 0 asks) ∷ []) ≡ 0)
+one_has_begun = (refl, refl)
+
 -- an offer that has not ended is that of an operation
 pub an_operation_for_none : Tracks [] (offered_as 0 sends ∷ []) → ⊥
 an_operation_for_none h = let e = h.each 0 0 in let no : ◌≡◌ {A = ℕ} 1 0 = e in absurd (omega (arith, no))
@@ -141,8 +149,15 @@ an_offer_without_its_operation h = let e = h.each 0 0 in let no : ◌≡◌ {A =
 pub none_of_each : Tracks [] []
 none_of_each = record {
   each = λ l n. refl;
-  receives = All-nil (λ (o : Operation). is_send o.asked ≡ false → is_waiting o.progress ≡ true);
+  receives = All-nil (λ (o : Operation). is_outgoing o.asked ≡ false → is_waiting o.progress ≡ true);
+  files = All-nil (λ (o : Operation). is_request o.asked ≡ false);
 }
+
+pub one_that_reads : AskForNoFile (asks ∷ []) → ⊥
+one_that_reads h = let no : true ≡ false = All-head (λ (o : Operation). is_request o.asked ≡ false) asks [] h in cc
+
+pub one_that_sends : AskForNoFile (sends ∷ [])
+one_that_sends = All-push (λ (o : Operation). is_request o.asked ≡ false) [] sends (All-nil (λ (o : Operation). is_request o.asked ≡ false)) refl
 
 -- ---- blocks and threads
 
@@ -184,6 +199,7 @@ abbrev pub with_fields : Running → Running
 with_fields m = record m {
   core = 1;
   bound = 9;
+  requests = 4;
   journal = record { entries = []; spare = 0 };
   frames = store;
   outstanding = record { operations = sends ∷ []; spare = 2 };
@@ -201,7 +217,7 @@ with_fields m = record m {
   ended = None;
 }
 
-pub what_it_shares : (m : Running) → shared_of (with_fields m) ≡ record { steps = 3; turn = 2; output = m.output.items; past = []; todo = [] }
+pub what_it_shares : (m : Running) → shared_of (with_fields m) ≡ record { steps = 3; turn = 2; output = m.output.items; past = []; todo = []; requests = 4 }
 what_it_shares m = refl
 
 pub the_thread_that_runs : (m : Running) → thread_of (with_fields m) ≡ record { place = 5; frame = frame 2; operands = int 3 ∷ []; callers = its_callers; block = None }

@@ -9,6 +9,7 @@ pub mod Found
 pub mod Standing
 pub mod Started
 pub mod Sound
+pub mod Follows
 pub mod Next
 pub mod Entered
 pub mod Decided

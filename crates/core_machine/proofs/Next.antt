@@ -3,8 +3,8 @@ use Rattle.std.proofs.Common.{◌≡◌, ◌≢◌, ℕ, ◌<◌, ◌≤◌, Lis
 use Rattle.core_state.specs.Moves.{GoesOn}
 use Rattle.code_meaning.specs.Machine.{exec}
 use Rattle.core_machine.specs.declared.running.Running.{Running}
-use Rattle.core_machine.specs.declared.went.Went.{Went}
-use Rattle.core_machine.specs.declared.went.Went.TheVariants.{On, Away, Asks}
+use Rattle.core_machine.specs.declared.went.Follows.{Follows}
+use Rattle.core_machine.specs.declared.went.Follows.TheVariants.{Same, Away, Asks, Refused}
 use Rattle.core_machine.specs.Machine.{is_resting}
 use Rattle.core_machine.specs.State.{flat_of, state_of, IsSound}
 use Rattle.core_machine.specs.Tried.{tried_of}
@@ -19,22 +19,28 @@ next_there m sound still idle active = has_next m.code.now (flat_of m) (sound.fi
 
 -- ---- a stretch
 
--- its last instruction was done, or the core asks for an outcome there
-module _ (a b c : Running) (how : Went) (same : IsSameCode a b) (keeps : Keeps b c) (stays : how ≡ Asks → Stays b c) where
-  pub went_goes : b.ended ≡ None → GoesOn (exec a.code.now a.bound) (state_of a) (state_of b) → (how ≢ Asks → state_of c ≡ exec b.code.now b.bound (flat_of b))
+-- its last instruction was done, or the core asks for an outcome there, or memory was refused
+module _ (a b c : Running) (how : Follows) (same : IsSameCode a b) (keeps : Keeps b c) (stays : how ≡ Asks → Stays b c) where
+  pub went_goes : b.ended ≡ None → GoesOn (exec a.code.now a.bound) (state_of a) (state_of b)
+      → (how ≢ Asks → how ≢ Refused → state_of c ≡ exec b.code.now b.bound (flat_of b)) → (how ≡ Refused → Stays b c)
       → GoesOn (exec a.code.now a.bound) (state_of a) (state_of c)
-  went_goes still goes moved = by how refl
+  went_goes still goes moved refused = by how refl
     where
-      by : (w : Went) → how ≡ w → GoesOn (exec a.code.now a.bound) (state_of a) (state_of c)
-      by On e = goes_on a b c same still goes (moved (λ asks. let no : On ≡ Asks = sym e ∙ asks in cc))
-      by Away e = goes_on a b c same still goes (moved (λ asks. let no : Away ≡ Asks = sym e ∙ asks in cc))
-      by Asks e = subst (GoesOn (exec a.code.now a.bound) (state_of a)) (sym (stays_state b c (stays e))) goes
+      still_there : Stays b c → GoesOn (exec a.code.now a.bound) (state_of a) (state_of c)
+      still_there s = subst (GoesOn (exec a.code.now a.bound) (state_of a)) (sym (stays_state b c s)) goes
 
-  pub went_less : (ranks : List ℕ) → (how ≢ Asks → left_of ranks c < left_of ranks b) → (how ≡ Asks → IsSome (tried_of b.code.now (state_of b))) → left_of ranks b ≤ left_of ranks a
-      → (IsSome (tried_of b.code.now (state_of b)) → left_of ranks b < left_of ranks a) → left_of ranks c < left_of ranks a
-  went_less ranks falls asks least less = by how refl
+      by : (w : Follows) → how ≡ w → GoesOn (exec a.code.now a.bound) (state_of a) (state_of c)
+      by Same e = goes_on a b c same still goes (moved (λ asks. let no : Same ≡ Asks = sym e ∙ asks in cc) (λ r. let no : Same ≡ Refused = sym e ∙ r in cc))
+      by Away e = goes_on a b c same still goes (moved (λ asks. let no : Away ≡ Asks = sym e ∙ asks in cc) (λ r. let no : Away ≡ Refused = sym e ∙ r in cc))
+      by Asks e = still_there (stays e)
+      by Refused e = still_there (refused e)
+
+  pub went_less : (ranks : List ℕ) → how ≢ Refused → (how ≢ Asks → how ≢ Refused → left_of ranks c < left_of ranks b) → (how ≡ Asks → IsSome (tried_of b.code.now (state_of b)))
+      → left_of ranks b ≤ left_of ranks a → (IsSome (tried_of b.code.now (state_of b)) → left_of ranks b < left_of ranks a) → left_of ranks c < left_of ranks a
+  went_less ranks given falls asks least less = by how refl
     where
-      by : (w : Went) → how ≡ w → left_of ranks c < left_of ranks a
-      by On e = let f = falls (λ asks. let no : On ≡ Asks = sym e ∙ asks in cc) in omega (arith, f, least)
-      by Away e = let f = falls (λ asks. let no : Away ≡ Asks = sym e ∙ asks in cc) in omega (arith, f, least)
+      by : (w : Follows) → how ≡ w → left_of ranks c < left_of ranks a
+      by Same e = let f = falls (λ asks. let no : Same ≡ Asks = sym e ∙ asks in cc) given in omega (arith, f, least)
+      by Away e = let f = falls (λ asks. let no : Away ≡ Asks = sym e ∙ asks in cc) given in omega (arith, f, least)
       by Asks e = let there = stays_left b c (stays e) (code_of b c keeps) ranks in let f = less (asks e) in omega (arith, f, there)
+      by Refused e = absurd (given e)

@@ -1,6 +1,7 @@
 -- What callers see of cores at their dispatch points, by example.
 use Rattle.std.proofs.Common.{◌≡◌, ℕ, refl, pos, true, false, List, [], ◌∷◌, Some, None}
 use Rattle.ac_base.specs.declared.entry.Event.TheVariants as event
+use Rattle.ac_base.specs.declared.entry.Payload.TheVariants as payload
 use Rattle.cancel_scope.specs.declared.operation.Asked.TheVariants.{Send}
 use Rattle.cancel_scope.specs.Outstanding.{offered_as}
 use Rattle.core_state.specs.Moves.{On, Over}
@@ -10,8 +11,8 @@ use Rattle.code_meaning.specs.Machine.{Block, Caller, Flat, FlatEnd, Thread, arr
 use Rattle.stack_code.specs.Parts.{Parts}
 use Rattle.code_safety.specs.Left.{at_weight, callers_weight, owner_weight, parked_weight, ready_weight, running_weight, thread_weight, waiting_weight}
 use Rattle.core_machine.specs.Machine.{Machine}
-use Rattle.core_machine.specs.Points.{HasCome, HasTracks, entry_of, is_at_point, left_at, message_of, operations_of, receives_from, to_send, work_left}
-use Rattle.core_machine.proofs.Examples.{an_operation_for_none, first, hears, known, none_of_each, offer, running, second, sends, store, with_operations}
+use Rattle.core_machine.specs.Points.{AsksForNoFile, HasCome, HasTracks, carried_by, entry_of, is_at_point, left_at, message_of, offer_carries, operations_of, receives_from, to_send, work_left}
+use Rattle.core_machine.proofs.Examples.{an_operation_for_none, asks, first, hears, known, none_of_each, offer, one_that_reads, one_that_sends, running, second, sends, store, with_operations}
 
 abbrev over : FlatEnd
 over = record { core = None; count = 4 }
@@ -24,12 +25,18 @@ whether_it_is_at_a_point = (refl, refl, refl)
 pub which_operations_it_has : (operations_of (On with_operations) ≡ sends ∷ hears ∷ []) × (operations_of (Over over) ≡ [])
 which_operations_it_has = (refl, refl)
 
-pub what_is_sent : (message_of (Send (pos 5)) ≡ Some (pos 5)) × (message_of hears.asked ≡ None)
-what_is_sent = (refl, refl)
+pub what_is_sent : (message_of (Send (pos 5)) ≡ Some (pos 5)) × (message_of hears.asked ≡ None) × (message_of asks.asked ≡ None)
+what_is_sent = (refl, refl, refl)
 
 -- one that is offered is not to be offered again
 pub what_is_to_be_sent : (to_send (sends ∷ hears ∷ []) 0 ≡ Some (pos 5)) × (to_send (sends ∷ hears ∷ []) 1 ≡ None) × (to_send (offered_as 0 sends ∷ []) 0 ≡ None)
 what_is_to_be_sent = (refl, refl, refl)
+
+-- an offer of the oldest carries what it asks for
+pub what_an_offer_carries : (offer_carries (sends ∷ hears ∷ []) 0 (payload.Int (pos 5)) ≡ true) × (offer_carries (sends ∷ hears ∷ []) 0 (payload.Int (pos 6)) ≡ false)
+    × (offer_carries (asks ∷ []) 2 (payload.Read 6 9 4) ≡ true) × (offer_carries (hears ∷ []) 1 (payload.Int (pos 5)) ≡ false) × (carried_by None (payload.Int (pos 5)) ≡ false)
+    × (carried_by (Some sends) (payload.Int (pos 5)) ≡ true)
+what_an_offer_carries = (refl, refl, refl, refl, refl, refl)
 
 pub what_is_received : (receives_from (sends ∷ hears ∷ []) 1 ≡ true) × (receives_from (sends ∷ hears ∷ []) 0 ≡ false)
 what_is_received = (refl, refl)
@@ -75,11 +82,17 @@ module _ (code : Parts) where
   pub nothing_is_open : HasTracks (record before { journal = []; state = On running })
   nothing_is_open h = none_of_each
 
+  pub it_asks_for_none : AsksForNoFile (record before { state = On (record running { operations = sends ∷ [] }) })
+  it_asks_for_none = one_that_sends
+
+  pub it_asks_for_one : AsksForNoFile (record before { state = On (record running { operations = asks ∷ [] }) }) → ⊥
+  it_asks_for_one h = one_that_reads h
+
   pub an_operation_without_its_offer : HasTracks (record before { journal = [] }) → ⊥
   an_operation_without_its_offer h = an_operation_for_none (h refl)
 
-  -- 8 steps are left, of 2 each, and the present move
-  pub what_is_left_of_it : (left_at [] 9 (On running) ≡ 17) × (left_at [] 9 (Over over) ≡ 0) × (work_left [] (record before { state = On running }) ≡ 17)
+  -- 8 steps are left, of 3 each, and the present move
+  pub what_is_left_of_it : (left_at [] 9 (On running) ≡ 25) × (left_at [] 9 (Over over) ≡ 0) × (work_left [] (record before { state = On running }) ≡ 25)
   what_is_left_of_it = (refl, refl, refl)
 
 -- ---- what each part of a core may still do, where the second address has rank 1
@@ -96,15 +109,15 @@ caller = record { place = 0; frame = nobody.frame; operands = [] }
 abbrev block : Block
 block = record { parent = None; owner = first; count = 1; waits = true; cancelled = false }
 
-pub weights_of_a_thread : (at_weight ranks 1 ≡ 6) × (callers_weight ranks (caller ∷ []) ≡ 2) × (thread_weight ranks there ≡ 6)
-    × (thread_weight ranks (record there { callers = caller ∷ [] }) ≡ 8)
+pub weights_of_a_thread : (at_weight ranks 1 ≡ 8) × (callers_weight ranks (caller ∷ []) ≡ 3) × (thread_weight ranks there ≡ 8)
+    × (thread_weight ranks (record there { callers = caller ∷ [] }) ≡ 11)
 weights_of_a_thread = (refl, refl, refl, refl)
 
 -- one that does not run has a dispatch before it
-pub weights_of_threads : (parked_weight ranks (there ∷ []) first ≡ 7) × (ready_weight ranks (there ∷ []) (first ∷ first ∷ []) ≡ 14) × (running_weight ranks there (Some first) ≡ 6)
+pub weights_of_threads : (parked_weight ranks (there ∷ []) first ≡ 9) × (ready_weight ranks (there ∷ []) (first ∷ first ∷ []) ≡ 18) × (running_weight ranks there (Some first) ≡ 8)
     × (running_weight ranks there None ≡ 0)
 weights_of_threads = (refl, refl, refl, refl)
 
-pub weights_of_blocks : (owner_weight ranks (there ∷ []) (Some block) ≡ 7) × (owner_weight ranks (there ∷ []) (Some (record block { waits = false })) ≡ 0)
-    × (waiting_weight ranks (there ∷ []) (None ∷ Some block ∷ []) ≡ 7)
+pub weights_of_blocks : (owner_weight ranks (there ∷ []) (Some block) ≡ 9) × (owner_weight ranks (there ∷ []) (Some (record block { waits = false })) ≡ 0)
+    × (waiting_weight ranks (there ∷ []) (None ∷ Some block ∷ []) ≡ 9)
 weights_of_blocks = (refl, refl, refl)

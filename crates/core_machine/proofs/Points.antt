@@ -2,27 +2,29 @@
 use Rattle.std.proofs.Common.{◌≡◌, ℕ, ◌<◌, ◌≤◌, List, Option, Some, None, IsSome, Ok, Err, Bool, true, false, refl, sym, ap, ◌∙◌, subst, arith}
 use Rattle.std.specs.Prelude.{is_none, is_some, find, nat_eq, nat_lt, not, if◌then◌else◌, ◌&&◌, option_and_then, IfSome, ℤ, OnOk, Result}
 use Rattle.std.proofs.lemmas.Bool.{and_parts, eq-eqb, ltb-true}
-use Rattle.std.proofs.lemmas.Bool.Decides.{nat_tests}
+use Rattle.std.proofs.lemmas.Bool.Decides.{Decides-int_eq, nat_tests}
 use Rattle.std.proofs.lemmas.Result.{on_ok_weaker}
 use Rattle.ac_base.specs.declared.entry.Event.{Event}
 use Rattle.ac_base.specs.declared.entry.Event.TheVariants as event
+use Rattle.ac_base.specs.declared.entry.Payload.{Payload}
+use Rattle.ac_base.specs.declared.entry.Payload.TheVariants as payload
 use Rattle.ac_base.specs.declared.memory.NoMemory.{NoMemory}
 use Rattle.work_item.specs.declared.ids.Item.{Item}
 use Rattle.cancel_scope.specs.declared.operation.Asked.{Asked}
-use Rattle.cancel_scope.specs.declared.operation.Asked.TheVariants.{Send, Recv}
+use Rattle.cancel_scope.specs.declared.operation.Asked.TheVariants as asked
 use Rattle.cancel_scope.specs.declared.operation.Operation.{Operation}
-use Rattle.cancel_scope.specs.Outstanding.{is_to_offer}
+use Rattle.cancel_scope.specs.Outstanding.{is_outgoing, is_waiting, is_to_offer, carries}
 use Rattle.core_state.specs.Moves.{GoesOn, On}
-use Rattle.core_state.specs.Arrivals.{cancelled, ok}
-use Rattle.core_state.specs.Cancelling.{outcome}
+use Rattle.core_state.specs.Cancelling.{Outcome, NeverHappens, IsTaken, outcome}
 use Rattle.stack_code.specs.Kept.{IsRanked}
 use Rattle.code_meaning.specs.Machine.{Flat, exec}
 use Rattle.code_safety.specs.Left.{left}
+use Rattle.code_safety.proofs.Waiting.{found_at}
 use Rattle.core_machine.specs.declared.ending.Ending.{Ending}
 use Rattle.core_machine.specs.declared.running.Running.{Running}
 use Rattle.core_machine.specs.declared.tried.Tried.{Tried}
 use Rattle.core_machine.specs.Machine.{Machine, IsSameCore, has_ended, is_idle, is_resting}
-use Rattle.core_machine.specs.Points.{HasCome, HasTracks, is_at_point, left_at, message_of, operations_of, to_send, work_left}
+use Rattle.core_machine.specs.Points.{HasCome, HasTracks, carried_by, is_at_point, left_at, message_of, offer_carries, operations_of, to_send, work_left}
 use Rattle.core_machine.specs.State.{IsSound, end_or, flat_of, has_room, machine_of, state_of}
 use Rattle.core_machine.specs.Tracks.{Tracks}
 use Rattle.core_machine.specs.Tried.{HasDecided, tried_in, tried_of, tried_within}
@@ -107,19 +109,34 @@ module _ (m : Running) (old : Machine) (is : machine_of m ≡ old) where
   pub journal_by : old.journal ≡ m.journal.entries
   journal_by = ap (λ (n : Machine). n.journal) (sym is)
 
--- ---- what an operation sends
+-- ---- what an offer carries
 
-sends_that : (o : Option Operation) (value : ℤ) → option_and_then (λ (p : Operation). message_of p.asked) o ≡ Some value → IsSome o × IfSome o (λ (p : Operation). p.asked ≡ Send value)
+carried : (o : Option Operation) (p : Payload) → carried_by o p ≡ true → IsSome o × IfSome o (λ (x : Operation). carries x.asked p ≡ true)
+carried None p h = let no : false ≡ true = h in absurd (cc)
+carried (Some x) p h = (refl, h)
+
+pub oldest_carries : (os : List Operation) (link : ℕ) (p : Payload) → offer_carries os link p ≡ true
+    → IsSome (find (is_to_offer link) os) × IfSome (find (is_to_offer link) os) (λ (x : Operation). carries x.asked p ≡ true)
+oldest_carries os link p h = carried (find (is_to_offer link) os) p h
+
+-- what is to be offered goes out
+pub goes_out : (os : List Operation) (link : ℕ) (o : Operation) → find (is_to_offer link) os ≡ Some o → is_outgoing o.asked ≡ true
+goes_out os link o found =
+    let one = and_parts (nat_eq o.link link) (is_outgoing o.asked && is_waiting o.progress) (found_at (is_to_offer link) os o found).passes in
+    (and_parts (is_outgoing o.asked) (is_waiting o.progress) one.1).0
+
+-- an offer of the oldest carries what one of it does
+sends_that : (o : Option Operation) (value : ℤ) → option_and_then (λ (p : Operation). message_of p.asked) o ≡ Some value → carried_by o (payload.Int value) ≡ true
 sends_that None value h = let no : None ≡ Some value = h in absurd (cc)
-sends_that (Some p) value h = (refl, by p.asked h)
+sends_that (Some p) value h = by p.asked h
   where
-    by : (a : Asked) → message_of a ≡ Some value → a ≡ Send value
-    by (Send v) h = let same : v ≡ value = cc in ap (λ v. Send v) same
-    by (Recv place) h = let no : None ≡ Some value = h in absurd (cc)
+    by : (a : Asked) → message_of a ≡ Some value → carries a (payload.Int value) ≡ true
+    by (asked.Send v) h = let same : v ≡ value = cc in (Decides-int_eq v value).1 same
+    by a h = let no : None ≡ Some value = h in absurd (cc)
 
-pub oldest_sends : (os : List Operation) (link : ℕ) (value : ℤ) → to_send os link ≡ Some value → IsSome (find (is_to_offer link) os) × IfSome (find (is_to_offer link) os)
-    (λ (p : Operation). p.asked ≡ Send value)
-oldest_sends os link value h = sends_that (find (is_to_offer link) os) value h
+-- an offer of a send carries its message
+pub send_carries : (os : List Operation) (link : ℕ) (value : ℤ) → to_send os link ≡ Some value → offer_carries os link (payload.Int value) ≡ true
+send_carries os link value h = sends_that (find (is_to_offer link) os) value h
 
 pub some_of : {A : Type 0} (o : Option A) → is_some o ≡ true → IsSome o
 some_of o h = h
@@ -166,8 +183,8 @@ module _ (m : Running) (old : Machine) (is : machine_of m ≡ old) where
   pub asks_none : tried_of old.code old.state ≡ None → tried_of m.code.now (state_of m) ≡ None
   asks_none h = subst (λ (n : Machine). tried_of n.code n.state ≡ None) (sym is) h
 
-module _ (before after : Running) (tried : Tried) (value : ℤ) (v : Event) (stamp : ℕ) (old : Machine) (is : machine_of before ≡ old) (sound : IsSound before)
-    (asks : tried_of old.code old.state ≡ Some tried) (outcome_is : outcome tried.link tried.number v ≡ Some value) (decides : Decides before value v stamp after) where
+module _ (before after : Running) (tried : Tried) (it : Outcome) (v : Event) (stamp : ℕ) (old : Machine) (is : machine_of before ≡ old) (sound : IsSound before)
+    (asks : tried_of old.code old.state ≡ Some tried) (outcome_is : outcome tried.link tried.number v ≡ Some it) (decides : Decides before it v stamp after) where
   on : before.ended ≡ None
   on = asks_on before (asks_some before old is tried asks)
 
@@ -177,10 +194,10 @@ module _ (before after : Running) (tried : Tried) (value : ℤ) (v : Event) (sta
       ∙ asks_by before old is tried asks
 
   pub decide_sound : IsSound after
-  decide_sound = decided_sound before after tried value v stamp on sound decides offered outcome_is
+  decide_sound = decided_sound before after tried it v stamp on sound decides offered outcome_is
 
-  pub has_decided : HasDecided old tried value v stamp (machine_of after)
-  has_decided = subst (λ (n : Machine). HasDecided n tried value v stamp (machine_of after)) is (record {
+  pub has_decided : HasDecided old tried it v stamp (machine_of after)
+  has_decided = subst (λ (n : Machine). HasDecided n tried it v stamp (machine_of after)) is (record {
     flat = flat_of before;
     stood = running (flat_of before) before.ended on;
     block = decides.block;
@@ -188,29 +205,29 @@ module _ (before after : Running) (tried : Tried) (value : ℤ) (v : Event) (sta
     operation = decides.operation;
     found = decides.found;
     offered = offered;
-    state = running (flat_of after) after.ended (decided_on before after tried value v stamp on sound decides offered outcome_is) ∙ ap (λ f. On f) decides.flat;
-    journal = decided_journal before after tried value v stamp on sound decides offered outcome_is;
-    code = decides.same.code;
-    core = decides.same.core;
-    bound = decides.same.bound;
+    state = running (flat_of after) after.ended (decided_on before after tried it v stamp on sound decides offered outcome_is) ∙ ap (λ f. On f) decides.makes.flat;
+    journal = decided_journal before after tried it v stamp on sound decides offered outcome_is;
+    code = decides.makes.same.code;
+    core = decides.makes.same.core;
+    bound = decides.makes.same.bound;
   })
 
   pub decide_less : (ranks : List ℕ) → work_left ranks (machine_of after) < work_left ranks old
   decide_less ranks =
       let was : work_left ranks old ≡ left_of ranks before = ap (work_left ranks) (sym is) ∙ work_is ranks before in
       let now = work_is ranks after in
-      let less = decided_less before after tried value v stamp on sound decides offered outcome_is ranks in
+      let less = decided_less before after tried it v stamp on sound decides offered outcome_is ranks in
       omega (arith, was, now, less)
 
 -- its withdrawal, or that it is known, decides an offer
 both_same : (link number : ℕ) → (nat_eq link link && nat_eq number number) ≡ true
 both_same link number = ap (λ b. b && nat_eq number number) (eq-eqb link link refl) ∙ eq-eqb number number refl
 
-pub withdrawal_decides : (link number : ℕ) → outcome link number (event.Withdraw link number) ≡ Some cancelled
-withdrawal_decides link number = ap (λ (b : Bool). if b then Some cancelled else None) (both_same link number)
+pub withdrawal_decides : (link number : ℕ) → outcome link number (event.Withdraw link number) ≡ Some NeverHappens
+withdrawal_decides link number = ap (λ (b : Bool). if b then Some NeverHappens else None) (both_same link number)
 
-pub taking_decides : (link number : ℕ) → outcome link number (event.Know link number) ≡ Some ok
-taking_decides link number = ap (λ (b : Bool). if b then Some ok else None) (both_same link number)
+pub taking_decides : (link number : ℕ) → outcome link number (event.Know link number) ≡ Some IsTaken
+taking_decides link number = ap (λ (b : Bool). if b then Some IsTaken else None) (both_same link number)
 
 -- ---- what it keeps
 

@@ -1,12 +1,13 @@
 -- Where an operation puts what it receives: into one int, in a frame that lives or in the globals.
-use Rattle.std.proofs.Common.{◌≡◌, ℕ, ◌<◌, Some, None, true, false, refl, sym, ap, ◌∙◌, subst, arith}
-use Rattle.std.specs.Prelude.{All, ℤ, find, nat_eq, if◌then◌else◌}
+use Rattle.std.proofs.Common.{◌≡◌, ℕ, ◌<◌, Some, None, true, false, refl, subst, arith}
+use Rattle.std.specs.Prelude.{All, find, nat_eq, not}
 use Rattle.std.proofs.lemmas.Bool.{and_parts}
 use Rattle.work_item.specs.declared.cell.Place.{Place}
 use Rattle.work_item.specs.Conditions.{HomeLives}
+use Rattle.cancel_scope.specs.declared.operation.Asked.{Asked}
 use Rattle.cancel_scope.specs.declared.operation.Asked.TheVariants as asked
 use Rattle.cancel_scope.specs.declared.operation.Operation.{Operation}
-use Rattle.cancel_scope.specs.Outstanding.{is_send, is_to_receive}
+use Rattle.cancel_scope.specs.Outstanding.{is_outgoing, is_to_receive}
 use Rattle.code_safety.specs.Fit.{IsAsked, IsIntArray}
 use Rattle.code_safety.specs.Living.{AskedLives}
 use Rattle.code_safety.proofs.NoDangling.{names_living}
@@ -21,12 +22,13 @@ module _ (m : Running) (sound : IsSound m) (still : m.ended ≡ None) (link : �
   of_all : (P : Operation → Type 0) → All P m.outstanding.operations → P o
   of_all P all = one_of_all P its_place.back o its_place.front (subst (All P) its_place.is all)
 
-  -- it does not send
-  pub sends_nothing : (value : ℤ) → o.asked ≡ asked.Send value → ⊥
-  sends_nothing value e =
-      let passes = (and_parts (nat_eq o.link link) (if is_send o.asked then false else true) its_place.passes).1 in
-      let no : false ≡ true = sym (ap (λ a. if is_send a then false else true) e) ∙ passes in
-      cc
+  -- it receives
+  pub no_other : ((place : Place) → o.asked ≡ asked.Recv place → ⊥) → ⊥
+  no_other none = by o.asked refl (and_parts (nat_eq o.link link) (not (is_outgoing o.asked)) its_place.passes).1
+    where
+      by : (a : Asked) → o.asked ≡ a → not (is_outgoing a) ≡ true → ⊥
+      by (asked.Recv place) e passes = none place e
+      by a e passes = let no : false ≡ true = passes in cc
 
   module _ (place : Place) (asks : o.asked ≡ asked.Recv place) where
     pub home_there : HomeLives m.frames place.home

@@ -1,13 +1,13 @@
 -- The blocks round a block, and its mark, in the table and in the code's meaning; and the oldest operation within a block, by its place.
-use Rattle.std.proofs.Common.{◌≡◌, ℕ, zero, suc, ◌+◌, ◌<◌, List, ◌∷◌, length, drop, Option, Some, None, Bool, true, false, refl, sym, ap, ◌∙◌}
+use Rattle.std.proofs.Common.{◌≡◌, ℕ, zero, suc, ◌+◌, ◌<◌, List, ◌∷◌, length, drop, set, Option, Some, None, Bool, true, false, refl, sym, ap, ◌∙◌, inl, inr, arith}
 use Rattle.std.specs.Prelude.{cond, find, position, slice_get, slice_set, nat_eq}
 use Rattle.std.specs.List.{remove, position_from, list_any}
 use Rattle.std.proofs.lemmas.Iterator.Adapters.{position_from-zero}
 use Rattle.std.proofs.lemmas.List.{drop_more, length-map, map-set}
-use Rattle.std.proofs.lemmas.Option.{get_or_from_slice_get}
+use Rattle.std.proofs.lemmas.Option.{get_or_from_slice_get, slice_get_cases}
 use Rattle.work_item.specs.declared.ids.BlockId.{BlockId}
 use Rattle.cancel_scope.specs.declared.operation.Operation.{Operation}
-use Rattle.cancel_scope.specs.Outstanding.{without_first}
+use Rattle.cancel_scope.specs.Outstanding.{change_first, without_first}
 use Rattle.cancel_scope.proofs.Finding.{is_first, none_found}
 use Rattle.finish_block.specs.declared.block.Block as kept
 use Rattle.finish_block.specs.Table as table
@@ -75,6 +75,13 @@ module _ (test : Operation → Bool) (os : List Operation) where
     pub sought_here : test o ≡ true → position test os ≡ Some n
     sought_here e = by_test true e
 
+  -- it stands there
+  pub place_there : (n : ℕ) → position test os ≡ Some n → (o : Operation) × (slice_get os n ≡ Some o)
+  place_there n first = elim (slice_get_cases os n).1 as (λ _. (o : Operation) × (slice_get os n ≡ Some o)) [
+    | inl h ↦ (h.0, h.2)
+    | inr h ↦ let within = (is_first test os n (sym first)).within in let past = h.0 in absurd (omega (arith, within, past))
+  ]
+
   pub none_within : position test os ≡ None → find test os ≡ None
   none_within e = none_found test os (sym e)
 
@@ -84,3 +91,6 @@ module _ (test : Operation → Bool) (os : List Operation) where
 
     pub oldest_without : without_first test os ≡ remove os n
     oldest_without = (is_first test os n (sym first)).without
+
+    pub oldest_changed : (change : Operation → Operation) → change_first test change os ≡ set os n (change o)
+    oldest_changed change = (is_first test os n (sym first)).changed change o there

@@ -31,9 +31,8 @@ use Rattle.code_safety.proofs.Moving.{moves_on}
 use Rattle.code_safety.proofs.NoDangling.{chained_on, names_living}
 use Rattle.core_machine.specs.declared.ending.Ending.{Ending}
 use Rattle.core_machine.specs.declared.running.Running.{Running}
-use Rattle.core_machine.specs.declared.went.Went.{Went}
-use Rattle.core_machine.specs.declared.went.Went.TheVariants as went
-use Rattle.core_machine.specs.declared.went.Went.TheVariants.{Away, Asks}
+use Rattle.core_machine.specs.declared.went.Follows.{Follows}
+use Rattle.core_machine.specs.declared.went.Follows.TheVariants.{Same, Away, Asks, Refused}
 use Rattle.core_machine.specs.inner.Needs.{Finds}
 use Rattle.core_machine.specs.Machine.{Machine, IsOnItsWay}
 use Rattle.core_machine.specs.State.{shared_of, flat_of, end_or, state_of, machine_of, IsSound}
@@ -76,8 +75,8 @@ running m o e = ap (end_or m) e
 
 -- the machine has come to a state to which its code comes
 pub on_its_way : (n : Machine) (code : Parts) (core bound : ℕ) (journal : List Entry) (state : Move Flat FlatEnd) (function : Entered) → n.code ≡ code → n.core ≡ core → n.bound ≡ bound
-    → n.journal ≡ journal → n.state ≡ state → Begins code core function → GoesOn (exec code bound) (first_flat code function journal) state → IsOnItsWay n
-on_its_way n code core bound journal state function c k d j s b g = record { function = function; begins = rw (c, k) b; goes = rw (c, d, j, s) g }
+    → n.journal ≡ journal → n.state ≡ state → Begins code core function → GoesOn (exec code bound) (first_flat code core function journal) state → IsOnItsWay n
+on_its_way n code core bound journal state function c k d j s b g = record { function = function; begins = rw (c, k) b; goes = rw (c, k, d, j, s) g }
 
 -- where nothing has changed that the code's meaning sees
 pub stays_sound : (before after : Running) → IsSound before → Stays before after → IsSameCode before after → IsSound after
@@ -140,8 +139,9 @@ module _ (before after : Running) (still : before.ended ≡ None) (sound : IsSou
     meant = subst IsMeant (sym keeps.code) sound.meant;
     ran = on_its_way (machine_of after) before.code.now before.core before.bound before.journal.entries (exec before.code.now before.bound (flat_of before)) sound.ran.function
         keeps.code keeps.core keeps.bound keeps.journal (sym moved) sound.ran.begins
-        (GoesOn-more (exec before.code.now before.bound) (first_flat before.code.now sound.ran.function before.journal.entries) (flat_of before)
-        (subst (GoesOn (exec before.code.now before.bound) (first_flat before.code.now sound.ran.function before.journal.entries)) (running (flat_of before) before.ended still) sound.ran.goes));
+        (GoesOn-more (exec before.code.now before.bound) (first_flat before.code.now before.core sound.ran.function before.journal.entries) (flat_of before)
+        (subst (GoesOn (exec before.code.now before.bound) (first_flat before.code.now before.core sound.ran.function before.journal.entries)) (running
+        (flat_of before) before.ended still) sound.ran.goes));
   }
 
   less_left : (ranks : List ℕ) → IsRanked before.code.now ranks → (o : Option Ending) → after.ended ≡ o
@@ -156,12 +156,15 @@ module _ (before after : Running) (still : before.ended ≡ None) (sound : IsSou
   less ranks r = rw still (less_left ranks r after.ended refl)
 
 -- what has gone by an instruction: it was done, or nothing was
-pub went_sound : (before after : Running) (how : Went) → before.ended ≡ None → IsSound before → Keeps before after
-    → (how ≢ Asks → exec before.code.now before.bound (flat_of before) ≡ state_of after) → (how ≡ Asks → Stays before after)
+pub went_sound : (before after : Running) (how : Follows) → before.ended ≡ None → IsSound before → Keeps before after
+    → (how ≢ Asks → how ≢ Refused → exec before.code.now before.bound (flat_of before) ≡ state_of after) → (how ≡ Asks → Stays before after) → (how ≡ Refused → Stays before after)
     → (ranks : List ℕ) → IsRanked before.code.now ranks → IsSound after
-went_sound before after went.On still sound keeps moved stays ranks r = still_sound before after still sound keeps (moved (λ e. let no : went.On ≡ Asks = e in cc)) ranks r
-went_sound before after Away still sound keeps moved stays ranks r = still_sound before after still sound keeps (moved (λ e. let no : Away ≡ Asks = e in cc)) ranks r
-went_sound before after Asks still sound keeps moved stays ranks r = stays_sound before after sound (stays refl) (code_of before after keeps)
+went_sound before after Same still sound keeps moved stays refused ranks r =
+    still_sound before after still sound keeps (moved (λ e. let no : Same ≡ Asks = e in cc) (λ e. let no : Same ≡ Refused = e in cc)) ranks r
+went_sound before after Away still sound keeps moved stays refused ranks r =
+    still_sound before after still sound keeps (moved (λ e. let no : Away ≡ Asks = e in cc) (λ e. let no : Away ≡ Refused = e in cc)) ranks r
+went_sound before after Asks still sound keeps moved stays refused ranks r = stays_sound before after sound (stays refl) (code_of before after keeps)
+went_sound before after Refused still sound keeps moved stays refused ranks r = stays_sound before after sound (refused refl) (code_of before after keeps)
 
 -- ---- whether an outcome is asked for
 
@@ -173,11 +176,11 @@ asks_at m t instr still run here =
 
 -- ---- an entry
 
-resumed_shared : (m : Flat) (v : Cell) (o : Option Item) → (resumed m v o).shared ≡ m.shared
+pub resumed_shared : (m : Flat) (v : Cell) (o : Option Item) → (resumed m v o).shared ≡ m.shared
 resumed_shared m v None = refl
 resumed_shared m v (Some t) = refl
 
-resumed_operations : (m : Flat) (v : Cell) (o : Option Item) → (resumed m v o).operations ≡ m.operations
+pub resumed_operations : (m : Flat) (v : Cell) (o : Option Item) → (resumed m v o).operations ≡ m.operations
 resumed_operations m v None = refl
 resumed_operations m v (Some t) = refl
 
@@ -219,8 +222,8 @@ module _ (before after : Running) (event : Event) (stamp : ℕ) (still : before.
   pub entered_sound : IsSound after
   entered_sound =
       let r = sound.ran in
-      let run = subst (GoesOn (exec code before.bound) (first_flat code r.function before.journal.entries)) (running (flat_of before) before.ended still) r.goes in
-      let comes = run_arrives code before.bound entry r.function before.journal.entries (flat_of before) run h.arrival idle refl refl h.fits in
+      let run = subst (GoesOn (exec code before.bound) (first_flat code before.core r.function before.journal.entries)) (running (flat_of before) before.ended still) r.goes in
+      let comes = run_arrives code before.bound entry before.core r.function before.journal.entries (flat_of before) run h.arrival idle refl refl h.fits in
       record {
         fit = λ e. subst (λ c. IsFit c (flat_of after)) (sym h.same.code) entered_fit;
         chained = λ e. subst (λ c. AreChained c (flat_of after)) (sym h.same.code) entered_chained;

@@ -1,6 +1,6 @@
 -- Which operations an instruction starts or ends, with no entry to come: what stands under an offer stays.
 use Rattle.std.proofs.Common.{◌≡◌, ℕ, ◌+◌, List, [], ◌∷◌, ◌++◌, Option, Some, None, Bool, true, false, refl, sym, ap, ◌∙◌, subst, arith}
-use Rattle.std.specs.Prelude.{ℤ, All, find, nat_eq, nat_lt, ◌&&◌, ◌^◌, ◌-◌, slice_get, slice_set, if◌then◌else◌}
+use Rattle.std.specs.Prelude.{All, find, nat_eq, nat_lt, ◌&&◌, ◌^◌, ◌-◌, slice_get, slice_set, if◌then◌else◌}
 use Rattle.std.proofs.lemmas.List.Elements.{All-push}
 use Rattle.std.proofs.lemmas.Option.{slice_get_within, get_or_from_slice_get}
 use Rattle.ac_base.specs.declared.ends.CoreEnd.{CoreEnd}
@@ -14,10 +14,10 @@ use Rattle.cancel_scope.specs.declared.operation.Asked.{Asked}
 use Rattle.cancel_scope.specs.declared.operation.Progress.{Progress}
 use Rattle.cancel_scope.specs.declared.operation.Progress.TheVariants as progress
 use Rattle.cancel_scope.specs.declared.operation.Operation.{Operation}
-use Rattle.cancel_scope.specs.Outstanding.{started, is_waiting, is_offered, without_first}
+use Rattle.cancel_scope.specs.Outstanding.{started, is_request, is_waiting, is_offered, without_first}
 use Rattle.core_state.specs.Moves.{Move, On, Over}
-use Rattle.core_state.specs.Arrivals.{at_point, has_ended_as}
-use Rattle.core_state.specs.Cancelling.{decided, tried, tries}
+use Rattle.core_state.specs.Arrivals.{at_point}
+use Rattle.core_state.specs.Cancelling.{Outcome, by_outcome, decided, is_to_try, tried, tries}
 use Rattle.core_state.specs.Frames.{block_in}
 use Rattle.core_state.specs.Shared.{Shared, with_turn, seen}
 use Rattle.stack_code.specs.declared.instr.Instr.{Instr}
@@ -31,14 +31,14 @@ use Rattle.code_safety.proofs.Plain.{Onward}
 use Rattle.code_safety.proofs.Waiting.{all_others, found_at, total_between}
 use Rattle.code_safety.proofs.NoEntries.{begin_leaves, Leaves}
 use Rattle.core_machine.specs.Tracks.{standing_of, Tracks}
-use Rattle.core_machine.proofs.Standing.{Receives, and_false, not_under}
+use Rattle.core_machine.proofs.Standing.{IsNoRequest, Receives, and_false, not_under}
 
 -- ---- an instruction
 
 -- the operations are those, or one more has started, or one that was not offered has ended
 pub data Starts (os : List Operation) : List Operation → Type 0 where
   none_starts : Starts os os
-  one_starts : (link : ℕ) (asked : Asked) (t : Item) → Starts os (os ++ started link asked t ∷ [])
+  one_starts : (link : ℕ) (asked : Asked) (t : Item) → is_request asked ≡ false → Starts os (os ++ started link asked t ∷ [])
   one_ends : (test : Operation → Bool) (o : Operation) → find test os ≡ Some o → is_waiting o.progress ≡ true → Starts os (without_first test os)
 
 module _ (m : Flat) where
@@ -53,27 +53,31 @@ module _ (m : Flat) where
   top_starts go [] h = none_starts
   top_starts go (x ∷ below) h = h x below
 
-  asks_starts : (b : Bool) (t : Item) (link : ℕ) (asked : Asked) (below : List Cell) → Onward StartsTo (asks_in b m t link asked below)
-  asks_starts true t link asked below = none_starts
-  asks_starts false t link asked below = one_starts link asked t
+  asks_starts : (b : Bool) (t : Item) (link : ℕ) (asked : Asked) (below : List Cell) → is_request asked ≡ false → Onward StartsTo (asks_in b m t link asked below)
+  asks_starts true t link asked below other = none_starts
+  asks_starts false t link asked below other = one_starts link asked t other
 
   -- with no entry to come, a cancel ends only what was not offered
   calls_end : m.shared.todo ≡ [] → (block : BlockId) → Onward StartsTo (calls_off m block)
-  calls_end last block = go (find (is_inside m block) m.operations) refl
+  calls_end last block = go (find test m.operations) refl
     where
       tell : Option CoreEnd → FlatEnd
       tell = told (counted m.count)
 
-      ended : Operation → Shared → ℤ → Move Flat FlatEnd
-      ended o shared value = On (arrived (marked m block) shared (has_ended_as value m.store (without_first (is_inside m block) m.operations) o))
+      test : Operation → Bool
+      test = is_to_try (is_inside m block)
 
-      by : (o : Operation) → find (is_inside m block) m.operations ≡ Some o → (p : Progress) → o.progress ≡ p
+      ended : Operation → Shared → Outcome → Move Flat FlatEnd
+      ended o shared it = On (arrived (marked m block) shared (by_outcome it m.store test m.operations o))
+
+      by : (o : Operation) → find test m.operations ≡ Some o → (p : Progress) → o.progress ≡ p
           → Onward StartsTo (tried tell m.shared m.store.globals m.operations o.link p (ended o))
-      by o e progress.Waiting p = one_ends (is_inside m block) o e (ap is_waiting p)
+      by o e progress.Waiting p = one_ends test o e (ap is_waiting p)
       by o e (progress.Offered number) p = subst (λ todo. Onward StartsTo (decided tell m.shared m.store.globals m.operations o.link number (ended o) todo)) (sym last) tt
+      by o e (progress.Started number) p = tt
 
-      go : (r : Option Operation) → find (is_inside m block) m.operations ≡ r
-          → Onward StartsTo (tries tell m.shared m.store m.operations (is_inside m block) (λ shared x. On (arrived (marked m block) shared x)) (goes (marked m block) m.current.operands) r)
+      go : (r : Option Operation) → find test m.operations ≡ r
+          → Onward StartsTo (tries tell m.shared m.store m.operations test (λ shared x. On (arrived (marked m block) shared x)) (goes (marked m block) m.current.operands) r)
       go None e = none_starts
       go (Some o) e = by o e o.progress refl
 
@@ -82,8 +86,8 @@ module _ (m : Flat) where
     begin_starts t (i.Cancel level slot) h = calls_end last (block_in (cell_at m.store m.current.frame level slot))
     begin_starts t (i.Read file) h = let no : false ≡ true = h in absurd (cc)
     begin_starts t (i.Write file) h = let no : false ≡ true = h in absurd (cc)
-    begin_starts t (i.Send channel) h = top_starts _ m.current.operands (λ x below. asks_starts (is_cancelled m.blocks m.current.block) t channel _ below)
-    begin_starts t (i.Recv channel) h = top_starts _ m.current.operands (λ x below. asks_starts (is_cancelled m.blocks m.current.block) t channel _ below)
+    begin_starts t (i.Send channel) h = top_starts _ m.current.operands (λ x below. asks_starts (is_cancelled m.blocks m.current.block) t channel _ below refl)
+    begin_starts t (i.Recv channel) h = top_starts _ m.current.operands (λ x below. asks_starts (is_cancelled m.blocks m.current.block) t channel _ below refl)
     begin_starts t instr h = of_leaves (begin code bound m t (Some instr)) (begin_leaves m code bound t instr refl)
 
     next_starts : (t : Item) (ready : List Item) → Onward StartsTo (dispatched m (t ∷ ready))
@@ -117,7 +121,7 @@ module _ (m : Flat) where
 -- one that has started stands under no offer, and so does one that was not offered
 pub tracks_started : (past : List Entry) (os new : List Operation) → Tracks past os → Starts os new → Tracks past new
 tracks_started past os _ h none_starts = h
-tracks_started past os _ h (one_starts link asked t) = record {
+tracks_started past os _ h (one_starts link asked t other) = record {
   each = λ l n.
       let was = h.each l n in
       let now : standing_of l n (os ++ started link asked t ∷ []) ≡ standing_of l n os + (one_if (nat_eq link l && false) + 0) =
@@ -125,6 +129,7 @@ tracks_started past os _ h (one_starts link asked t) = record {
       let none = and_false (nat_eq link l) in
       omega (arith, was, now, none);
   receives = All-push Receives os (started link asked t) h.receives (λ e. refl);
+  files = All-push IsNoRequest os (started link asked t) h.files other;
 }
 tracks_started past os _ h (one_ends test o found waits) =
     let f = found_at test os o found in
@@ -136,4 +141,5 @@ tracks_started past os _ h (one_ends test o found waits) =
           let none = not_under l n o waits in
           omega (arith, was, stood, none);
       receives = all_others Receives f.back o f.front (subst (All Receives) f.is h.receives);
+      files = all_others IsNoRequest f.back o f.front (subst (All IsNoRequest) f.is h.files);
     })

@@ -1,7 +1,7 @@
 -- A running core comes to an end under its journal, of which something is seen, since no entry is still to come; and where it has ended
 -- or is idle, that is its end.
 use Rattle.std.proofs.Common.{◌≡◌, ℕ, zero, suc, ◌+◌, List, [], ◌∷◌, ◌++◌, length, map, Option, Some, None, IsSome, Result, Ok, Err, Bool, true, false, refl, sym, ap, ◌∙◌, subst, arith}
-use Rattle.std.specs.Prelude.{ℤ, find, reverse, take, drop, replicate, nat_le, nat_lt, nat_eq, slice_get, slice_set, is_none, is_some, ◌&&◌, ◌^◌, ◌-◌, if◌then◌else◌}
+use Rattle.std.specs.Prelude.{ℤ, find, reverse, take, drop, replicate, nat_le, nat_lt, nat_eq, slice_get, slice_set, is_none, is_some, not, ◌&&◌, ◌^◌, ◌-◌, if◌then◌else◌}
 use Rattle.std.proofs.lemmas.Bool.{and_parts}
 use Rattle.std.proofs.lemmas.List.Elements.{All-nil}
 use Rattle.ac_base.specs.declared.ends.Trap.{Trap}
@@ -20,13 +20,14 @@ use Rattle.cancel_scope.specs.declared.operation.Asked.{Asked}
 use Rattle.cancel_scope.specs.declared.operation.Progress.{Progress}
 use Rattle.cancel_scope.specs.declared.operation.Progress.TheVariants as progress
 use Rattle.cancel_scope.specs.declared.operation.Operation.{Operation}
-use Rattle.cancel_scope.specs.Outstanding.{without_first}
+use Rattle.cancel_scope.specs.Outstanding.{has_begun, is_request}
 use Rattle.core_state.specs.Moves.{Move, On, Over, GoesOn, moves, and_then}
 use Rattle.core_state.specs.Arithmetic.{Computed, truth, negated, not_true, flipped, sum_of, difference_of, product_of, quotient, remainder}
 use Rattle.core_state.specs.Arithmetic.{shifted_left, shifted_right, is_equal, is_not_equal, is_less, is_at_most, both_bits, either_bits, differing_bits}
 use Rattle.core_state.specs.Frames.{element, set_element, part_at, begun, begun_with, block_in}
-use Rattle.core_state.specs.Arrivals.{at_point, has_ended_as}
-use Rattle.core_state.specs.Cancelling.{decided, tried, tries}
+use Rattle.core_state.specs.Arrivals.{at_point}
+use Rattle.core_state.specs.Cancelling.{Outcome, by_outcome, decided, is_to_try, tried, tries}
+use Rattle.core_state.specs.Requests.{read_of, write_of}
 use Rattle.core_state.specs.Shared.{Shared, core_end, with_step, with_turn, printed, formatted, output_limit, seen, seen_left}
 use Rattle.core_state.proofs.Runs.{GoesOn-more}
 use Rattle.stack_code.specs.declared.instr.Instr.{Instr}
@@ -42,12 +43,14 @@ use Rattle.code_safety.specs.Left.{left_to_come}
 use Rattle.code_safety.specs.KeptEnds.{KeepsEnds, IsAtEnd, AreAtEnds}
 use Rattle.code_safety.proofs.Beginnings.{ends_from}
 use Rattle.code_safety.proofs.OwnEnds.{own_ends}
+use Rattle.code_safety.proofs.Waiting.{found_at}
 use Rattle.core_machine.specs.declared.ending.Ending.{Ending}
 use Rattle.core_machine.specs.declared.running.Running.{Running}
 use Rattle.core_machine.specs.Words.{word_of}
-use Rattle.core_machine.specs.Points.{operations_of, KeepsOperations}
+use Rattle.core_machine.specs.Points.{operations_of, AsksForNoFile, KeepsOperations}
 use Rattle.core_machine.specs.Machine.{ComesToEnd, is_resting, none_ready}
 use Rattle.core_machine.specs.State.{flat_of, end_or, machine_of, IsSound}
+use Rattle.core_machine.specs.Tracks.{AskForNoFile}
 
 -- ---- an instruction
 
@@ -148,27 +151,35 @@ module _ (m : Flat) where
 
   -- a cancel that asks for an outcome is stalled
   calls_off_shows : (block : BlockId) → L (calls_off m block)
-  calls_off_shows block = go (find (is_inside m block) m.operations)
+  calls_off_shows block = go (find test m.operations) refl
     where
       tell : Option CoreEnd → FlatEnd
       tell = told (counted m.count)
 
-      ended : Operation → Shared → ℤ → Move Flat FlatEnd
-      ended o shared value = On (arrived (marked m block) shared (has_ended_as value m.store (without_first (is_inside m block) m.operations) o))
+      test : Operation → Bool
+      test = is_to_try (is_inside m block)
+
+      ended : Operation → Shared → Outcome → Move Flat FlatEnd
+      ended o shared it = On (arrived (marked m block) shared (by_outcome it m.store test m.operations o))
+
+      -- what is tried has not begun
+      not_begun : (o : Operation) → find test m.operations ≡ Some o → not (has_begun o.progress) ≡ true
+      not_begun o e = (and_parts (is_inside m block o) (not (has_begun o.progress)) (found_at test m.operations o e).passes).1
 
       by_entry : (o : Operation) (number : ℕ) (todo : List Entry) → m.shared.todo ≡ todo
           → L (decided tell m.shared m.store.globals m.operations o.link number (ended o) todo)
       by_entry o number [] is = shown word.Stalled false
       by_entry o number (e ∷ es) is = none_shown e es is (decided tell m.shared m.store.globals m.operations o.link number (ended o) (e ∷ es))
 
-      by : (o : Operation) (p : Progress) → L (tried tell m.shared m.store.globals m.operations o.link p (ended o))
-      by o progress.Waiting = same
-      by o (progress.Offered number) = by_entry o number m.shared.todo refl
+      by : (o : Operation) (p : Progress) → not (has_begun p) ≡ true → L (tried tell m.shared m.store.globals m.operations o.link p (ended o))
+      by o progress.Waiting e = same
+      by o (progress.Offered number) e = by_entry o number m.shared.todo refl
+      by o (progress.Started number) e = let no : false ≡ true = e in absurd (cc)
 
-      go : (r : Option Operation)
-          → L (tries tell m.shared m.store m.operations (is_inside m block) (λ shared x. On (arrived (marked m block) shared x)) (flat.goes (marked m block) m.current.operands) r)
-      go None = same
-      go (Some o) = by o o.progress
+      go : (r : Option Operation) → find test m.operations ≡ r
+          → L (tries tell m.shared m.store m.operations test (λ shared x. On (arrived (marked m block) shared x)) (flat.goes (marked m block) m.current.operands) r)
+      go None e = same
+      go (Some o) e = by o o.progress (not_begun o e)
 
   module _ (code : Parts) (bound : ℕ) (t : Item) where
     step_shows : L (begin code bound m t (Some i.Step))
@@ -226,8 +237,10 @@ module _ (m : Flat) where
     begin_shows (i.Cancel level slot) = calls_off_shows (block_in (cell_at m.store m.current.frame level slot))
     begin_shows (i.Send channel) = top_shows _ m.current.operands (λ x below. asks_show (is_cancelled m.blocks m.current.block) t channel _ below)
     begin_shows (i.Recv channel) = top_shows _ m.current.operands (λ x below. asks_show (is_cancelled m.blocks m.current.block) t channel _ below)
-    begin_shows (i.Read file) = same
-    begin_shows (i.Write file) = same
+    begin_shows (i.Read file) = three_show _ m.current.operands (λ x y z below.
+        trap_shows (read_of file (int_in x) (int_in y) (place_in z)) _ (λ asked. asks_show (is_cancelled m.blocks m.current.block) t m.shared.requests asked below))
+    begin_shows (i.Write file) = three_show _ m.current.operands (λ x y z below.
+        trap_shows (write_of m.store file (int_in x) (int_in y) (place_in z)) _ (λ asked. asks_show (is_cancelled m.blocks m.current.block) t m.shared.requests asked below))
 
 -- ---- a run with no entry to come
 
@@ -315,7 +328,7 @@ module _ (r : Running) (sound : IsSound r) (ranks : List ℕ) (ranked : IsRanked
   m = flat_of r
 
   abbrev first : Move Flat FlatEnd
-  first = first_flat code sound.ran.function r.journal.entries
+  first = first_flat code r.core sound.ran.function r.journal.entries
 
   run_to : (o : Option Ending) → r.ended ≡ o → GoesOn (exec code r.bound) first (end_or m o)
   run_to o e = subst (λ x. GoesOn (exec code r.bound) first (end_or m x)) e sound.ran.goes
@@ -368,3 +381,12 @@ module _ (r : Running) (sound : IsSound r) (ranks : List ℕ) (ranked : IsRanked
 
   pub keeps_own_ends : KeepsOperations (machine_of r)
   keeps_own_ends keeps = at_ends keeps r.ended refl
+
+  -- ---- it reads and writes no file
+
+  of_files : (o : Option Ending) → r.ended ≡ o → AskForNoFile (operations_of (end_or m o))
+  of_files None e = (sound.tracks e).files
+  of_files (Some ending) e = All-nil (λ (o : Operation). is_request o.asked ≡ false)
+
+  pub asks_for_no_file : AsksForNoFile (machine_of r)
+  asks_for_no_file = of_files r.ended refl

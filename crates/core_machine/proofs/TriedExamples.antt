@@ -7,16 +7,18 @@ use Rattle.ac_base.specs.declared.entry.Payload.TheVariants as payload
 use Rattle.work_item.specs.declared.cell.Cell.{Cell}
 use Rattle.work_item.specs.declared.cell.Cell.TheVariants as cell
 use Rattle.cancel_scope.specs.declared.operation.Operation.{Operation}
-use Rattle.cancel_scope.specs.declared.operation.Progress.TheVariants.{Waiting, Offered}
-use Rattle.cancel_scope.specs.Outstanding.{offered_as}
-use Rattle.work_item.specs.Store.{no_int}
+use Rattle.cancel_scope.specs.declared.operation.Asked.TheVariants.{Read}
+use Rattle.cancel_scope.specs.declared.operation.Progress.TheVariants.{Waiting, Offered, Started}
+use Rattle.cancel_scope.specs.Outstanding.{as_begun, offered_as, started}
+use Rattle.work_item.specs.Store.{no_int, no_place}
 use Rattle.core_state.specs.Moves.{Move, On, Over}
-use Rattle.core_state.specs.Arrivals.{cancelled, ok}
+use Rattle.core_state.specs.Arrivals.{cancelled}
+use Rattle.core_state.specs.Cancelling.{NeverHappens, IsTaken, is_to_try}
 use Rattle.core_state.specs.Shared.{first_shared}
 use Rattle.stack_code.specs.declared.instr.Instr.TheVariants as i
 use Rattle.stack_code.specs.Parts.{Parts}
 use Rattle.stack_code.proofs.Examples as examples
-use Rattle.code_meaning.specs.Machine.{Flat, FlatEnd, given, is_inside, thread_at}
+use Rattle.code_meaning.specs.Machine.{Flat, FlatEnd, given, is_inside, marked, thread_at}
 use Rattle.code_meaning.proofs.CancelExamples.{ended, of_thread, with_slot, within}
 use Rattle.code_meaning.proofs.MachineExamples.{block, item}
 use Rattle.core_machine.specs.declared.tried.Tried.{Tried}
@@ -29,7 +31,7 @@ abbrev code : Parts
 code = record examples.code { instrs = i.Cancel 0 0 ∷ i.Step ∷ [] }
 
 abbrev its_turn : List Entry → Flat
-its_turn past = record (with_slot (cell.Block (block 0))) { shared = record (first_shared []) { past = past }; current = record (within 0 []) { place = 0 } }
+its_turn past = record (with_slot (cell.Block (block 0))) { shared = record (first_shared 2 []) { past = past }; current = record (within 0 []) { place = 0 } }
 
 abbrev core : List Operation → Flat
 core operations = record (its_turn []) { operations = operations }
@@ -46,14 +48,23 @@ pub which_block_it_cancels : (cancelled_in code (core []) ≡ Some (block 0)) ×
 which_block_it_cancels = (refl, refl, refl, refl, refl, refl, refl)
 
 -- an offer is decided elsewhere; one that waits has none
-pub which_offer_is_tried : (tried_as 0 (Offered 3) ≡ Some its_offer) × (tried_as 0 Waiting ≡ None) × (tried_in (Some offered) ≡ Some its_offer) × (tried_in (Some (of_thread 1)) ≡ None)
+pub which_offer_is_tried : (tried_as 0 (Offered 3) ≡ Some its_offer) × (tried_as 0 Waiting ≡ None) × (tried_as 0 (Started 3) ≡ None) × (tried_in (Some offered) ≡ Some its_offer) × (tried_in (Some
+    (of_thread 1)) ≡ None)
     × (tried_in None ≡ None)
-which_offer_is_tried = (refl, refl, refl, refl, refl)
+which_offer_is_tried = (refl, refl, refl, refl, refl, refl)
 
 -- it is that of the oldest operation within, and what lies beside the block is not asked for
 pub it_asks_for_the_oldest : (tried_of code (On (core (offered ∷ []))) ≡ Some its_offer) × (tried_of code (On (core (offered_as 2 (of_thread 2) ∷ offered ∷ []))) ≡ Some its_offer)
     × (tried_of code (On (core (offered ∷ of_thread 1 ∷ []))) ≡ Some its_offer) × (tried_within (core (offered ∷ [])) (Some (block 1)) ≡ Some its_offer)
 it_asks_for_the_oldest = (refl, refl, refl, refl)
+
+-- what has begun is left out, and the next is asked for
+abbrev reads : Operation
+reads = offered_as 1 (started 2 (Read 6 9 no_place) (item 1))
+
+pub what_has_begun_is_left_out : (tried_of code (On (core (as_begun reads ∷ offered ∷ []))) ≡ Some its_offer) × (tried_of code (On (core (as_begun reads ∷ []))) ≡ None)
+    × (tried_of code (On (core (reads ∷ offered ∷ []))) ≡ Some (record { link = 2; number = 1 }))
+what_has_begun_is_left_out = (refl, refl, refl)
 
 pub it_asks_for_none : (tried_of code (On (core (of_thread 1 ∷ offered ∷ []))) ≡ None) × (tried_of code (On (core (offered_as 2 (of_thread 2) ∷ []))) ≡ None)
     × (tried_within (core (offered ∷ [])) (Some (block 2)) ≡ None) × (tried_within (core (offered ∷ [])) None ≡ None)
@@ -85,7 +96,7 @@ after entry value = record before {
   room = false;
 }
 
-pub it_was_withdrawn : HasDecided before its_offer cancelled (event.Withdraw 0 3) 4 (after withdraws (cell.Int (negsuc 0)))
+pub it_was_withdrawn : HasDecided before its_offer NeverHappens (event.Withdraw 0 3) 4 (after withdraws (cell.Int (negsuc 0)))
 it_was_withdrawn = record {
   flat = there;
   stood = refl;
@@ -101,7 +112,7 @@ it_was_withdrawn = record {
   bound = refl;
 }
 
-pub it_was_taken : HasDecided before its_offer ok (event.Know 0 3) 4 (after knows (cell.Int (pos 0)))
+pub it_was_taken : HasDecided before its_offer IsTaken (event.Know 0 3) 4 (after knows (cell.Int (pos 0)))
 it_was_taken = record {
   flat = there;
   stood = refl;
@@ -117,19 +128,45 @@ it_was_taken = record {
   bound = refl;
 }
 
+-- a request that was taken has begun: the block is marked, and its thread waits on
+abbrev before_it : Machine
+before_it = record before { state = On (record there { operations = reads ∷ [] }) }
+
+abbrev knows_it : Entry
+knows_it = record { stamp = 4; turn = 0; event = event.Know 2 1 }
+
+pub a_request_was_taken : HasDecided before_it (record { link = 2; number = 1 }) IsTaken (event.Know 2 1) 4 (record before_it {
+  journal = offers ∷ knows_it ∷ [];
+  state = On (record (marked there (block 0)) { shared = record there.shared { past = offers ∷ knows_it ∷ [] }; operations = as_begun reads ∷ [] });
+})
+a_request_was_taken = record {
+  flat = record there { operations = reads ∷ [] };
+  stood = refl;
+  block = block 0;
+  cancels = refl;
+  operation = reads;
+  found = refl;
+  offered = refl;
+  state = refl;
+  journal = refl;
+  code = refl;
+  core = refl;
+  bound = refl;
+}
+
 -- the value of the thread 1
 abbrev value_of : Move Flat FlatEnd → Cell
 value_of (On m) = slice_index_or (thread_at m.threads (item 1)).operands 0 no_int
 value_of (Over x) = no_int
 
 -- one that was withdrawn does not give the value of one that was taken
-pub the_value_of_another_outcome : HasDecided before its_offer cancelled (event.Withdraw 0 3) 4 (after withdraws (cell.Int (pos 0))) → ⊥
+pub the_value_of_another_outcome : HasDecided before its_offer NeverHappens (event.Withdraw 0 3) 4 (after withdraws (cell.Int (pos 0))) → ⊥
 the_value_of_another_outcome h =
     let flat : there ≡ h.flat = let same : On there ≡ On h.flat = h.stood in cc in
     let its_block : block 0 ≡ h.block = let same : Some (block 0) ≡ Some h.block = subst (λ f. cancelled_in code f ≡ Some h.block) (sym flat) h.cancels in cc in
     let its : offered ≡ h.operation =
-    let same : Some offered ≡ Some h.operation = subst (λ b. find (is_inside there b) there.operations ≡ Some h.operation) (sym its_block)
-    (subst (λ (f : Flat). find (is_inside f h.block) f.operations ≡ Some h.operation) (sym flat) h.found) in
+    let same : Some offered ≡ Some h.operation = subst (λ b. find (is_to_try (is_inside there b)) there.operations ≡ Some h.operation) (sym its_block)
+    (subst (λ (f : Flat). find (is_to_try (is_inside f h.block)) f.operations ≡ Some h.operation) (sym flat) h.found) in
     cc in
     let e : cell.Int (pos 0) ≡ with_value h.flat h.operation = ap value_of h.state in
     let no : cell.Int (pos 0) ≡ cell.Int (negsuc 0) = subst (λ o. cell.Int (pos 0) ≡ with_value there o) (sym its) (subst (λ f. cell.Int (pos 0) ≡ with_value f h.operation) (sym flat) e) in
@@ -139,5 +176,5 @@ the_value_of_another_outcome h =
     with_value m o = slice_index_or (thread_at (slice_set m.threads o.item.number (given (cell.Int cancelled) (thread_at m.threads o.item))) (item 1)).operands 0 no_int
 
 -- an outcome without its entry
-pub it_is_not_recorded : HasDecided before its_offer ok (event.Know 0 3) 4 (record (after knows (cell.Int (pos 0))) { journal = offers ∷ [] }) → ⊥
+pub it_is_not_recorded : HasDecided before its_offer IsTaken (event.Know 0 3) 4 (record (after knows (cell.Int (pos 0))) { journal = offers ∷ [] }) → ⊥
 it_is_not_recorded h = let e = h.journal in cc

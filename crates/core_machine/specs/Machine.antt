@@ -29,13 +29,13 @@ pub record Machine : Type 0 where
 pub record IsFirst (m : Machine) : Type 0 where
   pub function : Entered
   pub begins : Begins m.code m.core function
-  pub state : m.state ≡ first_flat m.code function m.journal
+  pub state : m.state ≡ first_flat m.code m.core function m.journal
 
 -- the machine has come to its state from the core's beginning, by moves of the code under its journal
 pub record IsOnItsWay (m : Machine) : Type 0 where
   pub function : Entered
   pub begins : Begins m.code m.core function
-  pub goes : GoesOn (exec m.code m.bound) (first_flat m.code function m.journal) m.state
+  pub goes : GoesOn (exec m.code m.bound) (first_flat m.code m.core function m.journal) m.state
 
 -- all but the state stays
 pub record IsSameCore (before after : Machine) : Type 0 where

@@ -3,10 +3,11 @@ use Rattle.std.specs.Prelude.{◌≡◌, ℕ, suc, ℤ, Bool, false, List, [], �
 use Rattle.std.specs.Prelude.{Option, Some, None, find, is_none, is_some, option_and_then}
 use Rattle.ac_base.specs.declared.entry.Entry.{Entry}
 use Rattle.ac_base.specs.declared.entry.Event.{Event}
+use Rattle.ac_base.specs.declared.entry.Payload.{Payload}
 use Rattle.cancel_scope.specs.declared.operation.Asked.{Asked}
-use Rattle.cancel_scope.specs.declared.operation.Asked.TheVariants.{Send, Recv}
+use Rattle.cancel_scope.specs.declared.operation.Asked.TheVariants.{Send}
 use Rattle.cancel_scope.specs.declared.operation.Operation.{Operation}
-use Rattle.cancel_scope.specs.Outstanding.{is_to_offer, is_to_receive}
+use Rattle.cancel_scope.specs.Outstanding.{is_to_offer, is_to_receive, carries}
 use Rattle.core_state.specs.Moves.{Move, On, Over}
 use Rattle.core_state.specs.Arrivals.{Arrival, arrives}
 use Rattle.core_state.specs.Shared.{with_entry}
@@ -14,7 +15,7 @@ use Rattle.code_meaning.specs.Machine.{Flat, FlatEnd, arrived}
 use Rattle.code_safety.specs.KeptEnds.{KeepsEnds, AreAtEnds}
 use Rattle.code_safety.specs.Left.{left}
 use Rattle.core_machine.specs.Machine.{Machine, has_ended}
-use Rattle.core_machine.specs.Tracks.{Tracks}
+use Rattle.core_machine.specs.Tracks.{AskForNoFile, Tracks}
 
 -- it has not ended, and no thread runs
 abbrev pub is_at_point : Move Flat FlatEnd → Bool
@@ -30,11 +31,19 @@ operations_of (Over x) = []
 
 abbrev pub message_of : Asked → Option ℤ
 message_of (Send value) = Some value
-message_of (Recv place) = None
+message_of _ = None
 
 -- what the oldest of these operations that is to be offered on a link sends
 abbrev pub to_send : List Operation → ℕ → Option ℤ
 to_send os link = option_and_then (λ (o : Operation). message_of o.asked) (find (is_to_offer link) os)
+
+abbrev pub carried_by : Option Operation → Payload → Bool
+carried_by None payload = false
+carried_by (Some o) payload = carries o.asked payload
+
+-- whether an offer of the oldest of these operations that is to be offered on a link carries this
+abbrev pub offer_carries : List Operation → ℕ → Payload → Bool
+offer_carries os link payload = carried_by (find (is_to_offer link) os) payload
 
 -- whether one of these operations waits for a message from a link
 abbrev pub receives_from : List Operation → ℕ → Bool
@@ -43,6 +52,10 @@ receives_from os link = is_some (find (is_to_receive link) os)
 -- each offer of its journal that has not ended is that of an operation, where the core has not ended
 abbrev pub HasTracks : Machine → Type 0
 HasTracks m = has_ended m.state ≡ false → Tracks m.journal (operations_of m.state)
+
+-- no operation of the core reads or writes a file, since its code does not
+abbrev pub AsksForNoFile : Machine → Type 0
+AsksForNoFile m = AskForNoFile (operations_of m.state)
 
 -- where the code keeps its ends, each operation of the core is at one of them
 abbrev pub KeepsOperations : Machine → Type 0

@@ -16,7 +16,7 @@ use Rattle.core_machine.specs.Machine.{Machine, IsOnItsWay}
 
 -- the whole journal has come in
 abbrev pub shared_of : Running → Shared
-shared_of m = record { steps = m.steps; turn = m.turn; output = m.output.items; past = m.journal.entries; todo = [] }
+shared_of m = record { steps = m.steps; turn = m.turn; output = m.output.items; past = m.journal.entries; todo = []; requests = m.requests }
 
 abbrev pub thread_of : Running → Thread
 thread_of m = record { place = m.place; frame = m.frame; operands = m.operands; callers = m.callers; block = m.block }

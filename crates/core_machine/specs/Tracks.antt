@@ -4,7 +4,7 @@ use Rattle.ac_base.specs.declared.entry.Event.{Event}
 use Rattle.ac_base.specs.declared.entry.Event.TheVariants as event
 use Rattle.ac_base.specs.declared.entry.Entry.{Entry}
 use Rattle.cancel_scope.specs.declared.operation.Operation.{Operation}
-use Rattle.cancel_scope.specs.Outstanding.{is_offered, is_send, is_waiting}
+use Rattle.cancel_scope.specs.Outstanding.{is_offered, is_outgoing, is_request, is_waiting}
 use Rattle.code_safety.specs.Fit.{one_if, total}
 
 -- the event offers under that number on that link
@@ -27,8 +27,13 @@ ends_of link number past = total (λ (e : Entry). one_if (is_end_of link number 
 abbrev pub standing_of : ℕ → ℕ → List Operation → ℕ
 standing_of link number os = total (λ (o : Operation). one_if (is_offered link number o)) os
 
--- as many operations stand on a link under a number as the journal has offers there that have not ended, and an operation that receives is
--- not offered
+-- none of these operations reads or writes a file
+abbrev pub AskForNoFile : List Operation → Type 0
+AskForNoFile os = All (λ (o : Operation). is_request o.asked ≡ false) os
+
+-- as many operations stand on a link under a number as the journal has offers there that have not ended, an operation that receives is
+-- not offered, and none reads or writes a file
 pub record Tracks (past : List Entry) (os : List Operation) : Type 0 where
   pub each : (link number : ℕ) → standing_of link number os + ends_of link number past ≡ offers_of link number past
-  pub receives : All (λ (o : Operation). is_send o.asked ≡ false → is_waiting o.progress ≡ true) os
+  pub receives : All (λ (o : Operation). is_outgoing o.asked ≡ false → is_waiting o.progress ≡ true) os
+  pub files : AskForNoFile os

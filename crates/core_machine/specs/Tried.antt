@@ -1,5 +1,5 @@
 -- For which offer a core asks for an outcome, and what comes of it.
-use Rattle.std.specs.Prelude.{◌≡◌, ℕ, ℤ, [], ◌∷◌, ◌++◌, Option, Some, None, find, slice_get}
+use Rattle.std.specs.Prelude.{◌≡◌, ℕ, [], ◌∷◌, ◌++◌, Option, Some, None, find, slice_get}
 use Rattle.ac_base.specs.declared.entry.Event.{Event}
 use Rattle.work_item.specs.declared.ids.Item.{Item}
 use Rattle.work_item.specs.declared.ids.BlockId.{BlockId}
@@ -7,9 +7,8 @@ use Rattle.work_item.specs.Store.{cell_at}
 use Rattle.cancel_scope.specs.declared.operation.Progress.{Progress}
 use Rattle.cancel_scope.specs.declared.operation.Progress.TheVariants as progress
 use Rattle.cancel_scope.specs.declared.operation.Operation.{Operation}
-use Rattle.cancel_scope.specs.Outstanding.{without_first}
 use Rattle.core_state.specs.Moves.{Move, On, Over}
-use Rattle.core_state.specs.Arrivals.{has_ended_as}
+use Rattle.core_state.specs.Cancelling.{Outcome, by_outcome, is_to_try}
 use Rattle.core_state.specs.Frames.{block_in}
 use Rattle.core_state.specs.Shared.{with_entry}
 use Rattle.stack_code.specs.declared.instr.Instr.{Instr}
@@ -38,39 +37,41 @@ cancelled_in code m = cancelled_at code m m.running
 abbrev pub tried_as : ℕ → Progress → Option Tried
 tried_as link progress.Waiting = None
 tried_as link (progress.Offered number) = Some (record { link = link; number = number })
+tried_as link (progress.Started number) = None
 
 -- an operation that is tried, and was offered
 abbrev pub tried_in : Option Operation → Option Tried
 tried_in None = None
 tried_in (Some o) = tried_as o.link o.progress
 
--- the oldest operation within a block
+-- the oldest operation within a block that its peer has not begun
 abbrev pub tried_within : Flat → Option BlockId → Option Tried
 tried_within m None = None
-tried_within m (Some block) = tried_in (find (is_inside m block) m.operations)
+tried_within m (Some block) = tried_in (find (is_to_try (is_inside m block)) m.operations)
 
--- the running thread stands at a cancel, and the oldest operation within its block was offered: what comes of the offer is not the core's
--- to decide
+-- the running thread stands at a cancel, and the oldest operation within its block that its peer has not begun was offered: what comes of
+-- the offer is not the core's to decide
 abbrev pub tried_of : Parts → Move Flat FlatEnd → Option Tried
 tried_of code (Over x) = None
 tried_of code (On m) = tried_within m (cancelled_in code m)
 
 -- ---- its outcome
 
--- the running thread stands at a cancel of a block, and the oldest operation within it has ended with a value, by an entry of this stamp
-pub record HasDecided (before : Machine) (tried : Tried) (value : ℤ) (event : Event) (stamp : ℕ) (after : Machine) : Type 0 where
+-- the running thread stands at a cancel of a block, and of the oldest operation within it that its peer has not begun this has become, by
+-- an entry of this stamp
+pub record HasDecided (before : Machine) (tried : Tried) (it : Outcome) (event : Event) (stamp : ℕ) (after : Machine) : Type 0 where
   pub flat : Flat
   pub stood : before.state ≡ On flat
   pub block : BlockId
   pub cancels : cancelled_in before.code flat ≡ Some block
   pub operation : Operation
-  pub found : find (is_inside flat block) flat.operations ≡ Some operation
+  pub found : find (is_to_try (is_inside flat block)) flat.operations ≡ Some operation
   pub offered : tried_in (Some operation) ≡ Some tried
   pub state :
       after.state
       ≡ On
       (arrived (marked flat block) (with_entry flat.shared (entry_of flat event stamp) [])
-      (has_ended_as value flat.store (without_first (is_inside flat block) flat.operations) operation))
+      (by_outcome it flat.store (is_to_try (is_inside flat block)) flat.operations operation))
   pub journal : after.journal ≡ before.journal ++ entry_of flat event stamp ∷ []
   pub code : after.code ≡ before.code
   pub core : after.core ≡ before.core

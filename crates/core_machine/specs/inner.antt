@@ -5,3 +5,4 @@ pub mod Beginning
 pub mod Left
 pub mod Changes
 pub mod Deciding
+pub mod Follows

@@ -1,6 +1,7 @@
 //! What a core begins with.
 
 ghost use Rattle.std.specs.Prelude.{◌≡◌, ◌<◌, length, All, IfOk};
+ghost use Rattle.core_state.specs.Shared.{request_link};
 ghost use Rattle.stack_code.specs.declared.parts.Start.{Start};
 ghost use Rattle.code_meaning.specs.Machine.{with_starts};
 ghost use Rattle.core_state.specs.Frames.{has_words};
@@ -8,7 +9,7 @@ ghost use Rattle.core_machine.specs.inner.Beginning.{HasBegun};
 
 use crate::ending::Ending;
 use ac_base::{NoMemory, Trap};
-use stack_code::Start;
+use stack_code::{Code, Start};
 use work_item::Frames;
 
 // How many words the globals and the frames of a core may have.
@@ -23,6 +24,16 @@ pub fn set_starts(frames: &mut Frames, starts: &[Start])
     for start in starts {
         frames.write_global(start.slot, start.value);
     }
+}
+
+/// The link of a core's requests, which comes after the channels and the requests of the cores before.
+pub fn request_link(code: &Code, core: u32) -> u32
+    requires { core < length code.now.entries }
+    ensures { result ≡ request_link (length code.now.ends) core }
+{
+    // A code is valid, so its links are few.
+    let _instrs = code.instrs();
+    (code.ends().len() + core as usize) as u32
 }
 
 /// Whether a frame of so many slots keeps the words within their limit.

@@ -18,7 +18,7 @@ impl Running<'_> {
     ghost use Rattle.core_machine.specs.inner.Changes.{Keeps, Does, Stays, Continues};
 
     /// Marks the block whose number a slot keeps as cancelled, and tries the oldest operation within
-    /// it. Where there is none, the thread goes on.
+    /// it that its peer has not begun. Where there is none, the thread goes on.
     pub fn cancel(&mut self, level: u32, slot: u32) -> Result<Went, NoMemory>
         requires running { self.old.ended ≡ None }
         requires inside { self.old.place < 2 ^ 32 }
@@ -40,15 +40,17 @@ impl Running<'_> {
             return Ok(Went::On);
         };
         let operation = self.outstanding.get(place);
+        let item = operation.item;
         match operation.progress {
             Progress::Offered { .. } => Ok(Went::Asks),
             Progress::Waiting => {
                 self.schedule.reserve(1)?;
                 let _ = self.outstanding.end_at(place);
                 self.blocks.mark_cancelled(block);
-                self.resume(operation.item, CANCELLED);
+                self.resume(item, CANCELLED);
                 Ok(Went::Away)
             }
+            Progress::Started { .. } => unreachable!(),
         }
     }
 }

@@ -10,6 +10,7 @@ mod ending;
 mod machine;
 mod operate;
 mod operations;
+mod payload;
 mod running;
 mod threads;
 mod tried;

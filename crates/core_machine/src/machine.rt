@@ -1,12 +1,12 @@
 //! The machine that callers see.
 
-use crate::beginning::{make_first, set_starts};
+use crate::beginning::{make_first, request_link, set_starts};
 use crate::counter::Counter;
 use crate::ending::{Ending, word_now};
+use crate::payload::payload_of;
 use crate::running::Running;
 use crate::tried::Tried;
-use crate::values::{CANCELLED, OK};
-use ac_base::{CoreEnd, Event, Journal, List, MachineEnd, Message, NoMemory};
+use ac_base::{CoreEnd, Event, Journal, List, MachineEnd, Message, NoMemory, Payload};
 use cancel_scope::{Asked, Outstanding};
 use core_scheduler::Scheduler;
 use finish_block::Blocks;
@@ -79,6 +79,7 @@ impl<'a> CoreMachine<'a> {
                 code,
                 core,
                 bound: steps,
+                requests: request_link(code, core),
                 journal: Journal::new(alloc),
                 frames,
                 outstanding: Outstanding::new(alloc),
@@ -161,17 +162,17 @@ impl<'a> CoreMachine<'a> {
 // ---- its dispatch points, where entries come in
 
 impl<'a> CoreMachine<'a> {
-    ghost use Rattle.std.specs.Prelude.{◌≡◌, ℕ, ◌<◌, ◌≤◌, List, Some, None, true, false, IsSome, MatchOption, OnOk, find};
+    ghost use Rattle.std.specs.Prelude.{◌≡◌, ℕ, ◌<◌, ◌≤◌, List, Some, None, true, false, IsSome, MatchOption, OnOk, IfOk, find};
     ghost use Rattle.ac_base.specs.declared.entry.Event.{Event};
-    ghost use Rattle.ac_base.specs.declared.entry.Payload.{Payload};
-    ghost use Rattle.cancel_scope.specs.Outstanding.{is_offered};
+    ghost use Rattle.cancel_scope.specs.Outstanding.{is_to_offer, is_offered};
     ghost use Rattle.core_state.specs.Moves.{GoesOn};
-    ghost use Rattle.core_state.specs.Arrivals.{offers_on, keeps_room, ok, cancelled};
+    ghost use Rattle.core_state.specs.Arrivals.{offers_on, keeps_room};
+    ghost use Rattle.core_state.specs.Cancelling.{NeverHappens, IsTaken};
     ghost use Rattle.stack_code.specs.Kept.{IsRanked};
     ghost use Rattle.code_meaning.specs.Machine.{exec};
     ghost use Rattle.core_machine.specs.Machine.{ComesToEnd, IsOnItsWay, IsSameCore, HasEnded, has_ended, is_idle};
-    ghost use Rattle.core_machine.specs.Points.{is_at_point, operations_of, to_send, receives_from, work_left};
-    ghost use Rattle.core_machine.specs.Points.{KeepsOperations, HasTracks, HasCome};
+    ghost use Rattle.core_machine.specs.Points.{is_at_point, operations_of, to_send, offer_carries, receives_from, work_left};
+    ghost use Rattle.core_machine.specs.Points.{KeepsOperations, AsksForNoFile, HasTracks, HasCome};
     ghost use Rattle.core_machine.specs.Tried.{tried_of, HasDecided};
 
     /// The code that it runs.
@@ -189,12 +190,14 @@ impl<'a> CoreMachine<'a> {
     }
 
     /// How it has ended, if it has. Under its journal its code comes to an end, which is what is seen
-    /// of it where it has ended or is idle; and where the code keeps its ends, so do its operations.
+    /// of it where it has ended or is idle; and where the code keeps its ends, so do its operations,
+    /// of which none reads or writes a file.
     pub fn ending(&self) -> Option<Ending>
         ensures ended { MatchOption result (has_ended self.now.state ≡ false) (λ ending. HasEnded self.now.state ending) }
         ensures run { IsOnItsWay self.now }
         ensures comes { ComesToEnd self.now }
         ensures ends { KeepsOperations self.now }
+        ensures files { AsksForNoFile self.now }
     {
         // The ranks are there for the proof alone that the code comes to an end.
         let _ranks = self.running.code.ranks();
@@ -217,7 +220,22 @@ impl<'a> CoreMachine<'a> {
     {
         match self.running.outstanding.to_offer(link)?.asked {
             Asked::Send(value) => Some(value),
-            Asked::Recv(_) => None,
+            Asked::Recv(_) | Asked::Read { .. } | Asked::Write { .. } => None,
+        }
+    }
+
+    /// What an offer of the oldest operation that is to be offered on a link carries. It takes the
+    /// memory of a write's bytes.
+    ///
+    /// Condition: the core has not ended.
+    pub fn to_offer(&self, alloc: Global, link: u32) -> Result<Option<Payload>, NoMemory>
+        requires { has_ended self.now.state ≡ false }
+        ensures { IfOk result (λ payload. MatchOption payload (find (is_to_offer link) (operations_of self.now.state) ≡ None)
+            (λ it. offer_carries (operations_of self.now.state) link it ≡ true)) }
+    {
+        match self.running.outstanding.to_offer(link) {
+            Some(operation) => Ok(Some(payload_of(alloc, &operation.asked)?)),
+            None => Ok(None),
         }
     }
 
@@ -243,24 +261,25 @@ impl<'a> CoreMachine<'a> {
         self.running.make_room()
     }
 
-    /// The oldest operation that is to be offered on a link, which sends that value, was offered
-    /// under that number.
+    /// The oldest operation that is to be offered on a link was offered under that number, by an
+    /// offer that carries this.
     ///
-    /// Conditions: there is room for an entry, no thread runs, there is such an operation, and as
-    /// many offers were made on the link before.
-    pub fn offered(&mut self, link: u32, number: u64, value: Message, stamp: u64)
+    /// Conditions: there is room for an entry, no thread runs, there is such an operation, an offer of
+    /// it carries this, and as many offers were made on the link before.
+    pub fn offered(&mut self, link: u32, number: u64, payload: Payload, stamp: u64)
         requires room { self.old.room ≡ true }
         requires point { is_at_point self.old.state ≡ true }
         requires next { number ≡ offers_on link self.old.journal }
-        requires oldest { to_send (operations_of self.old.state) link ≡ Some value }
-        ensures come { HasCome self.old (Event.Offer link number (Payload.Int value)) stamp self.new }
+        requires oldest { offer_carries (operations_of self.old.state) link payload ≡ true }
+        ensures come { HasCome self.old (Event.Offer link number payload) stamp self.new }
         ensures less { (ranks : List ℕ) → work_left ranks self.new ≤ work_left ranks self.old }
         ensures run { IsOnItsWay self.new }
     {
-        self.running.offered(link, number, value, stamp);
+        self.running.offered(link, number, payload, stamp);
     }
 
-    /// The offer under that number was taken, and its operation has ended.
+    /// The offer under that number was taken: its operation has ended, or it is a request and has
+    /// begun.
     ///
     /// Conditions: there is room for an entry, no thread runs, and an operation stands under that
     /// number.
@@ -322,7 +341,7 @@ impl<'a> CoreMachine<'a> {
     }
 
     /// The offer for which the core asks for an outcome: it stands at a cancel, and the oldest
-    /// operation within the block was offered.
+    /// operation within the block that its peer has not begun was offered.
     pub fn tried(&self) -> Option<Tried>
         ensures tried { result ≡ tried_of self.now.code self.now.state }
         ensures tracks { HasTracks self.now }
@@ -336,7 +355,7 @@ impl<'a> CoreMachine<'a> {
     pub fn withdrawn(&mut self, tried: Tried, stamp: u64)
         requires room { self.old.room ≡ true }
         requires asks { tried_of self.old.code self.old.state ≡ Some tried }
-        ensures decided { HasDecided self.old tried cancelled (Event.Withdraw tried.link tried.number) stamp self.new }
+        ensures decided { HasDecided self.old tried NeverHappens (Event.Withdraw tried.link tried.number) stamp self.new }
         ensures less { (ranks : List ℕ) → work_left ranks self.new < work_left ranks self.old }
         ensures run { IsOnItsWay self.new }
     {
@@ -344,16 +363,17 @@ impl<'a> CoreMachine<'a> {
             link: tried.link,
             number: tried.number,
         };
-        self.running.decide(event, CANCELLED, stamp);
+        self.running.decide_withdrawn(event, stamp);
     }
 
-    /// The offer that a cancel tries was taken: its operation is done.
+    /// The offer that a cancel tries was taken: its operation is done, or it is a request and has
+    /// begun.
     ///
     /// Conditions: as those of `withdrawn`.
     pub fn taken(&mut self, tried: Tried, stamp: u64)
         requires room { self.old.room ≡ true }
         requires asks { tried_of self.old.code self.old.state ≡ Some tried }
-        ensures decided { HasDecided self.old tried ok (Event.Know tried.link tried.number) stamp self.new }
+        ensures decided { HasDecided self.old tried IsTaken (Event.Know tried.link tried.number) stamp self.new }
         ensures less { (ranks : List ℕ) → work_left ranks self.new < work_left ranks self.old }
         ensures run { IsOnItsWay self.new }
     {
@@ -361,7 +381,7 @@ impl<'a> CoreMachine<'a> {
             link: tried.link,
             number: tried.number,
         };
-        self.running.decide(event, OK, stamp);
+        self.running.decide_taken(event, stamp);
     }
 
     /// The running thread goes on as long as it is the same thread; where none runs, the front of

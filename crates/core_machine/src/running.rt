@@ -5,7 +5,7 @@ ghost use Rattle.std.specs.Prelude.{◌≡◌};
 use crate::counter::Counter;
 use crate::ending::Ending;
 use crate::operate::{binary, unary};
-use crate::went::{Went, done};
+use crate::went::{Follows, Went, done, how_on};
 use ac_base::{Journal, NoMemory, Trap};
 use cancel_scope::Outstanding;
 use core_scheduler::Scheduler;
@@ -16,16 +16,17 @@ use std::alloc::Global;
 use thread_table::{Callers, Operands, ThreadTable};
 use work_item::{BlockId, Cell, FrameId, Frames, Place};
 
-/// The fields of a core that runs: its journal; its globals and frames, and its operations that have
-/// not ended; the frame, the address, the operands, the callers and the innermost block of the
-/// running thread; which threads run and are ready, the others at their numbers, and the blocks; the
-/// steps and turns that it has used, the bytes that it has printed, the instructions begun, and how
-/// it has ended.
+/// The fields of a core that runs: the link of its requests, and its journal; its globals and frames,
+/// and its operations that have not ended; the frame, the address, the operands, the callers and the
+/// innermost block of the running thread; which threads run and are ready, the others at their
+/// numbers, and the blocks; the steps and turns that it has used, the bytes that it has printed, the
+/// instructions begun, and how it has ended.
 #[derive(Drop)]
 pub struct Running<'a> {
     pub code: &'a Code,
     pub core: u32,
     pub bound: u64,
+    pub requests: u32,
     pub journal: Journal,
     pub frames: Frames,
     pub outstanding: Outstanding,
@@ -495,6 +496,7 @@ impl Running<'_> {
     ghost use Rattle.core_machine.specs.Points.{is_at_point};
     ghost use Rattle.core_machine.specs.State.{flat_of, state_of, IsSound};
     ghost use Rattle.core_machine.specs.declared.went.Went.{Went};
+    ghost use Rattle.core_machine.specs.declared.went.Follows.{Follows};
     ghost use Rattle.core_machine.specs.Tried.{cancelled_by, tried_within, tried_of};
     ghost use Rattle.core_machine.specs.inner.Left.{left_of};
     ghost use Rattle.core_machine.specs.inner.Needs.{Finds, is_on_threads};
@@ -600,6 +602,7 @@ impl Running<'_> {
         Ok(Went::On)
     }
 
+    /// The next instruction of the running thread.
     #[inline(always)]
     pub fn next_instr<'i>(&self, instrs: &'i [Instr]) -> &'i Instr
         requires running { self.now.ended ≡ None }
@@ -613,33 +616,34 @@ impl Running<'_> {
         &instrs[self.place]
     }
 
-    // The next instruction of the running thread. The ranks are there for the proof alone that less
-    // is left to do.
+    // That next instruction is done. The ranks are there for the proof alone that less is left to do.
     #[inline(always)]
-    fn one(&mut self, instrs: &[Instr], _ranks: &[u64]) -> Result<Went, NoMemory>
+    fn one(&mut self, instr: &Instr, _ranks: &[u64]) -> Follows
         requires running { self.old.ended ≡ None }
         requires runs { IsSome self.old.schedule.running }
         requires sound { IsSound self.old }
-        requires instrs { instrs.now ≡ self.old.code.now.instrs }
+        requires here { slice_get self.old.code.now.instrs self.old.place ≡ Some instr.now }
+        requires inside { self.old.place < 2 ^ 32 }
+        requires finds { Finds self.old.code.now (flat_of self.old) instr.now }
         requires ranked { IsRanked self.old.code.now _ranks.now }
         requires settled { self.old.threads.pending ≡ false }
-        ensures ok { IfOk result (λ went. went ≢ Went.Asks
-            → state_of self.new ≡ exec self.old.code.now self.old.bound (flat_of self.old)) }
-        ensures asks { IfOk result (λ went. went ≡ Went.Asks → IsSome (tried_of self.old.code.now (state_of self.old))) }
-        ensures stays { IfOk result (λ went. went ≡ Went.Asks → Stays self.old self.new) }
-        ensures err { OnErr result (Stays self.old self.new) }
+        ensures done { result ≢ Follows.Asks → result ≢ Follows.Refused
+            → state_of self.new ≡ exec self.old.code.now self.old.bound (flat_of self.old) }
+        ensures asks { result ≡ Follows.Asks → IsSome (tried_of self.old.code.now (state_of self.old)) }
+        ensures stays { result ≡ Follows.Asks → Stays self.old self.new }
+        ensures refused { result ≡ Follows.Refused → Stays self.old self.new }
         ensures keeps { Keeps self.old self.new }
         ensures sound { IsSound self.new }
-        ensures less { IfOk result (λ went. went ≢ Went.Asks → left_of _ranks.now self.new < left_of _ranks.now self.old) }
-        ensures continues { IfOk result (λ went. went ≡ Went.On → Continues self.old self.new) }
+        ensures less { result ≢ Follows.Asks → result ≢ Follows.Refused
+            → left_of _ranks.now self.new < left_of _ranks.now self.old }
+        ensures continues { result ≡ Follows.Same → Continues self.old self.new }
     {
-        let instr = self.next_instr(instrs);
-        let went = self.execute(instr)?;
-        Ok(went)
+        how_on(self.execute(instr))
     }
 
     // The instructions of the running thread, until it need not be the same thread that goes on, or
-    // the core asks for an outcome.
+    // the core asks for an outcome. Each is looked up at the end of the one before it, so that compiled
+    // code goes from one to the next without a test of how it went.
     fn stretch(&mut self, _ranks: &[u64]) -> Result<(), NoMemory>
         requires running { self.old.ended ≡ None }
         requires runs { IsSome self.old.schedule.running }
@@ -654,11 +658,13 @@ impl Running<'_> {
     {
         let code = self.code;
         let instrs = code.instrs();
+        let mut instr = self.next_instr(instrs);
         'steps: loop {
-            let went = self.one(instrs, _ranks)?;
-            match went {
-                Went::On => {}
-                Went::Away | Went::Asks => return Ok(()),
+            match self.one(instr, _ranks) {
+                Follows::Same => instr = self.next_instr(instrs),
+                Follows::Away => return Ok(()),
+                Follows::Asks => return Ok(()),
+                Follows::Refused => return Err(NoMemory),
             }
         }
     }

@@ -13,14 +13,14 @@ pub struct Tried {
 }
 
 /// The offer of an operation that is tried, where it was offered.
-pub fn tried_in(operation: Operation) -> Option<Tried>
-    ensures { result ≡ tried_in (Some operation) }
+pub fn tried_in(operation: &Operation) -> Option<Tried>
+    ensures { result ≡ tried_in (Some operation.now) }
 {
     match operation.progress {
-        Progress::Waiting => None,
         Progress::Offered { number } => Some(Tried {
             link: operation.link,
             number,
         }),
+        Progress::Waiting | Progress::Started { .. } => None,
     }
 }

@@ -1,4 +1,4 @@
-//! What a cancel looks for: the oldest operation within a block.
+//! What a cancel looks for: the oldest operation within a block that its peer has not begun.
 
 use crate::running::Running;
 use crate::tried::{Tried, tried_in};
@@ -11,6 +11,7 @@ impl Running<'_> {
     ghost use Rattle.work_item.specs.Store.{above, cell_at};
     ghost use Rattle.work_item.specs.Conditions.{HasLevel, HasSlot};
     ghost use Rattle.core_state.specs.Frames.{block_in};
+    ghost use Rattle.core_state.specs.Cancelling.{is_to_try};
     ghost use Rattle.code_meaning.specs.Machine.{is_inside};
     ghost use Rattle.core_machine.specs.State.{flat_of, state_of, IsSound};
     ghost use Rattle.core_machine.specs.Tried.{cancelled_in, tried_of};
@@ -28,21 +29,28 @@ impl Running<'_> {
     }
 
     // Whether an operation lies within a block.
-    fn is_inside(&self, block: BlockId, operation: Operation) -> bool
-        ensures { result ≡ is_inside (flat_of self.now) block operation }
+    fn is_inside(&self, block: BlockId, operation: &Operation) -> bool
+        ensures { result ≡ is_inside (flat_of self.now) block operation.now }
     {
         let own = self.threads.block_of(operation.item);
         self.blocks.is_within(own, block)
     }
 
-    /// The place of the oldest operation within a block.
+    // Whether a cancel of a block tries an operation.
+    fn is_to_try(&self, block: BlockId, operation: &Operation) -> bool
+        ensures { result ≡ is_to_try (is_inside (flat_of self.now) block) operation.now }
+    {
+        self.is_inside(block, operation) && !operation.has_begun()
+    }
+
+    /// The place of the oldest operation that a cancel of a block tries.
     pub fn oldest_within(&self, block: BlockId) -> Option<usize>
-        ensures { result ≡ position (is_inside (flat_of self.now) block) self.now.outstanding.operations }
+        ensures { result ≡ position (is_to_try (is_inside (flat_of self.now) block)) self.now.outstanding.operations }
     {
         let mut place = 0;
         while place < self.outstanding.len() {
             let operation = self.outstanding.get(place);
-            if self.is_inside(block, operation) {
+            if self.is_to_try(block, operation) {
                 return Some(place);
             }
             place += 1;

@@ -141,7 +141,7 @@ not_with_an_instruction_more r =
     let at : 0 ≡ r.begins.entry = cc in
     let here : slice_get crossing.functions 0 ≡ Some r.function = subst (λ n. slice_get crossing.functions n ≡ Some r.function) (sym at) r.begins.function_is in
     let same : record { name = codes "f"; at = 0; params = []; words = 0 } ≡ r.function = cc in
-    let other = subst (λ f. ComesTo (exec crossing 9) (first_flat crossing f sender.journal) (record { core = Some sender.end.core; count = 7 })) (sym same) r.comes in
+    let other = subst (λ f. ComesTo (exec crossing 9) (first_flat crossing 0 f sender.journal) (record { core = Some sender.end.core; count = 7 })) (sym same) r.comes in
     let e = one_end (exec crossing 9) _ _ _ (the_sender_ends.comes.0, sym the_sender_ends.comes.1) (other.0, sym other.1) in
     let n : 6 ≡ 7 = ap (λ (x : FlatEnd). x.count) e in omega (arith, n)
 

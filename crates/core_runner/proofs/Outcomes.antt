@@ -1,6 +1,6 @@
 -- An entry of one core's journal is one of the run's history, so what a cancel is answered is what the whole run shows.
-use Rattle.std.proofs.Common.{◌≡◌, ℕ, zero, suc, ◌+◌, ◌≤◌, List, [], ◌∷◌, ◌++◌, map, Option, Some, None, Bool, true, false, cond, refl, sym, ap, ◌∙◌, subst, arith, inl, inr, pos, negsuc}
-use Rattle.std.specs.Prelude.{ℤ, nat_eq, nat_le, ◌&&◌, ◌⊎◌, slice_get, if◌then◌else◌}
+use Rattle.std.proofs.Common.{◌≡◌, ℕ, zero, suc, ◌+◌, ◌≤◌, List, [], ◌∷◌, ◌++◌, map, Option, Some, None, Bool, true, false, cond, refl, sym, ap, ◌∙◌, subst, arith}
+use Rattle.std.specs.Prelude.{ℤ, nat_eq, nat_le, ◌&&◌, slice_get, if◌then◌else◌}
 use Rattle.std.proofs.lemmas.List.Sums.{sum_by-cons, sum_by-append}
 use Rattle.ac_base.specs.Log.{Log}
 use Rattle.ac_base.specs.declared.entry.Entry.{Entry}
@@ -12,11 +12,10 @@ use Rattle.ac_commands.specs.declared.program.Resolved.{Resolved}
 use Rattle.ac_links.specs.Order.{in_order, of_party, placed, stamp_of}
 use Rattle.cancel_scope.specs.declared.operation.Operation.{Operation}
 use Rattle.cancel_scope.specs.declared.operation.Progress.{Progress}
-use Rattle.cancel_scope.specs.declared.operation.Progress.TheVariants.{Waiting, Offered}
+use Rattle.cancel_scope.specs.declared.operation.Progress.TheVariants.{Waiting, Offered, Started}
 use Rattle.core_state.specs.Moves.{Over}
 use Rattle.core_state.specs.Shared.{Shared, with_entry}
-use Rattle.core_state.specs.Arrivals.{ok, cancelled}
-use Rattle.core_state.specs.Cancelling.{decided, ends_by, outcome, tried}
+use Rattle.core_state.specs.Cancelling.{Outcome, NeverHappens, IsTaken, decided, goes_by, outcome, tried}
 use Rattle.ac_history.specs.Merged.{all_from, entries_of}
 use Rattle.ac_history.specs.Outcomes.{is_news, is_taking, is_withdrawal, times}
 use Rattle.ac_history.proofs.Outcomes.{ends_once, known_is_taken}
@@ -87,73 +86,60 @@ module _ (test : Event → Bool) where
 
 -- ---- a try
 
-same_value : (s t : Shared) (v w : ℤ) → after_try s v ≡ after_try t w → v ≡ w
-same_value s t v w h = let e : record { shared = s; value = v } ≡ record { shared = t; value = w } = cc in ap (λ (x : AfterTry). x.value) e
+same_outcome : (s t : Shared) (a b : Outcome) → after_try s a ≡ after_try t b → a ≡ b
+same_outcome s t a b h = let e : record { shared = s; outcome = a } ≡ record { shared = t; outcome = b } = cc in ap (λ (x : AfterTry). x.outcome) e
 
-not_both : cancelled ≡ ok → ⊥
-not_both h = let no : negsuc 0 ≡ pos 0 = h in cc
+not_both : NeverHappens ≡ IsTaken → ⊥
+not_both h = cc
 
--- the entry by which an offer has ended so
-record ByEntry (s : Shared) (link number : ℕ) (value : ℤ) : Type 0 where
+-- the entry that is the outcome
+record ByEntry (s : Shared) (link number : ℕ) (it : Outcome) : Type 0 where
   e : Entry
   es : List Entry
   next : s.todo ≡ e ∷ es
-  outcome_is : outcome link number e.event ≡ Some value
+  outcome_is : outcome link number e.event ≡ Some it
 
-by_outcome : (s : Shared) (after : Shared) (value : ℤ) (o : Option ℤ) → ends_by (λ (end : Option CoreEnd). end) (after_try s) o ≡ after_try after value → o ≡ Some value
-by_outcome s after value None h = let no : Over None ≡ after_try after value = h in absurd (cc)
-by_outcome s after value (Some v) h = ap Some (same_value s after v value h)
+by_outcome : (s : Shared) (after : Shared) (it : Outcome) (o : Option Outcome) → goes_by (λ (end : Option CoreEnd). end) (after_try s) o ≡ after_try after it → o ≡ Some it
+by_outcome s after it None h = let no : Over None ≡ after_try after it = h in absurd (cc)
+by_outcome s after it (Some x) h = ap Some (same_outcome s after x it h)
 
-by_entry : (s : Shared) (globals : List ℤ) (os : List Operation) (link number : ℕ) (after : Shared) (value : ℤ) (todo : List Entry) → s.todo ≡ todo
-    → decided (λ end. end) s globals os link number after_try todo ≡ after_try after value → ByEntry s link number value
-by_entry s globals os link number after value [] is h = absurd (cc)
-by_entry s globals os link number after value (e ∷ es) is h = by (nat_eq e.turn s.turn) h
+by_entry : (s : Shared) (globals : List ℤ) (os : List Operation) (link number : ℕ) (after : Shared) (it : Outcome) (todo : List Entry) → s.todo ≡ todo
+    → decided (λ end. end) s globals os link number after_try todo ≡ after_try after it → ByEntry s link number it
+by_entry s globals os link number after it [] is h = absurd (cc)
+by_entry s globals os link number after it (e ∷ es) is h = by (nat_eq e.turn s.turn) h
   where
-    by : (b : Bool) → (if b then ends_by (λ (end : Option CoreEnd). end) (after_try (with_entry s e es)) (outcome link number e.event) else Over None) ≡ after_try after value
-        → ByEntry s link number value
-    by true h = record { e = e; es = es; next = is; outcome_is = by_outcome (with_entry s e es) after value (outcome link number e.event) h }
-    by false h = let no : Over None ≡ after_try after value = h in absurd (cc)
+    by : (b : Bool) → (if b then goes_by (λ (end : Option CoreEnd). end) (after_try (with_entry s e es)) (outcome link number e.event) else Over None) ≡ after_try after it
+        → ByEntry s link number it
+    by true h = record { e = e; es = es; next = is; outcome_is = by_outcome (with_entry s e es) after it (outcome link number e.event) h }
+    by false h = let no : Over None ≡ after_try after it = h in absurd (cc)
 
 -- ---- what the entry is
 
-withdrawn_by : (link number : ℕ) (v : Event) → outcome link number v ≡ Some cancelled → is_withdrawal link number v ≡ true
+withdrawn_by : (link number : ℕ) (v : Event) → outcome link number v ≡ Some NeverHappens → is_withdrawal link number v ≡ true
 withdrawn_by link number (event.Withdraw l n) h = by (nat_eq l link && nat_eq n number) h
   where
-    by : (b : Bool) → (if b then Some cancelled else None) ≡ Some cancelled → b ≡ true
+    by : (b : Bool) → (if b then Some NeverHappens else None) ≡ Some NeverHappens → b ≡ true
     by true h = refl
-    by false h = let no : None ≡ Some cancelled = h in absurd (cc)
+    by false h = let no : None ≡ Some NeverHappens = h in absurd (cc)
 withdrawn_by link number (event.Know l n) h = by (nat_eq l link && nat_eq n number) h
   where
-    by : (b : Bool) → (if b then Some ok else None) ≡ Some cancelled → false ≡ true
-    by true h = absurd (not_both (let e : Some ok ≡ Some cancelled = h in cc))
-    by false h = let no : None ≡ Some cancelled = h in absurd (cc)
-withdrawn_by link number _ h = let no : None ≡ Some cancelled = h in absurd (cc)
+    by : (b : Bool) → (if b then Some IsTaken else None) ≡ Some NeverHappens → false ≡ true
+    by true h = absurd (not_both (let e : Some IsTaken ≡ Some NeverHappens = h in cc))
+    by false h = let no : None ≡ Some NeverHappens = h in absurd (cc)
+withdrawn_by link number _ h = let no : None ≡ Some NeverHappens = h in absurd (cc)
 
-known_by : (link number : ℕ) (v : Event) → outcome link number v ≡ Some ok → is_news link number v ≡ true
+known_by : (link number : ℕ) (v : Event) → outcome link number v ≡ Some IsTaken → is_news link number v ≡ true
 known_by link number (event.Know l n) h = by (nat_eq l link && nat_eq n number) h
   where
-    by : (b : Bool) → (if b then Some ok else None) ≡ Some ok → b ≡ true
+    by : (b : Bool) → (if b then Some IsTaken else None) ≡ Some IsTaken → b ≡ true
     by true h = refl
-    by false h = let no : None ≡ Some ok = h in absurd (cc)
+    by false h = let no : None ≡ Some IsTaken = h in absurd (cc)
 known_by link number (event.Withdraw l n) h = by (nat_eq l link && nat_eq n number) h
   where
-    by : (b : Bool) → (if b then Some cancelled else None) ≡ Some ok → false ≡ true
-    by true h = absurd (not_both (let e : Some cancelled ≡ Some ok = h in cc))
-    by false h = let no : None ≡ Some ok = h in absurd (cc)
-known_by link number _ h = let no : None ≡ Some ok = h in absurd (cc)
-
-either_value : (link number : ℕ) (v : Event) (value : ℤ) → outcome link number v ≡ Some value → (value ≡ cancelled) ⊎ (value ≡ ok)
-either_value link number (event.Withdraw l n) value h = by (nat_eq l link && nat_eq n number) h
-  where
-    by : (b : Bool) → (if b then Some cancelled else None) ≡ Some value → (value ≡ cancelled) ⊎ (value ≡ ok)
-    by true h = inl (let e : Some cancelled ≡ Some value = h in cc)
-    by false h = let no : None ≡ Some value = h in absurd (cc)
-either_value link number (event.Know l n) value h = by (nat_eq l link && nat_eq n number) h
-  where
-    by : (b : Bool) → (if b then Some ok else None) ≡ Some value → (value ≡ cancelled) ⊎ (value ≡ ok)
-    by true h = inr (let e : Some ok ≡ Some value = h in cc)
-    by false h = let no : None ≡ Some value = h in absurd (cc)
-either_value link number _ value h = let no : None ≡ Some value = h in absurd (cc)
+    by : (b : Bool) → (if b then Some NeverHappens else None) ≡ Some IsTaken → false ≡ true
+    by true h = absurd (not_both (let e : Some NeverHappens ≡ Some IsTaken = h in cc))
+    by false h = let no : None ≡ Some IsTaken = h in absurd (cc)
+known_by link number _ h = let no : None ≡ Some IsTaken = h in absurd (cc)
 
 -- ---- in a run
 
@@ -162,40 +148,39 @@ module _ (program : Resolved) (bound : ℕ) (files : List (List ℕ)) (ended : E
   abbrev history : List Stamped
   history = history_of ended.journals
 
-  module _ (o : Operation) (value : ℤ) (number : ℕ) (by : ByEntry s o.link number value) where
+  module _ (o : Operation) (it : Outcome) (number : ℕ) (by : ByEntry s o.link number it) where
     there : journal.entries ≡ s.past ++ by.e ∷ by.es
     there = reads ∙ ap (λ es. s.past ++ es) by.next
 
-    never_happens : value ≡ cancelled → times (is_taking o.link number) history ≡ 0
+    never_happens : it ≡ NeverHappens → times (is_taking o.link number) history ≡ 0
     never_happens v =
         let gone = withdrawn_by o.link number by.e.event (by.outcome_is ∙ ap Some v) in
         let some = in_history (is_withdrawal o.link number) ended.journals core journal is s.past by.e by.es there gone in
         let once = ends_once _ _ history o.link number run.legal in
         omega (arith, some, once)
 
-    is_done : value ≡ ok → times (is_taking o.link number) history ≡ 1
+    is_done : it ≡ IsTaken → times (is_taking o.link number) history ≡ 1
     is_done v =
         let news = known_by o.link number by.e.event (by.outcome_is ∙ ap Some v) in
         let some = in_history (is_news o.link number) ended.journals core journal is s.past by.e by.es there news in
         known_is_taken _ _ history o.link number run.legal some
 
-  pub done_or_never : (o : Operation) (value : ℤ) → HasTried s o value → IsDoneOrNeverHappens history o value
-  done_or_never o value t = go o.progress refl t.ends
+  pub done_or_never : (o : Operation) (it : Outcome) → HasTried s o it → IsDoneOrNeverHappens history o it
+  done_or_never o it t = go o.progress refl t.ends
     where
-      go : (p : Progress) → o.progress ≡ p → tried (λ end. end) s t.globals t.operations o.link p after_try ≡ after_try t.after value → IsDoneOrNeverHappens history o value
+      go : (p : Progress) → o.progress ≡ p → tried (λ end. end) s t.globals t.operations o.link p after_try ≡ after_try t.after it → IsDoneOrNeverHappens history o it
       go Waiting at h =
-          let v : cancelled ≡ value = same_value s t.after cancelled value h in
+          let v : NeverHappens ≡ it = same_outcome s t.after NeverHappens it h in
           record {
             never = λ e number under. let no : Waiting ≡ Offered number = sym at ∙ under in absurd (cc);
             done = λ e. absurd (not_both (v ∙ e));
-            either = inl (sym v);
           }
       go (Offered n) at h =
-          let by = by_entry s t.globals t.operations o.link n t.after value s.todo refl h in
+          let by = by_entry s t.globals t.operations o.link n t.after it s.todo refl h in
           record {
             never = λ e number under.
                 let same : n ≡ number = (let q : Offered n ≡ Offered number = sym at ∙ under in cc) in
-                subst (λ k. times (is_taking o.link k) history ≡ 0) same (never_happens o value n by e);
-            done = λ e. record { number = n; offered = at; taken = is_done o value n by e };
-            either = either_value o.link n by.e.event value by.outcome_is;
+                subst (λ k. times (is_taking o.link k) history ≡ 0) same (never_happens o it n by e);
+            done = λ e. record { number = n; offered = at; taken = is_done o it n by e };
           }
+      go (Started n) at h = let no : Over None ≡ after_try t.after it = h in absurd (cc)

@@ -1,5 +1,5 @@
 -- Cores of a code that are done make one run of each program whose code it is.
-use Rattle.std.proofs.Common.{◌≡◌, ℕ, suc, ◌+◌, ◌*◌, ◌<◌, ◌≤◌, List, [], ◌∷◌, Option, Some, refl, sym, ap, ◌∙◌, subst, inl, inr, arith, length, get_or, map}
+use Rattle.std.proofs.Common.{◌≡◌, ℕ, suc, ◌+◌, ◌*◌, ◌<◌, ◌≤◌, List, [], ◌∷◌, Option, Some, refl, sym, ap, ◌∙◌, subst, inl, inr, arith, length, map}
 use Rattle.std.specs.Prelude.{◌^◌, slice_get}
 use Rattle.std.specs.List.{AllByRecursion}
 use Rattle.std.proofs.Math.Nat.{mul_left_comm}
@@ -32,7 +32,7 @@ use Rattle.core_runner.specs.Network.{owner_of, peer_of}
 use Rattle.core_runner.specs.Cores.{CoreView, EndsAs, IsAtRest, IsDone, AreCoresOf, journals_of, ends_of}
 use Rattle.core_runner.specs.Run.{IsCoreRun, AreCoreRuns, IsRunOf}
 use Rattle.core_runner.specs.Laws.{IsRunOfCores}
-use Rattle.core_runner.proofs.Together.{how_many, journal_at, no_journal, legal}
+use Rattle.core_runner.proofs.Together.{how_many, journal_at, legal}
 use Rattle.core_runner.proofs.Clocks.{none_full}
 use Rattle.core_runner.proofs.Rested.{quiet}
 
@@ -98,15 +98,8 @@ module _ (program : Resolved) (code : Parts) (bound : ℕ) (cores : List CoreVie
   its_legal : IsLegal (start code.capacities many) (merged (journals_of cores))
   its_legal = legal code valid.lists.links bound cores links all
 
-  bound_is : most + length (get_or (journals_of cores) many []) ≡ most
-  bound_is =
-      let none : get_or (journals_of cores) many [] ≡ [] = no_journal cores many (let n = all.count in omega arith) in
-      let z = ap (λ (j : List Entry). length j) none in
-      omega arith
-
   small : AllByRecursion (λ e. e.entry.stamp ≤ most) (merged (journals_of cores))
-  small = subst (λ n. AllByRecursion (λ e. e.entry.stamp ≤ n) (merged (journals_of cores))) bound_is
-      (stamps_small program code.capacities many bound (journals_of cores) (how_many cores ∙ ap suc all.count) all_replay its_legal)
+  small = stamps_small program code.capacities many bound (journals_of cores) (how_many cores ∙ ap suc all.count) all_replay its_legal
 
   few_stamps : suc most < 2 ^ 60
   few_stamps = small_bound many (most_actions program) bound (length code.instrs)

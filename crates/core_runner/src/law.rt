@@ -23,9 +23,8 @@ pub fn cores_make_a_run()
     ensures { CoresMakeARun }
 {}
 
-/// In a run of a program, an operation that a cancel tries is done, or it never happens: where it ends
-/// with CANCELLED no message of it is taken in the whole run, and where it ends with OK its message is
-/// taken, once.
+/// In a run of a program, an operation that a cancel tries is taken, or it never happens: where it
+/// never happens nothing of it is taken in the whole run, and where it is taken that is once.
 pub fn tried_is_done_or_never_happens()
     ensures { TriedIsDoneOrNeverHappens }
 {}

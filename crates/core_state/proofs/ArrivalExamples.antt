@@ -1,22 +1,24 @@
--- What the definitions of Arrivals say of a core that sends on channel 0 and receives from channel 1.
+-- What the definitions of Arrivals say of a core that sends on channel 0, receives from channel 1, and has its requests on link 2.
 use Rattle.std.proofs.Common.{◌≡◌, refl, ℕ, ℤ, pos, negsuc, List, [], ◌∷◌, length, None, Some}
 use Rattle.std.specs.Prelude.{Option, true, false}
 use Rattle.ac_base.specs.declared.ends.CoreEnd.{CoreEnd}
-use Rattle.ac_base.specs.declared.entry.Payload.TheVariants.{Int, Read}
+use Rattle.ac_base.specs.declared.entry.Payload.TheVariants as payload
+use Rattle.ac_base.specs.declared.entry.Payload.TheVariants.{Int}
+use Rattle.ac_base.specs.declared.entry.Answer.TheVariants.{Bytes, Count, Fault}
 use Rattle.ac_base.specs.declared.entry.Event.{Event}
-use Rattle.ac_base.specs.declared.entry.Event.TheVariants.{Offer, Withdraw, Know, Room, Got, Pass}
+use Rattle.ac_base.specs.declared.entry.Event.TheVariants.{Offer, Withdraw, Know, Room, Got, Pass, Did, Reply}
 use Rattle.ac_base.specs.declared.entry.Entry.{Entry}
 use Rattle.work_item.specs.declared.ids.Item.{Item}
 use Rattle.work_item.specs.declared.cell.Place.{Place}
 use Rattle.work_item.specs.Store.{Store, no_place}
-use Rattle.cancel_scope.specs.declared.operation.Asked.TheVariants.{Send, Recv}
+use Rattle.cancel_scope.specs.declared.operation.Asked.TheVariants.{Send, Recv, Read, Write}
 use Rattle.cancel_scope.specs.declared.operation.Operation.{Operation}
-use Rattle.cancel_scope.specs.Outstanding.{started, offered_as}
+use Rattle.cancel_scope.specs.Outstanding.{started, offered_as, as_begun, is_offered}
 use Rattle.core_state.specs.Moves.{Move, On, Over}
 use Rattle.core_state.specs.Shared.{Shared, with_entry}
 use Rattle.core_state.specs.Arrivals.{ok, cancelled, is_offer, offers_on, is_withdrawal, is_room, keeps_room, goes_on_waiting}
 use Rattle.core_state.specs.Arrivals.{has_ended_as, has_ended, place_for, with_message, passes_over, gives_room}
-use Rattle.core_state.specs.Arrivals.{offers, ends_known, ends_received, arrives, comes_in, at_point, point}
+use Rattle.core_state.specs.Arrivals.{offers, is_taken, is_known, is_answered, ends_received, arrives, comes_in, at_point, point}
 
 -- ---- a core with two globals, and three operations that have started
 
@@ -64,7 +66,7 @@ then_the_next_one = refl
 
 -- another number, another value, a request, and a link on which nothing is to be offered
 pub what_is_no_offer : (arrives [] store (five ∷ []) (offer 1 (pos 5)) ≡ None) × (arrives [] store (five ∷ []) (offer 0 (pos 6)) ≡ None)
-    × (arrives [] store (five ∷ []) (Offer 0 0 (Read 0 0 4)) ≡ None) × (arrives [] store (hears ∷ []) (Offer 1 0 (Int (pos 5))) ≡ None)
+    × (arrives [] store (five ∷ []) (Offer 0 0 (payload.Read 0 0 4)) ≡ None) × (arrives [] store (hears ∷ []) (Offer 1 0 (Int (pos 5))) ≡ None)
 what_is_no_offer = (refl, refl, refl, refl)
 
 -- ---- ends
@@ -102,10 +104,58 @@ pub its_parts : (ok ≡ pos 0) × (cancelled ≡ negsuc 0) × (place_for (Recv s
 its_parts = (refl, refl, refl, refl, refl, refl, refl, refl)
 
 pub where_there_is_one : (offers store (five ∷ []) 0 0 (Int (pos 5)) (Some five) ≡ Some (goes_on_waiting store (offered_as 0 five ∷ [])))
-    × (ends_known store (offered_as 0 five ∷ []) 0 0 (Some (offered_as 0 five)) ≡ Some (has_ended store [] (offered_as 0 five)))
+    × (is_known store (offered_as 0 five ∷ []) 0 0 (Some (offered_as 0 five)) ≡ Some (has_ended store [] (offered_as 0 five)))
     × (ends_received store (hears ∷ []) 1 (pos 3) (Some hears) ≡ Some (has_ended (with_message store hears (pos 3)) [] hears))
     × (passes_over store (hears ∷ []) (Some hears) ≡ Some (goes_on_waiting store (hears ∷ [])))
 where_there_is_one = (refl, refl, refl, refl)
+
+-- ---- requests
+
+-- both globals
+abbrev pub both : Place
+both = record { home = None; start = 0; len = 2 }
+
+-- two bytes of the file 6 from the place 9 on, and one that is written there
+abbrev pub reads : Operation
+reads = started 2 (Read 6 9 both) (thread 4)
+
+abbrev pub writes : Operation
+writes = started 2 (Write 6 9 (65 ∷ [])) (thread 5)
+
+pub a_request_is_offered : (arrives [] store (reads ∷ writes ∷ []) (Offer 2 0 (payload.Read 6 9 2)) ≡ Some (goes_on_waiting store (offered_as 0 reads ∷ writes ∷ [])))
+    × (arrives [] store (writes ∷ reads ∷ []) (Offer 2 0 (payload.Write 6 9 (65 ∷ []))) ≡ Some (goes_on_waiting store (offered_as 0 writes ∷ reads ∷ [])))
+    × (arrives [] store (reads ∷ []) (Offer 2 0 (payload.Read 6 9 3)) ≡ None) × (arrives [] store (reads ∷ []) (Offer 2 0 (Int (pos 5))) ≡ None)
+a_request_is_offered = (refl, refl, refl, refl)
+
+-- its thread waits on; what has begun once does not begin again
+pub a_known_request_has_begun : (arrives [] store (five ∷ offered_as 0 reads ∷ []) (Know 2 0) ≡ Some (goes_on_waiting store (five ∷ as_begun (offered_as 0 reads) ∷ [])))
+    × (arrives [] store (as_begun (offered_as 0 reads) ∷ []) (Know 2 0) ≡ None)
+a_known_request_has_begun = (refl, refl)
+
+abbrev pub begun_reads : Operation
+begun_reads = as_begun (offered_as 0 reads)
+
+abbrev pub begun_writes : Operation
+begun_writes = as_begun (offered_as 1 writes)
+
+-- a read stores its bytes and a write nothing, and each gives their count; or it gives FAULT
+pub a_request_is_answered : (arrives [] store (begun_reads ∷ five ∷ []) (Reply 2 0 (Bytes (65 ∷ 66 ∷ [])))
+    ≡ Some (record { operations = five ∷ []; store = record { globals = pos 65 ∷ pos 66 ∷ []; frames = [] }; woken = Some (thread 4); value = pos 2 }))
+    × (arrives [] store (begun_reads ∷ begun_writes ∷ []) (Reply 2 1 (Count 1))
+    ≡ Some (record { operations = begun_reads ∷ []; store = store; woken = Some (thread 5); value = pos 1 }))
+    × (arrives [] store (begun_reads ∷ []) (Reply 2 0 (Fault 0)) ≡ Some (record { operations = []; store = store; woken = Some (thread 4); value = negsuc 1 }))
+a_request_is_answered = (refl, refl, refl)
+
+-- one that its core does not know to have begun, one of another number or link, and what the worker does
+pub what_is_no_answer : (arrives [] store (offered_as 0 reads ∷ []) (Reply 2 0 (Fault 0)) ≡ None) × (arrives [] store (begun_reads ∷ []) (Reply 2 1 (Fault 0)) ≡ None)
+    × (arrives [] store (begun_reads ∷ []) (Reply 3 0 (Fault 0)) ≡ None) × (arrives [] store (begun_reads ∷ []) (Did 2 0 (Fault 0)) ≡ None)
+what_is_no_answer = (refl, refl, refl, refl)
+
+pub parts_of_requests : (is_taken store (is_offered 2 0) (five ∷ offered_as 0 reads ∷ []) (offered_as 0 reads) ≡ goes_on_waiting store (five ∷ begun_reads ∷ []))
+    × (is_taken store (is_offered 0 3) (offered_as 3 five ∷ []) (offered_as 3 five) ≡ has_ended store [] (offered_as 3 five))
+    × (is_known store (five ∷ []) 0 0 None ≡ None) × (is_answered store (five ∷ []) 2 0 (Count 1) None ≡ None)
+    × (is_answered store (begun_writes ∷ []) 2 1 (Fault 0) (Some begun_writes) ≡ Some (has_ended_as (negsuc 1) store [] begun_writes))
+parts_of_requests = (refl, refl, refl, refl, refl)
 
 -- ---- the room of a withdrawn offer
 
@@ -129,7 +179,7 @@ parts_of_room = (refl, refl, refl, refl, refl, refl, refl, refl)
 -- ---- dispatch points
 
 abbrev pub shared : List Entry → Shared
-shared todo = record { steps = 0; turn = 4; output = []; past = []; todo = todo }
+shared todo = record { steps = 0; turn = 4; output = []; past = []; todo = todo; requests = 2 }
 
 -- how many operations are left where an entry comes in, and else 9
 abbrev pub left : List Entry → Move ℕ (Option CoreEnd)
@@ -141,7 +191,7 @@ pub at_a_dispatch_point : (left (at_turn 4 (Got 1 0 (pos 3)) ∷ []) ≡ On 0) �
 at_a_dispatch_point = (refl, refl, refl, refl)
 
 pub the_entry_has_come_in : (e : Entry)
-    → (with_entry (shared (e ∷ [])) e [] ≡ record { steps = 0; turn = 4; output = []; past = e ∷ []; todo = [] })
+    → (with_entry (shared (e ∷ [])) e [] ≡ record { steps = 0; turn = 4; output = []; past = e ∷ []; todo = []; requests = 2 })
     × (comes_in {S = ℕ} {E = Option CoreEnd} (λ seen. seen) (λ x. On 5) (Some (goes_on_waiting store [])) ≡ On 5)
     × (at_point {S = ℕ} {E = Option CoreEnd} (λ seen. seen) (shared []) store [] (λ s x. On 5) (On 6) [] ≡ On 6)
 the_entry_has_come_in e = (refl, refl, refl)

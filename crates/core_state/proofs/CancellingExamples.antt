@@ -1,24 +1,24 @@
--- What the definitions of Cancelling say of a core that sends on channel 0 and receives from channel 1.
-use Rattle.std.proofs.Common.{◌≡◌, refl, ℤ, pos, negsuc, List, [], ◌∷◌, None, Some}
-use Rattle.std.specs.Prelude.{Bool, Option, false, not, nat_eq}
+-- What the definitions of Cancelling say of a core that sends on channel 0, receives from channel 1, and has its requests on link 2.
+use Rattle.std.proofs.Common.{◌≡◌, refl, pos, negsuc, List, [], ◌∷◌, None, Some}
+use Rattle.std.specs.Prelude.{Bool, Option, true, false, not, nat_eq}
 use Rattle.ac_base.specs.declared.ends.EndWord.TheVariants.{Stalled}
 use Rattle.ac_base.specs.declared.ends.Phase.TheVariants as phase
 use Rattle.ac_base.specs.declared.ends.CoreEnd.{CoreEnd}
 use Rattle.ac_base.specs.declared.entry.Event.TheVariants.{Withdraw, Know, Got, Room}
 use Rattle.ac_base.specs.declared.entry.Entry.{Entry}
-use Rattle.cancel_scope.specs.declared.operation.Progress.TheVariants.{Waiting, Offered}
+use Rattle.cancel_scope.specs.declared.operation.Progress.TheVariants.{Waiting, Offered, Started}
 use Rattle.cancel_scope.specs.declared.operation.Operation.{Operation}
-use Rattle.cancel_scope.specs.Outstanding.{offered_as}
+use Rattle.cancel_scope.specs.Outstanding.{offered_as, as_begun}
 use Rattle.core_state.specs.Moves.{Move, On, Over}
 use Rattle.core_state.specs.Shared.{Shared, with_entry}
-use Rattle.core_state.specs.Arrivals.{Arrival, has_ended_as}
-use Rattle.core_state.specs.Cancelling.{outcome, ends_by, decided, tried, tries, cancels}
-use Rattle.core_state.proofs.ArrivalExamples.{store, five, six, hears, at_turn, shared}
+use Rattle.core_state.specs.Arrivals.{Arrival, has_ended_as, goes_on_waiting}
+use Rattle.core_state.specs.Cancelling.{Outcome, NeverHappens, IsTaken, by_outcome, outcome, goes_by, decided, tried, tries, is_to_try, cancels}
+use Rattle.core_state.proofs.ArrivalExamples.{store, five, six, hears, reads, writes, begun_reads, at_turn, shared}
 
 -- ---- the outcome of an offer
 
 -- the offer 3 on link 0 is withdrawn, or was taken; other entries decide nothing of it
-pub an_offer_is_withdrawn_or_was_taken : (outcome 0 3 (Withdraw 0 3) ≡ Some (negsuc 0)) × (outcome 0 3 (Know 0 3) ≡ Some (pos 0))
+pub an_offer_is_withdrawn_or_was_taken : (outcome 0 3 (Withdraw 0 3) ≡ Some NeverHappens) × (outcome 0 3 (Know 0 3) ≡ Some IsTaken)
     × (outcome 0 3 (Withdraw 0 2) ≡ None) × (outcome 0 3 (Know 1 3) ≡ None) × (outcome 0 3 (Room 0 3) ≡ None) × (outcome 0 3 (Got 0 3 (pos 5)) ≡ None)
 an_offer_is_withdrawn_or_was_taken = (refl, refl, refl, refl, refl, refl)
 
@@ -74,14 +74,28 @@ pub without_an_entry_the_run_stops : cancel [] (offered_as 3 five ∷ six ∷ []
     }))
 without_an_entry_the_run_stops = refl
 
+-- a request that the worker did not begin never happens; one that it has begun waits on for its answer, and is not tried again
+pub a_request_is_not_begun_or_stays : (cancel (at_turn 4 (Withdraw 2 0) ∷ []) (offered_as 0 reads ∷ writes ∷ [])
+    ≡ On (record { todo = []; made = has_ended_as (negsuc 0) store (writes ∷ []) (offered_as 0 reads) }))
+    × (cancel (at_turn 4 (Know 2 0) ∷ []) (offered_as 0 reads ∷ writes ∷ []) ≡ On (record { todo = []; made = goes_on_waiting store (begun_reads ∷ writes ∷ []) }))
+    × (cancel [] (begun_reads ∷ writes ∷ []) ≡ On (record { todo = []; made = has_ended_as (negsuc 0) store (begun_reads ∷ []) writes }))
+    × (cancel (at_turn 4 (Withdraw 2 0) ∷ []) (begun_reads ∷ []) ≡ over)
+a_request_is_not_begun_or_stays = (refl, refl, refl, refl)
+
+pub what_is_to_be_tried : (is_to_try inside five ≡ true) × (is_to_try inside six ≡ false) × (is_to_try inside (offered_as 0 reads) ≡ true) × (is_to_try inside begun_reads ≡ false)
+what_is_to_be_tried = (refl, refl, refl, refl)
+
 -- of the second thread nothing is tried, however far it has come
 pub what_is_not_inside_stays : (cancel (at_turn 4 (Withdraw 0 3) ∷ []) (offered_as 3 six ∷ []) ≡ over) × (cancel [] [] ≡ over)
 what_is_not_inside_stays = (refl, refl)
 
-pub its_parts : (e : Entry) → (tried (λ seen. seen) (shared []) [] [] 0 Waiting (λ s value. On value) ≡ On (negsuc 0))
-    × (tried (λ seen. seen) (shared []) [] [] 0 (Offered 3) (λ s value. On value) ≡ decided (λ seen. seen) (shared []) [] [] 0 3 (λ s value. On value) [])
-    × (decided (λ seen. seen) (shared []) [] [] 0 3 (λ s value. On value) (at_turn 4 (Know 0 3) ∷ e ∷ []) ≡ On (pos 0))
-    × (ends_by {S = ℤ} {E = Option CoreEnd} (λ seen. seen) (λ value. On value) None ≡ Over None)
+pub its_parts : (e : Entry) → (tried (λ seen. seen) (shared []) [] [] 0 Waiting (λ s it. On it) ≡ On NeverHappens)
+    × (tried (λ seen. seen) (shared []) [] [] 0 (Offered 3) (λ s it. On it) ≡ decided (λ seen. seen) (shared []) [] [] 0 3 (λ s it. On it) [])
+    × (tried (λ seen. seen) (shared []) [] [] 0 (Started 3) (λ s it. On it) ≡ Over None)
+    × (decided (λ seen. seen) (shared []) [] [] 0 3 (λ s it. On it) (at_turn 4 (Know 0 3) ∷ e ∷ []) ≡ On IsTaken)
+    × (goes_by {S = Outcome} {E = Option CoreEnd} (λ seen. seen) (λ it. On it) None ≡ Over None)
     × (tries (λ seen. seen) (shared []) store (five ∷ []) inside kept over (Some five) ≡ kept (shared []) (has_ended_as (negsuc 0) store [] five))
+    × (by_outcome NeverHappens store inside (six ∷ five ∷ []) five ≡ has_ended_as (negsuc 0) store (six ∷ []) five)
+    × (by_outcome IsTaken store inside (six ∷ offered_as 0 reads ∷ []) (offered_as 0 reads) ≡ goes_on_waiting store (six ∷ as_begun (offered_as 0 reads) ∷ []))
     × (with_entry (shared (e ∷ [])) e [] ≡ record (shared []) { past = e ∷ [] })
-its_parts e = (refl, refl, refl, refl, refl, refl)
+its_parts e = (refl, refl, refl, refl, refl, refl, refl, refl, refl)

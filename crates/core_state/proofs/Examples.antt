@@ -14,7 +14,7 @@ use Rattle.core_state.specs.Arithmetic.{Computed, bind, at_zero, truth_of, not_t
 use Rattle.core_state.specs.Frames.{within, has_words, arguments, first_cells, first_store, first_frame}
 use Rattle.core_state.specs.Frames.{element, set_element, one_place, part_at, word_limit, begun, argument, begun_with, with_entered, block_in}
 use Rattle.core_state.specs.Shared.{formatted}
-use Rattle.core_state.specs.Shared.{Shared, with_step, with_turn, first_shared, output_limit, formatted_from, printed, core_end, seen_left, seen, if_turn, begins_with, begins}
+use Rattle.core_state.specs.Shared.{Shared, with_step, with_turn, request_link, first_shared, output_limit, formatted_from, printed, core_end, seen_left, seen, if_turn, begins_with, begins}
 use Rattle.ac_base.specs.declared.ends.CoreEnd.{CoreEnd}
 use Rattle.ac_base.specs.declared.ends.EndWord.TheVariants as word
 use Rattle.ac_base.specs.declared.entry.Entry.{Entry}
@@ -273,7 +273,7 @@ the_block_of_a_slot = (refl, refl)
 
 -- three steps, that many turns, and two bytes printed
 abbrev pub shared : ℕ → List Entry → Shared
-shared turn todo = record { steps = 3; turn = turn; output = codes "ok"; past = []; todo = todo }
+shared turn todo = record { steps = 3; turn = turn; output = codes "ok"; past = []; todo = todo; requests = 2 }
 
 pub a_step_and_a_turn : (with_step (shared 8 []) ≡ record (shared 8 []) { steps = 4 }) × (with_turn (shared 8 []) ≡ shared 9 [])
 a_step_and_a_turn = (refl, refl)
@@ -321,7 +321,8 @@ a_new_frame = refl
 pub one_byte_is_printed : printed (shared 8 []) (codes "!") ≡ Ok (record (shared 8 []) { output = codes "ok!" })
 one_byte_is_printed = refl
 
-pub nothing_was_done_at_first : (journal : List Entry) → first_shared journal ≡ record { steps = 0; turn = 0; output = []; past = []; todo = journal }
+-- of a core with the number 1, in a program with two channels
+pub nothing_was_done_at_first : (journal : List Entry) → first_shared (request_link 2 1) journal ≡ record { steps = 0; turn = 0; output = []; past = []; todo = journal; requests = 3 }
 nothing_was_done_at_first journal = refl
 
 pub the_whole_of_an_end : (core_end word.Finished false (pos 4 ∷ []) [] (shared 8 []) ≡ ended_well) × (seen word.Finished false (pos 4 ∷ []) [] (shared 8 []) ≡ Some ended_well)

@@ -2,5 +2,6 @@ pub mod Simulation
 pub mod Runs
 pub mod Beginnings
 pub mod Examples
+pub mod RequestExamples
 pub mod ArrivalExamples
 pub mod CancellingExamples

@@ -6,6 +6,7 @@ use Rattle.std.specs.List.{list_any}
 use Rattle.ac_base.specs.declared.entry.Event.{Event}
 use Rattle.ac_base.specs.declared.entry.Event.TheVariants as event
 use Rattle.ac_base.specs.declared.entry.Payload.{Payload}
+use Rattle.ac_base.specs.declared.entry.Answer.{Answer}
 use Rattle.ac_base.specs.declared.entry.Entry.{Entry}
 use Rattle.ac_base.specs.declared.ends.CoreEnd.{CoreEnd}
 use Rattle.work_item.specs.declared.ids.Item.{Item}
@@ -14,9 +15,11 @@ use Rattle.work_item.specs.Store.{Store, no_place, with_int_at}
 use Rattle.cancel_scope.specs.declared.operation.Asked.{Asked}
 use Rattle.cancel_scope.specs.declared.operation.Asked.TheVariants as asked
 use Rattle.cancel_scope.specs.declared.operation.Operation.{Operation}
-use Rattle.cancel_scope.specs.Outstanding.{is_to_offer, is_offered, is_to_receive, carries, offered_as, change_first, without_first}
+use Rattle.cancel_scope.specs.Outstanding.{is_to_offer, is_offered, is_begun, is_to_receive, is_request, carries, offered_as, as_begun}
+use Rattle.cancel_scope.specs.Outstanding.{change_first, without_first}
 use Rattle.core_state.specs.Moves.{Move, Over}
 use Rattle.core_state.specs.Shared.{Shared, with_entry}
+use Rattle.core_state.specs.Requests.{value_of, with_answer}
 
 -- ---- the value of an operation that has ended
 
@@ -79,7 +82,7 @@ has_ended store operations o = has_ended_as ok store operations o
 -- where an operation puts what it receives
 abbrev pub place_for : Asked → Place
 place_for (asked.Recv place) = place
-place_for (asked.Send value) = no_place
+place_for _ = no_place
 
 abbrev pub with_message : Store → Operation → ℤ → Store
 with_message store o value = with_int_at store (place_for o.asked) 0 value
@@ -92,10 +95,20 @@ offers store os link number payload (Some o) =
     then Some (goes_on_waiting store (change_first (is_to_offer link) (offered_as number) os))
     else None
 
--- an offer that was taken has ended
-abbrev pub ends_known : Store → List Operation → ℕ → ℕ → Option Operation → Option Arrival
-ends_known store os link number None = None
-ends_known store os link number (Some o) = Some (has_ended store (without_first (is_offered link number) os) o)
+-- its peer has taken what the first offered for which the test holds: a send has ended, and a request has begun, whose thread waits on
+abbrev pub is_taken : Store → (Operation → Bool) → List Operation → Operation → Arrival
+is_taken store test os o =
+    if is_request o.asked then goes_on_waiting store (change_first test as_begun os) else has_ended store (without_first test os) o
+
+abbrev pub is_known : Store → List Operation → ℕ → ℕ → Option Operation → Option Arrival
+is_known store os link number None = None
+is_known store os link number (Some o) = Some (is_taken store (is_offered link number) os o)
+
+-- a request that has begun has its answer, and has ended
+abbrev pub is_answered : Store → List Operation → ℕ → ℕ → Answer → Option Operation → Option Arrival
+is_answered store os link number answer None = None
+is_answered store os link number answer (Some o) =
+    Some (has_ended_as (value_of o.asked answer) (with_answer store o.asked answer) (without_first (is_begun link number) os) o)
 
 -- the oldest that waits for a message from a link puts it into its place, and has ended
 abbrev pub ends_received : Store → List Operation → ℕ → ℤ → Option Operation → Option Arrival
@@ -112,14 +125,15 @@ abbrev pub gives_room : Store → List Operation → Bool → Option Arrival
 gives_room store os keeps = if keeps then Some (goes_on_waiting store os) else None
 
 -- what an event makes of a core whose journal had these entries before; none where it does not fit: a withdrawal is made by a cancel, and
--- what else has no case here comes of instructions that are not built
+-- a request is done by the worker
 abbrev pub arrives : List Entry → Store → List Operation → Event → Option Arrival
 arrives past store os (event.Offer link number payload) =
     if nat_eq number (offers_on link past) then offers store os link number payload (find (is_to_offer link) os) else None
-arrives past store os (event.Know link number) = ends_known store os link number (find (is_offered link number) os)
+arrives past store os (event.Know link number) = is_known store os link number (find (is_offered link number) os)
 arrives past store os (event.Got link number value) = ends_received store os link value (find (is_to_receive link) os)
 arrives past store os (event.Pass link number) = passes_over store os (find (is_to_receive link) os)
 arrives past store os (event.Room link number) = gives_room store os (keeps_room link number past)
+arrives past store os (event.Reply link number answer) = is_answered store os link number answer (find (is_begun link number) os)
 arrives past store os _ = None
 
 -- ---- a dispatch point

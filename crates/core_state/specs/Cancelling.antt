@@ -1,6 +1,6 @@
--- What a cancel makes of the operations of a core: each that has started within the block and has not ended is tried, in the order in which
--- they started, and either it is done or it never happens (Harris, Abadi, Isaacs, McIlroy, OOPSLA 2011).
-use Rattle.std.specs.Prelude.{ℕ, ℤ, List, [], ◌∷◌, find, Option, Some, None, Bool, false, ◌&&◌, nat_eq, if◌then◌else◌}
+-- What a cancel makes of the operations of a core: each within the block that has not ended and that its peer has not begun is tried, in
+-- the order in which they started, and either its peer has taken it or it never happens (Harris, Abadi, Isaacs, McIlroy, OOPSLA 2011).
+use Rattle.std.specs.Prelude.{ℕ, ℤ, List, [], ◌∷◌, find, Option, Some, None, Bool, false, not, ◌&&◌, nat_eq, if◌then◌else◌}
 use Rattle.ac_base.specs.declared.entry.Event.{Event}
 use Rattle.ac_base.specs.declared.entry.Event.TheVariants as event
 use Rattle.ac_base.specs.declared.entry.Entry.{Entry}
@@ -10,48 +10,63 @@ use Rattle.work_item.specs.Store.{Store}
 use Rattle.cancel_scope.specs.declared.operation.Progress.{Progress}
 use Rattle.cancel_scope.specs.declared.operation.Progress.TheVariants as progress
 use Rattle.cancel_scope.specs.declared.operation.Operation.{Operation}
-use Rattle.cancel_scope.specs.Outstanding.{without_first}
+use Rattle.cancel_scope.specs.Outstanding.{has_begun, without_first}
 use Rattle.core_state.specs.Moves.{Move, Over}
 use Rattle.core_state.specs.Shared.{Shared, with_entry, seen}
-use Rattle.core_state.specs.Arrivals.{Arrival, has_ended_as, ok, cancelled}
+use Rattle.core_state.specs.Arrivals.{Arrival, has_ended_as, is_taken, cancelled}
 
--- ---- the outcome of an offer
+-- ---- the outcome of an operation that is tried
 
--- the value with which the operation ends that stands under that number on that link: a withdrawn one never happens, and one that its peer
--- has taken is done; none where the event decides nothing of it
-abbrev pub outcome : ℕ → ℕ → Event → Option ℤ
-outcome link number (event.Withdraw l n) = if nat_eq l link && nat_eq n number then Some cancelled else None
-outcome link number (event.Know l n) = if nat_eq l link && nat_eq n number then Some ok else None
+pub data Outcome : Type 0 where
+  NeverHappens : Outcome
+  -- its peer was first
+  IsTaken : Outcome
+
+-- what it makes of the first operation for which the test holds
+abbrev pub by_outcome : Outcome → Store → (Operation → Bool) → List Operation → Operation → Arrival
+by_outcome NeverHappens store test os o = has_ended_as cancelled store (without_first test os) o
+by_outcome IsTaken store test os o = is_taken store test os o
+
+-- of what stands under that number on that link: it is withdrawn, or its peer has taken it; none where the event decides nothing of it
+abbrev pub outcome : ℕ → ℕ → Event → Option Outcome
+outcome link number (event.Withdraw l n) = if nat_eq l link && nat_eq n number then Some NeverHappens else None
+outcome link number (event.Know l n) = if nat_eq l link && nat_eq n number then Some IsTaken else None
 outcome link number _ = None
 
 -- an entry that decides nothing of the offer leaves the core without an end
-abbrev pub ends_by : {S E : Type 0} → (Option CoreEnd → E) → (ℤ → Move S E) → Option ℤ → Move S E
-ends_by tell go None = Over (tell None)
-ends_by tell go (Some value) = go value
+abbrev pub goes_by : {S E : Type 0} → (Option CoreEnd → E) → (Outcome → Move S E) → Option Outcome → Move S E
+goes_by tell go None = Over (tell None)
+goes_by tell go (Some it) = go it
 
 -- The next entry is the outcome, and it is of this turn. Where there is none the run stops, in the middle of the cancel, and the core is
 -- not idle.
-abbrev pub decided : {S E : Type 0} → (Option CoreEnd → E) → Shared → List ℤ → List Operation → ℕ → ℕ → (Shared → ℤ → Move S E)
+abbrev pub decided : {S E : Type 0} → (Option CoreEnd → E) → Shared → List ℤ → List Operation → ℕ → ℕ → (Shared → Outcome → Move S E)
     → List Entry → Move S E
 decided tell s globals os link number go [] = Over (tell (seen word.Stalled false globals os s))
 decided tell s globals os link number go (e ∷ es) =
-    if nat_eq e.turn s.turn then ends_by tell (go (with_entry s e es)) (outcome link number e.event) else Over (tell None)
+    if nat_eq e.turn s.turn then goes_by tell (go (with_entry s e es)) (outcome link number e.event) else Over (tell None)
 
 -- ---- an operation is tried
 
--- one of which only its own core knows never happens; an offer is decided by an entry
-abbrev pub tried : {S E : Type 0} → (Option CoreEnd → E) → Shared → List ℤ → List Operation → ℕ → Progress → (Shared → ℤ → Move S E)
+-- one of which only its own core knows never happens; an offer is decided by an entry; what its peer has begun is not tried
+abbrev pub tried : {S E : Type 0} → (Option CoreEnd → E) → Shared → List ℤ → List Operation → ℕ → Progress → (Shared → Outcome → Move S E)
     → Move S E
-tried tell s globals os link progress.Waiting go = go s cancelled
+tried tell s globals os link progress.Waiting go = go s NeverHappens
 tried tell s globals os link (progress.Offered number) go = decided tell s globals os link number go s.todo
+tried tell s globals os link (progress.Started number) go = Over (tell None)
 
+-- the first for which the test holds
 abbrev pub tries : {S E : Type 0} → (Option CoreEnd → E) → Shared → Store → List Operation → (Operation → Bool)
     → (Shared → Arrival → Move S E) → Move S E → Option Operation → Move S E
-tries tell s store os inside go others None = others
-tries tell s store os inside go others (Some o) =
-    tried tell s store.globals os o.link o.progress (λ shared value. go shared (has_ended_as value store (without_first inside os) o))
+tries tell s store os test go others None = others
+tries tell s store os test go others (Some o) =
+    tried tell s store.globals os o.link o.progress (λ shared it. go shared (by_outcome it store test os o))
 
--- the oldest of those inside is tried; where none is left, the others
+-- it is inside, and its peer has not begun it: that stays until its answer has come
+abbrev pub is_to_try : (Operation → Bool) → Operation → Bool
+is_to_try inside o = inside o && not (has_begun o.progress)
+
+-- the oldest of those inside that is to be tried; where none is left, the others
 abbrev pub cancels : {S E : Type 0} → (Option CoreEnd → E) → Shared → Store → List Operation → (Operation → Bool)
     → (Shared → Arrival → Move S E) → Move S E → Move S E
-cancels tell s store os inside go others = tries tell s store os inside go others (find inside os)
+cancels tell s store os inside go others = tries tell s store os (is_to_try inside) go others (find (is_to_try inside) os)

@@ -2,5 +2,6 @@ pub mod Moves
 pub mod Arithmetic
 pub mod Frames
 pub mod Shared
+pub mod Requests
 pub mod Arrivals
 pub mod Cancelling

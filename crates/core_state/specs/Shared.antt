@@ -16,13 +16,15 @@ use Rattle.core_state.specs.Moves.{Move, Over}
 use Rattle.core_state.specs.Arithmetic.{low_byte}
 use Rattle.core_state.specs.Frames.{begun, first_store}
 
--- the steps used, the turn, the bytes printed, and the journal: the entries that have come in, and those still to come
+-- the steps used, the turn, the bytes printed, the journal, which is the entries that have come in and those still to come, and the link of
+-- the core's requests to the file worker
 pub record Shared : Type 0 where
   pub steps : ℕ
   pub turn : ℕ
   pub output : List ℕ
   pub past : List Entry
   pub todo : List Entry
+  pub requests : ℕ
 
 abbrev pub with_step : Shared → Shared
 with_step s = record s { steps = s.steps + 1 }
@@ -34,8 +36,12 @@ with_turn s = record s { turn = s.turn + 1 }
 abbrev pub with_entry : Shared → Entry → List Entry → Shared
 with_entry s e es = record s { past = s.past ++ e ∷ []; todo = es }
 
-abbrev pub first_shared : List Entry → Shared
-first_shared journal = record { steps = 0; turn = 0; output = []; past = []; todo = journal }
+-- the cores' own links come after the channels, by the number of the core
+abbrev pub request_link : ℕ → ℕ → ℕ
+request_link channels core = channels + core
+
+abbrev pub first_shared : ℕ → List Entry → Shared
+first_shared requests journal = record { steps = 0; turn = 0; output = []; past = []; todo = journal; requests = requests }
 
 -- ---- output
 

@@ -22,8 +22,8 @@ use Rattle.cancel_scope.specs.declared.operation.Operation.{Operation}
 use Rattle.cancel_scope.specs.Outstanding.{started, without_first}
 use Rattle.core_state.specs.Moves.{Move, On, Over}
 use Rattle.core_state.specs.Shared.{Shared, with_entry, seen_left}
-use Rattle.core_state.specs.Arrivals.{Arrival, arrives, comes_in, at_point, has_ended_as, cancelled}
-use Rattle.core_state.specs.Cancelling.{outcome, ends_by, decided, tried, tries}
+use Rattle.core_state.specs.Arrivals.{Arrival, arrives, comes_in, at_point, cancelled}
+use Rattle.core_state.specs.Cancelling.{Outcome, NeverHappens, by_outcome, outcome, goes_by, decided, tried, tries, is_to_try}
 use Rattle.ac_commands.specs.declared.program.Resolved.{Resolved}
 use Rattle.ac_semantics.specs.Held.{Held, with_store, with_mark, any_marked, turned, stepped, with_started, seen_of}
 use Rattle.ac_semantics.specs.Work.{Work, given, closes}
@@ -32,11 +32,11 @@ use Rattle.ac_semantics.specs.Threads.{Phase, Active, AtFinish, Ended, Thread, n
 use Rattle.ac_semantics.specs.Threads.{path, is_inside, operates, calls_off, applied, resumed, arrived, dispatched, step_of, step}
 use Rattle.journal_bounds.specs.Actions.{most_actions}
 use Rattle.journal_bounds.specs.Passes.{passes_in}
-use Rattle.journal_bounds.proofs.Counting.{withdrawals_in, passes_append, withdrawals_append}
+use Rattle.journal_bounds.proofs.Counting.{offers_in, passes_append, offers_append}
 use Rattle.journal_bounds.proofs.Rooms.{keeping_in}
 use Rattle.journal_bounds.proofs.Work.{works_actions, AreFew, given_few, given_actions}
 use Rattle.journal_bounds.proofs.Statements.{Keeps, Leads, next_takes}
-use Rattle.journal_bounds.proofs.Operations.{entries_of, left_at_most, entries_push, without_less, Less, LessAfter, arrives_less, decided_less}
+use Rattle.journal_bounds.proofs.Operations.{entries_of, unoffered_of, unoffered_push, left_at_most, entries_push, without_less, Less, LessAfter, arrives_less, decided_less}
 
 -- ---- the table of threads
 
@@ -106,12 +106,12 @@ module _ (program : Resolved) (bound : ℕ) (journal : List Entry) where
   most = most_actions program
 
   -- what is held is of this journal and within its steps, and with n calls and operations to come its entries are paid for, and the offers
-  -- that it may withdraw
+  -- among them
   pub record Paid (n : ℕ) (s : Held) : Type 0 where
     pub whole : s.shared.past ++ s.shared.todo ≡ journal
     pub steps : s.shared.steps ≤ bound
     pub entries : length s.shared.past + (keeping_in s.shared.past + (entries_of s.operations + 3 * n)) ≤ 3 * (most * s.shared.steps) + passes_in s.shared.past
-    pub withdrawn : withdrawals_in s.shared.past + (length s.operations + n) ≤ most * s.shared.steps
+    pub offered : offers_in s.shared.past + (unoffered_of s.operations + n) ≤ most * s.shared.steps
 
   pub record Counted (c : CoreState) : Type 0 where
     pub work : AreFew most c.work
@@ -121,9 +121,9 @@ module _ (program : Resolved) (bound : ℕ) (journal : List Entry) where
     pub to_come : works_actions c.work + table_actions c.threads ≤ left + stale c.threads c.running
     pub paid : Paid left c.held
 
-  -- beside its passes it has few entries, of which few withdraw an offer
+  -- beside its passes it has few entries, of which few make an offer
   abbrev pub IsShort : List Entry → Type 0
-  IsShort es = (length es ≤ 3 * (most * bound) + passes_in es) × (withdrawals_in es ≤ most * bound)
+  IsShort es = (length es ≤ 3 * (most * bound) + passes_in es) × (offers_in es ≤ most * bound)
 
   -- a move leads to such a state, or to an end of a short journal
   abbrev pub Fine : Move CoreState (Option CoreEnd) → Type 0
@@ -145,13 +145,13 @@ module _ (program : Resolved) (bound : ℕ) (journal : List Entry) where
   over_fine word idle n s p =
       let k = few_steps s.shared.steps p.steps in
       let h = p.entries in
-      let w = p.withdrawn in
+      let w = p.offered in
       none_left word idle s.store.globals s.operations s.shared s.shared.todo p.whole (omega arith, omega arith)
 
   -- ---- what is held, when a thread went on
 
   fewer : (m n : ℕ) (s : Held) → m ≤ n → Paid n s → Paid m s
-  fewer m n s le p = record { whole = p.whole; steps = p.steps; entries = let h = p.entries in omega arith; withdrawn = let h = p.withdrawn in omega arith }
+  fewer m n s le p = record { whole = p.whole; steps = p.steps; entries = let h = p.entries in omega arith; offered = let h = p.offered in omega arith }
 
   kept : (n : ℕ) (s t : Held) → Keeps s t → Paid n s → Paid n t
   kept n s t k p = record {
@@ -164,10 +164,10 @@ module _ (program : Resolved) (bound : ℕ) (journal : List Entry) where
         let m : most * t.shared.steps ≡ most * s.shared.steps = ap (λ i. most * i) k.steps in
         let h = p.entries in
         omega arith;
-    withdrawn = let q : withdrawals_in t.shared.past ≡ withdrawals_in s.shared.past = ap withdrawals_in k.past in
-        let o : length t.operations ≡ length s.operations = ap length k.operations in
+    offered = let q : offers_in t.shared.past ≡ offers_in s.shared.past = ap offers_in k.past in
+        let o : unoffered_of t.operations ≡ unoffered_of s.operations = ap unoffered_of k.operations in
         let m : most * t.shared.steps ≡ most * s.shared.steps = ap (λ i. most * i) k.steps in
-        let h = p.withdrawn in
+        let h = p.offered in
         omega arith;
   }
 
@@ -177,7 +177,7 @@ module _ (program : Resolved) (bound : ℕ) (journal : List Entry) where
     whole = p.whole;
     steps = omega arith;
     entries = let m : most * (s.shared.steps + 1) ≡ most * s.shared.steps + most * 1 = mul-add most s.shared.steps 1 in let h = p.entries in omega arith;
-    withdrawn = let m : most * (s.shared.steps + 1) ≡ most * s.shared.steps + most * 1 = mul-add most s.shared.steps 1 in let h = p.withdrawn in omega arith;
+    offered = let m : most * (s.shared.steps + 1) ≡ most * s.shared.steps + most * 1 = mul-add most s.shared.steps 1 in let h = p.offered in omega arith;
   }
 
   -- an operation that is started takes one of those to come
@@ -186,7 +186,7 @@ module _ (program : Resolved) (bound : ℕ) (journal : List Entry) where
     whole = p.whole;
     steps = p.steps;
     entries = let e = entries_push s.operations (started link asked t) in let l = left_at_most (started link asked t) in let h = p.entries in omega arith;
-    withdrawn = let e = length-append s.operations (started link asked t ∷ []) in let h = p.withdrawn in omega arith;
+    offered = let e = unoffered_push s.operations (started link asked t) in let h = p.offered in omega arith;
   }
 
   -- ---- threads stop, start and go on
@@ -261,7 +261,7 @@ module _ (program : Resolved) (bound : ℕ) (journal : List Entry) where
     whole = append_assoc s.shared.past (e ∷ []) todo ∙ ap (λ es. s.shared.past ++ es) (sym is) ∙ p.whole;
     steps = p.steps;
     entries = let l = length-append s.shared.past (e ∷ []) in let q = passes_append s.shared.past (e ∷ []) in let k = less.0 in let h = p.entries in omega arith;
-    withdrawn = let q = withdrawals_append s.shared.past (e ∷ []) in let k = less.1 in let h = p.withdrawn in omega arith;
+    offered = let q = offers_append s.shared.past (e ∷ []) in let k = less.1 in let h = p.offered in omega arith;
   }
 
   -- ---- a cancel
@@ -272,59 +272,63 @@ module _ (program : Resolved) (bound : ℕ) (journal : List Entry) where
   tried_paid n s t test o found p =
       let l = without_less test s.operations o found in
       let fewer_left = l.0 in
-      let shorter = l.1 in
+      let fewer_offers = l.1 in
       record {
         whole = p.whole;
         steps = p.steps;
         entries = let h = p.entries in omega arith;
-        withdrawn = let h = p.withdrawn in omega arith;
+        offered = let h = p.offered in omega arith;
       }
 
   module _ (c : CoreState) (n : ℕ) (s : Held) (block : BlockId) (again ws : List Work) (threads : Few most c.threads) (p : Paid n s)
       (few_again : AreFew most again) (to_come_again : works_actions again + table_actions c.threads ≤ n + stale c.threads c.running)
       (few_ws : AreFew most ws) (to_come_ws : works_actions ws + table_actions c.threads ≤ n + stale c.threads c.running) where
-    abbrev inside : Operation → Bool
-    inside = is_inside c.threads block
+    -- those inside that have not begun are tried
+    abbrev tests : Operation → Bool
+    tests = is_to_try (is_inside c.threads block)
 
     abbrev goes : Shared → Arrival → Move CoreState (Option CoreEnd)
     goes shared x = On (arrived (goes_on c (with_mark s block) again) shared x)
 
-    gone : (shared : Shared) (o : Operation) (value : ℤ) → Paid n (record (with_mark s block) { shared = shared; operations = without_first inside s.operations })
-        → Fine (goes shared (has_ended_as value s.store (without_first inside s.operations) o))
-    gone shared o value q =
-        let held = record (with_mark s block) { shared = shared; store = s.store; operations = without_first inside s.operations } in
-        resumed_counted (goes_on c held again) (cell.Int value) (Some o.item) (goes_counted c n held again threads few_again to_come_again q)
+    made : (shared : Shared) (x : Arrival) → Paid n (record (with_mark s block) { shared = shared; store = x.store; operations = x.operations }) → Fine (goes shared x)
+    made shared x q =
+        let held = record (with_mark s block) { shared = shared; store = x.store; operations = x.operations } in
+        resumed_counted (goes_on c held again) (cell.Int x.value) x.woken (goes_counted c n held again threads few_again to_come_again q)
 
-    by_outcome : (o : Operation) (number : ℕ) (e : Entry) (todo : List Entry) → find inside s.operations ≡ Some o → o.progress ≡ progress.Offered number → s.shared.todo ≡ e ∷ todo → (q : Option ℤ)
-        → Fine (ends_by (λ x. x) (λ value. goes (with_entry s.shared e todo) (has_ended_as value s.store (without_first inside s.operations) o)) q)
-    by_outcome o number e todo found under is None = tt
-    by_outcome o number e todo found under is (Some value) =
-        gone (with_entry s.shared e todo) o value
-        (entry_paid n s (with_mark s block) e todo (without_first inside s.operations) is (decided_less s.shared.past e inside s.operations o number found under) p)
+    by_its_outcome : (o : Operation) (number : ℕ) (e : Entry) (todo : List Entry) → find tests s.operations ≡ Some o → o.progress ≡ progress.Offered number → s.shared.todo ≡ e ∷ todo
+        → (q : Option Outcome) → outcome o.link number e.event ≡ q
+        → Fine (goes_by (λ x. x) (λ it. goes (with_entry s.shared e todo) (by_outcome it s.store tests s.operations o)) q)
+    by_its_outcome o number e todo found under is None decides = tt
+    by_its_outcome o number e todo found under is (Some it) decides =
+        let x = by_outcome it s.store tests s.operations o in
+        made (with_entry s.shared e todo) x
+        (entry_paid n s (record (with_mark s block) { store = x.store }) e todo x.operations is (decided_less s.shared.past e s.store tests s.operations o number found under it decides) p)
 
-    by_entry : (o : Operation) (number : ℕ) → find inside s.operations ≡ Some o → o.progress ≡ progress.Offered number → (todo : List Entry) → s.shared.todo ≡ todo
-        → Fine (decided (λ x. x) s.shared s.store.globals s.operations o.link number (λ shared value. goes shared (has_ended_as value s.store (without_first inside s.operations) o)) todo)
+    by_entry : (o : Operation) (number : ℕ) → find tests s.operations ≡ Some o → o.progress ≡ progress.Offered number → (todo : List Entry) → s.shared.todo ≡ todo
+        → Fine (decided (λ x. x) s.shared s.store.globals s.operations o.link number (λ shared it. goes shared (by_outcome it s.store tests s.operations o)) todo)
     by_entry o number found under [] is = over_fine word.Stalled false n s p
     by_entry o number found under (e ∷ todo) is = at (nat_eq e.turn s.shared.turn)
       where
         at : (b : Bool)
-            → Fine (if b then ends_by (λ x. x) (λ value. goes (with_entry s.shared e todo) (has_ended_as value s.store (without_first inside s.operations) o)) (outcome o.link number e.event)
+            → Fine (if b then goes_by (λ x. x) (λ it. goes (with_entry s.shared e todo) (by_outcome it s.store tests s.operations o)) (outcome o.link number e.event)
             else Over None)
-        at true = by_outcome o number e todo found under is (outcome o.link number e.event)
+        at true = by_its_outcome o number e todo found under is (outcome o.link number e.event) refl
         at false = tt
 
-    by_progress : (o : Operation) → find inside s.operations ≡ Some o → (progress : Progress) → o.progress ≡ progress
-        → Fine (tried (λ x. x) s.shared s.store.globals s.operations o.link progress (λ shared value. goes shared (has_ended_as value s.store (without_first inside s.operations) o)))
-    by_progress o found progress.Waiting is = gone s.shared o cancelled (tried_paid n s (with_mark s block) inside o found p)
+    by_progress : (o : Operation) → find tests s.operations ≡ Some o → (progress : Progress) → o.progress ≡ progress
+        → Fine (tried (λ x. x) s.shared s.store.globals s.operations o.link progress (λ shared it. goes shared (by_outcome it s.store tests s.operations o)))
+    by_progress o found progress.Waiting is =
+        made s.shared (by_outcome NeverHappens s.store tests s.operations o) (tried_paid n s (with_mark s block) tests o found p)
     by_progress o found (progress.Offered number) is = by_entry o number found is s.shared.todo refl
+    by_progress o found (progress.Started number) is = tt
 
-    by_operation : (q : Option Operation) → find inside s.operations ≡ q → Fine (tries (λ x. x) s.shared s.store s.operations inside goes (On (goes_on c (with_mark s block) ws)) q)
+    by_operation : (q : Option Operation) → find tests s.operations ≡ q → Fine (tries (λ x. x) s.shared s.store s.operations tests goes (On (goes_on c (with_mark s block) ws)) q)
     by_operation None found =
         goes_counted c n (with_mark s block) ws threads few_ws to_come_ws (kept n s (with_mark s block) (record { past = refl; todo = refl; steps = refl; operations = refl }) p)
     by_operation (Some o) found = by_progress o found o.progress refl
 
     calls_off_fine : Fine (calls_off c block s again ws)
-    calls_off_fine = by_operation (find inside s.operations) refl
+    calls_off_fine = by_operation (find tests s.operations) refl
 
   operates_fine : (b : Bool) (c : CoreState) (t : Item) (link : ℕ) (asked : Asked) (n : ℕ) (s : Held) (ws : List Work) → c.running ≡ Some t → Few most c.threads → AreFew most ws
       → works_actions ws + 1 + table_actions c.threads ≤ n + stale c.threads c.running → Paid n s → Counted (operates b c t link asked s ws)
@@ -359,7 +363,7 @@ module _ (program : Resolved) (bound : ℕ) (journal : List Entry) where
       let q = kept n s x l p in
       wakes_counted (woken d.threads d.threads 0) d refl
       (stops_counted c t Ended n y [] c.ready running h.threads tt (omega arith)
-      (record { whole = q.whole; steps = q.steps; entries = q.entries; withdrawn = q.withdrawn }))
+      (record { whole = q.whole; steps = q.steps; entries = q.entries; offered = q.offered }))
   applied_fine c t k n s Stays running h le p l = h
 
   thread_fine : (c : CoreState) (t : Item) → c.running ≡ Some t → Counted c → Fine (applied c t (next_of program bound c.work c.held))
@@ -387,7 +391,7 @@ module _ (program : Resolved) (bound : ℕ) (journal : List Entry) where
             threads = h.threads;
             left = h.left;
             to_come = omega arith;
-            paid = record { whole = h.paid.whole; steps = h.paid.steps; entries = h.paid.entries; withdrawn = h.paid.withdrawn };
+            paid = record { whole = h.paid.whole; steps = h.paid.steps; entries = h.paid.entries; offered = h.paid.offered };
           }
       turn false = over_fine word.OutOfSteps false h.left c.held h.paid
 

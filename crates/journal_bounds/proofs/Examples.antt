@@ -152,5 +152,5 @@ two_entries_are_few law =
     let two : length taken ≡ 2 = refl in
     omega (arith, few, none, two)
 
-pub its_stamp_is_small : StampsAreSmall → AllByRecursion (λ e. e.entry.stamp ≤ 1 * (4 * (most_actions two_cores * 9)) + 0) (merged journals)
+pub its_stamp_is_small : StampsAreSmall → AllByRecursion (λ e. e.entry.stamp ≤ 1 * (4 * (most_actions two_cores * 9))) (merged journals)
 its_stamp_is_small law = law two_cores (1 ∷ 16 ∷ []) 1 9 journals refl it_has_offered (refl, tt)

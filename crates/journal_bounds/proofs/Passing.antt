@@ -1,6 +1,6 @@
--- In a legal history no more offers are passed over than cores have withdrawn.
-use Rattle.std.proofs.Common.{◌≡◌, ℕ, zero, suc, ◌+◌, ◌≤◌, List, [], ◌∷◌, ◌++◌, length, get_or, set, Option, Some, None, Bool, true, false, refl, ap, arith}
-use Rattle.std.specs.Prelude.{◌==◌, ◌&&◌, ◌||◌, nat_le, nat_lt, if◌then◌else◌, slice_get, replicate}
+-- In a legal history no more offers are passed over, and done by the worker, than cores have made; and the worker does nothing else.
+use Rattle.std.proofs.Common.{◌≡◌, ℕ, zero, suc, ◌+◌, ◌-◌, ◌≤◌, List, [], ◌∷◌, ◌++◌, length, get_or, set, Option, Some, None, Bool, true, false, refl, ap, arith}
+use Rattle.std.specs.Prelude.{◌==◌, ◌&&◌, ◌||◌, nat_eq, nat_le, nat_lt, if◌then◌else◌, slice_get, replicate}
 use Rattle.std.proofs.lemmas.Bool.Decides.{nat_tests}
 use Rattle.ac_base.specs.declared.entry.Event.{Event}
 use Rattle.ac_base.specs.declared.entry.Event.TheVariants.{Offer, Withdraw, Know, Room, Got, Pass, Did, Reply}
@@ -10,15 +10,15 @@ use Rattle.ac_links.specs.declared.offer.Standing.TheVariants.{Offered, Taken, W
 use Rattle.ac_links.specs.declared.offer.LinkOffer.{LinkOffer}
 use Rattle.ac_links.specs.declared.payloads.Terms.{Terms}
 use Rattle.ac_links.specs.Payloads.Taking.{Message, Done}
-use Rattle.ac_links.specs.Link.{is_withdrawn, front_of, passes, link_fits, link_after, changed, stands, now_taken, now_known, now_replied, new_offer, link_of}
+use Rattle.ac_links.specs.Payloads.{Taking, carries}
+use Rattle.ac_links.specs.Link.{is_offered, is_withdrawn, front_of, takes, withdraws, passes, link_fits, link_after, changed, stands, now_taken, now_known, now_replied, new_offer, link_of}
 use Rattle.ac_history.specs.History.{Past, link_at, terms_of, in_range, is_later, has_stamp, makes, may_make, after, IsLegal, start}
-use Rattle.journal_bounds.specs.Passes.{pass_of}
-use Rattle.journal_bounds.proofs.Counting.{withdrawal_of, count, passed, withdrawn_below}
+use Rattle.journal_bounds.proofs.Counting.{offer_of, settles_of, count, settled, offered_below, idle_of}
 
--- ---- the offers of a link that are withdrawn and not passed over
+-- ---- the offers of a link that are not settled
 
 abbrev pend : Standing → ℕ
-pend Offered = 0
+pend Offered = 1
 pend Taken = 0
 pend Withdrawn = 1
 pend Passed = 0
@@ -55,9 +55,15 @@ keeps : (f : LinkOffer → LinkOffer) → ((o : LinkOffer) → (f o).standing �
 keeps f h None = refl
 keeps f h (Some o) = ap pend (h o)
 
-at_most_one : (s : ℕ) (q : Option LinkOffer) → pend_then (stands Withdrawn s) q ≤ 1
-at_most_one s None = omega arith
-at_most_one s (Some o) = omega arith
+stays_pending : (s : ℕ) (q : Option LinkOffer) → withdraws q ≡ true → pend_then (stands Withdrawn s) q ≡ pend_of q
+stays_pending s None h = let no : false ≡ true = h in absurd (cc)
+stays_pending s (Some o) h = by o.standing h
+  where
+    by : (x : Standing) → is_offered x ≡ true → pend Withdrawn ≡ pend x
+    by Offered e = refl
+    by Taken e = let no : false ≡ true = e in absurd (cc)
+    by Withdrawn e = refl
+    by Passed e = let no : false ≡ true = e in absurd (cc)
 
 none_then : (f : LinkOffer → LinkOffer) → ((o : LinkOffer) → pend (f o).standing ≡ 0) → (q : Option LinkOffer) → pend_then f q ≡ 0
 none_then f h None = refl
@@ -73,38 +79,63 @@ was_withdrawn (Some o) h = by o.standing h
     by Withdrawn e = refl
     by Passed e = let no : false ≡ true = e in absurd (cc)
 
+was_offered : (taking : Taking) (q : Option LinkOffer) → takes taking q ≡ true → pend_of q ≡ 1
+was_offered taking None h = let no : false ≡ true = h in absurd (cc)
+was_offered taking (Some o) h = by o.standing (carries taking o.payload) h
+  where
+    by : (x : Standing) (b : Bool) → is_offered x && b ≡ true → pend x ≡ 1
+    by Offered b e = refl
+    by Taken b e = let no : false ≡ true = e in absurd (cc)
+    by Withdrawn b e = refl
+    by Passed b e = let no : false ≡ true = e in absurd (cc)
+
 second : (a b : Bool) → a && b ≡ true → b ≡ true
 second true b h = h
 second false b h = let no : false ≡ true = h in absurd (cc)
 
-link_passes : (terms : Terms) (os : List LinkOffer) (s : ℕ) (v : Event) → link_fits terms os v ≡ true → pending (link_after os s v) + pass_of v ≤ pending os + withdrawal_of v
-link_passes terms os s (Offer l n payload) h = let p = pending_push os (new_offer payload s) in omega arith
-link_passes terms os s (Withdraw l n) h =
+link_settles : (terms : Terms) (os : List LinkOffer) (s : ℕ) (v : Event) → link_fits terms os v ≡ true → pending (link_after os s v) + settles_of v ≤ pending os + offer_of v
+link_settles terms os s (Offer l n payload) h = let p = pending_push os (new_offer payload s) in omega arith
+link_settles terms os s (Withdraw l n) h =
     let p = pending_changed os n (stands Withdrawn s) (slice_get os n) refl in
-    let one = at_most_one s (slice_get os n) in
+    let k = stays_pending s (slice_get os n) h in
     omega arith
-link_passes terms os s (Know l n) h = let p = pending_changed os n now_known (slice_get os n) refl in let k = keeps now_known (λ o. refl) (slice_get os n) in omega arith
-link_passes terms os s (Room l n) h = let p = pending_changed os n now_known (slice_get os n) refl in let k = keeps now_known (λ o. refl) (slice_get os n) in omega arith
-link_passes terms os s (Got l n value) h =
+link_settles terms os s (Know l n) h = let p = pending_changed os n now_known (slice_get os n) refl in let k = keeps now_known (λ o. refl) (slice_get os n) in omega arith
+link_settles terms os s (Room l n) h = let p = pending_changed os n now_known (slice_get os n) refl in let k = keeps now_known (λ o. refl) (slice_get os n) in omega arith
+link_settles terms os s (Got l n value) h =
     let p = pending_changed os n (now_taken (Message value) s) (slice_get os n) refl in
     let k = none_then (now_taken (Message value) s) (λ o. refl) (slice_get os n) in
     omega arith
-link_passes terms os s (Pass l n) h =
+link_settles terms os s (Pass l n) h =
     let p = pending_changed os n (stands Passed s) (slice_get os n) refl in
     let k = none_then (stands Passed s) (λ o. refl) (slice_get os n) in
     let w = was_withdrawn (slice_get os n) (second (n == front_of os) (passes (slice_get os n)) h) in
     omega arith
-link_passes terms os s (Did l n answer) h =
+link_settles terms os s (Did l n answer) h =
     let p = pending_changed os n (now_taken (Done answer) s) (slice_get os n) refl in
     let k = none_then (now_taken (Done answer) s) (λ o. refl) (slice_get os n) in
+    let w = was_offered (Done answer) (slice_get os n) (second (n == front_of os) (takes (Done answer) (slice_get os n)) h) in
     omega arith
-link_passes terms os s (Reply l n answer) h = let p = pending_changed os n now_replied (slice_get os n) refl in let k = keeps now_replied (λ o. refl) (slice_get os n) in omega arith
+link_settles terms os s (Reply l n answer) h = let p = pending_changed os n now_replied (slice_get os n) refl in let k = keeps now_replied (λ o. refl) (slice_get os n) in omega arith
 
--- a core withdraws it
-is_a_cores : (core worker requests rest : Bool) (v : Event) → makes core worker requests v && rest ≡ true → withdrawal_of v ≤ (if core then withdrawal_of v else 0)
+-- a core offers it
+is_a_cores : (core worker requests rest : Bool) (v : Event) → makes core worker requests v && rest ≡ true → offer_of v ≤ (if core then offer_of v else 0)
 is_a_cores true worker requests rest v h = omega arith
-is_a_cores false worker requests rest (Withdraw l n) h = let no : false ≡ true = h in absurd (cc)
+is_a_cores false worker requests rest (Offer l n payload) h = let no : false ≡ true = h in absurd (cc)
 is_a_cores false worker requests rest v h = omega arith
+
+-- who is no core settles it
+is_a_workers : (requests rest : Bool) (v : Event) → makes false true requests v && rest ≡ true → 1 - settles_of v ≡ 0
+is_a_workers requests rest (Pass l n) h = refl
+is_a_workers requests rest (Did l n answer) h = refl
+is_a_workers requests rest other h = let no : false ≡ true = h in absurd (cc)
+
+never_idle : (core worker requests rest : Bool) (v : Event) → (worker ≡ true → core ≡ false) → makes core worker requests v && rest ≡ true → (if worker then 1 - settles_of v else 0) ≡ 0
+never_idle core false requests rest v one h = refl
+never_idle false true requests rest v one h = is_a_workers requests rest v h
+never_idle true true requests rest v one h = let no : true ≡ false = one refl in absurd (cc)
+
+no_core : (party cores : ℕ) → nat_eq party cores ≡ true → nat_lt party cores ≡ false
+no_core party cores h = grind (arith, nat_tests)
 
 -- ---- a history
 
@@ -123,23 +154,35 @@ fourth a b c d e h = grind (arith, nat_tests)
 fifth : (a b c d e : Bool) → a && b && c && d && e ≡ true → e ≡ true
 fifth a b c d e h = grind (arith, nat_tests)
 
-passes_from : (past : Past) (es : List Stamped) → IsLegal past es → count passed es ≤ all_pending past.links + count (withdrawn_below past.cores) es
-passes_from past [] h = omega arith
-passes_from past (e ∷ es) h =
+-- no more are settled, and the worker is never idle
+settled_from : (past : Past) (es : List Stamped) → IsLegal past es
+    → (count settled es ≤ all_pending past.links + count (offered_below past.cores) es) × (count (idle_of past.cores) es ≡ 0)
+settled_from past [] h = (omega arith, refl)
+settled_from past (e ∷ es) h =
     let l = link_of e.entry.event in
     let os = link_at past l in
     let terms = terms_of past.capacities past.channels l in
+    let core = nat_lt e.party past.cores in
+    let worker = e.party == past.cores in
     let makes_it = fourth (in_range past e) (is_later past.stamp past.party e) (has_stamp past e) (may_make past.channels past.cores e) (link_fits terms os e.entry.event) h.0 in
     let fits_it = fifth (in_range past e) (is_later past.stamp past.party e) (has_stamp past e) (may_make past.channels past.cores e) (link_fits terms os e.entry.event) h.0 in
-    let own = is_a_cores (nat_lt e.party past.cores) (e.party == past.cores) (nat_le past.channels l) (nat_lt e.party past.cores || (e.entry.turn == 0)) e.entry.event makes_it in
-    let one = link_passes terms os e.entry.stamp e.entry.event fits_it in
+    let own = is_a_cores core worker (nat_le past.channels l) (core || (e.entry.turn == 0)) e.entry.event makes_it in
+    let busy = never_idle core worker (nat_le past.channels l) (core || (e.entry.turn == 0)) e.entry.event (no_core e.party past.cores) makes_it in
+    let one = link_settles terms os e.entry.stamp e.entry.event fits_it in
     let all = links_set past.links l (link_after os e.entry.stamp e.entry.event) in
-    let rest = passes_from (after past e) es h.1 in
-    omega arith
+    let rest = settled_from (after past e) es h.1 in
+    let fewer = rest.0 in
+    let idle = rest.1 in
+    (omega arith, omega arith)
 
 none_pending : (n : ℕ) → all_pending (replicate n []) ≡ 0
 none_pending zero = refl
 none_pending (suc n) = let ih = none_pending n in omega arith
 
-pub passes_at_most : (capacities : List ℕ) (cores : ℕ) (es : List Stamped) → IsLegal (start capacities cores) es → count passed es ≤ count (withdrawn_below cores) es
-passes_at_most capacities cores es h = let p = passes_from (start capacities cores) es h in let z = none_pending (length capacities) in omega arith
+pub settled_at_most : (capacities : List ℕ) (cores : ℕ) (es : List Stamped) → IsLegal (start capacities cores) es
+    → (count settled es ≤ count (offered_below cores) es) × (count (idle_of cores) es ≡ 0)
+settled_at_most capacities cores es h =
+    let p = settled_from (start capacities cores) es h in
+    let fewer = p.0 in
+    let z = none_pending (length capacities) in
+    (omega arith, p.1)

@@ -1,5 +1,5 @@
 -- The merged history has as many entries as its journals, and so its stamps are small.
-use Rattle.std.proofs.Common.{◌≡◌, ℕ, suc, ◌+◌, ◌*◌, ◌≤◌, List, [], ◌∷◌, length, get_or, Bool, true, false, refl, ap, ◌∙◌, arith}
+use Rattle.std.proofs.Common.{◌≡◌, ℕ, suc, ◌*◌, ◌≤◌, List, [], ◌∷◌, length, get_or, Bool, true, false, refl, ap, ◌∙◌, arith}
 use Rattle.std.specs.Prelude.{nat_le, if◌then◌else◌}
 use Rattle.std.specs.List.{AllByRecursion}
 use Rattle.std.proofs.Math.Nat.{mul_left_comm}
@@ -9,8 +9,8 @@ use Rattle.ac_history.specs.Merged.{all_from, merged}
 use Rattle.ac_history.proofs.Bound.{stamps_at_most}
 use Rattle.journal_bounds.specs.Actions.{most_actions}
 use Rattle.journal_bounds.specs.Laws.{StampsAreSmall}
-use Rattle.journal_bounds.proofs.Counting.{passed, withdrawn_below, count_in_order, few_withdrawn, few_from}
-use Rattle.journal_bounds.proofs.Passing.{passes_at_most}
+use Rattle.journal_bounds.proofs.Counting.{settled, offered_below, idle_of, count_in_order, few_offered, few_from}
+use Rattle.journal_bounds.proofs.Passing.{settled_at_most}
 use Rattle.journal_bounds.proofs.Runs.{short}
 
 -- ---- how many entries there are
@@ -34,12 +34,15 @@ each_more m n le (e ∷ es) a = (let h = a.0 in omega arith, each_more m n le es
 pub stamps_small : StampsAreSmall
 stamps_small program capacities cores bound js many runs legal =
     let k = most_actions program * bound in
-    let passes = passes_at_most capacities cores (merged js) legal in
-    let all_passed = count_in_order passed stamp_of (all_from 0 js) in
-    let all_withdrawn = count_in_order (withdrawn_below cores) stamp_of (all_from 0 js) in
-    let withdrawn = few_withdrawn k cores cores 0 js many (omega arith) (λ i lt. let r = runs i lt in (short program i bound (get_or js i []) r.0 r.1).1) in
-    let few = few_from cores (3 * k) 0 js many (λ i lt. let r = runs i lt in (short program i bound (get_or js i []) r.0 r.1).0) in
+    let settles = settled_at_most capacities cores (merged js) legal in
+    let fewer = settles.0 in
+    let busy = settles.1 in
+    let all_settled = count_in_order settled stamp_of (all_from 0 js) in
+    let all_offered = count_in_order (offered_below cores) stamp_of (all_from 0 js) in
+    let all_idle = count_in_order (idle_of cores) stamp_of (all_from 0 js) in
+    let offered = few_offered k cores cores 0 js many (omega arith) (λ i lt. let r = runs i lt in (short program i bound (get_or js i []) r.0 r.1).1) in
+    let few = few_from cores cores (3 * k) 0 js many (omega arith) (λ i lt. let r = runs i lt in (short program i bound (get_or js i []) r.0 r.1).0) in
     let all = order_length stamp_of (all_from 0 js) in
     let thrice = mul_left_comm cores 3 k in
     let four_times = mul_left_comm cores 4 k in
-    each_more (length (merged js)) (cores * (4 * k) + length (get_or js cores [])) (omega arith) (merged js) (stamps_at_most capacities cores (merged js) legal)
+    each_more (length (merged js)) (cores * (4 * k)) (omega arith) (merged js) (stamps_at_most capacities cores (merged js) legal)

@@ -9,11 +9,13 @@ use Rattle.ac_base.specs.declared.ends.Trap.TheVariants.{OutputFull}
 use Rattle.work_item.specs.declared.ids.FrameId.{FrameId}
 use Rattle.work_item.specs.declared.cell.Cell.{Cell}
 use Rattle.work_item.specs.declared.cell.Cell.TheVariants as cell
-use Rattle.work_item.specs.Store.{no_int, next_frame, int_in}
+use Rattle.work_item.specs.Store.{no_int, next_frame, int_in, place_in}
+use Rattle.cancel_scope.specs.declared.operation.Asked.{Asked}
 use Rattle.core_state.specs.Arithmetic.{at_zero}
 use Rattle.core_state.specs.Frames.{begun, begun_with}
 use Rattle.core_state.specs.Shared.{output_limit, formatted}
-use Rattle.ac_commands.specs.declared.value.Action.TheVariants.{Call, Send, Recv}
+use Rattle.core_state.specs.Requests.{read_of, write_of}
+use Rattle.ac_commands.specs.declared.value.Action.TheVariants.{Call, Send, Recv, Read, Write}
 use Rattle.ac_commands.specs.declared.command.Command.{Command, out-Command}
 use Rattle.ac_commands.specs.declared.command.Command.TheOpen.{Command-F}
 use Rattle.ac_commands.specs.declared.program.Function.{Function}
@@ -23,7 +25,7 @@ use Rattle.ac_semantics.specs.Held.{Held, with_shared, with_store, stepped, next
 use Rattle.ac_semantics.specs.Work.{Work, Do, Pend, Given, CallOff, Turn, Close, Back, Leave, End, before, ahead, past_loop, at_turn}
 use Rattle.ac_semantics.specs.Statements.{Next, Goes, Ends, Starts, Yields, Arrives, Cancels, Operates, Dies, Stays}
 use Rattle.ac_semantics.specs.Statements.{or_trap, operands_of, put_in, returns, value_or_zero, some_body, test_or_true, last_of, loops}
-use Rattle.ac_semantics.specs.Statements.{finish_form, calls, settles, does, next_at, next_of}
+use Rattle.ac_semantics.specs.Statements.{finish_form, calls, requests, place_operand, length_operand, settles, does, next_at, next_of}
 use Rattle.journal_bounds.specs.Actions.{most_in, most_of, most_within, actions_of, most_actions}
 use Rattle.journal_bounds.proofs.Expressions.{around_actions, Within, within_more, operands_within, resumes_within}
 use Rattle.journal_bounds.proofs.Work.{counts_in, own_few, inner_few, some_few, body_few, works_actions, AreFew, before_few, past_few, turn_few, given_few, ahead_few}
@@ -146,6 +148,9 @@ module _ (w n : ℕ) (s : Held) where
       let e = before_actions (next_frame s.store) f.body rest in
       record { keeps = record { past = refl; todo = refl; steps = refl; operations = refl }; few = before_few w (next_frame s.store) f.body rest (m f refl) (tt, a); actions = omega arith })
 
+  requests_lead : (it : Result Asked Trap) (ws : List Work) → AreFew w ws → works_actions ws + 1 ≤ n → Leads w n s (requests it ws s)
+  requests_lead it ws a h = trap_leads it (λ asked. Operates s.shared.requests asked s ws) (λ asked. (same s, a, h))
+
 module _ (program : Resolved) where
   abbrev most : ℕ
   most = most_actions program
@@ -161,7 +166,10 @@ module _ (program : Resolved) where
       calls_lead most n s (slice_get program.functions function) operands (Pend frame command around ∷ ws) (λ f is. body_few program.functions function f is) (l, a) (omega arith)
   settles_lead n k s command frame ws (Stops (Acting (Send channel)) operands around) i l a h = (same s, (l, a), omega arith)
   settles_lead n k s command frame ws (Stops (Acting (Recv channel)) operands around) i l a h = (same s, (l, a), omega arith)
-  settles_lead n k s command frame ws (Stops (Acting action) operands around) i l a h = tt
+  settles_lead n k s command frame ws (Stops (Acting (Read file)) operands around) i l a h =
+      requests_lead most n s (read_of file (place_operand operands) (length_operand operands) (place_in (last_of operands))) (Pend frame command around ∷ ws) (l, a) (omega arith)
+  settles_lead n k s command frame ws (Stops (Acting (Write file)) operands around) i l a h =
+      requests_lead most n s (write_of s.store file (place_operand operands) (length_operand operands) (place_in (last_of operands))) (Pend frame command around ∷ ws) (l, a) (omega arith)
 
   -- a step that is used allows for as many as a statement has
   abbrev pub Takes : ℕ → List Work → Held → Next → Type 0

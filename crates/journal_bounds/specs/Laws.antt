@@ -11,9 +11,9 @@ use Rattle.ac_translation.specs.Translation.{code_of}
 use Rattle.journal_bounds.specs.Actions.{most_actions}
 use Rattle.journal_bounds.specs.Passes.{passes_in}
 
--- Each step begins one statement, and an operation that it starts makes three entries at most: a send its offer, and then what is known of
--- it, or its withdrawal and later the room that comes back; a receive one. Beside these a core passes over offers that others have
--- withdrawn, as often as there are such offers while it waits for a message.
+-- Each step begins one statement, and an operation that it starts makes three entries at most: a send or a request its offer, and then what
+-- is known of it, with the answer of a request, or its withdrawal and later the room that comes back; a receive one. Beside these a core
+-- passes over offers that others have withdrawn, as often as there are such offers while it waits for a message.
 abbrev pub EntriesAreFew : Type 0
 EntriesAreFew = (program : Resolved) (core bound : ℕ) (journal : List Entry) (end : CoreEnd)
     → Replays program core bound journal (Some end) → length journal ≤ 3 * (most_actions program * bound) + passes_in journal
@@ -23,13 +23,13 @@ abbrev pub AllReplay : Resolved → ℕ → ℕ → List (List Entry) → Type 0
 AllReplay program cores bound js = (core : ℕ) → core < cores →
     (end : CoreEnd) × Replays program core bound (slice_index_or js core []) (Some end)
 
--- No stamp is above what all cores may enter, and the worker has entered. Each operation withdraws one offer at most, and in a legal
--- history no more offers are passed over than were withdrawn: so an operation pays for four entries, its own three, and one by which its
--- peer passes over it.
+-- No stamp is above what all cores and the worker may enter. Each operation makes one offer at most, and in a legal history no more offers
+-- are passed over, and done by the worker, than were made: so an operation pays for four entries, its own three, and one by which its peer
+-- passes over it or the worker does it.
 abbrev pub StampsAreSmall : Type 0
 StampsAreSmall = (program : Resolved) (capacities : List ℕ) (cores bound : ℕ) (js : List (List Entry))
     → length js ≡ suc cores → AllReplay program cores bound js → IsLegal (start capacities cores) (merged js)
-    → AllByRecursion (λ e. e.entry.stamp ≤ cores * (4 * (most_actions program * bound)) + length (slice_index_or js cores [])) (merged js)
+    → AllByRecursion (λ e. e.entry.stamp ≤ cores * (4 * (most_actions program * bound))) (merged js)
 
 -- each call and each operation is an instruction of the code
 abbrev pub ActionsAreFew : Type 0

@@ -1,4 +1,4 @@
--- How many entries of a journal pass over a withdrawn offer, and how many withdraw one.
+-- How many entries of a journal pass over a withdrawn offer.
 use Rattle.std.specs.Prelude.{ℕ, ◌+◌, List, [], ◌∷◌}
 use Rattle.ac_base.specs.declared.entry.Event.{Event}
 use Rattle.ac_base.specs.declared.entry.Event.TheVariants as event

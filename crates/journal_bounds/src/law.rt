@@ -9,8 +9,8 @@ pub fn entries_are_few()
     ensures { EntriesAreFew }
 {}
 
-/// So no stamp of a legal history is above a bound by the steps of the cores and the entries of the
-/// worker: a clock that counts further is never full.
+/// So no stamp of a legal history is above a bound by the steps of the cores, whatever the worker
+/// enters: a clock that counts further is never full.
 pub fn stamps_are_small()
     ensures { StampsAreSmall }
 {}

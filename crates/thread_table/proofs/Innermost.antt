@@ -32,6 +32,16 @@ module _ (waiting rest : List Waiting) (w : Waiting) (cells : List Cell) (end : 
       ∙ ap (λ l. (record { place = w.place; frame = w.frame; operands = l }) ∷ callers_of (reverse rest) (drop w.below (reverse cells))) top
       ∙ ap (λ l. innermost ∷ callers_of (reverse rest) l) below
 
+-- one that has left no operands below
+module _ (waiting rest : List Waiting) (w : Waiting) (cells : List Cell) (last : waiting ≡ rest ++ w ∷ []) (none : w.below ≡ 0) where
+  abbrev pub alone : Caller
+  alone = record { place = w.place; frame = w.frame; operands = [] }
+
+  pub alone_first : callers_of (reverse waiting) (reverse cells) ≡ alone ∷ callers_of (reverse rest) (reverse cells)
+  alone_first =
+      ap (λ l. callers_of l (reverse cells)) (ap reverse last ∙ reverse-append rest (w ∷ []))
+      ∙ ap (λ n. (record { place = w.place; frame = w.frame; operands = take n (reverse cells) }) ∷ callers_of (reverse rest) (drop n (reverse cells))) none
+
 -- ---- the last of a list
 
 drop_at : {A : Type 0} (xs : List A) (n : ℕ) (x : A) → slice_get xs n ≡ Some x → drop n xs ≡ x ∷ drop (suc n) xs

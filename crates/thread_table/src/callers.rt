@@ -99,6 +99,10 @@ impl Callers {
         let Some(caller) = self.waiting.last().copied() else {
             return Ok(None);
         };
+        if caller.below == 0 && operands.replace_all(value) {
+            let _ = self.waiting.pop();
+            return Ok(Some(caller));
+        }
         let left = self.cells.len() - caller.below;
         operands.restore(&self.cells[left..], value)?;
         self.forget();

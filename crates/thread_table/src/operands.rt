@@ -1,6 +1,6 @@
 //! The operands of a thread.
 
-ghost use Rattle.std.specs.Prelude.{◌≡◌, ◌≤◌, true, [], ◌∷◌, OnOk, OnErr, length, reverse, take, drop};
+ghost use Rattle.std.specs.Prelude.{◌≡◌, ◌≤◌, true, false, [], ◌∷◌, OnOk, OnErr, length, reverse, take, drop};
 ghost use Rattle.work_item.specs.declared.cell.Cell.{Cell};
 ghost use Rattle.code_safety.specs.Fit.{is_int};
 ghost use Rattle.thread_table.specs.Operands.{is_reference, on_top};
@@ -134,6 +134,19 @@ impl Operands {
         ensures { self.new ≡ [] }
     {
         self.cells.clear();
+    }
+
+    /// Puts one in the place of all, if there are any. It says whether there were, and takes no memory.
+    pub fn replace_all(&mut self, cell: Cell) -> bool
+        ensures some { result ≡ true → self.new ≡ cell ∷ [] }
+        ensures none { result ≡ false → self.new ≡ self.old }
+    {
+        if self.cells.is_empty() {
+            return false;
+        }
+        self.cells.truncate(1);
+        self.cells[0] = cell;
+        true
     }
 
     /// Puts others in their place, the topmost last, and then one on top. After want of memory they

@@ -1,8 +1,9 @@
-//! Files of the system as a library, and an output of the system as a sink.
+//! Files of the system as a library and as a disk, and an output of the system as a sink.
 
 ghost use Rattle.std.specs.Prelude.{IsTrue};
 
-use ac_adapters::{FileLibrary, StandardSink};
+use crate::disks::use_file;
+use ac_adapters::{FileDisk, FileLibrary, StandardSink};
 use ac_outside::{Library, Sink};
 use std::alloc::AllocError;
 use std::cell::Cell;
@@ -55,6 +56,26 @@ fn files_are_read_by_their_names(rt: HostRuntime) -> Result<(), Fail> {
     assert_eq!(rt; library.faults(), 3);
     fs::remove_file(&rt, "x.ac")?;
     fs::remove_dir(&rt, "folder")?;
+    Ok(())
+}
+
+#[test]
+fn files_are_bound_read_and_written_at_a_place(rt: HostRuntime) -> Result<(), Fail> {
+    fs::write(&rt, "p.dat", "0123456789")?;
+    for (path, log, faults) in [
+        ("p.dat", "10 + (89\0\0ab)()", 0),
+        ("q.dat", "0 + (\0\0\0\0ab)()", 0),
+        ("no/p.dat", "!", 1),
+    ] {
+        let mut disk = FileDisk::new(&rt, rt.alloc());
+        let seen = use_file(rt.alloc(), &mut disk, path)?;
+        assert_eq!(rt; seen.as_str(), log, "of {path}");
+        assert_eq!(rt; disk.faults(), faults, "faults of {path}");
+    }
+    let file = fs::read_to_string(&rt, "p.dat")?;
+    assert_eq!(rt; file.as_str(), "0123456789\0\0ab");
+    fs::remove_file(&rt, "p.dat")?;
+    fs::remove_file(&rt, "q.dat")?;
     Ok(())
 }
 

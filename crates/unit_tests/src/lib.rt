@@ -12,6 +12,8 @@ mod channels;
 #[cfg(test)]
 mod codes;
 #[cfg(test)]
+mod disks;
+#[cfg(test)]
 mod histories;
 #[cfg(test)]
 mod links;

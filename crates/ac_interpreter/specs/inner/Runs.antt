@@ -13,9 +13,9 @@ pub record IsOver (ending : Ending) (core : Core) : Type 0 where
   pub ended : IsSome core.ended
   pub comes :
       GoesOn {S = CoreState} {E = Option CoreEnd} (step ending.program.now ending.bound)
-      (first_state ending.program.now ending.function.now ending.journal.now) (state_of core)
+      (first_state ending.program.now ending.core ending.function.now ending.journal.now) (state_of core)
 
 -- nothing is seen of the end, for the entry at this place
 pub record IsStopped (ending : Ending) (place : ℕ) : Type 0 where
-  pub unfit : IsUnfit ending.program.now ending.function.now ending.bound ending.journal.now place
-  pub none : RunEnds ending.program.now ending.function.now ending.bound ending.journal.now None
+  pub unfit : IsUnfit ending.program.now ending.core ending.function.now ending.bound ending.journal.now place
+  pub none : RunEnds ending.program.now ending.core ending.function.now ending.bound ending.journal.now None

@@ -5,7 +5,7 @@ use Rattle.ac_semantics.specs.Held as s
 use Rattle.ac_interpreter.specs.declared.held.Held.{Held}
 
 abbrev pub shared_of : Held → Shared
-shared_of h = record { steps = h.steps; turn = h.turn; output = h.output.items; past = []; todo = [] }
+shared_of h = record { steps = h.steps; turn = h.turn; output = h.output.items; past = []; todo = []; requests = h.requests }
 
 abbrev pub held_of : Held → s.Held
 held_of h = record { shared = shared_of h; store = h.memory; marks = h.marks.items; operations = h.operations.items }

@@ -4,7 +4,8 @@ use mir.Val.{of_z, to_z}
 use Rattle.std.proofs.lemmas.Int.{to_z-of_z}
 use Rattle.ac_base.specs.declared.entry.Event.TheVariants as event
 use Rattle.ac_base.specs.declared.entry.Payload.TheVariants as payload
-use Rattle.core_machine.specs.Points.{is_at_point, operations_of, to_send}
+use Rattle.core_machine.specs.Points.{is_at_point, offer_carries, operations_of, to_send}
+use Rattle.core_machine.proofs.Points.{send_carries}
 use Rattle.core_ports.specs.AtHand.{AtHand}
 use Rattle.core_ports.specs.Ends.{has_room}
 use Rattle.core_driver.proofs.Together.{entered_looks, looks_still, next_after, nothing_looks, roomed_looks, still_going, told_moves, up_to}
@@ -35,7 +36,9 @@ offered-requires-clause-next g c = next_after c.args.machine.now c.make_room.new
 pub offered-requires-clause-oldest : goal.offered-requires-clause-oldest
 offered-requires-clause-oldest g c =
     let fits : SFits w64 c.in-Some.value = search rules in
-    ap (λ s. to_send (operations_of s) c.args.link) c.make_room.ensures.state ∙ sym c.in-Some.ensures ∙ ap (λ v. Some v) (sym (to_z-of_z w64 c.in-Some.value fits))
+    subst (λ v. offer_carries (operations_of c.make_room.new.self.state) c.args.link (payload.Int v) ≡ true) (sym (to_z-of_z w64 c.in-Some.value fits))
+    (send_carries (operations_of c.make_room.new.self.state) c.args.link c.in-Some.value
+    (ap (λ s. to_send (operations_of s) c.args.link) c.make_room.ensures.state ∙ sym c.in-Some.ensures))
 
 pub returns-in_err-make_room-clause-looks : goal.returns-in_err-make_room-clause-looks
 returns-in_err-make_room-clause-looks g c = roomed_looks c.args.machine.now c.make_room.new.self _ c.requires.in_step c.requires.point c.make_room.ensures.same c.make_room.ensures.state

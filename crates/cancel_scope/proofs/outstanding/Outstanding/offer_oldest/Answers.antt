@@ -1,4 +1,5 @@
-use Rattle.std.proofs.Common.{sym, ap, ◌∙◌}
+use Rattle.std.proofs.Common.{refl, sym, ap, ◌∙◌, length, get_or}
+use Rattle.std.proofs.lemmas.Option.{slice_get_read}
 use Rattle.std.specs.Prelude.{slice_set}
 use Rattle.cancel_scope.specs.Roomy.{Roomy}
 use Rattle.cancel_scope.specs.Outstanding.{is_to_offer, offered_as}
@@ -9,8 +10,11 @@ pub returns-in-Some-clause-operations : goal.returns-in-Some-clause-operations
 returns-in-Some-clause-operations c =
     let place = c.in-Some.place in
     let first = is_first (is_to_offer c.args.link) c.args.self.now.operations place c.in-Some.ensures in
-    ap (λ (r : Roomy). slice_set r.operations place c.offered.result) c.self.view_is
-    ∙ ap (slice_set c.args.self.now.operations place) c.offered.ensures ∙ sym (first.changed (offered_as c.args.number) c.get.result c.get.ensures)
+    let read = c.index_mut.ensures.value ∙ ap (λ (r : Roomy). get_or r.operations place c.index_mut.result.now) c.self.view_is in
+    let at = slice_get_read c.args.self.now.operations (length c.args.self.now.operations) place c.index_mut.result.now refl first.within read in
+    ap (λ (r : Roomy). slice_set r.operations place c.offer.new.self) c.self.view_is
+    ∙ ap (slice_set c.args.self.now.operations place) c.offer.ensures
+    ∙ sym (first.changed (offered_as c.args.number) c.index_mut.result.now at)
 
 pub returns-in_default-clause-operations : goal.returns-in_default-clause-operations
 returns-in_default-clause-operations c =

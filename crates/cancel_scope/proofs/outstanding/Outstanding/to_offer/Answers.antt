@@ -1,10 +1,11 @@
-use Rattle.std.proofs.Common.{sym, ◌∙◌}
+use Rattle.std.proofs.Common.{sym, ap, ◌∙◌}
+use Rattle.std.specs.Prelude.{option_copied}
 use Rattle.cancel_scope.specs.Outstanding.{is_to_offer}
 use Rattle.cancel_scope.proofs.Finding.{none_found, is_first}
 use Rattle.cancel_scope.proofs.outstanding.Outstanding.to_offer.Goals as goal
 
 pub returns-in_err-place : goal.returns-in_err-place
-returns-in_err-place c = c.from_residual.ensures ∙ sym (none_found _ c.args.self.now.operations c.in_err-place.ensures)
+returns-in_err-place c = ap option_copied c.from_residual.ensures ∙ sym (none_found _ c.args.self.now.operations c.in_err-place.ensures)
 
 pub returns : goal.returns
 returns c =

@@ -1,8 +1,8 @@
-use Rattle.std.proofs.Common.{◌≡◌, [], ◌∷◌, ◌++◌, None, refl, ap, ◌∙◌, subst}
+use Rattle.std.proofs.Common.{◌≡◌, [], ◌∷◌, ◌++◌, length, None, refl, ap, ◌∙◌, subst}
 use Rattle.work_item.specs.Store.{Store}
 use Rattle.core_scheduler.specs.Schedule.{Schedule}
-use Rattle.core_state.specs.Shared.{first_shared}
-use Rattle.code_meaning.specs.Machine.{first_core, first_item}
+use Rattle.core_state.specs.Shared.{request_link}
+use Rattle.code_meaning.specs.Machine.{first_core, first_item, shared_at_first}
 use Rattle.core_machine.specs.declared.running.Running.{Running}
 use Rattle.core_machine.specs.inner.Beginning.{HasBegun}
 use Rattle.core_machine.specs.State.{flat_of}
@@ -20,6 +20,7 @@ first c = record {
   code = c.args.code;
   core = c.args.core;
   bound = c.args.steps;
+  requests = c.request_link.result;
   journal = c.new-3.result;
   frames = c.make_first.new.frames;
   outstanding = c.new-4.result;
@@ -39,13 +40,14 @@ first c = record {
   alloc = c.args.alloc;
 }
 
-stands : (c : goal.After-new-9) → flat_of (first c) ≡ first_core c.begin-entered.result.now (first_shared []) c.make_first.new.frames
+stands : (c : goal.After-new-9) → flat_of (first c) ≡ first_core c.begin-entered.result.now (shared_at_first c.args.code.now c.args.core []) c.make_first.new.frames
 stands c =
     let running = ap (λ (s : Schedule). s.running) c.schedule-2.ensures ∙ c.reserve.ensures.running ∙ c.new-schedule.ensures.running in
     let ready = ap (λ (s : Schedule). s.ready) c.schedule-2.ensures ∙ ap (λ l. l ++ first_item ∷ []) (c.reserve.ensures.ready ∙ c.new-schedule.ensures.ready) in
     let threads = c.in_ok-threads.ensures.threads ∙ ap (λ x. x ∷ []) c.new-first.ensures in
     first_stands (first c) c.begin-entered.result.now c.new-4.ensures running ready threads
-    c.new-7.ensures refl refl c.new-5.ensures c.new-6.ensures refl c.new-3.ensures c.new-8.ensures.items refl refl c.new-9.ensures
+    c.new-7.ensures (request_link (length c.args.code.now.ends) c.args.core) c.request_link.ensures refl refl c.new-5.ensures c.new-6.ensures refl c.new-3.ensures c.new-8.ensures.items refl refl
+    c.new-9.ensures
 
 pub invariant_of-result : goal.invariant_of-result
 invariant_of-result c =

@@ -4,13 +4,13 @@ use Rattle.ac_base.specs.declared.entry.Event.TheVariants as event
 use Rattle.work_item.specs.Store.{with_int_at}
 use Rattle.core_machine.specs.inner.Changes.{entry_now}
 use Rattle.core_machine.proofs.Entered.{got_enters}
-use Rattle.core_machine.proofs.Received.{home_there, one_there, sends_nothing}
+use Rattle.core_machine.proofs.Received.{home_there, no_other, one_there}
 use Rattle.core_machine.proofs.Sound.{code_of}
 use Rattle.core_machine.proofs.running.Running.got.Goals as goal
 
 pub unreachable-requires-in_default-asked : goal.unreachable-requires-in_default-asked
 unreachable-requires-in_default-asked c =
-    sends_nothing c.args.self.now c.requires.sound c.requires.running c.args.link c.in-Some.operation (sym c.in-Some.ensures.result) c.in_default-asked.field-0 c.in_default-asked.is
+    no_other c.args.self.now c.requires.sound c.requires.running c.args.link c.in-Some.operation (sym c.in-Some.ensures.result) c.in_default-asked.not-Recv
 
 pub write_at-requires-clause-home : goal.write_at-requires-clause-home
 write_at-requires-clause-home c = home_there c.args.self.now c.requires.sound c.requires.running c.args.link c.in-Some.operation (sym c.in-Some.ensures.result) c.in-Recv.place c.in-Recv.is

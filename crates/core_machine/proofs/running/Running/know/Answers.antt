@@ -1,11 +1,9 @@
-use Rattle.std.proofs.Common.{sym}
-use Rattle.core_machine.proofs.Entered.{know_enters}
-use Rattle.core_machine.proofs.Sound.{code_of}
+use Rattle.std.proofs.Common.{true, false, sym, ◌∙◌}
+use Rattle.core_machine.proofs.Entered.{is_the_request}
 use Rattle.core_machine.proofs.running.Running.know.Goals as goal
 
-pub returns : goal.returns
-returns c = record {
-  enters = know_enters c.args.self.now c.note.new.self c.resume.new.self c.end_offered.new.self c.note.new.self.journal c.args.link c.args.number c.args.stamp c.in-Some.operation
-      (sym c.in-Some.ensures.result) c.note.ensures.same c.in-Some.ensures.operations c.note.ensures.entries c.resume.ensures.flat c.resume.ensures.ended
-      (code_of c.note.new.self c.resume.new.self c.resume.ensures.keeps);
-}
+pub know_begun-requires-clause-request : goal.know_begun-requires-clause-request
+know_begun-requires-clause-request c = is_the_request _ c.in-Some.operation.now true (sym c.in-Some.ensures) (sym c.is_request.ensures ∙ c.if-is_request.true)
+
+pub know_ended-requires-clause-ends : goal.know_ended-requires-clause-ends
+know_ended-requires-clause-ends c = is_the_request _ c.in-Some.operation.now false (sym c.in-Some.ensures) (sym c.is_request.ensures ∙ c.if-is_request.false)

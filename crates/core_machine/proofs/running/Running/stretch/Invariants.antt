@@ -1,10 +1,11 @@
-use Rattle.std.proofs.Common.{◌≡◌, ◌≤◌, ◌<◌, None, IsSome, false}
+use Rattle.std.proofs.Common.{◌≡◌, ◌≤◌, ◌<◌, ◌^◌, None, Some, IsSome, false, slice_get}
 use Rattle.core_state.specs.Moves.{GoesOn}
 use Rattle.code_meaning.specs.Machine.{exec}
-use Rattle.core_machine.specs.State.{state_of, IsSound}
+use Rattle.core_machine.specs.State.{flat_of, state_of, IsSound}
 use Rattle.core_machine.specs.Tried.{tried_of}
 use Rattle.core_machine.specs.inner.Left.{left_of}
 use Rattle.core_machine.specs.inner.Changes.{Keeps}
+use Rattle.core_machine.specs.inner.Needs.{Finds}
 use Rattle.core_machine.proofs.running.Running.stretch.Given as goal
 
 abbrev pub invariant-steps : goal.invariant-steps
@@ -15,6 +16,9 @@ invariant-steps l = record {
   running : l.self.ended ≡ None;
   runs : IsSome l.self.schedule.running;
   settled : l.self.threads.pending ≡ false;
+  here : slice_get l.self.code.now.instrs l.self.place ≡ Some l.instr;
+  inside : l.self.place < 2 ^ 32;
+  finds : Finds l.self.code.now (flat_of l.self) l.instr;
   less : left_of l.fn._ranks l.self ≤ left_of l.fn._ranks l.fn.self;
   asks : IsSome (tried_of l.self.code.now (state_of l.self)) → left_of l.fn._ranks l.self < left_of l.fn._ranks l.fn.self;
 }

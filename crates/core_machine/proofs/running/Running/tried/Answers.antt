@@ -14,4 +14,4 @@ returns c =
     let m = c.args.self.now in
     let still = still_on m.ended (sym c.is_some.ensures ∙ c.if-is_some.false) in
     c.tried_in.ensures
-    ∙ sym (one_tried m still c.in_ok-block.block (sym c.cancels.ensures ∙ c.in_ok-block.was) c.in_ok-place.place c.get.result (sym c.oldest_within.ensures ∙ c.in_ok-place.was) c.get.ensures)
+    ∙ sym (one_tried m still c.in_ok-block.block (sym c.cancels.ensures ∙ c.in_ok-block.was) c.in_ok-place.place c.get.result.now (sym c.oldest_within.ensures ∙ c.in_ok-place.was) c.get.ensures)

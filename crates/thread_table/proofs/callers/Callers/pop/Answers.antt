@@ -2,7 +2,7 @@ use Rattle.std.proofs.Common.{◌≡◌, ◌∷◌, ◌-◌, length, take, drop,
 use Rattle.std.specs.Prelude.{slice_get}
 use Rattle.std.proofs.lemmas.List.{take_rest}
 use Rattle.thread_table.specs.Callers.{Popped, callers_of}
-use Rattle.thread_table.proofs.Innermost.{innermost, innermost_first, last_is}
+use Rattle.thread_table.proofs.Innermost.{innermost, innermost_first, alone, alone_first, last_is}
 use Rattle.thread_table.proofs.callers.Callers.pop.Goals as goal
 
 pub returns-clause-ok : goal.returns-clause-ok
@@ -28,3 +28,20 @@ returns-clause-ok c =
         ),
       ),
     )
+
+-- it has left no operands below
+pub returns-then-replace_all-clause-ok : goal.returns-then-replace_all-clause-ok
+returns-then-replace_all-clause-ok c =
+    let w = c.in-Some.caller in
+    let waiting = c.self.inside.waiting.items in
+    let cells = c.self.inside.cells.items in
+    let rest = take (length waiting - 1) waiting in
+    let here : slice_get waiting (length waiting - 1) ≡ Some w = sym (ap (λ l. slice_get l (length l - 1)) c.deref.ensures.value) ∙ sym c.last.ensures.value ∙ sym c.copied.ensures ∙ c.in-Some.is in
+    let last = last_is waiting w here in
+    let none : w.below ≡ 0 = omega (arith, c.if-caller-eq0.true) in
+    let others = callers_of (reverse rest) (reverse cells) in
+    let was : c.args.self.now ≡ alone waiting rest w cells last none ∷ others = sym c.self.view_is ∙ alone_first waiting rest w cells last none in
+    let count : c.self.inside.waiting.len ≡ length waiting = omega (arith, c.self.inside.waiting.ok.0) in
+    let left : c.pop.new.self.items ≡ rest = c.pop.ensures.rest ∙ ap (λ n. take (n - 1) waiting) count in
+    subst (λ l. Popped l (callers_of (reverse c.pop.new.self.items) (reverse cells)) c.args.value (Some w) c.args.operands.now c.replace_all.new.self) (sym was)
+    (refl, (refl, (ap (λ l. callers_of (reverse l) (reverse cells)) left, c.replace_all.ensures.some c.if-replace_all.true)))

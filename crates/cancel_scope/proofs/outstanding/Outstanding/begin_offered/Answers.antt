@@ -1,0 +1,20 @@
+use Rattle.std.proofs.Common.{refl, sym, ap, ◌∙◌, length, get_or}
+use Rattle.std.proofs.lemmas.Option.{slice_get_read}
+use Rattle.std.specs.Prelude.{slice_set}
+use Rattle.cancel_scope.specs.Roomy.{Roomy}
+use Rattle.cancel_scope.specs.Outstanding.{is_offered, as_begun}
+use Rattle.cancel_scope.proofs.Finding.{none_found, none_changed, is_first}
+use Rattle.cancel_scope.proofs.outstanding.Outstanding.begin_offered.Goals as goal
+
+pub returns-in-Some-clause-operations : goal.returns-in-Some-clause-operations
+returns-in-Some-clause-operations c =
+    let place = c.in-Some.place in
+    let first = is_first (is_offered c.args.link c.args.number) c.args.self.now.operations place c.in-Some.ensures in
+    let read = c.index_mut.ensures.value ∙ ap (λ (r : Roomy). get_or r.operations place c.index_mut.result.now) c.self.view_is in
+    let at = slice_get_read c.args.self.now.operations (length c.args.self.now.operations) place c.index_mut.result.now refl first.within read in
+    ap (λ (r : Roomy). slice_set r.operations place c.begin.new.self) c.self.view_is
+    ∙ ap (slice_set c.args.self.now.operations place) c.begin.ensures ∙ sym (first.changed as_begun c.index_mut.result.now at)
+
+pub returns-in_default-clause-operations : goal.returns-in_default-clause-operations
+returns-in_default-clause-operations c =
+    sym (none_changed _ as_begun c.args.self.now.operations (none_found _ c.args.self.now.operations c.in_default.ensures))
