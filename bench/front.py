@@ -17,13 +17,14 @@ PROGRAM = pathlib.Path(__file__).resolve().parent.parent / "crates" / "ac" / "ou
 GREATEST = 1_048_576
 HEAD = "core a(f); int g; int h[8];\n"
 FILE = 'file log("x");'
+READ = "Read(log, 0, 1, b);"
 FUNCTION = """int p{n}(int x, int v[]) {{
   for (int i = 0; i < 8 && x != 3; i = i + 1) {{ v[i] = x * (i << 2) - ~g; if (v[i] > 5) continue; else break; }}
   while (x) {{ x = x / 2 | 1; printf("%d %c\\n", x, h[x % 8]); }}
   return -x;
 }}
 """
-TAIL = "async void f() { l: do { async { yield; } cancel l; } finish; }\n" + FILE
+TAIL = FILE + "\nasync void f() { int b[1]; l: do { async { yield; } cancel l; } finish; " + READ + " }\n"
 PYTHON = """def p{n}(x, v):
     for i in range(0, 8):
         v[i] = x * (i << 2) - ~g
@@ -49,10 +50,10 @@ def filled(head, part, tail, size):
 
 
 def chain(count):
-    """Functions of which each calls the next, reached from sixteen cores, and a file, which is not built."""
+    """Functions of which each calls the next, reached from sixteen cores, and a read, which is not built."""
     cores = "".join(f"core {c}(f);" for c in "abcdeghijklmnopq") + FILE
     calls = "".join(f"void p{n}(){{p{n + 1}();}}\n" for n in range(count - 1))
-    return cores + calls + f"void p{count - 1}(){{}}\nasync void f(){{p0();}}\n"
+    return cores + calls + f"void p{count - 1}(){{}}\nasync void f(){{int b[1];p0();{READ}}}\n"
 
 
 def best(act, runs=5):
@@ -81,10 +82,10 @@ def timed(folder, name, text, word):
 def main():
     with tempfile.TemporaryDirectory() as folder:
         half, whole = (
-            timed(folder, size, filled(HEAD, FUNCTION, TAIL, size), FILE)
+            timed(folder, size, filled(HEAD, FUNCTION, TAIL, size), READ)
             for size in (GREATEST // 2, GREATEST)
         )
-        few, many = (timed(folder, count, chain(count), FILE) for count in (5_000, 10_000))
+        few, many = (timed(folder, count, chain(count), READ) for count in (5_000, 10_000))
     python = filled("", PYTHON, "", GREATEST)
     parsed = best(lambda: ast.parse(python))
     print(f"{GREATEST // 2} bytes: {half * 1000:.1f} ms")

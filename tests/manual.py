@@ -30,6 +30,7 @@ LIMITS = {
     "channels": (r"or (\d+) channels stand before it",),
     "capacity of a channel": (r"its capacity is not (\d+) to (\d+)",),
     "files": (r"(\d+) files stand before it",),
+    "bytes of a file": (r"file K of the program has more than (\S+) bytes",),
     "live words of a core": (r"the words that live would be over ([\d,]+):",),
     "output of a core": (r"the output of the core over (\S+) bytes",),
 }

@@ -290,9 +290,7 @@ def unbuilt(program):
 
     try:
         for i in program.items:
-            if i.kind == "File":
-                raise Unbuilt(i.at)
-            elif i.kind == "Function":
+            if i.kind == "Function":
                 for s in i.body:
                     stmt(s)
     except Unbuilt as u:

@@ -32,6 +32,7 @@ def came(source, steps, want, orders, polls, before, after):
     for seed in range(orders):
         disk = disk_of(before)
         try:
+            rules.refusal(source, steps)
             got = oracle.both(source, steps, seed, polls, disk)
         except lang.Fault as f:
             got = f.status, f.line.encode() + b"\n"
@@ -53,7 +54,6 @@ def main():
             continue
         count += 1
         steps, want = int(words[3]) if len(words) == 4 else 100_000, (status, output)
-        rules.refusal(source, steps)
         wrong = came(source, steps, want, orders, True, before, after)
         if wrong:
             print(f"{path.name}: wanted {want}\nof ac, {wrong}")

@@ -2,7 +2,7 @@
 //! program's name, and ends with its status.
 #![tactic(auto)]
 
-use ac_adapters::{FileLibrary, StandardSink};
+use ac_adapters::{FileDisk, FileLibrary, StandardSink};
 use ac_program::ac_main;
 use std::process::ExitCode;
 use std::{env, io};
@@ -28,6 +28,13 @@ fn main(rt: HostRuntime) -> ExitCode {
     }
     let mut library = FileLibrary::new(&rt);
     let mut sink = StandardSink::new(&rt);
-    let outcome = ac_main(rt.alloc(), words.as_slice(), &mut library, &mut sink);
+    let mut disk = FileDisk::new(&rt, rt.alloc());
+    let outcome = ac_main(
+        rt.alloc(),
+        words.as_slice(),
+        &mut library,
+        &mut sink,
+        &mut disk,
+    );
     ExitCode::from(outcome.status.number)
 }

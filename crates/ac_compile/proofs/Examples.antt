@@ -38,6 +38,8 @@ use Rattle.ac_tree.specs.declared.expr.Expr.TheVariants as expr
 use Rattle.ac_tree.specs.declared.expr.Expr.TheOpen.{Expr-F}
 use Rattle.ac_compile.specs.OneEnd.{HasOneEnd}
 use Rattle.ac_tree.specs.declared.item.Item.{Item}
+use Rattle.ac_tree.specs.declared.item.Function as tree
+use Rattle.ac_compile.proofs.Firsts.{first_is}
 
 -- ---- two.ac
 
@@ -268,18 +270,15 @@ a_return_without_a_value = rw (return_form None) refl
 
 -- ---- what is not built
 
--- cores and a channel are built, and a file is not
+-- cores, a channel and a file are built
 abbrev pub two_cores : List Item
 two_cores = i.Channel 0 (codes "c") (codes "a") (codes "b") (pos 1) ∷ i.Core 22 (codes "a") (codes "f") ∷ i.Core 33 (codes "b") (codes "f") ∷ []
 
 pub two_cores_are_built : unbuilt_nodes two_cores ≡ []
 two_cores_are_built = refl
 
-pub a_file_is_not : unbuilt_nodes (i.File 0 (codes "d") (codes "d.dat") ∷ two_cores) ≡ 0 ∷ []
-a_file_is_not = refl
-
-pub the_first_is_told : first_unbuilt (i.Core 0 (codes "a") (codes "f") ∷ i.File 11 (codes "d") (codes "d.dat") ∷ i.File 28 (codes "e") (codes "e.dat") ∷ []) ≡ Some 11
-the_first_is_told = refl
+pub a_file_is_built : unbuilt_nodes (i.File 0 (codes "d") (codes "d.dat") ∷ two_cores) ≡ []
+a_file_is_built = refl
 
 -- cancel l; is built
 pub a_cancel : stmt_nodes as_list (s.Cancel 28 (codes "l")) ≡ []
@@ -334,9 +333,16 @@ reading = ap (stmt_nodes as_list) (sym (s.rolls-Call 5 a_read)) ∙ fold-roll-St
 pub the_nodes_of_a_body : body_nodes as_list (s.Yield 28 ∷ s.Call 5 a_read ∷ s.Cancel 28 (codes "l") ∷ []) ≡ 5 ∷ []
 the_nodes_of_a_body = rw (a_yield, a_cancel, reading) refl
 
-pub nodes_of_items : (item_nodes as_list (i.Core 3 (codes "a") (codes "f")) ∷ item_nodes as_list (i.File 3 (codes "d") (codes "d.dat")) ∷ [] ≡ [] ∷ (3 ∷ []) ∷ [])
-    × (items_nodes as_list (i.File 3 (codes "d") (codes "d.dat") ∷ i.Core 24 (codes "a") (codes "f") ∷ i.File 39 (codes "e") (codes "e.dat") ∷ []) ≡ 3 ∷ 39 ∷ [])
-nodes_of_items = (refl, refl)
+-- async void f() { Read(d, 1, 1, x); }
+abbrev pub reader : tree.Function
+reader = record { at = 0; name = codes "f"; is_async = true; gives_int = false; params = []; body = s.Call 5 a_read ∷ [] }
+
+pub nodes_of_items : (item_nodes as_list (i.Core 3 (codes "a") (codes "f")) ∷ item_nodes as_list (i.File 3 (codes "d") (codes "d.dat")) ∷ [] ≡ [] ∷ [] ∷ [])
+    × (items_nodes as_list (i.Function reader ∷ i.File 3 (codes "d") (codes "d.dat") ∷ i.Function reader ∷ []) ≡ 5 ∷ 5 ∷ [])
+nodes_of_items = (refl, rw reading refl)
+
+pub the_first_is_told : first_unbuilt (i.File 3 (codes "d") (codes "d.dat") ∷ i.Function reader ∷ []) ≡ Some 5
+the_first_is_told = first_is (i.File 3 (codes "d") (codes "d.dat") ∷ i.Function reader ∷ []) _ _ refl refl ∙ rw reading refl
 
 -- ---- one end
 

@@ -143,7 +143,7 @@ module _ {A B : Type 0} (g : Gathers A) (h : Gathers B) (R : A → B → Type 0)
   item_is (i.Function f) = body_is f.body
   item_is (i.Global at name size value) = relates.none
   item_is (i.Channel at name from to cap) = relates.none
-  item_is (i.File at name path) = node_are false at relates.none
+  item_is (i.File at name path) = relates.none
 
   pub items_are : (xs : List Item) → R (items_nodes g xs) (items_nodes h xs)
   items_are [] = relates.none

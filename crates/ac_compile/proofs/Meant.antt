@@ -300,7 +300,7 @@ functions_pass (i.Function f ∷ items) scopes texts e =
     each.both_hold P own _ _ (each.function_holds P own _ (stmts_built f.body parts.0 (body_names f scopes) 0 texts)) (functions_pass items scopes (function_texts f texts) parts.1)
 functions_pass (i.Global at name size value ∷ items) scopes texts e = functions_pass items scopes texts e
 functions_pass (i.Channel at name from to cap ∷ items) scopes texts e = functions_pass items scopes texts e
-functions_pass (i.File at name path ∷ items) scopes texts e = absurd (no_node _ _ e)
+functions_pass (i.File at name path ∷ items) scopes texts e = functions_pass items scopes texts e
 functions_pass (i.Core at name entry ∷ items) scopes texts e = functions_pass items scopes texts e
 
 all_pass : (xs : List Instr) → Each P own xs → All P xs

@@ -99,14 +99,14 @@ abbrev pub some_stmt : {A : Type 0} → Gathers A → Option Stmt → A
 some_stmt g None = g.none
 some_stmt g (Some x) = stmt_nodes g x
 
--- ---- items: a file is not built
+-- ---- items: each is built but for the body of a function
 
 abbrev pub item_nodes : {A : Type 0} → Gathers A → Item → A
 item_nodes g (i.Core at name entry) = g.none
 item_nodes g (i.Function f) = body_nodes g f.body
 item_nodes g (i.Global at name size value) = g.none
 item_nodes g (i.Channel at name from to cap) = g.none
-item_nodes g (i.File at name path) = node_by g false at g.none
+item_nodes g (i.File at name path) = g.none
 
 abbrev pub items_nodes : {A : Type 0} → Gathers A → List Item → A
 items_nodes g xs = all_of g (map (item_nodes g) xs)

@@ -191,9 +191,8 @@ fn in_item(item: &Item) -> Option<u32>
     ensures { result ≡ item_nodes as_first item.now }
 {
     match item {
-        Item::Core { .. } | Item::Global { .. } | Item::Channel { .. } => None,
+        Item::Core { .. } | Item::Global { .. } | Item::Channel { .. } | Item::File { .. } => None,
         Item::Function(function) => in_body(function.body.as_slice()),
-        Item::File { at, .. } => Some(*at),
     }
 }
 

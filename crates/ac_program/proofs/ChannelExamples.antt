@@ -34,6 +34,7 @@ use Rattle.core_runner.specs.Run.{nothing_yet, IsCoreRun, IsRunOf}
 use Rattle.ac_program.specs.declared.words.Task.TheVariants as t
 use Rattle.ac_program.specs.Source.{HasTokens, IsAccepted, IsReady}
 use Rattle.ac_program.specs.Headline.{HasRun, AreOfRuns}
+use Rattle.ac_program.proofs.Examples.{no_disk}
 use Rattle.ac_program.proofs.Examples.{journal}
 
 -- ---- its text
@@ -136,11 +137,11 @@ it_is_a_run = record {
   quiet = record { core = each_core; worker = nothing_offered };
 }
 
-pub its_run_gives_0 : HasRun linked_tree 100 0
-its_run_gives_0 = record { ended = its_run; is_run = it_is_a_run; status_is = refl }
+pub its_run_gives_0 : HasRun linked_tree 100 no_disk 0
+its_run_gives_0 = record { start = []; are_held = tt; ended = its_run; is_run = it_is_a_run; status_is = refl }
 
 -- the program has a channel, so another of its runs might have another status; this one is that of two of its runs
-pub its_statuses : AreOfRuns linked_text (t.Run 100) 0 0
+pub its_statuses : AreOfRuns linked_text (t.Run 100) no_disk 0 0
 its_statuses = record {
   steps = 100;
   program = linked_tree;

@@ -3,6 +3,8 @@ use Rattle.std.proofs.Common.{◌≢◌, ◌≡◌, ℕ, ◌+◌, ◌<◌, ◌�
 use Rattle.ac_base.specs.Report.{report_of, status_of}
 use Rattle.ac_tree.specs.declared.item.Program.{Program}
 use Rattle.ac_outside.specs.Told.{LibraryTold, SinkTold, CountsOne, GrewBy}
+use Rattle.ac_outside.specs.Disks.{DiskTold}
+use Rattle.starting_files.specs.declared.fault.StartFault.TheVariants as f
 use Rattle.ac_program.specs.declared.refusal.Refusal.{Refusal}
 use Rattle.core_runner.specs.declared.ended.Ended.{Ended}
 use Rattle.ac_program.specs.declared.execute.Done.{Done}
@@ -16,17 +18,19 @@ use Rattle.ac_program.specs.Lines.{accepted_line, refusal_status}
 use Rattle.ac_program.specs.Words.{IsCall}
 use Rattle.ac_program.specs.Reading.{Gave, TookBytes}
 use Rattle.core_runner.specs.Run.{IsRunOf}
-use Rattle.ac_program.specs.Source.{IsAccepted, IsTooMany, IsNotBuilt, IsReady, Refuses, names_of}
+use Rattle.ac_program.specs.Source.{IsAccepted, IsTooMany, IsNotBuilt, IsReady, Refuses, names_of, needed}
 use Rattle.ac_program.proofs.OneStatus.{one_status}
-use Rattle.ac_program.specs.Headline.{IsRead, IsShort, IsDue, IsDueOfFile, TookWhole, GaveUp, TellsUsage, IsOfText, AreOfRuns, IsCalledFor, IsDecided, GivesStatus, CallsFor}
-use Rattle.ac_program.specs.Making.{Makes}
-use Rattle.ac_program.specs.Making.IsDueOf.{refused, made as is_done}
+use Rattle.ac_program.specs.Headline.{IsRead, IsShort, IsDue, IsDueOfFile, TookWhole, GaveUp, TellsUsage, IsOfText, AreOfRuns, IsCalledFor, IsDecided, GivesStatus, CallsFor, KnowsFiles, AreShort}
+use Rattle.ac_program.specs.Making.{Makes, AreStopped}
+use Rattle.ac_program.specs.Making.IsDueOf.{refused, ready}
+use Rattle.ac_program.specs.Making.IsDueOfProgram.{disk_fault, long_file as is_over, made as is_done}
 use Rattle.ac_program.specs.Headline.IsDueOfFile.{library_fault, too_long, source}
 use Rattle.ac_program.specs.Headline.IsDue.{usage, call}
-use Rattle.ac_program.specs.Headline.CallsFor.{over_long, made}
-use Rattle.ac_program.proofs.Statuses.{IsOfCores, IsOfRefusal, of_cores, done_status, not_above, not_one, of_refusal, apart, one, seven, eight, eleven}
+use Rattle.ac_program.specs.Headline.CallsFor.{over_long, long_file, made}
+use Rattle.ac_program.proofs.Statuses.{IsOfCores, IsOfRefusal, of_cores, made_status, not_above, not_one, of_refusal, apart, one, seven, eight, nine, eleven}
 use Rattle.ac_program.proofs.Refusals.{refused_not, some_status}
-use Rattle.ac_program.proofs.Calls.{IsRefusedAs, Way, is_long, is_refused, is_made, way_of, calls_refused}
+use Rattle.ac_program.proofs.Calls.{IsRefusedAs, IsFiled, Way, is_long, is_refused, is_filed, is_made, way_of, calls_refused, not_filed}
+use Rattle.ac_program.proofs.Reasons.{none_long}
 
 -- ---- what is said
 
@@ -59,11 +63,31 @@ pub record IsRefused (number : ℕ) (words : List (List ℕ)) (before after : Li
   pub read : HasRead words before after task bytes
   pub is_refused : IsRefusedAs number bytes task
 
+-- the words call for a task with a source that is ready, and a file of its program is too long
+pub record IsLongFile (words : List (List ℕ)) (before after : LibraryTold) (disk later : DiskTold) : Type 0 where
+  pub task : Task
+  pub bytes : List ℕ
+  pub read : HasRead words before after task bytes
+  pub program : Program
+  pub is_ready : IsReady bytes task program
+  pub file : ℕ
+  pub stopped : AreStopped (needed task program) (f.TooLong file) disk later
+
+-- or a call of the disk failed at one
+pub record IsFailedFile (words : List (List ℕ)) (before after : LibraryTold) (disk later : DiskTold) : Type 0 where
+  pub task : Task
+  pub bytes : List ℕ
+  pub read : HasRead words before after task bytes
+  pub program : Program
+  pub is_ready : IsReady bytes task program
+  pub stopped : AreStopped (needed task program) f.Failed disk later
+
 -- this is a run of the program with this bound, whose cores have this status, and its report
 pub record IsRunOnce (program : Program) (steps status : ℕ) (text : List ℕ) (run : Option Ended) : Type 0 where
+  pub start : List (List ℕ)
   pub ended : Ended
   pub kept : run ≡ Some ended
-  pub is_run : IsRunOf (resolved program) steps [] ended
+  pub is_run : IsRunOf (resolved program) steps start ended
   pub status_is : status ≡ status_of ended.cores
   pub text_is : text ≡ report_of (names_of program) ended.cores
 
@@ -89,32 +113,33 @@ pub record IsMade (words : List (List ℕ)) (before after : LibraryTold) (status
   pub gives : Gives task program status text run
 
 -- and the sink has taken all of it
-pub record IsWritten (words : List (List ℕ)) (before after : LibraryTold) (status : ℕ) (run : Option Ended) (sink later : SinkTold) : Type 0 where
+pub record IsWritten (words : List (List ℕ)) (before after : LibraryTold) (status : ℕ) (run : Option Ended) (sink written : SinkTold) : Type 0 where
   pub text : List ℕ
   pub made : IsMade words before after status text run
-  pub taken : GrewBy sink.held later.held text
+  pub taken : GrewBy sink.held written.held text
 
--- neither the library nor the sink failed, and no memory was refused
+-- neither the library nor the sink nor the disk failed, and no memory was refused
 pub record IsUndisturbed (status : ℕ) : Type 0 where
   pub library : status ≢ 7
   pub sink : status ≢ 8
+  pub disk : status ≢ 9
   pub memory : status ≢ 11
 
-gives_of : (task : Task) (program : Program) (status : ℕ) (text : List ℕ) (run : Option Ended) (done : Done) →
-    status ≡ done.status.number → text ≡ done.text → run ≡ done.run → Makes task program done → Gives task program status text run
-gives_of (t.Run steps) program status text run done n x r d =
-    record { ended = d.ended; kept = r ∙ d.kept; is_run = d.is_run; status_is = n ∙ d.status; text_is = x ∙ d.text }
-gives_of t.Check program status text run done n x r d = record { status_is = n ∙ d.status; text_is = x ∙ d.text_is; no_run = r ∙ d.no_run }
-gives_of t.Code program status text run done n x r d = record { status_is = n ∙ d.status; text_is = x ∙ d.text_is; no_run = r ∙ d.no_run }
+gives_of : (task : Task) (program : Program) (disk later : DiskTold) (status : ℕ) (text : List ℕ) (run : Option Ended) (done : Done) →
+    status ≡ done.status.number → text ≡ done.text → run ≡ done.run → Makes task program disk later done → Gives task program status text run
+gives_of (t.Run steps) program disk later status text run done n x r d =
+    record { start = d.start; ended = d.ended; kept = r ∙ d.kept; is_run = d.is_run; status_is = n ∙ d.status; text_is = x ∙ d.text }
+gives_of t.Check program disk later status text run done n x r d = record { status_is = n ∙ d.status; text_is = x ∙ d.text_is; no_run = r ∙ d.no_run }
+gives_of t.Code program disk later status text run done n x r d = record { status_is = n ∙ d.status; text_is = x ∙ d.text_is; no_run = r ∙ d.no_run }
 
-gives_cores : (task : Task) (program : Program) (status : ℕ) → GivesStatus task program status → IsOfCores status
-gives_cores (t.Run steps) program status h = subst IsOfCores (sym h.status_is) (of_cores h.ended.cores)
-gives_cores t.Check program status h = inl h
-gives_cores t.Code program status h = inl h
+gives_cores : (task : Task) (program : Program) (disk : DiskTold) (status : ℕ) → GivesStatus task program disk status → IsOfCores status
+gives_cores (t.Run steps) program disk status h = subst IsOfCores (sym h.status_is) (of_cores h.ended.cores)
+gives_cores t.Check program disk status h = inl h
+gives_cores t.Code program disk status h = inl h
 
 -- ---- what is due, by its status
 
-module _ (words : List (List ℕ)) (before after : LibraryTold) (status : ℕ) (text : List ℕ) (run : Option Ended) where
+module _ (words : List (List ℕ)) (before after : LibraryTold) (disk later : DiskTold) (status : ℕ) (text : List ℕ) (run : Option Ended) where
   module _ (task : Task) (file : List ℕ) (is_call : IsCall words task file) where
     has_read : (bytes : List ℕ) → IsRead before after file → Gave (before.text_at file) bytes → length bytes ≤ 1048576 → HasRead words before after task bytes
     has_read bytes w g l = record { file = file; is_call = is_call; well = w; gave = g; within = l }
@@ -124,48 +149,71 @@ module _ (words : List (List ℕ)) (before after : LibraryTold) (status : ℕ) (
         IsRefused number words before after
     refused_with number bytes refusal w g l n h e = record { task = task; bytes = bytes; read = has_read bytes w g l; is_refused = record { refusal = refusal; status_is = sym n ∙ e; refuses = h } }
 
-    file_refused : (number : ℕ) → IsOfRefusal number → number ≢ 10 → IsDueOfFile file task before after status text run → status ≡ number → IsRefused number words before after
-    file_refused number k m (library_fault n x r j f) e = absurd (seven number k (sym e ∙ n))
-    file_refused number k m (too_long n x r w took) e = absurd (m (sym e ∙ n))
-    file_refused number k m (source bytes w g l (refused y n x r h)) e = refused_with number bytes y w g l n h e
-    file_refused number k m (source bytes w g l (is_done done n x r d)) e = absurd (apart number k (subst IsOfCores e (done_status bytes task status done n d)))
+    file_refused : (number : ℕ) → IsOfRefusal number → number ≢ 10 → IsDueOfFile file task before after disk later status text run → status ≡ number → IsRefused number words before after
+    file_refused number k m (library_fault n x r j u a) e = absurd (seven number k (sym e ∙ n))
+    file_refused number k m (too_long n x r w took a) e = absurd (m (sym e ∙ n))
+    file_refused number k m (source bytes w g l (refused y n x r h a)) e = refused_with number bytes y w g l n h e
+    file_refused number k m (source bytes w g l (ready p c (disk_fault n x r h))) e = absurd (nine number k (sym e ∙ n))
+    file_refused number k m (source bytes w g l (ready p c (is_over file n x r h))) e = absurd (m (sym e ∙ n))
+    file_refused number k m (source bytes w g l (ready p c (is_done done n x r d))) e = absurd (apart number k (subst IsOfCores e (made_status task p disk later status done n d)))
 
-    file_over : IsDueOfFile file task before after status text run → status ≡ 10 → IsTooLong words before after ⊎ IsRefused 10 words before after
-    file_over (library_fault n x r j f) e = absurd (omega (arith, n, e))
-    file_over (too_long n x r w took) e = inl (record { task = task; file = file; is_call = is_call; well = w; took = took })
-    file_over (source bytes w g l (refused y n x r h)) e = inr (refused_with 10 bytes y w g l n h e)
-    file_over (source bytes w g l (is_done done n x r d)) e = absurd (not_above status 10 (done_status bytes task status done n d) e (omega arith))
+    file_over : IsDueOfFile file task before after disk later status text run → status ≡ 10 →
+        IsTooLong words before after ⊎ (IsRefused 10 words before after ⊎ IsLongFile words before after disk later)
+    file_over (library_fault n x r j u a) e = absurd (omega (arith, n, e))
+    file_over (too_long n x r w took a) e = inl (record { task = task; file = file; is_call = is_call; well = w; took = took })
+    file_over (source bytes w g l (refused y n x r h a)) e = inr (inl (refused_with 10 bytes y w g l n h e))
+    file_over (source bytes w g l (ready p c (disk_fault n x r h))) e = absurd (omega (arith, n, e))
+    file_over (source bytes w g l (ready p c (is_over number n x r h))) e =
+        inr (inr (record { task = task; bytes = bytes; read = has_read bytes w g l; program = p; is_ready = c; file = number; stopped = h }))
+    file_over (source bytes w g l (ready p c (is_done done n x r d))) e = absurd (not_above status 10 (made_status task p disk later status done n d) e (omega arith))
 
-    file_made : IsDueOfFile file task before after status text run → IsOfCores status → IsMade words before after status text run
-    file_made (library_fault n x r j f) h = absurd (not_above status 7 h n (omega arith))
-    file_made (too_long n x r w took) h = absurd (not_above status 10 h n (omega arith))
-    file_made (source bytes w g l (refused y n x r k)) h = absurd (apart (refusal_status y) (of_refusal y) (subst IsOfCores n h))
-    file_made (source bytes w g l (is_done done n x r d)) h = record {
+    file_failed : IsDueOfFile file task before after disk later status text run → status ≡ 9 → IsFailedFile words before after disk later
+    file_failed (library_fault n x r j u a) e = absurd (omega (arith, n, e))
+    file_failed (too_long n x r w took a) e = absurd (omega (arith, n, e))
+    file_failed (source bytes w g l (refused y n x r h a)) e = absurd (nine (refusal_status y) (of_refusal y) (sym n ∙ e))
+    file_failed (source bytes w g l (ready p c (disk_fault n x r h))) e =
+        record { task = task; bytes = bytes; read = has_read bytes w g l; program = p; is_ready = c; stopped = h }
+    file_failed (source bytes w g l (ready p c (is_over number n x r h))) e = absurd (omega (arith, n, e))
+    file_failed (source bytes w g l (ready p c (is_done done n x r d))) e = absurd (not_above status 9 (made_status task p disk later status done n d) e (omega arith))
+
+    file_made : IsDueOfFile file task before after disk later status text run → IsOfCores status → IsMade words before after status text run
+    file_made (library_fault n x r j u a) h = absurd (not_above status 7 h n (omega arith))
+    file_made (too_long n x r w took a) h = absurd (not_above status 10 h n (omega arith))
+    file_made (source bytes w g l (refused y n x r k a)) h = absurd (apart (refusal_status y) (of_refusal y) (subst IsOfCores n h))
+    file_made (source bytes w g l (ready p c (disk_fault n x r k))) h = absurd (not_above status 9 h n (omega arith))
+    file_made (source bytes w g l (ready p c (is_over number n x r k))) h = absurd (not_above status 10 h n (omega arith))
+    file_made (source bytes w g l (ready p c (is_done done n x r d))) h = record {
       task = task;
       bytes = bytes;
       read = has_read bytes w g l;
-      program = d.program;
-      is_ready = d.is_ready;
-      gives = gives_of task d.program status text run done n x r d.makes;
+      program = p;
+      is_ready = c;
+      gives = gives_of task p disk later status text run done n x r d;
     }
 
-  due_refused : (number : ℕ) → IsOfRefusal number → number ≢ 10 → IsDue words before after status text run → status ≡ number → IsRefused number words before after
-  due_refused number k m (usage n x r w s) e = absurd (one number k (sym e ∙ n))
+  due_refused : (number : ℕ) → IsOfRefusal number → number ≢ 10 → IsDue words before after disk later status text run → status ≡ number → IsRefused number words before after
+  due_refused number k m (usage n x r w s a) e = absurd (one number k (sym e ∙ n))
   due_refused number k m (call task file c due) e = file_refused task file c number k m due e
 
-  due_over : IsDue words before after status text run → status ≡ 10 → IsTooLong words before after ⊎ IsRefused 10 words before after
-  due_over (usage n x r w s) e = absurd (omega (arith, n, e))
+  due_over : IsDue words before after disk later status text run → status ≡ 10 →
+      IsTooLong words before after ⊎ (IsRefused 10 words before after ⊎ IsLongFile words before after disk later)
+  due_over (usage n x r w s a) e = absurd (omega (arith, n, e))
   due_over (call task file c due) e = file_over task file c due e
 
-  due_made : IsDue words before after status text run → IsOfCores status → IsMade words before after status text run
-  due_made (usage n x r w s) h = absurd (not_one status h n)
+  due_failed : IsDue words before after disk later status text run → status ≡ 9 → IsFailedFile words before after disk later
+  due_failed (usage n x r w s a) e = absurd (omega (arith, n, e))
+  due_failed (call task file c due) e = file_failed task file c due e
+
+  due_made : IsDue words before after disk later status text run → IsOfCores status → IsMade words before after status text run
+  due_made (usage n x r w s a) h = absurd (not_one status h n)
   due_made (call task file c due) h = file_made task file c due h
 
 -- ---- the clauses, one by one
 
-module _ (words : List (List ℕ)) (before after : LibraryTold) (status : ℕ) (run : Option Ended) (sink later : SinkTold)
-    (whole : status ≢ 8 → status ≢ 11 → TookWhole (IsDue words before after) status run sink later) (memory : status ≡ 11 → GaveUp words before after run sink later)
-    (tells_usage : TellsUsage words status) (decided : IsOfText status → IsDecided words before after status) where
+module _ (words : List (List ℕ)) (before after : LibraryTold) (disk later : DiskTold) (status : ℕ) (run : Option Ended) (sink written : SinkTold)
+    (whole : status ≢ 8 → status ≢ 11 → TookWhole (IsDue words before after disk later) status run sink written)
+    (memory : status ≡ 11 → GaveUp words before after disk later run sink written) (tells_usage : TellsUsage words status)
+    (decided : IsOfText status → IsDecided words before after disk status) where
   -- at status 11 the words are a call, and one text was opened
   pub called : status ≡ 11 → IsSomeCall words
   called is = let m = memory is in record { task = m.task; file = m.file; is_call = m.is_call }
@@ -177,7 +225,7 @@ module _ (words : List (List ℕ)) (before after : LibraryTold) (status : ℕ) (
   refused_for : (number : ℕ) → IsOfRefusal number → number ≢ 10 → status ≡ number → IsRefused number words before after
   refused_for number k m is =
       let w = whole (λ e. eight number k (sym is ∙ e)) (λ e. eleven number k (sym is ∙ e)) in
-      due_refused words before after status w.text run number k m w.due is
+      due_refused words before after disk later status w.text run number k m w.due is
 
   pub misspelled : status ≡ 2 → IsRefused 2 words before after
   misspelled = refused_for 2 (inl refl) (λ e. omega (arith, e))
@@ -188,41 +236,45 @@ module _ (words : List (List ℕ)) (before after : LibraryTold) (status : ℕ) (
   pub not_built : status ≡ 15 → IsRefused 15 words before after
   not_built = refused_for 15 (inr (inr (inr refl))) (λ e. omega (arith, e))
 
-  pub over : status ≡ 10 → IsTooLong words before after ⊎ IsRefused 10 words before after
-  over is = let w = whole (λ e. omega (arith, e, is)) (λ e. omega (arith, e, is)) in due_over words before after status w.text run w.due is
+  pub over : status ≡ 10 → IsTooLong words before after ⊎ (IsRefused 10 words before after ⊎ IsLongFile words before after disk later)
+  over is = let w = whole (λ e. omega (arith, e, is)) (λ e. omega (arith, e, is)) in due_over words before after disk later status w.text run w.due is
 
-  pub reported : IsOfCores status → IsWritten words before after status run sink later
+  pub disk_failed : status ≡ 9 → IsFailedFile words before after disk later
+  disk_failed is = let w = whole (λ e. omega (arith, e, is)) (λ e. omega (arith, e, is)) in due_failed words before after disk later status w.text run w.due is
+
+  pub reported : IsOfCores status → IsWritten words before after status run sink written
   reported is =
       let w = whole (λ e. not_above status 8 is e (omega arith)) (λ e. not_above status 11 is e (omega arith)) in
-      record { text = w.text; made = due_made words before after status w.text run w.due is; taken = w.taken }
+      record { text = w.text; made = due_made words before after disk later status w.text run w.due is; taken = w.taken }
 
-  -- what the text decides, where the library tells it
-  module _ (task : Task) (file text : List ℕ) (is_call : IsCall words task file) (told : before.text_at file ≡ Some text) (undisturbed : IsUndisturbed status) where
+  -- what the text decides, where the library tells it, and the disk the files that it needs
+  module _ (task : Task) (file text : List ℕ) (is_call : IsCall words task file) (told : before.text_at file ≡ Some text) (knows : KnowsFiles text task disk) (undisturbed : IsUndisturbed status) where
     of_text : IsOfText status
-    of_text = record { usage = λ e. tells_usage.told e task file is_call; library = undisturbed.library; sink = undisturbed.sink; memory = undisturbed.memory }
+    of_text = record { usage = λ e. tells_usage.told e task file is_call; library = undisturbed.library; sink = undisturbed.sink; disk = undisturbed.disk; memory = undisturbed.memory }
 
-    called_for : IsCalledFor text task status
-    called_for = (decided of_text).only task file text is_call told
+    called_for : IsCalledFor text task disk status
+    called_for = (decided of_text).only task file text is_call told knows
 
     -- where its program has no channel, it calls for no other status
-    pub exactly : ((steps : ℕ) (program : Program) → IsReady text (t.Run steps) program → (resolved program).channels ≡ []) → (number : ℕ) → (status ≡ number) ↔ CallsFor text task number
-    exactly none = one_status text task status called_for none
+    pub exactly : ((steps : ℕ) (program : Program) → IsReady text (t.Run steps) program → (resolved program).channels ≡ []) → (number : ℕ) → (status ≡ number) ↔ CallsFor text task disk number
+    exactly none = one_status text task disk status called_for none
 
     -- and a status of a refusal is that of no run
-    same_refusal : (number : ℕ) → IsOfRefusal number → (number ≡ status) ⊎ AreOfRuns text task status number → status ≡ number
+    same_refusal : (number : ℕ) → IsOfRefusal number → (number ≡ status) ⊎ AreOfRuns text task disk status number → status ≡ number
     same_refusal number k (inl e) = sym e
     same_refusal number k (inr r) = absurd (apart number k (subst IsOfCores (sym r.other.status_is) (of_cores r.other.ended.cores)))
 
-    refused_way : (number : ℕ) → IsOfRefusal number → number ≢ 10 → Way text task number → (length text ≤ 1048576) × IsRefusedAs number text task
+    refused_way : (number : ℕ) → IsOfRefusal number → number ≢ 10 → Way text task disk number → (length text ≤ 1048576) × IsRefusedAs number text task
     refused_way number k m (is_long e h) = absurd (m e)
     refused_way number k m (is_refused s h) = (s, h)
-    refused_way number k m (is_made s h) = absurd (apart number k (gives_cores task h.program number h.gives))
+    refused_way number k m (is_filed e s h) = absurd (m e)
+    refused_way number k m (is_made s h) = absurd (apart number k (gives_cores task h.program disk number h.gives))
 
     refused_then : (number : ℕ) → IsOfRefusal number → (length text ≤ 1048576) × IsRefusedAs number text task → status ≡ number
-    refused_then number k h = same_refusal number k (called_for.only number (calls_refused text task number h.1.refusal (sym h.1.status_is) h.0 h.1.refuses))
+    refused_then number k h = same_refusal number k (called_for.only number (calls_refused text task disk number h.1.refusal (sym h.1.status_is) h.0 h.1.refuses))
 
     only_refused : (number : ℕ) → IsOfRefusal number → number ≢ 10 → (status ≡ number) ↔ ((length text ≤ 1048576) × IsRefusedAs number text task)
-    only_refused number k m = ((λ is. refused_way number k m (way_of text task number (subst (CallsFor text task) is called_for.calls))), refused_then number k)
+    only_refused number k m = ((λ is. refused_way number k m (way_of text task disk number (subst (CallsFor text task disk) is called_for.calls))), refused_then number k)
 
     pub only_misspelled : (status ≡ 2) ↔ ((length text ≤ 1048576) × IsRefusedAs 2 text task)
     only_misspelled = only_refused 2 (inl refl) (λ e. omega (arith, e))
@@ -233,34 +285,48 @@ module _ (words : List (List ℕ)) (before after : LibraryTold) (status : ℕ) (
     pub only_not_built : (status ≡ 15) ↔ ((length text ≤ 1048576) × IsRefusedAs 15 text task)
     only_not_built = only_refused 15 (inr (inr (inr refl))) (λ e. omega (arith, e))
 
-    over_way : Way text task 10 → (1048576 < length text) ⊎ ((length text ≤ 1048576) × IsRefusedAs 10 text task)
+    abbrev Over : Type 0
+    Over = (1048576 < length text) ⊎ ((length text ≤ 1048576) × IsRefusedAs 10 text task ⊎ (length text ≤ 1048576) × IsFiled text task disk)
+
+    over_way : Way text task disk 10 → Over
     over_way (is_long e h) = inl h
-    over_way (is_refused s h) = inr (s, h)
-    over_way (is_made s h) = absurd (not_above 10 10 (gives_cores task h.program 10 h.gives) refl (omega arith))
+    over_way (is_refused s h) = inr (inl (s, h))
+    over_way (is_filed e s h) = inr (inr (s, h))
+    over_way (is_made s h) = absurd (not_above 10 10 (gives_cores task h.program disk 10 h.gives) refl (omega arith))
 
-    over_then : (1048576 < length text) ⊎ ((length text ≤ 1048576) × IsRefusedAs 10 text task) → status ≡ 10
+    over_then : Over → status ≡ 10
     over_then (inl h) = same_refusal 10 (inr (inr (inl refl))) (called_for.only 10 (over_long refl h))
-    over_then (inr h) = refused_then 10 (inr (inr (inl refl))) h
+    over_then (inr (inl h)) = refused_then 10 (inr (inr (inl refl))) h
+    over_then (inr (inr h)) = same_refusal 10 (inr (inr (inl refl))) (called_for.only 10 (long_file h.1.program refl h.0 h.1.is_ready h.1.long))
 
-    pub only_over : (status ≡ 10) ↔ ((1048576 < length text) ⊎ ((length text ≤ 1048576) × IsRefusedAs 10 text task))
-    only_over = ((λ is. over_way (way_of text task 10 (subst (CallsFor text task) is called_for.calls))), over_then)
+    pub only_over : (status ≡ 10) ↔ Over
+    only_over = ((λ is. over_way (way_of text task disk 10 (subst (CallsFor text task disk) is called_for.calls))), over_then)
 
-    reported_way : Way text task status → IsOfCores status → (length text ≤ 1048576) × ((program : Program) × IsReady text task program)
+    -- it is ready, and no file that it needs is too long
+    pub record IsInOrder : Type 0 where
+      pub within : length text ≤ 1048576
+      pub program : Program
+      pub is_ready : IsReady text task program
+      pub short : AreShort disk (needed task program)
+
+    reported_way : Way text task disk status → IsOfCores status → IsInOrder
     reported_way (is_long e h) is = absurd (not_above status 10 is e (omega arith))
     reported_way (is_refused s h) is = absurd (apart status (subst IsOfRefusal h.status_is (of_refusal h.refusal)) is)
-    reported_way (is_made s h) is = (s, (h.program, h.is_ready))
+    reported_way (is_filed e s h) is = absurd (not_above status 10 is e (omega arith))
+    reported_way (is_made s h) is = record { within = s; program = h.program; is_ready = h.is_ready; short = h.short }
 
-    cores_way : Way text task status → (length text ≤ 1048576) × ((program : Program) × IsReady text task program) → IsOfCores status
-    cores_way (is_long e h) k = absurd (omega (arith, h, k.0))
-    cores_way (is_refused s h) k = absurd (refused_not text task s h.refusal k.1.0 h.refuses k.1.1)
-    cores_way (is_made s h) k = gives_cores task h.program status h.gives
+    cores_way : Way text task disk status → IsInOrder → IsOfCores status
+    cores_way (is_long e h) k = absurd (omega (arith, h, k.within))
+    cores_way (is_refused s h) k = absurd (refused_not text task s h.refusal k.program h.refuses k.is_ready)
+    cores_way (is_filed e s h) k = absurd (not_filed text task disk knows h k.program k.is_ready k.short)
+    cores_way (is_made s h) k = gives_cores task h.program disk status h.gives
 
-    pub only_reported : IsOfCores status ↔ ((length text ≤ 1048576) × ((program : Program) × IsReady text task program))
-    only_reported = let way = way_of text task status called_for.calls in (reported_way way, cores_way way)
+    pub only_reported : IsOfCores status ↔ IsInOrder
+    only_reported = let way = way_of text task disk status called_for.calls in (reported_way way, cores_way way)
 
 -- ---- a check, and a listing
 
-module _ (text : List ℕ) where
+module _ (text : List ℕ) (disk : DiskTold) where
   -- a check knows no bound on steps, and nothing that is not built
   pub no_steps_of_a_check : IsTooMany text t.Check → ⊥
   no_steps_of_a_check h = absurd (omega (arith, h.over))
@@ -279,17 +345,19 @@ module _ (text : List ℕ) where
   listed_of program a b = record { is_within = record { is_accepted = a; within = omega arith }; built = b }
 
   -- a text is accepted with status 0 exactly where it spells a program that breaks no rule
-  pub check_calls : CallsFor text t.Check 0 ↔ (IsShort text × ((program : Program) × IsAccepted text program))
-  check_calls = ((λ h. forth (way_of text t.Check 0 h)), (λ k. made k.1.0 k.0 (accepted_of k.1.0 k.1.1) refl)) where
-    forth : Way text t.Check 0 → IsShort text × ((program : Program) × IsAccepted text program)
+  pub check_calls : CallsFor text t.Check disk 0 ↔ (IsShort text × ((program : Program) × IsAccepted text program))
+  check_calls = ((λ h. forth (way_of text t.Check disk 0 h)), (λ k. made k.1.0 k.0 (accepted_of k.1.0 k.1.1) (none_long disk.held) refl)) where
+    forth : Way text t.Check disk 0 → IsShort text × ((program : Program) × IsAccepted text program)
     forth (is_long e h) = absurd (omega (arith, e))
     forth (is_refused s h) = absurd (omega (arith, some_status h.refusal, h.status_is))
+    forth (is_filed e s h) = absurd (omega (arith, e))
     forth (is_made s h) = (s, (h.program, h.is_ready.is_within.is_accepted))
 
   -- and it is listed with status 0 exactly where all of that program is built too
-  pub code_calls : CallsFor text t.Code 0 ↔ (IsShort text × ((program : Program) × (IsAccepted text program × (unbuilt_nodes program.items ≡ []))))
-  code_calls = ((λ h. forth (way_of text t.Code 0 h)), (λ k. made k.1.0 k.0 (listed_of k.1.0 k.1.1.0 k.1.1.1) refl)) where
-    forth : Way text t.Code 0 → IsShort text × ((program : Program) × (IsAccepted text program × (unbuilt_nodes program.items ≡ [])))
+  pub code_calls : CallsFor text t.Code disk 0 ↔ (IsShort text × ((program : Program) × (IsAccepted text program × (unbuilt_nodes program.items ≡ []))))
+  code_calls = ((λ h. forth (way_of text t.Code disk 0 h)), (λ k. made k.1.0 k.0 (listed_of k.1.0 k.1.1.0 k.1.1.1) (none_long disk.held) refl)) where
+    forth : Way text t.Code disk 0 → IsShort text × ((program : Program) × (IsAccepted text program × (unbuilt_nodes program.items ≡ [])))
     forth (is_long e h) = absurd (omega (arith, e))
     forth (is_refused s h) = absurd (omega (arith, some_status h.refusal, h.status_is))
+    forth (is_filed e s h) = absurd (omega (arith, e))
     forth (is_made s h) = (s, (h.program, (h.is_ready.is_within.is_accepted, h.is_ready.built)))

@@ -10,7 +10,6 @@ use Rattle.ac_base.specs.Log.{Log}
 use Rattle.ac_base.specs.Report.{report_of, status_of}
 use Rattle.ac_tree.specs.declared.expr.Expr.TheVariants as expr
 use Rattle.ac_tree.specs.declared.item.Item.{Item}
-use Rattle.ac_tree.specs.declared.item.Item.TheVariants as item
 use Rattle.ac_tree.specs.declared.item.Program.{Program}
 use Rattle.ac_lexer.specs.declared.fault.LexFault.{LexFault}
 use Rattle.ac_lexer.specs.declared.fault.LexFault.TheVariants as l
@@ -42,7 +41,7 @@ use Rattle.ac_program.proofs.Calls.{calls_both}
 use Rattle.ac_program.proofs.Statuses.{IsOfCores, of_cores, other_cores}
 use Rattle.ac_base.specs.declared.entry.Entry.{Entry}
 use Rattle.ac_base.specs.declared.entry.Stamped.{Stamped}
-use Rattle.ac_history.specs.History.{Past, link_at, start, fits}
+use Rattle.ac_history.specs.History.{Past, link_at, start, fits, makes}
 use Rattle.ac_base.specs.declared.entry.Event.TheVariants as event
 use Rattle.ac_base.specs.declared.ends.EndWord.TheVariants.{Finished}
 use Rattle.ac_base.specs.declared.ends.CoreEnd.{CoreEnd}
@@ -72,19 +71,21 @@ use Rattle.ac_history.specs.Quiet.{CoreIsQuiet}
 use Rattle.core_runner.specs.Network.{owner_of, peer_of}
 use Rattle.core_runner.specs.Run.{history_of, nothing_yet, EndsQuiet, IsRunOf}
 use Rattle.ac_program.specs.Source.{HasTokens, HasFault, IsUnexpected, IsTooDeep, IsAccepted, IsBroken, IsTooMany, IsWithin, IsNotBuilt, Refuses}
-use Rattle.ac_program.specs.Source.{IsSpelled, IsReady, all_steps, missing, most_steps, names_of}
-use Rattle.ac_program.specs.Lines.{accepted_line, library_line, limit_source_line, refusal_line, refusal_status}
+use Rattle.ac_program.specs.Source.{IsSpelled, IsReady, all_steps, most_steps, names_of, needed}
+use Rattle.ac_program.specs.Lines.{accepted_line, disk_line, library_line, limit_file_line, limit_source_line, refusal_line, refusal_status}
 use Rattle.ac_outside.specs.Told.{LibraryTold, SinkTold}
 use Rattle.ac_program.specs.Reading.{Gave, TookBytes}
 use Rattle.ac_program.specs.Writing.{TookFront}
-use Rattle.ac_program.specs.Making.{IsDone, IsReported, made as is_made}
+use Rattle.ac_program.specs.Making.{AreStarted, IsReported, IsDueOf, made as is_made, ready}
 use Rattle.ac_program.specs.Headline.{IsNoCall, IsRead, IsShort, IsDue, call, source, TookWhole, TookPart, GaveUp}
-use Rattle.ac_program.specs.Headline.{TellsUsage, TellsLibrary, TellsSink, IsOfText, AreOfRuns, CallsFor, made, bad_token, unexpected, broken, over_long, too_many, not_built}
+use Rattle.ac_program.specs.Headline.{alone, KnowsFiles}
+use Rattle.ac_program.specs.Headline.{TellsUsage, TellsLibrary, TellsSink, IsOfText, AreOfRuns, CallsFor, made, bad_token, unexpected, broken, over_long, too_many}
 use Rattle.ac_tree.specs.declared.stmt.Stmt.{Stmt}
 use Rattle.ac_tree.specs.declared.stmt.Stmt.TheVariants as s
 use Rattle.ac_resolve.specs.Resolution.{resolved}
 use Rattle.ac_links.specs.AtRest.{has_front}
 use Rattle.ac_program.proofs.TwoRules.{two_tree, two_is_clean, do_built, cancel_built, two_is_built}
+use Rattle.ac_outside.specs.Disks.{DiskTold}
 
 -- ---- words
 
@@ -262,8 +263,8 @@ the_line_of_a_rule = rw (two_eight, decimal_digit 2 (omega arith)) refl
 pub the_line_of_a_form : refusal_line (r.NotBuilt 28) ≡ codes "not built at 28\n"
 the_line_of_a_form = rw two_eight refl
 
-pub the_lines_of_limits : refusal_line (r.TooDeep 9) ∷ refusal_line r.TooManySteps ∷ limit_source_line ∷ library_line ∷ []
-    ≡ codes "limit: nesting at 9\n" ∷ codes "limit: steps\n" ∷ codes "limit: source\n" ∷ codes "library fault\n" ∷ []
+pub the_lines_of_limits : refusal_line (r.TooDeep 9) ∷ refusal_line r.TooManySteps ∷ limit_source_line ∷ library_line ∷ disk_line ∷ limit_file_line 9 ∷ []
+    ≡ codes "limit: nesting at 9\n" ∷ codes "limit: steps\n" ∷ codes "limit: source\n" ∷ codes "library fault\n" ∷ codes "disk fault\n" ∷ codes "limit: file 9\n" ∷ []
 the_lines_of_limits = rw (decimal_digit 9 (omega arith)) refl
 
 pub the_line_of_a_check : accepted_line ≡ codes "accepted\n"
@@ -281,7 +282,7 @@ the_statuses = refl
 -- ---- what each status means
 
 pub a_trap_is_for_the_text : IsOfText 4
-a_trap_is_for_the_text = record { usage = omega arith; library = omega arith; sink = omega arith; memory = omega arith }
+a_trap_is_for_the_text = record { usage = omega arith; library = omega arith; sink = omega arith; disk = omega arith; memory = omega arith }
 
 pub a_sink_fault_is_not : IsOfText 8 → ⊥
 a_sink_fault_is_not h = h.sink refl
@@ -426,7 +427,11 @@ it_has_no_tokens tokens h = no_tokens tokens h.lexed
 pub nothing_is_spelled : (program : Program) → IsSpelled (codes "007") program → ⊥
 nothing_is_spelled program h = it_has_no_tokens h.tokens h.lexed
 
-pub a_fault_calls_for_2 : CallsFor (codes "007") (t.Run 100) 2
+-- a disk that tells nothing
+abbrev pub no_disk : DiskTold
+no_disk = record { held = None; bound = 0; is_ready = true; faults = 0 }
+
+pub a_fault_calls_for_2 : CallsFor (codes "007") (t.Run 100) no_disk 2
 a_fault_calls_for_2 = bad_token (l.BadByte 1) refl (omega arith) it_has_a_fault
 
 -- core a f; lacks a parenthesis at its eighth byte
@@ -438,7 +443,7 @@ it_is_unexpected = record {
   unexpected = no_parenthesis;
 }
 
-pub an_unexpected_token_calls_for_2 : CallsFor (codes "core a f;") (t.Run 100) 2
+pub an_unexpected_token_calls_for_2 : CallsFor (codes "core a f;") (t.Run 100) no_disk 2
 an_unexpected_token_calls_for_2 = unexpected 7 refl (omega arith) it_is_unexpected
 
 -- what a source spells is one program, whose tokens are neither unexpected nor too deep
@@ -485,7 +490,7 @@ one_row = record { count = refl; each = each } where
       subst (λ (k : ℕ). reach.Reaches ([] ∷ []) (Some 0 ∷ []) k 0 × ((core : ℕ) → reach.Reaches ([] ∷ []) (Some 0 ∷ []) core 0 → core ≡ k)) (same_core 0 k e) (is_entry 0 refl, only_core)
   each (suc function) found e = cc
 
-reached_in : (items : List Item) → entries_of items ≡ Some 0 ∷ [] → all_calls items ≡ [] ∷ [] → AreReached items (row.ByOne 0 ∷ [])
+pub reached_in : (items : List Item) → entries_of items ≡ Some 0 ∷ [] → all_calls items ≡ [] ∷ [] → AreReached items (row.ByOne 0 ∷ [])
 reached_in items e c = subst (λ (z : List (List ℕ) × List (Option ℕ)). AreRows z.0 z.1 (row.ByOne 0 ∷ [])) (λ j. (sym c j, sym e j)) one_row
 
 -- core a(f); async void f() { x = 1; } breaks rule 2 at its `x`
@@ -514,10 +519,10 @@ one_assignment = parsed_tree _ _ [] refl
 pub it_breaks_a_rule : IsBroken undeclared_text its_rule
 it_breaks_a_rule = record { program = undeclared_tree; spelled = record { tokens = tokens_in undeclared_text; lexed = undeclared_tokens; tree = one_assignment }; least = its_least }
 
-pub a_broken_rule_calls_for_3 : CallsFor undeclared_text (t.Run 100) 3
+pub a_broken_rule_calls_for_3 : CallsFor undeclared_text (t.Run 100) no_disk 3
 a_broken_rule_calls_for_3 = broken its_rule refl (omega arith) it_breaks_a_rule
 
-pub in_a_check_too : CallsFor undeclared_text t.Check 3
+pub in_a_check_too : CallsFor undeclared_text t.Check no_disk 3
 in_a_check_too = broken its_rule refl (omega arith) it_breaks_a_rule
 
 pub it_is_not_accepted : (program : Program) → IsAccepted undeclared_text program → ⊥
@@ -541,7 +546,7 @@ not_too_many_steps h =
     let over : most_steps < all_steps two_tree (t.Run 4000000) = subst (λ (p : Program). most_steps < all_steps p (t.Run 4000000)) (sym (its_only_program h.program h.is_accepted.spelled)) h.over in
     omega (arith, over)
 
-pub too_many_steps_call_for_10 : CallsFor two_text (t.Run 4000001) 10
+pub too_many_steps_call_for_10 : CallsFor two_text (t.Run 4000001) no_disk 10
 too_many_steps_call_for_10 = too_many refl (omega arith) too_many_steps
 
 pub it_is_not_within : IsWithin two_text (t.Run 4000001) two_tree → ⊥
@@ -549,46 +554,6 @@ it_is_not_within h = let le = h.within in omega (arith, le)
 
 pub it_is_not_ready : IsReady two_text (t.Run 4000001) two_tree → ⊥
 it_is_not_ready h = it_is_not_within h.is_within
-
--- a program with a file, which is not built
-abbrev pub filing_text : List ℕ
-filing_text = codes "core a(f); file p(\"x\"); async void f() {}"
-
-abbrev pub filing_tree : Program
-filing_tree = record {
-  items = item.Core 0 (codes "a") (codes "f") ∷ item.File 11 (codes "p") (codes "x")
-      ∷ item.Function (record { at = 24; is_async = true; gives_int = false; name = codes "f"; params = []; body = [] }) ∷ [];
-}
-
-a_file : IsTree (tokens_in filing_text) filing_tree
-unfolding piece_at name_at word_of number_at mark_of_one mark_of_two program_at item_at many_at stmt_at chain_at unary_at same_word same_mark
-a_file = parsed_tree _ _ [] refl
-
-filing_tokens : HasTokens filing_text (tokens_in filing_text)
-unfolding piece_at name_at word_of number_at mark_of_one mark_of_two
-filing_tokens = record { lexed = lexes 99 0 _ _ refl; only = λ other d. lexes_only 99 0 filing_text (Ok (tokens_in filing_text)) other refl d }
-
-a_file_breaks_none : BreaksNone filing_tree.items
-a_file_breaks_none = program_told filing_tree.items (row.ByOne 0 ∷ []) (reached_in filing_tree.items refl refl) None refl
-
-filing_is_accepted : IsAccepted filing_text filing_tree
-filing_is_accepted = record { spelled = record { tokens = tokens_in filing_text; lexed = filing_tokens; tree = a_file }; clean = a_file_breaks_none }
-
-pub it_is_not_built : IsNotBuilt filing_text (t.Run 100) 11
-it_is_not_built = record { program = filing_tree; is_within = record { is_accepted = filing_is_accepted; within = omega arith }; unbuilt = refl }
-
--- which is no fault of the program: a check accepts it, and there is no listing of it
-pub a_check_accepts_it : CallsFor filing_text t.Check 0
-a_check_accepts_it = made filing_tree (omega arith) (record { is_within = record { is_accepted = filing_is_accepted; within = omega arith }; built = refl }) refl
-
-pub a_check_needs_no_form : missing t.Check filing_tree ∷ missing t.Code filing_tree ∷ [] ≡ [] ∷ (11 ∷ []) ∷ []
-a_check_needs_no_form = refl
-
-pub there_is_no_listing_of_it : CallsFor filing_text t.Code 15
-there_is_no_listing_of_it = not_built 11 refl (omega arith) (record { program = filing_tree; is_within = record { is_accepted = filing_is_accepted; within = omega arith }; unbuilt = refl })
-
-pub what_is_not_built_calls_for_15 : CallsFor filing_text (t.Run 100) 15
-what_is_not_built_calls_for_15 = not_built 11 refl (omega arith) it_is_not_built
 
 pub all_of_two_ac_is_built : (at : ℕ) → IsNotBuilt two_text (t.Run 100) at → ⊥
 all_of_two_ac_is_built at h =
@@ -633,7 +598,7 @@ a_cancel_is_ready = record {
 pub it_is_not_short : (bytes : List ℕ) → length bytes ≡ 1048577 → IsShort bytes → ⊥
 it_is_not_short bytes e le = omega (arith, e, le)
 
-pub it_calls_for_10 : (bytes : List ℕ) → length bytes ≡ 1048577 → CallsFor bytes (t.Run 100) 10
+pub it_calls_for_10 : (bytes : List ℕ) → length bytes ≡ 1048577 → CallsFor bytes (t.Run 100) no_disk 10
 it_calls_for_10 bytes e = over_long refl (omega (arith, e))
 
 -- ---- a report
@@ -651,8 +616,14 @@ it_finished = refl
 abbrev pub its_doing : Done
 its_doing = record { run = Some its_run; text = its_report; status = record { number = 0 } }
 
-its_reporting : IsReported two_tree 100 its_doing
+-- it has no files, so none was bound
+no_files : AreStarted [] [] no_disk no_disk
+no_files = record { well = refl; bound = refl; is_ready = refl; count = refl; short = λ k d less. absurd (omega (arith, less)); told = tt }
+
+its_reporting : IsReported two_tree 100 no_disk no_disk its_doing
 its_reporting = record {
+  start = [];
+  files = no_files;
   ended = its_run;
   kept = refl;
   is_run = it_is_a_run;
@@ -660,8 +631,8 @@ its_reporting = record {
   status = refl;
 }
 
-pub it_is_done : IsDone two_text (t.Run 100) its_doing
-it_is_done = record { program = two_tree; is_ready = it_is_ready; makes = its_reporting }
+pub it_is_done : IsDueOf two_text (t.Run 100) no_disk no_disk 0 its_report (Some its_run)
+it_is_done = ready two_tree it_is_ready (is_made its_doing refl refl refl its_reporting)
 
 -- ac run two.ac --steps=100, with a library that tells the text and was opened once
 abbrev pub its_words : List (List ℕ)
@@ -692,9 +663,8 @@ its_call =
 pub its_reading : IsRead its_library its_library_after (codes "two.ac")
 its_reading = record { just = record { once = refl; named = refl }; well = refl }
 
-pub it_is_due : IsDue its_words its_library its_library_after 0 its_report (Some its_run)
-it_is_due = call (t.Run 100) (codes "two.ac") its_call
-    (source two_text its_reading refl (omega arith) (is_made its_doing refl refl refl it_is_done))
+pub it_is_due : IsDue its_words its_library its_library_after no_disk no_disk 0 its_report (Some its_run)
+it_is_due = call (t.Run 100) (codes "two.ac") its_call (source two_text its_reading refl (omega arith) it_is_done)
 
 abbrev pub its_sink : SinkTold
 its_sink = record { held = Some []; faults = 0 }
@@ -703,10 +673,10 @@ its_sink = record { held = Some []; faults = 0 }
 abbrev pub sink_with : List ℕ → ℕ → SinkTold
 sink_with held faults = record { held = Some held; faults = faults }
 
-pub it_is_taken : TookWhole (IsDue its_words its_library its_library_after) 0 (Some its_run) its_sink (sink_with its_report 0)
+pub it_is_taken : TookWhole (IsDue its_words its_library its_library_after no_disk no_disk) 0 (Some its_run) its_sink (sink_with its_report 0)
 it_is_taken = record { text = its_report; due = it_is_due; taken = refl }
 
-pub its_first_byte_is_taken : TookPart (IsDue its_words its_library its_library_after) (Some its_run) its_sink (sink_with (codes "a") 1)
+pub its_first_byte_is_taken : TookPart (IsDue its_words its_library its_library_after no_disk no_disk) (Some its_run) its_sink (sink_with (codes "a") 1)
 its_first_byte_is_taken = record {
   status = 0;
   text = its_report;
@@ -725,8 +695,8 @@ pub a_fault_that_is_not_told : TellsSink its_sink (sink_with (codes "a") 1) 0 �
 a_fault_that_is_not_told h = let e = h.only (omega arith) in omega (arith, e)
 
 -- memory was refused: two.ac was opened, nothing is written
-pub memory_is_refused : GaveUp its_words its_library its_library_after None its_sink its_sink
-memory_is_refused = record { task = t.Run 100; file = codes "two.ac"; is_call = its_call; is_read = its_reading; no_run = refl; nothing = refl }
+pub memory_is_refused : GaveUp its_words its_library its_library_after no_disk no_disk None its_sink its_sink
+memory_is_refused = record { task = t.Run 100; file = codes "two.ac"; is_call = its_call; is_read = its_reading; files = alone refl; no_run = refl; nothing = refl }
 
 -- and where another name was opened, no call has this meaning
 pub another_name_is_opened : IsRead its_library (record its_library_after { names = Some (codes "" ∷ []) }) (codes "two.ac") → ⊥
@@ -738,12 +708,17 @@ a_fault_of_the_library = record { told = λ e. omega arith; only = λ n. absurd 
 pub no_fault_of_the_library : TellsLibrary its_library (record its_library_after { faults = 1 }) 0 → ⊥
 no_fault_of_the_library h = let e = h.only (omega arith) (omega arith) in omega (arith, e)
 
-pub its_status_is_called_for : CallsFor two_text (t.Run 100) 0
-its_status_is_called_for = made two_tree (omega arith) it_is_ready (record { ended = its_run; is_run = it_is_a_run; status_is = refl })
+pub its_status_is_called_for : CallsFor two_text (t.Run 100) no_disk 0
+its_status_is_called_for = made two_tree (omega arith) it_is_ready tt (record { start = []; are_held = tt; ended = its_run; is_run = it_is_a_run; status_is = refl })
 
-pub it_calls_for_no_other : CallsFor two_text (t.Run 100) 2 → ⊥
-it_calls_for_no_other h = other (calls_both two_text (t.Run 100) 0 2 its_status_is_called_for h) where
-  other : (◌≡◌ {A = ℕ} 2 0) ⊎ AreOfRuns two_text (t.Run 100) 0 2 → ⊥
+-- it has no files, so they are known
+pub its_files_are_known : KnowsFiles two_text (t.Run 100) no_disk
+its_files_are_known program k some =
+    let e = ap (λ (p : Program). length (needed (t.Run 100) p)) (its_only_program program k.is_within.is_accepted.spelled) in absurd (omega (arith, some, e))
+
+pub it_calls_for_no_other : CallsFor two_text (t.Run 100) no_disk 2 → ⊥
+it_calls_for_no_other h = other (calls_both two_text (t.Run 100) no_disk its_files_are_known 0 2 its_status_is_called_for h) where
+  other : (◌≡◌ {A = ℕ} 2 0) ⊎ AreOfRuns two_text (t.Run 100) no_disk 0 2 → ⊥
   other (inl e) = omega (arith, e)
   other (inr r) = (other_cores 2 (subst IsOfCores (sym r.other.status_is) (of_cores r.other.ended.cores))).0 refl
 
@@ -764,8 +739,15 @@ not_with_an_entry_of_the_worker h =
     subst (λ (past : Past). fits past (of_party 1 (stamped 1 0)) ≡ true) before_its_first_entry h.legal.0 in
     cc
 
+-- a core takes messages and passes them over, and the worker does so with requests
+pub a_core_takes_no_request : makes true false false (event.Got 0 0 (pos 5)) ∷ makes true false true (event.Got 1 0 (pos 5)) ∷ [] ≡ true ∷ false ∷ []
+a_core_takes_no_request = refl
+
+pub the_worker_passes_requests_over : makes false true true (event.Pass 1 0) ∷ makes true false true (event.Pass 1 0) ∷ [] ≡ true ∷ false ∷ []
+the_worker_passes_requests_over = refl
+
 -- its core cannot have finished and trapped
-pub not_with_another_run : (program : Program) → IsReported program 100 (record its_doing { status = record { number = 4 } }) → ⊥
+pub not_with_another_run : (program : Program) → IsReported program 100 no_disk no_disk (record its_doing { status = record { number = 4 } }) → ⊥
 not_with_another_run program h = other h.ended h.kept h.status where
   same_run : {a b : Ended} → Some a ≡ Some b → a ≡ b
   same_run e = cc
@@ -773,7 +755,7 @@ not_with_another_run program h = other h.ended h.kept h.status where
   other : (ended : Ended) → Some its_run ≡ Some ended → 4 ≡ status_of ended.cores → ⊥
   other ended e h = let n : 4 ≡ 0 = h ∙ ap (λ (x : Ended). status_of x.cores) (sym (same_run e)) in omega (arith, n)
 
-pub no_run_is_kept_without_memory : GaveUp its_words its_library its_library_after (Some its_run) its_sink its_sink → ⊥
+pub no_run_is_kept_without_memory : GaveUp its_words its_library its_library_after no_disk no_disk (Some its_run) its_sink its_sink → ⊥
 no_run_is_kept_without_memory h = let e = h.no_run in cc
 
 pub a_call_is_one : IsNoCall its_words → ⊥

@@ -4,9 +4,12 @@ pub mod Consequences
 pub mod Digits
 pub mod Endings
 pub mod Faults
+pub mod Filing
+pub mod Left
 pub mod Names
 pub mod OneRun
 pub mod OneStatus
+pub mod Paths
 pub mod Reasons
 pub mod Refusals
 pub mod Scans
@@ -16,5 +19,6 @@ pub mod Streams
 pub mod TwoRules
 pub mod Examples
 pub mod LineExamples
+pub mod FileExamples
 pub mod ChannelExamples
 pub mod TwoExamples

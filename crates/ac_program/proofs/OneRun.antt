@@ -55,8 +55,8 @@ module _ (p : Program) (clean : BreaksNone p.items) (shaped : HasShape p) (none 
   same_any p core (j ∷ js) (k ∷ ks) (x ∷ xs) (y ∷ ys) h i l =
       rw (same_end core j k x y h.0 i.0, same_any p (suc core) js ks xs ys h.1 i.1 (omega (arith, l))) refl
 
-  pub same_status : (a b : Ended) → IsRunOf program bound [] a → IsRunOf program bound [] b → status_of a.cores ≡ status_of b.cores
-  same_status a b h i =
+  pub same_status : (start other : List (List ℕ)) (a b : Ended) → IsRunOf program bound start a → IsRunOf program bound other b → status_of a.cores ≡ status_of b.cores
+  same_status start other a b h i =
       let same : (p : EndWord → Bool) → any_ends p a.cores ≡ any_ends p b.cores =
       λ p. same_any p 0 a.journals b.journals a.cores b.cores h.cores i.cores (h.every_core ∙ sym i.every_core) in
       rw (same is_trapped, same is_out_of_steps, same is_stalled) refl

@@ -5,12 +5,13 @@ use Rattle.ac_tree.specs.declared.item.Program.{Program}
 use Rattle.ac_resolve.specs.Resolution.{resolved}
 use Rattle.ac_program.specs.declared.words.Task.{Task}
 use Rattle.ac_program.specs.declared.words.Task.TheVariants as t
+use Rattle.ac_outside.specs.Disks.{DiskTold}
 use Rattle.ac_program.specs.Source.{IsReady}
 use Rattle.ac_program.specs.Headline.{CallsFor, AreOfRuns, IsCalledFor}
 
-module _ (text : List ℕ) (task : Task) (status : ℕ) (called : IsCalledFor text task status)
+module _ (text : List ℕ) (task : Task) (disk : DiskTold) (status : ℕ) (called : IsCalledFor text task disk status)
     (none : (steps : ℕ) (program : Program) → IsReady text (t.Run steps) program → (resolved program).channels ≡ []) where
-  same : (number : ℕ) → (number ≡ status) ⊎ AreOfRuns text task status number → status ≡ number
+  same : (number : ℕ) → (number ≡ status) ⊎ AreOfRuns text task disk status number → status ≡ number
   same number (inl e) = sym e
   same number (inr r) =
       let ready = subst (λ (a : Task). IsReady text a r.program) r.is_run r.is_ready in
@@ -18,5 +19,5 @@ module _ (text : List ℕ) (task : Task) (status : ℕ) (called : IsCalledFor te
       let many = ap (λ xs. length xs) (none r.steps r.program ready) in
       absurd (omega (arith, some, many))
 
-  pub one_status : (number : ℕ) → (status ≡ number) ↔ CallsFor text task number
-  one_status number = ((λ e. subst (λ n. CallsFor text task n) e called.calls), (λ h. same number (called.only number h)))
+  pub one_status : (number : ℕ) → (status ≡ number) ↔ CallsFor text task disk number
+  one_status number = ((λ e. subst (λ n. CallsFor text task disk n) e called.calls), (λ h. same number (called.only number h)))

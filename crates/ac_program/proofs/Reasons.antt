@@ -1,5 +1,12 @@
 -- From what is due to the text that decides it.
-use Rattle.std.proofs.Common.{◌≢◌, ◌≡◌, ℕ, ◌+◌, ◌<◌, List, length}
+use Rattle.std.proofs.Common.{◌≢◌, ◌≡◌, ℕ, ◌+◌, ◌<◌, ◌≤◌, List, [], length, map}
+use Rattle.std.specs.Prelude.{All, Contains, IfSome, slice_index_or}
+use Rattle.std.proofs.lemmas.Option.{slice_get_within, get_or_from_slice_get}
+use Rattle.std.proofs.lemmas.List.{get_or_default}
+use Rattle.ac_outside.specs.Disks.{DiskTold, Held}
+use Rattle.starting_files.specs.declared.fault.StartFault.TheVariants as f
+use Rattle.starting_files.proofs.Started.{are_short}
+use Rattle.starting_files.specs.Starting.{StartsFiles, StopsAtFile, bytes_at, most_bytes, given}
 use Rattle.std.proofs.Common.{Option, None, Some, refl, sym, ap, ◌∙◌, subst, arith, length-append}
 use Rattle.ac_outside.specs.Told.{LibraryTold, SinkTold}
 use Rattle.core_runner.specs.declared.ended.Ended.{Ended}
@@ -8,12 +15,14 @@ use Rattle.ac_program.specs.Words.{IsCall}
 use Rattle.ac_tree.specs.declared.item.Program.{Program}
 use Rattle.ac_program.specs.declared.execute.Done.{Done}
 use Rattle.ac_program.specs.declared.words.Task.TheVariants as t
-use Rattle.ac_program.specs.Making.{Makes}
+use Rattle.ac_program.specs.Source.{needed}
+use Rattle.ac_program.specs.Making.{Makes, AreStopped}
 use Rattle.ac_program.specs.Reading.{Gave, TookBytes}
-use Rattle.ac_program.specs.Headline.{IsRead, IsDueOfFile, TookWhole, GivesStatus, CallsFor, IsCalledFor, IsOfText, IsDecided}
-use Rattle.ac_program.specs.Making.IsDueOf.{refused, made as is_made}
+use Rattle.ac_program.specs.Headline.{IsRead, IsDueOfFile, TookWhole, GivesStatus, CallsFor, IsCalledFor, IsOfText, IsDecided, AreShort, HasLong, KnowsFiles}
+use Rattle.ac_program.specs.Making.IsDueOf.{refused, ready}
+use Rattle.ac_program.specs.Making.IsDueOfProgram.{disk_fault, long_file as is_filed, made as is_made}
 use Rattle.ac_program.specs.Headline.IsDueOfFile.{library_fault, too_long, source}
-use Rattle.ac_program.specs.Headline.CallsFor.{over_long, made}
+use Rattle.ac_program.specs.Headline.CallsFor.{over_long, long_file, made}
 use Rattle.ac_program.proofs.Calls.{calls_refused, calls_both}
 
 -- ---- what the library gave
@@ -40,49 +49,92 @@ long_text : (told left : Option (List ℕ)) → TookBytes told left (1048576 + 1
 long_text None left k = record { text = k.taken; gave = tt; long = omega (arith, k.count) }
 long_text (Some known) left k = record { text = known; gave = refl; long = over (Some known) left known refl k }
 
+-- ---- what the files are
+
+read_short : (held after : Option Held) (paths start : List (List ℕ)) → All (λ bytes. length bytes ≤ most_bytes) start → IfSome held (λ h. StartsFiles h after paths (given start))
+    → IfSome held (λ h. All (λ path. length (bytes_at h path) ≤ most_bytes) paths)
+read_short None after paths start short told = tt
+read_short (Some h) after paths start short told = are_short h paths start told.0 short
+
+read_held : (held after : Option Held) (paths start : List (List ℕ)) → IfSome held (λ h. StartsFiles h after paths (given start)) → IfSome held (λ h. start ≡ map (bytes_at h) paths)
+read_held None after paths start told = tt
+read_held (Some h) after paths start told = told.0
+
+pub none_long : (held : Option Held) → IfSome held (λ h. All (λ path. length (bytes_at h path) ≤ most_bytes) [])
+none_long None = tt
+none_long (Some h) = λ k d less. absurd (omega (arith, less))
+
+-- a path whose file is too long, where it is told
+record IsOver (held : Option Held) (paths : List (List ℕ)) : Type 0 where
+  path : List ℕ
+  is_one : Contains paths path
+  over : IfSome held (λ h. most_bytes < length (bytes_at h path))
+
+is_over : (held after : Option Held) (paths : List (List ℕ)) (file : ℕ) → file < length paths → IfSome held (λ h. StopsAtFile h after paths (f.TooLong file)) → IsOver held paths
+is_over None after paths file less told =
+    record { path = slice_index_or paths file []; is_one = (file, less, get_or_default paths file (slice_index_or paths file []) [] less); over = tt }
+is_over (Some h) after paths file less told =
+    let inside = slice_get_within paths told.number told.path told.here in
+    let here = get_or_from_slice_get paths told.number told.path told.path told.here in
+    record { path = told.path; is_one = (told.number, inside, here); over = told.stops.1 }
+
+pub has_long : (paths : List (List ℕ)) (file : ℕ) (disk later : DiskTold) → AreStopped paths (f.TooLong file) disk later → HasLong disk paths
+has_long paths file disk later stopped = let o = is_over disk.held later.held paths file stopped.below stopped.told in record { path = o.path; is_one = o.is_one; over = o.over }
+
+-- the status of what is made, and that no file is too long
+gives_of : (task : Task) (program : Program) (disk later : DiskTold) (status : ℕ) (done : Done) → status ≡ done.status.number → Makes task program disk later done
+    → GivesStatus task program disk status
+gives_of (t.Run steps) program disk later status done n d =
+    record { start = d.start; are_held = read_held disk.held later.held _ d.start d.files.told; ended = d.ended; is_run = d.is_run; status_is = n ∙ d.status }
+gives_of t.Check program disk later status done n d = n ∙ d.status
+gives_of t.Code program disk later status done n d = n ∙ d.status
+
+pub short_of : (task : Task) (program : Program) (disk later : DiskTold) (done : Done) → Makes task program disk later done → AreShort disk (needed task program)
+short_of (t.Run steps) program disk later done d = read_short disk.held later.held _ d.start d.files.short d.files.told
+short_of t.Check program disk later done d = none_long disk.held
+short_of t.Code program disk later done d = none_long disk.held
+
 -- a text that the library may have given calls for the status
-record IsFound (file : List ℕ) (task : Task) (before after : LibraryTold) (status : ℕ) : Type 0 where
+record IsFound (file : List ℕ) (task : Task) (before after : LibraryTold) (disk : DiskTold) (status : ℕ) : Type 0 where
   text : List ℕ
   read : IsRead before after file
   gave : Gave (before.text_at file) text
-  calls : CallsFor text task status
+  calls : CallsFor text task disk status
 
--- the status of what is made
-gives_of : (task : Task) (program : Program) (status : ℕ) (done : Done) → status ≡ done.status.number → Makes task program done → GivesStatus task program status
-gives_of (t.Run steps) program status done n d = record { ended = d.ended; is_run = d.is_run; status_is = n ∙ d.status }
-gives_of t.Check program status done n d = n ∙ d.status
-gives_of t.Code program status done n d = n ∙ d.status
-
-module _ (file : List ℕ) (task : Task) (before after : LibraryTold) (status : ℕ) (text : List ℕ) (run : Option Ended) where
-  found : IsOfText status → IsDueOfFile file task before after status text run → IsFound file task before after status
-  found o (library_fault n x r j f) = absurd (o.library n)
-  found o (too_long n x r w took) = let l = long_text (before.text_at file) after.left took in record { text = l.text; read = w; gave = l.gave; calls = over_long n l.long }
-  found o (source bytes w g s (refused y n x r h)) = record { text = bytes; read = w; gave = g; calls = calls_refused bytes task status y n s h }
-  found o (source bytes w g s (is_made done n x r d)) =
-      record { text = bytes; read = w; gave = g; calls = made d.program s d.is_ready (gives_of task d.program status done n d.makes) }
+module _ (file : List ℕ) (task : Task) (before after : LibraryTold) (disk later : DiskTold) (status : ℕ) (text : List ℕ) (run : Option Ended) where
+  found : IsOfText status → IsDueOfFile file task before after disk later status text run → IsFound file task before after disk status
+  found o (library_fault n x r j e a) = absurd (o.library n)
+  found o (too_long n x r w took a) = let l = long_text (before.text_at file) after.left took in record { text = l.text; read = w; gave = l.gave; calls = over_long n l.long }
+  found o (source bytes w g s (refused y n x r h a)) = record { text = bytes; read = w; gave = g; calls = calls_refused bytes task disk status y n s h }
+  found o (source bytes w g s (ready p k (disk_fault n x r h))) = absurd (o.disk n)
+  found o (source bytes w g s (ready p k (is_filed number n x r h))) =
+      record { text = bytes; read = w; gave = g; calls = long_file p n s k (has_long (needed task p) number disk later h) }
+  found o (source bytes w g s (ready p k (is_made done n x r d))) =
+      record { text = bytes; read = w; gave = g; calls = made p s k (short_of task p disk later done d) (gives_of task p disk later status done n d) }
 
 -- ---- what the text decides
 
-module _ (words : List (List ℕ)) (task : Task) (file : List ℕ) (before after : LibraryTold) (status : ℕ) (run : Option Ended) (sink later : SinkTold) (is_call : IsCall words task file)
-    (whole : status ≢ 8 → status ≢ 11 → TookWhole (IsDueOfFile file task before after) status run sink later)
+module _ (words : List (List ℕ)) (task : Task) (file : List ℕ) (before after : LibraryTold) (disk later : DiskTold) (status : ℕ) (run : Option Ended) (sink written : SinkTold)
+    (is_call : IsCall words task file) (whole : status ≢ 8 → status ≢ 11 → TookWhole (IsDueOfFile file task before after disk later) status run sink written)
     (only_call : (asked : Task) (name : List ℕ) → IsCall words asked name → (asked ≡ task) × (name ≡ file)) (o : IsOfText status) where
-  here : IsFound file task before after status
-  here = let w = whole o.sink o.memory in found file task before after status w.text run o w.due
+  here : IsFound file task before after disk status
+  here = let w = whole o.sink o.memory in found file task before after disk later status w.text run o w.due
 
-  calls_known : (known : List ℕ) → before.text_at file ≡ Some known → CallsFor known task status
-  calls_known known told = subst (λ (bytes : List ℕ). CallsFor bytes task status) (gave_is (before.text_at file) known here.text told here.gave) here.calls
+  calls_known : (known : List ℕ) → before.text_at file ≡ Some known → CallsFor known task disk status
+  calls_known known told = subst (λ (bytes : List ℕ). CallsFor bytes task disk status) (gave_is (before.text_at file) known here.text told here.gave) here.calls
 
-  called : (known : List ℕ) → before.text_at file ≡ Some known → IsCalledFor known task status
-  called known told = record {
+  called : (known : List ℕ) → before.text_at file ≡ Some known → KnowsFiles known task disk → IsCalledFor known task disk status
+  called known told knows = record {
     calls = calls_known known told;
-    only = λ number h. calls_both known task status number (calls_known known told) h;
+    only = λ number h. calls_both known task disk knows status number (calls_known known told) h;
   }
 
-  called_at : (asked : Task) (name known : List ℕ) → asked ≡ task → name ≡ file → before.text_at name ≡ Some known → IsCalledFor known asked status
-  called_at asked name known f e told =
-      subst (λ (a : Task). IsCalledFor known a status) (sym f) (called known (subst (λ (n : List ℕ). before.text_at n ≡ Some known) e told))
+  called_at : (asked : Task) (name known : List ℕ) → asked ≡ task → name ≡ file → before.text_at name ≡ Some known → KnowsFiles known asked disk → IsCalledFor known asked disk status
+  called_at asked name known g e told knows =
+      subst (λ (a : Task). IsCalledFor known a disk status) (sym g)
+      (called known (subst (λ (n : List ℕ). before.text_at n ≡ Some known) e told) (subst (λ (a : Task). KnowsFiles known a disk) g knows))
 
-  pub is_decided : IsDecided words before after status
+  pub is_decided : IsDecided words before after disk status
   is_decided = record {
     task = task;
     file = file;
@@ -91,5 +143,5 @@ module _ (words : List (List ℕ)) (task : Task) (file : List ℕ) (before after
     is_read = here.read;
     gave = here.gave;
     calls = here.calls;
-    only = λ asked name known call told. called_at asked name known (only_call asked name call).0 (only_call asked name call).1 told;
+    only = λ asked name known call told knows. called_at asked name known (only_call asked name call).0 (only_call asked name call).1 told knows;
   }

@@ -10,7 +10,8 @@ use Rattle.ac_program.specs.Lines.{refusal_status}
 use Rattle.ac_tree.specs.declared.item.Program.{Program}
 use Rattle.ac_program.specs.declared.words.Task.{Task}
 use Rattle.ac_program.specs.declared.words.Task.TheVariants as t
-use Rattle.ac_program.specs.Making.{Makes, IsDone}
+use Rattle.ac_outside.specs.Disks.{DiskTold}
+use Rattle.ac_program.specs.Making.{Makes}
 
 -- ---- statuses of cores
 
@@ -27,13 +28,10 @@ chosen false false false = inl refl
 pub of_cores : (ends : List MachineEnd) → IsOfCores (status_of ends)
 of_cores ends = chosen (any_ends is_trapped ends) (any_ends is_out_of_steps ends) (any_ends is_stalled ends)
 
-pub made_status : (task : Task) (program : Program) (status : ℕ) (done : Done) → status ≡ done.status.number → Makes task program done → IsOfCores status
-made_status (t.Run steps) program status done e d = subst IsOfCores (sym (e ∙ d.status)) (of_cores d.ended.cores)
-made_status t.Check program status done e d = inl (e ∙ d.status)
-made_status t.Code program status done e d = inl (e ∙ d.status)
-
-pub done_status : (bytes : List ℕ) (task : Task) (status : ℕ) (done : Done) → status ≡ done.status.number → IsDone bytes task done → IsOfCores status
-done_status bytes task status done e d = made_status task d.program status done e d.makes
+pub made_status : (task : Task) (program : Program) (disk later : DiskTold) (status : ℕ) (done : Done) → status ≡ done.status.number → Makes task program disk later done → IsOfCores status
+made_status (t.Run steps) program disk later status done e d = subst IsOfCores (sym (e ∙ d.status)) (of_cores d.ended.cores)
+made_status t.Check program disk later status done e d = inl (e ∙ d.status)
+made_status t.Code program disk later status done e d = inl (e ∙ d.status)
 
 pub small : (status : ℕ) → IsOfCores status → status ≤ 6
 small status (inl e) = omega (arith, e)
@@ -98,6 +96,12 @@ eight status (inl e) h = omega (arith, e, h)
 eight status (inr (inl e)) h = omega (arith, e, h)
 eight status (inr (inr (inl e))) h = omega (arith, e, h)
 eight status (inr (inr (inr e))) h = omega (arith, e, h)
+
+pub nine : (status : ℕ) → IsOfRefusal status → status ≡ 9 → ⊥
+nine status (inl e) h = omega (arith, e, h)
+nine status (inr (inl e)) h = omega (arith, e, h)
+nine status (inr (inr (inl e))) h = omega (arith, e, h)
+nine status (inr (inr (inr e))) h = omega (arith, e, h)
 
 pub eleven : (status : ℕ) → IsOfRefusal status → status ≡ 11 → ⊥
 eleven status (inl e) h = omega (arith, e, h)

@@ -19,7 +19,7 @@ use Rattle.ac_program.specs.declared.words.Task.TheVariants as t
 use Rattle.ac_program.specs.Words.{IsArguments, IsTask, IsCall, no_more, operand, bound_apart, bound_joined, only_operands}
 use Rattle.ac_program.specs.Source.{IsReady}
 use Rattle.ac_program.specs.Lines.{accepted_line}
-use Rattle.ac_program.specs.Making.{IsDone, IsTold, Makes, made as is_made}
+use Rattle.ac_program.specs.Making.{IsDueOf, IsTold, Makes, made as is_made, ready}
 use Rattle.ac_program.specs.Headline.{source}
 use Rattle.ac_program.specs.Headline.{HasRun, GivesStatus, AreOfRuns, IsCalledFor, IsDecided}
 use Rattle.std.specs.Str.Parse.{digits_value}
@@ -37,8 +37,8 @@ use Rattle.ac_program.proofs.OneStatus.{one_status}
 use Rattle.ac_program.proofs.Reasons.{is_decided}
 use Rattle.ac_program.proofs.TwoRules.{two_tree, two_is_clean, two_is_built}
 use Rattle.ac_program.proofs.Examples.{code_prints_seven, e, it_is_a_run, it_is_done, it_is_spelled, it_replays, its_call}
-use Rattle.ac_program.proofs.Examples.{its_doing, its_end, its_library, its_only_program, its_library_after, its_reading}
-use Rattle.ac_program.proofs.Examples.{its_report, its_run, its_sink, its_status_is_called_for, its_words, sink_with}
+use Rattle.ac_program.proofs.Examples.{its_end, its_library, its_only_program, its_library_after, its_reading}
+use Rattle.ac_program.proofs.Examples.{its_report, its_run, its_sink, its_status_is_called_for, its_files_are_known, its_words, no_disk, sink_with}
 
 -- ---- its text decides
 
@@ -86,30 +86,30 @@ its_only_call task name r =
     let named : IsTask (codes "run") r.given task = subst (λ (n : List ℕ). IsTask n r.given task) (sym (first_word r.command.form)) r.is_task in
     (its_only_task task (subst (λ (given : Option ℕ). IsTask (codes "run") given task) a.1 named), a.0)
 
-pub it_is_decided : IsDecided its_words its_library its_library_after 0
-it_is_decided = is_decided its_words (t.Run 100) (codes "two.ac") its_library its_library_after 0 (Some its_run) its_sink (sink_with its_report 0) its_call
-    (λ well kept. record { text = its_report; due = source two_text its_reading refl (omega arith) (is_made its_doing refl refl refl it_is_done); taken = refl })
-    its_only_call (record { usage = omega arith; library = omega arith; sink = omega arith; memory = omega arith })
+pub it_is_decided : IsDecided its_words its_library its_library_after no_disk 0
+it_is_decided = is_decided its_words (t.Run 100) (codes "two.ac") its_library its_library_after no_disk no_disk 0 (Some its_run) its_sink (sink_with its_report 0) its_call
+    (λ well kept. record { text = its_report; due = source two_text its_reading refl (omega arith) it_is_done; taken = refl })
+    its_only_call (record { usage = omega arith; library = omega arith; sink = omega arith; disk = omega arith; memory = omega arith })
 
-pub it_is_called_for : IsCalledFor two_text (t.Run 100) 0
-it_is_called_for = it_is_decided.only (t.Run 100) (codes "two.ac") two_text its_call refl
+pub it_is_called_for : IsCalledFor two_text (t.Run 100) no_disk 0
+it_is_called_for = it_is_decided.only (t.Run 100) (codes "two.ac") two_text its_call refl its_files_are_known
 
 -- no two runs of a program without a channel differ
 it_has_no_channel : (steps : ℕ) (program : Program) → IsReady two_text (t.Run steps) program → (resolved program).channels ≡ []
-it_has_no_channel steps program ready = subst (λ (p : Program). (resolved p).channels ≡ []) (its_only_program program ready.is_within.is_accepted.spelled) refl
+it_has_no_channel steps program k = subst (λ (p : Program). (resolved p).channels ≡ []) (its_only_program program k.is_within.is_accepted.spelled) refl
 
-pub its_runs_do_not_differ : AreOfRuns two_text (t.Run 100) 0 4 → ⊥
+pub its_runs_do_not_differ : AreOfRuns two_text (t.Run 100) no_disk 0 4 → ⊥
 its_runs_do_not_differ r =
-    let ready = subst (λ (a : Task). IsReady two_text a r.program) r.is_run r.is_ready in
+    let k = subst (λ (a : Task). IsReady two_text a r.program) r.is_run r.is_ready in
     let some = r.has_channel in
-    let many = ap (λ xs. length xs) (it_has_no_channel r.steps r.program ready) in
+    let many = ap (λ xs. length xs) (it_has_no_channel r.steps r.program k) in
     omega (arith, some, many)
 
 -- no other status
-pub it_is_not_decided_otherwise : IsDecided its_words its_library its_library_after 4 → ⊥
+pub it_is_not_decided_otherwise : IsDecided its_words its_library its_library_after no_disk 4 → ⊥
 it_is_not_decided_otherwise h =
-    let called = h.only (t.Run 100) (codes "two.ac") two_text its_call refl in
-    let e : 4 ≡ 0 = (one_status two_text (t.Run 100) 4 called it_has_no_channel 0).1 its_status_is_called_for in
+    let called = h.only (t.Run 100) (codes "two.ac") two_text its_call refl its_files_are_known in
+    let e : 4 ≡ 0 = (one_status two_text (t.Run 100) no_disk 4 called it_has_no_channel 0).1 its_status_is_called_for in
     omega (arith, e)
 
 -- ---- its code
@@ -140,29 +140,30 @@ it_is_listed =
     ) refl
 
 -- so ac code two.ac writes that, and ac check two.ac that it is accepted
-pub its_code_is_told : Makes t.Code two_tree (record { run = None; text = its_listing; status = record { number = 0 } })
-its_code_is_told = record { no_run = refl; text_is = sym it_is_listed ∙ ap (λ (code : Parts). listing code) two_is_compiled; status = refl }
+pub its_code_is_told : Makes t.Code two_tree no_disk no_disk (record { run = None; text = its_listing; status = record { number = 0 } })
+its_code_is_told = record { no_run = refl; text_is = sym it_is_listed ∙ ap (λ (code : Parts). listing code) two_is_compiled; status = refl; alone = refl }
 
 its_code_is_ready : IsReady two_text t.Code two_tree
 its_code_is_ready = record { is_within = record { is_accepted = record { spelled = it_is_spelled; clean = two_is_clean }; within = omega arith }; built = two_is_built }
 
-pub its_code_is_done : IsDone two_text t.Code (record { run = None; text = its_listing; status = record { number = 0 } })
-its_code_is_done = record { program = two_tree; is_ready = its_code_is_ready; makes = its_code_is_told }
+pub its_code_is_done : IsDueOf two_text t.Code no_disk no_disk 0 its_listing None
+its_code_is_done = ready two_tree its_code_is_ready (is_made (record { run = None; text = its_listing; status = record { number = 0 } }) refl refl refl its_code_is_told)
 
 its_check_is_ready : IsReady two_text t.Check two_tree
 its_check_is_ready = record { is_within = record { is_accepted = record { spelled = it_is_spelled; clean = two_is_clean }; within = omega arith }; built = refl }
 
-pub its_check_is_done : IsDone two_text t.Check (record { run = None; text = codes "accepted\n"; status = record { number = 0 } })
-its_check_is_done = record { program = two_tree; is_ready = its_check_is_ready; makes = record { no_run = refl; text_is = refl; status = refl } }
+pub its_check_is_done : IsDueOf two_text t.Check no_disk no_disk 0 (codes "accepted\n") None
+its_check_is_done = ready two_tree its_check_is_ready
+    (is_made (record { run = None; text = codes "accepted\n"; status = record { number = 0 } }) refl refl refl (record { no_run = refl; text_is = refl; status = refl; alone = refl }))
 
-pub a_check_keeps_no_run : IsTold accepted_line (record { run = Some its_run; text = codes "accepted\n"; status = record { number = 0 } }) → ⊥
+pub a_check_keeps_no_run : IsTold accepted_line no_disk no_disk (record { run = Some its_run; text = codes "accepted\n"; status = record { number = 0 } }) → ⊥
 a_check_keeps_no_run h = let e = h.no_run in cc
 
-pub its_check_gives_0_alone : GivesStatus t.Check two_tree 4 → ⊥
+pub its_check_gives_0_alone : GivesStatus t.Check two_tree no_disk 4 → ⊥
 its_check_gives_0_alone h = omega (arith, h)
 
-pub its_run_gives_0 : HasRun two_tree 100 0
-its_run_gives_0 = record { ended = its_run; is_run = it_is_a_run; status_is = refl }
+pub its_run_gives_0 : HasRun two_tree 100 no_disk 0
+its_run_gives_0 = record { start = []; are_held = tt; ended = its_run; is_run = it_is_a_run; status_is = refl }
 
 -- a code that prints nothing comes to another end
 abbrev pub silent : Parts

@@ -65,7 +65,7 @@ two_is_clean = program_told two_tree.items (r.ByOne 0 ∷ []) reached_by_a None 
 
 -- ---- and each is built
 
-number_built : (at : ℕ) (n : ℤ) → built.expr_nodes built.as_list (e.Number at n) ≡ []
+pub number_built : (at : ℕ) (n : ℤ) → built.expr_nodes built.as_list (e.Number at n) ≡ []
 number_built at n =
     ap (built.expr_nodes built.as_list) (sym (e.rolls-Number at n)) ∙ fold-roll-Expr (List ℕ) (List ℕ) (built.expr_step built.as_list) (built.link_step built.as_list) (Expr-F.Number at n)
 
@@ -86,6 +86,19 @@ do_built at label body = ap (built.stmt_nodes built.as_list) (sym (s.rolls-Do at
 
 pub cancel_built : (at : ℕ) (label : List ℕ) → built.stmt_nodes built.as_list (s.Cancel at label) ≡ []
 cancel_built at label = ap (built.stmt_nodes built.as_list) (sym (s.rolls-Cancel at label)) ∙ fold-roll-Stmt (List ℕ) (built.stmt_step built.as_list) (Stmt-F.Cancel at label)
+
+pub array_built : (at : ℕ) (name : List ℕ) (size : ℤ) → built.stmt_nodes built.as_list (s.Array at name size) ≡ []
+array_built at name size = ap (built.stmt_nodes built.as_list) (sym (s.rolls-Array at name size)) ∙ fold-roll-Stmt (List ℕ) (built.stmt_step built.as_list) (Stmt-F.Array at name size)
+
+pub call_built : (at : ℕ) (call : Expr) → built.stmt_nodes built.as_list (s.Call at call) ≡ built.expr_nodes built.as_list call
+call_built at call = ap (built.stmt_nodes built.as_list) (sym (s.rolls-Call at call)) ∙ fold-roll-Stmt (List ℕ) (built.stmt_step built.as_list) (Stmt-F.Call at call)
+
+-- but a read is not
+pub read_built : (at : ℕ) (file : List ℕ) (from len : Expr) (array : List ℕ)
+    → built.expr_nodes built.as_list (e.Read at file from len array) ≡ (at ∷ []) ++ (built.expr_nodes built.as_list from ++ built.expr_nodes built.as_list len)
+read_built at file from len array =
+    ap (built.expr_nodes built.as_list) (sym (e.rolls-Read at file from len array))
+    ∙ fold-roll-Expr (List ℕ) (List ℕ) (built.expr_step built.as_list) (built.link_step built.as_list) (Expr-F.Read at file from len array)
 
 pub two_is_built : built.unbuilt_nodes two_tree.items ≡ []
 two_is_built = rw (

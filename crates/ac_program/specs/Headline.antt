@@ -1,22 +1,26 @@
--- What a call of the program promises, on one page. `before` and `after` are what the library tells before and after the call.
-use Rattle.std.specs.Prelude.{◌≡◌, ◌≢◌, ℕ, ◌+◌, ◌<◌, ◌≤◌, ◌⊎◌, List, [], length, None, Some}
+-- What a call of the program promises, on one page. `before` and `after` are what the library tells before and after the call, `disk` and
+-- `later` what the disk does, and `sink` and `written` what the sink does.
+use Rattle.std.specs.Prelude.{◌≡◌, ◌≢◌, ℕ, ◌+◌, ◌<◌, ◌≤◌, ◌⊎◌, List, [], length, map, All, Contains, is_some, IsTrue, IfSome, None, Some}
 use Rattle.std.specs.declared.option.Option.{Option}
 use Rattle.ac_base.specs.Report.{status_of}
 use Rattle.ac_lexer.specs.declared.fault.LexFault.{LexFault}
 use Rattle.ac_tree.specs.declared.item.Program.{Program}
+use Rattle.ac_names.specs.Numbered.{file_paths}
 use Rattle.ac_resolve.specs.Resolution.{resolved}
 use Rattle.ac_program.specs.declared.refusal.BrokenRule.{BrokenRule}
 use Rattle.ac_outside.specs.Causes.{Rose}
 use Rattle.ac_outside.specs.Told.{LibraryTold, SinkTold, OpenedJust, GrewBy}
+use Rattle.ac_outside.specs.Disks.{DiskTold}
+use Rattle.starting_files.specs.Starting.{bytes_at, most_bytes}
 use Rattle.core_runner.specs.declared.ended.Ended.{Ended}
 use Rattle.ac_program.specs.declared.words.Task.{Task}
 use Rattle.ac_program.specs.declared.words.Task.TheVariants as t
 use Rattle.ac_program.specs.Words.{IsCall}
 use Rattle.ac_program.specs.Reading.{Gave, TookBytes}
 use Rattle.ac_program.specs.Writing.{TookFront}
-use Rattle.ac_program.specs.Source.{HasFault, IsUnexpected, IsTooDeep, IsBroken, IsTooMany, IsNotBuilt, IsReady}
+use Rattle.ac_program.specs.Source.{HasFault, IsUnexpected, IsTooDeep, IsBroken, IsTooMany, IsNotBuilt, IsReady, needed}
 use Rattle.core_runner.specs.Run.{IsRunOf}
-use Rattle.ac_program.specs.Making.{IsDueOf}
+use Rattle.ac_program.specs.Making.{IsDueOf, AreLeft}
 use Rattle.ac_program.specs.Lines.{usage_line, library_line, limit_source_line}
 
 -- the words are not `run`, `check` or `code` with one file, and after `run` at most one bound on steps
@@ -35,42 +39,53 @@ IsShort text = length text ≤ 1048576
 -- ---- what is due: the status, the text that is written and the run that is kept, by the first refusal in the order of work
 
 -- for a task on this file: the library failed, or one byte too many was taken, or the text was read whole
-pub data IsDueOfFile (file : List ℕ) (task : Task) (before after : LibraryTold) (status : ℕ) (text : List ℕ) (run : Option Ended) :
-    Type 0 where
+pub data IsDueOfFile (file : List ℕ) (task : Task) (before after : LibraryTold) (disk later : DiskTold)
+    (status : ℕ) (text : List ℕ) (run : Option Ended) : Type 0 where
   library_fault : status ≡ 7 → text ≡ library_line → run ≡ None → OpenedJust before after file → Rose before.faults after.faults →
-      IsDueOfFile file task before after status text run
+      later ≡ disk → IsDueOfFile file task before after disk later status text run
   too_long : status ≡ 10 → text ≡ limit_source_line → run ≡ None → IsRead before after file →
-      TookBytes (before.text_at file) after.left (1048576 + 1) → IsDueOfFile file task before after status text run
+      TookBytes (before.text_at file) after.left (1048576 + 1) → later ≡ disk →
+      IsDueOfFile file task before after disk later status text run
   source : (bytes : List ℕ) → IsRead before after file → Gave (before.text_at file) bytes → IsShort bytes →
-      IsDueOf bytes task status text run → IsDueOfFile file task before after status text run
+      IsDueOf bytes task disk later status text run → IsDueOfFile file task before after disk later status text run
 
--- for any words: where they are no call, the usage line, and the library is left alone
-pub data IsDue (words : List (List ℕ)) (before after : LibraryTold) (status : ℕ) (text : List ℕ) (run : Option Ended) : Type 0 where
-  usage : status ≡ 1 → text ≡ usage_line → run ≡ None → IsNoCall words → after ≡ before → IsDue words before after status text run
-  call : (task : Task) (file : List ℕ) → IsCall words task file → IsDueOfFile file task before after status text run →
-      IsDue words before after status text run
+-- for any words: where they are no call, the usage line, and the library and the disk are left alone
+pub data IsDue (words : List (List ℕ)) (before after : LibraryTold) (disk later : DiskTold)
+    (status : ℕ) (text : List ℕ) (run : Option Ended) : Type 0 where
+  usage : status ≡ 1 → text ≡ usage_line → run ≡ None → IsNoCall words → after ≡ before → later ≡ disk →
+      IsDue words before after disk later status text run
+  call : (task : Task) (file : List ℕ) → IsCall words task file → IsDueOfFile file task before after disk later status text run →
+      IsDue words before after disk later status text run
 
 -- the sink has taken all of a text that is due with this status and this run
-pub record TookWhole (Due : ℕ → List ℕ → Option Ended → Type 0) (status : ℕ) (run : Option Ended) (sink later : SinkTold) : Type 0 where
+pub record TookWhole (Due : ℕ → List ℕ → Option Ended → Type 0) (status : ℕ) (run : Option Ended) (sink written : SinkTold) : Type 0 where
   pub text : List ℕ
   pub due : Due status text run
-  pub taken : GrewBy sink.held later.held text
+  pub taken : GrewBy sink.held written.held text
 
 -- the sink has taken a front, and not the whole, of a text that is due with some status and this run
-pub record TookPart (Due : ℕ → List ℕ → Option Ended → Type 0) (run : Option Ended) (sink later : SinkTold) : Type 0 where
+pub record TookPart (Due : ℕ → List ℕ → Option Ended → Type 0) (run : Option Ended) (sink written : SinkTold) : Type 0 where
   pub status : ℕ
   pub text : List ℕ
   pub due : Due status text run
-  pub taken : TookFront sink.held later.held text
+  pub taken : TookFront sink.held written.held text
+
+-- what want of memory leaves of the disk: as it was, or as the files of the program of a text that the library may have given were left
+pub data LeavesDisk (told : Option (List ℕ)) (task : Task) (disk later : DiskTold) : Type 0 where
+  alone : later ≡ disk → LeavesDisk told task disk later
+  of_program : (text : List ℕ) (program : Program) → Gave told text → IsReady text task program →
+      AreLeft (needed task program) disk later → LeavesDisk told task disk later
 
 -- memory was refused: the words are a call, just its file was opened, nothing is written and no run is kept
-pub record GaveUp (words : List (List ℕ)) (before after : LibraryTold) (run : Option Ended) (sink later : SinkTold) : Type 0 where
+pub record GaveUp (words : List (List ℕ)) (before after : LibraryTold) (disk later : DiskTold) (run : Option Ended)
+    (sink written : SinkTold) : Type 0 where
   pub task : Task
   pub file : List ℕ
   pub is_call : IsCall words task file
   pub is_read : IsRead before after file
+  pub files : LeavesDisk (before.text_at file) task disk later
   pub no_run : run ≡ None
-  pub nothing : GrewBy sink.held later.held []
+  pub nothing : GrewBy sink.held written.held []
 
 -- ---- what each status means
 
@@ -85,68 +100,97 @@ pub record TellsLibrary (before after : LibraryTold) (status : ℕ) : Type 0 whe
   pub only : status ≢ 7 → status ≢ 8 → after.faults ≡ before.faults
 
 -- 8 exactly where a call of the sink failed
-pub record TellsSink (sink later : SinkTold) (status : ℕ) : Type 0 where
-  pub told : status ≡ 8 → Rose sink.faults later.faults
-  pub only : status ≢ 8 → later.faults ≡ sink.faults
+pub record TellsSink (sink written : SinkTold) (status : ℕ) : Type 0 where
+  pub told : status ≡ 8 → Rose sink.faults written.faults
+  pub only : status ≢ 8 → written.faults ≡ sink.faults
 
--- none of these, nor 11, where memory was refused: it is for the text of the file to decide
+-- 9 where a call of the disk failed, unless one of the sink did too, and at no other time
+pub record TellsDisk (disk later : DiskTold) (status : ℕ) : Type 0 where
+  pub told : status ≡ 9 → Rose disk.faults later.faults
+  pub only : status ≢ 9 → status ≢ 8 → later.faults ≡ disk.faults
+
+-- none of these, nor 11, where memory was refused: it is for the text of the file to decide, and the files of its program
 pub record IsOfText (status : ℕ) : Type 0 where
   pub usage : status ≢ 1
   pub library : status ≢ 7
   pub sink : status ≢ 8
+  pub disk : status ≢ 9
   pub memory : status ≢ 11
 
--- a run of the program with this bound on steps whose cores have this status
-pub record HasRun (program : Program) (steps status : ℕ) : Type 0 where
+-- the bytes that the files of these paths hold, where the disk tells them
+abbrev pub AreHeld : DiskTold → List (List ℕ) → List (List ℕ) → Type 0
+AreHeld disk paths start = IfSome disk.held (λ held. start ≡ map (bytes_at held) paths)
+
+-- a run of the program with this bound on steps and the files that the disk holds, whose cores have this status
+pub record HasRun (program : Program) (steps : ℕ) (disk : DiskTold) (status : ℕ) : Type 0 where
+  pub start : List (List ℕ)
+  pub are_held : AreHeld disk (file_paths program.items) start
   pub ended : Ended
-  pub is_run : IsRunOf (resolved program) steps [] ended
+  pub is_run : IsRunOf (resolved program) steps start ended
   pub status_is : status ≡ status_of ended.cores
 
 -- the status of what a task makes of a program: that of the cores in a run, and else 0
-abbrev pub GivesStatus : Task → Program → ℕ → Type 0
-GivesStatus (t.Run steps) program status = HasRun program steps status
-GivesStatus t.Check program status = status ≡ 0
-GivesStatus t.Code program status = status ≡ 0
+abbrev pub GivesStatus : Task → Program → DiskTold → ℕ → Type 0
+GivesStatus (t.Run steps) program disk status = HasRun program steps disk status
+GivesStatus t.Check program disk status = status ≡ 0
+GivesStatus t.Code program disk status = status ≡ 0
 
--- the statuses that a text calls for, by the task
-pub data CallsFor (text : List ℕ) (task : Task) (status : ℕ) : Type 0 where
+-- no file of these paths is too long, and one of them is, where the disk tells them
+abbrev pub AreShort : DiskTold → List (List ℕ) → Type 0
+AreShort disk paths = IfSome disk.held (λ held. All (λ path. length (bytes_at held path) ≤ most_bytes) paths)
+
+pub record HasLong (disk : DiskTold) (paths : List (List ℕ)) : Type 0 where
+  pub path : List ℕ
+  pub is_one : Contains paths path
+  pub over : IfSome disk.held (λ held. most_bytes < length (bytes_at held path))
+
+-- the statuses that a text calls for, by the task, over the files that the disk holds
+pub data CallsFor (text : List ℕ) (task : Task) (disk : DiskTold) (status : ℕ) : Type 0 where
   -- 2: a lexical fault, or a token with which no program goes on
-  bad_token : (fault : LexFault) → status ≡ 2 → IsShort text → HasFault text fault → CallsFor text task status
-  unexpected : (at : ℕ) → status ≡ 2 → IsShort text → IsUnexpected text at → CallsFor text task status
+  bad_token : (fault : LexFault) → status ≡ 2 → IsShort text → HasFault text fault → CallsFor text task disk status
+  unexpected : (at : ℕ) → status ≡ 2 → IsShort text → IsUnexpected text at → CallsFor text task disk status
   -- 3: its program breaks a rule
-  broken : (rule : BrokenRule) → status ≡ 3 → IsShort text → IsBroken text rule → CallsFor text task status
-  -- 10: the text is too long, a token is too deep, or the steps of all cores together in a run are too many
-  over_long : status ≡ 10 → 1048576 < length text → CallsFor text task status
-  too_deep : (at : ℕ) → status ≡ 10 → IsShort text → IsTooDeep text at → CallsFor text task status
-  too_many : status ≡ 10 → IsShort text → IsTooMany text task → CallsFor text task status
+  broken : (rule : BrokenRule) → status ≡ 3 → IsShort text → IsBroken text rule → CallsFor text task disk status
+  -- 10: the text is too long, a token is too deep, the steps of all cores together in a run are too many, or a file is too long
+  over_long : status ≡ 10 → 1048576 < length text → CallsFor text task disk status
+  too_deep : (at : ℕ) → status ≡ 10 → IsShort text → IsTooDeep text at → CallsFor text task disk status
+  too_many : status ≡ 10 → IsShort text → IsTooMany text task → CallsFor text task disk status
+  long_file : (program : Program) → status ≡ 10 → IsShort text → IsReady text task program → HasLong disk (needed task program) →
+      CallsFor text task disk status
   -- 15: a form of its program is not built, but not in a check
-  not_built : (at : ℕ) → status ≡ 15 → IsShort text → IsNotBuilt text task at → CallsFor text task status
+  not_built : (at : ℕ) → status ≡ 15 → IsShort text → IsNotBuilt text task at → CallsFor text task disk status
   -- 0, and in a run also 4, 5 or 6: nothing refuses it, and this is the status of what is made of its program
-  made : (program : Program) → IsShort text → IsReady text task program → GivesStatus task program status → CallsFor text task status
+  made : (program : Program) → IsShort text → IsReady text task program → AreShort disk (needed task program) →
+      GivesStatus task program disk status → CallsFor text task disk status
 
 -- Two runs of its program, which has a channel, have these statuses: a program does not say which of the messages for a core come first.
-pub record AreOfRuns (text : List ℕ) (task : Task) (status number : ℕ) : Type 0 where
+pub record AreOfRuns (text : List ℕ) (task : Task) (disk : DiskTold) (status number : ℕ) : Type 0 where
   pub steps : ℕ
   pub program : Program
   pub is_run : task ≡ t.Run steps
   pub is_ready : IsReady text task program
   pub has_channel : 1 ≤ length (resolved program).channels
-  pub one : HasRun program steps status
-  pub other : HasRun program steps number
+  pub one : HasRun program steps disk status
+  pub other : HasRun program steps disk number
 
 -- the text calls for the status, and for another only where both are statuses of runs of its program
-pub record IsCalledFor (text : List ℕ) (task : Task) (status : ℕ) : Type 0 where
-  pub calls : CallsFor text task status
-  pub only : (number : ℕ) → CallsFor text task number → (number ≡ status) ⊎ AreOfRuns text task status number
+pub record IsCalledFor (text : List ℕ) (task : Task) (disk : DiskTold) (status : ℕ) : Type 0 where
+  pub calls : CallsFor text task disk status
+  pub only : (number : ℕ) → CallsFor text task disk number → (number ≡ status) ⊎ AreOfRuns text task disk status number
 
--- A text that the library may have given calls for the status; and where the library tells that text, for no other, but as its runs differ.
-pub record IsDecided (words : List (List ℕ)) (before after : LibraryTold) (status : ℕ) : Type 0 where
+-- the disk tells its files, where the program of the text needs any for the task
+abbrev pub KnowsFiles : List ℕ → Task → DiskTold → Type 0
+KnowsFiles text task disk = (program : Program) → IsReady text task program → 1 ≤ length (needed task program) → IsTrue (is_some disk.held)
+
+-- A text that the library may have given calls for the status; and where the library tells that text, and the disk the files of its
+-- program, for no other, but as its runs differ.
+pub record IsDecided (words : List (List ℕ)) (before after : LibraryTold) (disk : DiskTold) (status : ℕ) : Type 0 where
   pub task : Task
   pub file : List ℕ
   pub text : List ℕ
   pub is_call : IsCall words task file
   pub is_read : IsRead before after file
   pub gave : Gave (before.text_at file) text
-  pub calls : CallsFor text task status
+  pub calls : CallsFor text task disk status
   pub only : (asked : Task) (name known : List ℕ) → IsCall words asked name → before.text_at name ≡ Some known →
-      IsCalledFor known asked status
+      KnowsFiles known asked disk → IsCalledFor known asked disk status

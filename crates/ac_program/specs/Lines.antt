@@ -11,6 +11,9 @@ usage_line = codes "usage: ac run|trace FILE [--steps N], ac code|check FILE, ac
 abbrev pub library_line : List ℕ
 library_line = codes "library fault" ++ 10 ∷ []
 
+abbrev pub disk_line : List ℕ
+disk_line = codes "disk fault" ++ 10 ∷ []
+
 abbrev pub limit_source_line : List ℕ
 limit_source_line = codes "limit: source" ++ 10 ∷ []
 
@@ -20,6 +23,9 @@ accepted_line = codes "accepted" ++ 10 ∷ []
 -- words and a place
 abbrev pub place_line : List ℕ → ℕ → List ℕ
 place_line words at = words ++ (signed_decimal (pos at) ++ 10 ∷ [])
+
+abbrev pub limit_file_line : ℕ → List ℕ
+limit_file_line file = place_line (codes "limit: file ") file
 
 abbrev pub rule_line : BrokenRule → List ℕ
 rule_line rule = codes "rule C" ++ (signed_decimal (pos rule.rule) ++ (codes " at " ++ (signed_decimal (pos rule.at) ++ 10 ∷ [])))

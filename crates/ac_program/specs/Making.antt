@@ -1,48 +1,88 @@
 -- What is made of a source.
-use Rattle.std.specs.Prelude.{◌≡◌, ℕ, List, [], None, Some}
+use Rattle.std.specs.Prelude.{◌≡◌, ℕ, ◌≤◌, List, length, All, IsTrue, None, Some, IfSome}
 use Rattle.std.specs.declared.option.Option.{Option}
 use Rattle.ac_base.specs.Report.{report_of, status_of}
 use Rattle.ac_tree.specs.declared.item.Program.{Program}
+use Rattle.ac_names.specs.Numbered.{file_paths}
 use Rattle.ac_resolve.specs.Resolution.{resolved}
 use Rattle.ac_translation.specs.Translation.{code_of}
 use Rattle.code_listing.specs.Listing.{listing}
+use Rattle.ac_outside.specs.Disks.{DiskTold}
+use Rattle.starting_files.specs.declared.fault.StartFault.{StartFault}
+use Rattle.starting_files.specs.declared.fault.StartFault.TheVariants as f
+use Rattle.starting_files.specs.Starting.{StartsFiles, StopsAtFile, StartHasCause, IsNumberBelow, given, not_given, most_bytes}
 use Rattle.ac_program.specs.declared.words.Task.{Task}
 use Rattle.ac_program.specs.declared.words.Task.TheVariants as t
 use Rattle.ac_program.specs.declared.execute.Done.{Done}
 use Rattle.core_runner.specs.declared.ended.Ended.{Ended}
 use Rattle.ac_program.specs.declared.refusal.Refusal.{Refusal}
-use Rattle.ac_program.specs.Source.{IsReady, Refuses, names_of}
+use Rattle.ac_program.specs.Source.{IsReady, Refuses, names_of, needed}
 use Rattle.core_runner.specs.Run.{IsRunOf}
-use Rattle.ac_program.specs.Lines.{accepted_line, refusal_line, refusal_status}
+use Rattle.ac_program.specs.Lines.{accepted_line, disk_line, limit_file_line, refusal_line, refusal_status}
+
+-- ---- files: `disk` and `later` are what the disk tells before and after
+
+-- The files of these paths were bound, in order, and read whole, no call failed, and the disk may be called again. Where it tells its
+-- files, these are the bytes that they held, and it holds them still.
+pub record AreStarted (paths start : List (List ℕ)) (disk later : DiskTold) : Type 0 where
+  pub well : later.faults ≡ disk.faults
+  pub bound : later.bound ≡ length paths
+  pub is_ready : IsTrue later.is_ready
+  pub count : length start ≡ length paths
+  pub short : All (λ bytes. length bytes ≤ most_bytes) start
+  pub told : IfSome disk.held (λ held. StartsFiles held later.held paths (given start))
+
+-- One of the files of these paths was not bound and read whole, and those before it were.
+pub record AreStopped (paths : List (List ℕ)) (fault : StartFault) (disk later : DiskTold) : Type 0 where
+  pub some : 1 ≤ length paths
+  pub below : IsNumberBelow (length paths) fault
+  pub cause : StartHasCause disk.faults later.faults (not_given fault)
+  pub told : IfSome disk.held (λ held. StopsAtFile held later.held paths fault)
+
+-- what want of memory leaves of the files of these paths: nothing was done with them, or some were bound, or all
+pub data AreLeft (paths : List (List ℕ)) (disk later : DiskTold) : Type 0 where
+  untouched : later ≡ disk → AreLeft paths disk later
+  stopped : AreStopped paths f.NoMemory disk later → AreLeft paths disk later
+  started : (start : List (List ℕ)) → AreStarted paths start disk later → AreLeft paths disk later
+
+-- ---- what is made
 
 -- of a run: a run of the program with this bound on steps, and the report and the status of that very run
-pub record IsReported (program : Program) (bound : ℕ) (done : Done) : Type 0 where
+pub record IsReported (program : Program) (bound : ℕ) (disk later : DiskTold) (done : Done) : Type 0 where
+  pub start : List (List ℕ)
+  pub files : AreStarted (file_paths program.items) start disk later
   pub ended : Ended
   pub kept : done.run ≡ Some ended
-  pub is_run : IsRunOf (resolved program) bound [] ended
+  pub is_run : IsRunOf (resolved program) bound start ended
   pub text : done.text ≡ report_of (names_of program) ended.cores
   pub status : done.status.number ≡ status_of ended.cores
 
--- of what is not run: this text, with status 0
-pub record IsTold (text : List ℕ) (done : Done) : Type 0 where
+-- of what is not run: this text, with status 0, and the disk is left alone
+pub record IsTold (text : List ℕ) (disk later : DiskTold) (done : Done) : Type 0 where
   pub no_run : done.run ≡ None
   pub text_is : done.text ≡ text
   pub status : done.status.number ≡ 0
+  pub alone : later ≡ disk
 
 -- what a task makes of a program that nothing refuses: its report, a line that it is accepted, or the listing of its code
-abbrev pub Makes : Task → Program → Done → Type 0
-Makes (t.Run steps) program done = IsReported program steps done
-Makes t.Check program done = IsTold accepted_line done
-Makes t.Code program done = IsTold (listing (code_of (resolved program))) done
+abbrev pub Makes : Task → Program → DiskTold → DiskTold → Done → Type 0
+Makes (t.Run steps) program disk later done = IsReported program steps disk later done
+Makes t.Check program disk later done = IsTold accepted_line disk later done
+Makes t.Code program disk later done = IsTold (listing (code_of (resolved program))) disk later done
 
-pub record IsDone (source : List ℕ) (task : Task) (done : Done) : Type 0 where
-  pub program : Program
-  pub is_ready : IsReady source task program
-  pub makes : Makes task program done
-
--- the status, the text and the run that a task calls for on a source: of what refuses it, or of what is made of it
-pub data IsDueOf (source : List ℕ) (task : Task) (status : ℕ) (text : List ℕ) (run : Option Ended) : Type 0 where
-  refused : (refusal : Refusal) → status ≡ refusal_status refusal → text ≡ refusal_line refusal → run ≡ None →
-      Refuses source task refusal → IsDueOf source task status text run
+-- the status, the text and the run that a task calls for on a program that nothing refuses: of a file that stops it, or of what is made
+pub data IsDueOfProgram (task : Task) (program : Program) (disk later : DiskTold) (status : ℕ) (text : List ℕ) (run : Option Ended) :
+    Type 0 where
+  disk_fault : status ≡ 9 → text ≡ disk_line → run ≡ None → AreStopped (needed task program) f.Failed disk later →
+      IsDueOfProgram task program disk later status text run
+  long_file : (file : ℕ) → status ≡ 10 → text ≡ limit_file_line file → run ≡ None →
+      AreStopped (needed task program) (f.TooLong file) disk later → IsDueOfProgram task program disk later status text run
   made : (done : Done) → status ≡ done.status.number → text ≡ done.text → run ≡ done.run →
-      IsDone source task done → IsDueOf source task status text run
+      Makes task program disk later done → IsDueOfProgram task program disk later status text run
+
+-- and on a source: of what refuses it, and the disk is left alone, or of its program
+pub data IsDueOf (source : List ℕ) (task : Task) (disk later : DiskTold) (status : ℕ) (text : List ℕ) (run : Option Ended) : Type 0 where
+  refused : (refusal : Refusal) → status ≡ refusal_status refusal → text ≡ refusal_line refusal → run ≡ None →
+      Refuses source task refusal → later ≡ disk → IsDueOf source task disk later status text run
+  ready : (program : Program) → IsReady source task program → IsDueOfProgram task program disk later status text run →
+      IsDueOf source task disk later status text run

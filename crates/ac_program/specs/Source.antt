@@ -8,7 +8,7 @@ use Rattle.ac_tree.specs.declared.item.Program.{Program}
 use Rattle.ac_parser.specs.Places.{IsTree, UnexpectedAt, TooDeepAt}
 use Rattle.ac_program.specs.declared.refusal.BrokenRule.{BrokenRule}
 use Rattle.ac_types.specs.Reached.{BreaksNone, IsLeastBroken}
-use Rattle.ac_names.specs.Numbered.{core_names}
+use Rattle.ac_names.specs.Numbered.{core_names, file_paths}
 use Rattle.ac_resolve.specs.Resolution.{resolved}
 use Rattle.ac_compile.specs.Unbuilt.{unbuilt_nodes}
 use Rattle.ac_program.specs.declared.refusal.Refusal.{Refusal}
@@ -101,6 +101,14 @@ pub record IsNotBuilt (source : List ℕ) (task : Task) (at : ℕ) : Type 0 wher
 pub record IsReady (source : List ℕ) (task : Task) (program : Program) : Type 0 where
   pub is_within : IsWithin source task program
   pub built : missing task program ≡ []
+
+-- ---- files
+
+-- the paths of the files that a task needs: those of the program for a run, in order
+abbrev pub needed : Task → Program → List (List ℕ)
+needed (t.Run steps) program = file_paths program.items
+needed t.Check program = []
+needed t.Code program = []
 
 -- ---- refusals
 

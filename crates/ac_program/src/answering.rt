@@ -1,20 +1,26 @@
 //! What is written, and the outcome that goes with it.
 
-ghost use Rattle.std.specs.Prelude.{◌≡◌, ◌≢◌, ◌≤◌, [], length, None};
+ghost use Rattle.std.specs.Prelude.{◌≡◌, ◌≢◌, ◌≤◌, [], All, AllPairs, length, IsTrue, None, Some};
+ghost use Rattle.std.specs.Str.{IsUtf8};
+ghost use Rattle.ac_names.specs.Numbered.{file_paths};
 ghost use Rattle.ac_outside.specs.Told.{OpenedJust, GrewBy};
 ghost use Rattle.ac_program.specs.Writing.{TookFront};
-ghost use Rattle.ac_program.specs.Lines.{refusal_line, refusal_status};
-ghost use Rattle.ac_program.specs.Headline.{IsDueOfFile, TookWhole, TookPart, TellsLibrary, TellsSink};
-ghost use Rattle.ac_program.specs.Making.{IsDueOf};
+ghost use Rattle.ac_program.specs.Lines.{limit_file_line, refusal_line, refusal_status};
+ghost use Rattle.ac_program.specs.Headline.{IsDueOfFile, LeavesDisk, TookWhole, TookPart, TellsDisk, TellsLibrary, TellsSink};
+ghost use Rattle.ac_program.specs.Making.{AreLeft, IsDueOf, IsDueOfProgram};
+ghost use Rattle.ac_program.specs.Source.{all_steps, missing, most_steps, needed};
 
-use crate::execute::{Done, execute};
+use crate::building::build;
+use crate::execute::{Done, make};
 use crate::outcome::Outcome;
 use crate::reading::{ReadFault, read_text};
-use crate::refusal::{LIMIT_SOURCE, Refusal, Stop};
+use crate::refusal::{LIMIT_SOURCE, Refusal, Stop, place_line};
 use crate::words::Task;
 use crate::writing::answer;
 use ac_base::Status;
-use ac_outside::{Library, Sink};
+use ac_outside::{Disk, Library, Sink};
+use ac_types::Checked;
+use starting_files::StartFault;
 use std::alloc::Global;
 
 /// The line of words that call for nothing.
@@ -65,7 +71,7 @@ fn refuse_source<K: Sink>(alloc: Global, sink: &mut K, refusal: Refusal) -> Outc
     ensures part { result.status.number ≡ 8 → TookFront (K.told sink.old).held (K.told sink.new).held (refusal_line refusal) }
     ensures memory { result.status.number ≡ 11 → GrewBy (K.told sink.old).held (K.told sink.new).held [] }
     ensures sink { TellsSink (K.told sink.old) (K.told sink.new) result.status.number }
-    ensures other { (result.status.number ≢ 1) × (result.status.number ≢ 7) }
+    ensures other { (result.status.number ≢ 1) × ((result.status.number ≢ 7) × (result.status.number ≢ 9)) }
 {
     match refusal.line(alloc) {
         Err(_) => no_memory(),
@@ -87,41 +93,111 @@ fn give<K: Sink>(sink: &mut K, done: Done) -> Outcome
     Outcome { status, run }
 }
 
-/// Does a task with a source and writes what is made of it, or what refuses it.
-pub fn do_source<K: Sink>(alloc: Global, source: &[u8], task: Task, sink: &mut K) -> Outcome
-    requires { length source.now ≤ 1048576 }
+// Writes the line of a file that is too long.
+fn refuse_file<K: Sink>(alloc: Global, sink: &mut K, file: u32) -> Outcome
+    ensures run { result.run ≡ None }
+    ensures status { result.status.number ≢ 8 → result.status.number ≢ 11 → result.status.number ≡ 10 }
     ensures whole { result.status.number ≢ 8 → result.status.number ≢ 11 →
-        TookWhole (IsDueOf source.now task) result.status.number result.run (K.told sink.old) (K.told sink.new) }
-    ensures part { result.status.number ≡ 8 → TookPart (IsDueOf source.now task) result.run (K.told sink.old) (K.told sink.new) }
+        GrewBy (K.told sink.old).held (K.told sink.new).held (limit_file_line file) }
+    ensures part { result.status.number ≡ 8 → TookFront (K.told sink.old).held (K.told sink.new).held (limit_file_line file) }
+    ensures memory { result.status.number ≡ 11 → GrewBy (K.told sink.old).held (K.told sink.new).held [] }
+    ensures sink { TellsSink (K.told sink.old) (K.told sink.new) result.status.number }
+{
+    match place_line(alloc, b"limit: file ", file) {
+        Err(_) => no_memory(),
+        Ok(line) => refuse_with(sink, 10, line.as_slice()),
+    }
+}
+
+// Does a task with a program that nothing refuses, and writes what is made of it, or of its files.
+fn do_program<K: Sink, D: Disk>(
+    alloc: Global,
+    checked: &Checked,
+    task: Task,
+    sink: &mut K,
+    disk: &mut D,
+) -> Outcome
+    requires built { missing task checked.now ≡ [] }
+    requires few { all_steps checked.now task ≤ most_steps }
+    requires files { length (file_paths checked.now.items) ≤ 16 }
+    requires texts { All IsUtf8 (file_paths checked.now.items) }
+    requires differ { AllPairs (λ path other. path ≢ other) (file_paths checked.now.items) }
+    requires ready { IsTrue (D.told disk.old).is_ready }
+    requires none { (D.told disk.old).bound ≡ 0 }
+    ensures whole { result.status.number ≢ 8 → result.status.number ≢ 11 →
+        TookWhole (IsDueOfProgram task checked.now (D.told disk.old) (D.told disk.new))
+        result.status.number result.run (K.told sink.old) (K.told sink.new) }
+    ensures part { result.status.number ≡ 8 →
+        TookPart (IsDueOfProgram task checked.now (D.told disk.old) (D.told disk.new)) result.run (K.told sink.old) (K.told sink.new) }
+    ensures left { result.status.number ≡ 11 → AreLeft (needed task checked.now) (D.told disk.old) (D.told disk.new) }
     ensures memory { result.status.number ≡ 11 → GrewBy (K.told sink.old).held (K.told sink.new).held [] }
     ensures no_run { result.status.number ≡ 11 → result.run ≡ None }
+    ensures disk { TellsDisk (D.told disk.old) (D.told disk.new) result.status.number }
     ensures sink { TellsSink (K.told sink.old) (K.told sink.new) result.status.number }
     ensures other { (result.status.number ≢ 1) × (result.status.number ≢ 7) }
 {
-    match execute(alloc, source, task) {
-        Err(Stop::NoMemory) => no_memory(),
-        Err(Stop::Refused(refusal)) => refuse_source(alloc, sink, refusal),
+    match make(alloc, checked, task, disk) {
+        Err(StartFault::NoMemory) => no_memory(),
+        Err(StartFault::Failed) => refuse(sink, 9, "disk fault\n"),
+        Err(StartFault::TooLong { file }) => refuse_file(alloc, sink, file),
         Ok(done) => give(sink, done),
     }
 }
 
+/// Does a task with a source and writes what is made of it, or what refuses it.
+pub fn do_source<K: Sink, D: Disk>(
+    alloc: Global,
+    source: &[u8],
+    task: Task,
+    sink: &mut K,
+    disk: &mut D,
+) -> Outcome
+    requires short { length source.now ≤ 1048576 }
+    requires ready { IsTrue (D.told disk.old).is_ready }
+    requires none { (D.told disk.old).bound ≡ 0 }
+    ensures whole { result.status.number ≢ 8 → result.status.number ≢ 11 →
+        TookWhole (IsDueOf source.now task (D.told disk.old) (D.told disk.new))
+        result.status.number result.run (K.told sink.old) (K.told sink.new) }
+    ensures part { result.status.number ≡ 8 →
+        TookPart (IsDueOf source.now task (D.told disk.old) (D.told disk.new)) result.run (K.told sink.old) (K.told sink.new) }
+    ensures left { result.status.number ≡ 11 → LeavesDisk (Some source.now) task (D.told disk.old) (D.told disk.new) }
+    ensures memory { result.status.number ≡ 11 → GrewBy (K.told sink.old).held (K.told sink.new).held [] }
+    ensures no_run { result.status.number ≡ 11 → result.run ≡ None }
+    ensures disk { TellsDisk (D.told disk.old) (D.told disk.new) result.status.number }
+    ensures sink { TellsSink (K.told sink.old) (K.told sink.new) result.status.number }
+    ensures other { (result.status.number ≢ 1) × (result.status.number ≢ 7) }
+{
+    match build(alloc, source, task) {
+        Err(Stop::NoMemory) => no_memory(),
+        Err(Stop::Refused(refusal)) => refuse_source(alloc, sink, refusal),
+        Ok(checked) => do_program(alloc, &checked, task, sink, disk),
+    }
+}
+
 /// Reads the text of a name, does a task with it and writes what is made of it, or what refuses it.
-pub fn do_file<L: Library, K: Sink>(
+pub fn do_file<L: Library, K: Sink, D: Disk>(
     alloc: Global,
     file: &str,
     task: Task,
     library: &mut L,
     sink: &mut K,
+    disk: &mut D,
 ) -> Outcome
+    requires ready { IsTrue (D.told disk.old).is_ready }
+    requires none { (D.told disk.old).bound ≡ 0 }
     ensures whole { result.status.number ≢ 8 → result.status.number ≢ 11 →
-        TookWhole (IsDueOfFile file.now task (L.told library.old) (L.told library.new))
+        TookWhole (IsDueOfFile file.now task (L.told library.old) (L.told library.new) (D.told disk.old) (D.told disk.new))
         result.status.number result.run (K.told sink.old) (K.told sink.new) }
     ensures part { result.status.number ≡ 8 →
-        TookPart (IsDueOfFile file.now task (L.told library.old) (L.told library.new)) result.run (K.told sink.old) (K.told sink.new) }
+        TookPart (IsDueOfFile file.now task (L.told library.old) (L.told library.new) (D.told disk.old) (D.told disk.new))
+        result.run (K.told sink.old) (K.told sink.new) }
     ensures just { OpenedJust (L.told library.old) (L.told library.new) file.now }
+    ensures left { result.status.number ≡ 11 →
+        LeavesDisk ((L.told library.old).text_at file.now) task (D.told disk.old) (D.told disk.new) }
     ensures memory { result.status.number ≡ 11 → GrewBy (K.told sink.old).held (K.told sink.new).held [] }
     ensures no_run { result.status.number ≡ 11 → result.run ≡ None }
     ensures library { TellsLibrary (L.told library.old) (L.told library.new) result.status.number }
+    ensures disk { TellsDisk (D.told disk.old) (D.told disk.new) result.status.number }
     ensures sink { TellsSink (K.told sink.old) (K.told sink.new) result.status.number }
     ensures other { result.status.number ≢ 1 }
 {
@@ -129,6 +205,6 @@ pub fn do_file<L: Library, K: Sink>(
         Err(ReadFault::NoMemory) => no_memory(),
         Err(ReadFault::Failed) => refuse(sink, 7, "library fault\n"),
         Err(ReadFault::TooLong) => refuse(sink, 10, LIMIT_SOURCE),
-        Ok(source) => do_source(alloc, source.as_slice(), task, sink),
+        Ok(source) => do_source(alloc, source.as_slice(), task, sink, disk),
     }
 }

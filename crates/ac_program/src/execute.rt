@@ -1,24 +1,25 @@
-//! What a task makes of a source, and the status that goes with it.
+//! What a task makes of a program, and the status that goes with it.
 
-ghost use Rattle.std.specs.Prelude.{◌≡◌, ◌*◌, ◌≤◌, [], length, IfOk};
-ghost use Rattle.ac_names.specs.Numbered.{core_names};
+ghost use Rattle.std.specs.Prelude.{◌≡◌, ◌≢◌, ◌*◌, ◌≤◌, [], All, AllPairs, length, IfOk, IsTrue, None};
+ghost use Rattle.std.specs.Str.{IsUtf8};
+ghost use Rattle.ac_names.specs.Numbered.{core_names, file_paths};
 ghost use Rattle.ac_compile.specs.Unbuilt.{unbuilt_nodes};
 ghost use Rattle.ac_resolve.specs.Resolution.{resolved};
 ghost use Rattle.ac_translation.specs.Translation.{code_of};
 ghost use Rattle.code_listing.specs.Listing.{listing};
+ghost use Rattle.ac_program.specs.declared.words.Task.TheVariants as t;
 ghost use Rattle.ac_program.specs.Lines.{accepted_line};
 ghost use Rattle.ac_program.specs.Source.{all_steps, missing, most_steps};
-ghost use Rattle.ac_program.specs.Making.{IsReported, IsTold, Makes};
-ghost use Rattle.ac_program.specs.inner.Parts.{GivesDone};
+ghost use Rattle.ac_program.specs.inner.Parts.{GivesDone, GivesText};
 
-use crate::building::build;
-use crate::refusal::Stop;
 use crate::words::Task;
 use ac_base::{Bytes, List, NoMemory, Status, report, status};
 use ac_compile::compile;
+use ac_outside::Disk;
 use ac_types::Checked;
 use code_listing::listing;
 use core_runner::{Ended, run};
+use starting_files::{StartFault, start_files};
 use std::alloc::Global;
 
 /// What is made of a source: a run, if there is one, a text that is written, and a status.
@@ -29,18 +30,59 @@ pub struct Done {
     pub status: Status,
 }
 
-// A run of a program, and its report.
-fn reported(alloc: Global, checked: &Checked, steps: u32) -> Result<Done, NoMemory>
+// The paths of the files of a program, in order.
+fn paths_of(alloc: Global, checked: &Checked) -> Result<List<Bytes>, NoMemory>
+    ensures { IfOk result (λ paths. paths ≡ file_paths checked.now.items) }
+{
+    let mut paths = List::new(alloc);
+    for file in 0..checked.files() {
+        paths.push(checked.path(file).copy(alloc)?)?;
+    }
+    Ok(paths)
+}
+
+// The run with the bytes of its files at the start.
+fn with_start(ended: Ended, start: List<Bytes>) -> Ended
+    ensures { result ≡ record ended { start = start } }
+{
+    let Ended {
+        steps,
+        journals,
+        cores,
+        ..
+    } = ended;
+    Ended {
+        steps,
+        start,
+        journals,
+        cores,
+    }
+}
+
+// A run of a program on its files, and its report.
+fn reported<D: Disk>(
+    alloc: Global,
+    checked: &Checked,
+    steps: u32,
+    disk: &mut D,
+) -> Result<Done, StartFault>
     requires built { unbuilt_nodes checked.now.items ≡ [] }
     requires few { length (core_names checked.now.items) * steps ≤ 4000000 }
-    ensures { IfOk result (IsReported checked.now steps) }
+    requires files { length (file_paths checked.now.items) ≤ 16 }
+    requires texts { All IsUtf8 (file_paths checked.now.items) }
+    requires differ { AllPairs (λ path other. path ≢ other) (file_paths checked.now.items) }
+    requires ready { IsTrue (D.told disk.old).is_ready }
+    requires none { (D.told disk.old).bound ≡ 0 }
+    ensures { GivesDone (t.Run steps) checked.now (D.told disk.old) (D.told disk.new) result }
 {
     let code = compile(alloc, checked)?;
+    let paths = paths_of(alloc, checked)?;
+    let start = start_files(alloc, disk, paths.as_slice())?;
     let ended = run(alloc, &code, u64::from(steps))?;
     let text = report(alloc, code.names(), &ended.cores)?;
     let status = status(&ended.cores);
     Ok(Done {
-        run: Some(ended),
+        run: Some(with_start(ended, start)),
         text,
         status,
     })
@@ -48,7 +90,7 @@ fn reported(alloc: Global, checked: &Checked, steps: u32) -> Result<Done, NoMemo
 
 // The text of what is not run.
 fn told(text: Bytes) -> Done
-    ensures { IsTold text result }
+    ensures { result ≡ record { run = None; text = text; status = record { number = 0 } } }
 {
     Done {
         run: None,
@@ -58,7 +100,7 @@ fn told(text: Bytes) -> Done
 }
 
 fn accepted(alloc: Global) -> Result<Done, NoMemory>
-    ensures { IfOk result (IsTold accepted_line) }
+    ensures { IfOk result (GivesText accepted_line) }
 {
     let line = Vec::from_slice(alloc, b"accepted\n")?;
     Ok(told(List::from_vec(line)))
@@ -66,31 +108,33 @@ fn accepted(alloc: Global) -> Result<Done, NoMemory>
 
 fn listed(alloc: Global, checked: &Checked) -> Result<Done, NoMemory>
     requires { unbuilt_nodes checked.now.items ≡ [] }
-    ensures { IfOk result (IsTold (listing (code_of (resolved checked.now)))) }
+    ensures { IfOk result (GivesText (listing (code_of (resolved checked.now)))) }
 {
     let code = compile(alloc, checked)?;
     let text = listing(alloc, &code)?;
     Ok(told(text))
 }
 
-fn make(alloc: Global, checked: &Checked, task: Task) -> Result<Done, NoMemory>
+/// What a task makes of a program that nothing refuses. Only a run needs the disk, on which its
+/// files are bound and read first.
+pub fn make<D: Disk>(
+    alloc: Global,
+    checked: &Checked,
+    task: Task,
+    disk: &mut D,
+) -> Result<Done, StartFault>
     requires built { missing task checked.now ≡ [] }
     requires few { all_steps checked.now task ≤ most_steps }
-    ensures { IfOk result (Makes task checked.now) }
+    requires files { length (file_paths checked.now.items) ≤ 16 }
+    requires texts { All IsUtf8 (file_paths checked.now.items) }
+    requires differ { AllPairs (λ path other. path ≢ other) (file_paths checked.now.items) }
+    requires ready { IsTrue (D.told disk.old).is_ready }
+    requires none { (D.told disk.old).bound ≡ 0 }
+    ensures { GivesDone task checked.now (D.told disk.old) (D.told disk.new) result }
 {
     match task {
-        Task::Run(steps) => reported(alloc, checked, steps),
-        Task::Check => accepted(alloc),
-        Task::Code => listed(alloc, checked),
+        Task::Run(steps) => reported(alloc, checked, steps, disk),
+        Task::Check => Ok(accepted(alloc)?),
+        Task::Code => Ok(listed(alloc, checked)?),
     }
-}
-
-/// What a task makes of a source of at most 1,048,576 bytes.
-pub fn execute(alloc: Global, source: &[u8], task: Task) -> Result<Done, Stop>
-    requires { length source.now ≤ 1048576 }
-    ensures { GivesDone source.now task result }
-{
-    let checked = build(alloc, source, task)?;
-    let done = make(alloc, &checked, task)?;
-    Ok(done)
 }

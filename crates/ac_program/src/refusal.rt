@@ -42,7 +42,7 @@ pub enum Refusal {
     Broken(BrokenRule),
     /// All cores together may go more than 4,000,000 steps.
     TooManySteps,
-    /// A form that is not built: a file, or an operation on one.
+    /// A form that is not built: an operation on a file.
     NotBuilt { at: u32 },
 }
 
@@ -103,8 +103,8 @@ impl From<CheckFault> for Stop {
     }
 }
 
-// Words and a place.
-fn place_line(alloc: Global, words: &[u8], at: u32) -> Result<Bytes, NoMemory>
+/// Words and a place.
+pub fn place_line(alloc: Global, words: &[u8], at: u32) -> Result<Bytes, NoMemory>
     ensures { IfOk result (λ line. line ≡ place_line words.now at) }
 {
     let at = decimal(alloc, i64::from(at))?;
@@ -131,7 +131,7 @@ impl Refusal {
     /// The status of a call that ends with it.
     pub fn status(self) -> u8
         ensures number { result ≡ refusal_status self }
-        ensures other { (result ≢ 1) × ((result ≢ 7) × ((result ≢ 8) × (result ≢ 11))) }
+        ensures other { (result ≢ 1) × ((result ≢ 7) × ((result ≢ 8) × ((result ≢ 9) × (result ≢ 11)))) }
     {
         match self {
             Refusal::TooLong => 10,

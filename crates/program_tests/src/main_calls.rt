@@ -1,10 +1,11 @@
 //! The top call over objects in memory, with objects that fail or go byte by byte.
 
-ghost use Rattle.std.specs.Prelude.{None, is_some};
+ghost use Rattle.std.specs.Prelude.{◌≡◌, [], IfOk, IsTrue, None, is_some};
 
 use ac_base::List;
 use ac_outside::{
-    Failed, Library, MemoryLibrary, MemorySink, NamedBytes, SafeLibrary, SafeSink, Sink,
+    Disk, DiskFail, Failed, Library, MemoryDisk, MemoryLibrary, MemorySink, NamedBytes, SafeDisk,
+    SafeLibrary, SafeSink, Sink,
 };
 use ac_program::ac_main;
 use std::alloc::{AllocError, Global};
@@ -35,6 +36,10 @@ const LISTING: &str =
     "core a 0\nfunction f words 0\n0 Step\n1 Push 1\n2 Push 2\n3 Push 3\n4 Mul\n5 Add\n6 Print 0 1\n7 Push 0\n8 Ret\ntext 0 25640a\n";
 
 const FILED: &str = "core a(f); file p(\"x\"); async void f() { }";
+
+const FILED_LISTING: &str = "core a 0\nfunction f words 0\n0 Push 0\n1 Ret\n";
+
+const READS: &str = "core a(f); file p(\"x\"); async void f() { int b[1]; Read(p, 0, 1, b); }";
 
 const TWO: &str = "core a(f); async void f() { printf(\"%d\\n\", 1); printf(\"%d\\n\", 2); }";
 
@@ -79,25 +84,35 @@ fn one_text(alloc: Global, text: &[u8]) -> Result<List<NamedBytes>, AllocError> 
     Ok(List::from_vec(texts))
 }
 
-// The status of a call, and whether it keeps a run.
+// The status of a call, whether it keeps a run, and how many bytes its first file had at the start.
 #[derive(Clone, Copy)]
 struct Seen {
     status: u8,
     ran: bool,
+    first: Option<u64>,
 }
 
 // The one call of `ac_main`: each such call is proved through all its clauses.
-fn called<L: Library, K: Sink>(
+fn called<L: Library, K: Sink, D: Disk>(
     alloc: Global,
     words: &[&str],
     library: &mut L,
     sink: &mut K,
-) -> Result<Seen, AllocError> {
+    disk: &mut D,
+) -> Result<Seen, AllocError>
+    requires ready { IsTrue (D.told disk.old).is_ready }
+    requires none { (D.told disk.old).bound ≡ 0 }
+{
     let owned = words_of(alloc, words)?;
-    let outcome = ac_main(alloc, owned.as_slice(), library, sink);
+    let outcome = ac_main(alloc, owned.as_slice(), library, sink, disk);
+    let first = match &outcome.run {
+        Some(run) if run.start.len() > 0 => Some(run.start.get(0).len()),
+        _ => None,
+    };
     Ok(Seen {
         status: outcome.status.number,
         ran: outcome.run.is_some(),
+        first,
     })
 }
 
@@ -112,7 +127,8 @@ struct Taken {
 fn called_on(alloc: Global, words: &[&str], source: &[u8], room: u64) -> Result<Taken, Fail> {
     let mut library = MemoryLibrary::new(one_text(alloc, source)?, List::new(alloc))?;
     let mut sink = MemorySink::new(alloc, room)?;
-    let seen = called(alloc, words, &mut library, &mut sink)?;
+    let mut disk = SafeDisk::new(List::new(alloc))?;
+    let seen = called(alloc, words, &mut library, &mut sink, &mut disk)?;
     Ok(Taken {
         status: seen.status,
         taken: Vec::from_slice(alloc, sink.taken())?,
@@ -161,8 +177,9 @@ impl Sink for Sips {
 #[test]
 fn reports_are_written_as_far_as_there_is_room(rt: HostRuntime) -> Result<(), Fail> {
     let alloc = rt.alloc();
-    let rows: [(&'static [&'static str], &'static str, u64, u8, &'static str); 14] = [
+    let rows: [(&'static [&'static str], &'static str, u64, u8, &'static str); 15] = [
         (&["run", "x.ac"], SEVEN, 999, 0, REPORT),
+        (&["run", "x.ac"], FILED, 999, 0, EMPTY),
         (&["run", "x.ac"], SEVEN, 44, 0, REPORT),
         (
             &["run", "x.ac"],
@@ -212,7 +229,7 @@ fn reports_are_written_as_far_as_there_is_room(rt: HostRuntime) -> Result<(), Fa
 #[test]
 fn no_run_is_kept_where_none_is_reported(rt: HostRuntime) -> Result<(), Fail> {
     let alloc = rt.alloc();
-    let rows: [(&'static [&'static str], &'static str, u64, u8, &'static str); 19] = [
+    let rows: [(&'static [&'static str], &'static str, u64, u8, &'static str); 20] = [
         (&["run", "y.ac"], SEVEN, 999, 7, "library fault\n"),
         (&["run", "x.ac", "--steps", "0"], SEVEN, 999, 1, USAGE),
         (&["run"], SEVEN, 999, 1, USAGE),
@@ -243,13 +260,14 @@ fn no_run_is_kept_where_none_is_reported(rt: HostRuntime) -> Result<(), Fail> {
             3,
             "rule C7 at 28\n",
         ),
-        (&["run", "x.ac"], FILED, 999, 15, "not built at 11\n"),
+        (&["run", "x.ac"], READS, 999, 15, "not built at 51\n"),
         (&["check", "x.ac"], SEVEN, 999, 0, "accepted\n"),
         (&["check", "x.ac"], SEVEN, 9, 0, "accepted\n"),
         (&["check", "x.ac"], SEVEN, 8, 8, "accepted"),
         (&["code", "x.ac"], SEVEN, 999, 0, LISTING),
         (&["code", "x.ac"], SEVEN, 10, 8, "core a 0\nf"),
-        (&["code", "x.ac"], FILED, 999, 15, "not built at 11\n"),
+        (&["code", "x.ac"], FILED, 999, 0, FILED_LISTING),
+        (&["code", "x.ac"], READS, 999, 15, "not built at 51\n"),
     ];
     for (words, source, room, status, taken) in rows {
         let seen = called_on(alloc, words, source.as_bytes(), room)?;
@@ -330,7 +348,8 @@ fn a_library_that_fails_is_told_and_opened_once(rt: HostRuntime) -> Result<(), F
         let fails = List::from_vec(vec![in alloc; fails]?);
         let mut library = MemoryLibrary::new(one_text(alloc, NONE.as_bytes())?, fails)?;
         let mut sink = MemorySink::new(alloc, 999)?;
-        let seen = called(alloc, words, &mut library, &mut sink)?;
+        let mut disk = SafeDisk::new(List::new(alloc))?;
+        let seen = called(alloc, words, &mut library, &mut sink, &mut disk)?;
         assert_eq!(rt; seen.status, status);
         assert_eq!(rt; sink.taken(), line.as_bytes());
         assert_eq!(rt; library.opens(), 1);
@@ -347,9 +366,89 @@ fn a_text_that_comes_and_goes_byte_by_byte_is_whole(rt: HostRuntime) -> Result<(
     let mut sink = Sips {
         inner: SafeSink::new(alloc)?,
     };
-    let seen = called(alloc, &["run", "x.ac"], &mut library, &mut sink)?;
+    let mut disk = SafeDisk::new(List::new(alloc))?;
+    let seen = called(alloc, &["run", "x.ac"], &mut library, &mut sink, &mut disk)?;
     assert_eq!(rt; seen.status, 0);
     assert!(rt; seen.ran, "it is run");
     assert_eq!(rt; sink.inner.taken(), REPORT.as_bytes());
+    Ok(())
+}
+
+// A disk with the file `x` of so many bytes, of which the call of that number fails.
+fn one_file(alloc: Global, size: usize, fails: u64) -> Result<MemoryDisk, Fail>
+    ensures { IfOk result (λ disk. IsTrue disk.stored.is_ready × (disk.stored.files ≡ [])) }
+{
+    let mut files = Vec::new(alloc);
+    files.push(NamedBytes {
+        name: List::from_vec(Vec::from_slice(alloc, b"x")?),
+        bytes: List::from_vec(vec![in alloc; 7u8; size]?),
+    })?;
+    let mut failing = Vec::new(alloc);
+    failing.push(DiskFail {
+        call: fails,
+        taken: 0,
+    })?;
+    let disk = MemoryDisk::new(List::from_vec(files), List::from_vec(failing))?;
+    Ok(disk)
+}
+
+// What a call on a program with that file came to: its status, what the sink took, how many bytes its run
+// had of the file (999 without a run), and how many calls of the disk were made.
+#[derive(Drop)]
+struct Filed {
+    status: u8,
+    taken: Vec<u8>,
+    first: u64,
+    calls: u64,
+}
+
+fn called_with_file(alloc: Global, task: &str, size: usize, fails: u64) -> Result<Filed, Fail> {
+    let mut library = MemoryLibrary::new(one_text(alloc, FILED.as_bytes())?, List::new(alloc))?;
+    let mut sink = MemorySink::new(alloc, 999)?;
+    let mut disk = one_file(alloc, size, fails)?;
+    let seen = called(alloc, &[task, "x.ac"], &mut library, &mut sink, &mut disk)?;
+    Ok(Filed {
+        status: seen.status,
+        taken: Vec::from_slice(alloc, sink.taken())?,
+        first: seen.first.unwrap_or(999),
+        calls: disk.calls(),
+    })
+}
+
+// The file is bound, its length tested, and read by one call for each 65,536 bytes, whole or begun. A
+// check leaves the disk alone.
+#[test]
+fn a_file_is_bound_and_read_before_a_run(rt: HostRuntime) -> Result<(), Fail> {
+    let alloc = rt.alloc();
+    for (task, size, fails, status, first, calls) in [
+        ("run", 65_537, 99, 0, 65_537, 3),
+        ("run", 1_048_577, 99, 10, 999, 1),
+        ("run", 3, 0, 9, 999, 1),
+        ("run", 65_537, 2, 9, 999, 3),
+        ("check", 3, 0, 0, 999, 0),
+    ] {
+        let filed = called_with_file(alloc, task, size, fails)?;
+        assert_eq!(rt; filed.status, status, "{task} with {size} bytes");
+        assert_eq!(rt; filed.first, first, "{task} with {size} bytes");
+        assert_eq!(rt; filed.calls, calls, "{task} with {size} bytes");
+    }
+    Ok(())
+}
+
+#[test]
+fn a_disk_that_fails_and_a_file_that_is_too_long_are_told(rt: HostRuntime) -> Result<(), Fail> {
+    let alloc = rt.alloc();
+    for (size, fails, line) in [
+        (1_048_576, 99, EMPTY),
+        (1_048_577, 99, "limit: file 0\n"),
+        (3, 1, "disk fault\n"),
+    ] {
+        let filed = called_with_file(alloc, "run", size, fails)?;
+        assert_eq!(rt;
+            filed.taken.as_slice(),
+            line.as_bytes(),
+            "with {size} bytes"
+        );
+    }
     Ok(())
 }

@@ -1,6 +1,7 @@
 -- What the definitions of Starting say of small files.
-use Rattle.std.proofs.Common.{◌≡◌, refl, ℕ, ◌-◌, ◌^◌, ◌<◌, List, [], ◌∷◌, length, codes, None, Some, ap, arith, inl, slice_index}
-use Rattle.std.specs.Prelude.{Ok}
+use Rattle.std.proofs.Common.{◌≡◌, refl, ℕ, ◌-◌, ◌^◌, ◌<◌, ◌≤◌, List, [], ◌∷◌, length, codes, take, None, Some, ap, subst, arith, inl, slice_index}
+use Rattle.std.specs.Prelude.{All, Ok}
+use Rattle.std.proofs.lemmas.List.Elements.{All-from_recursion}
 use Rattle.std.specs.declared.result.Result.{Result}
 use Rattle.std.specs.declared.option.Option.{Option}
 use Rattle.ac_outside.specs.Disks.{Held, BindLeaves, with_bound, called}
@@ -94,9 +95,22 @@ pub not_in_another_order :
     StartsFiles disk (Some (with_started disk (codes "q" ∷ codes "p" ∷ []))) (codes "p" ∷ codes "q" ∷ []) (given (codes "0123456789" ∷ [] ∷ [])) → ⊥
 not_in_another_order h = let e : 113 ≡ 112 = ap first_byte h.1 in omega (arith, e)
 
+p_is_short : All (λ path. length (bytes_at disk path) ≤ most_bytes) (codes "p" ∷ [])
+p_is_short =
+    let few : 10 ≤ 1048576 = omega arith in
+    All-from_recursion (λ path. length (bytes_at disk path) ≤ most_bytes) (codes "p" ∷ []) (few, tt)
+
 pub the_second_stops_it :
     StopsAtFile disk (Some (called (with_started disk (codes "p" ∷ [])))) (codes "p" ∷ codes "q" ∷ []) Failed
-the_second_stops_it = record { number = 1; path = codes "q"; here = refl; stops = inl (inl refl) }
+the_second_stops_it = record { number = 1; path = codes "q"; here = refl; short = p_is_short; stops = inl (inl refl) }
+
+-- a file that is too long stops it itself, and no later one does
+pub not_past_a_long_file : (bytes : List ℕ) (after : Option Held) (fault : StartFault) → length bytes ≡ 1048577
+    → (h : StopsAtFile (record disk { found = λ path. Some bytes }) after (codes "p" ∷ codes "q" ∷ []) fault) → h.number ≡ 1 → ⊥
+not_past_a_long_file bytes after fault e h n =
+    let short : All (λ path. length bytes ≤ 1048576) (codes "p" ∷ []) =
+    subst (λ (k : ℕ). All (λ path. length bytes ≤ 1048576) (take k (codes "p" ∷ codes "q" ∷ []))) n h.short in
+    let few = short 0 [] (omega arith) in omega (arith, e, few)
 
 pub a_bind_that_failed : BindLeaves disk (Some (called disk)) (codes "p") bind_failed
 a_bind_that_failed = inl refl

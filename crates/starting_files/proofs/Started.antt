@@ -1,9 +1,9 @@
 -- Files that are bound and read, one after the other.
 use Rattle.std.proofs.Common.{◌≡◌, ◌≢◌, ℕ, zero, suc, ◌+◌, ◌-◌, ◌^◌, ◌<◌, ◌≤◌, min, List, [], ◌∷◌, ◌++◌, length, take, map, None, Some, Bool, true, false, refl, sym, ap, ◌∙◌, subst, inr, arith}
-use Rattle.std.specs.Prelude.{sum_by, slice_get, slice_index_or, IfSome, IfErr, Ok, Err, AllPairs}
+use Rattle.std.specs.Prelude.{sum_by, slice_get, slice_index_or, IfSome, IfErr, Ok, Err, All, AllPairs}
 use Rattle.std.specs.declared.option.Option.{Option}
 use Rattle.std.specs.declared.result.Result.{Result}
-use Rattle.std.proofs.lemmas.List.{append-nil, append_assoc, take_more, map-append, length-take, get_or-take}
+use Rattle.std.proofs.lemmas.List.{append-nil, append_assoc, take_more, map-append, length-take, length-map, get_or-take, get_or-map}
 use Rattle.std.proofs.lemmas.Slice.Eq.{bytes_eq-Decides}
 use Rattle.std.specs.Bool.{Decides}
 use Rattle.std.specs.Str.{bytes_eq}
@@ -17,7 +17,7 @@ use Rattle.ac_outside.specs.Files.{file_at, file_of}
 use Rattle.ac_outside.specs.Disks.{Held, with_bound, BindLeaves, IsFresh}
 use Rattle.starting_files.specs.declared.fault.StartFault.{StartFault}
 use Rattle.starting_files.specs.declared.fault.StartFault.TheVariants.{Failed, TooLong, NoMemory}
-use Rattle.starting_files.specs.Starting.{more_calls, calls_of, reads_of, bytes_at, with_read, with_started, StartsFile, StartsFiles, StopsAtFile, IsNumberBelow}
+use Rattle.starting_files.specs.Starting.{more_calls, calls_of, reads_of, bytes_at, with_read, with_started, StartsFile, StopsAtFile, IsNumberBelow}
 use Rattle.starting_files.specs.inner.Pieces.{ReadsWhole}
 
 -- ---- one file
@@ -107,25 +107,47 @@ next_file (Some held) before after paths number path bytes start so file less he
       now.1 ∙ ap (λ h. Some h) (one_more_file held paths number path less here),
     )
 
+-- files of which each is given as it is, and none is too long
+pub are_short : (held : Held) (paths start : List (List ℕ)) → start ≡ map (bytes_at held) paths → All (λ bytes. length bytes ≤ 1048576) start
+    → All (λ path. length (bytes_at held path) ≤ 1048576) paths
+are_short held paths start e short = λ k d less.
+    let all = subst (All (λ bytes. length bytes ≤ 1048576)) e short in
+    let here = all k (bytes_at held d) (omega (arith, less, length-map paths (bytes_at held))) in
+    subst (λ bytes. length bytes ≤ 1048576) (get_or-map (bytes_at held) paths k d (bytes_at held d) less) here
+
 abbrev pub stopped_by : StartFault → Result (List ℕ) StartFault
 stopped_by fault = Err fault
 
 -- a file stops the start
 pub stops_at : (first before after : Option Held) (paths : List (List ℕ)) (number : ℕ) (path : List ℕ) (start : List (List ℕ)) (fault : StartFault)
-    → IfSome first (λ held. SoFar held before paths number start) → IfSome before (λ held. StartsFile held after number path (stopped_by fault))
-    → slice_get paths number ≡ Some path → IfSome first (λ held. StopsAtFile held after paths fault)
-stops_at None before after paths number path start fault so file here = tt
-stops_at (Some held) before after paths number path start fault so file here =
-    record { number = number; path = path; here = here; stops = subst (λ (b : Option Held). IfSome b (λ h. StartsFile h after number path (stopped_by fault))) so.1 file }
+    → IfSome first (λ held. SoFar held before paths number start) → All (λ bytes. length bytes ≤ 1048576) start
+    → IfSome before (λ held. StartsFile held after number path (stopped_by fault)) → slice_get paths number ≡ Some path
+    → IfSome first (λ held. StopsAtFile held after paths fault)
+stops_at None before after paths number path start fault so short file here = tt
+stops_at (Some held) before after paths number path start fault so short file here =
+    record {
+      number = number;
+      path = path;
+      here = here;
+      short = are_short held (take number paths) start so.0 short;
+      stops = subst (λ (b : Option Held). IfSome b (λ h. StartsFile h after number path (stopped_by fault))) so.1 file;
+    }
 
 -- or memory was refused once it was read
 pub stops_after : (first before after : Option Held) (paths : List (List ℕ)) (number : ℕ) (path bytes : List ℕ) (start : List (List ℕ))
-    → IfSome first (λ held. SoFar held before paths number start) → IfSome before (λ held. StartsFile held after number path (Ok bytes))
-    → slice_get paths number ≡ Some path → IfSome first (λ held. StopsAtFile held after paths NoMemory)
-stops_after None before after paths number path bytes start so file here = tt
-stops_after (Some held) before after paths number path bytes start so file here =
+    → IfSome first (λ held. SoFar held before paths number start) → All (λ bytes. length bytes ≤ 1048576) start
+    → IfSome before (λ held. StartsFile held after number path (Ok bytes)) → slice_get paths number ≡ Some path
+    → IfSome first (λ held. StopsAtFile held after paths NoMemory)
+stops_after None before after paths number path bytes start so short file here = tt
+stops_after (Some held) before after paths number path bytes start so short file here =
     let now = subst (λ (b : Option Held). IfSome b (λ h. StartsFile h after number path (Ok bytes))) so.1 file in
-    record { number = number; path = path; here = here; stops = inr (record { reads = reads_of (length (bytes_at held path)); some = omega arith; most = omega arith; left = now.1 }) }
+    record {
+      number = number;
+      path = path;
+      here = here;
+      short = are_short held (take number paths) start so.0 short;
+      stops = inr (record { reads = reads_of (length (bytes_at held path)); some = omega arith; most = omega arith; left = now.1 });
+    }
 
 -- the same file, by its number and path in other words
 pub retold : (before after : Option Held) (m n : ℕ) (p q : List ℕ) (result : Result (List ℕ) StartFault) → m ≡ n → p ≡ q

@@ -1,5 +1,6 @@
 -- What is told of a disk on which files are bound and read whole, one after the other.
-use Rattle.std.specs.Prelude.{◌≡◌, ◌⊎◌, ℕ, zero, suc, ◌<◌, ◌≤◌, List, ◌++◌, length, map, take, sum_by, slice_get, None, Some, Ok, Err, ⊤}
+use Rattle.std.specs.Prelude.{◌≡◌, ◌⊎◌, ℕ, zero, suc, ◌<◌, ◌≤◌, List, ◌++◌, length}
+use Rattle.std.specs.Prelude.{map, take, sum_by, slice_get, All, None, Some, Ok, Err, ⊤}
 use Rattle.std.specs.Int.{div_ceil}
 use Rattle.std.specs.declared.option.Option.{Option}
 use Rattle.std.specs.declared.result.Result.{Result}
@@ -69,11 +70,12 @@ StartsFile held after number path (Err NoMemory) = (after ≡ None) ⊎ LeavesBo
 abbrev pub stopped : StartFault → Result (List ℕ) StartFault
 stopped fault = Err fault
 
--- The files before this one are bound, and each was read whole; this one stops the start.
+-- The files before this one are bound, none of them is too long, and each was read whole; this one stops the start.
 pub record StopsAtFile (held : Held) (after : Option Held) (paths : List (List ℕ)) (fault : StartFault) : Type 0 where
   pub number : ℕ
   pub path : List ℕ
   pub here : slice_get paths number ≡ Some path
+  pub short : All (λ before. length (bytes_at held before) ≤ most_bytes) (take number paths)
   pub stops : StartsFile (with_started held (take number paths)) after number path (stopped fault)
 
 -- the bytes of each file, and why there are none, as answers

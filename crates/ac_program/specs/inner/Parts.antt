@@ -1,5 +1,5 @@
 -- What each part of the work on a source gives: what it makes, or why it stops.
-use Rattle.std.specs.Prelude.{◌≤◌, ℕ, List, length, Result, Ok, Err}
+use Rattle.std.specs.Prelude.{◌≡◌, ◌≤◌, ℕ, List, length, None, Result, Ok, Err}
 use Rattle.ac_lexer.specs.declared.token.Token.{Token}
 use Rattle.ac_lexer.specs.declared.fault.LexFault.{LexFault}
 use Rattle.ac_lexer.specs.declared.fault.LexFault.TheVariants as l
@@ -15,8 +15,11 @@ use Rattle.ac_program.specs.declared.refusal.Refusal.TheVariants as r
 use Rattle.ac_program.specs.declared.refusal.Stop.{Stop}
 use Rattle.ac_program.specs.declared.refusal.Stop.TheVariants as s
 use Rattle.ac_program.specs.declared.words.Task.{Task}
-use Rattle.ac_program.specs.Source.{HasTokens, IsSpelled, IsAccepted, IsReady, Refuses}
-use Rattle.ac_program.specs.Making.{IsDone}
+use Rattle.ac_outside.specs.Disks.{DiskTold}
+use Rattle.starting_files.specs.declared.fault.StartFault.{StartFault}
+use Rattle.starting_files.specs.declared.fault.StartFault.TheVariants as f
+use Rattle.ac_program.specs.Source.{HasTokens, IsSpelled, IsAccepted, IsReady, Refuses, needed}
+use Rattle.ac_program.specs.Making.{AreLeft, AreStopped, Makes}
 
 -- ---- why work stops, by the fault that stops it
 
@@ -61,7 +64,15 @@ abbrev pub GivesReady : List ℕ → Task → Result Program Stop → Type 0
 GivesReady source task (Ok program) = IsReady source task program
 GivesReady source task (Err stop) = Stops source task stop
 
--- what work on a source gives in the end: what the task makes of it, or why it stops
-abbrev pub GivesDone : List ℕ → Task → Result Done Stop → Type 0
-GivesDone source task (Ok done) = IsDone source task done
-GivesDone source task (Err stop) = Stops source task stop
+-- what work on a program gives in the end: what the task makes of it, or what a file that stopped it, or want of memory, left of the disk
+abbrev pub GivesDone : Task → Program → DiskTold → DiskTold → Result Done StartFault → Type 0
+GivesDone task program disk later (Ok done) = Makes task program disk later done
+GivesDone task program disk later (Err f.Failed) = AreStopped (needed task program) f.Failed disk later
+GivesDone task program disk later (Err (f.TooLong file)) = AreStopped (needed task program) (f.TooLong file) disk later
+GivesDone task program disk later (Err f.NoMemory) = AreLeft (needed task program) disk later
+
+-- this text with status 0, and no run
+pub record GivesText (text : List ℕ) (done : Done) : Type 0 where
+  pub no_run : done.run ≡ None
+  pub text_is : done.text ≡ text
+  pub status : done.status.number ≡ 0

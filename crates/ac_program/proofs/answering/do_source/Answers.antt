@@ -1,54 +1,52 @@
-use Rattle.std.proofs.Common.{None, refl, sym, ◌∙◌, subst, arith}
+use Rattle.std.proofs.Common.{None, refl, subst}
 use Rattle.ac_program.specs.Lines.{refusal_line, refusal_status}
 use Rattle.ac_program.specs.inner.Parts.{Stops}
-use Rattle.ac_program.specs.Making.{IsDueOf}
-use Rattle.ac_program.specs.Making.IsDueOf.{refused, made}
-use Rattle.ac_program.proofs.Endings.{whole_of, part_of}
-use Rattle.ac_program.proofs.Statuses.{done_status, not_above, not_one}
+use Rattle.ac_program.specs.Making.{IsDueOf, IsDueOfProgram}
+use Rattle.ac_program.specs.Making.IsDueOf.{refused, ready}
+use Rattle.ac_program.specs.Headline.LeavesDisk.{of_program}
+use Rattle.ac_program.proofs.Endings.{whole_of, part_of, whole_as, part_as}
+use Rattle.ac_program.proofs.Paths.{few_paths, paths_are_texts, paths_differ}
 use Rattle.ac_program.proofs.answering.do_source.Goals as goal
 
 pub returns-in-Err-Refused-clause-whole : goal.returns-in-Err-Refused-clause-whole
 returns-in-Err-Refused-clause-whole g c =
     let h = subst (Stops c.args.source.now c.args.task) c.in-Err-Refused.field-0-is c.in-Err-Refused.ensures in
     let x = c.in-Err-Refused.refusal in
-    λ well kept. whole_of (IsDueOf c.args.source.now c.args.task) (refusal_status x) c.refuse_source.result.status.number (refusal_line x) None c.refuse_source.result.run _ _
-    (refused x refl refl refl h) c.refuse_source.ensures.run
-    (λ w. c.refuse_source.ensures.status w kept) (λ w. c.refuse_source.ensures.whole w kept) well
+    λ well kept. whole_of (IsDueOf c.args.source.now c.args.task _ _) (refusal_status x) c.refuse_source.result.status.number (refusal_line x) None c.refuse_source.result.run _ _
+    (refused x refl refl refl h refl) c.refuse_source.ensures.run
+    (λ w. rw c.in-Err-Refused.field-0-is at (c.refuse_source.ensures.status w kept)) (λ w. rw c.in-Err-Refused.field-0-is at (c.refuse_source.ensures.whole w kept)) well
 
 pub returns-in-Err-Refused-clause-part : goal.returns-in-Err-Refused-clause-part
 returns-in-Err-Refused-clause-part g c =
     let h = subst (Stops c.args.source.now c.args.task) c.in-Err-Refused.field-0-is c.in-Err-Refused.ensures in
     let x = c.in-Err-Refused.refusal in
-    part_of (IsDueOf c.args.source.now c.args.task) (refusal_status x) c.refuse_source.result.status.number (refusal_line x) None c.refuse_source.result.run _ _
-    (refused x refl refl refl h) c.refuse_source.ensures.run c.refuse_source.ensures.part
+    part_of (IsDueOf c.args.source.now c.args.task _ _) (refusal_status x) c.refuse_source.result.status.number (refusal_line x) None c.refuse_source.result.run _ _
+    (refused x refl refl refl h refl) c.refuse_source.ensures.run (λ f. rw c.in-Err-Refused.field-0-is at (c.refuse_source.ensures.part f))
+
+pub do_program-requires-clause-built : goal.do_program-requires-clause-built
+do_program-requires-clause-built g c = c.in-Ok.ensures.built
+
+pub do_program-requires-clause-few : goal.do_program-requires-clause-few
+do_program-requires-clause-few g c = c.in-Ok.ensures.is_within.within
+
+pub do_program-requires-clause-files : goal.do_program-requires-clause-files
+do_program-requires-clause-files g c = few_paths c.args.source.now c.in-Ok.checked c.in-Ok.ensures.is_within.is_accepted
+
+pub do_program-requires-clause-texts : goal.do_program-requires-clause-texts
+do_program-requires-clause-texts g c = paths_are_texts c.args.source.now c.in-Ok.checked c.in-Ok.ensures.is_within.is_accepted
+
+pub do_program-requires-clause-differ : goal.do_program-requires-clause-differ
+do_program-requires-clause-differ g c = paths_differ c.args.source.now c.in-Ok.checked c.in-Ok.ensures.is_within.is_accepted
 
 pub returns-in-Ok-clause-whole : goal.returns-in-Ok-clause-whole
 returns-in-Ok-clause-whole g c =
-    λ well _. whole_of (IsDueOf c.args.source.now c.args.task) c.in-Ok.done.status.number c.give.result.status.number c.in-Ok.done.text c.in-Ok.done.run c.give.result.run _ _
-    (made c.in-Ok.done refl refl refl c.in-Ok.ensures) c.give.ensures.run c.give.ensures.status c.give.ensures.whole well
+    λ well kept. whole_as (IsDueOfProgram c.args.task c.in-Ok.checked _ _) (IsDueOf c.args.source.now c.args.task _ _) (λ n t run due. ready c.in-Ok.checked c.in-Ok.ensures due)
+    c.do_program.result.run _ _ c.do_program.result.status.number (c.do_program.ensures.whole well kept)
 
 pub returns-in-Ok-clause-part : goal.returns-in-Ok-clause-part
 returns-in-Ok-clause-part g c =
-    part_of (IsDueOf c.args.source.now c.args.task) c.in-Ok.done.status.number c.give.result.status.number c.in-Ok.done.text c.in-Ok.done.run c.give.result.run _ _
-    (made c.in-Ok.done refl refl refl c.in-Ok.ensures) c.give.ensures.run c.give.ensures.part
+    λ failed. part_as (IsDueOfProgram c.args.task c.in-Ok.checked _ _) (IsDueOf c.args.source.now c.args.task _ _) (λ n t run due. ready c.in-Ok.checked c.in-Ok.ensures due)
+    c.do_program.result.run _ _ (c.do_program.ensures.part failed)
 
-pub give-requires : goal.give-requires
-give-requires g c = λ e.
-    not_above c.in-Ok.done.status.number 8 (done_status c.args.source.now c.args.task c.in-Ok.done.status.number c.in-Ok.done refl c.in-Ok.ensures) e (omega arith)
-
-pub returns-in-Ok-clause-memory : goal.returns-in-Ok-clause-memory
-returns-in-Ok-clause-memory g c = λ is.
-    let same = c.give.ensures.status (λ e. omega (arith, is, e)) in
-    absurd (not_above c.in-Ok.done.status.number 11 (done_status c.args.source.now c.args.task c.in-Ok.done.status.number c.in-Ok.done refl c.in-Ok.ensures) (sym same ∙ is) (omega arith))
-
-pub returns-in-Ok-clause-no_run : goal.returns-in-Ok-clause-no_run
-returns-in-Ok-clause-no_run g c = λ is.
-    let same = c.give.ensures.status (λ e. omega (arith, is, e)) in
-    absurd (not_above c.in-Ok.done.status.number 11 (done_status c.args.source.now c.args.task c.in-Ok.done.status.number c.in-Ok.done refl c.in-Ok.ensures) (sym same ∙ is) (omega arith))
-
-pub returns-in-Ok-clause-other : goal.returns-in-Ok-clause-other
-returns-in-Ok-clause-other g c =
-    let of_cores = done_status c.args.source.now c.args.task c.in-Ok.done.status.number c.in-Ok.done refl c.in-Ok.ensures in (
-      (λ is. not_one c.in-Ok.done.status.number of_cores (sym (c.give.ensures.status (λ e. omega (arith, is, e))) ∙ is)),
-      (λ is. not_above c.in-Ok.done.status.number 7 of_cores (sym (c.give.ensures.status (λ e. omega (arith, is, e))) ∙ is) (omega arith)),
-    )
+pub returns-in-Ok-clause-left : goal.returns-in-Ok-clause-left
+returns-in-Ok-clause-left g c = λ is. of_program c.args.source.now c.in-Ok.checked refl c.in-Ok.ensures (c.do_program.ensures.left is)

@@ -31,7 +31,7 @@ returns-in_err-bytes-clause-told g c =
     let after = (g.D.Disk.told c.start_file.new.disk).held in
     let told = retold before after _ _ _ _ (Err c.in_err-bytes.field-0.0) (c.len-number.ensures ∙ c.loop-path.invariant.count) c.as_slice.ensures c.in_err-bytes.ensures.told in
     rw (p.1, p.2) (stops_at (g.D.Disk.told c.args.disk.now).held before after c.args.paths.now c.loop-path.path-index c.path-item.result c.loop-path.start c.in_err-bytes.field-0.0
-    c.loop-path.invariant.told told here)
+    c.loop-path.invariant.told c.loop-path.invariant.short told here)
 
 pub returns-in_err-push-clause-told : goal.returns-in_err-push-clause-told
 returns-in_err-push-clause-told g c =
@@ -42,7 +42,7 @@ returns-in_err-push-clause-told g c =
     let after = (g.D.Disk.told c.start_file.new.disk).held in
     let told = retold before after _ _ _ _ (Ok c.in_ok-bytes.bytes) (c.len-number.ensures ∙ c.loop-path.invariant.count) c.as_slice.ensures c.in_ok-bytes.ensures.told in
     rw (p.1, p.2) (stops_after (g.D.Disk.told c.args.disk.now).held before after c.args.paths.now c.loop-path.path-index c.path-item.result c.in_ok-bytes.bytes c.loop-path.start
-    c.loop-path.invariant.told told here)
+    c.loop-path.invariant.told c.loop-path.invariant.short told here)
 
 pub loop-path-preserved : goal.loop-path-preserved
 loop-path-preserved g c =

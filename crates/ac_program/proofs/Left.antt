@@ -1,0 +1,61 @@
+-- What want of memory leaves of the disk.
+use Rattle.std.proofs.Common.{◌≡◌, ◌≢◌, ℕ, List, Option, None, Some, ap, ◌∙◌, inr, arith}
+use Rattle.std.specs.Prelude.{IfSome}
+use Rattle.ac_outside.specs.Causes.{Rose}
+use Rattle.ac_outside.specs.Disks.{DiskTold, Held}
+use Rattle.starting_files.specs.declared.fault.StartFault.TheVariants as f
+use Rattle.starting_files.specs.Starting.{StopsAtFile}
+use Rattle.ac_tree.specs.declared.item.Program.{Program}
+use Rattle.ac_program.specs.declared.execute.Done.{Done}
+use Rattle.ac_program.specs.declared.words.Task.{Task}
+use Rattle.ac_program.specs.declared.words.Task.TheVariants as t
+use Rattle.ac_program.specs.Making.{AreLeft, AreStopped, Makes, untouched, stopped, started}
+use Rattle.ac_program.specs.Reading.{Gave}
+use Rattle.ac_program.specs.Headline.{LeavesDisk, TellsDisk, alone, of_program}
+
+given_as : (told : Option (List ℕ)) (source text : List ℕ) → Gave told source → text ≡ source → Gave told text
+given_as None source text g e = tt
+given_as (Some known) source text g e = e ∙ g
+
+-- what is left of a source that the library gave
+pub left_as : (told : Option (List ℕ)) (source : List ℕ) (task : Task) (disk later : DiskTold) → Gave told source → LeavesDisk (Some source) task disk later
+    → LeavesDisk told task disk later
+left_as told source task disk later g (alone e) = alone e
+left_as told source task disk later g (of_program text program h k left) = of_program text program (given_as told source text g h) k left
+
+-- a file that is too long is bound, and none of its reads was made
+long_held : (held after : Option Held) (paths : List (List ℕ)) (file : ℕ) → IfSome held (λ h. StopsAtFile h after paths (f.TooLong file))
+    → IfSome held (λ h. StopsAtFile h after paths f.NoMemory)
+long_held None after paths file told = tt
+long_held (Some h) after paths file told = record {
+  number = told.number;
+  path = told.path;
+  here = told.here;
+  short = told.short;
+  stops = inr (record { reads = 0; some = omega arith; most = omega arith; left = told.stops.2 });
+}
+
+pub long_left : (paths : List (List ℕ)) (file : ℕ) (disk later : DiskTold) → AreStopped paths (f.TooLong file) disk later → AreLeft paths disk later
+long_left paths file disk later h = stopped (record { some = h.some; below = tt; cause = h.cause; told = long_held disk.held later.held paths file h.told })
+
+-- ---- the count of its faults
+
+abbrev faults_of : DiskTold → ℕ
+faults_of disk = disk.faults
+
+pub left_faults : (paths : List (List ℕ)) (disk later : DiskTold) → AreLeft paths disk later → later.faults ≡ disk.faults
+left_faults paths disk later (untouched e) = ap faults_of e
+left_faults paths disk later (stopped s) = s.cause
+left_faults paths disk later (started start s) = s.well
+
+pub made_faults : (task : Task) (program : Program) (disk later : DiskTold) (done : Done) → Makes task program disk later done → later.faults ≡ disk.faults
+made_faults (t.Run steps) program disk later done d = d.files.well
+made_faults t.Check program disk later done d = ap faults_of d.alone
+made_faults t.Code program disk later done d = ap faults_of d.alone
+
+-- what a status tells of a disk of which no call failed, and of one of which a call did
+pub tells_well : (disk later : DiskTold) (status : ℕ) → status ≢ 9 → later.faults ≡ disk.faults → TellsDisk disk later status
+tells_well disk later status never same = record { told = λ e. absurd (never e); only = λ _ _. same }
+
+pub tells_fault : (disk later : DiskTold) (status : ℕ) → (status ≢ 8 → status ≡ 9) → Rose disk.faults later.faults → TellsDisk disk later status
+tells_fault disk later status is rose = record { told = λ _. rose; only = λ n m. absurd (n (is m)) }
