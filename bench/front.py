@@ -1,5 +1,5 @@
 #!/usr/bin/env python3
-"""Times the front of `ac run` on sources that use every form and are refused behind the rules.
+"""Times the front of `ac` by `ac check` on sources that use every form and are accepted.
 
 The program must have been built (the README's first command). Three ratios are printed: a source
 of the greatest size against one half as large, which is to be at most 2.3; that source against
@@ -50,7 +50,7 @@ def filled(head, part, tail, size):
 
 
 def chain(count):
-    """Functions of which each calls the next, reached from sixteen cores, and a read, which is not built."""
+    """Functions of which each calls the next, reached from sixteen cores."""
     cores = "".join(f"core {c}(f);" for c in "abcdeghijklmnopq") + FILE
     calls = "".join(f"void p{n}(){{p{n + 1}();}}\n" for n in range(count - 1))
     return cores + calls + f"void p{count - 1}(){{}}\nasync void f(){{int b[1];p0();{READ}}}\n"
@@ -65,27 +65,26 @@ def best(act, runs=5):
     return min(times)
 
 
-def refused(file, line):
-    done = subprocess.run([PROGRAM, "run", file], capture_output=True)
-    if done.returncode != 15 or done.stdout.decode() != line:
-        sys.exit(f"status {done.returncode} and {done.stdout!r} in place of {line!r}")
+def accepted(file):
+    done = subprocess.run([PROGRAM, "check", file], capture_output=True)
+    if done.returncode != 0 or done.stdout != b"accepted\n":
+        sys.exit(f"status {done.returncode} and {done.stdout!r}")
 
 
-def timed(folder, name, text, word):
-    """The time in which a text is read, judged and refused for the form that begins with this word."""
+def timed(folder, name, text):
+    """The time in which a text is read, judged and accepted."""
     file = pathlib.Path(folder) / f"{name}.ac"
     file.write_text(text)
-    line = f"not built at {text.index(word)}\n"
-    return best(lambda: refused(file, line))
+    return best(lambda: accepted(file))
 
 
 def main():
     with tempfile.TemporaryDirectory() as folder:
         half, whole = (
-            timed(folder, size, filled(HEAD, FUNCTION, TAIL, size), READ)
+            timed(folder, size, filled(HEAD, FUNCTION, TAIL, size))
             for size in (GREATEST // 2, GREATEST)
         )
-        few, many = (timed(folder, count, chain(count), READ) for count in (5_000, 10_000))
+        few, many = (timed(folder, count, chain(count)) for count in (5_000, 10_000))
     python = filled("", PYTHON, "", GREATEST)
     parsed = best(lambda: ast.parse(python))
     print(f"{GREATEST // 2} bytes: {half * 1000:.1f} ms")

@@ -31,6 +31,7 @@ LIMITS = {
     "capacity of a channel": (r"its capacity is not (\d+) to (\d+)",),
     "files": (r"(\d+) files stand before it",),
     "bytes of a file": (r"file K of the program has more than (\S+) bytes",),
+    "bytes of a read or a write": (r"the length is over (\d+) or over that of the array",),
     "live words of a core": (r"the words that live would be over ([\d,]+):",),
     "output of a core": (r"the output of the core over (\S+) bytes",),
 }

@@ -104,6 +104,12 @@ def status_of(answer):
     return next((status for status, word in kinds.items() if word in ends), 0)
 
 
+class Session(typing.NamedTuple):
+    """The commands of a block, which are run one after the other in one folder, each with its output and its status."""
+
+    commands: list
+
+
 class Front(bytes):
     """The first lines of an output of which no more is shown."""
 
@@ -114,17 +120,30 @@ def blocks(page):
 
 
 def calls(block):
-    """Each `$ ac ..` of a block with the output below it, and the status where a `$ echo $?` shows it."""
+    """Each command of a block with the output below it, and its status: that which a `$ echo $?` shows, or which goes with a report."""
     found = re.findall(r"^\$ (.*)\n((?:(?!\$ ).*\n)*)", block, re.M)
     for (command, output), (after, status) in zip(found, [*found[1:], ("", "")]):
-        if command.startswith("ac "):
+        if command != "echo $?":
             yield command, output.encode(), int(status) if after == "echo $?" else status_of(output.encode())
 
 
-def command_tests():
-    """Each command of the pages that is built, with the file that it names."""
+def is_session(block):
+    """Whether a block has other commands than those of `ac`, as one that makes a file or shows what is left in one."""
+    return any(not command.startswith("ac ") for command, *_ in calls(block))
+
+
+def session_tests():
+    """Each block of the pages with commands of several kinds."""
     for page in PAGES:
-        for command, output, status in [call for _, block in blocks(page) for call in calls(block)]:
+        for block in [block for _, block in blocks(page) if is_session(block)]:
+            commands = list(calls(block))
+            yield f"{page.relative_to(ROOT)}, {'; '.join(command for command, *_ in commands)}", Session(commands)
+
+
+def command_tests():
+    """Each command of the other blocks that is built, with the file that it names."""
+    for page in PAGES:
+        for command, output, status in [call for _, block in blocks(page) if not is_session(block) for call in calls(block)]:
             line, _, lines = command.partition(" | head -n ")
             words = shlex.split(line)[1:]
             if not words or words[0] not in BUILT:
@@ -141,12 +160,11 @@ def page_faults():
     """The programs of the guide that are not those of the files that the commands after them name, and files without a line."""
     program = None
     for language, block in [*blocks(GUIDE), ("", "")]:
-        if program and not block.startswith("$ ac "):
+        named = re.search(r"^\$ ac .*?(examples/\w+\.ac)", block, re.M)
+        if program and not named:
             yield f"docs/GUIDE.md: no command after the program\n{program}"
-        elif program:
-            name = re.search(r"examples/\w+\.ac", block).group()
-            if (ROOT / name).read_text() != program:
-                yield f"docs/GUIDE.md: the program before {name} is another"
+        elif program and (ROOT / named.group(1)).read_text() != program:
+            yield f"docs/GUIDE.md: the program before {named.group(1)} is another"
         program = block if language == "c" else None
     for path in sorted((ROOT / "examples").glob("*.ac")):
         if f"({path.name})" not in (ROOT / "examples" / "README.md").read_text():
@@ -190,15 +208,11 @@ def forms():
 
 
 def form_tests():
-    """A program that reads or writes a file is not built; the cores of the others enter a function that does nothing."""
+    """The cores of each enter a function that does nothing."""
     for name, source in forms():
-        unbuilt = re.search(r"\b(Read|Write)\(", source)
-        if unbuilt:
-            status, output = 15, f"not built at {unbuilt.start()}\n"
-        else:
-            cores = re.findall(r"\bcore (\w+)\(", source)
-            status, output = 0, "".join(f"{core}: finished after 0 steps, 2 instructions\n" for core in cores)
-        yield name, (["run", "x.ac"], "x.ac", source.encode(), status, output.encode())
+        cores = re.findall(r"\bcore (\w+)\(", source)
+        output = "".join(f"{core}: finished after 0 steps, 2 instructions\n" for core in cores)
+        yield name, (["run", "x.ac"], "x.ac", source.encode(), 0, output.encode())
 
 
 def shown(output):
@@ -227,8 +241,25 @@ def other_file(folder, files):
     return None
 
 
+def session_failure(program, commands):
+    """The first command that differs, or nothing. They run beside the examples, and `ac` is the program."""
+    with tempfile.TemporaryDirectory() as folder:
+        (pathlib.Path(folder) / "examples").symlink_to(ROOT / "examples")
+        for command, output, status in commands:
+            text = f'ac() {{ {shlex.quote(program)} "$@"; }}\n{command}'
+            try:
+                done = subprocess.run(["sh", "-c", text], cwd=folder, stdout=subprocess.PIPE, stderr=subprocess.STDOUT, timeout=SECONDS)
+            except subprocess.TimeoutExpired:
+                return f"  {command}\n  not done after {SECONDS} seconds"
+            if (done.returncode, done.stdout) != (status, output):
+                return f"  {command}\n  wanted {status}, {shown(output)}\n  came   {done.returncode}, {shown(done.stdout)}"
+    return None
+
+
 def failure(program, test):
     """What differs, or nothing."""
+    if isinstance(test, Session):
+        return session_failure(program, test.commands)
     words, name, source, status, output, before, after = Test(*test)
     with tempfile.TemporaryDirectory() as folder:
         put(pathlib.Path(folder), ({} if source is None else {name: source}) | before)
@@ -247,9 +278,9 @@ def write_cases(folder, tests):
     """The tests as files of a new folder: of each its source, its words and its output. The status is not among them.
 
     A source of another name than `x.ac` is left out, since `rt try` names the copies of sources itself, and so are a test with
-    files beside the source and an output that is not shown whole."""
+    files beside the source, a block of several kinds of commands and an output that is not shown whole."""
     folder.mkdir(parents=True)
-    tests = [(name, Test(*test)) for name, test in tests]
+    tests = [(name, Test(*test)) for name, test in tests if not isinstance(test, Session)]
     tests = [(name, test) for name, test in tests
              if test.name == "x.ac" and not test.before and not test.after and not isinstance(test.output, Front)]
     for number, (name, (words, file, source, _, output, *_)) in enumerate(tests):
@@ -267,7 +298,7 @@ def main():
     picks = sys.argv[3:] if sys.argv[1] == "--cases" else sys.argv[2:]
     files = sorted(HERE.glob("**/*.txt"))
     tests = [(str(path.relative_to(HERE)), read(path)) for path in files]
-    tests += [*command_tests(), *examples(), *form_tests()]
+    tests += [*command_tests(), *session_tests(), *examples(), *form_tests()]
     tests = [test for test in tests if not picks or any(pick in test[0] for pick in picks)]
     if sys.argv[1] == "--cases":
         write_cases(pathlib.Path(sys.argv[2]), tests)

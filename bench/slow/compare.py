@@ -51,7 +51,7 @@ def shrink(text, steps, path, folder, what):
                 d = differs("\n".join(part), steps, path, folder)
             except Exception:
                 d = None
-            if d and d[0] == what and not (d[2] and d[2][0] in (2, 3, 10, 15)):
+            if d and d[0] == what and not (d[2] and d[2][0] in (2, 3, 10)):
                 lines = part
             else:
                 k += 1 if size == 1 else size

@@ -1,4 +1,4 @@
-"""The 18 rules of the language, and the first node that is not built."""
+"""The 18 rules of the language."""
 import tokens_and_trees as lang
 
 
@@ -246,58 +246,6 @@ class Rules:
             self.expr(e.len, "value")
 
 
-class Unbuilt(Exception):
-    pass
-
-
-def unbuilt(program):
-    """The place of the first node that is not built, or None."""
-
-    def expr(e):
-        if e.kind in ("Read", "Write"):
-            raise Unbuilt(e.at)
-        if e.kind == "Index":
-            expr(e.index)
-        elif e.kind in ("Send", "Recv"):
-            expr(e.value if e.kind == "Send" else e.place)
-        elif e.kind in ("Group", "Unary"):
-            expr(e.inner)
-        elif e.kind == "Chain":
-            expr(e.first)
-            for _, x in e.rest:
-                expr(x)
-        elif e.kind == "Call":
-            for a in e.args:
-                expr(a)
-
-    def stmt(s):
-        if s.kind == "Assign":
-            expr(s.place)
-        if s.kind == "CallStmt":
-            expr(s.call)
-        for part in ("init", "test", "value", "next"):
-            x = getattr(s, part, None)
-            if x is not None:
-                (stmt if part in ("init", "next") else expr)(x)
-        for a in getattr(s, "args", []):
-            expr(a)
-        b = getattr(s, "body", None)
-        if b is not None:
-            for x in b if isinstance(b, list) else [b]:
-                stmt(x)
-        if getattr(s, "other", None):
-            stmt(s.other)
-
-    try:
-        for i in program.items:
-            if i.kind == "Function":
-                for s in i.body:
-                    stmt(s)
-    except Unbuilt as u:
-        return u.args[0]
-    return None
-
-
 def refusal(text, steps):
     """The program, or lang.Fault with its status and line."""
     program = lang.parse(text)
@@ -306,7 +254,4 @@ def refusal(text, steps):
         raise lang.Fault(3, f"rule C{b[0]} at {b[1]}")
     if sum(i.kind == "Core" for i in program.items) * steps > 4_000_000:
         raise lang.Fault(10, "limit: steps")
-    u = unbuilt(program)
-    if u is not None:
-        raise lang.Fault(15, f"not built at {u}")
     return program

@@ -1,4 +1,4 @@
--- The code of a program without channels sends and receives nothing: where it also has a meaning, it starts no operation.
+-- The code of a program without channels and files starts no operation.
 use Rattle.std.proofs.Common.{◌≡◌, ℕ, zero, suc, ◌<◌, List, [], ◌∷◌, length, Option, Some, true, refl, ap, arith}
 use Rattle.std.specs.Prelude.{All, slice_get}
 use Rattle.ac_tree.specs.declared.item.Program.{Program}
@@ -14,7 +14,6 @@ use Rattle.ac_commands.specs.declared.program.Resolved.{Resolved}
 use Rattle.stack_code.specs.declared.instr.Instr.{Instr}
 use Rattle.stack_code.specs.declared.instr.Instr.TheVariants as i
 use Rattle.code_meaning.specs.Alone.{is_alone, starts_none, IsAlone}
-use Rattle.code_meaning.specs.Meant.{has_meaning}
 use Rattle.ac_resolve.specs.Resolution.{resolved}
 use Rattle.ac_resolve.specs.InPlace.{Round, Want, Wants, call, send, recv, read, write}
 use Rattle.ac_resolve.specs.InPlace.{IsValue, number, variable, reference, one_int, element, part, unary, chain, acts, AreLinks, no_link, one_link, AreOperands, no_operand, one_operand, AreInts}
@@ -23,31 +22,32 @@ use Rattle.ac_resolve.specs.InPlace.{IsCommand, nothing, set, clear, run, print,
 use Rattle.ac_resolve.specs.InPlace.{AreCommands, no_command, one_command, IsFunction}
 use Rattle.ac_resolve.proofs.ProgramInPlace.{all_in_place}
 use Rattle.ac_translation.specs.Translation.{action_code, values_code, functions_code, no_exits, code_of}
-use Rattle.ac_compile.specs.Unbuilt.{unbuilt_nodes}
 use Rattle.ac_compile.proofs.Instructions as each
 use Rattle.ac_compile.proofs.Instructions.{is_own, own_alone, Each, Holds, Values, Links, Targets, Bodies, Operands}
-use Rattle.ac_compile.proofs.Meant.{code_meant}
 
 abbrev P : Instr → Type 0
-P x = has_meaning x ≡ true → starts_none x ≡ true
+P x = starts_none x ≡ true
 
 alone_none : (x : Instr) → is_alone x ≡ true → starts_none x ≡ true
 alone_none (i.Cancel level slot) e = refl
 alone_none x e = e
 
 own : (x : Instr) → is_own x ≡ true → P x
-own x e meant = alone_none x (own_alone x e)
+own x e = alone_none x (own_alone x e)
 
-module _ (program : Resolved) (none : program.channels ≡ []) where
+module _ (program : Resolved) (none : program.channels ≡ []) (no_files : program.files ≡ []) where
   no_channel : (channel : ℕ) → channel < length program.channels → ⊥
   no_channel channel lt = let e = ap (λ xs. length xs) none in omega (arith, lt, e)
 
+  no_file : (file : ℕ) → file < length program.files → ⊥
+  no_file file lt = let e = ap (λ xs. length xs) no_files in omega (arith, lt, e)
+
   acts_alone : (action : Action) (wants : List Want) (count : ℕ) → Wants program action wants → P (action_code action count)
-  acts_alone _ _ count (call n f e) meant = refl
-  acts_alone _ _ count (send channel lt) meant = absurd (no_channel channel lt)
-  acts_alone _ _ count (recv channel lt) meant = absurd (no_channel channel lt)
-  acts_alone _ _ count (read file lt) meant = absurd (cc (meant))
-  acts_alone _ _ count (write file lt) meant = absurd (cc (meant))
+  acts_alone _ _ count (call n f e) = refl
+  acts_alone _ _ count (send channel lt) = absurd (no_channel channel lt)
+  acts_alone _ _ count (recv channel lt) = absurd (no_channel channel lt)
+  acts_alone _ _ count (read file lt) = absurd (no_file file lt)
+  acts_alone _ _ count (write file lt) = absurd (no_file file lt)
 
   -- ---- values
 
@@ -104,7 +104,7 @@ module _ (program : Resolved) (none : program.channels ≡ []) where
     command_alone _ _ (give r value x y) = each.return_holds P own value (test_alone r value y)
     command_alone _ _ (do_finish r slot body x y z) = each.do_holds P own slot body (commands_alone _ body z)
     command_alone _ _ (start r uses body x y z) = each.async_holds P own (length uses) body (commands_alone _ body z)
-    command_alone _ _ (cancel r level slot x y) = each.cancel_holds P own level slot (λ meant. refl)
+    command_alone _ _ (cancel r level slot x y) = each.cancel_holds P own level slot refl
     command_alone _ _ (yield r) = each.yield_holds P own
 
     commands_alone : (r : Round) (xs : List Command) → AreCommands program r xs → Bodies P own xs
@@ -119,12 +119,12 @@ module _ (program : Resolved) (none : program.channels ≡ []) where
       let first = h 0 f refl in
       each.both_hold P own _ _ (each.function_holds P own f.body (commands_alone _ f.body first.body)) (functions_alone fs (λ number g e. h (suc number) g e))
 
-all_alone : (xs : List Instr) → Each P own xs → All (λ x. has_meaning x ≡ true) xs → All (λ x. starts_none x ≡ true) xs
-all_alone [] h meant k d lt = absurd (omega (arith, lt))
-all_alone (x ∷ xs) h meant zero d lt = h.0 (meant 0 d (omega arith))
-all_alone (x ∷ xs) h meant (suc k) d lt = all_alone xs h.1 (λ j e less. meant (suc j) e (omega (arith, less))) k d (omega (arith, lt))
+all_alone : (xs : List Instr) → Each P own xs → All (λ x. starts_none x ≡ true) xs
+all_alone [] h k d lt = absurd (omega (arith, lt))
+all_alone (x ∷ xs) h zero d lt = h.0
+all_alone (x ∷ xs) h (suc k) d lt = all_alone xs h.1 k d (omega (arith, lt))
 
-pub code_alone : (program : Program) → BreaksNone program.items → HasShape program → (resolved program).channels ≡ [] → unbuilt_nodes program.items ≡ [] → IsAlone (code_of (resolved program))
-code_alone program clean shaped none built =
+pub code_alone : (program : Program) → BreaksNone program.items → HasShape program → (resolved program).channels ≡ [] → (resolved program).files ≡ [] → IsAlone (code_of (resolved program))
+code_alone program clean shaped none no_files =
     let place = all_in_place program clean shaped in
-    all_alone _ ((functions_alone (resolved program) none (resolved program).functions place.functions).each no_exits 0) (code_meant program built)
+    all_alone _ ((functions_alone (resolved program) none no_files (resolved program).functions place.functions).each no_exits 0)

@@ -1,5 +1,5 @@
 -- What is said of the code of a program, from what is known of the program.
-use Rattle.std.proofs.Common.{◌≡◌, ◌+◌, ◌<◌, ◌^◌, [], length, Result, Ok, Err, IfOk, sym, ap, ◌∙◌, subst}
+use Rattle.std.proofs.Common.{◌≡◌, ◌+◌, ◌<◌, ◌^◌, length, Result, Ok, Err, IfOk, sym, ap, ◌∙◌, subst}
 use Rattle.std.proofs.lemmas.List.{length-map}
 use Rattle.ac_tree.specs.declared.item.Program.{Program}
 use Rattle.ac_tree.specs.Weight.{IsSmall}
@@ -11,15 +11,12 @@ use Rattle.stack_code.specs.Valid.{IsValid}
 use Rattle.ac_translation.specs.Translation.{functions_code, code_of}
 use Rattle.ac_translation.specs.Same.{IsSame}
 use Rattle.ac_translation.proofs.Agrees.{code_same}
-use Rattle.ac_compile.specs.Unbuilt.{unbuilt_nodes}
 use Rattle.ac_compile.specs.Compiled.{IsCodeOf}
-use Rattle.code_meaning.specs.Meant.{IsMeant}
 use Rattle.ac_tree.specs.Shape.{HasShape}
 use Rattle.ac_types.specs.Reached.{BreaksNone}
 use Rattle.code_safety.specs.KeptEnds.{KeepsEnds}
 use Rattle.ac_compile.proofs.EndsKept.{keeps_ends}
 use Rattle.ac_compile.proofs.Weights.{code_small, links_small}
-use Rattle.ac_compile.proofs.Meant.{code_meant}
 use Rattle.ac_compile.specs.OneEnd.{HasOneEnd}
 use Rattle.ac_compile.specs.inner.Made.{HasRanks}
 use Rattle.ac_compile.proofs.Formed.{well_formed}
@@ -43,13 +40,9 @@ module _ (p : Program) (r : Resolved) (is : r ≡ resolved p) where
   pub is_at_ends : BreaksNone p.items → HasShape p → (code : Parts) → code ≡ code_of r → KeepsEnds code
   is_at_ends none shaped code e = subst KeepsEnds (sym (is_code code e)) (keeps_ends p none shaped)
 
-  pub is_meant : unbuilt_nodes p.items ≡ [] → (code : Parts) → code ≡ code_of r → IsMeant code
-  is_meant built code e = subst IsMeant (sym (is_code code e)) (code_meant p built)
-
-  pub is_one_end : unbuilt_nodes p.items ≡ [] → IsInPlace r → IsSmall p → (code : Parts) → code ≡ code_of r → HasRanks code → HasOneEnd code (resolved p)
-  is_one_end built place small code e ranks =
-      has_one_end code (resolved p) (is_same place code e) (subst IsValid (sym e) (code_valid r place (is_short small) (is_few small)))
-      (is_meant built code e) ranks
+  pub is_one_end : IsInPlace r → IsSmall p → (code : Parts) → code ≡ code_of r → HasRanks code → HasOneEnd code (resolved p)
+  is_one_end place small code e ranks =
+      has_one_end code (resolved p) (is_same place code e) (subst IsValid (sym e) (code_valid r place (is_short small) (is_few small))) ranks
       (ap (λ (x : Parts). length x.entries) e ∙ length-map r.cores _ ∙ ap (λ (x : Resolved). length x.cores) is)
 
 pub if_both : {A E : Type 0} {P Q S : A → Type 0} (r : Result A E) → ((x : A) → P x → Q x → S x) → IfOk r P → IfOk r Q → IfOk r S

@@ -1,11 +1,8 @@
--- The code of small programs, and what is not built.
-use Rattle.std.proofs.Common.{◌≡◌, refl, sym, ap, ◌∙◌, ℕ, zero, suc, ◌+◌, ◌<◌, ◌≤◌, ◌^◌, pos, List, [], ◌∷◌, codes, true, false, Option, Some, None, subst, arith, ◌++◌}
+-- The code of small programs.
+use Rattle.std.proofs.Common.{◌≡◌, refl, sym, ap, ◌∙◌, ℕ, zero, suc, ◌+◌, ◌<◌, ◌≤◌, ◌^◌, pos, List, [], ◌∷◌, codes, true, false, Option, Some, None, subst, arith}
 use Rattle.std.specs.Prelude.{slice_get}
 use Rattle.ac_tree.specs.declared.expr.BinaryOp.TheVariants as b
-use Rattle.ac_tree.specs.declared.stmt.Stmt.TheFolds.{fold-roll-Stmt}
 use Rattle.ac_tree.specs.declared.stmt.Stmt.TheVariants as s
-use Rattle.ac_tree.specs.declared.stmt.Stmt.TheOpen.{Stmt-F}
-use Rattle.ac_tree.specs.declared.item.Item.TheVariants as i
 use Rattle.ac_commands.specs.declared.value.Place.TheVariants as p
 use Rattle.ac_commands.specs.declared.value.Array.TheVariants as a
 use Rattle.ac_commands.specs.declared.value.Action.TheVariants as act
@@ -28,18 +25,10 @@ use Rattle.ac_resolve.specs.InPlace.{no_operand, one_operand, some_test, to_vari
 use Rattle.ac_resolve.proofs.Examples.{sum, sum_value, with_value, one_core, one_core_resolved, two_ac}
 use Rattle.ac_translation.specs.Translation.{no_exits, value_code, command_code, functions_code, code_of}
 use Rattle.ac_compile.specs.Compiled.{IsCodeOf}
-use Rattle.ac_compile.specs.Unbuilt.{as_list, stmt_step, stmt_nodes, unbuilt_nodes, first_unbuilt}
-use Rattle.ac_compile.specs.Unbuilt.{as_first, node_by, all_of, some_of, expr_step, link_step, expr_nodes, exprs_nodes, some_expr, body_nodes, item_nodes, items_nodes}
 use Rattle.ac_compile.proofs.Forms.{number_form, variable_form, reference_form, element_form, act_form, chain_form, link_form, nothing_form, set_form, print_form}
 use Rattle.ac_compile.proofs.Forms.{if_alone_form, if_else_form, while_form, for_form, break_form, continue_form, return_form, do_form, async_form, yield_form}
 use Rattle.ac_compile.proofs.Validity.{code_valid}
-use Rattle.ac_tree.specs.declared.expr.Expr.{Expr, fold-roll-Expr}
-use Rattle.ac_tree.specs.declared.expr.Expr.TheVariants as expr
-use Rattle.ac_tree.specs.declared.expr.Expr.TheOpen.{Expr-F}
 use Rattle.ac_compile.specs.OneEnd.{HasOneEnd}
-use Rattle.ac_tree.specs.declared.item.Item.{Item}
-use Rattle.ac_tree.specs.declared.item.Function as tree
-use Rattle.ac_compile.proofs.Firsts.{first_is}
 
 -- ---- two.ac
 
@@ -267,82 +256,6 @@ a_loop_without_a_test = rw (for_form None [] (c.Break ∷ []), break_form) refl
 -- return;
 pub a_return_without_a_value : (command_code (c.Return None)).at no_exits 0 ≡ Step ∷ Push (pos 0) ∷ Ret ∷ []
 a_return_without_a_value = rw (return_form None) refl
-
--- ---- what is not built
-
--- cores, a channel and a file are built
-abbrev pub two_cores : List Item
-two_cores = i.Channel 0 (codes "c") (codes "a") (codes "b") (pos 1) ∷ i.Core 22 (codes "a") (codes "f") ∷ i.Core 33 (codes "b") (codes "f") ∷ []
-
-pub two_cores_are_built : unbuilt_nodes two_cores ≡ []
-two_cores_are_built = refl
-
-pub a_file_is_built : unbuilt_nodes (i.File 0 (codes "d") (codes "d.dat") ∷ two_cores) ≡ []
-a_file_is_built = refl
-
--- cancel l; is built
-pub a_cancel : stmt_nodes as_list (s.Cancel 28 (codes "l")) ≡ []
-a_cancel = ap (stmt_nodes as_list) (sym (s.rolls-Cancel 28 (codes "l"))) ∙ fold-roll-Stmt (List ℕ) (stmt_step as_list) (Stmt-F.Cancel 28 (codes "l"))
-
--- and so is yield;
-pub a_yield : stmt_nodes as_list (s.Yield 28) ≡ []
-a_yield = ap (stmt_nodes as_list) (sym (s.rolls-Yield 28)) ∙ fold-roll-Stmt (List ℕ) (stmt_step as_list) (Stmt-F.Yield 28)
-
--- ---- the parts of these, each as a list and as the first
-
-pub a_node_before_its_parts : (node_by as_list false 5 (7 ∷ []) ∷ node_by as_list true 5 (7 ∷ []) ∷ [] ≡ (5 ∷ 7 ∷ []) ∷ (7 ∷ []) ∷ [])
-    × (node_by as_first false 5 (Some 7) ∷ node_by as_first true 5 (Some 7) ∷ node_by as_first true 5 None ∷ [] ≡ Some 5 ∷ Some 7 ∷ None ∷ [])
-a_node_before_its_parts = (refl, refl)
-
-pub parts_in_their_order : (all_of as_list ((1 ∷ []) ∷ [] ∷ (2 ∷ []) ∷ []) ≡ 1 ∷ 2 ∷ []) × (all_of as_first (None ∷ Some 2 ∷ Some 3 ∷ []) ≡ Some 2)
-    × (some_of as_list None ∷ some_of as_list (Some (3 ∷ [])) ∷ [] ≡ [] ∷ (3 ∷ []) ∷ [])
-parts_in_their_order = (refl, refl, refl)
-
--- a read is not built, and a send, a chain and a number are
-pub forms_of_expressions : expr_step as_list (Expr-F.Read 5 (codes "d") (8 ∷ []) (9 ∷ []) (codes "x")) ∷ expr_step as_list (Expr-F.Send 5 (codes "c") (8 ∷ []))
-    ∷ expr_step as_list (Expr-F.Chain 5 0 (1 ∷ []) ((2 ∷ []) ∷ [])) ∷ expr_step as_list (Expr-F.Number 5 (pos 1)) ∷ [] ≡ (5 ∷ 8 ∷ 9 ∷ []) ∷ (8 ∷ []) ∷ (1 ∷ 2 ∷ []) ∷ [] ∷ []
-forms_of_expressions = refl
-
-number_nodes : expr_nodes as_list (expr.Number 12 (pos 1)) ≡ []
-number_nodes = ap (expr_nodes as_list) (sym (expr.rolls-Number 12 (pos 1))) ∙ fold-roll-Expr (List ℕ) (List ℕ) (expr_step as_list) (link_step as_list) (Expr-F.Number 12 (pos 1))
-
--- Read(d, 1, 1, x)
-abbrev pub a_read : Expr
-a_read = expr.Read 5 (codes "d") (expr.Number 12 (pos 1)) (expr.Number 12 (pos 1)) (codes "x")
-
-pub the_nodes_of_a_read : expr_nodes as_list a_read ≡ 5 ∷ []
-the_nodes_of_a_read =
-    ap (expr_nodes as_list) (sym (expr.rolls-Read 5 (codes "d") (expr.Number 12 (pos 1)) (expr.Number 12 (pos 1)) (codes "x")))
-    ∙ fold-roll-Expr (List ℕ) (List ℕ) (expr_step as_list) (link_step as_list) (Expr-F.Read 5 (codes "d") (expr.Number 12 (pos 1)) (expr.Number 12 (pos 1)) (codes "x"))
-    ∙ ap (λ (xs : List ℕ). (5 ∷ []) ++ (xs ++ xs)) number_nodes
-
--- Send(c, 1)
-pub the_nodes_of_a_send : expr_nodes as_list (expr.Send 5 (codes "c") (expr.Number 12 (pos 1))) ≡ []
-the_nodes_of_a_send =
-    ap (expr_nodes as_list) (sym (expr.rolls-Send 5 (codes "c") (expr.Number 12 (pos 1))))
-    ∙ fold-roll-Expr (List ℕ) (List ℕ) (expr_step as_list) (link_step as_list) (Expr-F.Send 5 (codes "c") (expr.Number 12 (pos 1)))
-    ∙ number_nodes
-
-pub nodes_of_expressions : (exprs_nodes as_list (expr.Number 12 (pos 1) ∷ a_read ∷ []) ≡ 5 ∷ []) × (some_expr as_list (Some a_read) ≡ 5 ∷ []) × (some_expr as_list None ≡ [])
-nodes_of_expressions = (rw (number_nodes, the_nodes_of_a_read) refl, the_nodes_of_a_read, refl)
-
--- a read that is called for itself
-reading : stmt_nodes as_list (s.Call 5 a_read) ≡ 5 ∷ []
-reading = ap (stmt_nodes as_list) (sym (s.rolls-Call 5 a_read)) ∙ fold-roll-Stmt (List ℕ) (stmt_step as_list) (Stmt-F.Call 5 a_read) ∙ the_nodes_of_a_read
-
-pub the_nodes_of_a_body : body_nodes as_list (s.Yield 28 ∷ s.Call 5 a_read ∷ s.Cancel 28 (codes "l") ∷ []) ≡ 5 ∷ []
-the_nodes_of_a_body = rw (a_yield, a_cancel, reading) refl
-
--- async void f() { Read(d, 1, 1, x); }
-abbrev pub reader : tree.Function
-reader = record { at = 0; name = codes "f"; is_async = true; gives_int = false; params = []; body = s.Call 5 a_read ∷ [] }
-
-pub nodes_of_items : (item_nodes as_list (i.Core 3 (codes "a") (codes "f")) ∷ item_nodes as_list (i.File 3 (codes "d") (codes "d.dat")) ∷ [] ≡ [] ∷ [] ∷ [])
-    × (items_nodes as_list (i.Function reader ∷ i.File 3 (codes "d") (codes "d.dat") ∷ i.Function reader ∷ []) ≡ 5 ∷ 5 ∷ [])
-nodes_of_items = (refl, rw reading refl)
-
-pub the_first_is_told : first_unbuilt (i.File 3 (codes "d") (codes "d.dat") ∷ i.Function reader ∷ []) ≡ Some 5
-the_first_is_told = first_is (i.File 3 (codes "d") (codes "d.dat") ∷ i.Function reader ∷ []) _ _ refl refl ∙ rw reading refl
 
 -- ---- one end
 

@@ -12,8 +12,6 @@ pub mod Ranges
 pub mod Circles
 pub mod Reached
 pub mod Validity
-pub mod Gathered
-pub mod Firsts
 pub mod Filling
 pub mod Emissions
 pub mod Counts
@@ -25,7 +23,6 @@ pub mod Making
 pub mod Never
 pub mod Weights
 pub mod Instructions
-pub mod Meant
 pub mod Alone
 pub mod OwnActions
 pub mod EndsKept

@@ -6,7 +6,6 @@ use Rattle.ac_commands.specs.declared.program.Resolved.{Resolved}
 use Rattle.ac_semantics.specs.Replay.{Replays}
 use Rattle.stack_code.specs.Parts.{Parts}
 use Rattle.stack_code.specs.Valid.{IsValid}
-use Rattle.code_meaning.specs.Meant.{IsMeant}
 use Rattle.code_meaning.specs.Machine.{FlatEnd, Runs}
 use Rattle.code_safety.specs.Ends.{EndsOnlySo}
 use Rattle.code_safety.proofs.OneEnd.{ends_only_so}
@@ -25,7 +24,7 @@ module _ (code : Parts) (program : Resolved) (same : IsSame code program) (core 
     only = λ other h. let run = (same core bound journal other).0 h in ap (λ (x : FlatEnd). x.core) (one.only (record { core = other; count = run.0 }) run.1);
   }
 
-pub has_one_end : (code : Parts) (program : Resolved) → IsSame code program → IsValid code → IsMeant code → HasRanks code → length code.entries ≡ length program.cores → HasOneEnd code program
-has_one_end code program same valid meant ranks as_many core bound journal lt =
-    let one = ends_only_so code valid core (subst (λ n. core < n) (sym as_many) lt) meant ranks.ranks ranks.ranked bound journal in
+pub has_one_end : (code : Parts) (program : Resolved) → IsSame code program → IsValid code → HasRanks code → length code.entries ≡ length program.cores → HasOneEnd code program
+has_one_end code program same valid ranks as_many core bound journal lt =
+    let one = ends_only_so code valid core (subst (λ n. core < n) (sym as_many) lt) ranks.ranks ranks.ranked bound journal in
     (in_source code program same core bound journal one.0 one.1, in_code code program same core bound journal one.0 one.1)

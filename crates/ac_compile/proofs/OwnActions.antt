@@ -1,6 +1,6 @@
 -- What the code of a value or a statement that breaks no rule calls is what its nodes call, and it sends and receives only where no core
 -- that reaches its function is at another end.
-use Rattle.std.proofs.Common.{◌≡◌, ℕ, ◌+◌, List, [], ◌∷◌, ◌++◌, length, map, Option, Some, None, Bool, true, false, inl, inr, refl, sym, ap, ◌∙◌, subst}
+use Rattle.std.proofs.Common.{◌≡◌, ℕ, ◌+◌, List, [], ◌∷◌, ◌++◌, length, map, Option, Some, None, Bool, true, false, inl, inr, refl, sym, ap, subst}
 use Rattle.std.specs.Prelude.{slice_get, pos}
 use Rattle.ac_tree.specs.declared.expr.Expr.{Expr}
 use Rattle.ac_tree.specs.declared.expr.Link.{Link}
@@ -12,7 +12,7 @@ use Rattle.ac_names.specs.declared.meaning.Meaning.{Meaning}
 use Rattle.ac_names.specs.declared.meaning.Meaning.TheVariants as m
 use Rattle.ac_names.specs.declared.names.Names.{Names}
 use Rattle.ac_names.specs.Scopes.{Declaration, visible}
-use Rattle.ac_names.specs.Statements.{part_names, part_words, part_gives, some_words, some_listed, listed, opened, moved, in_do, in_async, declared_at, array_len}
+use Rattle.ac_names.specs.Statements.{part_words, part_gives, some_words, some_listed, listed, opened, moved, in_do, in_async, array_len}
 use Rattle.ac_reach.specs.declared.reached.Reached.{Reached}
 use Rattle.ac_reach.specs.declared.reached.Reached.TheVariants as r
 use Rattle.ac_reach.specs.Reached.{IsAmong}
@@ -27,7 +27,7 @@ use Rattle.ac_types.specs.Tables.{callee, callee_of, takes_array, ends_named}
 use Rattle.ac_types.specs.Nodes.{Node}
 use Rattle.ac_types.specs.Judged.{call_tests, sends_away, takes_away, channel_tests}
 use Rattle.ac_types.specs.Expressions.{number_of, one_node, join_nodes, expr_nodes, links_step, args_step, values_all, value_all}
-use Rattle.ac_types.specs.Statements.{stmt_nodes, body_gives, some_gives, for_gives}
+use Rattle.ac_types.specs.Statements.{stmt_nodes, body_nodes, some_gives, for_gives}
 use Rattle.ac_types.proofs.Cleans.{AllClean, clean_sooner, clean_later}
 use Rattle.ac_types.proofs.Forms as nodes
 use Rattle.ac_types.proofs.Forms.{ExprNodes, link_nodes, StmtNodes, of_stmt, some_nodes}
@@ -42,7 +42,7 @@ use Rattle.ac_resolve.specs.Computed.{Reading, InScopes, read, link_in, links_st
 use Rattle.ac_resolve.specs.Computed.{value_in, argument_in, target_in, values_in, some_in, initial_in}
 use Rattle.ac_resolve.specs.Commands.{Texts, Told, told_step, told, some_told, some_shape, commands, some_texts, some_commands, for_names}
 use Rattle.ac_resolve.proofs.Forms as reads
-use Rattle.ac_resolve.proofs.Tellings.{is_told}
+use Rattle.ac_resolve.proofs.Tellings.{is_told, listed_same, some_same, some_alike}
 use Rattle.ac_resolve.proofs.ValuesInPlace.{AreClean}
 use Rattle.stack_code.specs.declared.instr.Instr.{Instr}
 use Rattle.stack_code.specs.declared.instr.Instr.TheVariants as instr
@@ -286,24 +286,6 @@ module _ (t : Tables) (calls : List ℕ) where
     initial_at _ shape.no_value c = each.number_holds P own (pos 0)
     initial_at _ (shape.some_value x g) c = value_at po.Whole x g c
 
-  -- ---- names after a statement
-
-  abbrev names_at : List (List Declaration) → List (List Declaration) → ℕ → Names
-  names_at scopes labels slot = record { scopes = scopes; labels = labels; slot = slot }
-
-  listed_same : (x : Stmt) (depth : ℕ) (n : Names) → listed (told x).shape depth n ≡ listed (stmt_nodes x) depth n
-  listed_same x depth n =
-      ap (λ o. names_at (declared_at o depth n.slot n.scopes) n.labels (n.slot + part_words (told x).shape)) (is_told x).names
-      ∙ ap (λ w. names_at (declared_at (part_names (stmt_nodes x)) depth n.slot n.scopes) n.labels (n.slot + w)) (is_told x).words
-
-  some_same : (x : Option Stmt) (depth : ℕ) (n : Names) → some_listed (some_shape (some_told x)) depth n ≡ some_listed (some_nodes x) depth n
-  some_same None depth n = refl
-  some_same (Some x) depth n = listed_same x depth n
-
-  some_alike : (x : Option Stmt) → some_words (some_shape (some_told x)) ≡ some_words (some_nodes x)
-  some_alike None = refl
-  some_alike (Some x) = (is_told x).words
-
   -- ---- statements
 
   abbrev pub B : Around → List Command → Type 0
@@ -400,7 +382,7 @@ module _ (t : Tables) (calls : List ℕ) where
   -- ---- all statements
 
   abbrev pub entries_given : List Stmt → Names → Given
-  entries_given xs n t a = body_gives (List Node) one_node [] join_nodes (map stmt_nodes xs) t n a
+  entries_given xs n t a = body_nodes xs t n a
 
   first_entry : (x : Stmt) (xs : List Stmt) (n : Names) (a : Around) (texts : Texts)
       → Fair (λ t a. given_by x n t a ++ entries_given xs (listed (stmt_nodes x) a.depth n) t a) a → DoesIt x

@@ -1,4 +1,3 @@
-pub mod Unbuilt
 pub mod Compiled
 pub mod OneEnd
 pub mod inner

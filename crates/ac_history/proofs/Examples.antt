@@ -16,7 +16,7 @@ use Rattle.ac_links.specs.Views.{answers_none}
 use Rattle.ac_history.specs.Agreement.{InRange}
 use Rattle.ac_history.specs.Merged.{all_from, merged}
 use Rattle.ac_history.specs.History.{Past, terms_of, may_make, fits, after, IsLegal, start}
-use Rattle.ac_history.specs.Files.{overwritten, files_done, serves, Deed, IsServed, contents, deeds, padded, file_of}
+use Rattle.ac_history.specs.Files.{files_done, serves, Deed, IsServed, contents, deeds, padded, file_of}
 use Rattle.ac_history.specs.Served.{begun, IsHistory, after_all}
 use Rattle.ac_history.specs.Network.{Pair, PairAgrees, NetworkAgrees, DiskAgrees, entries_at, seen_by, request_by}
 use Rattle.ac_links.proofs.Growth.{both_true}
@@ -106,16 +106,6 @@ pub who_passes : may_make 1 2 (by 1 3 1 (Pass 0 0)) ∷ may_make 1 2 (by 2 3 0 (
 who_passes = refl
 
 -- ---- files
-
-pub a_gap_is_filled_with_noughts : overwritten (1 ∷ []) 3 (7 ∷ 8 ∷ []) ≡ 1 ∷ 0 ∷ 0 ∷ 7 ∷ 8 ∷ []
-a_gap_is_filled_with_noughts = refl
-
-pub what_stands_after_it_stays : overwritten (1 ∷ 2 ∷ 3 ∷ 4 ∷ []) 1 (7 ∷ 8 ∷ []) ≡ 1 ∷ 7 ∷ 8 ∷ 4 ∷ []
-what_stands_after_it_stays = refl
-
--- a write of no bytes fills no gap
-pub no_bytes_change_nothing : overwritten (1 ∷ []) 3 [] ≡ 1 ∷ []
-no_bytes_change_nothing = refl
 
 pub a_failed_write_leaves_its_prefix : files_done ((1 ∷ 2 ∷ 3 ∷ []) ∷ []) (Write 0 0 (7 ∷ 8 ∷ [])) (Fault 1) ≡ (7 ∷ 2 ∷ 3 ∷ []) ∷ []
 a_failed_write_leaves_its_prefix = refl

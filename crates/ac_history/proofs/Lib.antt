@@ -19,4 +19,3 @@ pub mod Runtime
 pub mod Steps
 pub mod Unique
 pub mod Whole
-pub mod Writing

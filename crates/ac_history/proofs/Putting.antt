@@ -3,7 +3,8 @@ use Rattle.std.proofs.Common.{◌≡◌, ℕ, List, [], Bool, true, false, Ok, E
 use Rattle.std.specs.Prelude.{Result, IfOk, OnErr, slice_set, if◌then◌else◌}
 use Rattle.std.proofs.lemmas.List.{set-set, set-get_or}
 use Rattle.ac_history.specs.History.{Past}
-use Rattle.ac_history.specs.Files.{file_of, overwritten, written}
+use Rattle.file_bytes.specs.Overwritten.{overwritten}
+use Rattle.ac_history.specs.Files.{file_of, written}
 use Rattle.ac_history.specs.Served.{HistoryState}
 
 changed : (files taken put : List (List ℕ)) (f : ℕ) (bytes back : List ℕ) → taken ≡ slice_set files f [] → put ≡ slice_set taken f back → back ≡ bytes

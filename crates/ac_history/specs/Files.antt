@@ -1,5 +1,5 @@
 -- What the requests that were done make of the files, and whether reads gave what stood there.
-use Rattle.std.specs.Prelude.{◌≡◌, ℕ, ◌-◌, List, [], ◌∷◌, length, replicate, Option, Bool, true, slice_set, ◌++◌, Some, None, ◌+◌, take}
+use Rattle.std.specs.Prelude.{◌≡◌, ℕ, ◌-◌, List, [], ◌∷◌, length, replicate, Option, Bool, true, slice_set, ◌++◌, Some, None, take}
 use Rattle.std.specs.Prelude.{drop, slice_index_or, bytes_eq}
 use Rattle.ac_base.specs.declared.entry.Payload.{Payload}
 use Rattle.ac_base.specs.declared.entry.Answer.{Answer}
@@ -8,6 +8,7 @@ use Rattle.ac_base.specs.declared.entry.Stamped.{Stamped}
 use Rattle.ac_base.specs.declared.entry.Payload.TheVariants.{Int, Read, Write}
 use Rattle.ac_base.specs.declared.entry.Answer.TheVariants.{Bytes, Count, Fault}
 use Rattle.ac_base.specs.declared.entry.Event.TheVariants.{Offer, Withdraw, Know, Room, Got, Pass, Did, Reply}
+use Rattle.file_bytes.specs.Overwritten.{overwritten}
 use Rattle.ac_links.specs.Link.{asked, link_of}
 use Rattle.ac_history.specs.History.{Past, link_at, after}
 
@@ -17,12 +18,6 @@ file_of files f = slice_index_or files f []
 -- all sixteen files; those past the end are empty at first
 abbrev pub padded : List (List ℕ) → List (List ℕ)
 padded files = files ++ replicate (16 - length files) []
-
--- the file with these bytes at this place, a gap before them filled with zeros; no bytes change nothing
-abbrev pub overwritten : List ℕ → ℕ → List ℕ → List ℕ
-overwritten file from [] = file
-overwritten file from (b ∷ bs) =
-    take from file ++ replicate (from - length file) 0 ++ (b ∷ bs) ++ drop (from + length (b ∷ bs)) file
 
 -- the bytes of a write that went in
 abbrev pub bytes_in : Answer → List ℕ → List ℕ

@@ -1,44 +1,12 @@
 //! The files of a run, and what a request makes of them.
 
-ghost use Rattle.std.specs.Prelude.{◌≡◌, ◌+◌, ◌-◌, ◌<◌, ◌≤◌, ◌++◌, [], length, take, drop, replicate, slice_get, slice_set};
-ghost use Rattle.std.specs.Prelude.{IfOk, Some, vec_capacity};
-ghost use Rattle.ac_history.specs.Files.{file_of, padded, overwritten, bytes_in, reads, serves};
+ghost use Rattle.std.specs.Prelude.{◌≡◌, ◌<◌, [], take, drop, slice_get, slice_set, IfOk, Some};
+ghost use Rattle.ac_history.specs.Files.{file_of, padded, bytes_in, reads, serves};
 
 use ac_base::{Answer, Bytes, List, NoMemory, Payload};
 use std::alloc::Global;
 use std::marker::Model;
 use std::mem;
-
-// The bytes take the place of those from there on.
-fn replace_at(file: &mut [u8], from: usize, bytes: &[u8])
-    requires { from + length bytes.now ≤ length file.old }
-    ensures { file.new ≡ take from file.old ++ bytes.now ++ drop (from + length bytes.now) file.old }
-{
-    file[from..from + bytes.len()].copy_from_slice(bytes);
-}
-
-// Zeros go to the end of the file until it has this length.
-fn lengthen(file: &mut Vec<u8>, len: usize)
-    requires { len ≤ vec_capacity file.old }
-    ensures { file.new.items ≡ file.old.items ++ replicate (len - length file.old.items) 0 }
-{
-    if file.len() < len {
-        file.resize(len, 0).unwrap();
-    }
-}
-
-/// Writes the bytes at this place of the file, where it has room for them; zeros fill a gap before
-/// them.
-pub fn overwrite(file: &mut Vec<u8>, from: usize, bytes: &[u8])
-    requires { from + length bytes.now ≤ vec_capacity file.old }
-    ensures { file.new.items ≡ overwritten file.old.items from bytes.now }
-{
-    if bytes.is_empty() {
-        return;
-    }
-    lengthen(file, from + bytes.len());
-    replace_at(file.as_mut_slice(), from, bytes);
-}
 
 // Equal bytes of each file.
 fn copies(alloc: Global, files: &[Bytes]) -> Result<Vec<Bytes>, NoMemory>

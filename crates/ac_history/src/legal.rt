@@ -2,14 +2,16 @@
 
 ghost use Rattle.std.specs.Prelude.{◌≡◌, ◌↔◌, IsTrue, IfOk, OnErr, ◌<◌, ◌≤◌, length, slice_get, Some, if◌then◌else◌};
 ghost use Rattle.ac_history.specs.History.{fits, after};
-ghost use Rattle.ac_history.specs.Files.{overwritten, written};
+ghost use Rattle.file_bytes.specs.Overwritten.{overwritten};
+ghost use Rattle.ac_history.specs.Files.{written};
 ghost use Rattle.ac_history.specs.Quiet.{owner_in, peer_in, IsQuiet};
 ghost use Rattle.ac_history.specs.Served.{begun, can_follow, state_after};
 
-use crate::files::{Files, bytes_in, overwrite};
+use crate::files::{Files, bytes_in};
 use crate::links::Links;
 use crate::quiet::{LinkParties, is_quiet};
 use ac_base::{Bytes, CoreEnd, Event, List, NoMemory, Payload, Stamped};
+use file_bytes::overwrite;
 use std::alloc::Global;
 use std::marker::Model;
 

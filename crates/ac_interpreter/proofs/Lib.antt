@@ -1,16 +1,6 @@
-mod Levels
-mod Clearing
-mod Releasing
-mod Counted
-mod Calling
-mod Copying
-mod Outcomes
-mod Returning
-mod Finding
-mod Taken
 pub mod Ends
 mod Growing
-mod Bytes
+mod Searching
 mod Trying
 mod Journals
 mod Turning

@@ -13,7 +13,8 @@ use Rattle.cancel_scope.specs.declared.operation.Operation.{Operation}
 use Rattle.cancel_scope.specs.declared.operation.Progress.{Progress}
 use Rattle.cancel_scope.specs.declared.operation.Progress.TheVariants as progress
 use Rattle.cancel_scope.specs.Outstanding.{has_begun, without_first}
-use Rattle.ac_interpreter.proofs.Finding.{without_at, the_same, is_not_begun}
+use Rattle.interpreter_state.proofs.Finding.{without_at, the_same}
+use Rattle.ac_interpreter.proofs.Searching.{is_not_begun}
 use Rattle.core_state.specs.Moves.{On, Over}
 use Rattle.core_state.specs.Shared.{Shared, with_entry, core_end}
 use Rattle.core_state.specs.Arrivals.{Arrival, cancelled}
@@ -21,8 +22,8 @@ use Rattle.core_state.specs.Cancelling.{Outcome, NeverHappens, by_outcome, outco
 use Rattle.ac_semantics.specs.Held.{Held, with_mark, seen_of}
 use Rattle.ac_semantics.specs.Work.{Work}
 use Rattle.ac_semantics.specs.Threads.{CoreState, is_inside, goes_on, resumed, arrived, calls_off}
-use Rattle.ac_interpreter.specs.inner.Operations.{IsOldest}
-use Rattle.ac_interpreter.specs.inner.Nexts.{past_first}
+use Rattle.interpreter_state.specs.Operations.{IsOldest}
+use Rattle.interpreter_steps.specs.Works.{past_first}
 use Rattle.ac_interpreter.specs.inner.Under.{held_under, core_under, move_under}
 use Rattle.ac_interpreter.specs.inner.Cancels.{after_outcome, deciding, trying}
 use Rattle.ac_interpreter.proofs.Growing.{Moved, core_with_todo, IsOut, Follows, grown}

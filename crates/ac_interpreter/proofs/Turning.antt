@@ -12,14 +12,14 @@ use Rattle.ac_semantics.specs.Held.{Held, any_marked}
 use Rattle.ac_semantics.specs.Work as w
 use Rattle.ac_semantics.specs.Statements as s
 use Rattle.ac_semantics.specs.Threads.{CoreState, thread_at, none_within, path, arrives, operates, applied, calls_off, step}
-use Rattle.ac_interpreter.specs.declared.statements.Next.{Next}
-use Rattle.ac_interpreter.specs.declared.statements.Next.TheVariants as n
-use Rattle.ac_interpreter.specs.declared.work.Work.{Work}
+use Rattle.interpreter_steps.specs.declared.statements.Next.{Next}
+use Rattle.interpreter_steps.specs.declared.statements.Next.TheVariants as n
 use Rattle.ac_interpreter.specs.declared.turns.Came.{Came}
 use Rattle.ac_interpreter.specs.declared.running.Core.{Core}
-use Rattle.ac_interpreter.specs.inner.Works.{work_of}
-use Rattle.ac_interpreter.specs.inner.Operations.{asked_of}
-use Rattle.ac_interpreter.specs.inner.Nexts.{next_with, past_first, IsPlain}
+use Rattle.interpreter_state.specs.Operations.{asked_of}
+use Rattle.interpreter_steps.specs.Works.{past_first}
+use Rattle.interpreter_steps.specs.Nexts.{next_with}
+use Rattle.ac_interpreter.specs.inner.Plain.{IsPlain}
 use Rattle.ac_interpreter.specs.inner.Under.{held_under, core_under, move_under, IsMoved}
 use Rattle.ac_interpreter.proofs.Growing.{Moved}
 use Rattle.ac_interpreter.proofs.Journals.{next_under, applied_too, runs_under}
@@ -72,11 +72,6 @@ module _ (program : Resolved) (bound : ℕ) (past todo : List Entry) (c : CoreSt
 
   pub plain_here : IsPlain next → step program bound (core_under past todo c) ≡ move_under past todo (applied gone t (next_with next (held_under [] [] h) ws))
   plain_here plain = does ∙ applied_plain next plain
-
--- what is behind a cancel that was taken away
-pub past_popped : (r : Option Work) (old new : List w.Work) → MatchOption r ((old ≡ []) × (new ≡ [])) (λ x. old ≡ work_of x ∷ new) → new ≡ past_first old
-past_popped None old new h = h.1 ∙ sym (ap past_first h.0)
-past_popped (Some x) old new h = sym (ap past_first h)
 
 pub on_ok : {A E : Type 0} (r : Result A E) (P Q : Type 0) → OnOk r P → (P → Q) → OnOk r Q
 on_ok (Ok x) P Q h f = f h

@@ -1,15 +1,7 @@
-pub mod Data
-pub mod Pending
-pub mod Works
 pub mod Phases
-pub mod Operations
-pub mod State
-pub mod Nexts
+pub mod Plain
 pub mod Cores
 pub mod Left
-pub mod Released
-pub mod Chains
-pub mod Arrivals
 pub mod Under
 pub mod Outcomes
 pub mod Cancels

@@ -4,12 +4,11 @@ ghost use Rattle.std.specs.Prelude.{◌≡◌, Some, None, MatchOption};
 ghost use Rattle.core_state.specs.Cancelling.{outcome};
 ghost use Rattle.ac_interpreter.specs.inner.Outcomes.{outcome_of};
 
-use crate::arrivals::{Woken, be_taken};
-use crate::operation::Operation;
 use crate::running::{CANCELLED, Core};
 use crate::turns::{Came, next_entry};
 use ac_base::{EndWord, Entry, Event, NoMemory};
 use cancel_scope::Progress;
+use interpreter_state::{Operation, Woken, be_taken};
 use work_item::BlockId;
 
 /// What becomes of an operation that a cancel tries.
@@ -43,10 +42,10 @@ impl<'a> Core<'a> {
     ghost use Rattle.cancel_scope.specs.declared.operation.Operation.{Operation};
     ghost use Rattle.core_state.specs.Cancelling.{is_to_try};
     ghost use Rattle.ac_semantics.specs.Threads.{is_inside, calls_off};
-    ghost use Rattle.ac_interpreter.specs.inner.State.{shared_of, held_of};
-    ghost use Rattle.ac_interpreter.specs.inner.Operations.{IsOldest};
+    ghost use Rattle.interpreter_state.specs.State.{shared_of, held_of};
+    ghost use Rattle.interpreter_state.specs.Operations.{IsOldest};
     ghost use Rattle.ac_interpreter.specs.inner.Outcomes.{outcome_of};
-    ghost use Rattle.ac_interpreter.specs.inner.Nexts.{past_first};
+    ghost use Rattle.interpreter_steps.specs.Works.{past_first};
     ghost use Rattle.ac_interpreter.specs.inner.Cores.{core_of, IsSameCore};
     ghost use Rattle.ac_interpreter.specs.inner.Cancels.{after_outcome, deciding, trying};
     ghost use Rattle.ac_interpreter.specs.inner.Under.{core_under, held_under, IsMoved};
@@ -128,7 +127,7 @@ impl<'a> Core<'a> {
     {
         match self.oldest_to_try(block)? {
             None => {
-                let _ = self.work.pop();
+                self.work.drop_first();
                 Ok(Came::Nothing)
             }
             Some(place) => match self.held.operations[place].progress() {

@@ -8,15 +8,11 @@ ghost use Rattle.core_state.specs.Shared.{request_link};
 ghost use Rattle.ac_semantics.specs.Threads.{with_starts, first_state};
 ghost use Rattle.ac_interpreter.specs.inner.Cores.{state_of};
 
-use crate::datum::Datum;
-use crate::held::Held;
-use crate::memory::Memory;
-use crate::operation::{Asked, Operation};
-use crate::statements::Next;
 use crate::threads::{Phase, Threads};
-use crate::work::{Agenda, Work};
 use ac_base::{CoreEnd, EndWord, List, NoMemory, Trap, Waiting};
 use ac_commands::{Function, Resolved, Start};
+use interpreter_state::{Asked, Datum, Held, Memory, Operation};
+use interpreter_steps::{Agenda, Next};
 use std::alloc::Global;
 use std::collections::VecDeque;
 use std::mem;
@@ -54,10 +50,11 @@ impl<'a> Core<'a> {
     ghost use Rattle.ac_semantics.specs.Threads.{Ended, thread_at, path, stops, starts, wakes_owner};
     ghost use Rattle.ac_semantics.specs.Threads.{operates, resumed, applied, dispatched};
     ghost use Rattle.work_item.specs.declared.cell.Cell.TheVariants as cell;
-    ghost use Rattle.ac_interpreter.specs.inner.Operations.{asked_of};
+    ghost use Rattle.interpreter_state.specs.Operations.{asked_of};
     ghost use Rattle.ac_interpreter.specs.inner.Phases.{phase_of};
-    ghost use Rattle.ac_interpreter.specs.inner.State.{held_of};
-    ghost use Rattle.ac_interpreter.specs.inner.Nexts.{next_with, IsPlain};
+    ghost use Rattle.interpreter_state.specs.State.{held_of};
+    ghost use Rattle.interpreter_steps.specs.Nexts.{next_with};
+    ghost use Rattle.ac_interpreter.specs.inner.Plain.{IsPlain};
     ghost use Rattle.ac_interpreter.specs.inner.Cores.{core_of, state_of, IsSameCore};
 
     // The running thread stops with the work that it has now.
@@ -287,9 +284,7 @@ pub fn begin_core<'a>(
             None,
             vec![in alloc; Datum::int(0); function.slots as usize]?,
         )?;
-        let mut work = Agenda::new(alloc);
-        work.push(Work::Leave)?;
-        work.push_all(FrameId { number: 0 }, function.body.as_slice())?;
+        let work = Agenda::of_entry(alloc, FrameId { number: 0 }, function.body.as_slice())?;
         let first = threads.push(Vec::new(alloc), work)?;
         ready.push_back(first)?;
     }

@@ -6,10 +6,9 @@ ghost use Rattle.ac_semantics.specs.Threads as s;
 ghost use Rattle.ac_semantics.specs.Work.{given};
 ghost use Rattle.ac_interpreter.specs.inner.Phases.{phase_of};
 
-use crate::datum::Datum;
-use crate::operation::Operation;
-use crate::work::Agenda;
 use ac_base::NoMemory;
+use interpreter_state::{Datum, Operation};
+use interpreter_steps::Agenda;
 use std::alloc::Global;
 use std::marker::Model;
 use std::mem;

@@ -3,10 +3,10 @@
 ghost use Rattle.std.specs.Prelude.{◌≡◌, [], ◌∷◌, drop, nat_eq, true, MatchOption};
 ghost use Rattle.ac_interpreter.specs.inner.Under.{IsLater};
 
-use crate::arrivals::Woken;
 use crate::running::Core;
-use crate::statements::{Next, next_step};
 use ac_base::{Entry, Event, NoMemory};
+use interpreter_state::Woken;
+use interpreter_steps::{Next, next_step};
 use work_item::Item;
 
 /// What has come in with a move: nothing, the next entry, or one that does not fit.
@@ -48,7 +48,7 @@ impl<'a> Core<'a> {
     ghost use Rattle.core_state.specs.Moves.{On};
     ghost use Rattle.core_state.specs.Arrivals.{Arrival, arrives};
     ghost use Rattle.ac_semantics.specs.Threads.{arrived, rests, step};
-    ghost use Rattle.ac_interpreter.specs.inner.State.{shared_of, held_of};
+    ghost use Rattle.interpreter_state.specs.State.{shared_of, held_of};
     ghost use Rattle.ac_interpreter.specs.inner.Cores.{core_of, IsSameCore};
     ghost use Rattle.ac_interpreter.specs.inner.Under.{core_under, IsMoved};
 

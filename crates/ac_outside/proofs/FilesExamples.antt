@@ -9,24 +9,12 @@ use Rattle.ac_outside.specs.declared.failed.Torn.{Torn}
 use Rattle.ac_outside.specs.declared.shelf.NamedBytes.{NamedBytes}
 use Rattle.ac_outside.specs.Causes.{BindHasCause}
 use Rattle.ac_outside.specs.Disks.{Held, IsFresh, called, with_bound, with_made, with_written, BindLeaves, bound_by, stays_ready, BindsNone}
-use Rattle.ac_outside.specs.Files.{file_at, told_length, file_of, part, overwritten, written, bytes_in}
+use Rattle.ac_outside.specs.Files.{file_at, told_length, file_of, part, written, bytes_in}
 use Rattle.ac_outside.specs.Texts.{text_of}
 use Rattle.ac_outside.specs.Views.{StoredFiles, SafeFiles, FailingFiles, held_by, told_by_stored, told_by_safe_disk, told_by_failing_disk, stored_bind, stored_write, fail_at, torn_by}
 use Rattle.ac_outside.proofs.Examples.{named}
 
 -- ---- one file
-
-pub within_the_file : overwritten (codes "0123") 1 (codes "ab") ≡ codes "0ab3"
-within_the_file = refl
-
-pub over_its_end : overwritten (codes "0123") 3 (codes "ab") ≡ codes "012ab"
-over_its_end = refl
-
-pub past_its_end : overwritten (codes "01") 4 (codes "a") ≡ 48 ∷ 49 ∷ 0 ∷ 0 ∷ 97 ∷ []
-past_its_end = refl
-
-pub no_bytes_past_its_end : overwritten (codes "01") 4 [] ≡ codes "01"
-no_bytes_past_its_end = refl
 
 pub a_part : part (codes "0123") 1 2 ≡ codes "12"
 a_part = refl

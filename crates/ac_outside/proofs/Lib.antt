@@ -1,5 +1,4 @@
 mod Finding
 mod Keeping
-mod Writing
 pub mod Examples
 pub mod FilesExamples

@@ -1,8 +1,9 @@
 -- What binds and writes make of the files of a disk, and what reads give.
-use Rattle.std.specs.Prelude.{ℕ, ◌+◌, ◌-◌, ◌^◌, min, List, [], ◌∷◌, ◌++◌, length, take, drop, replicate}
+use Rattle.std.specs.Prelude.{ℕ, ◌-◌, ◌^◌, min, List, [], length, take, drop}
 use Rattle.std.specs.Prelude.{slice_set, slice_index_or, unwrap_or, Ok, Err}
 use Rattle.std.specs.declared.result.Result.{Result}
 use Rattle.std.specs.declared.option.Option.{Option}
+use Rattle.file_bytes.specs.Overwritten.{overwritten}
 use Rattle.ac_outside.specs.declared.failed.Torn.{Torn}
 use Rattle.ac_outside.specs.declared.shelf.NamedBytes.{NamedBytes}
 
@@ -21,12 +22,6 @@ file_of files file = slice_index_or files file (record { name = []; bytes = [] }
 -- what stands from a place on, up to so many bytes
 abbrev pub part : List ℕ → ℕ → ℕ → List ℕ
 part bytes from len = take len (drop from bytes)
-
--- the file with these bytes at this place, a gap before them filled with zeros; no bytes change nothing
-abbrev pub overwritten : List ℕ → ℕ → List ℕ → List ℕ
-overwritten file from [] = file
-overwritten file from (b ∷ bs) =
-    take from file ++ replicate (from - length file) 0 ++ (b ∷ bs) ++ drop (from + length (b ∷ bs)) file
 
 -- the files where these bytes have been written at a place of one of them
 abbrev pub written : List NamedBytes → ℕ → ℕ → List ℕ → List NamedBytes

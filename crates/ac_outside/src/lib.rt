@@ -8,7 +8,6 @@ mod library;
 mod memory;
 mod memory_disk;
 mod names;
-mod overwrite;
 mod safe;
 mod safe_disk;
 mod shelf;

@@ -1,13 +1,14 @@
 //! Files by path in memory, of which some are bound.
 
 ghost use Rattle.std.specs.Prelude.{◌≡◌, ◌+◌, ◌<◌, ◌≤◌, [], ◌∷◌, ◌++◌, length, drop, unwrap_or, IfOk, OnOk, OnErr, true, false};
-ghost use Rattle.ac_outside.specs.Files.{file_at, file_of, overwritten, part, told_length, written};
+ghost use Rattle.ac_outside.specs.Files.{file_at, file_of, part, told_length, written};
 ghost use Rattle.ac_outside.specs.Texts.{text_of};
+ghost use Rattle.file_bytes.specs.Overwritten.{overwritten};
 
 use crate::disk::FILE_BYTES;
-use crate::overwrite::write_over;
 use crate::shelf::NamedBytes;
 use ac_base::{Bytes, List, NoMemory};
+use file_bytes::overwrite;
 use std::alloc::Global;
 use std::marker::Model;
 
@@ -67,7 +68,7 @@ impl BoundFile {
         requires { from + length bytes.now ≤ FILE_BYTES }
         ensures { self.new ≡ record self.old { bytes = overwritten self.old.bytes from bytes.now } }
     {
-        write_over(&mut self.bytes, from as usize, bytes);
+        overwrite(&mut self.bytes, from as usize, bytes);
     }
 }
 

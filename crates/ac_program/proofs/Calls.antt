@@ -1,5 +1,5 @@
--- A text calls for one status, or for several that are those of runs of its program, which has a channel.
-use Rattle.std.proofs.Common.{◌≡◌, ℕ, ◌<◌, ◌≤◌, ◌⊎◌, inl, inr, List, [], ◌∷◌, length, Option, None, Some, refl, sym, ap, ◌∙◌, subst, arith}
+-- A text calls for one status, or for several that are those of runs of its program, which has a channel or a file.
+use Rattle.std.proofs.Common.{◌≡◌, ℕ, ◌+◌, ◌<◌, ◌≤◌, ◌⊎◌, inl, inr, List, [], ◌∷◌, length, Option, None, Some, refl, sym, ap, ◌∙◌, subst, arith}
 use Rattle.ac_tree.specs.Shape.{HasShape}
 use Rattle.ac_parser.proofs.Shaped.{spelled_shape}
 use Rattle.ac_commands.specs.declared.program.Channel.{Channel}
@@ -16,7 +16,7 @@ use Rattle.ac_outside.specs.Disks.{DiskTold, Held}
 use Rattle.starting_files.specs.Starting.{bytes_at}
 use Rattle.ac_program.specs.Source.{IsReady, Refuses, needed}
 use Rattle.ac_program.specs.Headline.{IsShort, HasRun, GivesStatus, CallsFor, AreOfRuns, AreShort, HasLong, KnowsFiles}
-use Rattle.ac_program.specs.Headline.CallsFor.{bad_token, unexpected, broken, over_long, too_deep, too_many, long_file, not_built, made}
+use Rattle.ac_program.specs.Headline.CallsFor.{bad_token, unexpected, broken, over_long, too_deep, too_many, long_file, made}
 use Rattle.ac_program.proofs.Faults.{fault_refuses}
 use Rattle.ac_program.proofs.OneRun.{same_status}
 use Rattle.ac_program.proofs.Refusals.{refused_once, refused_not, same_program}
@@ -59,7 +59,6 @@ module _ (text : List ℕ) (task : Task) (disk : DiskTold) (status : ℕ) where
   way_of (over_long e h) = is_long e h
   way_of (too_deep at e s h) = is_refused s (as_refused (r.TooDeep at) 10 e refl h)
   way_of (too_many e s h) = is_refused s (as_refused r.TooManySteps 10 e refl h)
-  way_of (not_built at e s h) = is_refused s (as_refused (r.NotBuilt at) 15 e refl h)
   way_of (long_file program e s k h) = is_filed e s (record { program = program; is_ready = k; long = h })
   way_of (made program s k a h) = is_made s (record { program = program; is_ready = k; short = a; gives = h })
 
@@ -74,31 +73,31 @@ module _ (text : List ℕ) (task : Task) (disk : DiskTold) (status : ℕ) where
   calls_refused (r.TooDeep at) e s h = too_deep at e s h
   calls_refused (r.Broken rule) e s h = broken rule e s h
   calls_refused r.TooManySteps e s h = too_many e s h
-  calls_refused (r.NotBuilt at) e s h = not_built at e s h
 
--- ---- one status, but as the runs of a program with channels differ
+-- ---- one status, but as the runs of a program with channels or files differ
 
 -- what is ready is in order, and its source spells it
 has_shape : (text : List ℕ) (task : Task) (program : Program) → IsReady text task program → HasShape program
-has_shape text task program k = let tree = k.is_within.is_accepted.spelled.tree in spelled_shape program tree.marks tree.spells
+has_shape text task program k = let tree = k.is_accepted.spelled.tree in spelled_shape program tree.marks tree.spells
 
 module _ (text : List ℕ) (steps : ℕ) (program : Program) (disk : DiskTold) (k : IsReady text (t.Run steps) program) (m n : ℕ) (a : HasRun program steps disk m) (b : HasRun program steps disk n) where
   abbrev One : Type 0
   One = (n ≡ m) ⊎ AreOfRuns text (t.Run steps) disk m n
 
-  runs_differ : 1 ≤ length (resolved program).channels → One
-  runs_differ some = inr (record { steps = steps; program = program; is_run = refl; is_ready = k; has_channel = some; one = a; other = b })
+  runs_differ : 1 ≤ length (resolved program).channels + length (resolved program).files → One
+  runs_differ some = inr (record { steps = steps; program = program; is_run = refl; is_ready = k; meets = some; one = a; other = b })
 
-  runs_agree : (resolved program).channels ≡ [] → One
-  runs_agree none =
-      let same = same_status program k.is_within.is_accepted.clean (has_shape text (t.Run steps) program k) none k.built steps a.start b.start a.ended b.ended a.is_run b.is_run in
+  runs_agree : (resolved program).channels ≡ [] → (resolved program).files ≡ [] → One
+  runs_agree none no_files =
+      let same = same_status program k.is_accepted.clean (has_shape text (t.Run steps) program k) none no_files steps a.start b.start a.ended b.ended a.is_run b.is_run in
       inl (b.status_is ∙ sym same ∙ sym a.status_is)
 
   of_runs : One
-  of_runs = by (resolved program).channels refl where
-    by : (channels : List Channel) → (resolved program).channels ≡ channels → One
-    by [] e = runs_agree e
-    by (channel ∷ channels) e = runs_differ (let many = ap (λ xs. length xs) e in omega (arith, many))
+  of_runs = by (resolved program).channels (resolved program).files refl refl where
+    by : (channels : List Channel) (files : List (List ℕ)) → (resolved program).channels ≡ channels → (resolved program).files ≡ files → One
+    by [] [] e f = runs_agree e f
+    by [] (file ∷ files) e f = runs_differ (let many = ap (λ xs. length xs) f in omega (arith, many))
+    by (channel ∷ channels) files e f = runs_differ (let many = ap (λ xs. length xs) e in omega (arith, many))
 
 gives_both : (text : List ℕ) (task : Task) (program : Program) (disk : DiskTold) (m n : ℕ) → IsReady text task program → GivesStatus task program disk m → GivesStatus task program disk n
     → (n ≡ m) ⊎ AreOfRuns text task disk m n
@@ -117,12 +116,12 @@ long_not_short (Some h) paths path knows one over short =
 module _ (text : List ℕ) (task : Task) (disk : DiskTold) (knows : KnowsFiles text task disk) where
   made_both : (m n : ℕ) → IsMadeAs m text task disk → IsMadeAs n text task disk → (n ≡ m) ⊎ AreOfRuns text task disk m n
   made_both m n a b =
-      let same = same_program text a.program b.program a.is_ready.is_within.is_accepted.spelled b.is_ready.is_within.is_accepted.spelled in
+      let same = same_program text a.program b.program a.is_ready.is_accepted.spelled b.is_ready.is_accepted.spelled in
       gives_both text task a.program disk m n a.is_ready a.gives (subst (λ (p : Program). GivesStatus task p disk n) (sym same) b.gives)
 
   pub not_filed : IsFiled text task disk → (program : Program) → IsReady text task program → AreShort disk (needed task program) → ⊥
   not_filed a program is_ready short =
-      let same = same_program text a.program program a.is_ready.is_within.is_accepted.spelled is_ready.is_within.is_accepted.spelled in
+      let same = same_program text a.program program a.is_ready.is_accepted.spelled is_ready.is_accepted.spelled in
       long_not_short disk.held (needed task a.program) a.long.path (knows a.program a.is_ready) a.long.is_one a.long.over
       (subst (λ (p : Program). AreShort disk (needed task p)) (sym same) short)
 

@@ -75,7 +75,7 @@ it_is_accepted : IsAccepted linked_text linked_tree
 it_is_accepted = record { spelled = record { tokens = tokens_in linked_text; lexed = its_tokens; tree = its_tree }; clean = it_is_clean }
 
 pub it_is_ready : IsReady linked_text (t.Run 100) linked_tree
-it_is_ready = record { is_within = record { is_accepted = it_is_accepted; within = omega arith }; built = refl }
+it_is_ready = record { is_accepted = it_is_accepted; within = omega arith }
 
 -- ---- its run: both cores finish at once, and no message is sent
 
@@ -138,7 +138,7 @@ it_is_a_run = record {
 }
 
 pub its_run_gives_0 : HasRun linked_tree 100 no_disk 0
-its_run_gives_0 = record { start = []; are_held = tt; ended = its_run; is_run = it_is_a_run; status_is = refl }
+its_run_gives_0 = record { start = []; are_held = tt; ended = its_run; is_run = it_is_a_run; are_served = tt; status_is = refl }
 
 -- the program has a channel, so another of its runs might have another status; this one is that of two of its runs
 pub its_statuses : AreOfRuns linked_text (t.Run 100) no_disk 0 0
@@ -147,7 +147,7 @@ its_statuses = record {
   program = linked_tree;
   is_run = refl;
   is_ready = it_is_ready;
-  has_channel = omega arith;
+  meets = omega arith;
   one = its_run_gives_0;
   other = its_run_gives_0;
 }

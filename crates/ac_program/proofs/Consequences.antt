@@ -13,12 +13,11 @@ use Rattle.ac_program.specs.declared.words.Task.TheVariants as t
 use Rattle.ac_resolve.specs.Resolution.{resolved}
 use Rattle.ac_translation.specs.Translation.{code_of}
 use Rattle.code_listing.specs.Listing.{listing}
-use Rattle.ac_compile.specs.Unbuilt.{unbuilt_nodes}
 use Rattle.ac_program.specs.Lines.{accepted_line, refusal_status}
 use Rattle.ac_program.specs.Words.{IsCall}
 use Rattle.ac_program.specs.Reading.{Gave, TookBytes}
 use Rattle.core_runner.specs.Run.{IsRunOf}
-use Rattle.ac_program.specs.Source.{IsAccepted, IsTooMany, IsNotBuilt, IsReady, Refuses, names_of, needed}
+use Rattle.ac_program.specs.Source.{IsAccepted, IsTooMany, IsReady, Refuses, names_of, needed}
 use Rattle.ac_program.proofs.OneStatus.{one_status}
 use Rattle.ac_program.specs.Headline.{IsRead, IsShort, IsDue, IsDueOfFile, TookWhole, GaveUp, TellsUsage, IsOfText, AreOfRuns, IsCalledFor, IsDecided, GivesStatus, CallsFor, KnowsFiles, AreShort}
 use Rattle.ac_program.specs.Making.{Makes, AreStopped}
@@ -233,9 +232,6 @@ module _ (words : List (List ℕ)) (before after : LibraryTold) (disk later : Di
   pub broken : status ≡ 3 → IsRefused 3 words before after
   broken = refused_for 3 (inr (inl refl)) (λ e. omega (arith, e))
 
-  pub not_built : status ≡ 15 → IsRefused 15 words before after
-  not_built = refused_for 15 (inr (inr (inr refl))) (λ e. omega (arith, e))
-
   pub over : status ≡ 10 → IsTooLong words before after ⊎ (IsRefused 10 words before after ⊎ IsLongFile words before after disk later)
   over is = let w = whole (λ e. omega (arith, e, is)) (λ e. omega (arith, e, is)) in due_over words before after disk later status w.text run w.due is
 
@@ -255,8 +251,9 @@ module _ (words : List (List ℕ)) (before after : LibraryTold) (disk later : Di
     called_for : IsCalledFor text task disk status
     called_for = (decided of_text).only task file text is_call told knows
 
-    -- where its program has no channel, it calls for no other status
-    pub exactly : ((steps : ℕ) (program : Program) → IsReady text (t.Run steps) program → (resolved program).channels ≡ []) → (number : ℕ) → (status ≡ number) ↔ CallsFor text task disk number
+    -- where its program has no channel and no file, it calls for no other status
+    pub exactly : ((steps : ℕ) (program : Program) → IsReady text (t.Run steps) program → ((resolved program).channels ≡ []) × ((resolved program).files ≡ [])) → (number : ℕ) → (status
+        ≡ number) ↔ CallsFor text task disk number
     exactly none = one_status text task disk status called_for none
 
     -- and a status of a refusal is that of no run
@@ -282,9 +279,6 @@ module _ (words : List (List ℕ)) (before after : LibraryTold) (disk later : Di
     pub only_broken : (status ≡ 3) ↔ ((length text ≤ 1048576) × IsRefusedAs 3 text task)
     only_broken = only_refused 3 (inr (inl refl)) (λ e. omega (arith, e))
 
-    pub only_not_built : (status ≡ 15) ↔ ((length text ≤ 1048576) × IsRefusedAs 15 text task)
-    only_not_built = only_refused 15 (inr (inr (inr refl))) (λ e. omega (arith, e))
-
     abbrev Over : Type 0
     Over = (1048576 < length text) ⊎ ((length text ≤ 1048576) × IsRefusedAs 10 text task ⊎ (length text ≤ 1048576) × IsFiled text task disk)
 
@@ -295,9 +289,9 @@ module _ (words : List (List ℕ)) (before after : LibraryTold) (disk later : Di
     over_way (is_made s h) = absurd (not_above 10 10 (gives_cores task h.program disk 10 h.gives) refl (omega arith))
 
     over_then : Over → status ≡ 10
-    over_then (inl h) = same_refusal 10 (inr (inr (inl refl))) (called_for.only 10 (over_long refl h))
-    over_then (inr (inl h)) = refused_then 10 (inr (inr (inl refl))) h
-    over_then (inr (inr h)) = same_refusal 10 (inr (inr (inl refl))) (called_for.only 10 (long_file h.1.program refl h.0 h.1.is_ready h.1.long))
+    over_then (inl h) = same_refusal 10 (inr (inr refl)) (called_for.only 10 (over_long refl h))
+    over_then (inr (inl h)) = refused_then 10 (inr (inr refl)) h
+    over_then (inr (inr h)) = same_refusal 10 (inr (inr refl)) (called_for.only 10 (long_file h.1.program refl h.0 h.1.is_ready h.1.long))
 
     pub only_over : (status ≡ 10) ↔ Over
     only_over = ((λ is. over_way (way_of text task disk 10 (subst (CallsFor text task disk) is called_for.calls))), over_then)
@@ -327,22 +321,19 @@ module _ (words : List (List ℕ)) (before after : LibraryTold) (disk later : Di
 -- ---- a check, and a listing
 
 module _ (text : List ℕ) (disk : DiskTold) where
-  -- a check knows no bound on steps, and nothing that is not built
+  -- a check knows no bound on steps
   pub no_steps_of_a_check : IsTooMany text t.Check → ⊥
   no_steps_of_a_check h = absurd (omega (arith, h.over))
 
-  pub no_form_of_a_check : (at : ℕ) → IsNotBuilt text t.Check at → ⊥
-  no_form_of_a_check at h = let e = h.unbuilt in cc (e)
-
   accepted_of : (program : Program) → IsAccepted text program → IsReady text t.Check program
-  accepted_of program a = record { is_within = record { is_accepted = a; within = omega arith }; built = refl }
+  accepted_of program a = record { is_accepted = a; within = omega arith }
 
   -- and a listing no bound
   pub no_steps_of_a_listing : IsTooMany text t.Code → ⊥
   no_steps_of_a_listing h = absurd (omega (arith, h.over))
 
-  listed_of : (program : Program) → IsAccepted text program → unbuilt_nodes program.items ≡ [] → IsReady text t.Code program
-  listed_of program a b = record { is_within = record { is_accepted = a; within = omega arith }; built = b }
+  listed_of : (program : Program) → IsAccepted text program → IsReady text t.Code program
+  listed_of program a = record { is_accepted = a; within = omega arith }
 
   -- a text is accepted with status 0 exactly where it spells a program that breaks no rule
   pub check_calls : CallsFor text t.Check disk 0 ↔ (IsShort text × ((program : Program) × IsAccepted text program))
@@ -351,13 +342,13 @@ module _ (text : List ℕ) (disk : DiskTold) where
     forth (is_long e h) = absurd (omega (arith, e))
     forth (is_refused s h) = absurd (omega (arith, some_status h.refusal, h.status_is))
     forth (is_filed e s h) = absurd (omega (arith, e))
-    forth (is_made s h) = (s, (h.program, h.is_ready.is_within.is_accepted))
+    forth (is_made s h) = (s, (h.program, h.is_ready.is_accepted))
 
-  -- and it is listed with status 0 exactly where all of that program is built too
-  pub code_calls : CallsFor text t.Code disk 0 ↔ (IsShort text × ((program : Program) × (IsAccepted text program × (unbuilt_nodes program.items ≡ []))))
-  code_calls = ((λ h. forth (way_of text t.Code disk 0 h)), (λ k. made k.1.0 k.0 (listed_of k.1.0 k.1.1.0 k.1.1.1) (none_long disk.held) refl)) where
-    forth : Way text t.Code disk 0 → IsShort text × ((program : Program) × (IsAccepted text program × (unbuilt_nodes program.items ≡ [])))
+  -- and it is listed with status 0 just there too
+  pub code_calls : CallsFor text t.Code disk 0 ↔ (IsShort text × ((program : Program) × IsAccepted text program))
+  code_calls = ((λ h. forth (way_of text t.Code disk 0 h)), (λ k. made k.1.0 k.0 (listed_of k.1.0 k.1.1) (none_long disk.held) refl)) where
+    forth : Way text t.Code disk 0 → IsShort text × ((program : Program) × IsAccepted text program)
     forth (is_long e h) = absurd (omega (arith, e))
     forth (is_refused s h) = absurd (omega (arith, some_status h.refusal, h.status_is))
     forth (is_filed e s h) = absurd (omega (arith, e))
-    forth (is_made s h) = (s, (h.program, (h.is_ready.is_within.is_accepted, h.is_ready.built)))
+    forth (is_made s h) = (s, (h.program, h.is_ready.is_accepted))

@@ -34,7 +34,6 @@ use Rattle.ac_reach.specs.declared.reached.Reached.{Reached}
 use Rattle.ac_reach.specs.declared.reached.Reached.TheVariants as row
 use Rattle.ac_reach.specs.Reached as reach
 use Rattle.ac_reach.specs.Reached.{ReachedFrom, is_entry, is_called, AreRows, IsReachedBy}
-use Rattle.ac_compile.specs.Unbuilt.{unbuilt_nodes}
 use Rattle.ac_program.specs.declared.refusal.BrokenRule.{BrokenRule}
 use Rattle.ac_program.proofs.Answered.{not_unexpected, not_deep}
 use Rattle.ac_program.proofs.Calls.{calls_both}
@@ -67,10 +66,14 @@ use Rattle.core_runner.specs.declared.ended.Ended.{Ended}
 use Rattle.ac_program.specs.declared.words.Task.{Task}
 use Rattle.ac_program.specs.declared.words.Task.TheVariants as t
 use Rattle.ac_program.specs.Words.{IsPlain, IsNumber, IsBound, IsArguments, IsTask, IsCall, steps_of, no_more, operand, bound_apart, bound_joined, only_operands}
+use Rattle.ac_history.specs.Files.{Deed}
 use Rattle.ac_history.specs.Quiet.{CoreIsQuiet}
+use Rattle.file_ops.specs.Counting.{raised, failures_among}
 use Rattle.core_runner.specs.Network.{owner_of, peer_of}
 use Rattle.core_runner.specs.Run.{history_of, nothing_yet, EndsQuiet, IsRunOf}
-use Rattle.ac_program.specs.Source.{HasTokens, HasFault, IsUnexpected, IsTooDeep, IsAccepted, IsBroken, IsTooMany, IsWithin, IsNotBuilt, Refuses}
+use Rattle.core_runner.specs.DiskLeft.{deeds_of, LeavesDisk}
+use Rattle.core_runner.specs.Naming.{AreNamed}
+use Rattle.ac_program.specs.Source.{HasTokens, HasFault, IsUnexpected, IsTooDeep, IsAccepted, IsBroken, IsTooMany, Refuses}
 use Rattle.ac_program.specs.Source.{IsSpelled, IsReady, all_steps, most_steps, names_of, needed}
 use Rattle.ac_program.specs.Lines.{accepted_line, disk_line, library_line, limit_file_line, limit_source_line, refusal_line, refusal_status}
 use Rattle.ac_outside.specs.Told.{LibraryTold, SinkTold}
@@ -78,13 +81,13 @@ use Rattle.ac_program.specs.Reading.{Gave, TookBytes}
 use Rattle.ac_program.specs.Writing.{TookFront}
 use Rattle.ac_program.specs.Making.{AreStarted, IsReported, IsDueOf, made as is_made, ready}
 use Rattle.ac_program.specs.Headline.{IsNoCall, IsRead, IsShort, IsDue, call, source, TookWhole, TookPart, GaveUp}
-use Rattle.ac_program.specs.Headline.{alone, KnowsFiles}
+use Rattle.ac_program.specs.Headline.{alone, AreServed, KnowsFiles}
 use Rattle.ac_program.specs.Headline.{TellsUsage, TellsLibrary, TellsSink, IsOfText, AreOfRuns, CallsFor, made, bad_token, unexpected, broken, over_long, too_many}
 use Rattle.ac_tree.specs.declared.stmt.Stmt.{Stmt}
 use Rattle.ac_tree.specs.declared.stmt.Stmt.TheVariants as s
 use Rattle.ac_resolve.specs.Resolution.{resolved}
 use Rattle.ac_links.specs.AtRest.{has_front}
-use Rattle.ac_program.proofs.TwoRules.{two_tree, two_is_clean, do_built, cancel_built, two_is_built}
+use Rattle.ac_program.proofs.TwoRules.{two_tree, two_is_clean}
 use Rattle.ac_outside.specs.Disks.{DiskTold}
 
 -- ---- words
@@ -260,9 +263,6 @@ the_line_of_a_token = rw (decimal_digit 9 (omega arith)) refl
 pub the_line_of_a_rule : refusal_line (r.Broken (record { rule = 2; at = 28 })) ≡ codes "rule C2 at 28\n"
 the_line_of_a_rule = rw (two_eight, decimal_digit 2 (omega arith)) refl
 
-pub the_line_of_a_form : refusal_line (r.NotBuilt 28) ≡ codes "not built at 28\n"
-the_line_of_a_form = rw two_eight refl
-
 pub the_lines_of_limits : refusal_line (r.TooDeep 9) ∷ refusal_line r.TooManySteps ∷ limit_source_line ∷ library_line ∷ disk_line ∷ limit_file_line 9 ∷ []
     ≡ codes "limit: nesting at 9\n" ∷ codes "limit: steps\n" ∷ codes "limit: source\n" ∷ codes "library fault\n" ∷ codes "disk fault\n" ∷ codes "limit: file 9\n" ∷ []
 the_lines_of_limits = rw (decimal_digit 9 (omega arith)) refl
@@ -275,8 +275,8 @@ pub the_lines_of_faults : refusal_line (r.BadByte 9) ∷ refusal_line (r.NumberT
 the_lines_of_faults = rw (decimal_digit 9 (omega arith)) refl
 
 pub the_statuses :
-    map refusal_status (r.BadByte 9 ∷ r.NumberTooLarge 9 ∷ r.OpenComment 9 ∷ r.OpenText 9 ∷ r.Unexpected 9 ∷ r.Broken (record { rule = 2; at = 28 }) ∷ r.TooDeep 9 ∷ r.TooManySteps ∷ r.NotBuilt 9 ∷ [])
-    ≡ 2 ∷ 2 ∷ 2 ∷ 2 ∷ 2 ∷ 3 ∷ 10 ∷ 10 ∷ 15 ∷ []
+    map refusal_status (r.BadByte 9 ∷ r.NumberTooLarge 9 ∷ r.OpenComment 9 ∷ r.OpenText 9 ∷ r.Unexpected 9 ∷ r.Broken (record { rule = 2; at = 28 }) ∷ r.TooDeep 9 ∷ r.TooManySteps ∷ [])
+    ≡ 2 ∷ 2 ∷ 2 ∷ 2 ∷ 2 ∷ 3 ∷ 10 ∷ 10 ∷ []
 the_statuses = refl
 
 -- ---- what each status means
@@ -389,7 +389,7 @@ pub it_is_spelled : IsSpelled two_text two_tree
 it_is_spelled = record { tokens = two_tokens; lexed = record { lexed = two_ac_lexed; only = two_ac_only }; tree = two_ac_parsed }
 
 pub it_is_ready : IsReady two_text (t.Run 100) two_tree
-it_is_ready = record { is_within = record { is_accepted = record { spelled = it_is_spelled; clean = two_is_clean }; within = omega arith }; built = two_is_built }
+it_is_ready = record { is_accepted = record { spelled = it_is_spelled; clean = two_is_clean }; within = omega arith }
 
 -- one core may go 4,000,000 steps, and no more
 pub as_many_steps_as_there_may_be : all_steps two_tree (t.Run 4000000) ≤ most_steps
@@ -549,19 +549,10 @@ not_too_many_steps h =
 pub too_many_steps_call_for_10 : CallsFor two_text (t.Run 4000001) no_disk 10
 too_many_steps_call_for_10 = too_many refl (omega arith) too_many_steps
 
-pub it_is_not_within : IsWithin two_text (t.Run 4000001) two_tree → ⊥
-it_is_not_within h = let le = h.within in omega (arith, le)
-
 pub it_is_not_ready : IsReady two_text (t.Run 4000001) two_tree → ⊥
-it_is_not_ready h = it_is_not_within h.is_within
+it_is_not_ready h = let le = h.within in omega (arith, le)
 
-pub all_of_two_ac_is_built : (at : ℕ) → IsNotBuilt two_text (t.Run 100) at → ⊥
-all_of_two_ac_is_built at h =
-    let none : unbuilt_nodes h.program.items ≡ [] = subst (λ (p : Program). unbuilt_nodes p.items ≡ []) (its_only_program h.program h.is_within.is_accepted.spelled) two_is_built in
-    let e : slice_get (unbuilt_nodes h.program.items) 0 ≡ None = ap (λ (places : List ℕ). slice_get places 0) none in
-    let some = h.unbuilt in cc (e, some)
-
--- core a(f); async void f() { t: do { cancel t; } finish; } is built too
+-- core a(f); async void f() { t: do { cancel t; } finish; } is ready too
 abbrev pub cancelling_text : List ℕ
 cancelling_text = codes "core a(f); async void f() { t: do { cancel t; } finish; }"
 
@@ -586,12 +577,8 @@ a_cancel_breaks_none = program_told cancelling_tree.items (row.ByOne 0 ∷ [])
 
 pub a_cancel_is_ready : IsReady cancelling_text (t.Run 100) cancelling_tree
 a_cancel_is_ready = record {
-  is_within = record {
-    is_accepted = record { spelled = record { tokens = tokens_in cancelling_text; lexed = cancelling_tokens; tree = a_cancel }; clean = a_cancel_breaks_none };
-    within = omega
-        arith;
-  };
-  built = rw (do_built 28 (Some (codes "t")) (cancelled ∷ []), cancel_built 36 (codes "t")) refl;
+  is_accepted = record { spelled = record { tokens = tokens_in cancelling_text; lexed = cancelling_tokens; tree = a_cancel }; clean = a_cancel_breaks_none };
+  within = omega arith;
 }
 
 -- a source of one byte past the limit
@@ -620,10 +607,23 @@ its_doing = record { run = Some its_run; text = its_report; status = record { nu
 no_files : AreStarted [] [] no_disk no_disk
 no_files = record { well = refl; bound = refl; is_ready = refl; count = refl; short = λ k d less. absurd (omega (arith, less)); told = tt }
 
+-- nor was anything done in its run
+nothing_done : deeds_of (resolved two_tree) its_run.journals ≡ []
+nothing_done = refl
+
+its_disk_is_left : LeavesDisk (resolved two_tree) [] its_run.journals no_disk no_disk
+its_disk_is_left = record {
+  counted = record { calls = tt; failures = subst (λ (ds : List Deed). raised 0 (failures_among 0 ds) ≤ 0) (sym nothing_done) (omega arith); none = λ e. refl };
+  held = tt;
+}
+
 its_reporting : IsReported two_tree 100 no_disk no_disk its_doing
 its_reporting = record {
   start = [];
+  between = no_disk;
   files = no_files;
+  left = its_disk_is_left;
+  named = subst (λ (ds : List Deed). AreNamed 0 ds) (sym nothing_done) tt;
   ended = its_run;
   kept = refl;
   is_run = it_is_a_run;
@@ -708,13 +708,17 @@ a_fault_of_the_library = record { told = λ e. omega arith; only = λ n. absurd 
 pub no_fault_of_the_library : TellsLibrary its_library (record its_library_after { faults = 1 }) 0 → ⊥
 no_fault_of_the_library h = let e = h.only (omega arith) (omega arith) in omega (arith, e)
 
+-- it asks nothing of a disk
+pub its_reads_are_served : AreServed no_disk two_tree [] []
+its_reads_are_served = tt
+
 pub its_status_is_called_for : CallsFor two_text (t.Run 100) no_disk 0
-its_status_is_called_for = made two_tree (omega arith) it_is_ready tt (record { start = []; are_held = tt; ended = its_run; is_run = it_is_a_run; status_is = refl })
+its_status_is_called_for = made two_tree (omega arith) it_is_ready tt (record { start = []; are_held = tt; ended = its_run; is_run = it_is_a_run; are_served = tt; status_is = refl })
 
 -- it has no files, so they are known
 pub its_files_are_known : KnowsFiles two_text (t.Run 100) no_disk
 its_files_are_known program k some =
-    let e = ap (λ (p : Program). length (needed (t.Run 100) p)) (its_only_program program k.is_within.is_accepted.spelled) in absurd (omega (arith, some, e))
+    let e = ap (λ (p : Program). length (needed (t.Run 100) p)) (its_only_program program k.is_accepted.spelled) in absurd (omega (arith, some, e))
 
 pub it_calls_for_no_other : CallsFor two_text (t.Run 100) no_disk 2 → ⊥
 it_calls_for_no_other h = other (calls_both two_text (t.Run 100) no_disk its_files_are_known 0 2 its_status_is_called_for h) where

@@ -23,21 +23,19 @@ use Rattle.ac_reach.specs.declared.reached.Reached.TheVariants as row
 use Rattle.ac_types.specs.Reached.{BreaksNone}
 use Rattle.ac_types.proofs.Forms.{array_is, call_made, number_is, read_is}
 use Rattle.ac_types.proofs.Judging.{program_told}
-use Rattle.ac_compile.specs.Unbuilt.{unbuilt_nodes}
 use Rattle.ac_outside.specs.Disks.{DiskTold, Held}
 use Rattle.ac_outside.specs.Files.{file_of}
 use Rattle.ac_outside.specs.Texts.{text_of}
 use Rattle.ac_outside.proofs.Examples.{named}
 use Rattle.starting_files.specs.declared.fault.StartFault.TheVariants as fault
 use Rattle.ac_program.specs.declared.words.Task.TheVariants as t
-use Rattle.ac_program.specs.Source.{HasTokens, IsAccepted, IsNotBuilt, IsReady, missing, needed}
+use Rattle.ac_program.specs.Source.{HasTokens, IsAccepted, IsReady, needed}
 use Rattle.ac_program.specs.Lines.{accepted_line, disk_line, limit_file_line}
-use Rattle.ac_program.specs.Making.{AreStarted, AreStopped, AreLeft, IsDueOfProgram, IsTold, disk_fault, started, untouched}
+use Rattle.ac_program.specs.Making.{AreStarted, AreStopped, AreLeft, IsDueOfProgram, IsTold, begun, disk_fault, untouched}
 use Rattle.ac_program.specs.Making.IsDueOfProgram.{long_file as long_file_due}
 use Rattle.ac_program.specs.declared.execute.Done.{Done}
-use Rattle.ac_program.specs.Headline.{LeavesDisk, of_program, AreHeld, AreShort, HasLong, KnowsFiles, TellsDisk, CallsFor, made, long_file, not_built}
-use Rattle.ac_program.proofs.Examples.{no_disk, reached_in}
-use Rattle.ac_program.proofs.TwoRules.{array_built, call_built, number_built, read_built}
+use Rattle.ac_program.specs.Headline.{IsLeft, of_program, AreHeld, AreShort, HasLong, KnowsFiles, TellsDisk, CallsFor, made, long_file}
+use Rattle.ac_program.proofs.Examples.{its_run, no_disk, reached_in}
 
 -- ---- programs with a file
 
@@ -67,7 +65,7 @@ filing_is_accepted = record { spelled = record { tokens = tokens_in filing_text;
 
 -- it is ready, and a run needs its file, and no other task does
 pub a_file_is_ready : IsReady filing_text (t.Run 100) filing_tree
-a_file_is_ready = record { is_within = record { is_accepted = filing_is_accepted; within = omega arith }; built = refl }
+a_file_is_ready = record { is_accepted = filing_is_accepted; within = omega arith }
 
 pub what_is_needed : needed (t.Run 100) filing_tree ∷ needed t.Check filing_tree ∷ needed t.Code filing_tree ∷ [] ≡ (codes "x" ∷ []) ∷ [] ∷ [] ∷ []
 what_is_needed = refl
@@ -90,7 +88,7 @@ pub a_long_file_is_not_short : (bytes : List ℕ) → length bytes ≡ 1048577 �
 a_long_file_is_not_short bytes e short = let few = short 0 (codes "x") (omega arith) in omega (arith, e, few)
 
 pub a_check_accepts_it : CallsFor filing_text t.Check no_disk 0
-a_check_accepts_it = made filing_tree (omega arith) (record { is_within = record { is_accepted = filing_is_accepted; within = omega arith }; built = refl }) tt refl
+a_check_accepts_it = made filing_tree (omega arith) (record { is_accepted = filing_is_accepted; within = omega arith }) tt refl
 
 -- a disk that tells nothing does not decide a run of it, and decides a check
 pub a_run_asks_the_disk : KnowsFiles filing_text (t.Run 100) no_disk → ⊥
@@ -99,7 +97,7 @@ a_run_asks_the_disk knows = let e = knows filing_tree a_file_is_ready (omega ari
 pub a_check_does_not : KnowsFiles filing_text t.Check no_disk
 a_check_does_not program ready some = absurd (omega (arith, some))
 
--- core a(f); file p("x"); async void f() { int b[1]; Read(p, 0, 1, b); } reads it, which is not built
+-- core a(f); file p("x"); async void f() { int b[1]; Read(p, 0, 1, b); } reads it
 abbrev pub reading_text : List ℕ
 reading_text = codes "core a(f); file p(\"x\"); async void f() { int b[1]; Read(p, 0, 1, b); }"
 
@@ -151,22 +149,12 @@ reading_breaks_none = program_told reading_tree.items (row.ByOne 0 ∷ [])
 reading_is_accepted : IsAccepted reading_text reading_tree
 reading_is_accepted = record { spelled = record { tokens = tokens_in reading_text; lexed = reading_tokens; tree = reading_parsed }; clean = reading_breaks_none }
 
-its_read_is_not_built : unbuilt_nodes reading_tree.items ≡ 51 ∷ []
-its_read_is_not_built =
-    rw (array_built 41 (codes "b") (pos 1), call_built 51 a_read, read_built 51 (codes "p") nought one (codes "b"), number_built 59 (pos 0), number_built 62 (pos 1)) refl
+-- it is ready for a run and for a listing
+pub a_read_is_ready : IsReady reading_text (t.Run 100) reading_tree
+a_read_is_ready = record { is_accepted = reading_is_accepted; within = omega arith }
 
-pub it_is_not_built : IsNotBuilt reading_text (t.Run 100) 51
-it_is_not_built = record { program = reading_tree; is_within = record { is_accepted = reading_is_accepted; within = omega arith }; unbuilt = rw its_read_is_not_built refl }
-
-pub a_check_needs_no_form : missing t.Check reading_tree ∷ missing t.Code reading_tree ∷ [] ≡ [] ∷ (51 ∷ []) ∷ []
-a_check_needs_no_form = rw its_read_is_not_built refl
-
-pub there_is_no_listing_of_it : CallsFor reading_text t.Code no_disk 15
-there_is_no_listing_of_it =
-    not_built 51 refl (omega arith) (record { program = reading_tree; is_within = record { is_accepted = reading_is_accepted; within = omega arith }; unbuilt = rw its_read_is_not_built refl })
-
-pub what_is_not_built_calls_for_15 : CallsFor reading_text (t.Run 100) no_disk 15
-what_is_not_built_calls_for_15 = not_built 51 refl (omega arith) it_is_not_built
+pub there_is_a_listing_of_it : CallsFor reading_text t.Code no_disk 0
+there_is_a_listing_of_it = made reading_tree (omega arith) (record { is_accepted = reading_is_accepted; within = omega arith }) tt refl
 
 -- ---- a disk with the file x
 
@@ -261,15 +249,26 @@ a_long_file_is_due bytes e = long_file_due 0 refl refl refl (its_length_stops_it
 pub nothing_is_left_undone : AreLeft (codes "x" ∷ []) a_disk a_disk
 nothing_is_left_undone = untouched refl
 
-pub want_of_memory_leaves_it : LeavesDisk (Some filing_text) (t.Run 100) a_disk its_disk
-want_of_memory_leaves_it = of_program filing_text filing_tree refl a_file_is_ready (started (codes "ab" ∷ []) its_file_is_started)
+pub want_of_memory_leaves_it : IsLeft (Some filing_text) (t.Run 100) a_disk its_disk
+want_of_memory_leaves_it = of_program filing_text filing_tree refl a_file_is_ready (begun (codes "ab" ∷ []) its_disk its_file_is_started (record { bound = refl; is_ready = refl }))
+
+-- also where the run had written to its file, and a call had failed
+pub it_leaves_what_the_run_made : AreLeft (codes "x" ∷ []) a_disk (record its_disk { held = Some (record its_files { files = named (codes "x") (codes "aX") ∷ [] }); faults = 1 })
+it_leaves_what_the_run_made = begun (codes "ab" ∷ []) its_disk its_file_is_started (record { bound = refl; is_ready = refl })
 
 -- a check leaves the disk alone
 pub no_check_binds_a_file : (done : Done) → IsTold accepted_line a_disk its_disk done → ⊥
 no_check_binds_a_file done h = let e : 1 ≡ 0 = ap (λ (told : DiskTold). told.bound) h.alone in omega (arith, e)
 
-pub a_fault_of_the_disk : TellsDisk a_disk a_failed_disk 9
+pub a_fault_of_the_disk : TellsDisk a_disk a_failed_disk 9 None
 a_fault_of_the_disk = record { told = λ e. omega arith; only = λ n. absurd (n refl) }
 
-pub no_fault_of_the_disk : TellsDisk a_disk its_disk 9 → ⊥
+pub no_fault_of_the_disk : TellsDisk a_disk its_disk 9 None → ⊥
 no_fault_of_the_disk h = let le = h.told refl in omega (arith, le)
+
+-- what failed in a run is told by its answers, and what failed in no run by the status
+pub a_fault_in_a_run : TellsDisk a_disk a_failed_disk 0 (Some its_run)
+a_fault_in_a_run = record { told = λ e. omega (arith, e); only = λ _ _ _ none. let no : Some its_run ≡ None = none in cc (no) }
+
+pub a_fault_that_is_not_told : TellsDisk a_disk a_failed_disk 10 None → ⊥
+a_fault_that_is_not_told h = let e = h.only (omega arith) (omega arith) (omega arith) refl in omega (arith, e)

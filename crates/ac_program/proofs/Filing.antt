@@ -1,15 +1,15 @@
 -- What the start of the files of a program comes to.
-use Rattle.std.proofs.Common.{◌≡◌, ℕ, ◌<◌, ◌≤◌, List, length, Err, refl, subst}
+use Rattle.std.proofs.Common.{◌≡◌, ℕ, ◌<◌, ◌≤◌, List, [], ◌∷◌, ◌++◌, length, map, Option, None, Some, Err, refl, sym, ap, ◌∙◌, subst, arith}
 use Rattle.std.specs.Prelude.{All, IfSome, IsTrue, Result}
 use Rattle.ac_names.specs.Numbered.{file_paths}
-use Rattle.ac_outside.specs.Disks.{DiskTold}
-use Rattle.ac_commands.specs.declared.program.Resolved.{Resolved}
-use Rattle.core_runner.specs.declared.ended.Ended.{Ended}
-use Rattle.core_runner.specs.Run.{IsRunOf}
+use Rattle.ac_outside.specs.declared.shelf.NamedBytes.{NamedBytes}
+use Rattle.ac_outside.specs.Disks.{DiskTold, Held}
+use Rattle.ac_outside.specs.Files.{file_at}
+use Rattle.file_ops.specs.Asked.{texts}
 use Rattle.ac_tree.specs.declared.item.Program.{Program}
 use Rattle.starting_files.specs.declared.fault.StartFault.{StartFault}
 use Rattle.starting_files.specs.declared.fault.StartFault.TheVariants as f
-use Rattle.starting_files.specs.Starting.{StartsFiles, StopsAtFile, StartHasCause, IsNumberBelow, given, not_given, most_bytes}
+use Rattle.starting_files.specs.Starting.{StartsFiles, StopsAtFile, StartHasCause, IsNumberBelow, bytes_at, given, not_given, most_bytes}
 use Rattle.ac_program.specs.declared.execute.Done.{Done}
 use Rattle.ac_program.specs.declared.words.Task.TheVariants as t
 use Rattle.ac_program.specs.Making.{AreStarted, AreStopped, stopped}
@@ -37,7 +37,19 @@ halts steps program disk later f.Failed h = h
 halts steps program disk later (f.TooLong file) h = h
 halts steps program disk later f.NoMemory h = stopped h
 
--- a run with the bytes of its files at the start
-pub with_files : (program : Resolved) (bound : ℕ) (other start : List (List ℕ)) (ended : Ended) → IsRunOf program bound other ended → IsRunOf program bound start (record ended { start = start })
-with_files program bound other start ended h =
-    record { steps = h.steps; files = refl; every_core = h.every_core; cores = h.cores; legal = h.legal; quiet = h.quiet }
+-- ---- the disk as the run begins
+
+bytes_are : (held : Held) (paths : List (List ℕ)) → map (λ f. f.bytes) (map (file_at held.found) paths) ≡ map (bytes_at held) paths
+bytes_are held [] = refl
+bytes_are held (path ∷ paths) = ap (λ more. bytes_at held path ∷ more) (bytes_are held paths)
+
+-- where no file was bound before, the bytes of the bound files are those that were read
+texts_are : (held : Held) (files : List NamedBytes) (paths : List (List ℕ)) → 0 ≡ length files → map (λ f. f.bytes) (files ++ map (file_at held.found) paths) ≡ map (bytes_at held) paths
+texts_are held [] paths none = bytes_are held paths
+texts_are held (file ∷ files) paths none = absurd (omega (arith, none))
+
+pub holds_start : (before after : Option Held) (bound : ℕ) (asked start : List (List ℕ)) → bound ≡ 0 → IfSome before (λ h. bound ≡ length h.files) → (before ≡ None → after ≡ None)
+    → IfSome before (λ h. StartsFiles h after asked (given start)) → IfSome after (λ h. texts h ≡ start)
+holds_start None after bound asked start none count silent told = subst (λ (it : Option Held). IfSome it (λ h. texts h ≡ start)) (sym (silent refl)) tt
+holds_start (Some held) after bound asked start none count silent told = subst (λ (it : Option Held). IfSome it (λ h. texts h ≡ start)) (sym told.1)
+    (texts_are held held.files asked (sym none ∙ count) ∙ sym told.0)

@@ -9,17 +9,18 @@ use Rattle.ac_tree.specs.declared.item.Program.{Program}
 use Rattle.ac_program.specs.declared.execute.Done.{Done}
 use Rattle.ac_program.specs.declared.words.Task.{Task}
 use Rattle.ac_program.specs.declared.words.Task.TheVariants as t
-use Rattle.ac_program.specs.Making.{AreLeft, AreStopped, Makes, untouched, stopped, started}
+use Rattle.ac_program.specs.Making.{AreLeft, AreStopped, Makes, stopped}
 use Rattle.ac_program.specs.Reading.{Gave}
-use Rattle.ac_program.specs.Headline.{LeavesDisk, TellsDisk, alone, of_program}
+use Rattle.core_runner.specs.declared.ended.Ended.{Ended}
+use Rattle.ac_program.specs.Headline.{IsLeft, TellsDisk, alone, of_program}
 
 given_as : (told : Option (List ℕ)) (source text : List ℕ) → Gave told source → text ≡ source → Gave told text
 given_as None source text g e = tt
 given_as (Some known) source text g e = e ∙ g
 
 -- what is left of a source that the library gave
-pub left_as : (told : Option (List ℕ)) (source : List ℕ) (task : Task) (disk later : DiskTold) → Gave told source → LeavesDisk (Some source) task disk later
-    → LeavesDisk told task disk later
+pub left_as : (told : Option (List ℕ)) (source : List ℕ) (task : Task) (disk later : DiskTold) → Gave told source → IsLeft (Some source) task disk later
+    → IsLeft told task disk later
 left_as told source task disk later g (alone e) = alone e
 left_as told source task disk later g (of_program text program h k left) = of_program text program (given_as told source text g h) k left
 
@@ -43,19 +44,18 @@ long_left paths file disk later h = stopped (record { some = h.some; below = tt;
 abbrev faults_of : DiskTold → ℕ
 faults_of disk = disk.faults
 
-pub left_faults : (paths : List (List ℕ)) (disk later : DiskTold) → AreLeft paths disk later → later.faults ≡ disk.faults
-left_faults paths disk later (untouched e) = ap faults_of e
-left_faults paths disk later (stopped s) = s.cause
-left_faults paths disk later (started start s) = s.well
+some_is_none : {A : Type 0} (run : Option A) (it : A) → run ≡ Some it → run ≡ None → ⊥
+some_is_none run it e n = cc (e, n)
 
-pub made_faults : (task : Task) (program : Program) (disk later : DiskTold) (done : Done) → Makes task program disk later done → later.faults ≡ disk.faults
-made_faults (t.Run steps) program disk later done d = d.files.well
-made_faults t.Check program disk later done d = ap faults_of d.alone
-made_faults t.Code program disk later done d = ap faults_of d.alone
+-- where there is no run, the disk was left alone
+pub made_faults : (task : Task) (program : Program) (disk later : DiskTold) (done : Done) → Makes task program disk later done → done.run ≡ None → later.faults ≡ disk.faults
+made_faults (t.Run steps) program disk later done d none = absurd (some_is_none done.run d.ended d.kept none)
+made_faults t.Check program disk later done d none = ap faults_of d.alone
+made_faults t.Code program disk later done d none = ap faults_of d.alone
 
--- what a status tells of a disk of which no call failed, and of one of which a call did
-pub tells_well : (disk later : DiskTold) (status : ℕ) → status ≢ 9 → later.faults ≡ disk.faults → TellsDisk disk later status
-tells_well disk later status never same = record { told = λ e. absurd (never e); only = λ _ _. same }
+-- what a status tells of a disk of which no call failed but in a run, and of one of which a call did
+pub tells_well : (disk later : DiskTold) (status : ℕ) (run : Option Ended) → status ≢ 9 → (status ≢ 11 → run ≡ None → later.faults ≡ disk.faults) → TellsDisk disk later status run
+tells_well disk later status run never same = record { told = λ e. absurd (never e); only = λ _ _ kept none. same kept none }
 
-pub tells_fault : (disk later : DiskTold) (status : ℕ) → (status ≢ 8 → status ≡ 9) → Rose disk.faults later.faults → TellsDisk disk later status
-tells_fault disk later status is rose = record { told = λ _. rose; only = λ n m. absurd (n (is m)) }
+pub tells_fault : (disk later : DiskTold) (status : ℕ) (run : Option Ended) → (status ≢ 8 → status ≡ 9) → Rose disk.faults later.faults → TellsDisk disk later status run
+tells_fault disk later status run is rose = record { told = λ _. rose; only = λ n m _ _. absurd (n (is m)) }

@@ -6,6 +6,8 @@ pub mod Endings
 pub mod Faults
 pub mod Filing
 pub mod Left
+pub mod LeftByRun
+pub mod NamedFiles
 pub mod Names
 pub mod OneRun
 pub mod OneStatus

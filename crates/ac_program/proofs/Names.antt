@@ -21,8 +21,9 @@ name_in core = core.name
 pub names_are : (program : Program) (code : Parts) → IsCodeOf program code → code.names ≡ names_of program
 names_are program code h = ap (λ (c : Parts). c.names) h
 
-pub as_many : (program : Program) (code : Parts) (bound : ℕ) (ended : Ended) → IsCodeOf program code → IsRunOf (resolved program) bound [] ended → length code.names ≡ length ended.cores
-as_many program code bound ended h r = ap (λ (c : Parts). length c.names) h ∙ length-map (resolved program).cores name_in ∙ sym r.every_core
+pub as_many : (program : Program) (code : Parts) (bound : ℕ) (start : List (List ℕ)) (ended : Ended) → IsCodeOf program code → IsRunOf (resolved program) bound start ended → length code.names
+    ≡ length ended.cores
+as_many program code bound start ended h r = ap (λ (c : Parts). length c.names) h ∙ length-map (resolved program).cores name_in ∙ sym r.every_core
 
 -- ---- how many there are
 

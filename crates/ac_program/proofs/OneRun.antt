@@ -1,4 +1,4 @@
--- Two runs of a program without channels whose nodes are all built, with the same bound, have the same status.
+-- Two runs of a program without channels and files, with the same bound, have the same status.
 use Rattle.std.proofs.Common.{◌≡◌, ℕ, suc, Bool, List, [], ◌∷◌, length, Some, None, refl, sym, ◌∙◌, subst, arith}
 use Rattle.ac_base.specs.Log.{Log}
 use Rattle.ac_base.specs.Report.{any_ends, is_trapped, is_out_of_steps, is_stalled, status_of}
@@ -15,13 +15,12 @@ use Rattle.ac_semantics.specs.Replay.{Replays}
 use Rattle.code_meaning.specs.Machine.{Runs}
 use Rattle.ac_translation.specs.Translation.{code_of}
 use Rattle.code_safety.proofs.NoEntries.{alone_takes_none}
-use Rattle.ac_compile.specs.Unbuilt.{unbuilt_nodes}
 use Rattle.ac_compile.proofs.Alone.{code_alone}
 use Rattle.ac_compile.proofs.OnlyEnds.{source_only}
 use Rattle.core_runner.specs.declared.ended.Ended.{Ended}
 use Rattle.core_runner.specs.Run.{IsCoreRun, AreCoreRuns, IsRunOf}
 
-module _ (p : Program) (clean : BreaksNone p.items) (shaped : HasShape p) (none : (resolved p).channels ≡ []) (built : unbuilt_nodes p.items ≡ []) (bound : ℕ) where
+module _ (p : Program) (clean : BreaksNone p.items) (shaped : HasShape p) (none : (resolved p).channels ≡ []) (no_files : (resolved p).files ≡ []) (bound : ℕ) where
   abbrev program : Resolved
   program = resolved p
 
@@ -30,7 +29,7 @@ module _ (p : Program) (clean : BreaksNone p.items) (shaped : HasShape p) (none 
   none_in : (core : ℕ) (es : List Entry) (end : MachineEnd) → Runs (code_of program) core bound es (record { core = Some end.core; count = end.instructions }) → es ≡ []
   none_in core [] end h = refl
   none_in core (e ∷ es) end h =
-      let never : Some end.core ≡ None = alone_takes_none (code_of program) core bound e es (record { core = Some end.core; count = end.instructions }) (code_alone p clean shaped none built) h in
+      let never : Some end.core ≡ None = alone_takes_none (code_of program) core bound e es (record { core = Some end.core; count = end.instructions }) (code_alone p clean shaped none no_files) h in
       absurd (cc (never))
 
   -- ---- so each core has one end

@@ -1,4 +1,4 @@
--- A text whose program has no channel calls for one status.
+-- A text whose program has no channel and no file calls for one status.
 use Rattle.std.proofs.Common.{◌≡◌, ◌⊎◌, ℕ, List, [], length, sym, ap, subst, inl, inr, arith}
 use Rattle.std.specs.Prelude.{◌↔◌}
 use Rattle.ac_tree.specs.declared.item.Program.{Program}
@@ -10,14 +10,15 @@ use Rattle.ac_program.specs.Source.{IsReady}
 use Rattle.ac_program.specs.Headline.{CallsFor, AreOfRuns, IsCalledFor}
 
 module _ (text : List ℕ) (task : Task) (disk : DiskTold) (status : ℕ) (called : IsCalledFor text task disk status)
-    (none : (steps : ℕ) (program : Program) → IsReady text (t.Run steps) program → (resolved program).channels ≡ []) where
+    (none : (steps : ℕ) (program : Program) → IsReady text (t.Run steps) program → ((resolved program).channels ≡ []) × ((resolved program).files ≡ [])) where
   same : (number : ℕ) → (number ≡ status) ⊎ AreOfRuns text task disk status number → status ≡ number
   same number (inl e) = sym e
   same number (inr r) =
       let ready = subst (λ (a : Task). IsReady text a r.program) r.is_run r.is_ready in
-      let some = r.has_channel in
-      let many = ap (λ xs. length xs) (none r.steps r.program ready) in
-      absurd (omega (arith, some, many))
+      let some = r.meets in
+      let many = ap (λ xs. length xs) (none r.steps r.program ready).0 in
+      let files = ap (λ xs. length xs) (none r.steps r.program ready).1 in
+      absurd (omega (arith, some, many, files))
 
   pub one_status : (number : ℕ) → (status ≡ number) ↔ CallsFor text task disk number
   one_status number = ((λ e. subst (λ n. CallsFor text task disk n) e called.calls), (λ h. same number (called.only number h)))

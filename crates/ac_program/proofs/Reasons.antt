@@ -8,7 +8,12 @@ use Rattle.starting_files.specs.declared.fault.StartFault.TheVariants as f
 use Rattle.starting_files.proofs.Started.{are_short}
 use Rattle.starting_files.specs.Starting.{StartsFiles, StopsAtFile, bytes_at, most_bytes, given}
 use Rattle.std.proofs.Common.{Option, None, Some, refl, sym, ap, ◌∙◌, subst, arith, length-append}
+use Rattle.ac_base.specs.Log.{Log}
+use Rattle.ac_commands.specs.declared.program.Resolved.{Resolved}
+use Rattle.ac_resolve.specs.Resolution.{resolved}
+use Rattle.ac_history.specs.Files.{padded, IsServed}
 use Rattle.ac_outside.specs.Told.{LibraryTold, SinkTold}
+use Rattle.core_runner.specs.DiskLeft.{deeds_of, LeavesFiles}
 use Rattle.core_runner.specs.declared.ended.Ended.{Ended}
 use Rattle.ac_program.specs.declared.words.Task.{Task}
 use Rattle.ac_program.specs.Words.{IsCall}
@@ -60,6 +65,13 @@ read_held : (held after : Option Held) (paths start : List (List ℕ)) → IfSom
 read_held None after paths start told = tt
 read_held (Some h) after paths start told = told.0
 
+-- a disk that told its files before they were read has served the run
+served_after : (program : Resolved) (journals : List Log) (held between : Option Held) (later : DiskTold) (paths start : List (List ℕ)) → IfSome held (λ h. StartsFiles h between paths (given start))
+    → IfSome between (λ h. (left : Held) × (later.held ≡ Some left) × LeavesFiles program start journals h left) → IfSome held (λ h. IsServed (padded start) (deeds_of program journals))
+served_after program journals None between later paths start told left = tt
+served_after program journals (Some h) between later paths start told left =
+    (subst (λ (it : Option Held). IfSome it (λ g. (last : Held) × (later.held ≡ Some last) × LeavesFiles program start journals g last)) told.1 left).2.served
+
 pub none_long : (held : Option Held) → IfSome held (λ h. All (λ path. length (bytes_at h path) ≤ most_bytes) [])
 none_long None = tt
 none_long (Some h) = λ k d less. absurd (omega (arith, less))
@@ -85,12 +97,19 @@ has_long paths file disk later stopped = let o = is_over disk.held later.held pa
 gives_of : (task : Task) (program : Program) (disk later : DiskTold) (status : ℕ) (done : Done) → status ≡ done.status.number → Makes task program disk later done
     → GivesStatus task program disk status
 gives_of (t.Run steps) program disk later status done n d =
-    record { start = d.start; are_held = read_held disk.held later.held _ d.start d.files.told; ended = d.ended; is_run = d.is_run; status_is = n ∙ d.status }
+    record {
+      start = d.start;
+      are_held = read_held disk.held d.between.held _ d.start d.files.told;
+      ended = d.ended;
+      is_run = d.is_run;
+      are_served = served_after (resolved program) d.ended.journals disk.held d.between.held later _ d.start d.files.told d.left.held;
+      status_is = n ∙ d.status;
+    }
 gives_of t.Check program disk later status done n d = n ∙ d.status
 gives_of t.Code program disk later status done n d = n ∙ d.status
 
 pub short_of : (task : Task) (program : Program) (disk later : DiskTold) (done : Done) → Makes task program disk later done → AreShort disk (needed task program)
-short_of (t.Run steps) program disk later done d = read_short disk.held later.held _ d.start d.files.short d.files.told
+short_of (t.Run steps) program disk later done d = read_short disk.held d.between.held _ d.start d.files.short d.files.told
 short_of t.Check program disk later done d = none_long disk.held
 short_of t.Code program disk later done d = none_long disk.held
 

@@ -1,6 +1,5 @@
 -- No source is refused with two statuses for one task, and for none that is refused is the task done.
-use Rattle.std.specs.Prelude.{slice_get}
-use Rattle.std.proofs.Common.{◌≡◌, ℕ, ◌<◌, ◌≤◌, List, [], ◌∷◌, length, Some, Ok, refl, sym, ◌∙◌, subst, arith}
+use Rattle.std.proofs.Common.{◌≡◌, ℕ, ◌<◌, ◌≤◌, List, length, Ok, refl, sym, ◌∙◌, subst, arith}
 use Rattle.ac_lexer.specs.declared.token.Token.{Token}
 use Rattle.ac_lexer.specs.declared.fault.LexFault.{LexFault}
 use Rattle.ac_lexer.specs.declared.fault.LexFault.TheVariants as l
@@ -11,7 +10,7 @@ use Rattle.ac_program.specs.declared.words.Task.{Task}
 use Rattle.ac_program.specs.declared.refusal.Refusal.{Refusal}
 use Rattle.ac_program.specs.declared.refusal.Refusal.TheVariants as r
 use Rattle.ac_program.specs.Lines.{refusal_status}
-use Rattle.ac_program.specs.Source.{HasTokens, HasFault, IsUnexpected, IsTooDeep, IsSpelled, IsReady, Refuses, all_steps, missing}
+use Rattle.ac_program.specs.Source.{HasTokens, HasFault, IsUnexpected, IsTooDeep, IsSpelled, IsReady, Refuses, all_steps}
 use Rattle.ac_program.proofs.Answered.{not_deep, not_unexpected, not_both}
 
 -- ---- what a source is, from its tokens on
@@ -20,8 +19,7 @@ use Rattle.ac_program.proofs.Answered.{not_deep, not_unexpected, not_both}
 pub data Ruled (task : Task) (p : Program) : ℕ → Type 0 where
   breaks : (rule at : ℕ) → IsLeastBroken p.items rule at → Ruled task p 3
   many : BreaksNone p.items → 4000000 < all_steps p task → Ruled task p 10
-  unbuilt : (at : ℕ) → BreaksNone p.items → all_steps p task ≤ 4000000 → slice_get (missing task p) 0 ≡ Some at → Ruled task p 15
-  built : BreaksNone p.items → all_steps p task ≤ 4000000 → missing task p ≡ [] → Ruled task p 0
+  fits : BreaksNone p.items → all_steps p task ≤ 4000000 → Ruled task p 0
 
 -- what a source comes to, by its status, where 0 stands for those of what is made of it
 pub data Comes (source : List ℕ) (task : Task) : ℕ → Type 0 where
@@ -40,10 +38,9 @@ comes_of source task short (r.Unexpected at) h = stray at h
 comes_of source task short (r.TooDeep at) h = deep at h
 comes_of source task short (r.Broken rule) h = spelled h.program 3 h.spelled (breaks rule.rule rule.at h.least)
 comes_of source task short r.TooManySteps h = spelled h.program 10 h.is_accepted.spelled (many h.is_accepted.clean h.over)
-comes_of source task short (r.NotBuilt at) h = spelled h.program 15 h.is_within.is_accepted.spelled (unbuilt at h.is_within.is_accepted.clean h.is_within.within h.unbuilt)
 
 pub ready_of : (source : List ℕ) (task : Task) (p : Program) → IsReady source task p → Comes source task 0
-ready_of source task p h = spelled p 0 h.is_within.is_accepted.spelled (built h.is_within.is_accepted.clean h.is_within.within h.built)
+ready_of source task p h = spelled p 0 h.is_accepted.spelled (fits h.is_accepted.clean h.within)
 
 -- ---- one of each
 
@@ -67,27 +64,16 @@ module _ (source : List ℕ) where
   pub same_program : (p q : Program) → IsSpelled source p → IsSpelled source q → p ≡ q
   same_program p q s t = s.tree.only q t.tree.marks t.tree.spells (sym t.tree.split ∙ same_tokens source s.tokens t.tokens s.lexed t.lexed)
 
-none_first : (ns : List ℕ) (at : ℕ) → slice_get ns 0 ≡ Some at → ns ≡ [] → ⊥
-none_first [] at e h = absurd (cc (e))
-none_first (n ∷ ns) at e h = absurd (cc (h))
-
 one_rule : (task : Task) (p : Program) (m n : ℕ) → Ruled task p m → Ruled task p n → m ≡ n
 one_rule task p _ _ (breaks rule at b) (breaks rule' at' b') = refl
 one_rule task p _ _ (breaks rule at b) (many c o) = absurd (c b.number rule b.is)
-one_rule task p _ _ (breaks rule at b) (unbuilt at' c w u) = absurd (c b.number rule b.is)
-one_rule task p _ _ (breaks rule at b) (built c w u) = absurd (c b.number rule b.is)
+one_rule task p _ _ (breaks rule at b) (fits c w) = absurd (c b.number rule b.is)
 one_rule task p _ _ (many c o) (breaks rule at b) = absurd (c b.number rule b.is)
 one_rule task p _ _ (many c o) (many c' o') = refl
-one_rule task p _ _ (many c o) (unbuilt at c' w u) = absurd (omega (arith, o, w))
-one_rule task p _ _ (many c o) (built c' w u) = absurd (omega (arith, o, w))
-one_rule task p _ _ (unbuilt at c w u) (breaks rule at' b) = absurd (c b.number rule b.is)
-one_rule task p _ _ (unbuilt at c w u) (many c' o) = absurd (omega (arith, o, w))
-one_rule task p _ _ (unbuilt at c w u) (unbuilt at' c' w' u') = refl
-one_rule task p _ _ (unbuilt at c w u) (built c' w' u') = absurd (none_first (missing task p) at u u')
-one_rule task p _ _ (built c w u) (breaks rule at b) = absurd (c b.number rule b.is)
-one_rule task p _ _ (built c w u) (many c' o) = absurd (omega (arith, o, w))
-one_rule task p _ _ (built c w u) (unbuilt at c' w' u') = absurd (none_first (missing task p) at u' u)
-one_rule task p _ _ (built c w u) (built c' w' u') = refl
+one_rule task p _ _ (many c o) (fits c' w) = absurd (omega (arith, o, w))
+one_rule task p _ _ (fits c w) (breaks rule at b) = absurd (c b.number rule b.is)
+one_rule task p _ _ (fits c w) (many c' o) = absurd (omega (arith, o, w))
+one_rule task p _ _ (fits c w) (fits c' w') = refl
 
 pub one_status : (source : List ℕ) (task : Task) (m n : ℕ) → Comes source task m → Comes source task n → m ≡ n
 one_status source task _ _ (faulty f h) (faulty f' h') = refl
@@ -124,7 +110,6 @@ some_status (r.Unexpected at) = omega arith
 some_status (r.TooDeep at) = omega arith
 some_status (r.Broken rule) = omega arith
 some_status r.TooManySteps = omega arith
-some_status (r.NotBuilt at) = omega arith
 
 -- and for it the task is not done
 pub refused_not : (source : List ℕ) (task : Task) → length source ≤ 1048576 → (refusal : Refusal) (p : Program) → Refuses source task refusal → IsReady source task p → ⊥

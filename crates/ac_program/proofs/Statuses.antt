@@ -51,19 +51,18 @@ not_one status (inr (inr (inr e))) h = omega (arith, e, h)
 -- ---- statuses of refusals
 
 abbrev pub IsOfRefusal : ℕ → Type 0
-IsOfRefusal status = (status ≡ 2) ⊎ (status ≡ 3) ⊎ (status ≡ 10) ⊎ (status ≡ 15)
+IsOfRefusal status = (status ≡ 2) ⊎ (status ≡ 3) ⊎ (status ≡ 10)
 
 pub of_refusal : (refusal : Refusal) → IsOfRefusal (refusal_status refusal)
-of_refusal r.TooLong = inr (inr (inl refl))
+of_refusal r.TooLong = inr (inr refl)
 of_refusal (r.BadByte at) = inl refl
 of_refusal (r.NumberTooLarge at) = inl refl
 of_refusal (r.OpenComment at) = inl refl
 of_refusal (r.OpenText at) = inl refl
 of_refusal (r.Unexpected at) = inl refl
-of_refusal (r.TooDeep at) = inr (inr (inl refl))
+of_refusal (r.TooDeep at) = inr (inr refl)
 of_refusal (r.Broken rule) = inr (inl refl)
-of_refusal r.TooManySteps = inr (inr (inl refl))
-of_refusal (r.NotBuilt at) = inr (inr (inr refl))
+of_refusal r.TooManySteps = inr (inr refl)
 
 pub other_cores : (status : ℕ) → IsOfCores status → (status ≡ 2 → ⊥) × ((status ≡ 3 → ⊥) × (status ≤ 6))
 other_cores status (inl e) = ((λ h. omega (arith, e, h)), ((λ h. omega (arith, e, h)), omega (arith, e)))
@@ -75,39 +74,33 @@ other_cores status (inr (inr (inr e))) = ((λ h. omega (arith, e, h)), ((λ h. o
 pub apart : (status : ℕ) → IsOfRefusal status → IsOfCores status → ⊥
 apart status (inl e) h = (other_cores status h).0 e
 apart status (inr (inl e)) h = (other_cores status h).1.0 e
-apart status (inr (inr (inl e))) h = omega (arith, (other_cores status h).1.1, e)
-apart status (inr (inr (inr e))) h = omega (arith, (other_cores status h).1.1, e)
+apart status (inr (inr e)) h = omega (arith, (other_cores status h).1.1, e)
 
 -- and none is that of the usage line, or of a failure
 pub one : (status : ℕ) → IsOfRefusal status → status ≡ 1 → ⊥
 one status (inl e) h = omega (arith, e, h)
 one status (inr (inl e)) h = omega (arith, e, h)
-one status (inr (inr (inl e))) h = omega (arith, e, h)
-one status (inr (inr (inr e))) h = omega (arith, e, h)
+one status (inr (inr e)) h = omega (arith, e, h)
 
 pub seven : (status : ℕ) → IsOfRefusal status → status ≡ 7 → ⊥
 seven status (inl e) h = omega (arith, e, h)
 seven status (inr (inl e)) h = omega (arith, e, h)
-seven status (inr (inr (inl e))) h = omega (arith, e, h)
-seven status (inr (inr (inr e))) h = omega (arith, e, h)
+seven status (inr (inr e)) h = omega (arith, e, h)
 
 pub eight : (status : ℕ) → IsOfRefusal status → status ≡ 8 → ⊥
 eight status (inl e) h = omega (arith, e, h)
 eight status (inr (inl e)) h = omega (arith, e, h)
-eight status (inr (inr (inl e))) h = omega (arith, e, h)
-eight status (inr (inr (inr e))) h = omega (arith, e, h)
+eight status (inr (inr e)) h = omega (arith, e, h)
 
 pub nine : (status : ℕ) → IsOfRefusal status → status ≡ 9 → ⊥
 nine status (inl e) h = omega (arith, e, h)
 nine status (inr (inl e)) h = omega (arith, e, h)
-nine status (inr (inr (inl e))) h = omega (arith, e, h)
-nine status (inr (inr (inr e))) h = omega (arith, e, h)
+nine status (inr (inr e)) h = omega (arith, e, h)
 
 pub eleven : (status : ℕ) → IsOfRefusal status → status ≡ 11 → ⊥
 eleven status (inl e) h = omega (arith, e, h)
 eleven status (inr (inl e)) h = omega (arith, e, h)
-eleven status (inr (inr (inl e))) h = omega (arith, e, h)
-eleven status (inr (inr (inr e))) h = omega (arith, e, h)
+eleven status (inr (inr e)) h = omega (arith, e, h)
 
 -- a status that is 1 unless it is 8
 pub one_or_eight : (status : ℕ) → (status ≢ 8 → status ≡ 1) → (status ≡ 1) ⊎ (status ≡ 8)

@@ -35,7 +35,7 @@ use Rattle.code_listing.specs.Listing.{listing}
 use Rattle.core_machine.specs.Machine.{Machine, IsFirst, IsOnItsWay, IsSameCore}
 use Rattle.ac_program.proofs.OneStatus.{one_status}
 use Rattle.ac_program.proofs.Reasons.{is_decided}
-use Rattle.ac_program.proofs.TwoRules.{two_tree, two_is_clean, two_is_built}
+use Rattle.ac_program.proofs.TwoRules.{two_tree, two_is_clean}
 use Rattle.ac_program.proofs.Examples.{code_prints_seven, e, it_is_a_run, it_is_done, it_is_spelled, it_replays, its_call}
 use Rattle.ac_program.proofs.Examples.{its_end, its_library, its_only_program, its_library_after, its_reading}
 use Rattle.ac_program.proofs.Examples.{its_report, its_run, its_sink, its_status_is_called_for, its_files_are_known, its_words, no_disk, sink_with}
@@ -94,22 +94,23 @@ it_is_decided = is_decided its_words (t.Run 100) (codes "two.ac") its_library it
 pub it_is_called_for : IsCalledFor two_text (t.Run 100) no_disk 0
 it_is_called_for = it_is_decided.only (t.Run 100) (codes "two.ac") two_text its_call refl its_files_are_known
 
--- no two runs of a program without a channel differ
-it_has_no_channel : (steps : ℕ) (program : Program) → IsReady two_text (t.Run steps) program → (resolved program).channels ≡ []
-it_has_no_channel steps program k = subst (λ (p : Program). (resolved p).channels ≡ []) (its_only_program program k.is_within.is_accepted.spelled) refl
+-- no two runs of a program without a channel and a file differ
+it_has_none : (steps : ℕ) (program : Program) → IsReady two_text (t.Run steps) program → ((resolved program).channels ≡ []) × ((resolved program).files ≡ [])
+it_has_none steps program k = subst (λ (p : Program). ((resolved p).channels ≡ []) × ((resolved p).files ≡ [])) (its_only_program program k.is_accepted.spelled) (refl, refl)
 
 pub its_runs_do_not_differ : AreOfRuns two_text (t.Run 100) no_disk 0 4 → ⊥
 its_runs_do_not_differ r =
     let k = subst (λ (a : Task). IsReady two_text a r.program) r.is_run r.is_ready in
-    let some = r.has_channel in
-    let many = ap (λ xs. length xs) (it_has_no_channel r.steps r.program k) in
-    omega (arith, some, many)
+    let some = r.meets in
+    let many = ap (λ xs. length xs) (it_has_none r.steps r.program k).0 in
+    let files = ap (λ xs. length xs) (it_has_none r.steps r.program k).1 in
+    omega (arith, some, many, files)
 
 -- no other status
 pub it_is_not_decided_otherwise : IsDecided its_words its_library its_library_after no_disk 4 → ⊥
 it_is_not_decided_otherwise h =
     let called = h.only (t.Run 100) (codes "two.ac") two_text its_call refl its_files_are_known in
-    let e : 4 ≡ 0 = (one_status two_text (t.Run 100) no_disk 4 called it_has_no_channel 0).1 its_status_is_called_for in
+    let e : 4 ≡ 0 = (one_status two_text (t.Run 100) no_disk 4 called it_has_none 0).1 its_status_is_called_for in
     omega (arith, e)
 
 -- ---- its code
@@ -144,13 +145,13 @@ pub its_code_is_told : Makes t.Code two_tree no_disk no_disk (record { run = Non
 its_code_is_told = record { no_run = refl; text_is = sym it_is_listed ∙ ap (λ (code : Parts). listing code) two_is_compiled; status = refl; alone = refl }
 
 its_code_is_ready : IsReady two_text t.Code two_tree
-its_code_is_ready = record { is_within = record { is_accepted = record { spelled = it_is_spelled; clean = two_is_clean }; within = omega arith }; built = two_is_built }
+its_code_is_ready = record { is_accepted = record { spelled = it_is_spelled; clean = two_is_clean }; within = omega arith }
 
 pub its_code_is_done : IsDueOf two_text t.Code no_disk no_disk 0 its_listing None
 its_code_is_done = ready two_tree its_code_is_ready (is_made (record { run = None; text = its_listing; status = record { number = 0 } }) refl refl refl its_code_is_told)
 
 its_check_is_ready : IsReady two_text t.Check two_tree
-its_check_is_ready = record { is_within = record { is_accepted = record { spelled = it_is_spelled; clean = two_is_clean }; within = omega arith }; built = refl }
+its_check_is_ready = record { is_accepted = record { spelled = it_is_spelled; clean = two_is_clean }; within = omega arith }
 
 pub its_check_is_done : IsDueOf two_text t.Check no_disk no_disk 0 (codes "accepted\n") None
 its_check_is_done = ready two_tree its_check_is_ready
@@ -163,7 +164,7 @@ pub its_check_gives_0_alone : GivesStatus t.Check two_tree no_disk 4 → ⊥
 its_check_gives_0_alone h = omega (arith, h)
 
 pub its_run_gives_0 : HasRun two_tree 100 no_disk 0
-its_run_gives_0 = record { start = []; are_held = tt; ended = its_run; is_run = it_is_a_run; status_is = refl }
+its_run_gives_0 = record { start = []; are_held = tt; ended = its_run; is_run = it_is_a_run; are_served = tt; status_is = refl }
 
 -- a code that prints nothing comes to another end
 abbrev pub silent : Parts

@@ -2,6 +2,7 @@
 -- `later` what the disk does, and `sink` and `written` what the sink does.
 use Rattle.std.specs.Prelude.{◌≡◌, ◌≢◌, ℕ, ◌+◌, ◌<◌, ◌≤◌, ◌⊎◌, List, [], length, map, All, Contains, is_some, IsTrue, IfSome, None, Some}
 use Rattle.std.specs.declared.option.Option.{Option}
+use Rattle.ac_base.specs.Log.{Log}
 use Rattle.ac_base.specs.Report.{status_of}
 use Rattle.ac_lexer.specs.declared.fault.LexFault.{LexFault}
 use Rattle.ac_tree.specs.declared.item.Program.{Program}
@@ -18,8 +19,10 @@ use Rattle.ac_program.specs.declared.words.Task.TheVariants as t
 use Rattle.ac_program.specs.Words.{IsCall}
 use Rattle.ac_program.specs.Reading.{Gave, TookBytes}
 use Rattle.ac_program.specs.Writing.{TookFront}
-use Rattle.ac_program.specs.Source.{HasFault, IsUnexpected, IsTooDeep, IsBroken, IsTooMany, IsNotBuilt, IsReady, needed}
+use Rattle.ac_program.specs.Source.{HasFault, IsUnexpected, IsTooDeep, IsBroken, IsTooMany, IsReady, needed}
+use Rattle.ac_history.specs.Files.{padded, IsServed}
 use Rattle.core_runner.specs.Run.{IsRunOf}
+use Rattle.core_runner.specs.DiskLeft.{deeds_of}
 use Rattle.ac_program.specs.Making.{IsDueOf, AreLeft}
 use Rattle.ac_program.specs.Lines.{usage_line, library_line, limit_source_line}
 
@@ -71,10 +74,10 @@ pub record TookPart (Due : ℕ → List ℕ → Option Ended → Type 0) (run : 
   pub taken : TookFront sink.held written.held text
 
 -- what want of memory leaves of the disk: as it was, or as the files of the program of a text that the library may have given were left
-pub data LeavesDisk (told : Option (List ℕ)) (task : Task) (disk later : DiskTold) : Type 0 where
-  alone : later ≡ disk → LeavesDisk told task disk later
+pub data IsLeft (told : Option (List ℕ)) (task : Task) (disk later : DiskTold) : Type 0 where
+  alone : later ≡ disk → IsLeft told task disk later
   of_program : (text : List ℕ) (program : Program) → Gave told text → IsReady text task program →
-      AreLeft (needed task program) disk later → LeavesDisk told task disk later
+      AreLeft (needed task program) disk later → IsLeft told task disk later
 
 -- memory was refused: the words are a call, just its file was opened, nothing is written and no run is kept
 pub record GaveUp (words : List (List ℕ)) (before after : LibraryTold) (disk later : DiskTold) (run : Option Ended)
@@ -83,7 +86,7 @@ pub record GaveUp (words : List (List ℕ)) (before after : LibraryTold) (disk l
   pub file : List ℕ
   pub is_call : IsCall words task file
   pub is_read : IsRead before after file
-  pub files : LeavesDisk (before.text_at file) task disk later
+  pub files : IsLeft (before.text_at file) task disk later
   pub no_run : run ≡ None
   pub nothing : GrewBy sink.held written.held []
 
@@ -104,10 +107,11 @@ pub record TellsSink (sink written : SinkTold) (status : ℕ) : Type 0 where
   pub told : status ≡ 8 → Rose sink.faults written.faults
   pub only : status ≢ 8 → written.faults ≡ sink.faults
 
--- 9 where a call of the disk failed, unless one of the sink did too, and at no other time
-pub record TellsDisk (disk later : DiskTold) (status : ℕ) : Type 0 where
+-- 9 where a call of the disk failed, unless one of the sink did too, and at no other time but in a run: what failed there is answered to
+-- its requests (`LeavesDisk` of core_runner)
+pub record TellsDisk (disk later : DiskTold) (status : ℕ) (run : Option Ended) : Type 0 where
   pub told : status ≡ 9 → Rose disk.faults later.faults
-  pub only : status ≢ 9 → status ≢ 8 → later.faults ≡ disk.faults
+  pub only : status ≢ 9 → status ≢ 8 → status ≢ 11 → run ≡ None → later.faults ≡ disk.faults
 
 -- none of these, nor 11, where memory was refused: it is for the text of the file to decide, and the files of its program
 pub record IsOfText (status : ℕ) : Type 0 where
@@ -121,12 +125,17 @@ pub record IsOfText (status : ℕ) : Type 0 where
 abbrev pub AreHeld : DiskTold → List (List ℕ) → List (List ℕ) → Type 0
 AreHeld disk paths start = IfSome disk.held (λ held. start ≡ map (bytes_at held) paths)
 
+-- each read in a run with these journals was given what stood there, where the disk tells its files
+abbrev pub AreServed : DiskTold → Program → List (List ℕ) → List Log → Type 0
+AreServed disk program start journals = IfSome disk.held (λ held. IsServed (padded start) (deeds_of (resolved program) journals))
+
 -- a run of the program with this bound on steps and the files that the disk holds, whose cores have this status
 pub record HasRun (program : Program) (steps : ℕ) (disk : DiskTold) (status : ℕ) : Type 0 where
   pub start : List (List ℕ)
   pub are_held : AreHeld disk (file_paths program.items) start
   pub ended : Ended
   pub is_run : IsRunOf (resolved program) steps start ended
+  pub are_served : AreServed disk program start ended.journals
   pub status_is : status ≡ status_of ended.cores
 
 -- the status of what a task makes of a program: that of the cores in a run, and else 0
@@ -157,19 +166,18 @@ pub data CallsFor (text : List ℕ) (task : Task) (disk : DiskTold) (status : �
   too_many : status ≡ 10 → IsShort text → IsTooMany text task → CallsFor text task disk status
   long_file : (program : Program) → status ≡ 10 → IsShort text → IsReady text task program → HasLong disk (needed task program) →
       CallsFor text task disk status
-  -- 15: a form of its program is not built, but not in a check
-  not_built : (at : ℕ) → status ≡ 15 → IsShort text → IsNotBuilt text task at → CallsFor text task disk status
   -- 0, and in a run also 4, 5 or 6: nothing refuses it, and this is the status of what is made of its program
   made : (program : Program) → IsShort text → IsReady text task program → AreShort disk (needed task program) →
       GivesStatus task program disk status → CallsFor text task disk status
 
--- Two runs of its program, which has a channel, have these statuses: a program does not say which of the messages for a core come first.
+-- Two runs of its program, which has a channel or a file, have these statuses: a program does not say which of the messages for a core, or
+-- of the requests of files, come first, nor where a call of the disk fails.
 pub record AreOfRuns (text : List ℕ) (task : Task) (disk : DiskTold) (status number : ℕ) : Type 0 where
   pub steps : ℕ
   pub program : Program
   pub is_run : task ≡ t.Run steps
   pub is_ready : IsReady text task program
-  pub has_channel : 1 ≤ length (resolved program).channels
+  pub meets : 1 ≤ length (resolved program).channels + length (resolved program).files
   pub one : HasRun program steps disk status
   pub other : HasRun program steps disk number
 

@@ -41,7 +41,6 @@ refusal_line (r.Unexpected at) = place_line (codes "unexpected token at ") at
 refusal_line (r.TooDeep at) = place_line (codes "limit: nesting at ") at
 refusal_line (r.Broken rule) = rule_line rule
 refusal_line r.TooManySteps = codes "limit: steps" ++ 10 ∷ []
-refusal_line (r.NotBuilt at) = place_line (codes "not built at ") at
 
 -- and its status
 abbrev pub refusal_status : Refusal → ℕ
@@ -54,4 +53,3 @@ refusal_status (r.Unexpected at) = 2
 refusal_status (r.TooDeep at) = 10
 refusal_status (r.Broken rule) = 3
 refusal_status r.TooManySteps = 10
-refusal_status (r.NotBuilt at) = 15

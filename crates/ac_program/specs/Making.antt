@@ -7,7 +7,7 @@ use Rattle.ac_names.specs.Numbered.{file_paths}
 use Rattle.ac_resolve.specs.Resolution.{resolved}
 use Rattle.ac_translation.specs.Translation.{code_of}
 use Rattle.code_listing.specs.Listing.{listing}
-use Rattle.ac_outside.specs.Disks.{DiskTold}
+use Rattle.ac_outside.specs.Disks.{DiskTold, BindsNone}
 use Rattle.starting_files.specs.declared.fault.StartFault.{StartFault}
 use Rattle.starting_files.specs.declared.fault.StartFault.TheVariants as f
 use Rattle.starting_files.specs.Starting.{StartsFiles, StopsAtFile, StartHasCause, IsNumberBelow, given, not_given, most_bytes}
@@ -18,6 +18,8 @@ use Rattle.core_runner.specs.declared.ended.Ended.{Ended}
 use Rattle.ac_program.specs.declared.refusal.Refusal.{Refusal}
 use Rattle.ac_program.specs.Source.{IsReady, Refuses, names_of, needed}
 use Rattle.core_runner.specs.Run.{IsRunOf}
+use Rattle.core_runner.specs.DiskLeft.{deeds_of, LeavesDisk}
+use Rattle.core_runner.specs.Naming.{AreNamed}
 use Rattle.ac_program.specs.Lines.{accepted_line, disk_line, limit_file_line, refusal_line, refusal_status}
 
 -- ---- files: `disk` and `later` are what the disk tells before and after
@@ -39,21 +41,28 @@ pub record AreStopped (paths : List (List ℕ)) (fault : StartFault) (disk later
   pub cause : StartHasCause disk.faults later.faults (not_given fault)
   pub told : IfSome disk.held (λ held. StopsAtFile held later.held paths fault)
 
--- what want of memory leaves of the files of these paths: nothing was done with them, or some were bound, or all
+-- What want of memory leaves of the files of these paths: nothing was done with them, or some were bound; or all were bound and read, and
+-- then, by `between`, a run has begun, of which it is said only that it bound no file more.
 pub data AreLeft (paths : List (List ℕ)) (disk later : DiskTold) : Type 0 where
   untouched : later ≡ disk → AreLeft paths disk later
   stopped : AreStopped paths f.NoMemory disk later → AreLeft paths disk later
-  started : (start : List (List ℕ)) → AreStarted paths start disk later → AreLeft paths disk later
+  begun : (start : List (List ℕ)) (between : DiskTold) → AreStarted paths start disk between → BindsNone between later →
+      AreLeft paths disk later
 
 -- ---- what is made
 
--- of a run: a run of the program with this bound on steps, and the report and the status of that very run
+-- Of a run: a run of the program with this bound on steps and the files that were read, and the report and the status of that very run.
+-- `between` is what the disk tells after the files were read; the run has left of it what its history says, in which each request that was
+-- done is of a file of the program.
 pub record IsReported (program : Program) (bound : ℕ) (disk later : DiskTold) (done : Done) : Type 0 where
   pub start : List (List ℕ)
-  pub files : AreStarted (file_paths program.items) start disk later
+  pub between : DiskTold
+  pub files : AreStarted (file_paths program.items) start disk between
   pub ended : Ended
   pub kept : done.run ≡ Some ended
   pub is_run : IsRunOf (resolved program) bound start ended
+  pub left : LeavesDisk (resolved program) start ended.journals between later
+  pub named : AreNamed (length (file_paths program.items)) (deeds_of (resolved program) ended.journals)
   pub text : done.text ≡ report_of (names_of program) ended.cores
   pub status : done.status.number ≡ status_of ended.cores
 

@@ -1,5 +1,5 @@
 -- What a source comes to.
-use Rattle.std.specs.Prelude.{◌≡◌, ℕ, ◌*◌, ◌<◌, ◌≤◌, List, [], map, length, slice_get, Some, Result, Ok, Err}
+use Rattle.std.specs.Prelude.{◌≡◌, ℕ, ◌*◌, ◌<◌, ◌≤◌, List, [], map, length, Result, Ok, Err}
 use Rattle.ac_lexer.specs.declared.token.Token.{Token}
 use Rattle.ac_lexer.specs.declared.fault.LexFault.{LexFault}
 use Rattle.ac_lexer.specs.declared.fault.LexFault.TheVariants as l
@@ -10,7 +10,6 @@ use Rattle.ac_program.specs.declared.refusal.BrokenRule.{BrokenRule}
 use Rattle.ac_types.specs.Reached.{BreaksNone, IsLeastBroken}
 use Rattle.ac_names.specs.Numbered.{core_names, file_paths}
 use Rattle.ac_resolve.specs.Resolution.{resolved}
-use Rattle.ac_compile.specs.Unbuilt.{unbuilt_nodes}
 use Rattle.ac_program.specs.declared.refusal.Refusal.{Refusal}
 use Rattle.ac_program.specs.declared.refusal.Refusal.TheVariants as r
 use Rattle.ac_program.specs.declared.words.Task.{Task}
@@ -78,29 +77,10 @@ pub record IsTooMany (source : List ℕ) (task : Task) : Type 0 where
   pub is_accepted : IsAccepted source program
   pub over : most_steps < all_steps program task
 
--- the source is accepted and within the limit of steps
-pub record IsWithin (source : List ℕ) (task : Task) (program : Program) : Type 0 where
+-- nothing refuses the source, which spells this program: it is accepted and within the limit of steps
+pub record IsReady (source : List ℕ) (task : Task) (program : Program) : Type 0 where
   pub is_accepted : IsAccepted source program
   pub within : all_steps program task ≤ most_steps
-
--- ---- what is built
-
--- the nodes that are not built and that a task needs: a check needs none
-abbrev pub missing : Task → Program → List ℕ
-missing (t.Run steps) program = unbuilt_nodes program.items
-missing t.Check program = []
-missing t.Code program = unbuilt_nodes program.items
-
--- the first node that is needed and not built begins at this place
-pub record IsNotBuilt (source : List ℕ) (task : Task) (at : ℕ) : Type 0 where
-  pub program : Program
-  pub is_within : IsWithin source task program
-  pub unbuilt : slice_get (missing task program) 0 ≡ Some at
-
--- nothing refuses the source, which spells this program
-pub record IsReady (source : List ℕ) (task : Task) (program : Program) : Type 0 where
-  pub is_within : IsWithin source task program
-  pub built : missing task program ≡ []
 
 -- ---- files
 
@@ -123,7 +103,6 @@ Refuses source task (r.Unexpected at) = IsUnexpected source at
 Refuses source task (r.TooDeep at) = IsTooDeep source at
 Refuses source task (r.Broken rule) = IsBroken source rule
 Refuses source task r.TooManySteps = IsTooMany source task
-Refuses source task (r.NotBuilt at) = IsNotBuilt source task at
 
 -- the names of the cores of a program
 abbrev pub names_of : Program → List (List ℕ)

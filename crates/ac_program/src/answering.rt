@@ -6,9 +6,9 @@ ghost use Rattle.ac_names.specs.Numbered.{file_paths};
 ghost use Rattle.ac_outside.specs.Told.{OpenedJust, GrewBy};
 ghost use Rattle.ac_program.specs.Writing.{TookFront};
 ghost use Rattle.ac_program.specs.Lines.{limit_file_line, refusal_line, refusal_status};
-ghost use Rattle.ac_program.specs.Headline.{IsDueOfFile, LeavesDisk, TookWhole, TookPart, TellsDisk, TellsLibrary, TellsSink};
+ghost use Rattle.ac_program.specs.Headline.{IsDueOfFile, IsLeft, TookWhole, TookPart, TellsDisk, TellsLibrary, TellsSink};
 ghost use Rattle.ac_program.specs.Making.{AreLeft, IsDueOf, IsDueOfProgram};
-ghost use Rattle.ac_program.specs.Source.{all_steps, missing, most_steps, needed};
+ghost use Rattle.ac_program.specs.Source.{all_steps, most_steps, needed};
 
 use crate::building::build;
 use crate::execute::{Done, make};
@@ -117,7 +117,6 @@ fn do_program<K: Sink, D: Disk>(
     sink: &mut K,
     disk: &mut D,
 ) -> Outcome
-    requires built { missing task checked.now ≡ [] }
     requires few { all_steps checked.now task ≤ most_steps }
     requires files { length (file_paths checked.now.items) ≤ 16 }
     requires texts { All IsUtf8 (file_paths checked.now.items) }
@@ -132,7 +131,7 @@ fn do_program<K: Sink, D: Disk>(
     ensures left { result.status.number ≡ 11 → AreLeft (needed task checked.now) (D.told disk.old) (D.told disk.new) }
     ensures memory { result.status.number ≡ 11 → GrewBy (K.told sink.old).held (K.told sink.new).held [] }
     ensures no_run { result.status.number ≡ 11 → result.run ≡ None }
-    ensures disk { TellsDisk (D.told disk.old) (D.told disk.new) result.status.number }
+    ensures disk { TellsDisk (D.told disk.old) (D.told disk.new) result.status.number result.run }
     ensures sink { TellsSink (K.told sink.old) (K.told sink.new) result.status.number }
     ensures other { (result.status.number ≢ 1) × (result.status.number ≢ 7) }
 {
@@ -160,10 +159,10 @@ pub fn do_source<K: Sink, D: Disk>(
         result.status.number result.run (K.told sink.old) (K.told sink.new) }
     ensures part { result.status.number ≡ 8 →
         TookPart (IsDueOf source.now task (D.told disk.old) (D.told disk.new)) result.run (K.told sink.old) (K.told sink.new) }
-    ensures left { result.status.number ≡ 11 → LeavesDisk (Some source.now) task (D.told disk.old) (D.told disk.new) }
+    ensures left { result.status.number ≡ 11 → IsLeft (Some source.now) task (D.told disk.old) (D.told disk.new) }
     ensures memory { result.status.number ≡ 11 → GrewBy (K.told sink.old).held (K.told sink.new).held [] }
     ensures no_run { result.status.number ≡ 11 → result.run ≡ None }
-    ensures disk { TellsDisk (D.told disk.old) (D.told disk.new) result.status.number }
+    ensures disk { TellsDisk (D.told disk.old) (D.told disk.new) result.status.number result.run }
     ensures sink { TellsSink (K.told sink.old) (K.told sink.new) result.status.number }
     ensures other { (result.status.number ≢ 1) × (result.status.number ≢ 7) }
 {
@@ -193,11 +192,11 @@ pub fn do_file<L: Library, K: Sink, D: Disk>(
         result.run (K.told sink.old) (K.told sink.new) }
     ensures just { OpenedJust (L.told library.old) (L.told library.new) file.now }
     ensures left { result.status.number ≡ 11 →
-        LeavesDisk ((L.told library.old).text_at file.now) task (D.told disk.old) (D.told disk.new) }
+        IsLeft ((L.told library.old).text_at file.now) task (D.told disk.old) (D.told disk.new) }
     ensures memory { result.status.number ≡ 11 → GrewBy (K.told sink.old).held (K.told sink.new).held [] }
     ensures no_run { result.status.number ≡ 11 → result.run ≡ None }
     ensures library { TellsLibrary (L.told library.old) (L.told library.new) result.status.number }
-    ensures disk { TellsDisk (D.told disk.old) (D.told disk.new) result.status.number }
+    ensures disk { TellsDisk (D.told disk.old) (D.told disk.new) result.status.number result.run }
     ensures sink { TellsSink (K.told sink.old) (K.told sink.new) result.status.number }
     ensures other { result.status.number ≢ 1 }
 {

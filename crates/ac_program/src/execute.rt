@@ -1,15 +1,14 @@
 //! What a task makes of a program, and the status that goes with it.
 
-ghost use Rattle.std.specs.Prelude.{◌≡◌, ◌≢◌, ◌*◌, ◌≤◌, [], All, AllPairs, length, IfOk, IsTrue, None};
+ghost use Rattle.std.specs.Prelude.{◌≡◌, ◌≢◌, ◌*◌, ◌≤◌, All, AllPairs, length, IfOk, IsTrue, None};
 ghost use Rattle.std.specs.Str.{IsUtf8};
 ghost use Rattle.ac_names.specs.Numbered.{core_names, file_paths};
-ghost use Rattle.ac_compile.specs.Unbuilt.{unbuilt_nodes};
 ghost use Rattle.ac_resolve.specs.Resolution.{resolved};
 ghost use Rattle.ac_translation.specs.Translation.{code_of};
 ghost use Rattle.code_listing.specs.Listing.{listing};
 ghost use Rattle.ac_program.specs.declared.words.Task.TheVariants as t;
 ghost use Rattle.ac_program.specs.Lines.{accepted_line};
-ghost use Rattle.ac_program.specs.Source.{all_steps, missing, most_steps};
+ghost use Rattle.ac_program.specs.Source.{all_steps, most_steps};
 ghost use Rattle.ac_program.specs.inner.Parts.{GivesDone, GivesText};
 
 use crate::words::Task;
@@ -41,24 +40,6 @@ fn paths_of(alloc: Global, checked: &Checked) -> Result<List<Bytes>, NoMemory>
     Ok(paths)
 }
 
-// The run with the bytes of its files at the start.
-fn with_start(ended: Ended, start: List<Bytes>) -> Ended
-    ensures { result ≡ record ended { start = start } }
-{
-    let Ended {
-        steps,
-        journals,
-        cores,
-        ..
-    } = ended;
-    Ended {
-        steps,
-        start,
-        journals,
-        cores,
-    }
-}
-
 // A run of a program on its files, and its report.
 fn reported<D: Disk>(
     alloc: Global,
@@ -66,7 +47,6 @@ fn reported<D: Disk>(
     steps: u32,
     disk: &mut D,
 ) -> Result<Done, StartFault>
-    requires built { unbuilt_nodes checked.now.items ≡ [] }
     requires few { length (core_names checked.now.items) * steps ≤ 4000000 }
     requires files { length (file_paths checked.now.items) ≤ 16 }
     requires texts { All IsUtf8 (file_paths checked.now.items) }
@@ -75,14 +55,16 @@ fn reported<D: Disk>(
     requires none { (D.told disk.old).bound ≡ 0 }
     ensures { GivesDone (t.Run steps) checked.now (D.told disk.old) (D.told disk.new) result }
 {
+    // What holds of a tree at any time is asked for, for the proof.
+    let _ = checked.tree();
     let code = compile(alloc, checked)?;
     let paths = paths_of(alloc, checked)?;
     let start = start_files(alloc, disk, paths.as_slice())?;
-    let ended = run(alloc, &code, u64::from(steps))?;
+    let ended = run(alloc, &code, u64::from(steps), start, disk)?;
     let text = report(alloc, code.names(), &ended.cores)?;
     let status = status(&ended.cores);
     Ok(Done {
-        run: Some(with_start(ended, start)),
+        run: Some(ended),
         text,
         status,
     })
@@ -107,7 +89,6 @@ fn accepted(alloc: Global) -> Result<Done, NoMemory>
 }
 
 fn listed(alloc: Global, checked: &Checked) -> Result<Done, NoMemory>
-    requires { unbuilt_nodes checked.now.items ≡ [] }
     ensures { IfOk result (GivesText (listing (code_of (resolved checked.now)))) }
 {
     let code = compile(alloc, checked)?;
@@ -123,7 +104,6 @@ pub fn make<D: Disk>(
     task: Task,
     disk: &mut D,
 ) -> Result<Done, StartFault>
-    requires built { missing task checked.now ≡ [] }
     requires few { all_steps checked.now task ≤ most_steps }
     requires files { length (file_paths checked.now.items) ≤ 16 }
     requires texts { All IsUtf8 (file_paths checked.now.items) }

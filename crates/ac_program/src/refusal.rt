@@ -42,8 +42,6 @@ pub enum Refusal {
     Broken(BrokenRule),
     /// All cores together may go more than 4,000,000 steps.
     TooManySteps,
-    /// A form that is not built: an operation on a file.
-    NotBuilt { at: u32 },
 }
 
 /// Why the work on a source stops before its report.
@@ -143,7 +141,6 @@ impl Refusal {
             Refusal::TooDeep { .. } => 10,
             Refusal::Broken(_) => 3,
             Refusal::TooManySteps => 10,
-            Refusal::NotBuilt { .. } => 15,
         }
     }
 
@@ -164,7 +161,6 @@ impl Refusal {
             Refusal::TooDeep { at } => place_line(alloc, b"limit: nesting at ", at),
             Refusal::Broken(rule) => rule_line(alloc, rule),
             Refusal::TooManySteps => Ok(List::from_vec(Vec::from_slice(alloc, b"limit: steps\n")?)),
-            Refusal::NotBuilt { at } => place_line(alloc, b"not built at ", at),
         }
     }
 }

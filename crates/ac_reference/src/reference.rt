@@ -1,6 +1,6 @@
 //! The run of a core under a journal.
 
-ghost use Rattle.std.specs.Prelude.{◌≡◌, ◌<◌, ◌^◌, ℕ, List, [], length, Option, Some, None, Err, IfOk};
+ghost use Rattle.std.specs.Prelude.{◌≡◌, ◌<◌, ◌^◌, ℕ, List, length, Option, Some, None, Err, IfOk};
 ghost use Rattle.ac_base.specs.declared.ends.CoreEnd.{CoreEnd};
 ghost use Rattle.ac_base.specs.declared.entry.Entry.{Entry};
 ghost use Rattle.core_state.specs.Shared.{request_link};
@@ -9,7 +9,6 @@ ghost use Rattle.ac_semantics.specs.Replay.{Enters, Replays};
 ghost use Rattle.ac_names.specs.Numbered.{core_names};
 ghost use Rattle.ac_resolve.specs.Resolution.{resolved};
 ghost use Rattle.ac_compile.specs.OneEnd.{IsOnly};
-ghost use Rattle.ac_compile.specs.Unbuilt.{unbuilt_nodes};
 ghost use Rattle.ac_reference.specs.declared.fault.ReplayFault.TheVariants.{Misfit};
 ghost use Rattle.ac_reference.specs.Misfits.{IsMisfit};
 
@@ -62,7 +61,7 @@ impl Reference {
     /// What is seen of a core at the end of its run under a journal, with a bound on its steps; or the first entry that does
     /// not fit.
     ///
-    /// Conditions: each node of the program is built, and it has that core.
+    /// Condition: the program has that core.
     pub fn replay(
         alloc: Global,
         checked: &Checked,
@@ -70,8 +69,7 @@ impl Reference {
         steps: u64,
         journal: &Journal,
     ) -> Result<CoreEnd, ReplayFault>
-        requires built { unbuilt_nodes checked.now.items ≡ [] }
-        requires core { core < length (core_names checked.now.items) }
+        requires { core < length (core_names checked.now.items) }
         ensures ok { IfOk result (λ end. Replays (resolved checked.now) core steps journal.now.entries (Some end)) }
         ensures none { (place : ℕ) → result ≡ Err (Misfit place)
             → Replays (resolved checked.now) core steps journal.now.entries None }

@@ -34,7 +34,7 @@ use Rattle.ac_resolve.specs.Computed.{values_in, some_in}
 use Rattle.ac_resolve.specs.Commands.{Texts, Told, told_step, told, some_told, some_shape, all_texts, commands, some_texts, some_commands, for_names}
 use Rattle.ac_resolve.proofs.Forms as tells
 use Rattle.ac_types.proofs.Forms as parts
-use Rattle.ac_resolve.proofs.Tellings.{Kept, kept_same, kept_further, last_there, is_told, body_kept}
+use Rattle.ac_resolve.proofs.Tellings.{Kept, kept_same, kept_further, last_there, is_told, body_kept, listed_same, some_same, some_alike}
 use Rattle.ac_resolve.specs.InPlace.{Use, AsInt, AsBlock, Round, FrameRound, frame_at, with_entered, in_loop, in_block, in_body, local, to_variable}
 use Rattle.ac_resolve.specs.InPlace.{IsCommand, nothing, set, clear, run, print, if_alone, if_else, while_loop, for_loop, leave, go_on, give}
 use Rattle.ac_resolve.specs.InPlace.{do_finish, start, cancel, yield, AreCommands, no_command, one_command}
@@ -57,23 +57,7 @@ not_true : (b : Bool) → (b ≡ true → ⊥) → b ≡ false
 not_true true h = absurd (h refl)
 not_true false h = refl
 
--- ---- names after a statement
-
-abbrev names_at : List (List Declaration) → List (List Declaration) → ℕ → Names
-names_at scopes labels slot = record { scopes = scopes; labels = labels; slot = slot }
-
-listed_same : (x : Stmt) (depth : ℕ) (n : Names) → listed (told x).shape depth n ≡ listed (stmt_nodes x) depth n
-listed_same x depth n =
-    ap (λ o. names_at (declared_at o depth n.slot n.scopes) n.labels (n.slot + part_words (told x).shape)) (is_told x).names
-    ∙ ap (λ w. names_at (declared_at (part_names (stmt_nodes x)) depth n.slot n.scopes) n.labels (n.slot + w)) (is_told x).words
-
-some_same : (x : Option Stmt) (depth : ℕ) (n : Names) → some_listed (some_shape (some_told x)) depth n ≡ some_listed (some_nodes x) depth n
-some_same None depth n = refl
-some_same (Some x) depth n = listed_same x depth n
-
-some_alike : (x : Option Stmt) → some_words (some_shape (some_told x)) ≡ some_words (some_nodes x)
-some_alike None = refl
-some_alike (Some x) = (is_told x).words
+-- ---- texts after a statement, and what is round it
 
 some_kept : (x : Option Stmt) (ts : Texts) → Kept ts (some_texts (some_told x) ts)
 some_kept None ts = kept_same ts

@@ -6,9 +6,12 @@ use Rattle.ac_tree.specs.declared.stmt.Stmt.TheFolds.{fold-roll-Stmt, ind-Stmt, 
 use Rattle.ac_tree.specs.declared.stmt.Stmt.TheOpen.{Stmt-F}
 use Rattle.ac_types.specs.Nodes.{Node}
 use Rattle.ac_types.specs.Expressions.{one_node, join_nodes}
-use Rattle.ac_names.specs.Statements.{Named, part_names, part_words, sum_words}
+use Rattle.ac_names.specs.declared.names.Names.{Names}
+use Rattle.ac_names.specs.Scopes.{Declaration}
+use Rattle.ac_names.specs.Statements.{Named, part_names, part_words, sum_words, some_words, listed, some_listed, declared_at}
 use Rattle.ac_types.specs.Statements.{StmtPart, stmt_step, stmt_nodes}
-use Rattle.ac_resolve.specs.Commands.{Texts, Told, shape_of, told_step, told, all_texts}
+use Rattle.ac_types.proofs.Forms.{some_nodes}
+use Rattle.ac_resolve.specs.Commands.{Texts, Told, shape_of, told_step, told, some_told, some_shape, all_texts}
 
 -- ---- texts keep their numbers
 
@@ -127,3 +130,21 @@ is_told = ind-Stmt Claim
 pub body_kept : (xs : List Stmt) (ts : Texts) → Kept ts (all_texts (map told xs) ts)
 body_kept [] ts = kept_same ts
 body_kept (x ∷ xs) ts = kept_further ts ((told x).texts ts) _ ((is_told x).texts ts) (body_kept xs ((told x).texts ts))
+
+-- ---- names after a statement
+
+abbrev names_at : List (List Declaration) → List (List Declaration) → ℕ → Names
+names_at scopes labels slot = record { scopes = scopes; labels = labels; slot = slot }
+
+pub listed_same : (x : Stmt) (depth : ℕ) (n : Names) → listed (told x).shape depth n ≡ listed (stmt_nodes x) depth n
+listed_same x depth n =
+    ap (λ o. names_at (declared_at o depth n.slot n.scopes) n.labels (n.slot + part_words (told x).shape)) (is_told x).names
+    ∙ ap (λ w. names_at (declared_at (part_names (stmt_nodes x)) depth n.slot n.scopes) n.labels (n.slot + w)) (is_told x).words
+
+pub some_same : (x : Option Stmt) (depth : ℕ) (n : Names) → some_listed (some_shape (some_told x)) depth n ≡ some_listed (some_nodes x) depth n
+some_same None depth n = refl
+some_same (Some x) depth n = listed_same x depth n
+
+pub some_alike : (x : Option Stmt) → some_words (some_shape (some_told x)) ≡ some_words (some_nodes x)
+some_alike None = refl
+some_alike (Some x) = (is_told x).words

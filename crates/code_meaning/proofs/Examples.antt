@@ -14,7 +14,6 @@ use Rattle.stack_code.specs.declared.instr.Instr.TheVariants as i
 use Rattle.stack_code.specs.declared.parts.Entered.{Entered}
 use Rattle.code_meaning.specs.Machine.{Flat, FlatEnd, exec, first_flat, Runs}
 use Rattle.code_meaning.specs.Alone.{is_alone, starts_none, IsAlone}
-use Rattle.code_meaning.specs.Meant.{has_meaning, IsMeant}
 use Rattle.stack_code.proofs.Examples.{entered, code_of, begins_so, keeps_three, small}
 
 -- what so many moves come to, of which the first is the dispatch of the thread
@@ -104,12 +103,3 @@ a_send_is_not h = let e = (recursion_from_All (λ (instr : Instr). starts_none i
 
 pub a_cancel_starts_none : is_alone (i.Cancel 0 0) ∷ starts_none (i.Cancel 0 0) ∷ starts_none (i.Send 0) ∷ [] ≡ false ∷ true ∷ false ∷ []
 a_cancel_starts_none = refl
-
-pub all_of_it_has_a_meaning : IsMeant small
-all_of_it_has_a_meaning = All-from_recursion (λ (instr : Instr). has_meaning instr ≡ true) keeps_three (refl, (refl, (refl, (refl, tt))))
-
-pub a_cancel_has_a_meaning_and_a_read_none : has_meaning (i.Send 0) ∷ has_meaning (i.Cancel 0 0) ∷ has_meaning (i.Read 0) ∷ [] ≡ true ∷ true ∷ false ∷ []
-a_cancel_has_a_meaning_and_a_read_none = refl
-
-pub a_read_has_none : IsMeant (code_of 0 (i.Read 0 ∷ i.Ret ∷ [])) → ⊥
-a_read_has_none h = let e = (recursion_from_All (λ (instr : Instr). has_meaning instr ≡ true) (i.Read 0 ∷ i.Ret ∷ []) h).0 in cc

@@ -23,7 +23,6 @@ use Rattle.stack_code.specs.Parts.{Parts, Begins}
 use Rattle.stack_code.specs.Shapes.{first, params_of, params_in}
 use Rattle.stack_code.specs.Valid.{IsValid, IsEntry, begins}
 use Rattle.stack_code.specs.Kept.{IsRanked}
-use Rattle.code_meaning.specs.Meant.{IsMeant}
 use Rattle.code_meaning.specs.Machine.{Flat, FlatEnd, Thread, nobody, exec, told, with_starts, first_globals, first_item, first_core, shared_at_first, first_flat}
 use Rattle.code_safety.specs.Fit.{Birth, IsStore, last, bottom, outside, IsThread, Going, AtFinish, Life, no_life, life_at, is_living, is_going}
 use Rattle.code_safety.specs.Fit.{IsAlive, IsAsked, IsFit, one_if, one_at}
@@ -159,10 +158,10 @@ module _ (code : Parts) (v : IsValid code) (core : ℕ) (function : Entered) (b 
 
 -- ---- the end
 
-module _ (code : Parts) (bound : ℕ) (v : IsValid code) (meant : IsMeant code) (ranks : List ℕ) (ranked : IsRanked code ranks) where
+module _ (code : Parts) (bound : ℕ) (v : IsValid code) (ranks : List ℕ) (ranked : IsRanked code ranks) where
   pub ends_from : (n : ℕ) (m : Flat) → IsFit code m → left_to_come ranks bound m < n → (e : FlatEnd) × EndsAs (exec code bound) m e
   ends_from zero m fit lt = absurd (omega (arith, lt))
-  ends_from (suc n) m fit lt = go (λ next f l. ends_from n next f l) (exec code bound m) refl (moves_on code bound v meant ranks ranked m fit)
+  ends_from (suc n) m fit lt = go (λ next f l. ends_from n next f l) (exec code bound m) refl (moves_on code bound v ranks ranked m fit)
     where
       go : ((next : Flat) → IsFit code next → left_to_come ranks bound next < n → (e : FlatEnd) × EndsAs (exec code bound) next e) → (x : Move Flat FlatEnd) → exec code bound m ≡ x
           → Onward (λ next. IsFit code next × (left_to_come ranks bound next < left_to_come ranks bound m)) x → (e : FlatEnd) × EndsAs (exec code bound) m e

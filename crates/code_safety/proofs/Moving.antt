@@ -1,7 +1,6 @@
 -- Each move of valid code leads from a fit state to a fit state in which less is left to do or to come, or to an end.
 use Rattle.std.proofs.Common.{◌≡◌, ℕ, suc, ◌<◌, List, [], ◌∷◌, length, Option, Some, None, Bool, true, false, refl, sym, ap, subst, arith}
 use Rattle.std.specs.Prelude.{slice_get, slice_set, nat_eq, nat_lt, ◌^◌, ◌-◌, if◌then◌else◌}
-use Rattle.std.proofs.lemmas.Option.{slice_get_within, get_or_from_slice_get}
 use Rattle.ac_base.specs.declared.entry.Event.TheVariants as event
 use Rattle.ac_base.specs.declared.entry.Entry.{Entry}
 use Rattle.ac_base.specs.declared.ends.EndWord.TheVariants as word
@@ -21,7 +20,6 @@ use Rattle.stack_code.specs.Parts.{Parts}
 use Rattle.stack_code.specs.Shapes.{effect}
 use Rattle.stack_code.specs.Valid.{IsValid, Fits}
 use Rattle.stack_code.specs.Kept.{IsRanked}
-use Rattle.code_meaning.specs.Meant.{has_meaning, IsMeant}
 use Rattle.code_meaning.specs.Machine.{Flat, FlatEnd, arrived, resumed, begin, exec, exec_of, dispatched, told, nobody, thread_at}
 use Rattle.code_safety.specs.Fit.{IsThread, life_at, IsFit}
 use Rattle.code_safety.specs.Left.{left, left_to_come}
@@ -48,7 +46,7 @@ use Rattle.code_safety.proofs.Falling.{finish_falls, async_falls, end_falls}
 abbrev any : Entry
 any = record { stamp = 0; turn = 0; event = event.Know 0 0 }
 
-module _ (code : Parts) (bound : ℕ) (v : IsValid code) (meant : IsMeant code) (ranks : List ℕ) (ranked : IsRanked code ranks) (m : Flat) (fit : IsFit code m) where
+module _ (code : Parts) (bound : ℕ) (v : IsValid code) (ranks : List ℕ) (ranked : IsRanked code ranks) (m : Flat) (fit : IsFit code m) where
   abbrev Less : Flat → Type 0
   Less n = left ranks bound n < left ranks bound m
 
@@ -74,39 +72,33 @@ module _ (code : Parts) (bound : ℕ) (v : IsValid code) (meant : IsMeant code) 
         (λ n k. (plain_fit code bound m fit t run instr n k, plain_falls code bound m fit v ranks ranked t run instr here n k))
         (onward code bound m fit.births t s v.one_use fit.store h.top t instr leads here finds p)
 
-    by_instr : (instr : Instr) (leads : Leads) → slice_get code.instrs place ≡ Some instr → effect code place instr s ≡ Some leads → has_meaning instr ≡ true
+    by_instr : (instr : Instr) (leads : Leads) → slice_get code.instrs place ≡ Some instr → effect code place instr s ≡ Some leads
         → is_cancel (Some instr) ≡ false → Onward Better (begin code bound m t (Some instr))
-    by_instr (i.Call number count) leads here finds a other = on_both (IsFit code) Less (begin code bound m t (Some (i.Call number count)))
+    by_instr (i.Call number count) leads here finds other = on_both (IsFit code) Less (begin code bound m t (Some (i.Call number count)))
         (call_fit code bound m fit t run v number count leads here finds) (call_falls code bound m fit v ranks ranked t run number count leads here finds)
-    by_instr i.Ret leads here finds a other =
+    by_instr i.Ret leads here finds other =
         on_both (IsFit code) Less (begin code bound m t (Some i.Ret)) (return_fit code bound m fit t run v leads finds) (return_falls code bound m fit v ranks ranked t run leads finds)
-    by_instr (i.Enter slot) leads here finds a other = (enter_fit code bound m fit t run v slot here leads finds, enter_falls code bound m fit v ranks ranked t run slot leads here finds)
-    by_instr (i.Finish slot) leads here finds a other = on_both (IsFit code) Less (begin code bound m t (Some (i.Finish slot)))
+    by_instr (i.Enter slot) leads here finds other = (enter_fit code bound m fit t run v slot here leads finds, enter_falls code bound m fit v ranks ranked t run slot leads here finds)
+    by_instr (i.Finish slot) leads here finds other = on_both (IsFit code) Less (begin code bound m t (Some (i.Finish slot)))
         (finish_fit code bound m fit t run slot here leads finds) (finish_falls code bound m fit v ranks ranked t run slot leads here finds)
-    by_instr (i.Async slots to) leads here finds a other = on_both (IsFit code) Less (begin code bound m t (Some (i.Async slots to)))
+    by_instr (i.Async slots to) leads here finds other = on_both (IsFit code) Less (begin code bound m t (Some (i.Async slots to)))
         (async_fit code bound m fit t run v slots to here leads finds) (async_falls code bound m fit v ranks ranked t run slots to leads here finds)
-    by_instr i.End leads here finds a other =
+    by_instr i.End leads here finds other =
         on_both (IsFit code) Less (begin code bound m t (Some i.End)) (end_fit code bound m fit t run leads finds) (end_falls code bound m fit v ranks ranked t run leads finds)
-    by_instr i.Yield leads here finds a other = (yield_fit code m fit t run here, yield_falls code bound m fit v ranks ranked t run here)
-    by_instr (i.Cancel level slot) leads here finds a other = let no : true ≡ false = other in absurd (cc)
-    by_instr (i.Send channel) leads here finds a other = on_both (IsFit code) Less (begin code bound m t (Some (i.Send channel)))
+    by_instr i.Yield leads here finds other = (yield_fit code m fit t run here, yield_falls code bound m fit v ranks ranked t run here)
+    by_instr (i.Cancel level slot) leads here finds other = let no : true ≡ false = other in absurd (cc)
+    by_instr (i.Send channel) leads here finds other = on_both (IsFit code) Less (begin code bound m t (Some (i.Send channel)))
         (send_fit code bound m fit t run channel leads here finds) (send_falls code bound m fit v ranks ranked t run channel leads here finds)
-    by_instr (i.Recv channel) leads here finds a other = on_both (IsFit code) Less (begin code bound m t (Some (i.Recv channel)))
+    by_instr (i.Recv channel) leads here finds other = on_both (IsFit code) Less (begin code bound m t (Some (i.Recv channel)))
         (receive_fit code bound m fit t run channel leads here finds) (receive_falls code bound m fit v ranks ranked t run channel leads here finds)
-    by_instr (i.Read file) leads here finds a other = on_both (IsFit code) Less (begin code bound m t (Some (i.Read file)))
+    by_instr (i.Read file) leads here finds other = on_both (IsFit code) Less (begin code bound m t (Some (i.Read file)))
         (read_fit code bound m fit t run file leads here finds) (read_falls code bound m fit v ranks ranked t run file leads here finds)
-    by_instr (i.Write file) leads here finds a other = on_both (IsFit code) Less (begin code bound m t (Some (i.Write file)))
+    by_instr (i.Write file) leads here finds other = on_both (IsFit code) Less (begin code bound m t (Some (i.Write file)))
         (write_fit code bound m fit t run file leads here finds) (write_falls code bound m fit v ranks ranked t run file leads here finds)
-    by_instr instr leads here finds a other = plain_on instr leads here finds refl
+    by_instr instr leads here finds other = plain_on instr leads here finds refl
 
     there : Fits code place s
     there = v.shaped.fits place s h.top.reached
-
-    meant_here : has_meaning there.instr ≡ true
-    meant_here =
-        let within = slice_get_within code.instrs place there.instr there.here in
-        let one = get_or_from_slice_get code.instrs place there.instr there.instr there.here in
-        subst (λ x. has_meaning x ≡ true) one (meant place there.instr within)
 
     -- and the entries to come are those, whatever comes after them
     abbrev SameToCome : Flat → Type 0
@@ -120,17 +112,17 @@ module _ (code : Parts) (bound : ℕ) (v : IsValid code) (meant : IsMeant code) 
     to_come_stays o other = of_too any (begin code bound m t o) (begin code bound (more_to_come any m) t o) (begin_too any m code bound t o other)
 
     -- only a cancel takes entries
-    less_to_come : (instr : Instr) (leads : Leads) → slice_get code.instrs place ≡ Some instr → effect code place instr s ≡ Some leads → has_meaning instr ≡ true
+    less_to_come : (instr : Instr) (leads : Leads) → slice_get code.instrs place ≡ Some instr → effect code place instr s ≡ Some leads
         → Onward BetterToCome (begin code bound m t (Some instr))
-    less_to_come (i.Cancel level slot) leads here finds a = cancel_better code bound v m fit t run level slot here (block_in (cell_at m.store m.current.frame level slot)) ranks ranked
-    less_to_come instr leads here finds a =
+    less_to_come (i.Cancel level slot) leads here finds = cancel_better code bound v m fit t run level slot here (block_in (cell_at m.store m.current.frame level slot)) ranks ranked
+    less_to_come instr leads here finds =
         let next = begin code bound m t (Some instr) in
         on_each (λ n. Better n × SameToCome n) BetterToCome next
         (λ n k. let f = k.0.1 in let e : length n.shared.todo ≡ length m.shared.todo = ap length k.1 in (k.0.0, omega (arith, f, e)))
-        (on_both Better SameToCome next (by_instr instr leads here finds a refl) (to_come_stays (Some instr) refl))
+        (on_both Better SameToCome next (by_instr instr leads here finds refl) (to_come_stays (Some instr) refl))
 
     moves_better : Onward BetterToCome (begin code bound m t (slice_get code.instrs place))
-    moves_better = subst (λ o. Onward BetterToCome (begin code bound m t o)) (sym there.here) (less_to_come there.instr there.leads there.here there.finds meant_here)
+    moves_better = subst (λ o. Onward BetterToCome (begin code bound m t o)) (sym there.here) (less_to_come there.instr there.leads there.here there.finds)
 
   module _ (idle : m.running ≡ None) where
     dispatches : (ready : List Item) → m.ready ≡ ready → Onward BetterToCome (dispatched m ready)

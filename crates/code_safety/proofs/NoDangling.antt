@@ -1,7 +1,6 @@
 -- No reference dangles: not in the first state, and after no move; so whatever is named is in a frame that lives.
 use Rattle.std.proofs.Common.{◌≡◌, ◌⊎◌, ℕ, zero, suc, ◌+◌, List, [], ◌∷◌, Option, Some, None, Bool, true, false, refl, sym, ap, ◌∙◌, subst, inl, inr, arith}
 use Rattle.std.specs.Prelude.{All, slice_get, slice_index_or, slice_set, replicate, nat_lt, ◌^◌, ◌-◌, if◌then◌else◌}
-use Rattle.std.proofs.lemmas.Option.{slice_get_within, get_or_from_slice_get}
 use Rattle.ac_base.specs.declared.ends.EndWord.TheVariants as word
 use Rattle.work_item.specs.declared.ids.Item.{Item}
 use Rattle.work_item.specs.declared.ids.FrameId.{FrameId}
@@ -24,7 +23,6 @@ use Rattle.stack_code.specs.declared.shape.Leads.{Leads}
 use Rattle.stack_code.specs.Parts.{Parts, Begins}
 use Rattle.stack_code.specs.Shapes.{effect, first}
 use Rattle.stack_code.specs.Valid.{IsValid, Fits, begins}
-use Rattle.code_meaning.specs.Meant.{has_meaning, IsMeant}
 use Rattle.code_meaning.specs.Machine.{Flat, FlatEnd, Thread, Caller, begin, exec, exec_of, dispatched, told, nobody, thread_at, first_globals, first_item, first_core}
 use Rattle.code_safety.specs.Fit.{IsThread, life_at, one_at, IsFit}
 use Rattle.code_safety.specs.Living.{LivesAs, as_running, as_ready, as_operating, as_waiting, IsOfCaller, HasFrame, RefersToLiving, AllReferToLiving, ActivationLives, CallersLive}
@@ -49,7 +47,7 @@ use Rattle.code_safety.proofs.ArrivalChains.{rests_chained}
 
 -- ---- one move
 
-module _ (code : Parts) (bound : ℕ) (m : Flat) (v : IsValid code) (meant : IsMeant code) (fit : IsFit code m) (chained : AreChained code m) where
+module _ (code : Parts) (bound : ℕ) (m : Flat) (v : IsValid code) (fit : IsFit code m) (chained : AreChained code m) where
   module _ (t : Item) (run : m.running ≡ Some t) where
     abbrev own : IsThread code fit.births m.store m.blocks t (life_at fit.lives t).start m.current
     own = thread_of code m fit t run
@@ -60,31 +58,27 @@ module _ (code : Parts) (bound : ℕ) (m : Flat) (v : IsValid code) (meant : IsM
     abbrev place : ℕ
     place = m.current.place
 
-    by_instr : (instr : Instr) (leads : Leads) → slice_get code.instrs place ≡ Some instr → effect code place instr s ≡ Some leads → has_meaning instr ≡ true
+    by_instr : (instr : Instr) (leads : Leads) → slice_get code.instrs place ≡ Some instr → effect code place instr s ≡ Some leads
         → Onward (AreChained code) (begin code bound m t (Some instr))
-    by_instr (i.Call number count) leads here finds a = call_chained code bound m v fit chained t run number count leads here finds
-    by_instr i.Ret leads here finds a = return_chained code bound m v fit chained t run leads finds
-    by_instr (i.Enter slot) leads here finds a = enter_chained code bound m v fit chained t run slot here leads finds
-    by_instr (i.Finish slot) leads here finds a = finish_chained code bound m v fit chained t run slot here leads finds
-    by_instr (i.Async slots to) leads here finds a = async_chained code bound m v fit chained t run slots to here leads finds
-    by_instr i.End leads here finds a = end_chained code bound m v fit chained t run leads finds
-    by_instr i.Yield leads here finds a = yield_chained code bound m v fit chained t run here
-    by_instr (i.Cancel level slot) leads here finds a = cancel_chained code bound v m fit t run level slot here (block_in (cell_at m.store m.current.frame level slot)) chained
-    by_instr (i.Send channel) leads here finds a = send_chained code bound m v fit chained t run channel leads here finds
-    by_instr (i.Recv channel) leads here finds a = receive_chained code bound m v fit chained t run channel leads here finds
-    by_instr (i.Read file) leads here finds a = read_chained code bound m v fit chained t run file leads here finds
-    by_instr (i.Write file) leads here finds a = write_chained code bound m v fit chained t run file leads here finds
-    by_instr instr leads here finds a = plain_chained code bound m v fit chained t run instr leads here finds refl
+    by_instr (i.Call number count) leads here finds = call_chained code bound m v fit chained t run number count leads here finds
+    by_instr i.Ret leads here finds = return_chained code bound m v fit chained t run leads finds
+    by_instr (i.Enter slot) leads here finds = enter_chained code bound m v fit chained t run slot here leads finds
+    by_instr (i.Finish slot) leads here finds = finish_chained code bound m v fit chained t run slot here leads finds
+    by_instr (i.Async slots to) leads here finds = async_chained code bound m v fit chained t run slots to here leads finds
+    by_instr i.End leads here finds = end_chained code bound m v fit chained t run leads finds
+    by_instr i.Yield leads here finds = yield_chained code bound m v fit chained t run here
+    by_instr (i.Cancel level slot) leads here finds = cancel_chained code bound v m fit t run level slot here (block_in (cell_at m.store m.current.frame level slot)) chained
+    by_instr (i.Send channel) leads here finds = send_chained code bound m v fit chained t run channel leads here finds
+    by_instr (i.Recv channel) leads here finds = receive_chained code bound m v fit chained t run channel leads here finds
+    by_instr (i.Read file) leads here finds = read_chained code bound m v fit chained t run file leads here finds
+    by_instr (i.Write file) leads here finds = write_chained code bound m v fit chained t run file leads here finds
+    by_instr instr leads here finds = plain_chained code bound m v fit chained t run instr leads here finds refl
 
     there : Fits code place s
     there = v.shaped.fits place s own.top.reached
 
     runs_on : Onward (AreChained code) (begin code bound m t (slice_get code.instrs place))
-    runs_on =
-        let within = slice_get_within code.instrs place there.instr there.here in
-        let one = get_or_from_slice_get code.instrs place there.instr there.instr there.here in
-        let a : has_meaning there.instr ≡ true = subst (λ x. has_meaning x ≡ true) one (meant place there.instr within) in
-        subst (λ o. Onward (AreChained code) (begin code bound m t o)) (sym there.here) (by_instr there.instr there.leads there.here there.finds a)
+    runs_on = subst (λ o. Onward (AreChained code) (begin code bound m t o)) (sym there.here) (by_instr there.instr there.leads there.here there.finds)
 
   dispatches : m.running ≡ None → (ready : List Item) → m.ready ≡ ready → Onward (AreChained code) (dispatched m ready)
   dispatches idle [] e = tt

@@ -9,7 +9,6 @@ use Rattle.stack_code.specs.declared.parts.Entered.{Entered}
 use Rattle.stack_code.specs.Parts.{Parts, Begins}
 use Rattle.stack_code.specs.Valid.{IsValid}
 use Rattle.stack_code.specs.Kept.{IsRanked}
-use Rattle.code_meaning.specs.Meant.{IsMeant}
 use Rattle.code_meaning.specs.Machine.{Flat, FlatEnd, exec, first_flat, Runs}
 use Rattle.code_safety.specs.Ends.{EndsOnlySo}
 use Rattle.code_safety.proofs.Beginnings.{comes_to}
@@ -35,11 +34,11 @@ module _ (code : Parts) (v : IsValid code) (core : ℕ) (lt : core < length code
       let e = v.lists.cores.enters core 0 lt in
       (e.function, record { entry = entry; entry_is = slice_get-get_or code.entries core 0 lt; function_is = e.is })
 
-  module _ (meant : IsMeant code) (ranks : List ℕ) (ranked : IsRanked code ranks) (bound : ℕ) (journal : List Entry) where
+  module _ (ranks : List ℕ) (ranked : IsRanked code ranks) (bound : ℕ) (journal : List Entry) where
     pub ends_only_so : (end : FlatEnd) × EndsOnlySo code core bound journal end
     ends_only_so =
         let b = begins_with_one in
-        let c = comes_to code bound v meant ranks ranked core b.0 b.1 journal in
+        let c = comes_to code bound v ranks ranked core b.0 b.1 journal in
         let runs : Runs code core bound journal c.0 = record { function = b.0; begins = b.1; comes = c.1 } in (
           c.0,
           record {

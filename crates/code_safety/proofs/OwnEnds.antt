@@ -30,7 +30,6 @@ use Rattle.stack_code.specs.declared.parts.Entered.{Entered}
 use Rattle.stack_code.specs.Parts.{Parts, Begins}
 use Rattle.stack_code.specs.Valid.{IsValid}
 use Rattle.stack_code.specs.Kept.{IsRanked}
-use Rattle.code_meaning.specs.Meant.{IsMeant}
 use Rattle.code_meaning.specs.Machine.{Flat, FlatEnd, counted, goes, is_inside, marked, calls_off, arrived, resumed, begin, exec, exec_of, dispatched, told, asks, on_top, on_three}
 use Rattle.code_meaning.specs.Machine.{operates, requests, nobody}
 use Rattle.code_meaning.specs.Machine.{thread_at, shared_at_first, first_flat, first_globals}
@@ -230,14 +229,14 @@ module _ (code : Parts) (keeps : KeepsEnds code) (core bound : ℕ) (lt : core <
       go None e = at_rest m.shared.todo
       go (Some t) e = begins_with t (slice_get code.instrs m.current.place) e refl
 
-  module _ (v : IsValid code) (meant : IsMeant code) (ranks : List ℕ) (ranked : IsRanked code ranks) where
+  module _ (v : IsValid code) (ranks : List ℕ) (ranked : IsRanked code ranks) where
     -- a state in which a core keeps its own ends leads to such a state
     pub keeps_on : Onward (KeepsOwnEnds code core) (exec code bound m)
     keeps_on =
         on_each (λ n. IsFit (each_as code core) n × Ended n) (KeepsOwnEnds code core) (exec code bound m) (λ n h. record { fit = h.0; requests = h.1.1; operations = h.1.0 })
         (on_both (IsFit (each_as code core)) Ended (exec code bound m)
         (on_each (λ n. IsFit (each_as code core) n × (weight.left_to_come ranks bound n < weight.left_to_come ranks bound m)) (IsFit (each_as code core)) (exec code bound m) (λ n h. h.0)
-        (moves_on (each_as code core) bound (valid_too code core lt v) meant ranks (ranked_too code core lt ranks ranked) m s.fit)) ends_on)
+        (moves_on (each_as code core) bound (valid_too code core lt v) ranks (ranked_too code core lt ranks ranked) m s.fit)) ends_on)
 
 -- ---- a run
 
@@ -257,12 +256,12 @@ module _ (code : Parts) (v : IsValid code) (keeps : KeepsEnds code) (core : ℕ)
       })
       go false room = rw room tt
 
-  module _ (meant : IsMeant code) (ranks : List ℕ) (ranked : IsRanked code ranks) (bound : ℕ) where
+  module _ (ranks : List ℕ) (ranked : IsRanked code ranks) (bound : ℕ) where
     -- and goes on so
     further : (k : ℕ) (a : Move Flat FlatEnd) (n : Flat) → Onward (KeepsOwnEnds code core) a → and_then a (moves (exec code bound) k) ≡ On n → KeepsOwnEnds code core n
     further k (Over e) n h is = let no : Over e ≡ On n = is in absurd (cc)
     further zero (On m) n h is = let same : m ≡ n = let both : On m ≡ On n = is in cc in subst (KeepsOwnEnds code core) same h
-    further (suc k) (On m) n h is = further k (exec code bound m) n (keeps_on code keeps core bound below m h v meant ranks ranked) is
+    further (suc k) (On m) n h is = further k (exec code bound m) n (keeps_on code keeps core bound below m h v ranks ranked) is
 
     -- in every state of a run, under every journal, each operation that has not ended is at an end of the core
     pub own_ends : (journal : List Entry) (n : Flat) → GoesOn (exec code bound) (first_flat code core function journal) (On n) → AreAtEnds code core n.operations

@@ -3,15 +3,17 @@ use Rattle.std.proofs.Common.{◌≡◌, ℕ, zero, suc, List, [], ◌∷◌, �
 use Rattle.std.specs.Prelude.{slice_get, ◌==◌}
 use Rattle.std.proofs.lemmas.Bool.Decides.{nat_tests}
 use Rattle.ac_base.specs.declared.entry.Payload.{Payload}
+use Rattle.ac_base.specs.declared.entry.Answer.{Answer}
 use Rattle.ac_base.specs.declared.entry.Entry.{Entry}
 use Rattle.ac_base.specs.declared.entry.Event.{Event}
-use Rattle.ac_base.specs.declared.entry.Event.TheVariants.{Offer, Withdraw, Know, Room, Got, Pass}
+use Rattle.ac_base.specs.declared.entry.Event.TheVariants.{Offer, Withdraw, Know, Room, Got, Pass, Did, Reply}
 use Rattle.ac_base.specs.Stamps.{next_stamp, stamp_after}
 use Rattle.ac_links.specs.declared.payloads.Terms.{Terms}
 use Rattle.ac_links.specs.Link.{link_of}
 use Rattle.ac_links.specs.Payloads.{is_payload}
-use Rattle.ac_links.specs.Views.{OwnerOffer, PeerDecision, owner_lead, altered, known_at, owner_fits, owner_after, peer_fits, decision_of, may_withdraw, may_free}
-use Rattle.ac_links.specs.Noted.{seen_of, owner_noted, peer_noted, known_stamp, answers_stamp, decision_stamp, offer_stamp, withdrawal_stamp, or_zero}
+use Rattle.ac_links.specs.Views.{OwnerOffer, PeerDecision, owner_lead, altered, known_at, replied_with, ViewsAgree, may_reply, owner_fits, owner_after, peer_fits, decision_of, may_withdraw, may_free}
+use Rattle.ac_links.specs.Noted.{seen_of, owner_noted, peer_noted, known_stamp, reply_stamp, answers_stamp, decision_stamp, offer_stamp, withdrawal_stamp, or_zero}
+use Rattle.ac_links.specs.Replies.{least_open}
 use Rattle.ac_links.specs.Journals.{last_of}
 use Rattle.ac_links.specs.Party.{LinkEnd, end_fits, end_after, end_noted}
 use Rattle.ac_links.specs.Party.LinkEnd.{Owns, Decides}
@@ -19,12 +21,14 @@ use Rattle.core_channels.specs.declared.answers.Offering.{Offering}
 use Rattle.core_channels.specs.declared.answers.Learning.{Learning}
 use Rattle.core_channels.specs.declared.answers.Withdrawing.{Withdrawing}
 use Rattle.core_channels.specs.declared.answers.Receiving.{Receiving}
-use Rattle.core_channels.specs.LinkViews.{LinkViews}
+use Rattle.core_channels.specs.LinkViews.{LinkViews, IsLink, AreViews}
 use Rattle.core_channels.specs.Offers.{has_room, placed_offer, stamped_offer, offer_by_room, offering, after_offering}
 use Rattle.core_channels.specs.Learns.{learned_at, stamped_learning, decided_learning, learning_of, learning, after_learning}
 use Rattle.core_channels.specs.Withdraws.{own_withdrawal, late_withdrawal, withdrawing_of, withdrawing, after_withdrawing}
 use Rattle.core_channels.specs.Takes.{message_of, passed_at, took_at, receiving_one, receiving_of, receiving, after_receiving}
-use Rattle.core_channels.specs.Laws.{Told, told_by_offering, told_by_learning, told_by_withdrawing, told_by_receiving, Enters}
+use Rattle.core_channels.specs.Requests.{did_stamp, pass_stamp, after_doing, after_passing, ReplyIsNext, after_reply}
+use Rattle.core_channels.specs.Laws.{Told, told_by_offering, told_by_learning, told_by_withdrawing, told_by_receiving, told_by_doing, told_by_passing, told_by_reply, Enters}
+use Rattle.core_channels.proofs.Keeping.{next_reply}
 use Rattle.core_channels.proofs.Stamping.{stamp_is_next}
 
 -- ---- what the two ends note
@@ -33,6 +37,20 @@ known_is : (os : List OwnerOffer) (n of : ℕ) (o : OwnerOffer) → slice_get os
 known_is [] n of o h = cc
 known_is (x ∷ os) zero of o h = refl
 known_is (x ∷ os) (suc n) of o h = known_is os n of o h
+
+replied_is : (os : List OwnerOffer) (n : ℕ) (w : Answer) (of : ℕ) → may_reply (slice_get os n) ≡ true → reply_stamp (slice_get (altered os n (replied_with w of)) n) ≡ of
+replied_is [] n w of h = cc
+replied_is (x ∷ os) zero w of h = refl
+replied_is (x ∷ os) (suc n) w of h = replied_is os n w of h
+
+-- a reply on which the two views agree has the stamp of its decision
+reply_is_of : (os : List OwnerOffer) (ds : List PeerDecision) (n : ℕ) (w : Answer) (of : ℕ) → may_reply (slice_get os n) ≡ true → ViewsAgree (altered os n (replied_with w of)) ds
+    → decision_stamp (slice_get ds n) ≡ of
+reply_is_of [] ds n w of h a = cc
+reply_is_of (x ∷ os) [] zero w of h a = let e = a.1 in cc
+reply_is_of (x ∷ os) [] (suc n) w of h a = reply_is_of os [] n w of h a.2
+reply_is_of (x ∷ os) (d ∷ ds) zero w of h a = sym a.0.4.1
+reply_is_of (x ∷ os) (d ∷ ds) (suc n) w of h a = reply_is_of os ds n w of h a.1
 
 last_is : (ds : List PeerDecision) (d : PeerDecision) → slice_get (ds ++ d ∷ []) (length ds) ≡ Some d
 last_is [] d = refl
@@ -213,3 +231,32 @@ module _ (terms : ℕ → Terms) (ends : ℕ → LinkEnd) (j : List Entry) (turn
 
       pub take_enters : Takes (receiving v (last_of 0 j))
       take_enters = by_front (slice_get v.offers (length v.decisions)) refl
+
+    -- requests that are done, and passed
+    module _ (h : ends l ≡ Decides v.decisions) where
+      abbrev did : Answer → Event
+      did answer = Did l (length v.decisions) answer
+
+      abbrev passing : Event
+      passing = Pass l (length v.decisions)
+
+      pub did_enters : (answer : Answer) → v.terms.requests ≡ true
+          → Enters terms ends j turn l v (Some (told_by_doing l v answer (last_of 0 j))) (Decides (after_doing v answer (last_of 0 j)).decisions)
+      did_enters answer r = peer_enters (did answer) (did_stamp v (last_of 0 j)) t h (both v.terms.requests (length v.decisions == length v.decisions) r (same_number (length v.decisions))) refl
+          (sym (ap answers_stamp (last_is v.decisions (decision_of (did_stamp v (last_of 0 j)) (seen (did answer)) (did answer)))))
+
+      pub pass_enters : Enters terms ends j turn l v (Some (told_by_passing l v (last_of 0 j))) (Decides (after_passing v (last_of 0 j)).decisions)
+      pass_enters = peer_enters passing (pass_stamp v (last_of 0 j)) t h (same_number (length v.decisions)) refl
+          (sym (ap answers_stamp (last_is v.decisions (decision_of (pass_stamp v (last_of 0 j)) (seen passing) passing))))
+
+    -- replies
+    module _ (h : ends l ≡ Owns v.offers) (is : IsLink v) (r : v.terms.requests ≡ true) (answer : Answer) (of : ℕ) (next : ReplyIsNext v answer of) where
+      abbrev back : Event
+      back = Reply l (least_open v.offers) answer
+
+      pub reply_enters : Enters terms ends j turn l v (Some (told_by_reply l v answer of (last_of 0 j))) (Owns (after_reply v answer of).offers)
+      reply_enters =
+          let takes = (next_reply v.terms l v.offers v.decisions (record { answer = answer; of = of }) next (subst (λ b. AreViews b v.offers v.decisions) r is)).1 in
+          subst (λ x. Enters terms ends j turn l v (Some (record { event = back; stamp = next_stamp (last_of 0 j) x })) (Owns (altered v.offers (least_open v.offers) (replied_with answer x))))
+          (reply_is_of v.offers v.decisions (least_open v.offers) answer of takes.fits takes.agree)
+          (owner_enters back (next_stamp (last_of 0 j) (seen back)) t h takes.fits refl (sym (replied_is v.offers (least_open v.offers) answer (seen back) takes.fits)))

@@ -7,13 +7,18 @@ use Rattle.std.proofs.lemmas.List.Elements.{All-push, All-cons, All-head, All-ta
 use Rattle.std.proofs.lemmas.Bool.Decides.{Decides-int_eq}
 use Rattle.ac_base.specs.declared.entry.Payload.{Payload}
 use Rattle.ac_base.specs.declared.entry.Payload.TheVariants.{Int, Read, Write}
-use Rattle.ac_links.specs.Payloads.{is_payload, carries}
-use Rattle.ac_links.specs.Payloads.Taking.{Message}
-use Rattle.ac_links.specs.Views.{OwnerOffer, PeerDecision, altered, known_at, withdrawn_at, owner_offer, ViewsAgree, IsReplyTo, DecisionFits}
+use Rattle.ac_links.specs.declared.payloads.Terms.{Terms}
+use Rattle.ac_base.specs.declared.entry.Answer.{Answer}
+use Rattle.ac_links.specs.Payloads.{Taking, is_payload, carries, answer_fits, is_request}
+use Rattle.ac_links.specs.Views.{OwnerOffer, PeerDecision, altered, known_at, withdrawn_at, replied_with, Response, may_reply, owner_offer, ViewsAgree, IsReplyTo, DecisionFits}
 use Rattle.ac_links.specs.Noted.{offer_stamp, decision_stamp}
+use Rattle.ac_links.specs.Payloads.Taking.{Message, Done}
+use Rattle.ac_links.specs.Replies.{waiting_replies, least_open, is_done_or_passed, NoMessages, TakesReply}
 use Rattle.ac_links.proofs.Keeps.{agree_offer, agree_decide, agree_withdraw, agree_learn}
+use Rattle.ac_links.proofs.Waiting.{takes_reply}
 use Rattle.core_channels.specs.LinkViews.{IsOffer, AreViews}
 use Rattle.core_channels.specs.Takes.{message_of, taken_decision, passed_decision}
+use Rattle.core_channels.specs.Requests.{did_decision}
 
 pub decided_within : (os : List OwnerOffer) (ds : List PeerDecision) → ViewsAgree os ds → length ds ≤ length os
 decided_within [] [] a = omega arith
@@ -80,7 +85,7 @@ is_carried (Int v) h = int_eq_self v
 is_carried (Read f a n) h = cc
 is_carried (Write f a b) h = cc
 
-all_at : {X : Type 0} (P : X → Type 0) (xs : List X) (n : ℕ) (x : X) → slice_get xs n ≡ Some x → All P xs → P x
+pub all_at : {X : Type 0} (P : X → Type 0) (xs : List X) (n : ℕ) (x : X) → slice_get xs n ≡ Some x → All P xs → P x
 all_at P [] n x h a = cc
 all_at P (y ∷ xs) zero x h a = let e : y ≡ x = cc in subst P e (All-head P y xs a)
 all_at P (y ∷ xs) (suc n) x h a = all_at P xs n x h (All-tail P y xs a)
@@ -117,3 +122,60 @@ views_pass r os ds o s w h e l v =
       agree = agree_decide os ds o (passed_decision s w) h (up, fits, if_none (λ k. k ≡ s) o.known free.0, l, if_none (IsReplyTo (passed_decision s w)) o.reply free.1) v.agree;
       each = v.each;
     }
+
+pub views_did : (r : Bool) (os : List OwnerOffer) (ds : List PeerDecision) (o : OwnerOffer) (w : Answer) (s : ℕ) → slice_get os (length ds) ≡ Some o → o.withdrawn ≡ None
+    → answer_fits w o.payload ≡ true → o.stamp < s → AreViews r os ds → AreViews r os (ds ++ did_decision w s o.stamp ∷ [])
+views_did r os ds o w s h e f l v =
+    let free = is_open os ds o h v.agree in
+    let fits : DecisionFits o.payload o.stamp (did_decision w s o.stamp) o.withdrawn =
+    subst (DecisionFits o.payload o.stamp (did_decision w s o.stamp)) (sym e) (Done w, refl, f, refl) in
+    record {
+      agree = agree_decide os ds o (did_decision w s o.stamp) h
+          (l, fits, if_none (λ k. k ≡ s) o.known free.0, l, if_none (IsReplyTo (did_decision w s o.stamp)) o.reply free.1) v.agree;
+      each = v.each;
+    }
+
+-- ---- replies
+
+-- no request is taken as a message
+not_a_message : (p : Payload) (g : Taking) → is_request p ≡ true → carries g p ≡ true → is_done_or_passed (Some g) ≡ true
+not_a_message (Int v) g h c = cc
+not_a_message (Read f a n) (Message v) h c = cc
+not_a_message (Read f a n) (Done w) h c = refl
+not_a_message (Write f a b) (Message v) h c = cc
+not_a_message (Write f a b) (Done w) h c = refl
+
+decided_so : (p : Payload) (stamp : ℕ) (d : PeerDecision) (q : Option ℕ) → is_request p ≡ true → DecisionFits p stamp d q → is_done_or_passed d.value ≡ true
+decided_so p stamp d None h f = subst (λ x. is_done_or_passed x ≡ true) (sym f.1) (not_a_message p f.0 h f.2)
+decided_so p stamp d (Some w) h f = subst (λ x. is_done_or_passed x ≡ true) (sym f.0) refl
+
+pub no_messages : (os : List OwnerOffer) (ds : List PeerDecision) → All (IsOffer true) os → ViewsAgree os ds → NoMessages ds
+no_messages [] [] e a = tt
+no_messages [] (d ∷ ds) e a = absurd a
+no_messages (o ∷ os) [] e a = tt
+no_messages (o ∷ os) (d ∷ ds) e a =
+    (decided_so o.payload o.stamp d o.withdrawn (All-head (IsOffer true) o os e).carried a.0.1, no_messages os ds (All-tail (IsOffer true) o os e) a.1)
+
+front_and_rest : {X : Type 0} (xs : List X) (x : X) → slice_get xs 0 ≡ Some x → (rest : List X) × (xs ≡ x ∷ rest)
+front_and_rest [] x h = cc
+front_and_rest (y ∷ ys) x h = let e : y ≡ x = cc in (ys, ap (λ z. z ∷ ys) e)
+
+-- the owner may take the first reply that waits, as that of its least open request
+pub next_reply : (terms : Terms) (l : ℕ) (os : List OwnerOffer) (ds : List PeerDecision) (r : Response) → slice_get (waiting_replies os ds) 0 ≡ Some r → AreViews true os ds
+    → (rest : List Response) × TakesReply terms l os ds r rest
+next_reply terms l os ds r h v = let f = front_and_rest (waiting_replies os ds) r h in (f.0, takes_reply terms l os ds r f.0 v.agree (no_messages os ds v.each v.agree) f.1)
+
+pub views_reply : (terms : Terms) (os : List OwnerOffer) (ds : List PeerDecision) (w : Answer) (of : ℕ) → slice_get (waiting_replies os ds) 0 ≡ Some (record { answer = w; of = of })
+    → AreViews true os ds → AreViews true (altered os (least_open os) (replied_with w of)) ds
+views_reply terms os ds w of h v = let t = next_reply terms 0 os ds (record { answer = w; of = of }) h v in record {
+  agree = t.1.agree;
+  each = all_altered (IsOffer true) (replied_with w of) os (least_open os) (λ o e p. record { carried = p.carried; later = p.later }) v.each;
+}
+
+in_list : (os : List OwnerOffer) (n : ℕ) → may_reply (slice_get os n) ≡ true → n < length os
+in_list [] n h = cc
+in_list (o ∷ os) zero h = omega arith
+in_list (o ∷ os) (suc n) h = let ih = in_list os n h in omega arith
+
+pub reply_within : (terms : Terms) (os : List OwnerOffer) (ds : List PeerDecision) (r : Response) → slice_get (waiting_replies os ds) 0 ≡ Some r → AreViews true os ds → least_open os < length os
+reply_within terms os ds r h v = let t = next_reply terms 0 os ds r h v in in_list os (least_open os) t.1.fits

@@ -1,6 +1,7 @@
 -- How many leading offers are known, after a change.
 use Rattle.std.proofs.Common.{◌≡◌, ℕ, zero, suc, ◌+◌, ◌<◌, ◌≤◌, List, [], ◌∷◌, ◌++◌, Bool, true, false, cond, refl, ap, arith, length, get_or, is_some}
-use Rattle.ac_links.specs.Views.{OwnerOffer, owner_lead, altered, known_at, withdrawn_at}
+use Rattle.ac_base.specs.declared.entry.Answer.{Answer}
+use Rattle.ac_links.specs.Views.{OwnerOffer, owner_lead, altered, known_at, withdrawn_at, replied_with}
 
 pub lead_within : (os : List OwnerOffer) → owner_lead os ≤ length os
 lead_within [] = omega arith
@@ -21,6 +22,11 @@ pub lead_withdrawn : (os : List OwnerOffer) (n s : ℕ) → owner_lead (altered 
 lead_withdrawn [] n s = refl
 lead_withdrawn (o ∷ os) zero s = refl
 lead_withdrawn (o ∷ os) (suc n) s = ap (λ r. cond (is_some o.known) (suc r) 0) (lead_withdrawn os n s)
+
+pub lead_replied : (os : List OwnerOffer) (n : ℕ) (w : Answer) (s : ℕ) → owner_lead (altered os n (replied_with w s)) ≡ owner_lead os
+lead_replied [] n w s = refl
+lead_replied (o ∷ os) zero w s = refl
+lead_replied (o ∷ os) (suc n) w s = ap (λ r. cond (is_some o.known) (suc r) 0) (lead_replied os n w s)
 
 -- a search for the first that is not known, from one place to the next
 after_first : (o : OwnerOffer) (os : List OwnerOffer) (n : ℕ) (b : Bool) → is_some o.known ≡ b → suc n ≤ cond b (suc (owner_lead os)) 0 → n ≤ owner_lead os

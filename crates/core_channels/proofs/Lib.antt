@@ -2,6 +2,9 @@ pub mod Answering
 pub mod Entering
 pub mod Examples
 pub mod PartExamples
+pub mod RequestExamples
 pub mod Keeping
 pub mod Leads
+pub mod Opens
+pub mod Fronts
 pub mod Stamping

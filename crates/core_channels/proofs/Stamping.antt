@@ -14,3 +14,6 @@ stamp_is_later last seen s h = let e = stamp_is_next last seen s h in omega arit
 
 pub stamp_rises : (last seen s : ℕ) → stamp_after last seen ≡ Some s → last < s
 stamp_rises last seen s h = let e = stamp_is_next last seen s h in omega arith
+
+pub next_is_later : (last seen s : ℕ) → s ≡ next_stamp last seen → seen < s
+next_is_later last seen s e = omega arith

@@ -1,11 +1,14 @@
 -- What the answers of the calls on a link are to the journals of its two parties.
-use Rattle.std.specs.Prelude.{◌≡◌, ℕ, ℤ, List, Option, Some, None, true, false, slice_get}
+use Rattle.std.specs.Prelude.{◌≡◌, ℕ, ℤ, List, length, Option, Some, None, true, false, slice_get}
 use Rattle.ac_base.specs.declared.entry.Payload.{Payload}
+use Rattle.ac_base.specs.declared.entry.Answer.{Answer}
 use Rattle.ac_base.specs.declared.entry.Entry.{Entry}
 use Rattle.ac_base.specs.declared.entry.Event.{Event}
-use Rattle.ac_base.specs.declared.entry.Event.TheVariants.{Offer, Withdraw, Know, Room, Got, Pass}
+use Rattle.ac_base.specs.declared.entry.Event.TheVariants.{Offer, Withdraw, Know, Room, Got, Pass, Did, Reply}
 use Rattle.ac_links.specs.declared.payloads.Terms.{Terms}
+use Rattle.ac_base.specs.Stamps.{next_stamp}
 use Rattle.ac_links.specs.Payloads.{is_payload}
+use Rattle.ac_links.specs.Replies.{least_open}
 use Rattle.ac_links.specs.Views.{may_withdraw}
 use Rattle.ac_links.specs.Noted.{seen_of}
 use Rattle.ac_links.specs.Journals.{last_of}
@@ -19,10 +22,11 @@ use Rattle.core_channels.specs.declared.answers.Withdrawing.{Withdrawing}
 use Rattle.core_channels.specs.declared.answers.Withdrawing.TheVariants as withdraw
 use Rattle.core_channels.specs.declared.answers.Receiving.{Receiving}
 use Rattle.core_channels.specs.declared.answers.Receiving.TheVariants as take
-use Rattle.core_channels.specs.LinkViews.{LinkViews}
+use Rattle.core_channels.specs.LinkViews.{LinkViews, IsLink}
 use Rattle.core_channels.specs.Offers.{offering, after_offering}
 use Rattle.core_channels.specs.Learns.{learning, after_learning}
 use Rattle.core_channels.specs.Withdraws.{withdrawing, after_withdrawing}
+use Rattle.core_channels.specs.Requests.{did_stamp, after_doing, pass_stamp, after_passing, ReplyIsNext, after_reply}
 use Rattle.core_channels.specs.Takes.{receiving, after_receiving}
 
 -- the entry that an answer tells of: what it says has happened, and its stamp
@@ -88,3 +92,30 @@ TakeEnters = (terms : ℕ → Terms) (ends : ℕ → LinkEnd) (j : List Entry) (
     → terms l ≡ v.terms → ends l ≡ Decides v.decisions → v.terms.requests ≡ false
     → Enters terms ends j turn l v (told_by_receiving l (receiving v (last_of 0 j)))
     (Decides (after_receiving v (receiving v (last_of 0 j))).decisions)
+
+-- ---- on a link of requests
+
+abbrev pub told_by_doing : ℕ → LinkViews → Answer → ℕ → Told
+told_by_doing l v answer last = record { event = Did l (length v.decisions) answer; stamp = did_stamp v last }
+
+abbrev pub told_by_passing : ℕ → LinkViews → ℕ → Told
+told_by_passing l v last = record { event = Pass l (length v.decisions); stamp = pass_stamp v last }
+
+-- the owner's entry has the next stamp after that of the entry by which the request was done
+abbrev pub told_by_reply : ℕ → LinkViews → Answer → ℕ → ℕ → Told
+told_by_reply l v answer of last = record { event = Reply l (least_open v.offers) answer; stamp = next_stamp last of }
+
+abbrev pub DidEnters : Type 0
+DidEnters = (terms : ℕ → Terms) (ends : ℕ → LinkEnd) (j : List Entry) (turn l : ℕ) (v : LinkViews) (answer : Answer)
+    → terms l ≡ v.terms → ends l ≡ Decides v.decisions → v.terms.requests ≡ true
+    → Enters terms ends j turn l v (Some (told_by_doing l v answer (last_of 0 j))) (Decides (after_doing v answer (last_of 0 j)).decisions)
+
+abbrev pub PassEnters : Type 0
+PassEnters = (terms : ℕ → Terms) (ends : ℕ → LinkEnd) (j : List Entry) (turn l : ℕ) (v : LinkViews)
+    → terms l ≡ v.terms → ends l ≡ Decides v.decisions
+    → Enters terms ends j turn l v (Some (told_by_passing l v (last_of 0 j))) (Decides (after_passing v (last_of 0 j)).decisions)
+
+abbrev pub ReplyEnters : Type 0
+ReplyEnters = (terms : ℕ → Terms) (ends : ℕ → LinkEnd) (j : List Entry) (turn l : ℕ) (v : LinkViews) (answer : Answer) (of : ℕ)
+    → terms l ≡ v.terms → ends l ≡ Owns v.offers → IsLink v → v.terms.requests ≡ true → ReplyIsNext v answer of
+    → Enters terms ends j turn l v (Some (told_by_reply l v answer of (last_of 0 j))) (Owns (after_reply v answer of).offers)

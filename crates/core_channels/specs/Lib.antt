@@ -3,6 +3,7 @@ pub mod Laws
 pub mod Learns
 pub mod LinkViews
 pub mod Offers
+pub mod Requests
 pub mod Takes
 pub mod Withdraws
 pub mod inner

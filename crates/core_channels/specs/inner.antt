@@ -1,2 +1,2 @@
-pub mod Messages
+pub mod Takings
 pub mod Keeping

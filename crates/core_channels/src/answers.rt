@@ -1,6 +1,6 @@
 //! What the calls on links answer. A stamp in an answer is that of the new entry.
 
-use ac_base::{Answer, Message};
+use ac_base::{Answer, Message, Payload};
 
 /// The answer to an offer. What was not offered is handed back.
 #[derive(Debug, Drop)]
@@ -52,6 +52,19 @@ pub enum Receiving<M> {
     Nothing,
     /// There is one, but as yet it cannot be had.
     NotYet,
+    /// All stamps are used.
+    ClockFull,
+}
+
+/// What the peer of a link of requests finds: the first offer that is not decided.
+#[derive(Debug, Drop)]
+pub enum Front {
+    /// Every offer is decided.
+    Nothing,
+    /// It is withdrawn.
+    Withdrawn { number: u64 },
+    /// It stands, and this is a copy of its request.
+    Request { number: u64, payload: Payload },
     /// All stamps are used.
     ClockFull,
 }

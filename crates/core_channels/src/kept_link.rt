@@ -1,20 +1,25 @@
 //! One link, as both of its sides know it.
 
-ghost use Rattle.std.specs.Prelude.{◌≡◌, ◌≤◌, OnOk, true, false, nat_lt, slice_get, length, ◌<◌, [], ◌∷◌, ◌++◌, vec_len, vec_capacity};
+ghost use Rattle.std.specs.Prelude.{◌≡◌, ◌≤◌, OnOk, IfOk, Some, true, false, nat_lt, slice_get};
+ghost use Rattle.std.specs.Prelude.{length, ◌<◌, ◌^◌, [], ◌∷◌, ◌++◌, vec_len, vec_capacity};
 ghost use Rattle.ac_links.specs.Payloads.{is_payload};
-ghost use Rattle.ac_links.specs.Views.{owner_lead, may_withdraw, altered, known_at, withdrawn_at};
+ghost use Rattle.ac_links.specs.Views.{owner_lead, may_withdraw, altered, known_at, withdrawn_at, replied_with};
+ghost use Rattle.ac_links.specs.Replies.{least_open};
+ghost use Rattle.ac_base.specs.Stamps.{next_stamp};
 ghost use Rattle.core_channels.specs.LinkViews.{IsLink, AreViews, without_spare, new_link, with_call};
 ghost use Rattle.core_channels.specs.Offers.{has_room, offering, after_offering, offering_clock};
 ghost use Rattle.ac_links.specs.Noted.{decision_stamp, offer_stamp};
 ghost use Rattle.core_channels.specs.Learns.{with_known, learning, after_learning, learning_clock};
 ghost use Rattle.core_channels.specs.Withdraws.{withdrawing, after_withdrawing, withdrawing_clock};
 ghost use Rattle.core_channels.specs.Takes.{message_of, with_decision, receiving, after_receiving, receiving_clock};
+ghost use Rattle.core_channels.specs.Requests.{next_offer, withdrawn_front, request_front, front_by, fronting, is_withdrawn, may_do};
+ghost use Rattle.core_channels.specs.Requests.{did_stamp, after_doing, pass_stamp, after_passing, ReplyIsNext, after_reply};
 
-use crate::answers::{Learning, Offering, Receiving, Withdrawing};
+use crate::answers::{Front, Learning, Offering, Receiving, Withdrawing};
 use crate::counts::{Call, Counts};
 use crate::decision::Decision;
 use crate::offer::Offer;
-use ac_base::{Clock, Message, NoMemory, Payload};
+use ac_base::{Answer, Clock, Message, NoMemory, Payload};
 use ac_links::Terms;
 use std::alloc::Global;
 use std::marker::Model;
@@ -29,6 +34,26 @@ fn lead_from(offers: &[Offer], from: usize) -> usize
         n += 1;
     }
     n
+}
+
+// How many offers there are before the first to which a reply may come, of which these are there.
+fn open_from(offers: &[Offer], from: usize) -> usize
+    requires { from ≤ least_open offers.now }
+    ensures { result ≡ least_open offers.now }
+{
+    let mut n = from;
+    while n < offers.len() && offers[n].is_closed() {
+        n += 1;
+    }
+    n
+}
+
+// The stamp of an entry that answers one of this stamp.
+fn stamp_of(clock: &Clock, seen: u64) -> u64
+    requires { next_stamp clock.now seen < 2 ^ 60 }
+    ensures { result ≡ next_stamp clock.now seen }
+{
+    clock.last().max(seen) + 1
 }
 
 // Notes at the offer of this number that its decision, of this stamp, is known.
@@ -53,6 +78,17 @@ fn note_withdrawn(offers: &mut Vec<Offer>, number: usize, stamp: u64)
     offers[number].withdraw(stamp);
 }
 
+// Notes at the offer of this number the answer that came, of an entry of this stamp.
+#[tactic(auto, using(crate::proofs::Keeping::set_is_altered))]
+fn note_reply(offers: &mut Vec<Offer>, number: usize, answer: Answer, of: u64)
+    requires { number < length offers.old.items }
+    ensures offers { offers.new.items ≡ altered offers.old.items number (replied_with answer of) }
+    ensures len { vec_len offers.new ≡ vec_len offers.old }
+    ensures capacity { vec_capacity offers.new ≡ vec_capacity offers.old }
+{
+    offers[number].reply(answer, of);
+}
+
 fn message_of(payload: &Payload) -> Message
     ensures { result ≡ message_of payload.now }
 {
@@ -60,6 +96,44 @@ fn message_of(payload: &Payload) -> Message
         Payload::Int(value) => *value,
         Payload::Read { .. } => 0,
         Payload::Write { .. } => 0,
+    }
+}
+
+// What a withdrawn offer is to the peer, where this is the stamp of the entry by which it is passed.
+fn withdrawn_front(number: u64, stamp: Option<u64>) -> Front
+    ensures { result ≡ withdrawn_front number stamp }
+{
+    match stamp {
+        Some(_) => Front::Withdrawn { number },
+        None => Front::ClockFull,
+    }
+}
+
+// What a standing offer is to the peer, where this is the stamp of the entry by which it is done.
+fn request_front(
+    alloc: Global,
+    number: u64,
+    payload: &Payload,
+    stamp: Option<u64>,
+) -> Result<Front, NoMemory>
+    ensures { IfOk result (λ front. front ≡ request_front number payload.now stamp) }
+{
+    match stamp {
+        Some(_) => Ok(Front::Request {
+            number,
+            payload: payload.copy(alloc)?,
+        }),
+        None => Ok(Front::ClockFull),
+    }
+}
+
+// What the offer of this number is to a peer that comes to it.
+fn offer_front(alloc: Global, number: u64, offer: &Offer, clock: &Clock) -> Result<Front, NoMemory>
+    ensures { IfOk result (λ front. front ≡ front_by clock.now number offer.now offer.now.withdrawn) }
+{
+    match offer.withdrawn() {
+        Some(withdrawn) => Ok(withdrawn_front(number, clock.after(withdrawn))),
+        None => request_front(alloc, number, offer.payload(), clock.after(offer.stamp())),
     }
 }
 
@@ -71,6 +145,8 @@ pub struct KeptLink {
     decisions: Vec<Decision>,
     /// How many offers there are before the first that is not known.
     lead: usize,
+    /// Of so many offers at the front each is withdrawn or replied.
+    open: usize,
     counts: Counts,
 }
 
@@ -103,6 +179,7 @@ impl KeptLink {
             offers: Vec::new(alloc),
             decisions: Vec::new(alloc),
             lead: 0,
+            open: 0,
             counts: Counts::none(),
         }
     }
@@ -273,5 +350,68 @@ impl KeptLink {
             value,
             stamp,
         }
+    }
+
+    /// The first offer that is not decided.
+    #[tactic(auto, using(crate::proofs::Answering::read_at, crate::proofs::Fronts::front_is))]
+    pub fn front(&self, alloc: Global, clock: &Clock) -> Result<Front, NoMemory>
+        ensures front { IfOk result (λ front. front ≡ fronting self.now clock.now) }
+        ensures link { IsLink self.now }
+    {
+        let number = self.decisions.len();
+        match self.offers.get(number) {
+            None => Ok(Front::Nothing),
+            Some(offer) => offer_front(alloc, number as u64, offer, clock),
+        }
+    }
+
+    // The first offer that is not decided, where there is one.
+    fn next(&self) -> &Offer
+        requires { length self.now.decisions < length self.now.offers }
+        ensures there { next_offer self.now ≡ Some result.now }
+        ensures link { IsLink self.now }
+    {
+        &self.offers[self.decisions.len()]
+    }
+
+    pub fn done(&mut self, answer: Answer, clock: &mut Clock) -> u64
+        requires { may_do (fronting self.old clock.old) answer ≡ true }
+        ensures stamp { result ≡ did_stamp self.old clock.old }
+        ensures views { self.new ≡ after_doing self.old answer clock.old }
+        ensures clock { clock.new ≡ result }
+        ensures link { IsLink self.new }
+    {
+        let offered = self.next().stamp();
+        let stamp = stamp_of(clock, offered);
+        clock.set(stamp);
+        self.decide(Decision::did(answer, stamp, offered));
+        stamp
+    }
+
+    pub fn pass_request(&mut self, clock: &mut Clock) -> u64
+        requires { is_withdrawn (fronting self.old clock.old) ≡ true }
+        ensures stamp { result ≡ pass_stamp self.old clock.old }
+        ensures views { self.new ≡ after_passing self.old clock.old }
+        ensures clock { clock.new ≡ result }
+        ensures link { IsLink self.new }
+    {
+        let since = self.next().withdrawal();
+        let stamp = stamp_of(clock, since);
+        clock.set(stamp);
+        self.decide(Decision::passed(stamp, since));
+        stamp
+    }
+
+    pub fn reply(&mut self, answer: Answer, of: u64) -> u64
+        requires requests { self.old.terms.requests ≡ true }
+        requires next { ReplyIsNext self.old answer of }
+        ensures number { result ≡ least_open self.old.offers }
+        ensures views { self.new ≡ after_reply self.old answer of }
+        ensures link { IsLink self.new }
+    {
+        let number = open_from(self.offers.as_slice(), self.open);
+        self.open = number;
+        note_reply(&mut self.offers, number, answer, of);
+        number as u64
     }
 }

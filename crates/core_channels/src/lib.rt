@@ -9,7 +9,7 @@ mod law;
 mod links;
 mod offer;
 
-pub use answers::{Arrived, Learning, Offering, Receiving, Withdrawing};
+pub use answers::{Arrived, Front, Learning, Offering, Receiving, Withdrawing};
 pub use counts::Call;
-pub use law::{owner_may_enter, peer_may_enter};
+pub use law::{owner_may_enter, owner_may_enter_replies, peer_may_enter, worker_may_enter};
 pub use links::Links;

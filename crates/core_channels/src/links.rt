@@ -10,11 +10,14 @@ ghost use Rattle.core_channels.specs.Offers.{offering, after_offering, offering_
 ghost use Rattle.core_channels.specs.Learns.{learning, after_learning, learning_clock};
 ghost use Rattle.core_channels.specs.Withdraws.{withdrawing, after_withdrawing, withdrawing_clock};
 ghost use Rattle.core_channels.specs.Takes.{receiving, after_receiving, receiving_clock};
+ghost use Rattle.ac_links.specs.Replies.{least_open};
+ghost use Rattle.core_channels.specs.Requests.{fronting, is_withdrawn, may_do, did_stamp, after_doing};
+ghost use Rattle.core_channels.specs.Requests.{pass_stamp, after_passing, ReplyIsNext, after_reply};
 
-use crate::answers::{Learning, Offering, Receiving, Withdrawing};
+use crate::answers::{Front, Learning, Offering, Receiving, Withdrawing};
 use crate::counts::Call;
 use crate::kept_link::KeptLink;
-use ac_base::{Clock, List, Message, NoMemory, Payload};
+use ac_base::{Answer, Clock, List, Message, NoMemory, Payload};
 use ac_links::Terms;
 use std::alloc::Global;
 use std::marker::Model;
@@ -23,7 +26,7 @@ use std::marker::Model;
 ///
 /// Contracts see of each link its terms, what its owner has offered and knows, what its peer has
 /// decided, its spare, which is the number of further offers for which it has a place, and the counts
-/// of the calls that were counted. Only `new` and `reserve` take memory.
+/// of the calls that were counted. Only `new`, `reserve` and `front` take memory.
 #[derive(Drop)]
 pub struct Links {
     links: Vec<KeptLink>,
@@ -145,5 +148,65 @@ impl Links {
         ensures terms { SameTerms self.old self.new }
     {
         self.links[link as usize].take(clock)
+    }
+
+    /// The first offer of a link of requests that is not decided, as its peer finds it. It is
+    /// `ClockFull` where the clock has no stamp for an entry that decides it. The two views of the link
+    /// agree.
+    ///
+    /// Condition: the link is in range.
+    pub fn front(&self, alloc: Global, link: u32, clock: &Clock) -> Result<Front, NoMemory>
+        requires { link < length self.now }
+        ensures front { IfOk result (λ front. front ≡ fronting (link_at self.now link) clock.now) }
+        ensures link { IsLink (link_at self.now link) }
+    {
+        self.links[link as usize].front(alloc, clock)
+    }
+
+    /// The peer has done the request at the front, with this answer. Gives the stamp of the entry.
+    /// It takes no memory.
+    ///
+    /// Condition: the link is in range, its front is a request, and the answer fits it.
+    pub fn done(&mut self, link: u32, answer: Answer, clock: &mut Clock) -> u64
+        requires link { link < length self.old }
+        requires open { may_do (fronting (link_at self.old link) clock.old) answer ≡ true }
+        ensures stamp { result ≡ did_stamp (link_at self.old link) clock.old }
+        ensures links { self.new ≡ with_link self.old link (after_doing (link_at self.old link) answer clock.old) }
+        ensures clock { clock.new ≡ result }
+        ensures terms { SameTerms self.old self.new }
+    {
+        self.links[link as usize].done(answer, clock)
+    }
+
+    /// The peer passes over the request at the front, which was withdrawn. Gives the stamp of the
+    /// entry. It takes no memory.
+    ///
+    /// Condition: the link is in range, and its front is withdrawn.
+    pub fn pass_request(&mut self, link: u32, clock: &mut Clock) -> u64
+        requires link { link < length self.old }
+        requires front { is_withdrawn (fronting (link_at self.old link) clock.old) ≡ true }
+        ensures stamp { result ≡ pass_stamp (link_at self.old link) clock.old }
+        ensures links { self.new ≡ with_link self.old link (after_passing (link_at self.old link) clock.old) }
+        ensures clock { clock.new ≡ result }
+        ensures terms { SameTerms self.old self.new }
+    {
+        self.links[link as usize].pass_request(clock)
+    }
+
+    /// Lets the owner note the answer that has come back, of an entry of this stamp, at its least
+    /// request that is neither withdrawn nor replied. Gives the number of that request. It takes no
+    /// memory.
+    ///
+    /// Condition: the link is in range and carries requests, and of the answers that the owner has
+    /// not had this is the first.
+    pub fn reply(&mut self, link: u32, answer: Answer, of: u64) -> u64
+        requires link { link < length self.old }
+        requires requests { (link_at self.old link).terms.requests ≡ true }
+        requires next { ReplyIsNext (link_at self.old link) answer of }
+        ensures number { result ≡ least_open (link_at self.old link).offers }
+        ensures links { self.new ≡ with_link self.old link (after_reply (link_at self.old link) answer of) }
+        ensures terms { SameTerms self.old self.new }
+    {
+        self.links[link as usize].reply(answer, of)
     }
 }

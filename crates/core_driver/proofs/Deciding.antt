@@ -1,8 +1,7 @@
 -- The offer that a cancel tries stands at its link, so it may be withdrawn; and the core goes on by what its link answers.
-use Rattle.std.proofs.Common.{◌≡◌, ℕ, ◌+◌, ◌<◌, ◌≤◌, List, [], ◌∷◌, length, Option, Some, None, Bool, true, false, refl, sym, ap, ◌∙◌, subst, arith}
+use Rattle.std.proofs.Common.{◌≡◌, ℕ, ◌+◌, ◌<◌, ◌≤◌, List, [], ◌∷◌, Option, Some, None, Bool, true, false, refl, sym, ap, ◌∙◌, subst, arith}
 use Rattle.std.specs.Prelude.{IfNone, find, nat_eq, is_none, ◌&&◌, if◌then◌else◌}
 use Rattle.std.proofs.lemmas.Bool.{eq-eqb}
-use Rattle.ac_links.specs.Link.{link_of}
 use Rattle.ac_links.specs.Views.{may_withdraw}
 use Rattle.work_item.specs.declared.ids.BlockId.{BlockId}
 use Rattle.work_item.specs.declared.ids.Item.{Item}
@@ -26,7 +25,7 @@ use Rattle.core_machine.specs.Tried.{HasDecided, cancelled_at, cancelled_in, tri
 use Rattle.core_driver.specs.inner.InStep.{Holds, InStep}
 use Rattle.core_driver.specs.inner.Outside.{Outside}
 use Rattle.core_driver.specs.inner.Rounds.{left_over}
-use Rattle.core_driver.proofs.Together.{Called, recorded_holds, roomed_less, stands_on, stands_open, with_room}
+use Rattle.core_driver.proofs.Together.{Called, recorded_holds, roomed_less, stands_open, with_room}
 
 -- ---- when the core asks
 
@@ -111,15 +110,11 @@ module _ (m b : Machine) (o : Outside) (h : InStep m o) (same : IsSameCore m b) 
     pub may_be_withdrawn : may_withdraw (offer_at (o.ends tried.link) tried.number) ≡ true
     may_be_withdrawn = stands_open b o (with_room m b o h same state run) (all asks_on) tried.link tried.number stands
 
-    tried_on : tried.link < length m.code.ends
-    tried_on = subst (λ (code : Parts). tried.link < length code.ends) same.code (stands_on b o (with_room m b o h same state run) (all asks_on) tried.link tried.number stands)
-
     -- the outcome was told, and is recorded
-    module _ (p : Outside) (t : Told) (call : Called o p (Some t)) (n : Machine) (it : Outcome) (done : HasDecided b tried it t.event t.stamp n) (on : link_of t.event ≡ tried.link)
+    module _ (p : Outside) (t : Told) (call : Called o p (Some t)) (n : Machine) (it : Outcome) (done : HasDecided b tried it t.event t.stamp n)
         (less : (ranks : List ℕ) → work_left ranks n < work_left ranks b) (goes : IsOnItsWay n) where
       pub decided_holds : Holds m o n p
       decided_holds = recorded_holds m b o h same state run p t call n done.flat.shared.turn (record { journal = done.journal; code = done.code; core = done.core; bound = done.bound }) goes
-          (subst (λ l. l < length m.code.ends) (sym on) tried_on)
 
       pub decided_less : (ranks : List ℕ) → left_over ranks n p.last < left_over ranks m o.last
       decided_less ranks =

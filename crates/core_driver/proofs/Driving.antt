@@ -33,7 +33,6 @@ module _ (m : Machine) (full : Bool) (old : Driven) (o : Outside) (is : driven m
     ports = subst (λ (d : Driven). ArePortsOf d.machine.code d.machine.core o.terms o.ends) (sym is) ports;
     agrees = subst (λ (d : Driven). PartyAgrees o.terms d.machine.core o.ends d.machine.journal) (sym is) agrees;
     clock = kept.clock;
-    channels = kept.channels;
   }
 
   module _ (n : Machine) (p : Outside) (holds : Holds m o n p) where
@@ -51,7 +50,6 @@ module _ (m : Machine) (full : Bool) (old : Driven) (o : Outside) (is : driven m
     kept_still none = record {
       clock = holds.in_step.clock;
       run = holds.in_step.run;
-      channels = holds.in_step.channels;
       going = λ e. let no : false ≡ true = sym none ∙ e in absurd (cc);
     }
 
@@ -59,7 +57,6 @@ module _ (m : Machine) (full : Bool) (old : Driven) (o : Outside) (is : driven m
     kept_by pause now h e = record {
       clock = holds.in_step.clock;
       run = holds.in_step.run;
-      channels = holds.in_step.channels;
       going = λ f. full_goes n.state pause h (sym e ∙ f);
     }
 

@@ -1,6 +1,8 @@
--- The sides of links, and how a driver comes back, by example.
+-- How a driver comes back, by example.
 use Rattle.std.proofs.Common.{◌≡◌, ◌-◌, ◌^◌, refl, ap, true, false, [], ◌∷◌, Some, None, arith}
 use Rattle.ac_base.specs.declared.ends.Trap.TheVariants.{ZeroDivisor}
+use Rattle.ac_base.specs.declared.entry.Payload.TheVariants.{Read}
+use Rattle.ac_links.specs.Views.{OwnerOffer}
 use Rattle.ac_links.specs.Party.{LinkEnd}
 use Rattle.ac_links.specs.Party.LinkEnd.{Owns, Decides, Absent}
 use Rattle.core_channels.specs.LinkViews.{terms_at}
@@ -13,31 +15,16 @@ use Rattle.core_machine.specs.declared.ending.Ending.TheVariants as ending
 use Rattle.core_machine.specs.Machine.{Machine}
 use Rattle.core_machine.proofs.Examples.{finished, offer, running, with_operations}
 use Rattle.core_driver.specs.declared.pause.Pause.TheVariants as pause
-use Rattle.core_driver.specs.declared.side.Side.{Side}
-use Rattle.core_driver.specs.declared.side.Side.TheVariants.{Owner, Peer, Neither}
-use Rattle.core_driver.specs.Driven.{AreOnChannels}
+use Rattle.core_ports.specs.declared.side.Side.{Side}
+use Rattle.core_ports.specs.declared.side.Side.TheVariants.{Owner, Peer, Neither}
 use Rattle.core_driver.specs.Idle.{HasLooked, IsLater, LeavesNothing, RoseBy}
 use Rattle.core_driver.specs.Pauses.{IsPaused, is_clock_full, pause_of}
-use Rattle.core_driver.specs.Sides.{ArePortsOf, channel_side, links_of, request_side, side_at, side_of}
-
--- ---- sides
+use Rattle.core_ports.specs.Sides.{side_of}
+use Rattle.core_driver.specs.Sides.{ArePortsOf, links_of}
 
 -- core 0 sends to core 1
 abbrev channel : ChannelEnds
 channel = record { from = 0; to = 1 }
-
-pub on_a_channel : (channel_side 0 channel ≡ Owner) × (channel_side 1 channel ≡ Peer) × (channel_side 2 channel ≡ Neither)
-on_a_channel = (refl, refl, refl)
-
--- after two channels core 1 has link 3
-pub on_links_of_requests : (request_side 2 1 3 ≡ Owner) × (request_side 2 1 2 ≡ Neither)
-on_links_of_requests = (refl, refl)
-
-pub on_each_link : (side_of (channel ∷ []) 0 0 ≡ Owner) × (side_of (channel ∷ []) 1 0 ≡ Peer) × (side_of (channel ∷ []) 1 1 ≡ Neither) × (side_of (channel ∷ []) 1 2 ≡ Owner)
-on_each_link = (refl, refl, refl, refl)
-
-pub by_the_channel_or_without : (side_at 1 0 0 (Some channel) ≡ Owner) × (side_at 1 0 1 None ≡ Owner)
-by_the_channel_or_without = (refl, refl)
 
 module _ (code : Parts) where
   -- two cores with a channel between them
@@ -79,19 +66,26 @@ module _ (code : Parts) where
   nothing = record { decision = false; front = false; reply = false; slot = false }
 
   pub nothing_at_hand : LeavesNothing machine (terms_at 1 two.capacities) (λ l. end_for (side_of two.ends 0 l)) (λ l. nothing)
-  nothing_at_hand = record { decision = λ l side. refl; front = λ l side waits. refl; slot = λ l low side waits room. refl }
+  nothing_at_hand = record { decision = λ l side. refl; front = λ l side waits. refl; slot = λ l side waits room. refl; reply = λ l side asks waits. refl }
 
   pub a_decision_at_hand : LeavesNothing machine (terms_at 1 two.capacities) (λ l. end_for (side_of two.ends 0 l)) (λ l. record nothing { decision = true }) → ⊥
   a_decision_at_hand h = let no : true ≡ false = h.decision 0 refl in cc
 
   -- a 5 is to be sent on channel 0, there is room and a place for it
   pub a_slot_at_hand : LeavesNothing machine (terms_at 1 two.capacities) (λ l. end_for (side_of two.ends 0 l)) (λ l. record nothing { slot = true }) → ⊥
-  a_slot_at_hand h = let no : true ≡ false = h.slot 0 (omega arith) refl refl refl in cc
+  a_slot_at_hand h = let no : true ≡ false = h.slot 0 refl refl refl in cc
+
+  -- the one request that was made is known to be taken, and its reply is there
+  abbrev request : OwnerOffer
+  request = record { payload = Read 6 9 4; stamp = 1; withdrawn = None; known = Some 2; reply = None }
+
+  pub a_reply_at_hand : LeavesNothing machine (terms_at 1 two.capacities) (λ l. Owns (request ∷ [])) (λ l. record nothing { reply = true }) → ⊥
+  a_reply_at_hand h = let no : true ≡ false = h.reply 1 refl refl refl in cc
 
   -- ---- how often a core has looked
 
   pub looked_twice : HasLooked 2 machine (λ l. 5) (λ l. 7) (λ l. 0) (λ l. 2)
-  looked_twice = record { polled = λ l side. omega arith; tried = λ l low side waits. omega arith }
+  looked_twice = record { polled = λ l side. omega arith; tried = λ l side waits. omega arith }
 
   pub not_a_third_time : HasLooked 3 machine (λ l. 5) (λ l. 7) (λ l. 0) (λ l. 3) → ⊥
   not_a_third_time h = let low = h.polled 0 (λ e. cc) in absurd (omega (arith, low))
@@ -119,12 +113,3 @@ not_full_after_its_end e = cc
 
 pub whether_it_is_full : (is_clock_full pause.ClockFull ≡ true) × (is_clock_full pause.Idle ≡ false)
 whether_it_is_full = (refl, refl)
-
--- ---- the entries of a core
-
-pub they_are_of_channels : AreOnChannels 1 (offer ∷ []) × AreOnChannels 0 []
-they_are_of_channels = ((omega arith, tt), tt)
-
--- with no channel link 0 is that of the requests of core 0
-pub one_is_of_no_channel : AreOnChannels 0 (offer ∷ []) → ⊥
-one_is_of_no_channel h = let low = h.0 in absurd (omega (arith, low))

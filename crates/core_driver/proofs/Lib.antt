@@ -1,8 +1,9 @@
 pub mod Opened
-pub mod Channels
+pub mod Replied
 pub mod Together
 pub mod Looking
 pub mod Deciding
 pub mod Resting
+pub mod Awaiting
 pub mod Examples
 pub mod Driving

@@ -1,28 +1,28 @@
 -- Which links have been looked at.
-use Rattle.std.proofs.Common.{◌≡◌, ℕ, ◌+◌, ◌-◌, ◌^◌, ◌<◌, ◌≤◌, List, length, Option, Some, None, IsSome, Bool, true, false, refl, sym, ap, ◌∙◌, subst, arith}
-use Rattle.std.specs.Prelude.{IfNone, ℤ, nat_le, nat_lt, slice_get, ◌==◌, ◌||◌, if◌then◌else◌}
-use Rattle.std.proofs.lemmas.Bool.{eq-eqb, lt-ltb, ltb-false, ltb-true}
+use Rattle.std.proofs.Common.{◌≡◌, ℕ, ◌+◌, ◌-◌, ◌^◌, ◌<◌, ◌≤◌, List, length, Option, Some, None, Bool, true, false, refl, sym, ap, ◌∙◌, subst, arith}
+use Rattle.std.specs.Prelude.{IfNone, nat_eq, nat_le, nat_lt, slice_get, ◌==◌, ◌||◌, if◌then◌else◌}
+use Rattle.std.proofs.lemmas.Bool.{eq-eqb, eqb-true, lt-ltb, ltb-false, ltb-true}
 use Rattle.std.proofs.lemmas.Bool.Decides.{nat_tests}
 use Rattle.std.proofs.lemmas.Option.{slice_get_within}
-use Rattle.ac_base.specs.declared.entry.Payload.TheVariants.{Int}
 use Rattle.ac_base.specs.Stamps.{next_stamp, stamp_after}
 use Rattle.ac_links.specs.declared.payloads.Terms.{Terms}
 use Rattle.ac_links.specs.Party.{LinkEnd}
 use Rattle.ac_links.specs.Party.LinkEnd.{Owns, Decides, Absent}
-use Rattle.ac_links.specs.Payloads.{is_payload}
+use Rattle.core_state.specs.Shared.{request_link}
 use Rattle.core_channels.specs.Counts.{counted}
 use Rattle.core_channels.specs.Laws.{Told}
 use Rattle.core_ports.specs.AtHand.{AtHand}
 use Rattle.core_ports.specs.Counts.{with_one_more}
-use Rattle.core_ports.specs.Ends.{has_room, is_held, is_owner, is_peer}
+use Rattle.core_ports.specs.Ends.{awaits_reply, has_room, is_held, is_owner, is_peer}
 use Rattle.core_ports.specs.Tells.{Tells}
 use Rattle.stack_code.specs.declared.parts.ChannelEnds.{ChannelEnds}
 use Rattle.stack_code.specs.Parts.{Parts}
 use Rattle.core_machine.specs.Machine.{Machine}
-use Rattle.core_machine.specs.Points.{operations_of, to_send, receives_from}
-use Rattle.core_driver.specs.declared.side.Side.{Side}
-use Rattle.core_driver.specs.declared.side.Side.TheVariants.{Owner, Peer, Neither}
-use Rattle.core_driver.specs.Sides.{ArePortsOf, links_of, side_at, side_of}
+use Rattle.core_machine.specs.Points.{operations_of, has_to_offer, receives_from}
+use Rattle.core_ports.specs.declared.side.Side.{Side}
+use Rattle.core_ports.specs.declared.side.Side.TheVariants.{Owner, Peer, Neither}
+use Rattle.core_ports.specs.Sides.{side_at, side_of}
+use Rattle.core_driver.specs.Sides.{ArePortsOf, links_of}
 use Rattle.core_driver.specs.inner.InStep.{IsLookedAt, Looks}
 use Rattle.core_driver.specs.inner.Outside.{IsFull, Outside}
 use Rattle.core_driver.proofs.Together.{Called}
@@ -132,8 +132,27 @@ no_requests code core terms ends l ports low =
     not_below : (n k : ℕ) → k < n → nat_le n k ≡ false
     not_below n k h = grind (arith, nat_tests, h)
 
-pub carries_ints : (requests : Bool) (value : ℤ) → requests ≡ false → is_payload requests (Int value) ≡ true
-carries_ints requests value h = ap (λ b. is_payload b (Int value)) h
+-- a link on which a core sends carries requests where it is that of its requests
+pub requests_on : (code : Parts) (core : ℕ) (terms : ℕ → Terms) (ends : ℕ → LinkEnd) (l : ℕ) → ArePortsOf code core terms ends → core < length code.entries → side_of code.ends core l ≡ Owner
+    → (terms l).requests ≡ nat_eq l (request_link (length code.ends) core)
+requests_on code core terms ends l ports low side = by (slice_get code.ends l) refl side
+  where
+    is_other : (n k : ℕ) → k < n → nat_eq k (n + core) ≡ false
+    is_other n k h = let differ : k ≡ n + core → ⊥ = λ e. absurd (omega (arith, h, e)) in grind (arith, nat_tests, differ)
+
+    is_after : (n : ℕ) → nat_le n (n + core) ≡ true
+    is_after n = let h : n ≤ n + core = omega arith in grind (arith, nat_tests, h)
+
+    asks : (b : Bool) → (l == length code.ends + core) ≡ b → (if b then Owner else Neither) ≡ Owner → (terms l).requests ≡ (l == length code.ends + core)
+    asks true e h =
+        let at : l ≡ length code.ends + core = eqb-true l (length code.ends + core) e in
+        let here : l < links_of code = omega (arith, at, low) in
+        ap (λ (t : Terms). t.requests) (ports.coded l here) ∙ ap (nat_le (length code.ends)) at ∙ is_after (length code.ends) ∙ sym e
+    asks false e h = let no : Neither ≡ Owner = h in absurd (cc)
+
+    by : (o : Option ChannelEnds) → slice_get code.ends l ≡ o → side_at (length code.ends) core l o ≡ Owner → (terms l).requests ≡ nat_eq l (request_link (length code.ends) core)
+    by (Some e) is h = let lt = slice_get_within code.ends l e is in no_requests code core terms ends l ports lt ∙ sym (is_other (length code.ends) l lt)
+    by None is h = asks (l == length code.ends + core) refl h
 
 -- ---- all stamps are used
 
@@ -168,11 +187,12 @@ side_told code code' ends core core' l s e c k h =
 pub neither_looked : (o : Outside) (m : Machine) (l : ℕ) → side_of m.code.ends m.core l ≡ Neither → IsLookedAt o m o l
 neither_looked o m l side = record {
   polled = λ h. absurd (h side);
-  tried = λ e low own some. let no : Owner ≡ Neither = sym own ∙ side in absurd (cc);
+  tried = λ e own some. let no : Owner ≡ Neither = sym own ∙ side in absurd (cc);
   leaves = λ e. record {
     decision = λ own. let no : Owner ≡ Neither = sym own ∙ side in absurd (cc);
     front = λ own waits. let no : Peer ≡ Neither = sym own ∙ side in absurd (cc);
-    slot = λ low own some room. let no : Owner ≡ Neither = sym own ∙ side in absurd (cc);
+    slot = λ own some room. let no : Owner ≡ Neither = sym own ∙ side in absurd (cc);
+    reply = λ own asks waits. let no : Owner ≡ Neither = sym own ∙ side in absurd (cc);
   };
 }
 
@@ -186,44 +206,29 @@ module _ (m n : Machine) (o p : Outside) (l : ℕ) (looks : Looks m o n p) (poll
       let here : side_of n.code.ends n.core l ≡ Peer = side_on ∙ side in
       record {
         polled = λ h. polled;
-        tried = λ e low own some. let no : Owner ≡ Peer = sym own ∙ here in absurd (cc);
+        tried = λ e own some. let no : Owner ≡ Peer = sym own ∙ here in absurd (cc);
         leaves = λ e. record {
           decision = λ own. let no : Owner ≡ Peer = sym own ∙ here in absurd (cc);
           front = λ own waits. front e waits;
-          slot = λ low own some room. let no : Owner ≡ Peer = sym own ∙ here in absurd (cc);
+          slot = λ own some room. let no : Owner ≡ Peer = sym own ∙ here in absurd (cc);
+          reply = λ own asks waits. let no : Owner ≡ Peer = sym own ∙ here in absurd (cc);
         };
       }
 
-  module _ (side : side_of m.code.ends m.core l ≡ Owner) (decision : p.last ≡ o.last → (p.hand l).decision ≡ false) where
-    here : side_of n.code.ends n.core l ≡ Owner
-    here = side_on ∙ side
-
-    -- one for its requests
-    pub requests_looked : length m.code.ends ≤ l → IsLookedAt o n p l
-    requests_looked high =
-        let high' : length n.code.ends ≤ l = rw looks.holds.machine.code high in
-        record {
-          polled = λ h. polled;
-          tried = λ e low own some. absurd (omega (arith, high', low));
-          leaves = λ e. record {
-            decision = λ own. decision e;
-            front = λ own waits. let no : Peer ≡ Owner = sym own ∙ here in absurd (cc);
-            slot = λ low own some room. absurd (omega (arith, high', low));
-          };
-        }
-
-    -- and one on which it sends
-    pub channel_looked : (q : Machine) (r : Outside) → Looks n p q r → (IsSome (to_send (operations_of n.state) l) → counted (p.tries l) ≤ r.tries l)
-        → (r.last ≡ p.last → IsSome (to_send (operations_of n.state) l) → has_room (r.terms l) (r.ends l) ≡ true → (r.hand l).slot ≡ false) → IsLookedAt o q r l
-    channel_looked q r more tried slot =
+  -- and one on which it sends
+  module _ (side : side_of m.code.ends m.core l ≡ Owner) (decision : p.last ≡ o.last → (p.hand l).decision ≡ false)
+      (reply : p.last ≡ o.last → (p.terms l).requests ≡ true → awaits_reply (p.ends l) ≡ true → (p.hand l).reply ≡ false) where
+    pub own_looked : (q : Machine) (r : Outside) → Looks n p q r → (has_to_offer (operations_of n.state) l ≡ true → counted (p.tries l) ≤ r.tries l)
+        → (r.last ≡ p.last → has_to_offer (operations_of n.state) l ≡ true → has_room (r.terms l) (r.ends l) ≡ true → (r.hand l).slot ≡ false) → IsLookedAt o q r l
+    own_looked q r more tried slot =
         let a = looks.holds.ports.clock in
         let b = more.holds.ports.clock in
-        let there : side_of q.code.ends q.core l ≡ Owner = rw (more.holds.machine.code, more.holds.machine.core) here in
+        let there : side_of q.code.ends q.core l ≡ Owner = rw (more.holds.machine.code, more.holds.machine.core) (side_on ∙ side) in
         record {
           polled = λ h. let x = more.holds.ports.polls l in omega (arith, x, polled);
-          tried = λ e low own some.
+          tried = λ e own some.
               let second : r.last ≡ p.last = omega (arith, a, b, e) in
-              let x = tried (subst (λ s. IsSome (to_send (operations_of s) l)) (more.state second) some) in
+              let x = tried (subst (λ s. has_to_offer (operations_of s) l ≡ true) (more.state second) some) in
               let y = counted_grows (o.tries l) (p.tries l) (looks.holds.ports.tries l) in
               omega (arith, x, y);
           leaves = λ e.
@@ -232,7 +237,10 @@ module _ (m n : Machine) (o p : Outside) (l : ℕ) (looks : Looks m o n p) (poll
               record {
                 decision = λ own. ap (λ (f : ℕ → AtHand). (f l).decision) (more.holds.ports.hand second) ∙ decision first;
                 front = λ own waits. let no : Peer ≡ Owner = sym own ∙ there in absurd (cc);
-                slot = λ low own some room. slot second (subst (λ s. IsSome (to_send (operations_of s) l)) (more.state second) some) room;
+                slot = λ own some room. slot second (subst (λ s. has_to_offer (operations_of s) l ≡ true) (more.state second) some) room;
+                reply = λ own asks waits. ap (λ (f : ℕ → AtHand). (f l).reply) (more.holds.ports.hand second)
+                    ∙ reply first (subst (λ (t : ℕ → Terms). (t l).requests ≡ true) more.holds.ports.terms asks)
+                    (subst (λ (x : ℕ → LinkEnd). awaits_reply (x l) ≡ true) (more.holds.ports.ends second) waits);
               };
         }
 
@@ -253,7 +261,7 @@ looked_still m n q o p r l k j h =
       tried = λ e.
           let first : p.last ≡ o.last = omega (arith, a, b, e) in
           let second : r.last ≡ p.last = omega (arith, a, b, e) in
-          rw (code, core, j.state second) (λ here side some. let x = h.tried first here side some in let y = j.holds.ports.tries l in omega (arith, x, y));
+          rw (code, core, j.state second) (λ side some. let x = h.tried first side some in let y = j.holds.ports.tries l in omega (arith, x, y));
       leaves = λ e.
           let first : p.last ≡ o.last = omega (arith, a, b, e) in
           let second : r.last ≡ p.last = omega (arith, a, b, e) in
@@ -262,6 +270,7 @@ looked_still m n q o p r l k j h =
             decision = rw (code, core, j.holds.ports.hand second) was.decision;
             front = rw (code, core, j.state second, j.holds.ports.hand second) was.front;
             slot = rw (code, core, j.state second, j.holds.ports.hand second, j.holds.ports.terms, j.holds.ports.ends second) was.slot;
+            reply = rw (code, core, j.holds.ports.hand second, j.holds.ports.terms, j.holds.ports.ends second) was.reply;
           };
     }
 
@@ -275,9 +284,9 @@ looked_from m n q o p r l k j h =
           let x = h.polled side in
           let y = counted_grows (o.polls l) (p.polls l) (k.holds.ports.polls l) in
           omega (arith, x, y);
-      tried = λ e here side some.
+      tried = λ e side some.
           let second : r.last ≡ p.last = omega (arith, a, b, e) in
-          let x = h.tried second here side some in
+          let x = h.tried second side some in
           let y = counted_grows (o.tries l) (p.tries l) (k.holds.ports.tries l) in
           omega (arith, x, y);
       leaves = λ e.

@@ -86,14 +86,14 @@ was_withdrawn (Some o) = is_some o.withdrawn
 
 -- a property of one offer, where offers are added and changed
 module _ (flag : Option OwnerOffer → Bool) where
-  flag_pushed : flag None ≡ false → (os : List OwnerOffer) (o : OwnerOffer) → flag (Some o) ≡ false → (n : ℕ) → flag (slice_get (os ++ o ∷ []) n) ≡ flag (slice_get os n)
+  pub flag_pushed : flag None ≡ false → (os : List OwnerOffer) (o : OwnerOffer) → flag (Some o) ≡ false → (n : ℕ) → flag (slice_get (os ++ o ∷ []) n) ≡ flag (slice_get os n)
   flag_pushed none [] o e zero = e ∙ sym none
   flag_pushed none [] o e (suc n) = refl
   flag_pushed none (x ∷ os) o e zero = refl
   flag_pushed none (x ∷ os) o e (suc n) = flag_pushed none os o e n
 
   module _ (f : OwnerOffer → OwnerOffer) where
-    flag_kept : ((o : OwnerOffer) → flag (Some (f o)) ≡ flag (Some o)) → (os : List OwnerOffer) (k n : ℕ) → flag (slice_get (altered os k f) n) ≡ flag (slice_get os n)
+    pub flag_kept : ((o : OwnerOffer) → flag (Some (f o)) ≡ flag (Some o)) → (os : List OwnerOffer) (k n : ℕ) → flag (slice_get (altered os k f) n) ≡ flag (slice_get os n)
     flag_kept same [] k n = refl
     flag_kept same (o ∷ os) zero zero = same o
     flag_kept same (o ∷ os) zero (suc n) = refl
@@ -146,7 +146,7 @@ next_by terms os l n payload fits =
     eqb-true n (length os) (and_parts (n == length os) (nat_lt (length os - owner_lead os) terms.capacity) both.0).0
 
 -- the event is about the link
-on_it : (l k : ℕ) (b : Bool) → nat_eq k l ≡ true → (nat_eq k l && b) ≡ b
+pub on_it : (l k : ℕ) (b : Bool) → nat_eq k l ≡ true → (nat_eq k l && b) ≡ b
 on_it l k b h = ap (λ z. z && b) h
 
 module _ (terms : Terms) (l : ℕ) (os : List OwnerOffer) (s of : ℕ) where

@@ -14,18 +14,19 @@ use Rattle.core_machine.specs.declared.ending.Ending.TheVariants as ending
 use Rattle.core_machine.specs.Machine.{Machine, HasEnded, IsOnItsWay, is_idle, none_ready}
 use Rattle.core_machine.specs.Points.{is_at_point, left_at, work_left}
 use Rattle.core_driver.specs.declared.pause.Pause.TheVariants as pause
-use Rattle.core_driver.specs.declared.side.Side.{Side}
-use Rattle.core_driver.specs.declared.side.Side.TheVariants.{Owner, Peer, Neither}
+use Rattle.core_ports.specs.declared.side.Side.{Side}
+use Rattle.core_ports.specs.declared.side.Side.TheVariants.{Owner, Peer, Neither}
 use Rattle.core_driver.specs.Idle.{HasLooked, LeavesNothing, RoseBy}
 use Rattle.core_driver.specs.Pauses.{IsPaused, is_clock_full, pause_of}
-use Rattle.core_driver.specs.Sides.{links_of, side_at, side_of}
+use Rattle.core_ports.specs.Sides.{side_at, side_of}
+use Rattle.core_driver.specs.Sides.{links_of}
 use Rattle.core_driver.specs.inner.InStep.{Holds, Looks}
 use Rattle.core_driver.specs.inner.Outside.{Later, Outside}
 use Rattle.core_driver.specs.inner.Rounds.{RestsOnce, left_over, left_with}
 
 -- ---- the links of a core
 
-core_in : (m : Machine) → IsOnItsWay m → m.core < length m.code.entries
+pub core_in : (m : Machine) → IsOnItsWay m → m.core < length m.code.entries
 core_in m run = slice_get_within m.code.entries m.core run.begins.entry run.begins.entry_is
 
 side_in : (code : Parts) (core l : ℕ) → core < length code.entries → (side_of code.ends core l ≡ Neither → ⊥) → l < links_of code
@@ -63,7 +64,7 @@ rose_more k a b c h q = by (nat_lt b (2 ^ 64 - 1)) refl q
 
 -- at first, and where something has come in
 pub looked_none : (m : Machine) (o p : Outside) → Later o p → HasLooked 0 m o.polls p.polls o.tries p.tries
-looked_none m o p h = record { polled = λ l side. rose_none (o.polls l) (p.polls l) (h.polls l); tried = λ l here side some. rose_none (o.tries l) (p.tries l) (h.tries l) }
+looked_none m o p h = record { polled = λ l side. rose_none (o.polls l) (p.polls l) (h.polls l); tried = λ l side some. rose_none (o.tries l) (p.tries l) (h.tries l) }
 
 -- once more
 pub looked_more : (k : ℕ) (m n : Machine) (first o p : Outside) → HasLooked k m first.polls o.polls first.tries o.tries → Holds m o n p → RestsOnce m o n p
@@ -75,10 +76,10 @@ looked_more k m n first o p was holds rests =
       polled = λ l side.
           let here = is_one n holds.in_step.run l side in
           rose_more k (first.polls l) (o.polls l) (p.polls l) (was.polled l (λ e. side (rw (code, core) e))) ((rests.looked l here).polled side);
-      tried = λ l here side some.
+      tried = λ l side some.
           let there = is_one n holds.in_step.run l (not_neither _ side) in
           rose_more k (first.tries l) (o.tries l) (p.tries l)
-          (was.tried l (rw (← code) here) (rw (← code, ← core) side) (rw (← rests.state) some)) ((rests.looked l there).tried rests.clock here side some);
+          (was.tried l (rw (← code, ← core) side) (rw (← rests.state) some)) ((rests.looked l there).tried rests.clock side some);
     }
 
 pub times_is : (k n : ℕ) (m : Machine) (polls polls' tries tries' : ℕ → ℕ) → k ≡ n → HasLooked k m polls polls' tries tries' → HasLooked n m polls polls' tries tries'
@@ -89,7 +90,8 @@ pub leaves_nothing : (m n : Machine) (o p : Outside) → Holds m o n p → Rests
 leaves_nothing m n o p holds rests = record {
   decision = λ l side. ((rests.looked l (is_one n holds.in_step.run l (not_neither _ side))).leaves rests.clock).decision side;
   front = λ l side some. ((rests.looked l (is_one n holds.in_step.run l (peer_not_neither _ side))).leaves rests.clock).front side some;
-  slot = λ l here side some room. ((rests.looked l (is_one n holds.in_step.run l (not_neither _ side))).leaves rests.clock).slot here side some room;
+  slot = λ l side some room. ((rests.looked l (is_one n holds.in_step.run l (not_neither _ side))).leaves rests.clock).slot side some room;
+  reply = λ l side asks waits. ((rests.looked l (is_one n holds.in_step.run l (not_neither _ side))).leaves rests.clock).reply side asks waits;
 }
 
 -- ---- what is left to do

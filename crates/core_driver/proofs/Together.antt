@@ -1,15 +1,13 @@
 -- A core that records what its ports tell goes on in step with them.
 use Rattle.std.proofs.Common.{◌≡◌, ℕ, ◌<◌, ◌≤◌, List, [], ◌∷◌, ◌++◌, length, Option, Some, None, IsSome, Bool, true, false, refl, sym, ap, ◌∙◌, subst, arith}
-use Rattle.std.specs.Prelude.{find, slice_get, IfNone, is_none}
+use Rattle.std.specs.Prelude.{ℤ, find, slice_get, IfNone, is_none}
 use Rattle.std.specs.List.{filter}
-use Rattle.std.proofs.lemmas.Bool.{and_parts}
 use Rattle.std.proofs.lemmas.List.{append-nil, append_assoc}
 use Rattle.ac_base.specs.declared.entry.Event.TheVariants as event
 use Rattle.ac_base.specs.declared.entry.Payload.{Payload}
 use Rattle.ac_base.specs.Stamps.{next_stamp}
 use Rattle.ac_links.specs.declared.payloads.Terms.{Terms}
 use Rattle.ac_links.specs.Journals.{last_of}
-use Rattle.ac_links.specs.Link.{link_of}
 use Rattle.ac_links.specs.Noted.{owner_noted, peer_noted}
 use Rattle.ac_links.specs.Order.{of_party, is_of_link}
 use Rattle.ac_links.specs.Views.{OwnerOffer, OwnerRuns, may_free, may_withdraw}
@@ -29,15 +27,13 @@ use Rattle.code_meaning.specs.Machine.{Flat, FlatEnd, arrived}
 use Rattle.stack_code.specs.Parts.{Parts}
 use Rattle.code_safety.specs.Fit.{one_if}
 use Rattle.core_machine.specs.Machine.{Machine, IsOnItsWay, IsSameCore, has_ended}
-use Rattle.core_machine.specs.Points.{HasCome, HasTracks, is_at_point, left_at, operations_of, work_left}
+use Rattle.core_machine.specs.Points.{HasCome, HasTracks, is_at_point, left_at, operations_of, requests_of, work_left}
 use Rattle.core_machine.specs.Tracks.{Tracks, offers_of, standing_of}
-use Rattle.core_driver.specs.Driven.{AreOnChannels}
 use Rattle.core_driver.specs.Idle.{IsLater}
 use Rattle.core_driver.specs.Sides.{ArePortsOf}
 use Rattle.core_driver.specs.inner.InStep.{Holds, InStep, Looks}
 use Rattle.core_driver.specs.inner.Outside.{Later, Outside}
-use Rattle.core_driver.proofs.Channels.{offered_on, one_more, withdrawn_on}
-use Rattle.core_driver.proofs.Opened.{absent_offers, open_at, found_one, next_by, peer_offers, runs_free, runs_length, runs_open, withdrawals}
+use Rattle.core_driver.proofs.Opened.{absent_offers, open_at, found_one, next_by, peer_offers, runs_free, runs_length, runs_open}
 
 is_one : (b : Bool) → 1 ≤ one_if b → b ≡ true
 is_one true h = refl
@@ -50,7 +46,7 @@ module _ (m : Machine) (o : Outside) (h : InStep m o) where
   pub up_to : AreUpTo o.last o.ends
   up_to = subst (λ n. AreUpTo n o.ends) (sym h.clock) (up_to_all o.terms m.core o.ends m.journal h.agrees)
 
-  module _ (tracks : Tracks m.journal (operations_of m.state)) where
+  module _ (tracks : Tracks (requests_of m) m.journal (operations_of m.state)) where
     module _ (l : ℕ) (os : List OwnerOffer) (owns : o.ends l ≡ Owns os) where
       runs : OwnerRuns (o.terms l) (owner_noted os) [] (filter (is_of_link l) (of_party m.core m.journal)) os
       runs = subst (λ (x : LinkEnd). EndRuns (o.terms l) x (filter (is_of_link l) (of_party m.core m.journal))) owns (h.agrees.runs l)
@@ -62,12 +58,6 @@ module _ (m : Machine) (o : Outside) (h : InStep m o) where
           let track = tracks.each l n in
           let here : standing_of l n (operations_of m.state) ≡ 1 = omega (arith, all, one, track) in
           found_one (is_offered l n) (operations_of m.state) 0 here
-
-      on_there : (n : ℕ) → may_withdraw (slice_get os n) ≡ true → l < length m.code.ends
-      on_there n stands =
-          let all = runs_open (o.terms l) (owner_noted os) m.core l os n m.journal [] runs in
-          let one : open_at os n ≡ 1 = ap one_if stands in
-          offered_on (length m.code.ends) l n m.journal h.channels (omega (arith, all, one))
 
       next_there : length os ≡ offers_on l m.journal
       next_there = let all = runs_length (o.terms l) (owner_noted os) m.core l os m.journal [] runs in omega (arith, all)
@@ -88,15 +78,6 @@ module _ (m : Machine) (o : Outside) (h : InStep m o) where
       where
         go : (x : LinkEnd) → o.ends l ≡ x → is_owner x ≡ true → end_fits (o.terms l) x (event.Know l n) ≡ true → IsSome (find (is_offered l n) (operations_of m.state))
         go (Owns os) e own fits = known_there l os e n fits
-        go (Decides ds) e own fits = let no : false ≡ true = own in absurd (cc)
-        go Absent e own fits = let no : false ≡ true = own in absurd (cc)
-
-    -- what is known was offered on a channel
-    pub known_on : (l n : ℕ) → is_owner (o.ends l) ≡ true → end_fits (o.terms l) (o.ends l) (event.Know l n) ≡ true → l < length m.code.ends
-    known_on l n = go (o.ends l) refl
-      where
-        go : (x : LinkEnd) → o.ends l ≡ x → is_owner x ≡ true → end_fits (o.terms l) x (event.Know l n) ≡ true → l < length m.code.ends
-        go (Owns os) e own fits = on_there l os e n fits
         go (Decides ds) e own fits = let no : false ≡ true = own in absurd (cc)
         go Absent e own fits = let no : false ≡ true = own in absurd (cc)
 
@@ -138,9 +119,6 @@ module _ (m : Machine) (o : Outside) (h : InStep m o) where
             let more = some_offers l n some in
             absurd (omega (arith, none, more))
 
-    pub stands_on : (l n : ℕ) → 1 ≤ standing_of l n (operations_of m.state) → l < length m.code.ends
-    stands_on l n some = offered_on (length m.code.ends) l n m.journal h.channels (some_offers l n some)
-
 -- where a core decides, it learns of nothing
 pub peer_knows_nothing : (terms : Terms) (x : LinkEnd) (l n : ℕ) → is_peer x ≡ true → end_fits terms x (event.Know l n) ≡ true → ⊥
 peer_knows_nothing terms (Owns os) l n h e = let no : false ≡ true = h in cc
@@ -151,6 +129,22 @@ pub peer_frees_nothing : (terms : Terms) (x : LinkEnd) (l n : ℕ) → is_peer x
 peer_frees_nothing terms (Owns os) l n h e = let no : false ≡ true = h in cc
 peer_frees_nothing terms (Decides ds) l n h e = let no : false ≡ true = e in cc
 peer_frees_nothing terms Absent l n h e = let no : false ≡ true = h in cc
+
+-- where a core sends, no message comes to it
+pub owner_gets_nothing : (terms : Terms) (x : LinkEnd) (l n : ℕ) (value : ℤ) → is_owner x ≡ true → end_fits terms x (event.Got l n value) ≡ true → ⊥
+owner_gets_nothing terms (Owns os) l n value h e = let no : false ≡ true = e in cc
+owner_gets_nothing terms (Decides ds) l n value h e = let no : false ≡ true = h in cc
+owner_gets_nothing terms Absent l n value h e = let no : false ≡ true = h in cc
+
+pub owner_passes_nothing : (terms : Terms) (x : LinkEnd) (l n : ℕ) → is_owner x ≡ true → end_fits terms x (event.Pass l n) ≡ true → ⊥
+owner_passes_nothing terms (Owns os) l n h e = let no : false ≡ true = e in cc
+owner_passes_nothing terms (Decides ds) l n h e = let no : false ≡ true = h in cc
+owner_passes_nothing terms Absent l n h e = let no : false ≡ true = h in cc
+
+pub owner_is_no_peer : (x : LinkEnd) → is_owner x ≡ true → is_peer x ≡ true → ⊥
+owner_is_no_peer (Owns os) h e = let no : false ≡ true = e in cc
+owner_is_no_peer (Decides ds) h e = let no : false ≡ true = h in cc
+owner_is_no_peer Absent h e = let no : false ≡ true = h in cc
 
 -- ---- one part after another
 
@@ -220,7 +214,6 @@ core_on m n o h same run = record {
   ports = rw (same.code, same.core) h.ports;
   agrees = rw (same.core, same.journal) h.agrees;
   clock = h.clock ∙ ap (last_of 0) (sym same.journal);
-  channels = rw (same.code, same.journal) h.channels;
 }
 
 pub turn_holds : (m n : Machine) (o : Outside) → InStep m o → IsSameCore m n → IsOnItsWay n → Holds m o n o
@@ -296,7 +289,6 @@ module _ (m b : Machine) (o : Outside) (h : InStep m o) (same : IsSameCore m b) 
           ports = rw (call.terms, t.0) r.ports;
           agrees = rw (call.terms, t.0) r.agrees;
           clock = t.1 ∙ r.clock;
-          channels = r.channels;
         };
         machine = core_later m b same;
         ports = record {
@@ -310,7 +302,7 @@ module _ (m b : Machine) (o : Outside) (h : InStep m o) (same : IsSameCore m b) 
       }
 
   -- an entry was told, and is recorded
-  module _ (p : Outside) (t : Told) (call : Called o p (Some t)) (n : Machine) (turn : ℕ) (made : Recorded b t turn n) (goes : IsOnItsWay n) (on : link_of t.event < length m.code.ends) where
+  module _ (p : Outside) (t : Told) (call : Called o p (Some t)) (n : Machine) (turn : ℕ) (made : Recorded b t turn n) (goes : IsOnItsWay n) where
     abbrev tells : TellsOne o.terms o.ends o.last t p.ends p.last
     tells = call.tells
 
@@ -332,8 +324,6 @@ module _ (m b : Machine) (o : Outside) (h : InStep m o) (same : IsSameCore m b) 
           agrees = subst (λ terms. PartyAgrees terms n.core p.ends n.journal) (sym call.terms)
               (subst (λ core. PartyAgrees o.terms core p.ends n.journal) (sym made.core) (subst (PartyAgrees o.terms b.core p.ends) (sym made.journal) on_all.agrees));
           clock = on_all.clock ∙ ap (last_of 0) (sym made.journal);
-          channels = rw (made.code, made.journal, same.code) (one_more (length m.code.ends) b.journal (record { stamp = t.stamp; turn = turn; event = t.event })
-              (subst (λ (code : Parts). AreOnChannels (length code.ends) b.journal) same.code r.channels) on);
         }
 
     pub recorded_holds : Holds m o n p
@@ -374,7 +364,7 @@ module _ (m b : Machine) (o : Outside) (h : InStep m o) (point : is_at_point m.s
   }
 
   module _ (all : HasTracks b) where
-    tracks : Tracks b.journal (operations_of b.state)
+    tracks : Tracks (requests_of b) b.journal (operations_of b.state)
     tracks = all (still_going b.state roomed_point)
 
     pub knows_after : (l n : ℕ) → is_owner (o.ends l) ≡ true → end_fits (o.terms l) (o.ends l) (event.Know l n) ≡ true → IsSome (find (is_offered l n) (operations_of b.state))
@@ -383,16 +373,8 @@ module _ (m b : Machine) (o : Outside) (h : InStep m o) (point : is_at_point m.s
     pub next_after : (l n : ℕ) (payload : Payload) → is_owner (o.ends l) ≡ true → end_fits (o.terms l) (o.ends l) (event.Offer l n payload) ≡ true → n ≡ offers_on l b.journal
     next_after = offers_next b o roomed tracks
 
-    pub known_after : (l n : ℕ) → is_owner (o.ends l) ≡ true → end_fits (o.terms l) (o.ends l) (event.Know l n) ≡ true → l < length m.code.ends
-    known_after l n own fits = subst (λ (code : Parts). l < length code.ends) same.code (known_on b o roomed tracks l n own fits)
-
     pub frees_after : (l n : ℕ) → is_owner (o.ends l) ≡ true → end_fits (o.terms l) (o.ends l) (event.Room l n) ≡ true → keeps_room l n b.journal ≡ true
     frees_after = frees_one b o roomed tracks
-
-    pub freed_after : (l n : ℕ) → is_owner (o.ends l) ≡ true → end_fits (o.terms l) (o.ends l) (event.Room l n) ≡ true → l < length m.code.ends
-    freed_after l n own fits =
-        subst (λ (code : Parts). l < length code.ends) same.code (withdrawn_on (length b.code.ends) l n b.journal roomed.channels
-        (and_parts (withdrawals l n b.journal) _ (frees_after l n own fits)).0)
 
   -- nothing was told
   pub nothing_looks : (p : Outside) → Called o p None → Looks m o b p
@@ -405,13 +387,13 @@ module _ (m b : Machine) (o : Outside) (h : InStep m o) (point : is_at_point m.s
 
   -- an entry was told, and is recorded
   module _ (p : Outside) (t : Told) (call : Called o p (Some t)) (n : Machine) (come : HasCome b t.event t.stamp n) (less : (ranks : List ℕ) → work_left ranks n ≤ work_left ranks b)
-      (goes : IsOnItsWay n) (on : link_of t.event < length m.code.ends) where
+      (goes : IsOnItsWay n) where
     come_point : is_at_point n.state ≡ true
     come_point = ap is_at_point come.state ∙ point_on come.flat _ come.arrival (sym (ap is_at_point come.stood) ∙ roomed_point)
 
     pub entered_looks : Looks m o n p
     entered_looks = record {
-      holds = recorded_holds m b o h same state run p t call n come.flat.shared.turn (record { journal = come.journal; code = come.code; core = come.core; bound = come.bound }) goes on;
+      holds = recorded_holds m b o h same state run p t call n come.flat.shared.turn (record { journal = come.journal; code = come.code; core = come.core; bound = come.bound }) goes;
       point = come_point;
       less = λ ranks. let e = roomed_less m b o h same state run ranks in let f = less ranks in omega (arith, e, f);
       state = λ e. absurd (told_moves o p t call e);

@@ -28,13 +28,12 @@ impl<'a> Model for Driver<'a> {
 }
 
 impl<'a> Driver<'a> {
-    ghost use Rattle.std.specs.Prelude.{◌≡◌, ℕ, [], length, ◌<◌, ◌≤◌, ◌^◌, ◌||◌, true, false, None, Ok, IfOk, MatchResult};
+    ghost use Rattle.std.specs.Prelude.{◌≡◌, ℕ, [], ◌<◌, ◌≤◌, ◌^◌, ◌||◌, true, false, None, Ok, IfOk, MatchResult};
     ghost use Rattle.ac_base.specs.Stamps.{stamp_after};
     ghost use Rattle.ac_links.specs.Journals.{last_of};
     ghost use Rattle.ac_links.specs.Party.{PartyAgrees};
     ghost use Rattle.core_machine.specs.Machine.{IsOnItsWay};
     ghost use Rattle.core_driver.specs.declared.pause.Pause.{Pause};
-    ghost use Rattle.core_driver.specs.Driven.{AreOnChannels};
     ghost use Rattle.core_driver.specs.Sides.{ArePortsOf};
     ghost use Rattle.core_driver.specs.Pauses.{IsPaused, is_clock_full};
     ghost use Rattle.core_driver.specs.Idle.{IsLater, LeavesNothing, HasLooked};
@@ -53,10 +52,9 @@ impl<'a> Driver<'a> {
         }
     }
 
-    /// The core. Each of its entries is of a channel.
+    /// The core.
     pub fn machine(&self) -> &CoreMachine<'a>
-        ensures same { result.now ≡ self.now.machine }
-        ensures channels { AreOnChannels (length self.now.machine.code.ends) self.now.machine.journal }
+        ensures { result.now ≡ self.now.machine }
     {
         &self.machine
     }
@@ -89,8 +87,8 @@ impl<'a> Driver<'a> {
     /// Runs the core until it has ended, or so many dispatch points in a row have brought nothing while
     /// no thread is ready, or a port has answered that all stamps are used; from then on it answers the
     /// same at once. At each dispatch point it polls each link of the core, and tries an offer on each
-    /// with an operation that is to be offered. After want of memory it can be called again, and goes
-    /// on where it stopped.
+    /// with an operation that is to be offered, that of its requests among them. After want of memory
+    /// it can be called again, and goes on where it stopped.
     ///
     /// Conditions: the ports are those of the core, and they agree with its journal; and it is to look
     /// once at least.

@@ -2,12 +2,11 @@
 #![tactic(auto)]
 
 mod driver;
+mod links;
 mod looks;
 mod pause;
 mod rounds;
 mod seen;
-mod side;
 
 pub use driver::Driver;
 pub use pause::Pause;
-pub use side::{Side, side_of};

@@ -1,21 +1,22 @@
 //! Looks at the links of a core, at a dispatch point. Each tells whether all stamps are used.
 
-ghost use Rattle.std.specs.Prelude.{◌≡◌, ◌≢◌, ℕ, ◌<◌, ◌≤◌, ◌||◌, true, false, length, IsSome, IfOk, MatchResult};
+ghost use Rattle.std.specs.Prelude.{◌≡◌, ◌≢◌, ℕ, ◌<◌, ◌≤◌, ◌||◌, true, false, IfOk, MatchResult};
 ghost use Rattle.core_channels.specs.Counts.{counted};
-ghost use Rattle.core_ports.specs.Ends.{has_room};
-ghost use Rattle.core_machine.specs.Points.{is_at_point, operations_of, to_send};
-ghost use Rattle.core_driver.specs.declared.side.Side.{Side};
-ghost use Rattle.core_driver.specs.Sides.{side_of, links_of};
+ghost use Rattle.core_ports.specs.Ends.{awaits_reply, has_room};
+ghost use Rattle.core_machine.specs.Points.{is_at_point, operations_of, has_to_offer};
+ghost use Rattle.core_ports.specs.declared.side.Side.{Side};
+ghost use Rattle.core_ports.specs.Sides.{side_of};
+ghost use Rattle.core_driver.specs.Sides.{links_of};
 ghost use Rattle.core_driver.specs.inner.Outside.{outside, IsFull};
 ghost use Rattle.core_driver.specs.inner.InStep.{InStep, Looks, IsTried, IsLookedAt};
 
-use crate::side::{Side, links_of, side_of};
-use ac_base::{Clock, NoMemory, Payload};
+use crate::links::links_of;
+use ac_base::{Clock, NoMemory};
 use core_channels::{Arrived, Offering};
 use core_machine::CoreMachine;
-use core_ports::Ports;
+use core_ports::{Ports, Side, side_of};
 
-// A poll of a link on which the core sends.
+// A poll of a link on which the core sends; an answer is wanted where one may come next.
 fn poll_own<P: Ports>(
     machine: &mut CoreMachine<'_>,
     ports: &mut P,
@@ -39,10 +40,13 @@ fn poll_own<P: Ports>(
         (P.polls ports.new) (P.tries ports.new) clock.new)) }
     ensures polled { IfOk result (λ full. counted (P.polls ports.old link) ≤ P.polls ports.new link) }
     ensures decision { IfOk result (λ full. full ≡ false → clock.new ≡ clock.old → (P.at_hand ports.new link).decision ≡ false) }
+    ensures reply { IfOk result (λ full. full ≡ false → clock.new ≡ clock.old → (P.terms ports.new link).requests ≡ true
+        → awaits_reply (P.ends ports.new link) ≡ true → (P.at_hand ports.new link).reply ≡ false) }
     ensures stays { P.stays ports.old ports.new }
 {
     machine.make_room()?;
-    match ports.poll(link, false, clock) {
+    let awaits = machine.awaits_answer(link);
+    match ports.poll(link, awaits, clock) {
         Arrived::Know { number, stamp } => {
             machine.know(link, number, stamp);
             Ok(false)
@@ -51,16 +55,24 @@ fn poll_own<P: Ports>(
             machine.roomed(link, number, stamp);
             Ok(false)
         }
+        Arrived::Reply {
+            number,
+            answer,
+            stamp,
+        } => {
+            machine.replied(link, number, answer, stamp);
+            Ok(false)
+        }
         Arrived::Nothing => Ok(false),
         Arrived::ClockFull => Ok(true),
         Arrived::Got { .. } => unreachable!(),
         Arrived::Pass { .. } => unreachable!(),
-        Arrived::Reply { .. } => unreachable!(),
         Arrived::NotYet => unreachable!(),
     }
 }
 
-// An offer of the oldest operation that is to be offered on a channel, if there is one.
+// An offer of the oldest operation that is to be offered on a link, if there is one. A copy of what it
+// carries goes into the journal.
 fn try_offer<P: Ports>(
     machine: &mut CoreMachine<'_>,
     ports: &mut P,
@@ -72,7 +84,6 @@ fn try_offer<P: Ports>(
         (P.polls ports.old) (P.tries ports.old) clock.old) }
     requires point { is_at_point machine.old.state ≡ true }
     requires side { side_of machine.old.code.ends machine.old.core link ≡ Side.Owner }
-    requires channel { link < length machine.old.code.ends }
     ensures looks { Looks machine.old
         (outside (P.terms ports.old) (P.ends ports.old) (P.at_hand ports.old) (P.heard ports.old)
         (P.polls ports.old) (P.tries ports.old) clock.old)
@@ -84,20 +95,21 @@ fn try_offer<P: Ports>(
         (outside (P.terms ports.new) (P.ends ports.new) (P.at_hand ports.new) (P.heard ports.new)
         (P.polls ports.new) (P.tries ports.new) clock.new)) }
     ensures polls { P.polls ports.new ≡ P.polls ports.old }
-    ensures tried { IfOk result (λ full. IsSome (to_send (operations_of machine.old.state) link)
+    ensures tried { IfOk result (λ full. has_to_offer (operations_of machine.old.state) link ≡ true
         → counted (P.tries ports.old link) ≤ P.tries ports.new link) }
-    ensures slot { IfOk result (λ full. full ≡ false → clock.new ≡ clock.old → IsSome (to_send (operations_of machine.old.state) link)
+    ensures slot { IfOk result (λ full. full ≡ false → clock.new ≡ clock.old → has_to_offer (operations_of machine.old.state) link ≡ true
         → has_room (P.terms ports.new link) (P.ends ports.new link) ≡ true → (P.at_hand ports.new link).slot ≡ false) }
     ensures stays { P.stays ports.old ports.new }
 {
-    let value = match machine.to_send(link) {
-        Some(value) => value,
-        None => return Ok(false),
-    };
+    if !machine.has_to_offer(link) {
+        return Ok(false);
+    }
+    let payload = machine.to_offer(link)?;
+    let copy = payload.copy(machine.alloc())?;
     machine.make_room()?;
-    match ports.offer(link, Payload::Int(value), clock) {
+    match ports.offer(link, payload, clock) {
         Offering::Offered { number, stamp } => {
-            machine.offered(link, number, Payload::Int(value), stamp);
+            machine.offered(link, number, copy, stamp);
             Ok(false)
         }
         Offering::NoRoom(_) => Ok(false),
@@ -106,7 +118,7 @@ fn try_offer<P: Ports>(
     }
 }
 
-// A look at a link on which the core sends: a poll, and on a channel an offer.
+// A look at a link on which the core sends: a poll, and an offer.
 fn look_own<P: Ports>(
     machine: &mut CoreMachine<'_>,
     ports: &mut P,
@@ -139,10 +151,6 @@ fn look_own<P: Ports>(
     let full = poll_own(machine, ports, clock, link)?;
     if full {
         return Ok(true);
-    }
-    let channels = machine.code().ends().len();
-    if link as usize >= channels {
-        return Ok(false);
     }
     let offered = try_offer(machine, ports, clock, link)?;
     Ok(offered)

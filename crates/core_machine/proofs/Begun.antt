@@ -5,7 +5,7 @@ use Rattle.std.proofs.lemmas.List.{length-replicate}
 use Rattle.std.proofs.lemmas.List.Elements.{All-nil}
 use Rattle.ac_base.specs.declared.ends.Trap.TheVariants.{StackFull}
 use Rattle.cancel_scope.specs.declared.operation.Operation.{Operation}
-use Rattle.cancel_scope.specs.Outstanding.{is_outgoing, is_request, is_waiting}
+use Rattle.cancel_scope.specs.Outstanding.{is_outgoing, is_waiting}
 use Rattle.work_item.specs.Store.{Store, Frame, made, no_frames, no_int}
 use Rattle.core_state.specs.Moves.{Move, On, GoesOn}
 use Rattle.core_state.proofs.Runs.{GoesOn-none}
@@ -15,7 +15,6 @@ use Rattle.stack_code.specs.declared.parts.Entered.{Entered}
 use Rattle.stack_code.specs.declared.parts.Start.{Start}
 use Rattle.stack_code.specs.Parts.{Parts, Begins}
 use Rattle.stack_code.specs.Valid.{IsValid}
-use Rattle.code_meaning.specs.Meant.{IsMeant}
 use Rattle.code_meaning.specs.Machine.{Flat, FlatEnd, nobody, exec, first_flat, first_item, first_core, shared_at_first, with_starts, first_globals}
 use Rattle.code_safety.specs.Fit.{IsFit}
 use Rattle.code_safety.specs.Chains.{AreChained}
@@ -26,8 +25,8 @@ use Rattle.core_machine.specs.declared.ending.Ending.TheVariants.{Trapped}
 use Rattle.core_machine.specs.declared.running.Running.{Running}
 use Rattle.core_machine.specs.inner.Beginning.{HasBegun}
 use Rattle.core_machine.specs.Machine.{IsFirst, IsOnItsWay}
-use Rattle.core_machine.specs.State.{flat_of, end_or, state_of, machine_of, IsSound}
-use Rattle.core_machine.specs.Tracks.{Tracks}
+use Rattle.core_machine.specs.State.{flat_of, end_or, own_link, state_of, machine_of, IsSound}
+use Rattle.core_machine.specs.Tracks.{IsPlaced, Tracks}
 
 -- ---- the frame
 
@@ -101,24 +100,25 @@ module _ (m : Running) (function : Entered) (b : Begins m.code.now m.core functi
     pub run_of : IsOnItsWay (machine_of m)
     run_of = record { function = function; begins = b; goes = subst (GoesOn (exec m.code.now m.bound) start) (sym state_first) (GoesOn-none (exec m.code.now m.bound) start) }
 
-    pub sound_first : IsValid m.code.now → IsMeant m.code.now → IsSound m
-    sound_first v meant = record {
+    pub sound_first : IsValid m.code.now → IsSound m
+    sound_first v = record {
       fit = λ still. go m.ended still begun;
       chained = λ still. chains m.ended still begun;
-      tracks = λ still. subst (λ os. Tracks m.journal.entries os) (sym no_operations) (subst (λ past. Tracks past []) (sym journal) tracks_none);
+      requests = λ still. ap (λ (f : Flat). f.shared.requests) first;
+      tracks = λ still. subst (λ os. Tracks (own_link m) m.journal.entries os) (sym no_operations) (subst (λ past. Tracks (own_link m) past []) (sym journal) tracks_none);
       valid = v;
-      meant = meant;
       ran = run_of;
     }
       where
         no_operations : m.outstanding.operations ≡ []
         no_operations = ap (λ (f : Flat). f.operations) first
 
-        tracks_none : Tracks [] []
+        tracks_none : Tracks (own_link m) [] []
         tracks_none = record {
           each = λ l n. refl;
+          begun = λ n. refl;
           receives = All-nil (λ (o : Operation). is_outgoing o.asked ≡ false → is_waiting o.progress ≡ true);
-          files = All-nil (λ (o : Operation). is_request o.asked ≡ false);
+          placed = All-nil (IsPlaced (own_link m));
         }
 
         stands : m.frames ≡ framed m.code.now function → has_words (bare m.code.now) function.words ≡ true → IsFit m.code.now (flat_of m)

@@ -25,7 +25,6 @@ use Rattle.stack_code.specs.declared.instr.Instr.TheVariants as i
 use Rattle.stack_code.specs.Parts.{Parts}
 use Rattle.stack_code.specs.Valid.{IsValid}
 use Rattle.code_meaning.specs.Machine.{Flat, arrived, exec, first_flat, is_inside, marked, resumed}
-use Rattle.code_meaning.specs.Meant.{IsMeant}
 use Rattle.code_safety.specs.Chains.{AreChained}
 use Rattle.code_safety.specs.Fit.{IsFit}
 use Rattle.code_safety.specs.Left.{left}
@@ -41,13 +40,13 @@ use Rattle.core_machine.specs.declared.ending.Ending.{Ending}
 use Rattle.core_machine.specs.declared.running.Running.{Running}
 use Rattle.core_machine.specs.declared.tried.Tried.{Tried}
 use Rattle.core_machine.specs.Blocks.{blocks_of}
-use Rattle.core_machine.specs.State.{shared_of, flat_of, end_or, state_of, machine_of, IsSound}
+use Rattle.core_machine.specs.State.{shared_of, flat_of, end_or, own_link, state_of, machine_of, IsSound}
 use Rattle.core_machine.specs.Tracks.{Tracks}
 use Rattle.core_machine.specs.Tried.{cancelled_at, cancelled_by, cancelled_in, tried_as, tried_in, tried_of, tried_within}
 use Rattle.core_machine.specs.inner.Changes.{IsSameCode, entry_now}
 use Rattle.core_machine.specs.inner.Deciding.{Decides, Makes, decided_within}
 use Rattle.core_machine.specs.inner.Left.{left_from, left_of}
-use Rattle.core_machine.proofs.Sound.{on_its_way, resumed_operations, resumed_shared, running}
+use Rattle.core_machine.proofs.Sound.{on_its_way, own_stays, resumed_operations, resumed_shared, running}
 use Rattle.core_machine.proofs.Standing.{tracks_decided}
 use Rattle.core_machine.proofs.Rounds.{marked_blocks, none_within, oldest_changed, oldest_found, oldest_without}
 
@@ -288,11 +287,21 @@ module _ (before after : Running) (tried : Tried) (it : Outcome) (event : Event)
       (λ value. ended_chained code now now_fit now_chained shared place.front place.back o place.is value m.store (same_frames now_chained.origins m.store))
       (λ request. comes_chained code now now_fit now_chained shared (goes_on_waiting m.store (place.front ++ as_begun o ∷ place.back)) (comes_begun request)))
 
-  decided_tracks : Tracks after.journal.entries after.outstanding.operations
+  decided_requests : after.requests ≡ before.requests
+  decided_requests = ap (λ (f : Flat). f.shared.requests) h.makes.flat ∙ ap (λ (s : Shared). s.requests)
+      (resumed_shared (record now { shared = shared; store = (decided_within m h.block it o).store; operations = (decided_within m h.block it o).operations })
+      (cell.Int (decided_within m h.block it o).value) (decided_within m h.block it o).woken)
+
+  decided_own : own_link after ≡ own_link before
+  decided_own = own_stays before after h.makes.same
+
+  decided_tracks : Tracks (own_link after) after.journal.entries after.outstanding.operations
   decided_tracks =
-      let tracks = tracks_decided before.journal.entries before.outstanding.operations (sound.tracks still) entry before.frames tries o tried.link tried.number it h.found
+      let tracks = tracks_decided (own_link before) before.journal.entries before.outstanding.operations (sound.tracks still) entry before.frames tries o tried.link tried.number it h.found
       under.link under.under is in
-      subst (λ past. Tracks past after.outstanding.operations) (sym decided_journal) (subst (Tracks (before.journal.entries ++ entry ∷ [])) (sym decided_operations) tracks)
+      subst (λ link. Tracks link after.journal.entries after.outstanding.operations) (sym decided_own)
+      (subst (λ past. Tracks (own_link before) past after.outstanding.operations) (sym decided_journal)
+      (subst (Tracks (own_link before) (before.journal.entries ++ entry ∷ [])) (sym decided_operations) tracks))
 
   pub decided_sound : IsSound after
   decided_sound =
@@ -304,9 +313,9 @@ module _ (before after : Running) (tried : Tried) (it : Outcome) (event : Event)
       record {
         fit = λ e. subst (λ c. IsFit c (flat_of after)) (sym h.makes.same.code) decided_fit;
         chained = λ e. subst (λ c. AreChained c (flat_of after)) (sym h.makes.same.code) decided_chained;
+        requests = λ e. decided_requests ∙ sound.requests still ∙ sym decided_own;
         tracks = λ e. decided_tracks;
         valid = subst IsValid (sym h.makes.same.code) sound.valid;
-        meant = subst IsMeant (sym h.makes.same.code) sound.meant;
         ran = on_its_way (machine_of after) code before.core before.bound (before.journal.entries ++ entry ∷ [])
             (On (arrived now shared (decided_within m h.block it o))) r.function h.makes.same.code h.makes.same.core h.makes.same.bound decided_journal
             (running (flat_of after) after.ended decided_on ∙ ap (λ f. On f) h.makes.flat) r.begins comes;

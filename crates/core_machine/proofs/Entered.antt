@@ -6,17 +6,19 @@ use Rattle.ac_base.specs.Log.{Log}
 use Rattle.ac_base.specs.declared.entry.Entry.{Entry}
 use Rattle.ac_base.specs.declared.entry.Event.{Event}
 use Rattle.ac_base.specs.declared.entry.Event.TheVariants as event
+use Rattle.ac_base.specs.declared.entry.Answer.{Answer}
 use Rattle.ac_base.specs.declared.entry.Payload.{Payload}
 use Rattle.work_item.specs.declared.cell.Cell.TheVariants as cell
 use Rattle.work_item.specs.declared.cell.Place.{Place}
 use Rattle.work_item.specs.Store.{Store, with_int_at}
 use Rattle.cancel_scope.specs.declared.operation.Asked.TheVariants as asked
 use Rattle.cancel_scope.specs.declared.operation.Operation.{Operation}
-use Rattle.cancel_scope.specs.Outstanding.{is_to_offer, is_offered, is_to_receive, is_request, carries, offered_as, as_begun, change_first, without_first}
+use Rattle.cancel_scope.specs.Outstanding.{is_to_offer, is_offered, is_begun, is_to_receive, is_request, carries, offered_as, as_begun, change_first, without_first}
 use Rattle.cancel_scope.specs.Roomy.{Roomy}
 use Rattle.core_state.specs.Arrivals as arrivals
-use Rattle.core_state.specs.Arrivals.{Arrival, goes_on_waiting, has_ended, offers, offers_on, is_known, ends_received, passes_over, gives_room, keeps_room, with_message, ok}
+use Rattle.core_state.specs.Arrivals.{goes_on_waiting, has_ended, has_ended_as, offers, offers_on, is_known, is_answered, ends_received, passes_over, gives_room, keeps_room, with_message, ok}
 use Rattle.core_state.specs.Shared.{Shared, with_entry}
+use Rattle.core_state.specs.Requests.{value_of, with_answer}
 use Rattle.code_meaning.specs.Machine.{Flat, resumed}
 use Rattle.core_machine.specs.declared.running.Running.{Running}
 use Rattle.core_machine.specs.State.{shared_of, flat_of}
@@ -40,14 +42,14 @@ module _ (m : Running) (v : Event) (stamp : ℕ) where
       ∙ ap (λ s. record (flat_of m) { shared = shared; store = s; operations = q.operations }) frames ∙ ap (λ l. record (flat_of m) { shared = shared; store = store; operations = l }) ops
 
   -- its operation has ended, and its thread has its value
-  ended_enters : (b after : Running) (q : Roomy) (store store' : Store) (j : Log) (os : List Operation) (o : Operation)
-      → arrivals.arrives m.journal.entries m.frames m.outstanding.operations v ≡ Some (has_ended store os o)
+  ended_enters : (value : ℤ) (b after : Running) (q : Roomy) (store store' : Store) (j : Log) (os : List Operation) (o : Operation)
+      → arrivals.arrives m.journal.entries m.frames m.outstanding.operations v ≡ Some (has_ended_as value store os o)
       → b ≡ noted q store' j → q.operations ≡ os → store' ≡ store → j.entries ≡ m.journal.entries ++ entry ∷ []
-      → flat_of after ≡ resumed (flat_of b) (cell.Int ok) (Some o.item) → after.ended ≡ b.ended → IsSameCode b after → Enters m v stamp after
-  ended_enters b after q store store' j os o fits is ops frames entries flat ended same = record {
-    arrival = has_ended store os o;
+      → flat_of after ≡ resumed (flat_of b) (cell.Int value) (Some o.item) → after.ended ≡ b.ended → IsSameCode b after → Enters m v stamp after
+  ended_enters value b after q store store' j os o fits is ops frames entries flat ended same = record {
+    arrival = has_ended_as value store os o;
     fits = fits;
-    flat = flat ∙ ap (λ (f : Flat). resumed f (cell.Int ok) (Some o.item)) (noted_is b q store store' j os is ops frames entries);
+    flat = flat ∙ ap (λ (f : Flat). resumed f (cell.Int value) (Some o.item)) (noted_is b q store store' j os is ops frames entries);
     ended = ended ∙ ap (λ (y : Running). y.ended) is;
     same = record { code = same.code ∙ ap (λ (y : Running). y.code.now) is; core = same.core ∙ ap (λ (y : Running). y.core) is; bound = same.bound ∙ ap (λ (y : Running). y.bound) is };
   }
@@ -121,7 +123,7 @@ pub know_enters : (m b after : Running) (q : Roomy) (j : Log) (link number stamp
     → Enters m (event.Know link number) stamp after
 know_enters m b after q j link number stamp o found other is ops entries flat ended same =
     let os = m.outstanding.operations in
-    ended_enters m (event.Know link number) stamp b after q m.frames m.frames j (without_first (is_offered link number) os) o
+    ended_enters m (event.Know link number) stamp ok b after q m.frames m.frames j (without_first (is_offered link number) os) o
     (known_ends m.frames os link number (find (is_offered link number) os) o found other)
     is ops refl entries flat ended same
 
@@ -134,8 +136,21 @@ pub got_enters : (m b after : Running) (q : Roomy) (store : Store) (j : Log) (li
 got_enters m b after q store j link number stamp value o place found asks is ops frames entries flat ended same =
     let os = m.outstanding.operations in
     let put : store ≡ with_message m.frames o value = frames ∙ sym (ap (λ a. with_int_at m.frames (arrivals.place_for a) 0 value) asks) in
-    ended_enters m (event.Got link number value) stamp b after q (with_message m.frames o value) store j (without_first (is_to_receive link) os) o
+    ended_enters m (event.Got link number value) stamp ok b after q (with_message m.frames o value) store j (without_first (is_to_receive link) os) o
     (ap (ends_received m.frames os link value) found) is ops put entries flat ended same
+
+-- ---- an answer
+
+pub reply_enters : (m b after : Running) (q : Roomy) (store : Store) (j : Log) (link number stamp : ℕ) (answer : Answer) (value : ℤ) (o : Operation)
+    → find (is_begun link number) m.outstanding.operations ≡ Some o → value ≡ value_of o.asked answer → b ≡ noted m (event.Reply link number answer) stamp q store j
+    → q.operations ≡ without_first (is_begun link number) m.outstanding.operations → store ≡ with_answer m.frames o.asked answer
+    → j.entries ≡ m.journal.entries ++ entry_now m (event.Reply link number answer) stamp ∷ [] → flat_of after ≡ resumed (flat_of b) (cell.Int value) (Some o.item) → after.ended ≡ b.ended
+    → IsSameCode b after → Enters m (event.Reply link number answer) stamp after
+reply_enters m b after q store j link number stamp answer value o found told is ops frames entries flat ended same =
+    let os = without_first (is_begun link number) m.outstanding.operations in
+    let put = with_answer m.frames o.asked answer in
+    ended_enters m (event.Reply link number answer) stamp value b after q put store j os o
+    (ap (is_answered m.frames m.outstanding.operations link number answer) found ∙ ap (λ v. Some (has_ended_as v put os o)) (sym told)) is ops frames entries flat ended same
 
 -- ---- an offer that is passed over
 

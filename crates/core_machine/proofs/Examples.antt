@@ -1,13 +1,14 @@
 -- What callers see of a core, and the activations, blocks and threads that stand for those of its code.
-use Rattle.std.proofs.Common.{◌≡◌, ℕ, refl, pos, Bool, true, false, List, [], ◌∷◌, Some, None, arith}
-use Rattle.std.proofs.lemmas.List.Elements.{All-nil, All-head, All-push}
+use Rattle.std.proofs.Common.{◌≡◌, ℕ, ◌+◌, length, refl, pos, Bool, true, false, List, [], ◌∷◌, Some, None, arith}
+use Rattle.std.proofs.lemmas.List.Elements.{All-nil}
 use Rattle.ac_base.specs.declared.entry.Entry.{Entry}
 use Rattle.ac_base.specs.declared.entry.Event.TheVariants as event
 use Rattle.ac_base.specs.declared.entry.Payload.TheVariants as payload
+use Rattle.ac_base.specs.declared.entry.Answer.TheVariants as answer
 use Rattle.ac_base.specs.declared.ends.Phase.TheVariants.{Waiting}
-use Rattle.cancel_scope.specs.declared.operation.Asked.TheVariants.{Send, Recv, Read}
+use Rattle.cancel_scope.specs.declared.operation.Asked.TheVariants.{Send, Recv, Read, Write}
 use Rattle.cancel_scope.specs.declared.operation.Operation.{Operation}
-use Rattle.cancel_scope.specs.Outstanding.{started, offered_as, as_begun, is_outgoing, is_request, is_waiting}
+use Rattle.cancel_scope.specs.Outstanding.{started, offered_as, as_begun, is_outgoing, is_waiting}
 use Rattle.ac_base.specs.declared.ends.EndWord.TheVariants.{Finished, Trapped, OutOfSteps, Stalled}
 use Rattle.ac_base.specs.declared.ends.Trap.TheVariants.{ZeroDivisor}
 use Rattle.ac_base.specs.declared.ends.CoreEnd.{CoreEnd}
@@ -24,10 +25,11 @@ use Rattle.core_machine.specs.declared.ending.Ending.TheVariants as ending
 use Rattle.core_machine.specs.Words.{word_of}
 use Rattle.core_machine.specs.Machine.{none_ready, is_resting, is_idle, has_ended, IsSeen, waiting_at_end, waiting_of, waits, HasEnded}
 use Rattle.core_machine.specs.Blocks.{blocks_of, block_of}
-use Rattle.core_machine.specs.Tracks.{is_offer_of, is_end_of, offers_of, ends_of, standing_of, AskForNoFile, Tracks}
+use Rattle.core_machine.specs.Tracks.{is_offer_of, is_end_of, is_know_of, is_reply_of, offers_of, ends_of, knows_of, replies_of, standing_of, begun_of}
+use Rattle.core_machine.specs.Tracks.{is_transfer, keeps_limits, IsPlaced, Tracks}
 use Rattle.core_machine.specs.inner.Changes.{with_woken, item_of}
 use Rattle.core_machine.specs.declared.running.Running.{Running}
-use Rattle.core_machine.specs.State.{shared_of, thread_of, flat_of, end_or, state_of, has_room, machine_of}
+use Rattle.core_machine.specs.State.{shared_of, thread_of, flat_of, end_or, state_of, own_link, has_room, machine_of}
 
 -- ---- how a core has ended
 
@@ -137,27 +139,53 @@ how_many_there_are = (refl, refl, refl, refl)
 
 -- a request that has begun stands under no offer: its offer has ended
 pub one_has_begun : (standing_of 2 0 (offered_as 0 asks ∷ []) ≡ 1) × (standing_of 2 0 (as_begun (offered_as 0 asks) ∷ []) ≡ 0)
-one_has_begun = (refl, refl)
+    × (begun_of 2 0 (offered_as 0 asks ∷ []) ≡ 0) × (begun_of 2 0 (as_begun (offered_as 0 asks) ∷ []) ≡ 1)
+one_has_begun = (refl, refl, refl, refl)
+
+-- the request was taken, and has its answer
+abbrev pub asked_for : Entry
+asked_for = record offer { event = event.Offer 2 0 (payload.Read 6 9 4) }
+
+abbrev pub taken : Entry
+taken = record known { event = event.Know 2 0 }
+
+abbrev pub answered : Entry
+answered = record known { stamp = 5; event = event.Reply 2 0 (answer.Bytes (66 ∷ [])) }
+
+pub what_a_request_comes_to : (is_know_of 2 0 taken.event ≡ true) × (is_know_of 2 1 taken.event ≡ false) × (is_know_of 0 0 (event.Withdraw 0 0) ≡ false) × (is_reply_of 2 0 answered.event ≡ true)
+    × (is_reply_of 2 0 taken.event ≡ false) × (knows_of 2 0 (asked_for ∷ taken ∷ answered ∷ []) ≡ 1) × (replies_of 2 0 (asked_for ∷ taken ∷ answered ∷ []) ≡ 1)
+what_a_request_comes_to = (refl, refl, refl, refl, refl, refl, refl)
+
+-- of 16 files, at most 256 bytes before the place 1048576
+pub what_is_within_the_limits : (is_transfer 15 1048320 256 ≡ true) × (is_transfer 16 0 0 ≡ false) × (is_transfer 0 0 257 ≡ false) × (is_transfer 0 1048321 256 ≡ false)
+    × (keeps_limits asks.asked ≡ true) × (keeps_limits (Write 16 0 (66 ∷ [])) ≡ false) × (keeps_limits sends.asked ≡ true)
+what_is_within_the_limits = (refl, refl, refl, refl, refl, refl, refl)
+
+-- requests stand on their own link, and nothing else does
+pub requests_on_their_link : IsPlaced 2 asks × IsPlaced 2 sends
+requests_on_their_link = (record { link = refl; limits = refl }, record { link = refl; limits = refl })
+
+pub a_send_on_that_link : IsPlaced 0 sends → ⊥
+a_send_on_that_link h = let no : false ≡ true = h.link in cc
 
 -- an offer that has not ended is that of an operation
-pub an_operation_for_none : Tracks [] (offered_as 0 sends ∷ []) → ⊥
+pub an_operation_for_none : Tracks 2 [] (offered_as 0 sends ∷ []) → ⊥
 an_operation_for_none h = let e = h.each 0 0 in let no : ◌≡◌ {A = ℕ} 1 0 = e in absurd (omega (arith, no))
 
-pub an_offer_without_its_operation : Tracks (offer ∷ []) [] → ⊥
+pub an_offer_without_its_operation : Tracks 2 (offer ∷ []) [] → ⊥
 an_offer_without_its_operation h = let e = h.each 0 0 in let no : ◌≡◌ {A = ℕ} 0 1 = e in absurd (omega (arith, no))
 
-pub none_of_each : Tracks [] []
-none_of_each = record {
+-- one that was taken and has no answer is a request that has begun
+pub a_taking_without_its_request : Tracks 2 (asked_for ∷ taken ∷ []) [] → ⊥
+a_taking_without_its_request h = let e = h.begun 0 in let no : ◌≡◌ {A = ℕ} 0 1 = e in absurd (omega (arith, no))
+
+pub none_of_each : (link : ℕ) → Tracks link [] []
+none_of_each link = record {
   each = λ l n. refl;
+  begun = λ n. refl;
   receives = All-nil (λ (o : Operation). is_outgoing o.asked ≡ false → is_waiting o.progress ≡ true);
-  files = All-nil (λ (o : Operation). is_request o.asked ≡ false);
+  placed = All-nil (IsPlaced link);
 }
-
-pub one_that_reads : AskForNoFile (asks ∷ []) → ⊥
-one_that_reads h = let no : true ≡ false = All-head (λ (o : Operation). is_request o.asked ≡ false) asks [] h in cc
-
-pub one_that_sends : AskForNoFile (sends ∷ [])
-one_that_sends = All-push (λ (o : Operation). is_request o.asked ≡ false) [] sends (All-nil (λ (o : Operation). is_request o.asked ≡ false)) refl
 
 -- ---- blocks and threads
 
@@ -247,6 +275,10 @@ it_goes_on_or_is_over m = (refl, refl)
 
 pub the_machine : (m : Running) → machine_of (with_fields m) ≡ record { code = m.code.now; core = 1; bound = 9; journal = []; state = On (flat_of (with_fields m)); room = has_room (with_fields m) }
 the_machine m = refl
+
+-- its requests have the link after the channels and the requests of the cores before
+pub the_link_of_its_requests : (m : Running) → own_link (with_fields m) ≡ length m.code.now.ends + 1
+the_link_of_its_requests m = refl
 
 -- room for an entry and for a ready thread, and no value that is still to be put onto operands
 abbrev with_spares : Running → ℕ → ℕ → Bool → Running

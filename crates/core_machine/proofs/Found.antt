@@ -26,7 +26,6 @@ use Rattle.stack_code.specs.Parts.{Parts}
 use Rattle.stack_code.specs.Shapes as shapes
 use Rattle.stack_code.specs.Shapes.{after, channels_of, first, pushed, body_with, pushes, goes, effect, is_int_alone, can_return, directives_in, want_of, on_some, is_entered}
 use Rattle.stack_code.specs.Valid.{IsValid, HasRoom}
-use Rattle.code_meaning.specs.Meant.{has_meaning}
 use Rattle.code_meaning.specs.Machine.{Flat}
 use Rattle.code_safety.specs.Fit.{Birth, is_int, HasKind, HaveKinds, AreBodies, last, more, IsThread, IsFit, life_at}
 use Rattle.code_safety.specs.Living.{as_running, AllReferToLiving, NamesLiving}
@@ -36,8 +35,8 @@ use Rattle.code_safety.proofs.Plain.{in_frame}
 use Rattle.code_safety.proofs.Own.{thread_of}
 use Rattle.code_safety.proofs.Calling.{call_enough}
 use Rattle.thread_table.specs.Operands.{is_reference, on_top}
-use Rattle.core_machine.specs.inner.Operands.{Stand, second_place}
-use Rattle.core_machine.specs.inner.Needs.{HasInt, HasReference, HasInts, HasCell, HasArray, HasElement, HasCall, Finds}
+use Rattle.core_machine.specs.inner.Operands.{Stand, first_place, second_place}
+use Rattle.core_machine.specs.inner.Needs.{HasInt, HasReference, HasInts, HasCell, HasArray, HasElement, HasCall, HasRequest, Finds}
 use Rattle.core_machine.proofs.OpenSlots.{slot_of_entered, lie_there}
 use Rattle.core_machine.proofs.Lives.{round_lives, finish_there, start_there, end_there, is_listed}
 
@@ -76,6 +75,13 @@ home_there s (x ∷ []) h = tt
 home_there s (x ∷ cell.Int value ∷ below) h = tt
 home_there s (x ∷ cell.Array place ∷ below) h = h.1.0
 home_there s (x ∷ cell.Block b ∷ below) h = tt
+
+-- the array of the reference on top
+first_home : (s : Store) (operands : List Cell) → AllReferToLiving s operands → HomeLives s (first_place operands).home
+first_home s [] h = tt
+first_home s (cell.Int value ∷ below) h = tt
+first_home s (cell.Array place ∷ below) h = h.0
+first_home s (cell.Block b ∷ below) h = tt
 
 module _ (code : Parts) (bound : ℕ) (m : Flat) (fit : IsFit code m) (t : Item) (run : m.running ≡ Some t) (v : IsValid code) (names : NamesLiving m) where
   abbrev pub own : IsThread code fit.births m.store m.blocks t (life_at fit.lives t).start m.current
@@ -162,6 +168,21 @@ module _ (code : Parts) (bound : ℕ) (m : Flat) (fit : IsFit code m) (t : Item)
       let all : ops ≡ o.top ∷ p.top ∷ q.top ∷ q.below = o.is ∙ ap (λ l. o.top ∷ l) (p.is ∙ ap (λ l. p.top ∷ l) q.is) in
       subst (Stand (is_int ∷ is_reference ∷ is_int ∷ [])) (sym all) (o.wanted, ((reference_there p.top p.wanted).0, (q.wanted, tt)))
 
+  request_there : (file : ℕ) (leads : Leads) → shapes.transfers m.current.place file s ≡ Some leads → HasRequest m
+  request_there file leads e =
+      let wants = (if_is (nat_lt file 16) (after (want.Reference ∷ want.Int ∷ want.Int ∷ []) s (pushes m.current.place kind.Int)) leads e).1 in
+      let a = top_there want.Reference (want.Int ∷ want.Int ∷ []) (pushes m.current.place kind.Int) leads wants in
+      let o = a.1 in
+      let p = top_of code fit.births want.Int (want.Int ∷ []) o.kinds a.0 o.below o.taken o.have in
+      let q = top_of code fit.births want.Int [] p.kinds a.0 p.below p.taken p.have in
+      let all : ops ≡ o.top ∷ p.top ∷ q.top ∷ q.below = o.is ∙ ap (λ l. o.top ∷ l) (p.is ∙ ap (λ l. p.top ∷ l) q.is) in
+      let long : length ops ≡ suc (suc (suc (length q.below))) = ap length all in
+      record {
+        three = omega (arith, long);
+        home = first_home store ops (names.threads t m.current (as_running t run)).0.1;
+        listed = is_listed code m fit t run;
+      }
+
   last_there : (kinds : List Kind) (operands : List Cell) → is_int_alone kinds ≡ true → HaveKinds code fit.births kinds operands → on_top is_int operands ≡ true
   last_there [] operands e h = let no : false ≡ true = e in cc
   last_there (kind.Int ∷ kinds) [] e h = absurd h
@@ -223,64 +244,64 @@ module _ (code : Parts) (bound : ℕ) (m : Flat) (fit : IsFit code m) (t : Item)
       let lt : slot < code.globals = grind (arith, nat_tests) in
       omega (arith, lt, fit.store.globals)
 
-  pub finds : (instr : Instr) (leads : Leads) → slice_get code.instrs m.current.place ≡ Some instr → effect code m.current.place instr s ≡ Some leads → has_meaning instr ≡ true → Finds code m instr
-  finds i.Step leads here e q = tt
-  finds (i.Push value) leads here e q = tt
-  finds (i.Load level slot) leads here e q =
+  pub finds : (instr : Instr) (leads : Leads) → slice_get code.instrs m.current.place ≡ Some instr → effect code m.current.place instr s ≡ Some leads → Finds code m instr
+  finds i.Step leads here e = tt
+  finds (i.Push value) leads here e = tt
+  finds (i.Load level slot) leads here e =
       let b = on_some_is (body_with s level slot 1) _ leads e in
       cell_there level slot b.0 b.1.0
-  finds (i.LoadG slot) leads here e q = global_there slot _ leads e
-  finds (i.Store level slot) leads here e q =
+  finds (i.LoadG slot) leads here e = global_there slot _ leads e
+  finds (i.Store level slot) leads here e =
       let b = on_some_is (body_with s level slot 1) _ leads e in
       (cell_there level slot b.0 b.1.0, int_there [] (goes m.current.place) leads b.1.1)
-  finds (i.StoreG slot) leads here e q = (global_there slot _ leads e, int_there [] (goes m.current.place) leads (if_is (nat_lt slot code.globals) _ leads e).1)
-  finds (i.Arr level slot len) leads here e q =
+  finds (i.StoreG slot) leads here e = (global_there slot _ leads e, int_there [] (goes m.current.place) leads (if_is (nat_lt slot code.globals) _ leads e).1)
+  finds (i.Arr level slot len) leads here e =
       let b = on_some_is (body_with s level slot len) _ leads e in
       level_there level slot len b.0 b.1.0
-  finds (i.ArrG slot len) leads here e q = tt
-  finds i.Elem leads here e q = element_there [] (pushes m.current.place kind.Int) leads e
-  finds i.SetElem leads here e q = (element_there (want.Int ∷ []) (goes m.current.place) leads e, three_there (goes m.current.place) leads e)
-  finds i.Place leads here e q = array_there [] (pushes m.current.place (kind.Reference true)) leads e
-  finds (i.Clear slot len) leads here e q =
+  finds (i.ArrG slot len) leads here e = tt
+  finds i.Elem leads here e = element_there [] (pushes m.current.place kind.Int) leads e
+  finds i.SetElem leads here e = (element_there (want.Int ∷ []) (goes m.current.place) leads e, three_there (goes m.current.place) leads e)
+  finds i.Place leads here e = array_there [] (pushes m.current.place (kind.Reference true)) leads e
+  finds (i.Clear slot len) leads here e =
       let b = on_some_is (body_with s 0 slot len) _ leads e in
       (level_there 0 slot len b.0 b.1.0, slots_there 0 slot len b.0 b.1.0)
-  finds i.Neg leads here e q = int_there [] (pushes m.current.place kind.Int) leads e
-  finds i.Not leads here e q = int_there [] (pushes m.current.place kind.Int) leads e
-  finds i.Flip leads here e q = int_there [] (pushes m.current.place kind.Int) leads e
-  finds i.Bool leads here e q = int_there [] (pushes m.current.place kind.Int) leads e
-  finds i.BitOr leads here e q = ints_there (pushes m.current.place kind.Int) leads e
-  finds i.BitXor leads here e q = ints_there (pushes m.current.place kind.Int) leads e
-  finds i.BitAnd leads here e q = ints_there (pushes m.current.place kind.Int) leads e
-  finds i.Eq leads here e q = ints_there (pushes m.current.place kind.Int) leads e
-  finds i.Ne leads here e q = ints_there (pushes m.current.place kind.Int) leads e
-  finds i.Less leads here e q = ints_there (pushes m.current.place kind.Int) leads e
-  finds i.LessEq leads here e q = ints_there (pushes m.current.place kind.Int) leads e
-  finds i.More leads here e q = ints_there (pushes m.current.place kind.Int) leads e
-  finds i.MoreEq leads here e q = ints_there (pushes m.current.place kind.Int) leads e
-  finds i.Shl leads here e q = ints_there (pushes m.current.place kind.Int) leads e
-  finds i.Shr leads here e q = ints_there (pushes m.current.place kind.Int) leads e
-  finds i.Add leads here e q = ints_there (pushes m.current.place kind.Int) leads e
-  finds i.Sub leads here e q = ints_there (pushes m.current.place kind.Int) leads e
-  finds i.Mul leads here e q = ints_there (pushes m.current.place kind.Int) leads e
-  finds i.Div leads here e q = ints_there (pushes m.current.place kind.Int) leads e
-  finds i.Rem leads here e q = ints_there (pushes m.current.place kind.Int) leads e
-  finds i.Drop leads here e q = one_there want.Any [] (goes m.current.place) leads e
-  finds (i.Jump to) leads here e q = tt
-  finds (i.Jz to) leads here e q = int_there [] (λ t. Some (Two (m.current.place + 1) t to t)) leads e
-  finds (i.Jnz to) leads here e q = int_there [] (λ t. Some (Two (m.current.place + 1) t to t)) leads e
-  finds (i.Print text count) leads here e q = print_there text count leads e
-  finds (i.Call number count) leads here e q = call_there number count leads e
-  finds i.Ret leads here e q = ret_there leads e
-  finds (i.Enter slot) leads here e q =
+  finds i.Neg leads here e = int_there [] (pushes m.current.place kind.Int) leads e
+  finds i.Not leads here e = int_there [] (pushes m.current.place kind.Int) leads e
+  finds i.Flip leads here e = int_there [] (pushes m.current.place kind.Int) leads e
+  finds i.Bool leads here e = int_there [] (pushes m.current.place kind.Int) leads e
+  finds i.BitOr leads here e = ints_there (pushes m.current.place kind.Int) leads e
+  finds i.BitXor leads here e = ints_there (pushes m.current.place kind.Int) leads e
+  finds i.BitAnd leads here e = ints_there (pushes m.current.place kind.Int) leads e
+  finds i.Eq leads here e = ints_there (pushes m.current.place kind.Int) leads e
+  finds i.Ne leads here e = ints_there (pushes m.current.place kind.Int) leads e
+  finds i.Less leads here e = ints_there (pushes m.current.place kind.Int) leads e
+  finds i.LessEq leads here e = ints_there (pushes m.current.place kind.Int) leads e
+  finds i.More leads here e = ints_there (pushes m.current.place kind.Int) leads e
+  finds i.MoreEq leads here e = ints_there (pushes m.current.place kind.Int) leads e
+  finds i.Shl leads here e = ints_there (pushes m.current.place kind.Int) leads e
+  finds i.Shr leads here e = ints_there (pushes m.current.place kind.Int) leads e
+  finds i.Add leads here e = ints_there (pushes m.current.place kind.Int) leads e
+  finds i.Sub leads here e = ints_there (pushes m.current.place kind.Int) leads e
+  finds i.Mul leads here e = ints_there (pushes m.current.place kind.Int) leads e
+  finds i.Div leads here e = ints_there (pushes m.current.place kind.Int) leads e
+  finds i.Rem leads here e = ints_there (pushes m.current.place kind.Int) leads e
+  finds i.Drop leads here e = one_there want.Any [] (goes m.current.place) leads e
+  finds (i.Jump to) leads here e = tt
+  finds (i.Jz to) leads here e = int_there [] (λ t. Some (Two (m.current.place + 1) t to t)) leads e
+  finds (i.Jnz to) leads here e = int_there [] (λ t. Some (Two (m.current.place + 1) t to t)) leads e
+  finds (i.Print text count) leads here e = print_there text count leads e
+  finds (i.Call number count) leads here e = call_there number count leads e
+  finds i.Ret leads here e = ret_there leads e
+  finds (i.Enter slot) leads here e =
       let b = on_some_is (body_with s 0 slot 1) _ leads e in
       let cell = cell_there 0 slot b.0 b.1.0 in
       record { frame = cell.0; has = cell.1; round = round_lives code m fit t run }
-  finds (i.Finish slot) leads here e q = finish_there code bound m fit t run slot here leads e
-  finds (i.Async slots to) leads here e q = start_there code bound m fit t run v slots to here leads e
-  finds i.End leads here e q = end_there code bound m fit t run leads e
-  finds i.Yield leads here e q = is_listed code m fit t run
-  finds (i.Cancel level slot) leads here e q = cancel_there level slot leads e
-  finds (i.Send channel) leads here e q = (int_there [] (pushes m.current.place kind.Int) leads (if_is (nat_lt channel (channels_of code)) _ leads e).1, is_listed code m fit t run)
-  finds (i.Recv channel) leads here e q = (one_place_there (pushes m.current.place kind.Int) leads (if_is (nat_lt channel (channels_of code)) _ leads e).1, is_listed code m fit t run)
-  finds (i.Read file) leads here e q = let no : false ≡ true = q in cc
-  finds (i.Write file) leads here e q = let no : false ≡ true = q in cc
+  finds (i.Finish slot) leads here e = finish_there code bound m fit t run slot here leads e
+  finds (i.Async slots to) leads here e = start_there code bound m fit t run v slots to here leads e
+  finds i.End leads here e = end_there code bound m fit t run leads e
+  finds i.Yield leads here e = is_listed code m fit t run
+  finds (i.Cancel level slot) leads here e = cancel_there level slot leads e
+  finds (i.Send channel) leads here e = (int_there [] (pushes m.current.place kind.Int) leads (if_is (nat_lt channel (channels_of code)) _ leads e).1, is_listed code m fit t run)
+  finds (i.Recv channel) leads here e = (one_place_there (pushes m.current.place kind.Int) leads (if_is (nat_lt channel (channels_of code)) _ leads e).1, is_listed code m fit t run)
+  finds (i.Read file) leads here e = request_there file leads e
+  finds (i.Write file) leads here e = request_there file leads e

@@ -3,6 +3,8 @@ pub mod Blocks
 pub mod Rounds
 pub mod Does
 pub mod CalledOff
+pub mod Requested
+pub mod Answered
 pub mod Lives
 pub mod OpenSlots
 pub mod Found

@@ -1,9 +1,10 @@
 -- What callers see of cores at their dispatch points, by example.
-use Rattle.std.proofs.Common.{◌≡◌, ℕ, refl, pos, true, false, List, [], ◌∷◌, Some, None}
+use Rattle.std.proofs.Common.{◌≡◌, ℕ, ◌+◌, length, refl, pos, true, false, List, arith, [], ◌∷◌, Some, None}
 use Rattle.ac_base.specs.declared.entry.Event.TheVariants as event
 use Rattle.ac_base.specs.declared.entry.Payload.TheVariants as payload
-use Rattle.cancel_scope.specs.declared.operation.Asked.TheVariants.{Send}
-use Rattle.cancel_scope.specs.Outstanding.{offered_as}
+use Rattle.cancel_scope.specs.declared.operation.Operation.{Operation}
+use Rattle.cancel_scope.specs.declared.operation.Progress.TheVariants.{Waiting, Offered, Started}
+use Rattle.cancel_scope.specs.Outstanding.{as_begun, offered_as}
 use Rattle.core_state.specs.Moves.{On, Over}
 use Rattle.core_state.specs.Arrivals.{has_ended}
 use Rattle.core_state.specs.Shared.{with_entry}
@@ -11,8 +12,10 @@ use Rattle.code_meaning.specs.Machine.{Block, Caller, Flat, FlatEnd, Thread, arr
 use Rattle.stack_code.specs.Parts.{Parts}
 use Rattle.code_safety.specs.Left.{at_weight, callers_weight, owner_weight, parked_weight, ready_weight, running_weight, thread_weight, waiting_weight}
 use Rattle.core_machine.specs.Machine.{Machine}
-use Rattle.core_machine.specs.Points.{AsksForNoFile, HasCome, HasTracks, carried_by, entry_of, is_at_point, left_at, message_of, offer_carries, operations_of, receives_from, to_send, work_left}
-use Rattle.core_machine.proofs.Examples.{an_operation_for_none, asks, first, hears, known, none_of_each, offer, one_that_reads, one_that_sends, running, second, sends, store, with_operations}
+use Rattle.core_machine.specs.Points.{HasCome, HasTracks, awaits_answer, begun_number, carried_by, comes_first, entry_of}
+use Rattle.core_machine.specs.Points.{has_to_offer, is_at_point, least_on, left_at, lesser, number_on, offer_carries}
+use Rattle.core_machine.specs.Points.{offer_number, operations_of, receives_from, requests_of, work_left}
+use Rattle.core_machine.proofs.Examples.{asks, first, hears, known, none_of_each, offer, running, second, sends, store, with_operations}
 
 abbrev over : FlatEnd
 over = record { core = None; count = 4 }
@@ -25,12 +28,10 @@ whether_it_is_at_a_point = (refl, refl, refl)
 pub which_operations_it_has : (operations_of (On with_operations) ≡ sends ∷ hears ∷ []) × (operations_of (Over over) ≡ [])
 which_operations_it_has = (refl, refl)
 
-pub what_is_sent : (message_of (Send (pos 5)) ≡ Some (pos 5)) × (message_of hears.asked ≡ None) × (message_of asks.asked ≡ None)
-what_is_sent = (refl, refl, refl)
-
 -- one that is offered is not to be offered again
-pub what_is_to_be_sent : (to_send (sends ∷ hears ∷ []) 0 ≡ Some (pos 5)) × (to_send (sends ∷ hears ∷ []) 1 ≡ None) × (to_send (offered_as 0 sends ∷ []) 0 ≡ None)
-what_is_to_be_sent = (refl, refl, refl)
+pub what_is_to_be_offered : (has_to_offer (sends ∷ hears ∷ []) 0 ≡ true) × (has_to_offer (sends ∷ hears ∷ []) 1 ≡ false) × (has_to_offer (offered_as 0 sends ∷ []) 0 ≡ false)
+    × (has_to_offer (asks ∷ []) 2 ≡ true)
+what_is_to_be_offered = (refl, refl, refl, refl)
 
 -- an offer of the oldest carries what it asks for
 pub what_an_offer_carries : (offer_carries (sends ∷ hears ∷ []) 0 (payload.Int (pos 5)) ≡ true) × (offer_carries (sends ∷ hears ∷ []) 0 (payload.Int (pos 6)) ≡ false)
@@ -40,6 +41,28 @@ what_an_offer_carries = (refl, refl, refl, refl, refl, refl)
 
 pub what_is_received : (receives_from (sends ∷ hears ∷ []) 1 ≡ true) × (receives_from (sends ∷ hears ∷ []) 0 ≡ false)
 what_is_received = (refl, refl)
+
+-- ---- answers to requests
+
+-- a request that has begun under that number
+abbrev begun : ℕ → Operation
+begun number = as_begun (offered_as number asks)
+
+pub the_numbers_of_an_operation : (offer_number (Offered 3) ≡ Some 3) × (offer_number (Started 3) ≡ None) × (begun_number (Started 3) ≡ Some 3) × (begun_number Waiting ≡ None)
+    × (number_on begun_number 2 (begun 3) ≡ Some 3) × (number_on begun_number 1 (begun 3) ≡ None) × (number_on offer_number 2 (offered_as 3 asks) ≡ Some 3)
+the_numbers_of_an_operation = (refl, refl, refl, refl, refl, refl, refl)
+
+pub the_least_of_them : (lesser (Some 3) (Some 1) ≡ Some 1) × (lesser None (Some 4) ≡ Some 4) × (lesser (Some 4) None ≡ Some 4)
+    × (least_on begun_number (begun 3 ∷ offered_as 0 asks ∷ begun 1 ∷ []) 2 ≡ Some 1) × (least_on begun_number (offered_as 0 asks ∷ []) 2 ≡ None)
+the_least_of_them = (refl, refl, refl, refl, refl)
+
+pub which_comes_first : (comes_first (Some 1) (Some 2) ≡ true) × (comes_first (Some 2) (Some 1) ≡ false) × (comes_first (Some 2) None ≡ true) × (comes_first None None ≡ false)
+which_comes_first = (refl, refl, refl, refl)
+
+-- an answer may come to the first of those that were offered, once it has begun
+pub whether_it_awaits_an_answer : (awaits_answer (begun 0 ∷ offered_as 1 asks ∷ []) 2 ≡ true) × (awaits_answer (offered_as 0 asks ∷ begun 1 ∷ []) 2 ≡ false) × (awaits_answer (asks ∷ []) 2 ≡ false)
+    × (awaits_answer (begun 0 ∷ []) 1 ≡ false)
+whether_it_awaits_an_answer = (refl, refl, refl, refl)
 
 -- ---- an entry
 
@@ -79,17 +102,14 @@ module _ (code : Parts) where
   pub it_is_not_recorded : HasCome before (event.Know 0 0) 3 (record after { journal = offer ∷ [] }) → ⊥
   it_is_not_recorded h = let e = h.journal in cc
 
+  pub the_link_of_its_requests : requests_of before ≡ length code.ends + 0
+  the_link_of_its_requests = refl
+
   pub nothing_is_open : HasTracks (record before { journal = []; state = On running })
-  nothing_is_open h = none_of_each
-
-  pub it_asks_for_none : AsksForNoFile (record before { state = On (record running { operations = sends ∷ [] }) })
-  it_asks_for_none = one_that_sends
-
-  pub it_asks_for_one : AsksForNoFile (record before { state = On (record running { operations = asks ∷ [] }) }) → ⊥
-  it_asks_for_one h = one_that_reads h
+  nothing_is_open h = none_of_each (length code.ends + 0)
 
   pub an_operation_without_its_offer : HasTracks (record before { journal = [] }) → ⊥
-  an_operation_without_its_offer h = an_operation_for_none (h refl)
+  an_operation_without_its_offer h = let e = (h refl).each 0 0 in let no : ◌≡◌ {A = ℕ} 1 0 = e in absurd (omega (arith, no))
 
   -- 8 steps are left, of 3 each, and the present move
   pub what_is_left_of_it : (left_at [] 9 (On running) ≡ 25) × (left_at [] 9 (Over over) ≡ 0) × (work_left [] (record before { state = On running }) ≡ 25)

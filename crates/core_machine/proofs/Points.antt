@@ -1,17 +1,14 @@
 -- What callers see of a running core at its dispatch points, and of the entries that come in there.
 use Rattle.std.proofs.Common.{◌≡◌, ℕ, ◌<◌, ◌≤◌, List, Option, Some, None, IsSome, Ok, Err, Bool, true, false, refl, sym, ap, ◌∙◌, subst, arith}
-use Rattle.std.specs.Prelude.{is_none, is_some, find, nat_eq, nat_lt, not, if◌then◌else◌, ◌&&◌, option_and_then, IfSome, ℤ, OnOk, Result}
+use Rattle.std.specs.Prelude.{is_none, is_some, find, nat_eq, nat_lt, not, if◌then◌else◌, ◌&&◌, IfSome, OnOk, Result}
 use Rattle.std.proofs.lemmas.Bool.{and_parts, eq-eqb, ltb-true}
-use Rattle.std.proofs.lemmas.Bool.Decides.{Decides-int_eq, nat_tests}
+use Rattle.std.proofs.lemmas.Bool.Decides.{nat_tests}
 use Rattle.std.proofs.lemmas.Result.{on_ok_weaker}
 use Rattle.ac_base.specs.declared.entry.Event.{Event}
 use Rattle.ac_base.specs.declared.entry.Event.TheVariants as event
 use Rattle.ac_base.specs.declared.entry.Payload.{Payload}
-use Rattle.ac_base.specs.declared.entry.Payload.TheVariants as payload
 use Rattle.ac_base.specs.declared.memory.NoMemory.{NoMemory}
 use Rattle.work_item.specs.declared.ids.Item.{Item}
-use Rattle.cancel_scope.specs.declared.operation.Asked.{Asked}
-use Rattle.cancel_scope.specs.declared.operation.Asked.TheVariants as asked
 use Rattle.cancel_scope.specs.declared.operation.Operation.{Operation}
 use Rattle.cancel_scope.specs.Outstanding.{is_outgoing, is_waiting, is_to_offer, carries}
 use Rattle.core_state.specs.Moves.{GoesOn, On}
@@ -24,8 +21,8 @@ use Rattle.core_machine.specs.declared.ending.Ending.{Ending}
 use Rattle.core_machine.specs.declared.running.Running.{Running}
 use Rattle.core_machine.specs.declared.tried.Tried.{Tried}
 use Rattle.core_machine.specs.Machine.{Machine, IsSameCore, has_ended, is_idle, is_resting}
-use Rattle.core_machine.specs.Points.{HasCome, HasTracks, carried_by, is_at_point, left_at, message_of, offer_carries, operations_of, to_send, work_left}
-use Rattle.core_machine.specs.State.{IsSound, end_or, flat_of, has_room, machine_of, state_of}
+use Rattle.core_machine.specs.Points.{HasCome, HasTracks, carried_by, is_at_point, left_at, offer_carries, operations_of, work_left}
+use Rattle.core_machine.specs.State.{IsSound, end_or, own_link, flat_of, has_room, machine_of, state_of}
 use Rattle.core_machine.specs.Tracks.{Tracks}
 use Rattle.core_machine.specs.Tried.{HasDecided, tried_in, tried_of, tried_within}
 use Rattle.core_machine.specs.inner.Changes.{Enters, IsSameCode, Stays}
@@ -125,19 +122,6 @@ goes_out os link o found =
     let one = and_parts (nat_eq o.link link) (is_outgoing o.asked && is_waiting o.progress) (found_at (is_to_offer link) os o found).passes in
     (and_parts (is_outgoing o.asked) (is_waiting o.progress) one.1).0
 
--- an offer of the oldest carries what one of it does
-sends_that : (o : Option Operation) (value : ℤ) → option_and_then (λ (p : Operation). message_of p.asked) o ≡ Some value → carried_by o (payload.Int value) ≡ true
-sends_that None value h = let no : None ≡ Some value = h in absurd (cc)
-sends_that (Some p) value h = by p.asked h
-  where
-    by : (a : Asked) → message_of a ≡ Some value → carries a (payload.Int value) ≡ true
-    by (asked.Send v) h = let same : v ≡ value = cc in (Decides-int_eq v value).1 same
-    by a h = let no : None ≡ Some value = h in absurd (cc)
-
--- an offer of a send carries its message
-pub send_carries : (os : List Operation) (link : ℕ) (value : ℤ) → to_send os link ≡ Some value → offer_carries os link (payload.Int value) ≡ true
-send_carries os link value h = sends_that (find (is_to_offer link) os) value h
-
 pub some_of : {A : Type 0} (o : Option A) → is_some o ≡ true → IsSome o
 some_of o h = h
 
@@ -232,7 +216,7 @@ taking_decides link number = ap (λ (b : Bool). if b then Some IsTaken else None
 -- ---- what it keeps
 
 pub tracks_of : (m : Running) (old : Machine) → machine_of m ≡ old → IsSound m → HasTracks old
-tracks_of m old is sound = subst HasTracks is (λ h. subst (Tracks m.journal.entries) (sym (operations_are m h)) (sound.tracks (going_on m h)))
+tracks_of m old is sound = subst HasTracks is (λ h. subst (Tracks (own_link m) m.journal.entries) (sym (operations_are m h)) (sound.tracks (going_on m h)))
 
 -- ---- where nothing has changed that the code's meaning sees
 

@@ -1,22 +1,25 @@
 -- A core stays where its code can stand, and comes to its end.
-use Rattle.std.proofs.Common.{◌≡◌, ◌≢◌, ℕ, suc, ◌<◌, ◌≤◌, ◌^◌, List, [], ◌∷◌, ◌++◌, length, Option, Some, None, IsSome, Bool, true, false, refl, sym, ap, ◌∙◌, subst, arith}
-use Rattle.std.specs.Prelude.{slice_get, slice_index_or, is_some, not}
-use Rattle.std.proofs.lemmas.Option.{slice_get_within, get_or_from_slice_get}
+use Rattle.std.proofs.Common.{◌≡◌, ◌≢◌, ℕ, suc, ◌-◌, ◌<◌, ◌≤◌, ◌^◌, List, [], ◌∷◌, ◌++◌, length, Option, Some, None, IsSome, Bool, true, false, refl, sym, ap, ◌∙◌, subst, arith}
+use Rattle.std.specs.Prelude.{slice_get, is_some, nat_eq, nat_lt, not}
+use Rattle.std.proofs.lemmas.Bool.{ltb-true}
+use Rattle.std.proofs.lemmas.Bool.Decides.{nat_tests}
+use Rattle.std.proofs.lemmas.Option.{slice_get_within}
 use Rattle.ac_base.specs.declared.entry.Entry.{Entry}
 use Rattle.ac_base.specs.declared.entry.Event.{Event}
 use Rattle.work_item.specs.declared.ids.Item.{Item}
 use Rattle.work_item.specs.declared.cell.Cell.{Cell}
 use Rattle.work_item.specs.declared.cell.Cell.TheVariants as cell
 use Rattle.core_state.specs.Moves.{Move, On, GoesOn}
-use Rattle.core_state.specs.Shared.{Shared, with_entry}
+use Rattle.core_state.specs.Shared.{Shared, request_link, with_entry}
 use Rattle.core_state.proofs.Runs.{GoesOn-none, GoesOn-more}
 use Rattle.stack_code.specs.declared.instr.Instr.{Instr}
+use Rattle.stack_code.specs.declared.instr.Instr.TheVariants as i
+use Rattle.stack_code.specs.declared.shape.Shape.{Shape}
 use Rattle.stack_code.specs.declared.parts.Entered.{Entered}
 use Rattle.stack_code.specs.Parts.{Parts, Begins}
-use Rattle.stack_code.specs.Shapes.{effect}
+use Rattle.stack_code.specs.Shapes.{channels_of, effect}
 use Rattle.stack_code.specs.Valid.{Fits, IsValid}
 use Rattle.stack_code.specs.Kept.{IsRanked}
-use Rattle.code_meaning.specs.Meant.{has_meaning, IsMeant}
 use Rattle.code_safety.specs.Left.{left, left_to_come}
 use Rattle.code_safety.specs.Fit.{IsFit}
 use Rattle.code_safety.specs.Chains.{AreChained}
@@ -29,20 +32,21 @@ use Rattle.code_safety.proofs.Plain.{Onward}
 use Rattle.code_safety.proofs.Own.{thread_of}
 use Rattle.code_safety.proofs.Moving.{moves_on}
 use Rattle.code_safety.proofs.NoDangling.{chained_on, names_living}
+use Rattle.code_safety.proofs.Taken.{if_is}
 use Rattle.core_machine.specs.declared.ending.Ending.{Ending}
 use Rattle.core_machine.specs.declared.running.Running.{Running}
 use Rattle.core_machine.specs.declared.went.Follows.{Follows}
 use Rattle.core_machine.specs.declared.went.Follows.TheVariants.{Same, Away, Asks, Refused}
 use Rattle.core_machine.specs.inner.Needs.{Finds}
 use Rattle.core_machine.specs.Machine.{Machine, IsOnItsWay}
-use Rattle.core_machine.specs.State.{shared_of, flat_of, end_or, state_of, machine_of, IsSound}
+use Rattle.core_machine.specs.State.{shared_of, flat_of, end_or, own_link, state_of, machine_of, IsSound}
 use Rattle.core_machine.specs.Tracks.{Tracks}
 use Rattle.core_machine.specs.Tried.{cancelled_by, cancelled_at, tried_within, tried_of}
 use Rattle.core_machine.specs.inner.Left.{left_from, left_of}
 use Rattle.core_machine.specs.inner.Changes.{IsSameCode, Keeps, Does, Stays, Enters, entry_now, item_of}
 use Rattle.core_machine.proofs.Found.{finds}
 use Rattle.core_machine.proofs.Standing.{tracks_entered}
-use Rattle.core_machine.proofs.Started.{Starts, exec_starts, tracks_started}
+use Rattle.core_machine.proofs.Started.{IsAtItsLink, StartsTo, exec_starts, tracks_started}
 
 -- ---- where the code can stand
 
@@ -56,17 +60,36 @@ module _ (code : Parts) (bound : ℕ) (m : Flat) (fit : IsFit code m) (v : IsVal
   pub inside : m.current.place < 2 ^ 32
   inside = omega (arith, within, v.lists.few)
 
-  meant_there : (instr : Instr) → IsMeant code → slice_get code.instrs m.current.place ≡ Some instr → has_meaning instr ≡ true
-  meant_there instr q here =
-      let is : slice_index_or code.instrs m.current.place instr ≡ instr = get_or_from_slice_get code.instrs m.current.place instr instr here in
-      subst (λ x. has_meaning x ≡ true) is (q m.current.place instr within)
-
-  pub finds_there : AreChained code m → (instr : Instr) → IsMeant code → slice_get code.instrs m.current.place ≡ Some instr → Finds code m instr
-  finds_there chained instr q here =
+  effect_there : (instr : Instr) → slice_get code.instrs m.current.place ≡ Some instr → effect code m.current.place instr (thread_of code m fit t run).shape ≡ Some fits_there.leads
+  effect_there instr here =
       let h = thread_of code m fit t run in
       let same : fits_there.instr ≡ instr = let both : Some fits_there.instr ≡ Some instr = sym fits_there.here ∙ here in cc in
-      let found : effect code m.current.place instr h.shape ≡ Some fits_there.leads = subst (λ x. effect code m.current.place x h.shape ≡ Some fits_there.leads) same fits_there.finds in
-      finds code bound m fit t run v (names_living code m fit chained) instr fits_there.leads here found (meant_there instr q here)
+      subst (λ x. effect code m.current.place x h.shape ≡ Some fits_there.leads) same fits_there.finds
+
+  pub finds_there : AreChained code m → (instr : Instr) → slice_get code.instrs m.current.place ≡ Some instr → Finds code m instr
+  finds_there chained instr here = finds code bound m fit t run v (names_living code m fit chained) instr fits_there.leads here (effect_there instr here)
+
+  -- it sends and receives on channels alone, which come before the link of requests
+  at_its_link : (core : ℕ) → m.shared.requests ≡ request_link (length code.ends) core → (instr : Instr) → slice_get code.instrs m.current.place ≡ Some instr
+      → IsAtItsLink m.shared.requests instr
+  at_its_link core own instr here = by instr (effect_there instr here)
+    where
+      s : Shape
+      s = (thread_of code m fit t run).shape
+
+      no_channel : (channel : ℕ) → nat_lt channel (channels_of code) ≡ true → nat_eq channel m.shared.requests ≡ false
+      no_channel channel low =
+          let lt : channel < length code.capacities - length code.entries = ltb-true channel (channels_of code) low in
+          let all = v.lists.links.each in
+          let differ : channel ≡ m.shared.requests → ⊥ = λ e. absurd (omega (arith, lt, all, own, e)) in
+          grind (arith, nat_tests, differ)
+
+      by : (x : Instr) → effect code m.current.place x s ≡ Some fits_there.leads → IsAtItsLink m.shared.requests x
+      by (i.Send channel) e = no_channel channel (if_is (nat_lt channel (channels_of code)) _ fits_there.leads e).0
+      by (i.Recv channel) e = no_channel channel (if_is (nat_lt channel (channels_of code)) _ fits_there.leads e).0
+      by (i.Read file) e = (if_is (nat_lt file 16) _ fits_there.leads e).0
+      by (i.Write file) e = (if_is (nat_lt file 16) _ fits_there.leads e).0
+      by x e = tt
 
 -- ---- a turn of a core
 
@@ -77,6 +100,10 @@ running m o e = ap (end_or m) e
 pub on_its_way : (n : Machine) (code : Parts) (core bound : ℕ) (journal : List Entry) (state : Move Flat FlatEnd) (function : Entered) → n.code ≡ code → n.core ≡ core → n.bound ≡ bound
     → n.journal ≡ journal → n.state ≡ state → Begins code core function → GoesOn (exec code bound) (first_flat code core function journal) state → IsOnItsWay n
 on_its_way n code core bound journal state function c k d j s b g = record { function = function; begins = rw (c, k) b; goes = rw (c, k, d, j, s) g }
+
+-- the link of a core's requests stays
+pub own_stays : (before after : Running) → IsSameCode before after → own_link after ≡ own_link before
+own_stays before after same = ap (λ (code : Parts). request_link (length code.ends) after.core) same.code ∙ ap (request_link (length before.code.now.ends)) same.core
 
 -- where nothing has changed that the code's meaning sees
 pub stays_sound : (before after : Running) → IsSound before → Stays before after → IsSameCode before after → IsSound after
@@ -89,9 +116,11 @@ stays_sound before after sound stays same =
     record {
       fit = λ e. subst (λ code. IsFit code (flat_of after)) (sym same.code) (subst (IsFit before.code.now) (sym stays.flat) (sound.fit (was e)));
       chained = λ e. subst (λ code. AreChained code (flat_of after)) (sym same.code) (subst (AreChained before.code.now) (sym stays.flat) (sound.chained (was e)));
-      tracks = λ e. subst (λ past. Tracks past after.outstanding.operations) (sym journal) (subst (Tracks before.journal.entries) (sym operations) (sound.tracks (was e)));
+      requests = λ e. ap (λ (f : Flat). f.shared.requests) stays.flat ∙ sound.requests (was e) ∙ sym (own_stays before after same);
+      tracks = λ e. subst (λ link. Tracks link after.journal.entries after.outstanding.operations) (sym (own_stays before after same))
+          (subst (λ past. Tracks (own_link before) past after.outstanding.operations) (sym journal)
+          (subst (Tracks (own_link before) before.journal.entries) (sym operations) (sound.tracks (was e))));
       valid = subst IsValid (sym same.code) sound.valid;
-      meant = subst IsMeant (sym same.code) sound.meant;
       ran = on_its_way (machine_of after) before.code.now before.core before.bound before.journal.entries (state_of before) r.function
           same.code same.core same.bound journal state r.begins r.goes;
     }
@@ -115,28 +144,38 @@ module _ (before after : Running) (still : before.ended ≡ None) (sound : IsSou
   better ranks r e =
       let b = before.bound in
       let on = subst (Onward (λ n. IsFit before.code.now n × (left_to_come ranks b n < left_to_come ranks b (flat_of before)))) (leads_on e)
-      (moves_on before.code.now b sound.valid sound.meant ranks r (flat_of before) fit) in
+      (moves_on before.code.now b sound.valid ranks r (flat_of before) fit) in
       let less = on.1 in
       (on.0, omega (arith, less))
 
   still_chained : after.ended ≡ None → AreChained before.code.now (flat_of after)
   still_chained e = subst (Onward (AreChained before.code.now)) (leads_on e)
-      (chained_on before.code.now before.bound (flat_of before) sound.valid sound.meant fit (sound.chained still))
+      (chained_on before.code.now before.bound (flat_of before) sound.valid fit (sound.chained still))
 
-  still_tracks : after.ended ≡ None → Tracks after.journal.entries after.outstanding.operations
+  starts : after.ended ≡ None → StartsTo (flat_of before) (flat_of after)
+  starts e = subst (Onward (StartsTo (flat_of before))) (leads_on e) (exec_starts (flat_of before) before.code.now before.bound refl
+      (λ t instr run here. at_its_link before.code.now before.bound (flat_of before) fit sound.valid t run before.core (sound.requests still) instr here))
+
+  own_kept : own_link after ≡ own_link before
+  own_kept = own_stays before after (code_of before after keeps)
+
+  still_requests : after.ended ≡ None → after.requests ≡ own_link after
+  still_requests e = (starts e).1 ∙ sound.requests still ∙ sym own_kept
+
+  still_tracks : after.ended ≡ None → Tracks (own_link after) after.journal.entries after.outstanding.operations
   still_tracks e =
-      let starts = subst (Onward (λ (n : Flat). Starts before.outstanding.operations n.operations)) (leads_on e)
-      (exec_starts (flat_of before) before.code.now before.bound refl sound.meant) in
-      subst (λ past. Tracks past after.outstanding.operations) (sym keeps.journal)
-      (tracks_started before.journal.entries before.outstanding.operations after.outstanding.operations (sound.tracks still) starts)
+      let at = subst (λ link. Tracks link before.journal.entries before.outstanding.operations) (sym (sound.requests still)) (sound.tracks still) in
+      let on = tracks_started before.requests before.journal.entries before.outstanding.operations after.outstanding.operations at (starts e).0 in
+      subst (λ link. Tracks link after.journal.entries after.outstanding.operations) (sound.requests still ∙ sym own_kept)
+      (subst (λ past. Tracks before.requests past after.outstanding.operations) (sym keeps.journal) on)
 
   pub still_sound : (ranks : List ℕ) → IsRanked before.code.now ranks → IsSound after
   still_sound ranks r = record {
     fit = λ e. subst (λ code. IsFit code (flat_of after)) (sym keeps.code) (better ranks r e).0;
     chained = λ e. subst (λ code. AreChained code (flat_of after)) (sym keeps.code) (still_chained e);
+    requests = still_requests;
     tracks = still_tracks;
     valid = subst IsValid (sym keeps.code) sound.valid;
-    meant = subst IsMeant (sym keeps.code) sound.meant;
     ran = on_its_way (machine_of after) before.code.now before.core before.bound before.journal.entries (exec before.code.now before.bound (flat_of before)) sound.ran.function
         keeps.code keeps.core keeps.bound keeps.journal (sym moved) sound.ran.begins
         (GoesOn-more (exec before.code.now before.bound) (first_flat before.code.now before.core sound.ran.function before.journal.entries) (flat_of before)
@@ -214,10 +253,19 @@ module _ (before after : Running) (event : Event) (stamp : ℕ) (still : before.
   entered_chained : AreChained code (flat_of after)
   entered_chained = subst (AreChained code) (sym h.flat) (comes_chained code (flat_of before) (sound.fit still) (sound.chained still) shared h.arrival came)
 
-  entered_tracks : Tracks after.journal.entries after.outstanding.operations
+  entered_requests : after.requests ≡ before.requests
+  entered_requests = ap (λ (f : Flat). f.shared.requests) h.flat ∙ ap (λ (s : Shared). s.requests)
+      (resumed_shared (record (flat_of before) { shared = shared; store = h.arrival.store; operations = h.arrival.operations }) (cell.Int h.arrival.value) h.arrival.woken)
+
+  entered_own : own_link after ≡ own_link before
+  entered_own = own_stays before after h.same
+
+  entered_tracks : Tracks (own_link after) after.journal.entries after.outstanding.operations
   entered_tracks =
-      let tracks = tracks_entered before.journal.entries before.outstanding.operations (sound.tracks still) entry before.frames h.arrival event refl h.fits in
-      subst (λ past. Tracks past after.outstanding.operations) (sym entered_journal) (subst (Tracks (before.journal.entries ++ entry ∷ [])) (sym entered_operations) tracks)
+      let tracks = tracks_entered (own_link before) before.journal.entries before.outstanding.operations (sound.tracks still) entry before.frames h.arrival event refl h.fits in
+      subst (λ link. Tracks link after.journal.entries after.outstanding.operations) (sym entered_own)
+      (subst (λ past. Tracks (own_link before) past after.outstanding.operations) (sym entered_journal)
+      (subst (Tracks (own_link before) (before.journal.entries ++ entry ∷ [])) (sym entered_operations) tracks))
 
   pub entered_sound : IsSound after
   entered_sound =
@@ -227,9 +275,9 @@ module _ (before after : Running) (event : Event) (stamp : ℕ) (still : before.
       record {
         fit = λ e. subst (λ c. IsFit c (flat_of after)) (sym h.same.code) entered_fit;
         chained = λ e. subst (λ c. AreChained c (flat_of after)) (sym h.same.code) entered_chained;
+        requests = λ e. entered_requests ∙ sound.requests still ∙ sym entered_own;
         tracks = λ e. entered_tracks;
         valid = subst IsValid (sym h.same.code) sound.valid;
-        meant = subst IsMeant (sym h.same.code) sound.meant;
         ran = on_its_way (machine_of after) code before.core before.bound (before.journal.entries ++ entry ∷ []) (On (arrived (flat_of before) shared h.arrival)) r.function
             h.same.code h.same.core h.same.bound entered_journal (running (flat_of after) after.ended entered_on ∙ ap (λ f. On f) h.flat) r.begins comes;
       }

@@ -1,4 +1,4 @@
--- Which operations stand under which offers: what entries make of that.
+-- Which operations stand under which offers, and which have begun: what entries make of that.
 use Rattle.std.proofs.Common.{◌≡◌, ℕ, ◌+◌, List, [], ◌∷◌, ◌++◌, Option, Some, None, Bool, true, false, refl, sym, ap, ◌∙◌, subst, arith}
 use Rattle.std.specs.Prelude.{ℤ, All, find, nat_eq, not, ◌&&◌, if◌then◌else◌}
 use Rattle.std.proofs.lemmas.Bool.{and_parts, eq-eqb, eqb-true}
@@ -18,30 +18,38 @@ use Rattle.core_state.specs.Arrivals.{Arrival, goes_on_waiting, has_ended, has_e
 use Rattle.core_state.specs.Arrivals.{with_message}
 use Rattle.core_state.specs.Cancelling.{Outcome, NeverHappens, IsTaken, by_outcome, outcome}
 use Rattle.core_state.specs.Requests.{value_of, with_answer}
-use Rattle.code_safety.specs.Fit.{one_if}
+use Rattle.code_safety.specs.Fit.{one_if, total}
 use Rattle.code_safety.proofs.Lives.{total_append}
 use Rattle.code_safety.proofs.Waiting.{IsFound, all_between, all_others, found_at, one_of_all, total_between}
-use Rattle.core_machine.specs.Tracks.{is_offer_of, is_end_of, standing_of, offers_of, ends_of, Tracks}
+use Rattle.core_machine.specs.Tracks.{is_offer_of, is_end_of, is_know_of, is_reply_of, standing_of, offers_of, ends_of, begun_of, knows_of, replies_of, IsPlaced, Tracks}
 
 pub and_false : (b : Bool) → one_if (b && false) ≡ 0
 and_false true = refl
 and_false false = refl
 
--- ---- an entry
+none_on : (a b : Bool) → a ≡ false → one_if (a && b) ≡ 0
+none_on a b e = ap (λ z. one_if (z && b)) e
 
-abbrev pub IsNoRequest : Operation → Type 0
-IsNoRequest o = is_request o.asked ≡ false
+-- ---- under which number an operation stands, or has begun
 
 abbrev pub Receives : Operation → Type 0
 Receives o = is_outgoing o.asked ≡ false → is_waiting o.progress ≡ true
 
--- one that is not offered stands under no number
 waits_under : (n : ℕ) (p : Progress) → is_waiting p ≡ true → is_under n p ≡ false
 waits_under n progress.Waiting h = refl
 waits_under n (progress.Offered k) h = let no : false ≡ true = h in absurd (cc)
 waits_under n (progress.Started k) h = refl
 
--- nor does one that has begun
+waits_begun : (n : ℕ) (p : Progress) → is_waiting p ≡ true → has_begun_under n p ≡ false
+waits_begun n progress.Waiting h = refl
+waits_begun n (progress.Offered k) h = refl
+waits_begun n (progress.Started k) h = let no : false ≡ true = h in absurd (cc)
+
+under_begun : (k n : ℕ) (p : Progress) → is_under k p ≡ true → has_begun_under n p ≡ false
+under_begun k n progress.Waiting h = refl
+under_begun k n (progress.Offered j) h = refl
+under_begun k n (progress.Started j) h = let no : false ≡ true = h in absurd (cc)
+
 begun_under : (n : ℕ) (p : Progress) → is_under n (past_offer p) ≡ false
 begun_under n progress.Waiting = refl
 begun_under n (progress.Offered k) = refl
@@ -57,73 +65,153 @@ still_waits progress.Waiting h = refl
 still_waits (progress.Offered k) h = let no : false ≡ true = h in absurd (cc)
 still_waits (progress.Started k) h = let no : false ≡ true = h in absurd (cc)
 
+-- one that is not offered stands under no number, and has not begun
 pub not_under : (l n : ℕ) (o : Operation) → is_waiting o.progress ≡ true → one_if (is_offered l n o) ≡ 0
 not_under l n o h = ap (λ b. one_if (nat_eq o.link l && b)) (waits_under n o.progress h) ∙ and_false (nat_eq o.link l)
+
+pub not_begun : (l n : ℕ) (o : Operation) → is_waiting o.progress ≡ true → one_if (is_begun l n o) ≡ 0
+not_begun l n o h = ap (λ b. one_if (nat_eq o.link l && b)) (waits_begun n o.progress h) ∙ and_false (nat_eq o.link l)
 
 under_is : (k n : ℕ) (p : Progress) → is_under k p ≡ true → is_under n p ≡ nat_eq k n
 under_is k n progress.Waiting h = let no : false ≡ true = h in absurd (cc)
 under_is k n (progress.Offered j) h = ap (λ z. nat_eq z n) (eqb-true j k h)
 under_is k n (progress.Started j) h = let no : false ≡ true = h in absurd (cc)
 
--- one that stands under that number stands under this one where the two are the same
-stands_where : (link k l n : ℕ) (o : Operation) → is_offered link k o ≡ true → is_offered l n o ≡ (nat_eq link l && nat_eq k n)
-stands_where link k l n o h =
-    let both = and_parts (nat_eq o.link link) (is_under k o.progress) h in
-    ap (λ z. nat_eq z l && is_under n o.progress) (eqb-true o.link link both.0) ∙ ap (λ b. nat_eq link l && b) (under_is k n o.progress both.1)
+under_begins : (k n : ℕ) (p : Progress) → is_under k p ≡ true → has_begun_under n (past_offer p) ≡ nat_eq k n
+under_begins k n progress.Waiting h = let no : false ≡ true = h in absurd (cc)
+under_begins k n (progress.Offered j) h = ap (λ z. nat_eq z n) (eqb-true j k h)
+under_begins k n (progress.Started j) h = let no : false ≡ true = h in absurd (cc)
 
-module _ (past : List Entry) (os : List Operation) (h : Tracks past os) (e : Entry) where
+begun_is : (k n : ℕ) (p : Progress) → has_begun_under k p ≡ true → has_begun_under n p ≡ nat_eq k n
+begun_is k n progress.Waiting h = let no : false ≡ true = h in absurd (cc)
+begun_is k n (progress.Offered j) h = let no : false ≡ true = h in absurd (cc)
+begun_is k n (progress.Started j) h = ap (λ z. nat_eq z n) (eqb-true j k h)
+
+-- where it stands, and where it has begun
+module _ (link k l n : ℕ) (o : Operation) where
+  at_both : (b : Bool) → (nat_eq o.link link && b) ≡ true → (o.link ≡ link) × (b ≡ true)
+  at_both b h = let both = and_parts (nat_eq o.link link) b h in (eqb-true o.link link both.0, both.1)
+
+  moved_to : (b : Bool) → o.link ≡ link → b ≡ nat_eq k n → one_if (nat_eq o.link l && b) ≡ one_if (nat_eq link l && nat_eq k n)
+  moved_to b at e = ap (λ z. one_if (nat_eq z l && b)) at ∙ ap (λ z. one_if (nat_eq link l && z)) e
+
+  module _ (h : is_offered link k o ≡ true) where
+    stands_where : one_if (is_offered l n o) ≡ one_if (nat_eq link l && nat_eq k n)
+    stands_where = let at = at_both (is_under k o.progress) h in moved_to (is_under n o.progress) at.0 (under_is k n o.progress at.1)
+
+    begins_where : one_if (is_begun l n (as_begun o)) ≡ one_if (nat_eq link l && nat_eq k n)
+    begins_where = let at = at_both (is_under k o.progress) h in moved_to (has_begun_under n (past_offer o.progress)) at.0 (under_begins k n o.progress at.1)
+
+    offered_not_begun : one_if (is_begun l n o) ≡ 0
+    offered_not_begun =
+        let at = at_both (is_under k o.progress) h in
+        ap (λ b. one_if (nat_eq o.link l && b)) (under_begun k n o.progress at.1) ∙ and_false (nat_eq o.link l)
+
+    begun_not_offered : one_if (is_offered l n (as_begun o)) ≡ 0
+    begun_not_offered = ap (λ b. one_if (nat_eq o.link l && b)) (begun_under n o.progress) ∙ and_false (nat_eq o.link l)
+
+  module _ (h : is_begun link k o ≡ true) where
+    begun_where : one_if (is_begun l n o) ≡ one_if (nat_eq link l && nat_eq k n)
+    begun_where = let at = at_both (has_begun_under k o.progress) h in moved_to (has_begun_under n o.progress) at.0 (begun_is k n o.progress at.1)
+
+    begun_no_offer : one_if (is_offered l n o) ≡ 0
+    begun_no_offer =
+        let at = at_both (has_begun_under k o.progress) h in
+        ap (λ b. one_if (nat_eq o.link l && b)) (begun_is_under k n o.progress at.1) ∙ and_false (nat_eq o.link l)
+
+-- ---- an entry
+
+module _ (requests : ℕ) (past : List Entry) (os : List Operation) (h : Tracks requests past os) (e : Entry) where
   abbrev longer : List Entry
   longer = past ++ e ∷ []
 
-  offers_more : (l n : ℕ) → offers_of l n longer ≡ offers_of l n past + (one_if (is_offer_of l n e.event) + 0)
-  offers_more l n = total_append (λ (x : Entry). one_if (is_offer_of l n x.event)) past (e ∷ [])
+  abbrev Tracked : List Operation → Type 0
+  Tracked new = Tracks requests longer new
 
-  ends_more : (l n : ℕ) → ends_of l n longer ≡ ends_of l n past + (one_if (is_end_of l n e.event) + 0)
-  ends_more l n = total_append (λ (x : Entry). one_if (is_end_of l n x.event)) past (e ∷ [])
+  more : (f : Entry → ℕ) → total f longer ≡ total f past + (f e + 0)
+  more f = total_append f past (e ∷ [])
+
+  -- the counts after it
+  module _ (new : List Operation) where
+    count_offers : (l n stood stands : ℕ) → standing_of l n os + stands ≡ standing_of l n new + stood → stands + one_if (is_end_of l n e.event) ≡ stood + one_if (is_offer_of l n e.event)
+        → standing_of l n new + ends_of l n longer ≡ offers_of l n longer
+    count_offers l n stood stands both step =
+        let was = h.each l n in
+        let a = more (λ (x : Entry). one_if (is_offer_of l n x.event)) in
+        let b = more (λ (x : Entry). one_if (is_end_of l n x.event)) in
+        omega (arith, was, a, b, both, step)
+
+    count_begun : (n had has : ℕ) → begun_of requests n os + has ≡ begun_of requests n new + had
+        → has + one_if (is_reply_of requests n e.event) ≡ had + one_if (is_know_of requests n e.event)
+        → begun_of requests n new + replies_of requests n longer ≡ knows_of requests n longer
+    count_begun n had has both step =
+        let was = h.begun n in
+        let a = more (λ (x : Entry). one_if (is_know_of requests n x.event)) in
+        let b = more (λ (x : Entry). one_if (is_reply_of requests n x.event)) in
+        omega (arith, was, a, b, both, step)
 
   module _ (test : Operation → Bool) (o : Operation) (f : IsFound test os o) where
-    abbrev others : List Operation
-    others = f.front ++ f.back
+    parted : (count : Operation → ℕ) → total count os ≡ count o + total count (f.front ++ f.back)
+    parted count = ap (total count) f.is ∙ total_between count f.front f.back o
 
-    stood : (l n : ℕ) → standing_of l n os ≡ one_if (is_offered l n o) + standing_of l n others
-    stood l n = ap (standing_of l n) f.is ∙ total_between (λ (p : Operation). one_if (is_offered l n p)) f.front f.back o
+    all_before : (P : Operation → Type 0) → All P os → All P (f.front ++ o ∷ f.back)
+    all_before P all = subst (All P) f.is all
 
-    all_before : All Receives (f.front ++ o ∷ f.back)
-    all_before = subst (All Receives) f.is h.receives
+    its : (P : Operation → Type 0) → All P os → P o
+    its P all = one_of_all P f.back o f.front (all_before P all)
 
-    its_receives : Receives o
-    its_receives = one_of_all Receives f.back o f.front all_before
+    left : (P : Operation → Type 0) → All P os → All P (f.front ++ f.back)
+    left P all = all_others P f.back o f.front (all_before P all)
 
-    left_receive : All Receives others
-    left_receive = all_others Receives f.back o f.front all_before
+    -- it is taken away
+    gone : ((l n : ℕ) → one_if (is_end_of l n e.event) ≡ one_if (is_offered l n o) + one_if (is_offer_of l n e.event))
+        → ((n : ℕ) → one_if (is_reply_of requests n e.event) ≡ one_if (is_begun requests n o) + one_if (is_know_of requests n e.event)) → Tracked (without_first test os)
+    gone offer begin = subst Tracked (sym f.without) (record {
+      each = λ l n.
+          let p = parted (λ (x : Operation). one_if (is_offered l n x)) in
+          count_offers (f.front ++ f.back) l n (one_if (is_offered l n o)) 0 (omega (arith, p)) (let s = offer l n in omega (arith, s));
+      begun = λ n.
+          let p = parted (λ (x : Operation). one_if (is_begun requests n x)) in
+          count_begun (f.front ++ f.back) n (one_if (is_begun requests n o)) 0 (omega (arith, p)) (let s = begin n in omega (arith, s));
+      receives = left Receives h.receives;
+      placed = left (IsPlaced requests) h.placed;
+    })
 
-    none_before : All IsNoRequest (f.front ++ o ∷ f.back)
-    none_before = subst (All IsNoRequest) f.is h.files
-
-    its_own : IsNoRequest o
-    its_own = one_of_all IsNoRequest f.back o f.front none_before
-
-    left_none : All IsNoRequest others
-    left_none = all_others IsNoRequest f.back o f.front none_before
+    -- it is changed, and stays on its link
+    changed : (change : Operation → Operation)
+        → ((l n : ℕ) → one_if (is_offered l n (change o)) + one_if (is_end_of l n e.event) ≡ one_if (is_offered l n o) + one_if (is_offer_of l n e.event))
+        → ((n : ℕ) → one_if (is_begun requests n (change o)) + one_if (is_reply_of requests n e.event) ≡ one_if (is_begun requests n o) + one_if (is_know_of requests n e.event))
+        → Receives (change o) → IsPlaced requests (change o) → Tracked (change_first test change os)
+    changed change offer begin receives placed = subst Tracked (sym (f.changed change)) (record {
+      each = λ l n.
+          let p = parted (λ (x : Operation). one_if (is_offered l n x)) in
+          let q = total_between (λ (x : Operation). one_if (is_offered l n x)) f.front f.back (change o) in
+          count_offers (f.front ++ change o ∷ f.back) l n (one_if (is_offered l n o)) (one_if (is_offered l n (change o))) (omega (arith, p, q)) (offer l n);
+      begun = λ n.
+          let p = parted (λ (x : Operation). one_if (is_begun requests n x)) in
+          let q = total_between (λ (x : Operation). one_if (is_begun requests n x)) f.front f.back (change o) in
+          count_begun (f.front ++ change o ∷ f.back) n (one_if (is_begun requests n o)) (one_if (is_begun requests n (change o))) (omega (arith, p, q)) (begin n);
+      receives = all_between Receives f.back (change o) f.front (left Receives h.receives) receives;
+      placed = all_between (IsPlaced requests) f.back (change o) f.front (left (IsPlaced requests) h.placed) placed;
+    })
 
   tracks_offered : (link k : ℕ) (payload : Payload) (o : Operation) → e.event ≡ event.Offer link k payload → IsFound (is_to_offer link) os o
-      → Tracks longer (change_first (is_to_offer link) (offered_as k) os)
-  tracks_offered link k payload o is f = subst (Tracks longer) (sym (f.changed (offered_as k))) (record {
-    each = λ l n.
-        let was = h.each l n in
-        let s = stood (is_to_offer link) o f l n in
-        let none = not_under l n o waits in
-        let now : standing_of l n (f.front ++ offered_as k o ∷ f.back) ≡ one_if (nat_eq o.link l && nat_eq k n) + standing_of l n (f.front ++ f.back) =
-        total_between (λ (p : Operation). one_if (is_offered l n p)) f.front f.back (offered_as k o) in
-        let same : one_if (nat_eq o.link l && nat_eq k n) ≡ one_if (nat_eq link l && nat_eq k n) = ap (λ z. one_if (nat_eq z l && nat_eq k n)) (eqb-true o.link link parts.0) in
-        let a = offers_more l n in
-        let b = ends_more l n in
-        let p : one_if (is_offer_of l n e.event) ≡ one_if (nat_eq link l && nat_eq k n) = ap (λ v. one_if (is_offer_of l n v)) is in
-        let q : one_if (is_end_of l n e.event) ≡ 0 = ap (λ v. one_if (is_end_of l n v)) is in
-        omega (arith, was, s, none, now, same, a, b, p, q);
-    receives = all_between Receives f.back (offered_as k o) f.front (left_receive (is_to_offer link) o f) (λ no. let both : true ≡ false = sym sends ∙ no in absurd (cc));
-    files = all_between IsNoRequest f.back (offered_as k o) f.front (left_none (is_to_offer link) o f) (its_own (is_to_offer link) o f);
-  })
+      → Tracked (change_first (is_to_offer link) (offered_as k) os)
+  tracks_offered link k payload o is f = changed (is_to_offer link) o f (offered_as k)
+      (λ l n.
+      let none = not_under l n o waits in
+      let same : one_if (nat_eq o.link l && nat_eq k n) ≡ one_if (nat_eq link l && nat_eq k n) = ap (λ z. one_if (nat_eq z l && nat_eq k n)) (eqb-true o.link link parts.0) in
+      let p : one_if (is_offer_of l n e.event) ≡ one_if (nat_eq link l && nat_eq k n) = ap (λ v. one_if (is_offer_of l n v)) is in
+      let q : one_if (is_end_of l n e.event) ≡ 0 = ap (λ v. one_if (is_end_of l n v)) is in
+      omega (arith, none, same, p, q))
+      (λ n.
+      let none = not_begun requests n o waits in
+      let still = and_false (nat_eq o.link requests) in
+      let p : one_if (is_know_of requests n e.event) ≡ 0 = ap (λ v. one_if (is_know_of requests n v)) is in
+      let q : one_if (is_reply_of requests n e.event) ≡ 0 = ap (λ v. one_if (is_reply_of requests n v)) is in
+      omega (arith, none, still, p, q))
+      (λ no. let both : true ≡ false = sym sends ∙ no in absurd (cc))
+      (record { link = place.link; limits = place.limits })
     where
       parts : (nat_eq o.link link ≡ true) × ((is_outgoing o.asked && is_waiting o.progress) ≡ true)
       parts = and_parts (nat_eq o.link link) (is_outgoing o.asked && is_waiting o.progress) f.passes
@@ -134,159 +222,173 @@ module _ (past : List Entry) (os : List Operation) (h : Tracks past os) (e : Ent
       waits : is_waiting o.progress ≡ true
       waits = (and_parts (is_outgoing o.asked) (is_waiting o.progress) parts.1).1
 
-  -- its offer has ended, by an event that ends it
-  tracks_ended : (test : Operation → Bool) (link k : ℕ) (o : Operation) → ((l n : ℕ) → is_offer_of l n e.event ≡ false)
-      → ((l n : ℕ) → is_end_of l n e.event ≡ (nat_eq link l && nat_eq k n)) → is_offered link k o ≡ true → IsFound test os o → Tracks longer (without_first test os)
-  tracks_ended test link k o none one stands f = subst (Tracks longer) (sym f.without) (record {
-    each = λ l n.
-        let was = h.each l n in
-        let s = stood test o f l n in
-        let its : one_if (is_offered l n o) ≡ one_if (nat_eq link l && nat_eq k n) = ap one_if (stands_where link k l n o stands) in
-        let a = offers_more l n in
-        let b = ends_more l n in
-        let p : one_if (is_offer_of l n e.event) ≡ 0 = ap one_if (none l n) in
-        let q : one_if (is_end_of l n e.event) ≡ one_if (nat_eq link l && nat_eq k n) = ap one_if (one l n) in
-        omega (arith, was, s, its, a, b, p, q);
-    receives = left_receive test o f;
-    files = left_none test o f;
-  })
+      place : IsPlaced requests o
+      place = its (is_to_offer link) o f (IsPlaced requests) h.placed
 
-  tracks_known : (test : Operation → Bool) (link k : ℕ) (o : Operation) → e.event ≡ event.Know link k → is_offered link k o ≡ true → IsFound test os o → Tracks longer (without_first test os)
-  tracks_known test link k o is stands f = tracks_ended test link k o (λ l n. ap (λ v. is_offer_of l n v) is) (λ l n. ap (λ v. is_end_of l n v) is) stands f
+  -- what stood on a link
+  module _ (test : Operation → Bool) (link k : ℕ) (o : Operation) (stands : is_offered link k o ≡ true) (f : IsFound test os o) where
+    place : IsPlaced requests o
+    place = its test o f (IsPlaced requests) h.placed
 
-  tracks_withdrawn : (test : Operation → Bool) (link k : ℕ) (o : Operation) → e.event ≡ event.Withdraw link k → is_offered link k o ≡ true → IsFound test os o
-      → Tracks longer (without_first test os)
-  tracks_withdrawn test link k o is stands f = tracks_ended test link k o (λ l n. ap (λ v. is_offer_of l n v) is) (λ l n. ap (λ v. is_end_of l n v) is) stands f
+    own : nat_eq link requests ≡ is_request o.asked
+    own =
+        let at = (and_parts (nat_eq o.link link) (is_under k o.progress) stands).0 in
+        ap (λ z. nat_eq z requests) (sym (eqb-true o.link link at)) ∙ sym place.link
 
-  -- its offer has ended, by an event that ends it: it has begun
-  tracks_begun : (test : Operation → Bool) (link k : ℕ) (o : Operation) → e.event ≡ event.Know link k → is_offered link k o ≡ true → IsFound test os o
-      → Tracks longer (change_first test as_begun os)
-  tracks_begun test link k o is stands f = subst (Tracks longer) (sym (f.changed as_begun)) (record {
-    each = λ l n.
-        let was = h.each l n in
-        let s = stood test o f l n in
-        let its : one_if (is_offered l n o) ≡ one_if (nat_eq link l && nat_eq k n) = ap one_if (stands_where link k l n o stands) in
-        let now : standing_of l n (f.front ++ as_begun o ∷ f.back) ≡ one_if (is_offered l n (as_begun o)) + standing_of l n (f.front ++ f.back) =
-        total_between (λ (p : Operation). one_if (is_offered l n p)) f.front f.back (as_begun o) in
-        let gone : one_if (is_offered l n (as_begun o)) ≡ 0 = ap (λ b. one_if (nat_eq o.link l && b)) (begun_under n o.progress) ∙ and_false (nat_eq o.link l) in
-        let a = offers_more l n in
-        let b = ends_more l n in
+    -- a request that was taken was none
+    tracks_known : e.event ≡ event.Know link k → is_request o.asked ≡ false → Tracked (without_first test os)
+    tracks_known is other = gone test o f
+        (λ l n.
+        let s = stands_where link k l n o stands in
         let p : one_if (is_offer_of l n e.event) ≡ 0 = ap (λ v. one_if (is_offer_of l n v)) is in
         let q : one_if (is_end_of l n e.event) ≡ one_if (nat_eq link l && nat_eq k n) = ap (λ v. one_if (is_end_of l n v)) is in
-        omega (arith, was, s, its, now, gone, a, b, p, q);
-    receives = all_between Receives f.back (as_begun o) f.front (left_receive test o f) (λ no. still_waits o.progress (its_receives test o f no));
-    files = all_between IsNoRequest f.back (as_begun o) f.front (left_none test o f) (its_own test o f);
-  })
+        omega (arith, s, p, q))
+        (λ n.
+        let s = offered_not_begun link k requests n o stands in
+        let p : one_if (is_know_of requests n e.event) ≡ 0 = ap (λ v. one_if (is_know_of requests n v)) is ∙ none_on (nat_eq link requests) (nat_eq k n) (own ∙ other) in
+        let q : one_if (is_reply_of requests n e.event) ≡ 0 = ap (λ v. one_if (is_reply_of requests n v)) is in
+        omega (arith, s, p, q))
 
-  -- what has ended that stood under no offer
-  tracks_gone : (test : Operation → Bool) (o : Operation) → ((l n : ℕ) → is_offer_of l n e.event ≡ false) → ((l n : ℕ) → is_end_of l n e.event ≡ false)
-      → ((l n : ℕ) → one_if (is_offered l n o) ≡ 0) → IsFound test os o → Tracks longer (without_first test os)
-  tracks_gone test o none no_end not_there f = subst (Tracks longer) (sym f.without) (record {
-    each = λ l n.
-        let was = h.each l n in
-        let s = stood test o f l n in
-        let gone = not_there l n in
-        let a = offers_more l n in
-        let b = ends_more l n in
-        let p : one_if (is_offer_of l n e.event) ≡ 0 = ap one_if (none l n) in
-        let q : one_if (is_end_of l n e.event) ≡ 0 = ap one_if (no_end l n) in
-        omega (arith, was, s, gone, a, b, p, q);
-    receives = left_receive test o f;
-    files = left_none test o f;
-  })
+    tracks_withdrawn : e.event ≡ event.Withdraw link k → Tracked (without_first test os)
+    tracks_withdrawn is = gone test o f
+        (λ l n.
+        let s = stands_where link k l n o stands in
+        let p : one_if (is_offer_of l n e.event) ≡ 0 = ap (λ v. one_if (is_offer_of l n v)) is in
+        let q : one_if (is_end_of l n e.event) ≡ one_if (nat_eq link l && nat_eq k n) = ap (λ v. one_if (is_end_of l n v)) is in
+        omega (arith, s, p, q))
+        (λ n.
+        let s = offered_not_begun link k requests n o stands in
+        let p : one_if (is_know_of requests n e.event) ≡ 0 = ap (λ v. one_if (is_know_of requests n v)) is in
+        let q : one_if (is_reply_of requests n e.event) ≡ 0 = ap (λ v. one_if (is_reply_of requests n v)) is in
+        omega (arith, s, p, q))
+
+    -- a request that was taken has begun
+    tracks_begun : e.event ≡ event.Know link k → Tracked (change_first test as_begun os)
+    tracks_begun is = changed test o f as_begun
+        (λ l n.
+        let s = stands_where link k l n o stands in
+        let t = begun_not_offered link k l n o stands in
+        let p : one_if (is_offer_of l n e.event) ≡ 0 = ap (λ v. one_if (is_offer_of l n v)) is in
+        let q : one_if (is_end_of l n e.event) ≡ one_if (nat_eq link l && nat_eq k n) = ap (λ v. one_if (is_end_of l n v)) is in
+        omega (arith, s, t, p, q))
+        (λ n.
+        let s = offered_not_begun link k requests n o stands in
+        let t = begins_where link k requests n o stands in
+        let p : one_if (is_know_of requests n e.event) ≡ one_if (nat_eq link requests && nat_eq k n) = ap (λ v. one_if (is_know_of requests n v)) is in
+        let q : one_if (is_reply_of requests n e.event) ≡ 0 = ap (λ v. one_if (is_reply_of requests n v)) is in
+        omega (arith, s, t, p, q))
+        (λ no. still_waits o.progress (its test o f Receives h.receives no))
+        (record { link = place.link; limits = place.limits })
 
   tracks_received : (link k : ℕ) (value : ℤ) (o : Operation) → e.event ≡ event.Got link k value → IsFound (is_to_receive link) os o
-      → Tracks longer (without_first (is_to_receive link) os)
-  tracks_received link k value o is f =
-      tracks_gone (is_to_receive link) o (λ l n. ap (λ v. is_offer_of l n v) is) (λ l n. ap (λ v. is_end_of l n v) is)
-      (λ l n. not_under l n o (its_receives (is_to_receive link) o f (no_send (is_outgoing o.asked) receives))) f
+      → Tracked (without_first (is_to_receive link) os)
+  tracks_received link k value o is f = gone (is_to_receive link) o f
+      (λ l n.
+      let s = not_under l n o waits in
+      let p : one_if (is_offer_of l n e.event) ≡ 0 = ap (λ v. one_if (is_offer_of l n v)) is in
+      let q : one_if (is_end_of l n e.event) ≡ 0 = ap (λ v. one_if (is_end_of l n v)) is in
+      omega (arith, s, p, q))
+      (λ n.
+      let s = not_begun requests n o waits in
+      let p : one_if (is_know_of requests n e.event) ≡ 0 = ap (λ v. one_if (is_know_of requests n v)) is in
+      let q : one_if (is_reply_of requests n e.event) ≡ 0 = ap (λ v. one_if (is_reply_of requests n v)) is in
+      omega (arith, s, p, q))
     where
-      receives : not (is_outgoing o.asked) ≡ true
-      receives = (and_parts (nat_eq o.link link) (not (is_outgoing o.asked)) f.passes).1
-
       no_send : (b : Bool) → not b ≡ true → b ≡ false
       no_send true h = let both : false ≡ true = h in absurd (cc)
       no_send false h = refl
 
-  tracks_answered : (link k : ℕ) (answer : Answer) (o : Operation) → e.event ≡ event.Reply link k answer → IsFound (is_begun link k) os o
-      → Tracks longer (without_first (is_begun link k) os)
-  tracks_answered link k answer o is f =
-      tracks_gone (is_begun link k) o (λ l n. ap (λ v. is_offer_of l n v) is) (λ l n. ap (λ v. is_end_of l n v) is)
-      (λ l n. ap (λ b. one_if (nat_eq o.link l && b)) (begun_is_under k n o.progress begun) ∙ and_false (nat_eq o.link l)) f
-    where
-      begun : has_begun_under k o.progress ≡ true
-      begun = (and_parts (nat_eq o.link link) (has_begun_under k o.progress) f.passes).1
+      waits : is_waiting o.progress ≡ true
+      waits = its (is_to_receive link) o f Receives h.receives (no_send (is_outgoing o.asked) (and_parts (nat_eq o.link link) (not (is_outgoing o.asked)) f.passes).1)
 
-  -- nothing is offered by the event, and no offer has ended
-  tracks_same : ((l n : ℕ) → is_offer_of l n e.event ≡ false) → ((l n : ℕ) → is_end_of l n e.event ≡ false) → Tracks longer os
-  tracks_same none no_end = record {
+  tracks_answered : (link k : ℕ) (answer : Answer) (o : Operation) → e.event ≡ event.Reply link k answer → IsFound (is_begun link k) os o
+      → Tracked (without_first (is_begun link k) os)
+  tracks_answered link k answer o is f = gone (is_begun link k) o f
+      (λ l n.
+      let s = begun_no_offer link k l n o f.passes in
+      let p : one_if (is_offer_of l n e.event) ≡ 0 = ap (λ v. one_if (is_offer_of l n v)) is in
+      let q : one_if (is_end_of l n e.event) ≡ 0 = ap (λ v. one_if (is_end_of l n v)) is in
+      omega (arith, s, p, q))
+      (λ n.
+      let s = begun_where link k requests n o f.passes in
+      let p : one_if (is_know_of requests n e.event) ≡ 0 = ap (λ v. one_if (is_know_of requests n v)) is in
+      let q : one_if (is_reply_of requests n e.event) ≡ one_if (nat_eq link requests && nat_eq k n) = ap (λ v. one_if (is_reply_of requests n v)) is in
+      omega (arith, s, p, q))
+
+  -- an event that offers nothing, ends no offer and answers nothing
+  abbrev IsIdle : Event → Type 0
+  IsIdle v = ((l n : ℕ) → is_offer_of l n v ≡ false) × ((l n : ℕ) → is_end_of l n v ≡ false) × ((n : ℕ) → is_know_of requests n v ≡ false) × ((n : ℕ) → is_reply_of requests n v ≡ false)
+
+  tracks_same : (v : Event) → e.event ≡ v → IsIdle v → Tracked os
+  tracks_same v is idle = record {
     each = λ l n.
-        let was = h.each l n in
-        let a = offers_more l n in
-        let b = ends_more l n in
-        let p : one_if (is_offer_of l n e.event) ≡ 0 = ap one_if (none l n) in
-        let q : one_if (is_end_of l n e.event) ≡ 0 = ap one_if (no_end l n) in
-        omega (arith, was, a, b, p, q);
+        let p : one_if (is_offer_of l n e.event) ≡ 0 = ap (λ w. one_if (is_offer_of l n w)) is ∙ ap one_if (idle.0 l n) in
+        let q : one_if (is_end_of l n e.event) ≡ 0 = ap (λ w. one_if (is_end_of l n w)) is ∙ ap one_if (idle.1 l n) in
+        count_offers os l n 0 0 (omega arith) (omega (arith, p, q));
+    begun = λ n.
+        let p : one_if (is_know_of requests n e.event) ≡ 0 = ap (λ w. one_if (is_know_of requests n w)) is ∙ ap one_if (idle.2 n) in
+        let q : one_if (is_reply_of requests n e.event) ≡ 0 = ap (λ w. one_if (is_reply_of requests n w)) is ∙ ap one_if (idle.3 n) in
+        count_begun os n 0 0 (omega arith) (omega (arith, p, q));
     receives = h.receives;
-    files = h.files;
+    placed = h.placed;
   }
 
   -- its peer has taken it: it has ended, or has begun
   taken_tracks : (store : Store) (test : Operation → Bool) (link k : ℕ) (o : Operation) → e.event ≡ event.Know link k → is_offered link k o ≡ true → IsFound test os o
-      → Tracks longer (is_taken store test os o).operations
-  taken_tracks store test link k o is stands f = go (is_request o.asked)
+      → Tracked (is_taken store test os o).operations
+  taken_tracks store test link k o is stands f = go (is_request o.asked) refl
     where
-      go : (b : Bool) → Tracks longer (if b then goes_on_waiting store (change_first test as_begun os) else has_ended store (without_first test os) o).operations
-      go true = tracks_begun test link k o is stands f
-      go false = tracks_known test link k o is stands f
+      go : (b : Bool) → is_request o.asked ≡ b → Tracked (if b then goes_on_waiting store (change_first test as_begun os) else has_ended store (without_first test os) o).operations
+      go true asks = tracks_begun test link k o stands f is
+      go false asks = tracks_known test link k o stands f is asks
 
   module _ (store : Store) (x : Arrival) where
     offer_tracks : (link k : ℕ) (payload : Payload) (o : Option Operation) → e.event ≡ event.Offer link k payload → find (is_to_offer link) os ≡ o → offers store os link k payload o ≡ Some x
-        → Tracks longer x.operations
+        → Tracked x.operations
     offer_tracks link k payload None is e' fits = let no : None ≡ Some x = fits in absurd (cc)
     offer_tracks link k payload (Some o) is e' fits = go (carries o.asked payload) fits
       where
-        go : (b : Bool) → (if b then Some (goes_on_waiting store (change_first (is_to_offer link) (offered_as k) os)) else None) ≡ Some x → Tracks longer x.operations
+        go : (b : Bool) → (if b then Some (goes_on_waiting store (change_first (is_to_offer link) (offered_as k) os)) else None) ≡ Some x → Tracked x.operations
         go true q = let same : goes_on_waiting store (change_first (is_to_offer link) (offered_as k) os) ≡ x = cc in
-            subst (λ (y : Arrival). Tracks longer y.operations) same (tracks_offered link k payload o is (found_at (is_to_offer link) os o e'))
+            subst (λ (y : Arrival). Tracked y.operations) same (tracks_offered link k payload o is (found_at (is_to_offer link) os o e'))
         go false q = let no : None ≡ Some x = q in absurd (cc)
 
-    know_tracks : (link k : ℕ) (o : Option Operation) → e.event ≡ event.Know link k → find (is_offered link k) os ≡ o → is_known store os link k o ≡ Some x → Tracks longer x.operations
+    know_tracks : (link k : ℕ) (o : Option Operation) → e.event ≡ event.Know link k → find (is_offered link k) os ≡ o → is_known store os link k o ≡ Some x → Tracked x.operations
     know_tracks link k None is e' fits = let no : None ≡ Some x = fits in absurd (cc)
     know_tracks link k (Some o) is e' fits =
         let same : is_taken store (is_offered link k) os o ≡ x = cc in
-        subst (λ (y : Arrival). Tracks longer y.operations) same (let f = found_at (is_offered link k) os o e' in taken_tracks store (is_offered link k) link k o is f.passes f)
+        subst (λ (y : Arrival). Tracked y.operations) same (let f = found_at (is_offered link k) os o e' in taken_tracks store (is_offered link k) link k o is f.passes f)
 
     reply_tracks : (link k : ℕ) (answer : Answer) (o : Option Operation) → e.event ≡ event.Reply link k answer → find (is_begun link k) os ≡ o → is_answered store os link k answer o ≡ Some x
-        → Tracks longer x.operations
+        → Tracked x.operations
     reply_tracks link k answer None is e' fits = let no : None ≡ Some x = fits in absurd (cc)
     reply_tracks link k answer (Some o) is e' fits =
         let same : has_ended_as (value_of o.asked answer) (with_answer store o.asked answer) (without_first (is_begun link k) os) o ≡ x = cc in
-        subst (λ (y : Arrival). Tracks longer y.operations) same (tracks_answered link k answer o is (found_at (is_begun link k) os o e'))
+        subst (λ (y : Arrival). Tracked y.operations) same (tracks_answered link k answer o is (found_at (is_begun link k) os o e'))
 
     got_tracks : (link k : ℕ) (value : ℤ) (o : Option Operation) → e.event ≡ event.Got link k value → find (is_to_receive link) os ≡ o → ends_received store os link value o ≡ Some x
-        → Tracks longer x.operations
+        → Tracked x.operations
     got_tracks link k value None is e' fits = let no : None ≡ Some x = fits in absurd (cc)
     got_tracks link k value (Some o) is e' fits =
         let same : has_ended (with_message store o value) (without_first (is_to_receive link) os) o ≡ x = cc in
-        subst (λ (y : Arrival). Tracks longer y.operations) same (tracks_received link k value o is (found_at (is_to_receive link) os o e'))
+        subst (λ (y : Arrival). Tracked y.operations) same (tracks_received link k value o is (found_at (is_to_receive link) os o e'))
 
-    pass_tracks : (link k : ℕ) (o : Option Operation) → e.event ≡ event.Pass link k → passes_over store os o ≡ Some x → Tracks longer x.operations
+    pass_tracks : (link k : ℕ) (o : Option Operation) → e.event ≡ event.Pass link k → passes_over store os o ≡ Some x → Tracked x.operations
     pass_tracks link k None is fits = let no : None ≡ Some x = fits in absurd (cc)
     pass_tracks link k (Some o) is fits =
         let same : goes_on_waiting store os ≡ x = cc in
-        subst (λ (y : Arrival). Tracks longer y.operations) same (tracks_same (λ l n. ap (λ v. is_offer_of l n v) is) (λ l n. ap (λ v. is_end_of l n v) is))
+        subst (λ (y : Arrival). Tracked y.operations) same (tracks_same _ is (λ l n. refl, λ l n. refl, λ n. refl, λ n. refl))
 
-    room_tracks : (link k : ℕ) (b : Bool) → e.event ≡ event.Room link k → gives_room store os b ≡ Some x → Tracks longer x.operations
+    room_tracks : (link k : ℕ) (b : Bool) → e.event ≡ event.Room link k → gives_room store os b ≡ Some x → Tracked x.operations
     room_tracks link k false is fits = let no : None ≡ Some x = fits in absurd (cc)
     room_tracks link k true is fits =
         let same : goes_on_waiting store os ≡ x = cc in
-        subst (λ (y : Arrival). Tracks longer y.operations) same (tracks_same (λ l n. ap (λ v. is_offer_of l n v) is) (λ l n. ap (λ v. is_end_of l n v) is))
+        subst (λ (y : Arrival). Tracked y.operations) same (tracks_same _ is (λ l n. refl, λ l n. refl, λ n. refl, λ n. refl))
 
-    pub tracks_entered : (v : Event) → e.event ≡ v → arrivals.arrives past store os v ≡ Some x → Tracks longer x.operations
+    pub tracks_entered : (v : Event) → e.event ≡ v → arrivals.arrives past store os v ≡ Some x → Tracked x.operations
     tracks_entered (event.Offer link k payload) is fits = go (nat_eq k (offers_on link past)) fits
       where
-        go : (b : Bool) → (if b then offers store os link k payload (find (is_to_offer link) os) else None) ≡ Some x → Tracks longer x.operations
+        go : (b : Bool) → (if b then offers store os link k payload (find (is_to_offer link) os) else None) ≡ Some x → Tracked x.operations
         go true q = offer_tracks link k payload (find (is_to_offer link) os) is refl q
         go false q = let no : None ≡ Some x = q in absurd (cc)
     tracks_entered (event.Know link k) is fits = know_tracks link k (find (is_offered link k) os) is refl fits
@@ -298,7 +400,7 @@ module _ (past : List Entry) (os : List Operation) (h : Tracks past os) (e : Ent
 
   -- what the outcome of an offer makes of its operation
   pub tracks_decided : (store : Store) (test : Operation → Bool) (o : Operation) (link k : ℕ) (it : Outcome) → find test os ≡ Some o → o.link ≡ link → o.progress ≡ progress.Offered k
-      → outcome link k e.event ≡ Some it → Tracks longer (by_outcome it store test os o).operations
+      → outcome link k e.event ≡ Some it → Tracked (by_outcome it store test os o).operations
   tracks_decided store test o link k it found on under is = go e.event refl is
     where
       stands : is_offered link k o ≡ true
@@ -311,13 +413,13 @@ module _ (past : List Entry) (os : List Operation) (h : Tracks past os) (e : Ent
           ((eqb-true l link both.0, eqb-true n k both.1), its)
       same l n v false e q = let no : None ≡ Some it = q in absurd (cc)
 
-      go : (v : Event) → e.event ≡ v → outcome link k v ≡ Some it → Tracks longer (by_outcome it store test os o).operations
+      go : (v : Event) → e.event ≡ v → outcome link k v ≡ Some it → Tracked (by_outcome it store test os o).operations
       go (event.Withdraw l n) w q =
           let at = same l n NeverHappens (nat_eq l link && nat_eq n k) refl q in
-          subst (λ z. Tracks longer (by_outcome z store test os o).operations) at.1
-          (tracks_withdrawn test link k o (w ∙ ap (λ x. event.Withdraw x n) at.0.0 ∙ ap (λ x. event.Withdraw link x) at.0.1) stands (found_at test os o found))
+          subst (λ z. Tracked (by_outcome z store test os o).operations) at.1
+          (tracks_withdrawn test link k o stands (found_at test os o found) (w ∙ ap (λ x. event.Withdraw x n) at.0.0 ∙ ap (λ x. event.Withdraw link x) at.0.1))
       go (event.Know l n) w q =
           let at = same l n IsTaken (nat_eq l link && nat_eq n k) refl q in
-          subst (λ z. Tracks longer (by_outcome z store test os o).operations) at.1
+          subst (λ z. Tracked (by_outcome z store test os o).operations) at.1
           (taken_tracks store test link k o (w ∙ ap (λ x. event.Know x n) at.0.0 ∙ ap (λ x. event.Know link x) at.0.1) stands (found_at test os o found))
       go v w q = let no : None ≡ Some it = q in absurd (cc)

@@ -20,7 +20,7 @@ use Rattle.cancel_scope.specs.declared.operation.Asked.{Asked}
 use Rattle.cancel_scope.specs.declared.operation.Progress.{Progress}
 use Rattle.cancel_scope.specs.declared.operation.Progress.TheVariants as progress
 use Rattle.cancel_scope.specs.declared.operation.Operation.{Operation}
-use Rattle.cancel_scope.specs.Outstanding.{has_begun, is_request}
+use Rattle.cancel_scope.specs.Outstanding.{has_begun}
 use Rattle.core_state.specs.Moves.{Move, On, Over, GoesOn, moves, and_then}
 use Rattle.core_state.specs.Arithmetic.{Computed, truth, negated, not_true, flipped, sum_of, difference_of, product_of, quotient, remainder}
 use Rattle.core_state.specs.Arithmetic.{shifted_left, shifted_right, is_equal, is_not_equal, is_less, is_at_most, both_bits, either_bits, differing_bits}
@@ -47,10 +47,9 @@ use Rattle.code_safety.proofs.Waiting.{found_at}
 use Rattle.core_machine.specs.declared.ending.Ending.{Ending}
 use Rattle.core_machine.specs.declared.running.Running.{Running}
 use Rattle.core_machine.specs.Words.{word_of}
-use Rattle.core_machine.specs.Points.{operations_of, AsksForNoFile, KeepsOperations}
+use Rattle.core_machine.specs.Points.{operations_of, KeepsOperations}
 use Rattle.core_machine.specs.Machine.{ComesToEnd, is_resting, none_ready}
 use Rattle.core_machine.specs.State.{flat_of, end_or, machine_of, IsSound}
-use Rattle.core_machine.specs.Tracks.{AskForNoFile}
 
 -- ---- an instruction
 
@@ -348,7 +347,7 @@ module _ (r : Running) (sound : IsSound r) (ranks : List ℕ) (ranked : IsRanked
     busy = λ ended. let no : false ≡ true = ended in absurd (cc);
   }
   resting_comes false h e =
-      let on = ends_from code r.bound sound.valid sound.meant ranks ranked (suc (left_to_come ranks r.bound m)) m (sound.fit e) (omega arith) in
+      let on = ends_from code r.bound sound.valid ranks ranked (suc (left_to_come ranks r.bound m)) m (sound.fit e) (omega arith) in
       let end = seen_end on.0 (seen_at_end code r.bound on.1.0 m on.0 refl on.1.1) in
       record {
         end = end.0;
@@ -376,17 +375,8 @@ module _ (r : Running) (sound : IsSound r) (ranks : List ℕ) (ranked : IsRanked
   -- ---- the operations of a core whose code keeps its ends
 
   at_ends : KeepsEnds code → (o : Option Ending) → r.ended ≡ o → AreAtEnds code r.core (operations_of (end_or m o))
-  at_ends keeps None e = own_ends code sound.valid keeps r.core sound.ran.function sound.ran.begins sound.meant ranks ranked r.bound r.journal.entries m (run_to None e)
+  at_ends keeps None e = own_ends code sound.valid keeps r.core sound.ran.function sound.ran.begins ranks ranked r.bound r.journal.entries m (run_to None e)
   at_ends keeps (Some ending) e = All-nil (λ (o : Operation). IsAtEnd code r.core o.link o.asked)
 
   pub keeps_own_ends : KeepsOperations (machine_of r)
   keeps_own_ends keeps = at_ends keeps r.ended refl
-
-  -- ---- it reads and writes no file
-
-  of_files : (o : Option Ending) → r.ended ≡ o → AskForNoFile (operations_of (end_or m o))
-  of_files None e = (sound.tracks e).files
-  of_files (Some ending) e = All-nil (λ (o : Operation). is_request o.asked ≡ false)
-
-  pub asks_for_no_file : AsksForNoFile (machine_of r)
-  asks_for_no_file = of_files r.ended refl

@@ -1,21 +1,21 @@
 -- What callers see of a core at its dispatch points, where entries come in.
-use Rattle.std.specs.Prelude.{◌≡◌, ℕ, suc, ℤ, Bool, false, List, [], ◌∷◌, ◌++◌}
-use Rattle.std.specs.Prelude.{Option, Some, None, find, is_none, is_some, option_and_then}
+use Rattle.std.specs.Prelude.{◌≡◌, ℕ, suc, min, Bool, true, false, List, [], ◌∷◌, ◌++◌, length, nat_eq, nat_lt}
+use Rattle.std.specs.Prelude.{Option, Some, None, find, is_none, is_some, if◌then◌else◌}
 use Rattle.ac_base.specs.declared.entry.Entry.{Entry}
 use Rattle.ac_base.specs.declared.entry.Event.{Event}
 use Rattle.ac_base.specs.declared.entry.Payload.{Payload}
-use Rattle.cancel_scope.specs.declared.operation.Asked.{Asked}
-use Rattle.cancel_scope.specs.declared.operation.Asked.TheVariants.{Send}
+use Rattle.cancel_scope.specs.declared.operation.Progress.{Progress}
+use Rattle.cancel_scope.specs.declared.operation.Progress.TheVariants.{Offered, Started}
 use Rattle.cancel_scope.specs.declared.operation.Operation.{Operation}
 use Rattle.cancel_scope.specs.Outstanding.{is_to_offer, is_to_receive, carries}
 use Rattle.core_state.specs.Moves.{Move, On, Over}
 use Rattle.core_state.specs.Arrivals.{Arrival, arrives}
-use Rattle.core_state.specs.Shared.{with_entry}
+use Rattle.core_state.specs.Shared.{request_link, with_entry}
 use Rattle.code_meaning.specs.Machine.{Flat, FlatEnd, arrived}
 use Rattle.code_safety.specs.KeptEnds.{KeepsEnds, AreAtEnds}
 use Rattle.code_safety.specs.Left.{left}
 use Rattle.core_machine.specs.Machine.{Machine, has_ended}
-use Rattle.core_machine.specs.Tracks.{AskForNoFile, Tracks}
+use Rattle.core_machine.specs.Tracks.{Tracks}
 
 -- it has not ended, and no thread runs
 abbrev pub is_at_point : Move Flat FlatEnd → Bool
@@ -29,13 +29,9 @@ abbrev pub operations_of : Move Flat FlatEnd → List Operation
 operations_of (On m) = m.operations
 operations_of (Over x) = []
 
-abbrev pub message_of : Asked → Option ℤ
-message_of (Send value) = Some value
-message_of _ = None
-
--- what the oldest of these operations that is to be offered on a link sends
-abbrev pub to_send : List Operation → ℕ → Option ℤ
-to_send os link = option_and_then (λ (o : Operation). message_of o.asked) (find (is_to_offer link) os)
+-- whether one of these operations is to be offered on a link
+abbrev pub has_to_offer : List Operation → ℕ → Bool
+has_to_offer os link = is_some (find (is_to_offer link) os)
 
 abbrev pub carried_by : Option Operation → Payload → Bool
 carried_by None payload = false
@@ -49,13 +45,52 @@ offer_carries os link payload = carried_by (find (is_to_offer link) os) payload
 abbrev pub receives_from : List Operation → ℕ → Bool
 receives_from os link = is_some (find (is_to_receive link) os)
 
--- each offer of its journal that has not ended is that of an operation, where the core has not ended
-abbrev pub HasTracks : Machine → Type 0
-HasTracks m = has_ended m.state ≡ false → Tracks m.journal (operations_of m.state)
+-- ---- answers to requests
 
--- no operation of the core reads or writes a file, since its code does not
-abbrev pub AsksForNoFile : Machine → Type 0
-AsksForNoFile m = AskForNoFile (operations_of m.state)
+-- the number under which an operation stands, and that under which it has begun
+abbrev pub offer_number : Progress → Option ℕ
+offer_number (Offered number) = Some number
+offer_number _ = None
+
+abbrev pub begun_number : Progress → Option ℕ
+begun_number (Started number) = Some number
+begun_number _ = None
+
+-- where it is one of that link
+abbrev pub number_on : (Progress → Option ℕ) → ℕ → Operation → Option ℕ
+number_on number link o = if nat_eq o.link link then number o.progress else None
+
+abbrev pub lesser : Option ℕ → Option ℕ → Option ℕ
+lesser None b = b
+lesser (Some a) None = Some a
+lesser (Some a) (Some b) = Some (min a b)
+
+-- the least of the numbers that operations of that link have
+abbrev pub least_on : (Progress → Option ℕ) → List Operation → ℕ → Option ℕ
+least_on number [] link = None
+least_on number (o ∷ os) link = lesser (number_on number link o) (least_on number os link)
+
+-- the first is there, and where the second is there it is greater
+abbrev pub comes_first : Option ℕ → Option ℕ → Bool
+comes_first None b = false
+comes_first (Some a) None = true
+comes_first (Some a) (Some b) = nat_lt a b
+
+-- of the operations that were offered on a link and have not ended that of the least number has begun: answers come in order, so the next
+-- one may be that to it
+abbrev pub awaits_answer : List Operation → ℕ → Bool
+awaits_answer os link = comes_first (least_on begun_number os link) (least_on offer_number os link)
+
+-- ---- what holds of them
+
+-- the link of the core's requests
+abbrev pub requests_of : Machine → ℕ
+requests_of m = request_link (length m.code.ends) m.core
+
+-- each offer of its journal that has not ended is that of an operation, and each request that waits for its answer has begun, where the
+-- core has not ended
+abbrev pub HasTracks : Machine → Type 0
+HasTracks m = has_ended m.state ≡ false → Tracks (requests_of m) m.journal (operations_of m.state)
 
 -- where the code keeps its ends, each operation of the core is at one of them
 abbrev pub KeepsOperations : Machine → Type 0

@@ -1,12 +1,11 @@
 -- The state that the fields of a running core stand for.
-use Rattle.std.specs.Prelude.{◌≡◌, [], Option, Some, None, Bool, false, not, nat_lt, ◌&&◌}
+use Rattle.std.specs.Prelude.{◌≡◌, ℕ, [], length, Option, Some, None, Bool, false, not, nat_lt, ◌&&◌}
 use Rattle.core_machine.specs.declared.ending.Ending.{Ending}
 use Rattle.core_machine.specs.Words.{word_of}
 use Rattle.core_state.specs.Moves.{Move, On, Over}
-use Rattle.core_state.specs.Shared.{Shared}
+use Rattle.core_state.specs.Shared.{Shared, request_link}
 use Rattle.code_meaning.specs.Machine.{Thread, Flat, FlatEnd, seen_of}
 use Rattle.stack_code.specs.Valid.{IsValid}
-use Rattle.code_meaning.specs.Meant.{IsMeant}
 use Rattle.code_safety.specs.Fit.{IsFit}
 use Rattle.code_safety.specs.Chains.{AreChained}
 use Rattle.core_machine.specs.declared.running.Running.{Running}
@@ -50,12 +49,16 @@ abbrev pub machine_of : Running → Machine
 machine_of m =
     record { code = m.code.now; core = m.core; bound = m.bound; journal = m.journal.entries; state = state_of m; room = has_room m }
 
--- a core that has not ended stands where its code can stand, no reference dangles there, and each offer that has not ended is that of an
--- operation
+-- the link of the core's requests
+abbrev pub own_link : Running → ℕ
+own_link m = request_link (length m.code.now.ends) m.core
+
+-- a core that has not ended stands where its code can stand, no reference dangles there, it asks for reads and writes on its own link, and
+-- each offer that has not ended is that of an operation
 pub record IsSound (m : Running) : Type 0 where
   pub fit : m.ended ≡ None → IsFit m.code.now (flat_of m)
   pub chained : m.ended ≡ None → AreChained m.code.now (flat_of m)
-  pub tracks : m.ended ≡ None → Tracks m.journal.entries m.outstanding.operations
+  pub requests : m.ended ≡ None → m.requests ≡ own_link m
+  pub tracks : m.ended ≡ None → Tracks (own_link m) m.journal.entries m.outstanding.operations
   pub valid : IsValid m.code.now
-  pub meant : IsMeant m.code.now
   pub ran : IsOnItsWay (machine_of m)

@@ -35,8 +35,8 @@ impl Running<'_> {
         Ok(())
     }
 
-    // An entry of this turn goes into the journal.
-    fn note(&mut self, event: Event, stamp: u64)
+    /// An entry of this turn goes into the journal.
+    pub fn note(&mut self, event: Event, stamp: u64)
         requires { 0 < self.old.journal.spare }
         ensures same { self.new ≡ record self.old { journal = self.new.journal } }
         ensures entries { self.new.journal.entries ≡ self.old.journal.entries ++ entry_now self.old event stamp ∷ [] }

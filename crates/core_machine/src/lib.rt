@@ -1,6 +1,7 @@
 //! The running core: a machine for stack code, whose state is the code's run.
 #![tactic(auto)]
 
+mod answering;
 mod arrivals;
 mod beginning;
 mod calls;
@@ -11,6 +12,7 @@ mod machine;
 mod operate;
 mod operations;
 mod payload;
+mod requests;
 mod running;
 mod threads;
 mod tried;

@@ -1,13 +1,14 @@
 //! The machine that callers see.
 
+use crate::answering::awaits_answer;
 use crate::beginning::{make_first, request_link, set_starts};
 use crate::counter::Counter;
 use crate::ending::{Ending, word_now};
 use crate::payload::payload_of;
 use crate::running::Running;
 use crate::tried::Tried;
-use ac_base::{CoreEnd, Event, Journal, List, MachineEnd, Message, NoMemory, Payload};
-use cancel_scope::{Asked, Outstanding};
+use ac_base::{Answer, CoreEnd, Event, Journal, List, MachineEnd, Message, NoMemory, Payload};
+use cancel_scope::Outstanding;
 use core_scheduler::Scheduler;
 use finish_block::Blocks;
 use stack_code::Code;
@@ -41,7 +42,6 @@ impl<'a> CoreMachine<'a> {
     ghost use Rattle.std.specs.Prelude.{◌≡◌, ◌≢◌, ◌<◌, [], length, IfOk};
     ghost use Rattle.core_state.specs.Moves.{On, GoesOn};
     ghost use Rattle.code_meaning.specs.Machine.{exec};
-    ghost use Rattle.code_meaning.specs.Meant.{IsMeant};
     ghost use Rattle.core_machine.specs.Machine.{IsFirst, IsOnItsWay, IsSameCore, IsSeen, is_idle, has_ended, waits};
 
     /// A core of the code before its first instruction, with a bound on its steps. Where there is
@@ -49,15 +49,14 @@ impl<'a> CoreMachine<'a> {
     ///
     /// It takes the memory of its globals and its frame, and answers `NoMemory` where there is none.
     ///
-    /// Conditions: the code has so many cores, and no operation on a file.
+    /// Condition: the code has so many cores.
     pub fn new(
         alloc: Global,
         code: &'a Code,
         core: u32,
         steps: u64,
     ) -> Result<CoreMachine<'a>, NoMemory>
-        requires core { core < length code.now.entries }
-        requires meant { IsMeant code.now }
+        requires { core < length code.now.entries }
         ensures code { IfOk result (λ m. m.code ≡ code.now) }
         ensures core { IfOk result (λ m. m.core ≡ core) }
         ensures bound { IfOk result (λ m. m.bound ≡ steps) }
@@ -164,15 +163,15 @@ impl<'a> CoreMachine<'a> {
 impl<'a> CoreMachine<'a> {
     ghost use Rattle.std.specs.Prelude.{◌≡◌, ℕ, ◌<◌, ◌≤◌, List, Some, None, true, false, IsSome, MatchOption, OnOk, IfOk, find};
     ghost use Rattle.ac_base.specs.declared.entry.Event.{Event};
-    ghost use Rattle.cancel_scope.specs.Outstanding.{is_to_offer, is_offered};
+    ghost use Rattle.cancel_scope.specs.Outstanding.{is_offered, is_begun};
     ghost use Rattle.core_state.specs.Moves.{GoesOn};
     ghost use Rattle.core_state.specs.Arrivals.{offers_on, keeps_room};
     ghost use Rattle.core_state.specs.Cancelling.{NeverHappens, IsTaken};
     ghost use Rattle.stack_code.specs.Kept.{IsRanked};
     ghost use Rattle.code_meaning.specs.Machine.{exec};
     ghost use Rattle.core_machine.specs.Machine.{ComesToEnd, IsOnItsWay, IsSameCore, HasEnded, has_ended, is_idle};
-    ghost use Rattle.core_machine.specs.Points.{is_at_point, operations_of, to_send, offer_carries, receives_from, work_left};
-    ghost use Rattle.core_machine.specs.Points.{KeepsOperations, AsksForNoFile, HasTracks, HasCome};
+    ghost use Rattle.core_machine.specs.Points.{is_at_point, operations_of, has_to_offer, offer_carries, receives_from, work_left};
+    ghost use Rattle.core_machine.specs.Points.{KeepsOperations, HasTracks, HasCome, awaits_answer};
     ghost use Rattle.core_machine.specs.Tried.{tried_of, HasDecided};
 
     /// The code that it runs.
@@ -190,14 +189,12 @@ impl<'a> CoreMachine<'a> {
     }
 
     /// How it has ended, if it has. Under its journal its code comes to an end, which is what is seen
-    /// of it where it has ended or is idle; and where the code keeps its ends, so do its operations,
-    /// of which none reads or writes a file.
+    /// of it where it has ended or is idle; and where the code keeps its ends, so do its operations.
     pub fn ending(&self) -> Option<Ending>
         ensures ended { MatchOption result (has_ended self.now.state ≡ false) (λ ending. HasEnded self.now.state ending) }
         ensures run { IsOnItsWay self.now }
         ensures comes { ComesToEnd self.now }
         ensures ends { KeepsOperations self.now }
-        ensures files { AsksForNoFile self.now }
     {
         // The ranks are there for the proof alone that the code comes to an end.
         let _ranks = self.running.code.ranks();
@@ -211,32 +208,45 @@ impl<'a> CoreMachine<'a> {
         self.running.is_at_point()
     }
 
-    /// What the oldest operation that is to be offered on a link sends.
+    /// The allocator with which it was made.
+    pub fn alloc(&self) -> Global {
+        self.running.alloc
+    }
+
+    /// Whether an operation is to be offered on a link.
     ///
     /// Condition: the core has not ended.
-    pub fn to_send(&self, link: u32) -> Option<Message>
+    pub fn has_to_offer(&self, link: u32) -> bool
         requires { has_ended self.now.state ≡ false }
-        ensures { result ≡ to_send (operations_of self.now.state) link }
+        ensures { result ≡ has_to_offer (operations_of self.now.state) link }
     {
-        match self.running.outstanding.to_offer(link)?.asked {
-            Asked::Send(value) => Some(value),
-            Asked::Recv(_) | Asked::Read { .. } | Asked::Write { .. } => None,
-        }
+        self.running.outstanding.to_offer(link).is_some()
     }
 
     /// What an offer of the oldest operation that is to be offered on a link carries. It takes the
     /// memory of a write's bytes.
     ///
-    /// Condition: the core has not ended.
-    pub fn to_offer(&self, alloc: Global, link: u32) -> Result<Option<Payload>, NoMemory>
-        requires { has_ended self.now.state ≡ false }
-        ensures { IfOk result (λ payload. MatchOption payload (find (is_to_offer link) (operations_of self.now.state) ≡ None)
-            (λ it. offer_carries (operations_of self.now.state) link it ≡ true)) }
+    /// Conditions: the core has not ended, and there is such an operation.
+    pub fn to_offer(&self, link: u32) -> Result<Payload, NoMemory>
+        requires going { has_ended self.now.state ≡ false }
+        requires some { has_to_offer (operations_of self.now.state) link ≡ true }
+        ensures { IfOk result (λ payload. offer_carries (operations_of self.now.state) link payload ≡ true) }
     {
-        match self.running.outstanding.to_offer(link) {
-            Some(operation) => Ok(Some(payload_of(alloc, &operation.asked)?)),
-            None => Ok(None),
-        }
+        let Some(operation) = self.running.outstanding.to_offer(link) else {
+            unreachable!()
+        };
+        payload_of(self.running.alloc, &operation.asked)
+    }
+
+    /// Whether of the operations that were offered on a link and have not ended that of the least number
+    /// has begun, so that the next answer may be that to it.
+    ///
+    /// Condition: the core has not ended.
+    pub fn awaits_answer(&self, link: u32) -> bool
+        requires { has_ended self.now.state ≡ false }
+        ensures { result ≡ awaits_answer (operations_of self.now.state) link }
+    {
+        awaits_answer(&self.running.outstanding, link)
     }
 
     /// Whether an operation waits for a message from a link.
@@ -292,6 +302,22 @@ impl<'a> CoreMachine<'a> {
         ensures run { IsOnItsWay self.new }
     {
         self.running.know(link, number, stamp);
+    }
+
+    /// The request that has begun under that number has its answer, and has ended: a read has its bytes
+    /// in its array.
+    ///
+    /// Conditions: there is room for an entry, no thread runs, and a request has begun under that
+    /// number.
+    pub fn replied(&mut self, link: u32, number: u64, answer: Answer, stamp: u64)
+        requires room { self.old.room ≡ true }
+        requires point { is_at_point self.old.state ≡ true }
+        requires some { IsSome (find (is_begun link number) (operations_of self.old.state)) }
+        ensures come { HasCome self.old (Event.Reply link number answer) stamp self.new }
+        ensures less { (ranks : List ℕ) → work_left ranks self.new ≤ work_left ranks self.old }
+        ensures run { IsOnItsWay self.new }
+    {
+        self.running.replied(link, number, answer, stamp);
     }
 
     /// A message has come over a link, for the oldest operation that waits for one, which has ended.

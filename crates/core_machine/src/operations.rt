@@ -19,8 +19,8 @@ impl Running<'_> {
     ghost use Rattle.core_machine.specs.inner.Needs.{IsListed};
     ghost use Rattle.core_machine.specs.inner.Changes.{Keeps, Does, Stays};
 
-    // The running thread waits for the end of an operation on that link.
-    fn operate(&mut self, item: Item, link: u32, asked: Asked)
+    /// The running thread waits for the end of an operation on that link.
+    pub fn operate(&mut self, item: Item, link: u32, asked: Asked)
         requires inside { self.old.place < 2 ^ 32 }
         requires runs { self.old.schedule.running ≡ Some item }
         requires listed { item.number < length self.old.threads.threads }
@@ -36,9 +36,9 @@ impl Running<'_> {
         self.park(item, self.place + 1, Parked::nobody(self.alloc));
     }
 
-    // An operation in a cancelled block never happens: its value stands where its operand stood, and
-    // the thread goes on.
-    fn end_at_once(&mut self)
+    /// An operation in a cancelled block never happens: its value stands where its operand stood, and
+    /// the thread goes on.
+    pub fn end_at_once(&mut self)
         requires inside { self.old.place < 2 ^ 32 }
         requires one { 1 ≤ length self.old.operands }
         ensures { self.new ≡ record self.old {

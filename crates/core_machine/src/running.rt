@@ -525,6 +525,8 @@ impl Running<'_> {
             Instr::Yield => self.yield_now(),
             Instr::Send { channel } => self.send(channel),
             Instr::Recv { channel } => self.receive(channel),
+            Instr::Read { file } => self.read(file),
+            Instr::Write { file } => self.write(file),
             _ => unreachable!(),
         }
     }
@@ -592,12 +594,13 @@ impl Running<'_> {
             | Instr::End
             | Instr::Yield
             | Instr::Send { .. }
-            | Instr::Recv { .. } => {
+            | Instr::Recv { .. }
+            | Instr::Read { .. }
+            | Instr::Write { .. } => {
                 self.change_threads(*instr)?;
                 return Ok(Went::Away);
             }
             Instr::Cancel { level, slot } => return self.cancel(level, slot),
-            _ => unreachable!(),
         }
         Ok(Went::On)
     }

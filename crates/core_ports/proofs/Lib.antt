@@ -1,3 +1,4 @@
 pub mod Examples
 pub mod GoingOn
+pub mod SideExamples
 pub mod UpTo

@@ -3,4 +3,5 @@ pub mod AtHand
 pub mod Counts
 pub mod Ends
 pub mod Laws
+pub mod Sides
 pub mod Tells

@@ -3,6 +3,8 @@
 
 mod law;
 mod ports;
+mod side;
 
 pub use law::{a_core_goes_on, clock_is_up_to_all};
 pub use ports::Ports;
+pub use side::{Side, side_of};

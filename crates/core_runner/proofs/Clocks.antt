@@ -1,4 +1,4 @@
--- Where no stamp of a history is great, no clock of its cores is full.
+-- Where no stamp of a history is great, no clock of its parties is full.
 use Rattle.std.proofs.Common.{◌≡◌, ℕ, zero, suc, ◌<◌, ◌≤◌, List, [], ◌∷◌, ◌++◌, Option, Some, None, Bool, true, false, cond, refl, ap, ◌∙◌, subst, inl, inr, arith, length, get_or, max}
 use Rattle.std.specs.Prelude.{◌^◌, nat_le, nat_lt, IfSome, slice_get}
 use Rattle.std.specs.List.{AllByRecursion}
@@ -19,14 +19,15 @@ use Rattle.ac_history.specs.Merged.{all_from, merged}
 use Rattle.core_channels.specs.LinkViews.{LinkViews, no_link, link_at}
 use Rattle.core_ports.specs.Ends.{IsOfferUpTo, IsDecisionUpTo, IsUpTo}
 use Rattle.core_ports.proofs.UpTo.{up_to_all}
-use Rattle.core_driver.specs.declared.side.Side.{Side}
-use Rattle.core_driver.specs.declared.side.Side.TheVariants.{Owner, Peer, Neither}
-use Rattle.core_runner.specs.Hands.{greatest, last_stamp_of, heard_at}
-use Rattle.core_driver.specs.Sides.{side_of}
+use Rattle.core_ports.specs.declared.side.Side.{Side}
+use Rattle.core_ports.specs.declared.side.Side.TheVariants.{Owner, Peer, Neither}
+use Rattle.list_ports.specs.Hands.{greatest, last_stamp_of, heard_at}
+use Rattle.core_ports.specs.Sides.{side_of}
 use Rattle.core_runner.specs.Network.{owner_of, peer_of, offers_in, decisions_in}
 use Rattle.core_runner.specs.Cores.{CoreView, AreCoresOf, HasFullClock, journals_of}
 use Rattle.core_runner.proofs.Parties.{party_ends, owner_has, peer_has}
-use Rattle.core_runner.proofs.Together.{party, journal_at}
+use Rattle.core_runner.specs.Workers.{WorkerAgreesWith, WorkerHasNoStamp}
+use Rattle.core_runner.proofs.Together.{party, journal_at, worker_journal}
 
 -- ---- each stamp of a journal is one of the merged history
 
@@ -94,27 +95,27 @@ heard_none Owner = refl
 heard_none Peer = refl
 heard_none Neither = refl
 
-module _ (code : Parts) (valid : HasLinks code) (bound : ℕ) (cores : List CoreView) (links : List LinkViews) (all : AreCoresOf code bound cores links) (most : ℕ)
-    (small : AllByRecursion (Below most) (merged (journals_of cores))) where
+module _ (code : Parts) (valid : HasLinks code) (bound : ℕ) (cores : List CoreView) (entries : List Entry) (links : List LinkViews) (all : AreCoresOf code bound cores links)
+    (work : WorkerAgreesWith code entries links) (most : ℕ) (small : AllByRecursion (Below most) (merged (journals_of cores entries))) where
   abbrev many : ℕ
   many = length code.entries
 
-  lasts : (p : ℕ) → last_of 0 (get_or (journals_of cores) p []) ≤ most
-  lasts p = each_last most 0 (journals_of cores) p (from_order (Below most) stamp_of (all_from 0 (journals_of cores)) small)
+  lasts : (p : ℕ) → last_of 0 (get_or (journals_of cores entries) p []) ≤ most
+  lasts p = each_last most 0 (journals_of cores entries) p (from_order (Below most) stamp_of (all_from 0 (journals_of cores entries)) small)
 
-  up : (p l : ℕ) → IsUpTo (last_of 0 (get_or (journals_of cores) p [])) (party_ends code.ends many links p l)
-  up p l = up_to_all _ p (party_ends code.ends many links p) (get_or (journals_of cores) p []) (party code valid bound cores links all p) l
+  up : (p l : ℕ) → IsUpTo (last_of 0 (get_or (journals_of cores entries) p [])) (party_ends code.ends many links p l)
+  up p l = up_to_all _ p (party_ends code.ends many links p) (get_or (journals_of cores entries) p []) (party code valid bound cores entries links all work p) l
 
   heard_by : (l : ℕ) → l < length code.capacities → (side : Side) → heard_at (link_at links l) side ≤ most
   heard_by l h Owner =
       let p = peer_of code.ends many l in
       let a = lasts p in
-      let b = decisions_below (last_of 0 (get_or (journals_of cores) p [])) (party_ends code.ends many links p l) (decisions_in links l) (peer_has code valid links all.linked l h) (up p l) in
+      let b = decisions_below (last_of 0 (get_or (journals_of cores entries) p [])) (party_ends code.ends many links p l) (decisions_in links l) (peer_has code valid links all.linked l h) (up p l) in
       omega arith
   heard_by l h Peer =
       let p = owner_of code.ends l in
       let a = lasts p in
-      let b = offers_below (last_of 0 (get_or (journals_of cores) p [])) (party_ends code.ends many links p l) (offers_in links l) (owner_has code valid links all.linked l h) (up p l) in
+      let b = offers_below (last_of 0 (get_or (journals_of cores entries) p [])) (party_ends code.ends many links p l) (offers_in links l) (owner_has code valid links all.linked l h) (up p l) in
       omega arith
   heard_by l h Neither = omega arith
 
@@ -129,4 +130,10 @@ module _ (code : Parts) (valid : HasLinks code) (bound : ℕ) (cores : List Core
   pub none_full : suc most < 2 ^ 60 → (k : ℕ) (c : CoreView) → slice_get cores k ≡ Some c → HasFullClock c links → ⊥
   none_full few k c is h =
       not_full (last_of 0 c.journal) (heard_at (link_at links h.link) (side_of c.code.ends c.core h.link)) most
-      (subst (λ j. last_of 0 j ≤ most) (journal_at cores k c is) (lasts k)) (heard h.link (side_of c.code.ends c.core h.link)) few h.full
+      (subst (λ j. last_of 0 j ≤ most) (journal_at entries cores k c is) (lasts k)) (heard h.link (side_of c.code.ends c.core h.link)) few h.full
+
+  -- nor is that of the worker
+  pub worker_not_full : suc most < 2 ^ 60 → WorkerHasNoStamp entries links → ⊥
+  worker_not_full few h =
+      not_full (last_of 0 entries) (heard_at (link_at links h.link) Peer) most
+      (subst (λ j. last_of 0 j ≤ most) (worker_journal entries cores many all.count) (lasts many)) (heard h.link Peer) few h.full

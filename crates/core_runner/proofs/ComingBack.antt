@@ -18,7 +18,7 @@ use Rattle.stack_code.specs.Valid.{HasLinks}
 use Rattle.code_meaning.specs.Machine.{Flat, FlatEnd}
 use Rattle.code_safety.specs.KeptEnds.{KeepsEnds}
 use Rattle.core_machine.specs.Machine.{ComesToEnd, IsSeen, has_stopped, has_ended, is_resting}
-use Rattle.core_machine.specs.Points.{AsksForNoFile, KeepsOperations, operations_of}
+use Rattle.core_machine.specs.Points.{KeepsOperations, operations_of}
 use Rattle.core_driver.specs.declared.pause.Pause.{Pause}
 use Rattle.core_driver.specs.declared.pause.Pause.TheVariants.{Finished, Trapped, OutOfSteps, Idle, ClockFull}
 use Rattle.core_driver.specs.Driven.{Driven}
@@ -84,16 +84,16 @@ waiting_in (On m) l going = refl
 waiting_in (Over x) l going = let no : true ≡ false = going in absurd (cc)
 
 module _ (d : Driven) (terms : ℕ → Terms) (ends : ℕ → LinkEnd) (hands : ℕ → AtHand) (valid : HasLinks d.machine.code) (keeps : KeepsEnds d.machine.code)
-    (own : KeepsOperations d.machine) (files : AsksForNoFile d.machine) where
+    (own : KeepsOperations d.machine) where
   leaves_nothing : has_ended d.machine.state ≡ false → idle.LeavesNothing d.machine terms ends hands → LeavesNothing (view_of d) terms ends hands
   leaves_nothing going h =
       let m = d.machine in
       record {
         decision = h.decision;
         front = λ l side waits. h.front l side (receives_there m.code m.core l (operations_of m.state) (own keeps) side (sym (waiting_in m.state l going) ∙ waits));
+        reply = h.reply;
         slot = λ l side waits room.
-            let some = sends_there m.code m.core l valid (operations_of m.state) (own keeps) files side (sym (waiting_in m.state l going) ∙ waits) in
-            h.slot l some.0 side some.1 room;
+            h.slot l side (sends_there m.code m.core l valid (operations_of m.state) (own keeps) side (sym (waiting_in m.state l going) ∙ waits)) room;
       }
 
   module _ (comes : ComesToEnd d.machine) (pause : Pause) (paused : IsPaused d.machine.state pause) (full : is_clock_full pause ≡ false)

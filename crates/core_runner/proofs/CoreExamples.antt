@@ -1,13 +1,17 @@
--- What the definitions say of two cores with one channel, of which the first sends 5 and the second receives it.
-use Rattle.std.proofs.Common.{◌≡◌, ℕ, zero, suc, ◌<◌, ◌≤◌, List, Bool, [], ◌∷◌, Some, None, true, false, refl, sym, ap, subst, inl, inr, arith, codes}
-use Rattle.std.specs.Prelude.{pos, ◌^◌, ◌-◌, slice_get}
-use Rattle.std.specs.List.{filter}
+-- What the definitions say of two cores with one channel, of which the first sends 5 and the second receives it, and of a worker that has
+-- nothing to do.
+use Rattle.std.proofs.Common.{◌≡◌, ℕ, zero, suc, ◌<◌, ◌≤◌, List, Bool, [], ◌∷◌, Some, None, true, false, refl, sym, ap, subst, inl, inr, arith, codes, cond}
+use Rattle.std.specs.Prelude.{pos, ◌^◌, ◌-◌, ◌==◌, slice_get}
+use Rattle.std.specs.List.{AllByRecursion, filter}
+use Rattle.std.proofs.lemmas.Bool.Decides.{nat_tests}
+use Rattle.ac_links.specs.Link.{link_of}
 use Rattle.std.proofs.lemmas.List.Elements.{All-from_recursion}
-use Rattle.ac_base.specs.declared.entry.Payload.TheVariants.{Int}
+use Rattle.ac_base.specs.declared.entry.Answer.TheVariants.{Count}
+use Rattle.ac_base.specs.declared.entry.Payload.TheVariants.{Int, Read}
 use Rattle.ac_base.specs.declared.entry.Entry.{Entry}
 use Rattle.ac_base.specs.Stamps.{stamp_after}
 use Rattle.ac_base.specs.declared.entry.Event.{Event}
-use Rattle.ac_base.specs.declared.entry.Event.TheVariants.{Offer, Know, Got}
+use Rattle.ac_base.specs.declared.entry.Event.TheVariants.{Offer, Know, Got, Pass, Did}
 use Rattle.ac_base.specs.declared.ends.EndWord.{EndWord}
 use Rattle.ac_base.specs.declared.ends.EndWord.TheVariants as word
 use Rattle.ac_base.specs.declared.ends.Waiting.{Waiting}
@@ -21,19 +25,21 @@ use Rattle.code_meaning.specs.Machine.{exec, first_flat, FlatEnd}
 use Rattle.ac_links.specs.Views.{OwnerOffer, owner_offer, known_at}
 use Rattle.ac_links.specs.Order.{of_party, is_of_link}
 use Rattle.ac_links.specs.Payloads.Taking.{Message}
+use Rattle.ac_links.specs.declared.payloads.Terms.{Terms}
 use Rattle.ac_links.specs.Party.{EndRuns}
 use Rattle.ac_links.specs.Party.LinkEnd.{Owns, Decides, Absent}
 use Rattle.core_channels.specs.LinkViews.{LinkViews, IsOffer, IsLink, link_at, no_link, new_link, terms_at}
 use Rattle.core_channels.specs.Takes.{taken_decision}
 use Rattle.ac_history.specs.Quiet.{waits_on}
-use Rattle.core_ports.specs.Ends.{has_room}
-use Rattle.core_driver.specs.declared.side.Side.{Side}
-use Rattle.core_driver.specs.declared.side.Side.TheVariants.{Owner, Peer, Neither}
-use Rattle.core_runner.specs.Hands.{hand_at, heard_at}
-use Rattle.core_driver.specs.Sides.{side_of}
-use Rattle.core_runner.specs.Network.{owner_at, owner_of, peer_at, peer_of, terms_in, offers_in, decisions_in, ends_in, heard_in, AreLinksOf}
+use Rattle.core_ports.specs.Ends.{has_room, awaits_reply}
+use Rattle.core_ports.specs.declared.side.Side.{Side}
+use Rattle.core_ports.specs.declared.side.Side.TheVariants.{Owner, Peer, Neither}
+use Rattle.list_ports.specs.Hands.{hand_at, heard_at}
+use Rattle.core_ports.specs.Sides.{side_of}
+use Rattle.file_ops.specs.Agreement.{is_own, worker_ends}
+use Rattle.core_runner.specs.Workers.{WorkerAgreesWith, WorkerRests, WorkerHasNoStamp, WorkerIsDone}
+use Rattle.core_runner.specs.Network.{owner_at, owner_of, peer_at, peer_of, terms_in, offers_in, decisions_in, request_in, ends_in, heard_in, AreLinksOf}
 use Rattle.core_runner.specs.Cores.{CoreView, EndsAs, AgreesWith, IsAtRest, HasNoStamp, HasFullClock, IsDone, IsCoreOf, AreCoresOf, journals_of, ends_of}
-use Rattle.core_runner.proofs.Rested.{none_of}
 use Rattle.core_runner.specs.GoingOn.{IsLater, LeavesNothing, HasStopped}
 
 -- ---- the code
@@ -113,6 +119,16 @@ not_without_requests h = let e = h.count in omega (arith, e)
 
 -- ---- its cores
 
+not_this : (m n : ℕ) → m < n → (m == n) ≡ false
+not_this m n h = grind (arith, nat_tests)
+
+none_of : (l channels p : ℕ) (j : List Entry) → channels ≤ l → AllByRecursion (λ e. link_of e.event < channels) j → filter (is_of_link l) (of_party p j) ≡ []
+none_of l channels p [] h a = refl
+none_of l channels p (e ∷ es) h a =
+    let lt = a.0 in
+    let out : (link_of e.event == l) ≡ false = not_this (link_of e.event) l (omega arith) in
+    rw out (none_of l channels p es h a.1)
+
 abbrev pub entry : ℕ → Event → Entry
 entry stamp event = record { stamp = stamp; turn = 1; event = event }
 
@@ -146,7 +162,7 @@ not_with_an_instruction_more r =
     let n : 6 ≡ 7 = ap (λ (x : FlatEnd). x.count) e in omega (arith, n)
 
 pub it_agrees : AgreesWith sender (links_with crossed)
-it_agrees = record { core = omega arith; party = record { runs = runs; stamps = (refl, (refl, tt)) }; channels = (omega arith, (omega arith, tt)) } where
+it_agrees = record { core = omega arith; party = record { runs = runs; stamps = (refl, (refl, tt)) } } where
   runs : (l : ℕ) → EndRuns (terms_in (links_with crossed) l) (ends_in crossing.ends 0 (links_with crossed) l) (filter (is_of_link l) (of_party 0 sender.journal))
   runs zero = (refl, omega arith, (refl, omega arith, refl))
   runs (suc zero) = refl
@@ -154,7 +170,7 @@ it_agrees = record { core = omega arith; party = record { runs = runs; stamps = 
   runs (suc (suc (suc l))) = none_of (suc (suc (suc l))) 1 0 sender.journal (omega arith) (omega arith, (omega arith, tt))
 
 pub so_does_the_receiver : AgreesWith receiver (links_with crossed)
-so_does_the_receiver = record { core = omega arith; party = record { runs = runs; stamps = (refl, tt) }; channels = (omega arith, tt) } where
+so_does_the_receiver = record { core = omega arith; party = record { runs = runs; stamps = (refl, tt) } } where
   runs : (l : ℕ) → EndRuns (terms_in (links_with crossed) l) (ends_in crossing.ends 1 (links_with crossed) l) (filter (is_of_link l) (of_party 1 receiver.journal))
   runs zero = (refl, omega arith, refl)
   runs (suc zero) = refl
@@ -231,18 +247,12 @@ both_cores = record {
   each = by_place (IsCoreOf crossing 9) the_first_of_its_cores (record { code_is = refl; core_is = refl; bound_is = refl });
   agree = by_place (λ k c. AgreesWith c (links_with crossed)) it_agrees so_does_the_receiver;
   linked = its_links;
-  undone = undone;
-} where
-  undone : (l : ℕ) → 1 ≤ l → decisions_in (links_with crossed) l ≡ []
-  undone zero h = absurd (omega arith)
-  undone (suc zero) h = refl
-  undone (suc (suc zero)) h = refl
-  undone (suc (suc (suc l))) h = refl
+}
 
 pub not_one_alone : AreCoresOf crossing 9 (sender ∷ []) (links_with crossed) → ⊥
 not_one_alone h = let e = h.count in omega (arith, e)
 
-pub their_journals_and_ends : (journals_of (sender ∷ receiver ∷ []) ≡ sender.journal ∷ receiver.journal ∷ [] ∷ []) × (ends_of (sender ∷ receiver ∷ []) ≡ sender.end.core ∷ receiver.end.core ∷ [])
+pub their_journals_and_ends : (journals_of (sender ∷ receiver ∷ []) [] ≡ sender.journal ∷ receiver.journal ∷ [] ∷ []) × (ends_of (sender ∷ receiver ∷ []) ≡ sender.end.core ∷ receiver.end.core ∷ [])
 their_journals_and_ends = (refl, refl)
 
 -- ---- a core that goes on
@@ -258,9 +268,14 @@ nothing_at Owner = refl
 nothing_at Peer = refl
 nothing_at Neither = refl
 
+no_reply_at : (side : Side) → (hand_at no_link side).reply ≡ false
+no_reply_at Owner = refl
+no_reply_at Peer = refl
+no_reply_at Neither = refl
+
 pub nothing_is_left_without_a_message : LeavesNothing waiting (terms_in (links_with fresh)) (ends_in crossing.ends 1 (links_with fresh))
     (λ l. hand_at (link_at (links_with fresh) l) (side_of crossing.ends 1 l))
-nothing_is_left_without_a_message = record { decision = decision; front = front; slot = slot } where
+nothing_is_left_without_a_message = record { decision = decision; front = front; reply = reply; slot = slot } where
   decision : (l : ℕ) → side_of crossing.ends 1 l ≡ Owner → (hand_at (link_at (links_with fresh) l) (side_of crossing.ends 1 l)).decision ≡ false
   decision zero h = cc
   decision (suc zero) h = cc
@@ -272,6 +287,13 @@ nothing_is_left_without_a_message = record { decision = decision; front = front;
   front (suc zero) h w = cc
   front (suc (suc zero)) h w = cc
   front (suc (suc (suc l))) h w = let e = nothing_at (side_of crossing.ends 1 (suc (suc (suc l)))) in cc
+
+  reply : (l : ℕ) → side_of crossing.ends 1 l ≡ Owner → (terms_in (links_with fresh) l).requests ≡ true → awaits_reply (ends_in crossing.ends 1 (links_with fresh) l) ≡ true
+      → (hand_at (link_at (links_with fresh) l) (side_of crossing.ends 1 l)).reply ≡ false
+  reply zero h r w = cc
+  reply (suc zero) h r w = cc
+  reply (suc (suc zero)) h r w = refl
+  reply (suc (suc (suc l))) h r w = no_reply_at (side_of crossing.ends 1 (suc (suc (suc l))))
 
   slot : (l : ℕ) → side_of crossing.ends 1 l ≡ Owner → waits_on l waiting.end.core ≡ true → has_room (terms_in (links_with fresh) l) (ends_in crossing.ends 1 (links_with fresh) l) ≡ true
       → (hand_at (link_at (links_with fresh) l) (side_of crossing.ends 1 l)).slot ≡ false
@@ -291,3 +313,60 @@ the_sender_has_stopped = record { comes = the_sender_ends; stopped = refl; leave
 pub one_that_is_cut_off_has_not : HasStopped (record sender { end = stop word.Stalled [] false }) (terms_in (links_with crossed)) (ends_in crossing.ends 0 (links_with crossed))
     (λ l. hand_at (link_at (links_with crossed) l) (side_of crossing.ends 0 l)) → ⊥
 one_that_is_cut_off_has_not h = let e = h.stopped in cc
+
+-- ---- the worker
+
+nothing_runs : (t : Terms) (own : Bool) → EndRuns t (cond own (Decides []) Absent) []
+nothing_runs t true = refl
+nothing_runs t false = refl
+
+-- it has a link for each core, and has done nothing there
+pub it_agrees_too : WorkerAgreesWith crossing [] (links_with crossed)
+it_agrees_too = record { party = record { runs = runs; stamps = tt }; turns = tt } where
+  runs : (l : ℕ) → EndRuns (terms_in (links_with crossed) l) (worker_ends 1 2 (links_with crossed) l) []
+  runs zero = refl
+  runs (suc zero) = refl
+  runs (suc (suc zero)) = refl
+  runs (suc (suc (suc l))) = nothing_runs (terms_in (links_with crossed) (suc (suc (suc l)))) (is_own 1 2 (suc (suc (suc l))))
+
+pub not_with_an_entry_of_a_core : WorkerAgreesWith crossing sender.journal (links_with crossed) → ⊥
+not_with_an_entry_of_a_core h = let e = h.turns.0 in omega (arith, e)
+
+pub nothing_is_asked : WorkerRests crossing (links_with crossed)
+nothing_is_asked zero low high = absurd (omega arith)
+nothing_is_asked (suc zero) low high = omega arith
+nothing_is_asked (suc (suc zero)) low high = omega arith
+nothing_is_asked (suc (suc (suc l))) low high = absurd (omega arith)
+
+-- a read of two bytes that the first core has asked for
+abbrev pub wanting : LinkViews
+wanting = record asking { offers = owner_offer (Read 0 0 2) 1 ∷ [] }
+
+abbrev pub asked : List LinkViews
+asked = crossed ∷ wanting ∷ asking ∷ []
+
+pub not_where_a_request_is_left : WorkerRests crossing asked → ⊥
+not_where_a_request_is_left h = let n = h 1 (omega arith) (omega arith) in omega (arith, n)
+
+pub what_was_asked : (request_in asked (Did 1 0 (Count 0)) ≡ Some (Read 0 0 2)) × (request_in asked (Did 1 1 (Count 0)) ≡ None) × (request_in asked (Pass 1 0) ≡ None)
+what_was_asked = (refl, refl, refl)
+
+-- its last entry has the last stamp but one, and the request came with it
+pub its_stamps_are_used : WorkerHasNoStamp (entry (2 ^ 60 - 1) (Pass 2 0) ∷ []) asked
+its_stamps_are_used = record { link = 1; full = refl }
+
+pub it_has_stamps : WorkerHasNoStamp [] asked → ⊥
+it_has_stamps h = by h.link h.full
+  where
+    by : (l : ℕ) → stamp_after 0 (heard_at (link_at asked l) Peer) ≡ None → ⊥
+    by zero e = cc
+    by (suc zero) e = cc
+    by (suc (suc zero)) e = cc
+    by (suc (suc (suc l))) e = cc
+
+pub it_can_go_on : WorkerIsDone crossing [] asked → ⊥
+it_can_go_on (inl r) = not_where_a_request_is_left r
+it_can_go_on (inr f) = it_has_stamps f
+
+pub it_can_go_no_further : WorkerIsDone crossing [] (links_with crossed)
+it_can_go_no_further = inl nothing_is_asked

@@ -1,5 +1,5 @@
 -- Who the parties of a link are, and what each of them has of it.
-use Rattle.std.proofs.Common.{◌≡◌, ◌⊎◌, ℕ, ◌+◌, ◌-◌, ◌<◌, ◌≤◌, List, [], Option, Some, None, Bool, true, false, cond, refl, sym, ap, ◌∙◌, subst, inl, inr, arith, length}
+use Rattle.std.proofs.Common.{◌≡◌, ◌⊎◌, ℕ, ◌+◌, ◌-◌, ◌<◌, ◌≤◌, List, Option, Some, None, Bool, true, false, cond, refl, sym, ap, ◌∙◌, subst, inl, inr, arith, length}
 use Rattle.std.specs.Prelude.{◌≢◌, ◌==◌, slice_get, nat_le}
 use Rattle.std.proofs.Math.Path.{fun_ext}
 use Rattle.std.proofs.lemmas.Bool.Decides.{eqb_tells, leb_tells, nat_tests}
@@ -9,15 +9,16 @@ use Rattle.stack_code.specs.declared.parts.ChannelEnds.{ChannelEnds}
 use Rattle.stack_code.specs.Parts.{Parts}
 use Rattle.stack_code.specs.Valid.{HasLinks, IsChannel}
 use Rattle.ac_links.specs.declared.payloads.Terms.{Terms}
-use Rattle.ac_links.specs.Party.{LinkEnd, EndRuns}
+use Rattle.ac_links.specs.Party.{LinkEnd}
 use Rattle.ac_links.specs.Party.LinkEnd.{Owns, Decides, Absent}
 use Rattle.ac_history.specs.Network.{IsPeer}
 use Rattle.core_ports.specs.Ends.{is_owner, is_peer}
 use Rattle.core_channels.specs.LinkViews.{LinkViews, no_link, link_at}
-use Rattle.core_driver.specs.declared.side.Side.{Side}
-use Rattle.core_driver.specs.declared.side.Side.TheVariants.{Owner, Peer, Neither}
-use Rattle.core_driver.specs.Sides.{side_at, side_of}
-use Rattle.core_runner.specs.Ends.{end_of}
+use Rattle.core_ports.specs.declared.side.Side.{Side}
+use Rattle.core_ports.specs.declared.side.Side.TheVariants.{Owner, Peer, Neither}
+use Rattle.core_ports.specs.Sides.{side_at, side_of}
+use Rattle.file_ops.specs.Agreement.{is_own, worker_ends}
+use Rattle.list_ports.specs.Ends.{end_of}
 use Rattle.core_runner.specs.Network.{owner_at, owner_of, peer_at, peer_of, offers_in, decisions_in, ends_in, AreLinksOf}
 
 -- ---- the side of a core is that of the party
@@ -181,6 +182,12 @@ module _ (code : Parts) (valid : HasLinks code) (links : List LinkViews) (of : A
     | inr q ↦ (let low = q.1 in let high = q.2 in subst (λ (n : ℕ). n < cores) (sym (ap (owner_at channels l) q.0)) (omega arith))
   ]
 
+  peer_is_party : (l : ℕ) → l < length code.capacities → peer_of code.ends cores l ≤ cores
+  peer_is_party l h = elim (request_or_channel l h) [
+    | inl q ↦ (let w : q.0.to < cores = q.3.1 in let same : peer_of code.ends cores l ≡ q.0.to = ap (peer_at cores) q.1 in omega arith)
+    | inr q ↦ (let same : peer_of code.ends cores l ≡ cores = ap (peer_at cores) q.0 in omega arith)
+  ]
+
   kind_by : (l : ℕ) (b : Bool) → nat_le channels l ≡ b → (l < channels → peer_of code.ends cores l < cores) → (channels ≤ l → peer_of code.ends cores l ≡ cores) →
       IsPeer cores b (peer_of code.ends cores l)
   kind_by l true e f g = g (grind (arith, nat_tests))
@@ -197,25 +204,40 @@ module _ (code : Parts) (valid : HasLinks code) (links : List LinkViews) (of : A
         | inr q ↦ ap (peer_at cores) q.0
       ])
 
-  -- ---- a party that is no core has made no entry
+  -- ---- a party that is no core
 
-  idle_at : (t : Terms) (b : Bool) (v : LinkViews) → (b ≡ true → v.decisions ≡ []) → EndRuns t (party_end_at v (cond b Peer Neither)) []
-  idle_at t true v none = none refl
-  idle_at t false v none = refl
+  not_own_low : (l : ℕ) → l < channels → is_own channels cores l ≡ false
+  not_own_low l h = grind (arith, nat_tests)
 
-  pub idle_end : ((l : ℕ) → channels ≤ l → decisions_in links l ≡ []) → (p l : ℕ) (t : Terms) → cores ≤ p → EndRuns t (party_ends code.ends cores links p l) []
-  idle_end undone p l t h = elim (leb_tells (length code.capacities) l) [
-    | inl q ↦ subst (λ x. EndRuns t x []) (sym (none_has l p q.1)) refl
+  not_own_past : (l : ℕ) → length code.capacities ≤ l → is_own channels cores l ≡ false
+  not_own_past l h = let e = valid.each in let past : channels + cores ≤ l = omega arith in grind (arith, nat_tests)
+
+  own_between : (l : ℕ) → channels ≤ l → l < channels + cores → is_own channels cores l ≡ true
+  own_between l low high = grind (arith, nat_tests)
+
+  -- the worker decides on the links of requests
+  pub worker_has : (l : ℕ) → party_ends code.ends cores links cores l ≡ worker_ends channels cores links l
+  worker_has l = elim (leb_tells (length code.capacities) l) [
+    | inl q ↦ none_has l cores q.1 ∙ sym (ap (λ b. cond b (Decides (decisions_in links l)) Absent) (not_own_past l q.1))
     | inr q ↦ (let lt : l < length code.capacities = let n = q.1 in omega arith in
-        let owner = owner_is_core l lt in
-        let idle = idle_at t (peer_of code.ends cores l == p) (link_at links l)
-        (λ e. undone l (elim (request_or_channel l lt) [
-          | inl r ↦ absurd (let w : peer_of code.ends cores l < cores = subst (λ (n : ℕ). n < cores) (sym (ap (peer_at cores) r.1)) r.3.1 in let n = same
-              (peer_of code.ends cores l) p e in omega arith)
-          | inr r ↦ r.1
-        ])) in
-        subst (λ b. EndRuns t (party_end_of (cond b Owner (cond (peer_of code.ends cores l == p) Peer Neither)) (slice_get links l)) []) (sym (differs (owner_of code.ends l) p (λ e. omega arith)))
-        (subst (λ o. EndRuns t (party_end_of (cond (peer_of code.ends cores l == p) Peer Neither) o) []) (sym (there l lt)) idle))
+        elim (request_or_channel l lt) [
+          | inl r ↦
+              other_has l cores lt (λ e. absurd (let w : owner_of code.ends l < cores = owner_is_core l lt in omega arith))
+              (λ e. absurd (let w : r.0.to < cores = r.3.1 in let same : peer_of code.ends cores l ≡ r.0.to = ap (peer_at cores) r.1 in omega arith))
+              ∙ sym (ap (λ b. cond b (Decides (decisions_in links l)) Absent) (not_own_low l r.2))
+          | inr r ↦
+              ap (λ p. party_ends code.ends cores links p l) (sym (ap (peer_at cores) r.0)) ∙ peer_has l lt
+              ∙ sym (ap (λ b. cond b (Decides (decisions_in links l)) Absent) (own_between l r.1 r.2))
+        ])
+  ]
+
+  -- and nobody comes after it
+  pub nobody_has : (p l : ℕ) → cores < p → party_ends code.ends cores links p l ≡ Absent
+  nobody_has p l past = elim (leb_tells (length code.capacities) l) [
+    | inl q ↦ none_has l p q.1
+    | inr q ↦ (let lt : l < length code.capacities = let n = q.1 in omega arith in
+        other_has l p lt (λ e. absurd (let w : owner_of code.ends l < cores = owner_is_core l lt in omega arith))
+        (λ e. absurd (let w = peer_is_party l lt in omega arith)))
   ]
 
   -- ---- a party that is a core has that side

@@ -15,14 +15,17 @@ use Rattle.ac_translation.specs.Translation.{code_of}
 use Rattle.ac_translation.specs.Same.{IsSame}
 use Rattle.ac_history.specs.Merged.{merged}
 use Rattle.ac_links.specs.AtRest.{has_front}
+use Rattle.ac_history.specs.Files.{deeds}
 use Rattle.ac_history.specs.History.{IsLegal, link_at, start}
 use Rattle.ac_history.specs.Quiet.{after_all_of, CoreIsQuiet, IsQuiet}
 use Rattle.core_runner.specs.declared.ended.Ended.{Ended}
 use Rattle.core_runner.specs.Network.{owner_of, peer_of}
 use Rattle.core_runner.specs.Cores.{CoreView, IsAtRest, IsDone, HasFullClock}
 use Rattle.core_runner.specs.Run.{IsCoreRun, AreCoreRuns, IsRunOf, EndsQuiet, history_of, nothing_yet}
-use Rattle.core_runner.specs.Laws.{CoresAreLegal, NoClockIsFull, CoresAreQuiet, IsRunOfCores, CoresMakeARun}
-use Rattle.core_runner.proofs.CoreExamples.{crossing, links_with, crossed, sender, receiver, stop, both_cores, by_place, it_has_ended, so_has_the_receiver, it_is_done, not_with_an_instruction_more}
+use Rattle.core_runner.specs.Laws.{CoresAreLegal, NoClockIsFull, CoresAreQuiet, CoresAreServed, IsRunOfCores, CoresMakeARun}
+use Rattle.core_runner.specs.Workers.{WorkerHasNoStamp}
+use Rattle.core_runner.proofs.CoreExamples.{crossing, links_with, crossed, sender, receiver, stop, both_cores, it_agrees_too}
+use Rattle.core_runner.proofs.CoreExamples.{nothing_is_asked, it_can_go_no_further, by_place, it_has_ended, so_has_the_receiver, it_is_done, not_with_an_instruction_more}
 
 -- ---- the laws
 
@@ -38,15 +41,23 @@ its_channel = record {
 }
 
 pub they_are_legal : CoresAreLegal → IsLegal (start (1 ∷ 16 ∷ 16 ∷ []) 2) (merged (sender.journal ∷ receiver.journal ∷ [] ∷ []))
-they_are_legal law = law crossing 9 its_cores (links_with crossed) its_channel both_cores
+they_are_legal law = law crossing 9 its_cores [] (links_with crossed) its_channel both_cores it_agrees_too
 
 -- the last stamp is 3
 pub no_clock_of_them_is_full : NoClockIsFull → HasFullClock receiver (links_with crossed) → ⊥
-no_clock_of_them_is_full law = law crossing 9 its_cores (links_with crossed) 3 its_channel both_cores (omega arith, (omega arith, (omega arith, tt))) (omega arith) 1 receiver refl
+no_clock_of_them_is_full law = (law crossing 9 its_cores [] (links_with crossed) 3 its_channel both_cores it_agrees_too (omega arith, (omega arith, (omega arith, tt))) (omega arith)).0 1 receiver refl
+
+pub nor_is_that_of_the_worker : NoClockIsFull → WorkerHasNoStamp [] (links_with crossed) → ⊥
+nor_is_that_of_the_worker law = (law crossing 9 its_cores [] (links_with crossed) 3 its_channel both_cores it_agrees_too (omega arith, (omega arith, (omega arith, tt))) (omega arith)).1
 
 pub they_are_quiet : CoresAreQuiet → IsQuiet (owner_of crossing.ends) (peer_of crossing.ends 2)
     (after_all_of (start (1 ∷ 16 ∷ 16 ∷ []) 2) (merged (sender.journal ∷ receiver.journal ∷ [] ∷ []))) (sender.end.core ∷ receiver.end.core ∷ [])
-they_are_quiet law = law crossing 9 its_cores (links_with crossed) its_channel both_cores (by_place (λ k c. IsAtRest c (links_with crossed)) it_has_ended so_has_the_receiver)
+they_are_quiet law = law crossing 9 its_cores [] (links_with crossed) its_channel both_cores it_agrees_too (by_place (λ k c. IsAtRest c
+    (links_with crossed)) it_has_ended so_has_the_receiver) nothing_is_asked
+
+-- they have done nothing, and a disk is as it was
+pub nothing_was_done : CoresAreServed → deeds (start (1 ∷ 16 ∷ 16 ∷ []) 2) (merged (sender.journal ∷ receiver.journal ∷ [] ∷ [])) ≡ []
+nothing_was_done law = (law crossing 9 its_cores [] (links_with crossed) its_channel both_cores it_agrees_too).0
 
 -- ---- their run
 
@@ -61,16 +72,19 @@ their_run = record {
   cores = sender.end ∷ receiver.end ∷ [];
 }
 
-pub it_is_made : IsRunOfCores 9 its_cores their_run
+pub it_is_made : IsRunOfCores 9 [] its_cores [] their_run
 it_is_made = record { steps = refl; start = refl; journals = refl; ends = refl }
 
-pub not_without_the_worker : IsRunOfCores 9 its_cores (record their_run { journals = log sender.journal ∷ log receiver.journal ∷ [] }) → ⊥
+pub not_without_the_worker : IsRunOfCores 9 [] its_cores [] (record their_run { journals = log sender.journal ∷ log receiver.journal ∷ [] }) → ⊥
 not_without_the_worker r = let e = r.journals in cc
+
+pub not_from_other_files : IsRunOfCores 9 ([] ∷ []) its_cores [] their_run → ⊥
+not_from_other_files r = let e = r.start in cc
 
 pub it_is_a_run : CoresMakeARun → (program : Resolved) → IsValid crossing → crossing ≡ code_of program → IsSame crossing program → IsRunOf program 9 [] their_run
 it_is_a_run law program valid is_code is_same =
-    law program crossing 9 its_cores (links_with crossed) their_run valid is_code is_same (omega arith) both_cores
-    (by_place (λ k c. IsDone c (links_with crossed)) it_is_done (inl so_has_the_receiver)) it_is_made
+    law program crossing 9 [] its_cores [] (links_with crossed) their_run valid is_code is_same (omega arith) both_cores it_agrees_too
+    (by_place (λ k c. IsDone c (links_with crossed)) it_is_done (inl so_has_the_receiver)) it_can_go_no_further it_is_made
 
 pub not_with_another_bound : (program : Resolved) → IsRunOf program 8 [] their_run → ⊥
 not_with_another_bound program r = let e = r.steps in omega (arith, e)

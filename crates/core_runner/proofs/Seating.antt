@@ -1,8 +1,9 @@
--- What a core that goes on over links leaves to the other cores.
-use Rattle.std.proofs.Common.{◌≡◌, ℕ, ◌<◌, ◌≤◌, List, Some, None, Bool, false, cond, refl, sym, ap, ◌∙◌, subst, inl, inr, arith, length}
-use Rattle.std.specs.Prelude.{nat_eq, slice_get}
+-- What a party that goes on over links leaves to the others.
+use Rattle.std.proofs.Common.{◌≡◌, ℕ, ◌<◌, ◌≤◌, List, Some, None, Bool, true, false, cond, refl, sym, ap, ◌∙◌, subst, inl, inr, arith, length}
+use Rattle.std.specs.Prelude.{◌+◌, nat_eq, nat_le, nat_lt, slice_get}
 use Rattle.std.specs.List.{All}
 use Rattle.std.proofs.Math.Path.{fun_ext}
+use Rattle.std.proofs.lemmas.Bool.{and_parts}
 use Rattle.std.proofs.lemmas.Bool.Decides.{leb_tells, nat_tests}
 use Rattle.std.proofs.lemmas.List.{get_or_past}
 use Rattle.std.proofs.lemmas.List.Elements.{All-get_or, All-from_get_or}
@@ -11,16 +12,19 @@ use Rattle.stack_code.specs.declared.parts.ChannelEnds.{ChannelEnds}
 use Rattle.stack_code.specs.Parts.{Parts}
 use Rattle.stack_code.specs.Valid.{HasLinks}
 use Rattle.ac_links.specs.declared.payloads.Terms.{Terms}
+use Rattle.ac_links.specs.Views.{PeerDecision}
+use Rattle.ac_links.specs.Noted.{offer_payload}
 use Rattle.ac_links.specs.Party.LinkEnd.{Owns, Decides, Absent}
 use Rattle.core_channels.specs.LinkViews.{LinkViews, IsLink, no_link, link_at, SameTerms, SameButSpares}
 use Rattle.in_turn.specs.Parties.{nobody}
-use Rattle.core_driver.specs.declared.side.Side.{Side}
-use Rattle.core_driver.specs.declared.side.Side.TheVariants.{Owner, Peer, Neither}
-use Rattle.core_driver.specs.Sides.{side_of}
-use Rattle.core_runner.specs.Ends.{end_at, end_of}
-use Rattle.core_runner.specs.Lent.{SideStays, OthersStay}
-use Rattle.core_runner.specs.Network.{owner_of, peer_of, offers_in, decisions_in, ends_in, AreLinksOf}
-use Rattle.core_runner.specs.inner.Seats.{Changed}
+use Rattle.core_ports.specs.declared.side.Side.{Side}
+use Rattle.core_ports.specs.declared.side.Side.TheVariants.{Owner, Peer, Neither}
+use Rattle.core_ports.specs.Sides.{side_of}
+use Rattle.list_ports.specs.Ends.{end_at, end_of}
+use Rattle.file_ops.specs.Agreement.{is_own}
+use Rattle.list_ports.specs.Lent.{KeepsPayloads, SideStays, OthersStay}
+use Rattle.core_runner.specs.Network.{owner_of, peer_at, peer_of, offers_in, decisions_in, ends_in, AreLinksOf}
+use Rattle.core_runner.specs.inner.Changes.{Changed}
 use Rattle.core_runner.proofs.Parties.{owner_is, peer_is, carries_messages, peer_of_channel}
 
 -- ---- ends
@@ -51,20 +55,31 @@ module _ (channels : List ChannelEnds) (cores : ℕ) (before after : List LinkVi
         ap (end_of side) (got_after l lt) ∙ same_at side (link_at before l) (link_at after l) (terms.each l) offers decisions ∙ sym (ap (end_of side) (got_before l lt)))
   ]
 
+  -- the worker decides on the links after the channels
+  peer_is_worker : (l : ℕ) → is_own (length channels) cores l ≡ true → peer_of channels cores l ≡ cores
+  peer_is_worker l own = ap (peer_at cores) (slice_get_past channels l (let e = and_parts (nat_le (length channels) l) (nat_lt l (length channels + cores)) own in at_least (length channels) l e.0))
+    where
+      at_least : (m n : ℕ) → nat_le m n ≡ true → m ≤ n
+      at_least m n h = grind (arith, nat_tests)
+
+  own_end : (b : Bool) (ds es : List PeerDecision) → (b ≡ true → es ≡ ds) → cond b (Decides es) Absent ≡ cond b (Decides ds) Absent
+  own_end true ds es h = ap Decides (h refl)
+  own_end false ds es h = refl
+
   -- where the sides of links change as the test allows, the ends of the others stay
   pub others_keep : (test : ℕ → Bool) → (All IsLink before → All IsLink after)
       → ((l : ℕ) → test (owner_of channels l) ≡ false → offers_in after l ≡ offers_in before l)
       → ((l : ℕ) → test (peer_of channels cores l) ≡ false → decisions_in after l ≡ decisions_in before l)
-      → ((l : ℕ) → length channels ≤ l → decisions_in after l ≡ decisions_in before l)
       → Changed channels cores test before after
-  others_keep test agree offers decisions requests = record {
+  others_keep test agree offers decisions = record {
     terms = terms;
     agree = agree;
     offers = offers;
     decisions = decisions;
-    requests = requests;
     ends = λ core other. fun_ext (λ l. same_end (side_of channels core l) l
         (λ is. offers l (ap test (owner_is channels core l is) ∙ other)) (λ is. decisions l (ap test (peer_is channels cores core l is) ∙ other)));
+    worker = λ other. fun_ext (λ l. own_end (is_own (length channels) cores l) (decisions_in before l) (decisions_in after l)
+        (λ own. decisions l (ap test (peer_is_worker l own) ∙ other)));
   }
 
 -- ---- more places change nothing
@@ -80,7 +95,6 @@ module _ (channels : List ChannelEnds) (cores : ℕ) (before after : List LinkVi
   pub reserved : (test : ℕ → Bool) → Changed channels cores test before after
   reserved test = others_keep channels cores before after as_before test still_links
       (λ l other. ap (λ (v : LinkViews). v.offers) (same.each l)) (λ l other. ap (λ (v : LinkViews). v.decisions) (same.each l))
-      (λ l past. ap (λ (v : LinkViews). v.decisions) (same.each l))
 
 -- ---- a core goes on
 
@@ -103,9 +117,18 @@ module _ (code : Parts) (valid : HasLinks code) (core : ℕ) (before after : Lis
   cores = length code.entries
 
   -- it does no requests
-  requests_stay : (l : ℕ) → length code.ends ≤ l → decisions_in after l ≡ decisions_in before l
+  pub requests_stay : (l : ℕ) → length code.ends ≤ l → decisions_in after l ≡ decisions_in before l
   requests_stay l past = decisions_stay (link_at before l) (link_at after l) (side_of code.ends core l)
       (λ is. let low = peer_of_channel code valid before of core l is in absurd (omega arith)) (others.each l)
+
+  -- and what was offered is offered still
+  payloads_by : (v w : LinkViews) (side : Side) → SideStays v w side → KeepsPayloads v.offers w.offers
+  payloads_by v w Owner s = s.2
+  payloads_by v w Peer s = λ n p h. ap (λ os. offer_payload (slice_get os n)) s.0 ∙ h
+  payloads_by v w Neither s = λ n p h. ap (λ (x : LinkViews). offer_payload (slice_get x.offers n)) s ∙ h
+
+  pub payloads_stay : (l : ℕ) → KeepsPayloads (offers_in before l) (offers_in after l)
+  payloads_stay l = payloads_by (link_at before l) (link_at after l) (side_of code.ends core l) (others.each l)
 
   -- only what is its own has changed
   pub its_own : Changed code.ends cores (nat_eq core) before after
@@ -113,7 +136,6 @@ module _ (code : Parts) (valid : HasLinks code) (core : ℕ) (before after : Lis
       (λ l other. offers_stay (link_at before l) (link_at after l) (side_of code.ends core l) (λ is. apart core (owner_of code.ends l) other (owner_is code.ends core l is)) (others.each l))
       (λ l other. decisions_stay (link_at before l) (link_at after l) (side_of code.ends core l)
       (λ is. apart core (peer_of code.ends cores l) other (peer_is code.ends cores core l is)) (others.each l))
-      requests_stay
 
   -- they are still links of the code
   pub still_of : AreLinksOf code after
@@ -163,7 +185,6 @@ module _ (code : Parts) (valid : HasLinks code) (core : ℕ) (before after : Lis
     pub nothing_changed : Changed code.ends cores nobody before after
     nothing_changed = others_keep code.ends cores before after others.terms nobody (λ a. linked)
         (λ l other. offers_by l (side_of code.ends core l) refl (others.each l)) (λ l other. decisions_by l (side_of code.ends core l) refl (others.each l))
-        requests_stay
 
     -- and no place of its links was taken
     spare_by : (l : ℕ) (side : Side) → side_of code.ends core l ≡ side → side ≡ Owner → SideStays (link_at before l) (link_at after l) side → (link_at after l).spare ≡ (link_at before l).spare

@@ -1,16 +1,15 @@
--- Cores at seats in order are the cores of the code.
-use Rattle.std.proofs.Common.{◌≡◌, ℕ, zero, suc, ◌+◌, ◌<◌, ◌≤◌, List, [], ◌∷◌, Some, false, refl, sym, ap, ◌∙◌, subst, inl, inr, arith, length, map}
+-- Parties at seats in order are the cores of the code and the worker.
+use Rattle.std.proofs.Common.{◌≡◌, ℕ, zero, suc, ◌+◌, ◌<◌, List, [], ◌∷◌, Some, false, refl, sym, ap, subst, arith, length, map}
 use Rattle.std.specs.Prelude.{nat_eq, slice_get}
 use Rattle.std.specs.List.{AllByRecursion, IsDistinct, range_with_len}
 use Rattle.std.proofs.lemmas.Bool.Decides.{nat_tests}
-use Rattle.std.proofs.lemmas.List.{length-map}
-use Rattle.std.proofs.lemmas.List.FromFn.{length-range_with_len}
-use Rattle.std.proofs.lemmas.Option.{slice_get_cases}
 use Rattle.stack_code.specs.Parts.{Parts}
-use Rattle.in_turn.specs.Parties.{AreAtRest, AreReady}
-use Rattle.core_runner.specs.declared.network.Network.{Network}
-use Rattle.core_runner.specs.Cores.{CoreView, AgreesWith, IsDone, AreCoresOf}
-use Rattle.core_runner.specs.inner.Seats.{IsSeated}
+use Rattle.core_runner.specs.declared.seat.Seat.{Seat}
+use Rattle.core_runner.specs.declared.seat.Seat.TheVariants.{AtCore, AtWorker}
+use Rattle.core_runner.specs.Cores.{CoreView, IsDone, AreCoresOf}
+use Rattle.core_runner.specs.Workers.{WorkerIsDone}
+use Rattle.core_runner.specs.inner.Boards.{Board}
+use Rattle.core_runner.specs.inner.Seats.{IsSeated, IsAtWork, number_of, Sits, RestsAt, cores_at}
 
 -- ---- numbers in order
 
@@ -23,63 +22,76 @@ unfolding IsDistinct
 in_order_are_distinct a zero = tt
 in_order_are_distinct a (suc n) = (above a (a + 1) n (omega arith), in_order_are_distinct (a + 1) n)
 
-at_place : (a n k x : ℕ) → slice_get (range_with_len a n) k ≡ Some x → x ≡ a + k
-at_place a zero k x h = cc
-at_place a (suc n) zero x h = let e : a ≡ x = cc in omega arith
-at_place a (suc n) (suc k) x h = let ih = at_place (a + 1) n k x h in omega arith
+-- ---- who sits where
 
-module _ {S : Type 0} (seen : S → CoreView) (number : S → ℕ) where
-  number_at : (seats : List S) (k : ℕ) (s : S) → slice_get seats k ≡ Some s → slice_get (map number seats) k ≡ Some (number s)
-  number_at [] k s h = cc
-  number_at (x ∷ seats) zero s h = let e : x ≡ s = cc in ap (λ y. Some (number y)) e
-  number_at (x ∷ seats) (suc k) s h = number_at seats k s h
+-- the cores from number `a` on, as many as n, and then the worker
+pub record AreSeated (b : Board) (a n : ℕ) (cores : List CoreView) : Type 0 where
+  pub count : length cores ≡ n
+  pub seated : (k : ℕ) (c : CoreView) → slice_get cores k ≡ Some c → IsSeated c (a + k) b
+  pub done : (k : ℕ) (c : CoreView) → slice_get cores k ≡ Some c → IsDone c b.wired.links
+  pub last : ℕ
+  pub at_work : IsAtWork last (a + n) b
+  pub rests : WorkerIsDone b.code b.entries b.wired.links
 
-  seat_at : (seats : List S) (k : ℕ) (c : CoreView) → slice_get (map seen seats) k ≡ Some c → (s : S) × (slice_get seats k ≡ Some s) × (seen s ≡ c)
-  seat_at [] k c h = cc
-  seat_at (x ∷ seats) zero c h = (x, refl, cc)
-  seat_at (x ∷ seats) (suc k) c h = seat_at seats k c h
+one_more : (b : Board) (a n : ℕ) (c : CoreView) (cores : List CoreView) → IsSeated c a b → IsDone c b.wired.links → AreSeated b (a + 1) n cores → AreSeated b a (suc n) (c ∷ cores)
+one_more b a n c cores here done rest = record {
+  count = ap suc rest.count;
+  seated = seated;
+  done = all_done;
+  last = rest.last;
+  at_work = subst (λ m. IsAtWork rest.last m b) (let e : (a + 1) + n ≡ a + suc n = omega arith in e) rest.at_work;
+  rests = rest.rests;
+} where
+  seated : (k : ℕ) (x : CoreView) → slice_get (c ∷ cores) k ≡ Some x → IsSeated x (a + k) b
+  seated zero x h = let e : c ≡ x = cc in subst (λ m. IsSeated x m b) (let z : a ≡ a + 0 = omega arith in z) (subst (λ y. IsSeated y a b) e here)
+  seated (suc k) x h = subst (λ m. IsSeated x m b) (let z : (a + 1) + k ≡ a + suc k = omega arith in z) (rest.seated k x h)
 
-  each_at : (P : S → Type 0) (seats : List S) (k : ℕ) (s : S) → AllByRecursion P seats → slice_get seats k ≡ Some s → P s
-  each_at P [] k s a h = cc
-  each_at P (x ∷ seats) zero s a h = let e : x ≡ s = cc in subst P e a.0
-  each_at P (x ∷ seats) (suc k) s a h = each_at P seats k s a.1 h
+  all_done : (k : ℕ) (x : CoreView) → slice_get (c ∷ cores) k ≡ Some x → IsDone x b.wired.links
+  all_done zero x h = let e : c ≡ x = cc in subst (λ y. IsDone y b.wired.links) e done
+  all_done (suc k) x h = rest.done k x h
 
-  module _ (network : Network) (seats : List S) (numbers : map number seats ≡ range_with_len 0 (length network.code.now.entries))
-      (seated : AllByRecursion (λ s. IsSeated (seen s) (number s) network) seats) where
-    abbrev code : Parts
-    code = network.code.now
+head_is : {X : Type 0} {x y : X} {xs ys : List X} → x ∷ xs ≡ y ∷ ys → x ≡ y
+head_is h = cc
 
-    as_many : length seats ≡ length code.entries
-    as_many = sym (length-map seats number) ∙ ap (λ xs. length xs) numbers ∙ length-range_with_len 0 (length code.entries)
+tail_is : {X : Type 0} {x y : X} {xs ys : List X} → x ∷ xs ≡ y ∷ ys → xs ≡ ys
+tail_is h = cc
 
-    in_place : (k : ℕ) (s : S) → slice_get seats k ≡ Some s → number s ≡ k
-    in_place k s h =
-        let e = at_place 0 (length code.entries) k (number s) (subst (λ xs. slice_get xs k ≡ Some (number s)) numbers (number_at seats k s h)) in omega arith
+module _ {C : Type 0} (seen : C → CoreView) (b : Board) where
+  pub are_seated : (a n : ℕ) (seats : List (Seat C)) → a + n ≡ length b.code.entries → map number_of seats ≡ range_with_len a (suc n) → AllByRecursion (λ s. Sits seen s b) seats
+      → AllByRecursion (λ s. RestsAt seen s b) seats → AreSeated b a n (cores_at seen seats)
+  are_seated a n [] many numbers sits rests = cc
+  are_seated a zero (AtCore core number ∷ seats) many numbers sits rests =
+      absurd (let e : number ≡ a = head_is numbers in let s = sits.0 in let c = s.core in
+      let within : (seen core).core < length b.code.entries = subst (λ (code : Parts). (seen core).core < length code.entries) s.code s.agrees.core in omega arith)
+  are_seated a (suc n) (AtCore core number ∷ seats) many numbers sits rests =
+      let e : number ≡ a = head_is numbers in
+      one_more b a n (seen core) (cores_at seen seats) (subst (λ m. IsSeated (seen core) m b) e sits.0) rests.0
+      (are_seated (a + 1) n seats (omega arith) (tail_is numbers) sits.1 rests.1)
+  are_seated a zero (AtWorker last number ∷ seats) many numbers sits rests =
+      let e : number ≡ a = head_is numbers in
+      let none : seats ≡ [] = no_more seats (tail_is numbers) in
+      subst (λ xs. AreSeated b a 0 (cores_at seen xs)) (sym none) (record {
+        count = refl;
+        seated = λ k c h. cc;
+        done = λ k c h. cc;
+        last = last;
+        at_work = subst (λ m. IsAtWork last m b) (let z : number ≡ a + 0 = omega arith in z) sits.0;
+        rests = rests.0;
+      })
+    where
+      no_more : (xs : List (Seat C)) → map number_of xs ≡ [] → xs ≡ []
+      no_more [] h = refl
+      no_more (x ∷ xs) h = cc
+  are_seated a (suc n) (AtWorker last number ∷ seats) many numbers sits rests =
+      absurd (let e : number ≡ a = head_is numbers in let w = sits.0.number_is in omega arith)
 
-    here : (k : ℕ) (s : S) → slice_get seats k ≡ Some s → IsSeated (seen s) (number s) network
-    here k s h = each_at (λ s. IsSeated (seen s) (number s) network) seats k s seated h
+-- ---- they are the cores of the code
 
-    first : 1 ≤ length code.entries → (s : S) × IsSeated (seen s) (number s) network
-    first some = elim (slice_get_cases seats 0).1 [
-      | inl q ↦ (q.0, here 0 q.0 q.2)
-      | inr q ↦ absurd (let n = as_many in let le = q.0 in omega arith)
-    ]
-
-    pub are_cores : 1 ≤ length code.entries → AreCoresOf code network.steps (map seen seats) network.links
-    are_cores some = record {
-      count = length-map seats seen ∙ as_many;
-      each = λ k c h. let w = seat_at seats k c h in let it = here k w.0 w.1 in record {
-        code_is = ap (λ (v : CoreView). v.code) (sym w.2) ∙ it.code;
-        core_is = ap (λ (v : CoreView). v.core) (sym w.2) ∙ it.core ∙ in_place k w.0 w.1;
-        bound_is = ap (λ (v : CoreView). v.bound) (sym w.2) ∙ it.bound;
-      };
-      agree = λ k c h. let w = seat_at seats k c h in subst (λ v. AgreesWith v network.links) w.2 (here k w.0 w.1).agrees;
-      linked = (first some).1.links;
-      undone = (first some).1.undone;
-    }
-
-    pub all_done : AreAtRest (λ s (n : Network). IsDone (seen s) n.links) seats network → (k : ℕ) (c : CoreView) → slice_get (map seen seats) k ≡ Some c → IsDone c network.links
-    all_done rest k c h = let w = seat_at seats k c h in subst (λ v. IsDone v network.links) w.2 (each_at (λ s. IsDone (seen s) network.links) seats k w.0 rest w.1)
-
-    pub are_ready : AreReady number (λ s n. IsSeated (seen s) (number s) n) seats network
-    are_ready = record { distinct = subst (IsDistinct nat_eq) (sym numbers) (in_order_are_distinct 0 (length code.entries)); agree = seated }
+module _ (b : Board) (cores : List CoreView) (all : AreSeated b 0 (length b.code.entries) cores) where
+  pub are_cores : AreCoresOf b.code b.steps cores b.wired.links
+  are_cores = record {
+    count = all.count;
+    each = λ k c h. let it = all.seated k c h in record { code_is = it.code; core_is = (let e = it.core in omega arith); bound_is = it.bound };
+    agree = λ k c h. (all.seated k c h).agrees;
+    linked = all.at_work.shared.links;
+  }

@@ -1,35 +1,32 @@
 -- A core that has stopped, and took no place of its links for an offer, is at rest on them.
-use Rattle.std.proofs.Common.{◌≡◌, ◌⊎◌, ℕ, zero, suc, ◌-◌, ◌<◌, ◌≤◌, List, [], ◌∷◌, ◌++◌, Option, Some, None, Bool, true, false, ◌&&◌, cond, refl, sym, ap, ◌∙◌, subst, inl, inr, arith, length}
-use Rattle.std.specs.Prelude.{ℤ, is_some, nat_lt, slice_get}
-use Rattle.std.specs.List.{All, AllByRecursion}
+use Rattle.std.proofs.Common.{◌≡◌, ◌⊎◌, ℕ, zero, suc, ◌-◌, ◌<◌, ◌≤◌, List, [], ◌∷◌, Option, Some, None, Bool, true, false, ◌&&◌, cond, refl, sym, ap, ◌∙◌, subst, inl, inr, arith, length}
+use Rattle.std.specs.Prelude.{is_some, nat_lt, drop, slice_get}
 use Rattle.std.proofs.lemmas.Bool.Decides.{nat_tests}
-use Rattle.std.proofs.lemmas.List.Elements.{All-get_or, recursion_from_All}
+use Rattle.std.proofs.lemmas.List.Elements.{All-get_or}
 use Rattle.std.proofs.lemmas.Option.{slice_get-get_or}
-use Rattle.ac_base.specs.declared.entry.Answer.{Answer}
-use Rattle.ac_base.specs.declared.entry.Payload.{Payload}
-use Rattle.ac_base.specs.declared.entry.Payload.TheVariants.{Int, Read, Write}
 use Rattle.stack_code.specs.Valid.{HasLinks}
 use Rattle.ac_links.specs.declared.payloads.Terms.{Terms}
-use Rattle.ac_links.specs.Payloads.{Taking, is_payload, carries}
-use Rattle.ac_links.specs.Payloads.Taking.{Message, Done}
-use Rattle.ac_links.specs.Views.{OwnerOffer, PeerDecision, Response, owner_lead, DecisionFits, ViewsAgree}
-use Rattle.ac_links.specs.Replies.{response_at, waiting_replies}
+use Rattle.ac_links.specs.Views.{OwnerOffer, PeerDecision, Response, owner_lead, may_reply, altered, replied_with, ViewsAgree}
+use Rattle.ac_links.specs.Replies.{least_open, waiting_replies}
+use Rattle.ac_links.proofs.Waiting.{takes_reply}
 use Rattle.ac_links.specs.AtRest.{OwnerRests, PeerRests}
 use Rattle.ac_links.specs.Party.{LinkEnd}
 use Rattle.ac_links.specs.Party.LinkEnd.{Owns}
 use Rattle.ac_history.specs.History as history
 use Rattle.ac_history.specs.Quiet.{waits_on}
-use Rattle.core_channels.specs.LinkViews.{LinkViews, IsOffer, IsLink, no_link, link_at}
+use Rattle.core_channels.specs.LinkViews.{LinkViews, AreViews, IsLink, no_link, link_at}
+use Rattle.core_channels.proofs.Keeping.{no_messages}
 use Rattle.core_ports.specs.AtHand.{AtHand}
-use Rattle.core_ports.specs.Ends.{has_room}
-use Rattle.core_driver.specs.declared.side.Side.TheVariants.{Owner}
-use Rattle.core_runner.specs.Hands.{hand_at}
-use Rattle.core_driver.specs.Sides.{side_of}
-use Rattle.core_runner.specs.Ends.{end_of}
+use Rattle.core_ports.specs.Ends.{has_room, is_known, awaits_reply}
+use Rattle.core_ports.specs.declared.side.Side.TheVariants.{Owner}
+use Rattle.list_ports.specs.Hands.{next_reply, has_reply, hand_at}
+use Rattle.list_ports.proofs.Wiring.{carries_requests}
+use Rattle.core_ports.specs.Sides.{side_of}
+use Rattle.list_ports.specs.Ends.{end_of}
 use Rattle.core_runner.specs.Network.{owner_of, peer_of, terms_in, offers_in, decisions_in, ends_in, AreLinksOf}
 use Rattle.core_runner.specs.Cores.{CoreView, IsAtRest}
 use Rattle.core_runner.specs.GoingOn.{LeavesNothing, HasStopped}
-use Rattle.core_runner.proofs.Parties.{owner_side, peer_side, request_or_channel, carries_messages}
+use Rattle.core_runner.proofs.Parties.{owner_side, peer_side}
 
 -- ---- what is not there
 
@@ -54,34 +51,57 @@ all_known os ds a h = elim (one_is_not (is_some (slice_get os (owner_lead os))) 
   | inr q ↦ none_there ds (owner_lead os) q
 ]
 
--- ---- a channel has no replies
+-- ---- where each decision is known, the next reply is one that is awaited
 
-no_done : (answer : Answer) (value : ℤ) (g : Taking) → Done answer ≡ g → carries g (Int value) ≡ true → ⊥
-no_done answer value g e h = let no : false ≡ true = subst (λ x. carries x (Int value) ≡ true) (sym e) h in cc
+known_below : (os : List OwnerOffer) (n : ℕ) → n < owner_lead os → is_known (slice_get os n) ≡ true
+known_below [] n h = absurd (omega arith)
+known_below (o ∷ os) n h = by (λ k less. known_below os k less) (is_some o.known) refl n h
+  where
+    by : ((k : ℕ) → k < owner_lead os → is_known (slice_get os k) ≡ true) → (b : Bool) → is_some o.known ≡ b → (n : ℕ) → n < cond b (suc (owner_lead os)) 0
+        → is_known (slice_get (o ∷ os) n) ≡ true
+    by rest true e zero h = e
+    by rest true e (suc n) h = rest n (omega arith)
+    by rest false e n h = absurd (omega arith)
 
-no_answer : (payload : Payload) (v : Option Taking) (w : Option ℕ) (s : ℕ) (d : PeerDecision) → d.value ≡ v → is_payload false payload ≡ true → DecisionFits payload s d w → (t : ℕ) →
-    response_at t v ≡ []
-no_answer payload None w s d e p f t = refl
-no_answer payload (Some (Message value)) w s d e p f t = refl
-no_answer payload (Some (Done answer)) (Some k) s d e p f t = absurd (let no : Some (Done answer) ≡ None = sym e ∙ f.0 in cc)
-no_answer (Int value) (Some (Done answer)) None s d e p f t = absurd (let is : Some (Done answer) ≡ Some f.0 = sym e ∙ f.1 in let g : Done answer
-    ≡ f.0 = cc in let c = f.2 in no_done answer value f.0 g c)
-no_answer (Read file from len) (Some (Done answer)) None s d e p f t = cc
-no_answer (Write file from bytes) (Some (Done answer)) None s d e p f t = cc
+replied_is_decided : (os : List OwnerOffer) (ds : List PeerDecision) (n : ℕ) (o : OwnerOffer) (r : Response) → ViewsAgree os ds → slice_get os n ≡ Some o → o.reply ≡ Some r → n < length ds
+replied_is_decided [] ds n o r a h e = cc
+replied_is_decided (x ∷ os) [] zero o r a h e =
+    absurd (let same : x ≡ o = cc in let none : o.reply ≡ None = ap (λ (y : OwnerOffer). y.reply) (sym same) ∙ a.1 in let no : Some r ≡ None = sym e ∙ none in cc)
+replied_is_decided (x ∷ os) [] (suc n) o r a h e = let ih = replied_is_decided os [] n o r a.2 h e in absurd (omega arith)
+replied_is_decided (x ∷ os) (d ∷ ds) zero o r a h e = omega arith
+replied_is_decided (x ∷ os) (d ∷ ds) (suc n) o r a h e = let ih = replied_is_decided os ds n o r a.1 h e in omega arith
 
-by_reply : (b : Bool) (first rest : List Response) → first ≡ [] → rest ≡ [] → cond b rest (first ++ rest) ≡ []
-by_reply true first rest a h = h
-by_reply false first rest a h = rw (a, h) refl
+changed_at : (f : OwnerOffer → OwnerOffer) (os : List OwnerOffer) (n : ℕ) → may_reply (slice_get os n) ≡ true → (o : OwnerOffer) × (slice_get (altered os n f) n ≡ Some (f o))
+changed_at f [] n h = cc
+changed_at f (o ∷ os) zero h = (o, refl)
+changed_at f (o ∷ os) (suc n) h = changed_at f os n h
 
-no_replies : (os : List OwnerOffer) (ds : List PeerDecision) → ViewsAgree os ds → AllByRecursion (IsOffer false) os → waiting_replies os ds ≡ []
-no_replies [] ds a p = refl
-no_replies (o ∷ os) [] a p = refl
-no_replies (o ∷ os) (d ∷ ds) a p =
-    by_reply (is_some o.reply) (response_at d.stamp d.value) (waiting_replies os ds) (no_answer o.payload d.value o.withdrawn o.stamp d refl p.0.carried a.0.1 d.stamp) (no_replies os ds a.1 p.1)
+first_is : {X : Type 0} (xs : List X) (x : X) → slice_get xs 0 ≡ Some x → xs ≡ x ∷ drop 1 xs
+first_is [] x h = cc
+first_is (y ∷ ys) x h = let e : y ≡ x = cc in ap (λ z. z ∷ ys) e
 
-nothing_waits : (os : List OwnerOffer) → waiting_replies os [] ≡ []
-nothing_waits [] = refl
-nothing_waits (o ∷ os) = refl
+next_is_awaited : (v : LinkViews) (r : Response) → IsLink v → length v.decisions ≤ owner_lead v.offers → next_reply v ≡ Some r → awaits_reply (Owns v.offers) ≡ true
+next_is_awaited v r it known here =
+    let views : AreViews true v.offers v.decisions = subst (λ b. AreViews b v.offers v.decisions) (carries_requests v r it here) it in
+    let t = takes_reply v.terms 0 v.offers v.decisions r (drop 1 (waiting_replies v.offers v.decisions)) views.agree (no_messages v.offers v.decisions views.each views.agree)
+    (first_is (waiting_replies v.offers v.decisions) r here) in
+    let c = changed_at (replied_with r.answer r.of) v.offers (least_open v.offers) t.fits in
+    let within = replied_is_decided (altered v.offers (least_open v.offers) (replied_with r.answer r.of)) v.decisions (least_open v.offers) (replied_with r.answer r.of c.0) r
+    t.agree c.1 refl in
+    known_below v.offers (least_open v.offers) (omega arith)
+
+-- so where none that is awaited is there, none waits
+nothing_first : {X : Type 0} (xs : List X) → slice_get xs 0 ≡ None → xs ≡ []
+nothing_first [] h = refl
+nothing_first (x ∷ xs) h = cc
+
+none_waits : (v : LinkViews) → IsLink v → length v.decisions ≤ owner_lead v.offers → (v.terms.requests ≡ true → awaits_reply (Owns v.offers) ≡ true → has_reply v ≡ false)
+    → waiting_replies v.offers v.decisions ≡ []
+none_waits v it known none = by (next_reply v) refl
+  where
+    by : (q : Option Response) → next_reply v ≡ q → waiting_replies v.offers v.decisions ≡ []
+    by None e = nothing_first (waiting_replies v.offers v.decisions) e
+    by (Some r) e = absurd (let no : true ≡ false = ap is_some (sym e) ∙ none (carries_requests v r it e) (next_is_awaited v r it known e) in cc)
 
 -- ---- where a place is left, there is no room
 
@@ -89,7 +109,7 @@ no_room : (room : Bool) (spare : ℕ) → 0 < spare → (room ≡ true → nat_l
 no_room true spare h f = absurd (let e = f refl in grind (arith, nat_tests))
 no_room false spare h f = refl
 
-module _ (c : CoreView) (valid : HasLinks c.code) (links : List LinkViews) (of : AreLinksOf c.code links) (undone : (l : ℕ) → length c.code.ends ≤ l → decisions_in links l ≡ [])
+module _ (c : CoreView) (valid : HasLinks c.code) (links : List LinkViews) (of : AreLinksOf c.code links)
     (within : c.core < length c.code.entries) (places : (l : ℕ) → l < length c.code.capacities → side_of c.code.ends c.core l ≡ Owner → 0 < (link_at links l).spare) where
   abbrev many : ℕ
   many = length c.code.entries
@@ -112,14 +132,6 @@ module _ (c : CoreView) (valid : HasLinks c.code) (links : List LinkViews) (of :
   linked : (l : ℕ) → l < length c.code.capacities → IsLink (link_at links l)
   linked l h = All-get_or IsLink links l no_link (let n = of.count in omega arith) of.agree
 
-  replied : (l : ℕ) → l < length c.code.capacities → waiting_replies (offers_in links l) (decisions_in links l) ≡ []
-  replied l h = elim (request_or_channel c.code valid links of l h) [
-    | inl q ↦ (let it = linked l h in
-        no_replies (offers_in links l) (decisions_in links l) it.agree
-        (recursion_from_All (IsOffer false) (offers_in links l) (subst (λ b. All (IsOffer b) (offers_in links l)) (carries_messages c.code valid links of l q.2) it.each)))
-    | inr q ↦ ap (waiting_replies (offers_in links l)) (undone l q.1) ∙ nothing_waits (offers_in links l)
-  ]
-
   module _ (leaves : LeavesNothing c (terms_in links) ends hands) where
     owner_rests : (l : ℕ) → l < length c.code.capacities → owner_of c.code.ends l ≡ c.core
         → OwnerRests (terms l) (waits_on l c.end.core) (offers_in links l) (decisions_in links l)
@@ -127,10 +139,11 @@ module _ (c : CoreView) (valid : HasLinks c.code) (links : List LinkViews) (of :
         let side = owner_side c.code valid links of c.core l h is in
         let it = linked l h in
         let end : ends l ≡ Owns (offers_in links l) = ap (λ s. end_of s (slice_get links l)) side ∙ ap (end_of Owner) (slice_get-get_or links l no_link (let n = of.count in omega arith)) in
+        let known = all_known (offers_in links l) (decisions_in links l) it.agree (sym (ap (λ s. (hand_at (link_at links l) s).decision) side) ∙ leaves.decision l side) in
         record {
-          known = all_known (offers_in links l) (decisions_in links l) it.agree
-              (sym (ap (λ s. (hand_at (link_at links l) s).decision) side) ∙ leaves.decision l side);
-          replied = replied l h;
+          known = known;
+          replied = none_waits (link_at links l) it known (λ requests awaited. sym (ap (λ s. (hand_at (link_at links l) s).reply) side)
+              ∙ leaves.reply l side requests (ap awaits_reply end ∙ awaited));
           full = λ waits. no_room (nat_lt (length (offers_in links l) - owner_lead (offers_in links l)) (terms l).capacity) (link_at links l).spare (places l h side)
               (λ room. sym (ap (λ s. (hand_at (link_at links l) s).slot) side)
               ∙ leaves.slot l side waits (ap (λ t. has_room t (ends l)) (its_terms l h) ∙ ap (has_room (terms l)) end ∙ room));

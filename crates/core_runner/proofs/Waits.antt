@@ -1,6 +1,6 @@
--- An operation that waits at an end of its core, and reads and writes no file, is to be offered, or is to receive, there.
-use Rattle.std.proofs.Common.{◌≡◌, ℕ, ◌+◌, ◌<◌, List, [], ◌∷◌, length, Option, Some, IsSome, Bool, true, false, cond, refl, sym, ap, ◌∙◌, subst, arith, eq-eqb}
-use Rattle.std.specs.Prelude.{ℤ, map, find, nat_eq, not, is_some, slice_get, option_and_then, ◌&&◌, ◌||◌, ◌==◌, ◌≢◌}
+-- An operation that waits at an end of its core is to be offered, or is to receive, there.
+use Rattle.std.proofs.Common.{◌≡◌, ℕ, ◌+◌, List, [], ◌∷◌, length, Some, Bool, true, false, cond, refl, sym, ap, ◌∙◌, subst, arith, eq-eqb}
+use Rattle.std.specs.Prelude.{map, find, nat_eq, not, is_some, slice_get, ◌&&◌, ◌||◌, ◌==◌, ◌≢◌}
 use Rattle.std.specs.List.{list_any}
 use Rattle.std.proofs.lemmas.Bool.{and_parts, eqb-true}
 use Rattle.std.proofs.lemmas.Bool.Decides.{nat_tests}
@@ -13,16 +13,15 @@ use Rattle.cancel_scope.specs.declared.operation.Operation.{Operation}
 use Rattle.cancel_scope.specs.declared.operation.Progress.{Progress}
 use Rattle.cancel_scope.specs.declared.operation.Progress.TheVariants as progress
 use Rattle.cancel_scope.specs.Outstanding as outstanding
-use Rattle.cancel_scope.specs.Outstanding.{is_outgoing, is_request, is_to_offer, is_to_receive, phase_of, waiting_as}
+use Rattle.cancel_scope.specs.Outstanding.{is_outgoing, is_to_offer, is_to_receive, phase_of, waiting_as}
 use Rattle.ac_history.specs.Quiet.{is_waiting}
 use Rattle.stack_code.specs.declared.parts.ChannelEnds.{ChannelEnds}
 use Rattle.stack_code.specs.Parts.{Parts}
 use Rattle.stack_code.specs.Valid.{HasLinks, IsChannel}
 use Rattle.code_safety.specs.KeptEnds.{IsSender, IsReceiver, IsOwnLink, IsAtEnd, AreAtEnds}
-use Rattle.core_machine.specs.Points.{message_of, receives_from, to_send}
-use Rattle.core_machine.specs.Tracks.{AskForNoFile}
-use Rattle.core_driver.specs.declared.side.Side.TheVariants.{Owner, Peer, Neither}
-use Rattle.core_driver.specs.Sides.{channel_side, side_at, side_of}
+use Rattle.core_machine.specs.Points.{has_to_offer, receives_from}
+use Rattle.core_ports.specs.declared.side.Side.TheVariants.{Owner, Peer, Neither}
+use Rattle.core_ports.specs.Sides.{channel_side, side_at, side_of}
 use Rattle.core_driver.proofs.Looking.{peer_is_channel}
 
 -- ---- the side of an end
@@ -67,12 +66,6 @@ module _ (code : Parts) (core l : ℕ) where
   sends valid (Read file from into) h side = refl
   sends valid (Write file from bytes) h side = refl
 
-  on_channel : (a : Asked) → IsAtEnd code core l a → is_request a ≡ false → l < length code.ends
-  on_channel (Send value) h other = slice_get_within code.ends l h.ends h.there
-  on_channel (Recv place) h other = slice_get_within code.ends l h.ends h.there
-  on_channel (Read file from into) h other = let no : true ≡ false = other in absurd (cc)
-  on_channel (Write file from bytes) h other = let no : true ≡ false = other in absurd (cc)
-
 -- ---- an operation that waits
 
 waits_as : (p : Progress) → is_waiting (phase_of p) ≡ outstanding.is_waiting p
@@ -82,15 +75,6 @@ waits_as (progress.Started number) = refl
 
 abbrev waits_there : ℕ → Waiting → Bool
 waits_there l w = nat_eq w.link l && is_waiting w.phase
-
-sends_some : (a : Asked) → is_outgoing a ≡ true → is_request a ≡ false → IsSome (message_of a)
-sends_some (Send value) h other = refl
-sends_some (Recv place) h other = let no : false ≡ true = h in absurd (cc)
-sends_some (Read file from into) h other = let no : true ≡ false = other in absurd (cc)
-sends_some (Write file from bytes) h other = let no : true ≡ false = other in absurd (cc)
-
-abbrev sent : Operation → Option ℤ
-sent o = message_of o.asked
 
 module _ (code : Parts) (core l : ℕ) where
   abbrev at_end : Operation → Type 0
@@ -114,34 +98,23 @@ module _ (code : Parts) (core l : ℕ) where
           sym (ap (λ b. (b && is_waiting (phase_of o.progress)) || list_any (waits_there l) (map waiting_as os)) e) ∙ h in
           ap (λ b. is_some (cond b (Some o) (find (is_to_receive l) os))) not_it ∙ later waits
 
-  abbrev no_file : Operation → Type 0
-  no_file o = is_request o.asked ≡ false
+  first_or_later : (b : Bool) (o : Operation) (os : List Operation) → has_to_offer os l ≡ true → is_some (cond b (Some o) (find (is_to_offer l) os)) ≡ true
+  first_or_later true o os some = refl
+  first_or_later false o os some = some
 
-  first_or_later : (b : Bool) (o : Operation) (os : List Operation) → no_file o → is_to_offer l o ≡ b → IsSome (to_send os l)
-      → IsSome (option_and_then sent (cond b (Some o) (find (is_to_offer l) os)))
-  first_or_later true o os other is some = sends_some o.asked
-      (and_parts (is_outgoing o.asked) (outstanding.is_waiting o.progress) (and_parts (nat_eq o.link l) (is_outgoing o.asked && outstanding.is_waiting o.progress) is).1).0 other
-  first_or_later false o os other is some = some
-
-  pub sends_there : HasLinks code → (os : List Operation) → AreAtEnds code core os → AskForNoFile os → side_of code.ends core l ≡ Owner → list_any (waits_there l) (map waiting_as os) ≡ true
-      → (l < length code.ends) × IsSome (to_send os l)
-  sends_there valid [] ends files side h = let no : false ≡ true = h in absurd (cc)
-  sends_there valid (o ∷ os) ends files side h = by (sends_there valid os (All-tail at_end o os ends) (All-tail no_file o os files) side) (nat_eq o.link l && outstanding.is_waiting o.progress) refl
+  pub sends_there : HasLinks code → (os : List Operation) → AreAtEnds code core os → side_of code.ends core l ≡ Owner → list_any (waits_there l) (map waiting_as os) ≡ true
+      → has_to_offer os l ≡ true
+  sends_there valid [] ends side h = let no : false ≡ true = h in absurd (cc)
+  sends_there valid (o ∷ os) ends side h = by (sends_there valid os (All-tail at_end o os ends) side) (nat_eq o.link l && outstanding.is_waiting o.progress) refl
     where
-      by : (list_any (waits_there l) (map waiting_as os) ≡ true → (l < length code.ends) × IsSome (to_send os l)) → (b : Bool)
-          → (nat_eq o.link l && outstanding.is_waiting o.progress) ≡ b → (l < length code.ends) × IsSome (to_send (o ∷ os) l)
+      by : (list_any (waits_there l) (map waiting_as os) ≡ true → has_to_offer os l ≡ true) → (b : Bool) → (nat_eq o.link l && outstanding.is_waiting o.progress) ≡ b → has_to_offer (o ∷ os) l ≡ true
       by later true e =
           let parts = and_parts (nat_eq o.link l) (outstanding.is_waiting o.progress) e in
-          let end = here o (All-head at_end o os ends) parts.0 in
-          let sending = sends code core l valid o.asked end side in
-          let other = All-head no_file o os files in
-          let it : is_to_offer l o ≡ true = ap (λ b. b && (is_outgoing o.asked && outstanding.is_waiting o.progress)) parts.0 ∙ ap (λ b. b && outstanding.is_waiting o.progress) sending ∙ parts.1 in (
-            on_channel code core l o.asked end other,
-            ap (λ b. is_some (option_and_then sent (cond b (Some o) (find (is_to_offer l) os)))) it ∙ sends_some o.asked sending other,
-          )
+          let sending = sends code core l valid o.asked (here o (All-head at_end o os ends) parts.0) side in
+          let it : is_to_offer l o ≡ true = ap (λ b. b && (is_outgoing o.asked && outstanding.is_waiting o.progress)) parts.0 ∙ ap (λ b. b && outstanding.is_waiting o.progress) sending ∙ parts.1 in
+          ap (λ b. is_some (cond b (Some o) (find (is_to_offer l) os))) it
       by later false e =
           let waits : list_any (waits_there l) (map waiting_as os) ≡ true =
           sym (ap (λ b. (nat_eq o.link l && b) || list_any (waits_there l) (map waiting_as os)) (waits_as o.progress)
           ∙ ap (λ b. b || list_any (waits_there l) (map waiting_as os)) e) ∙ h in
-          let found = later waits in
-          (found.0, first_or_later (is_to_offer l o) o os (All-head no_file o os files) refl found.1)
+          first_or_later (is_to_offer l o) o os (later waits)

@@ -1,4 +1,4 @@
--- Cores of a code that are done make one run of each program whose code it is.
+-- Cores of a code and a worker that are done make one run of each program whose code it is.
 use Rattle.std.proofs.Common.{◌≡◌, ℕ, suc, ◌+◌, ◌*◌, ◌<◌, ◌≤◌, List, [], ◌∷◌, Option, Some, refl, sym, ap, ◌∙◌, subst, inl, inr, arith, length, map}
 use Rattle.std.specs.Prelude.{◌^◌, slice_get}
 use Rattle.std.specs.List.{AllByRecursion}
@@ -30,10 +30,11 @@ use Rattle.core_channels.specs.LinkViews.{LinkViews}
 use Rattle.core_runner.specs.declared.ended.Ended.{Ended}
 use Rattle.core_runner.specs.Network.{owner_of, peer_of}
 use Rattle.core_runner.specs.Cores.{CoreView, EndsAs, IsAtRest, IsDone, AreCoresOf, journals_of, ends_of}
+use Rattle.core_runner.specs.Workers.{WorkerAgreesWith, WorkerRests, WorkerIsDone}
 use Rattle.core_runner.specs.Run.{IsCoreRun, AreCoreRuns, IsRunOf}
 use Rattle.core_runner.specs.Laws.{IsRunOfCores}
 use Rattle.core_runner.proofs.Together.{how_many, journal_at, legal}
-use Rattle.core_runner.proofs.Clocks.{none_full}
+use Rattle.core_runner.proofs.Clocks.{none_full, worker_not_full}
 use Rattle.core_runner.proofs.Rested.{quiet}
 
 -- ---- a bound on the stamps
@@ -54,23 +55,23 @@ runs_as code other core k bound n journal j end e f g h r = rw (← e, ← f, �
 replays_as : (program : Resolved) (core k bound : ℕ) (journal j : List Entry) (end : Option CoreEnd) → core ≡ k → journal ≡ j → Replays program core bound journal end → Replays program k bound j end
 replays_as program core k bound journal j end e f r = rw (← e, ← f) r
 
-module _ (program : Resolved) (bound : ℕ) where
-  all_runs : (from : ℕ) (cores : List CoreView) (journals : List Log) → map entries_of journals ≡ journals_of cores
+module _ (program : Resolved) (bound : ℕ) (entries : List Entry) where
+  all_runs : (from : ℕ) (cores : List CoreView) (journals : List Log) → map entries_of journals ≡ journals_of cores entries
       → ((n k : ℕ) (c : CoreView) → n ≡ from + k → slice_get cores k ≡ Some c → (j : Log) → j.entries ≡ c.journal → IsCoreRun program n bound j c.end)
       → AreCoreRuns program bound from journals (map (λ (c : CoreView). c.end) cores)
   all_runs from [] journals e runs = sym (length-map journals entries_of) ∙ ap length e
   all_runs from (c ∷ cores) [] e runs = cc
   all_runs from (c ∷ cores) (j ∷ journals) e runs = (
     runs from 0 c (omega arith) refl j (let h : j.entries ≡ c.journal = cc in h),
-    all_runs (suc from) cores journals (let t : map entries_of journals ≡ journals_of cores = cc in t) (λ n k x is there. runs n (suc k) x (omega arith) there),
+    all_runs (suc from) cores journals (let t : map entries_of journals ≡ journals_of cores entries = cc in t) (λ n k x is there. runs n (suc k) x (omega arith) there),
   )
 
 abbrev Quiet : List ChannelEnds → List ℕ → ℕ → List (List Entry) → List CoreEnd → Type 0
 Quiet channels capacities many js ends = IsQuiet (owner_of channels) (peer_of channels many) (after_all_of (start capacities many) (merged js)) ends
 
-module _ (program : Resolved) (code : Parts) (bound : ℕ) (cores : List CoreView) (links : List LinkViews) (valid : IsValid code) (is_code : code ≡ code_of program)
-    (is_same : IsSame code program) (few : length code.entries * bound ≤ 4000000) (all : AreCoresOf code bound cores links)
-    (done : (k : ℕ) (c : CoreView) → slice_get cores k ≡ Some c → IsDone c links) where
+module _ (program : Resolved) (code : Parts) (bound : ℕ) (files : List (List ℕ)) (cores : List CoreView) (entries : List Entry) (links : List LinkViews) (valid : IsValid code)
+    (is_code : code ≡ code_of program) (is_same : IsSame code program) (few : length code.entries * bound ≤ 4000000) (all : AreCoresOf code bound cores links)
+    (work : WorkerAgreesWith code entries links) (done : (k : ℕ) (c : CoreView) → slice_get cores k ≡ Some c → IsDone c links) (worker : WorkerIsDone code entries links) where
   abbrev many : ℕ
   many = length code.entries
 
@@ -89,17 +90,17 @@ module _ (program : Resolved) (code : Parts) (bound : ℕ) (cores : List CoreVie
   comes k c is (inl r) = (c.end.core, replays k c c.end is r.comes)
   comes k c is (inr f) = (f.end.core, replays k c f.end is f.comes)
 
-  all_replay : AllReplay program many bound (journals_of cores)
+  all_replay : AllReplay program many bound (journals_of cores entries)
   all_replay k lt = elim (slice_get_cases cores k).1 [
-    | inl q ↦ (let r = comes k q.0 q.2 (done k q.0 q.2) in (r.0, subst (λ j. Replays program k bound j (Some r.0)) (sym (journal_at cores k q.0 q.2)) r.1))
+    | inl q ↦ (let r = comes k q.0 q.2 (done k q.0 q.2) in (r.0, subst (λ j. Replays program k bound j (Some r.0)) (sym (journal_at entries cores k q.0 q.2)) r.1))
     | inr q ↦ absurd (let n = all.count in let le = q.0 in omega arith)
   ]
 
-  its_legal : IsLegal (start code.capacities many) (merged (journals_of cores))
-  its_legal = legal code valid.lists.links bound cores links all
+  its_legal : IsLegal (start code.capacities many) (merged (journals_of cores entries))
+  its_legal = legal code valid.lists.links bound cores entries links all work
 
-  small : AllByRecursion (λ e. e.entry.stamp ≤ most) (merged (journals_of cores))
-  small = stamps_small program code.capacities many bound (journals_of cores) (how_many cores ∙ ap suc all.count) all_replay its_legal
+  small : AllByRecursion (λ e. e.entry.stamp ≤ most) (merged (journals_of cores entries))
+  small = stamps_small program code.capacities many bound (journals_of cores entries) (how_many entries cores ∙ ap suc all.count) all_replay its_legal
 
   few_stamps : suc most < 2 ^ 60
   few_stamps = small_bound many (most_actions program) bound (length code.instrs)
@@ -107,13 +108,20 @@ module _ (program : Resolved) (code : Parts) (bound : ℕ) (cores : List CoreVie
 
   rests_by : (k : ℕ) (c : CoreView) → slice_get cores k ≡ Some c → IsDone c links → IsAtRest c links
   rests_by k c is (inl r) = r
-  rests_by k c is (inr f) = absurd (none_full code valid.lists.links bound cores links all most small few_stamps k c is f)
+  rests_by k c is (inr f) = absurd (none_full code valid.lists.links bound cores entries links all work most small few_stamps k c is f)
 
   rests : (k : ℕ) (c : CoreView) → slice_get cores k ≡ Some c → IsAtRest c links
   rests k c is = rests_by k c is (done k c is)
 
-  its_quiet : IsQuiet (owner_of code.ends) (peer_of code.ends many) (after_all_of (start code.capacities many) (merged (journals_of cores))) (ends_of cores)
-  its_quiet = quiet code valid.lists.links bound cores links all rests
+  worker_rests_by : WorkerIsDone code entries links → WorkerRests code links
+  worker_rests_by (inl r) = r
+  worker_rests_by (inr f) = absurd (worker_not_full code valid.lists.links bound cores entries links all work most small few_stamps f)
+
+  worker_rests : WorkerRests code links
+  worker_rests = worker_rests_by worker
+
+  its_quiet : IsQuiet (owner_of code.ends) (peer_of code.ends many) (after_all_of (start code.capacities many) (merged (journals_of cores entries))) (ends_of cores)
+  its_quiet = quiet code valid.lists.links bound cores entries links all work rests worker_rests
 
   as_many : many ≡ length program.cores
   as_many = ap (λ (x : Parts). length x.entries) is_code ∙ length-map program.cores (λ (core : Core). core.entry)
@@ -132,17 +140,17 @@ module _ (program : Resolved) (code : Parts) (bound : ℕ) (cores : List CoreVie
         source = replays_as program k n bound c.journal j.entries (Some c.end.core) same (sym logged) (replays k c c.end is r);
       }
 
-  pub one_run : (ended : Ended) → IsRunOfCores bound cores ended → IsRunOf program bound [] ended
+  pub one_run : (ended : Ended) → IsRunOfCores bound files cores entries ended → IsRunOf program bound files ended
   one_run ended made = record {
     steps = made.steps;
     files = made.start;
     every_core = ap length made.ends ∙ length-map cores (λ (c : CoreView). c.end) ∙ all.count ∙ as_many;
-    cores = subst (AreCoreRuns program bound 0 ended.journals) (sym made.ends) (all_runs program bound 0 cores ended.journals made.journals one_core);
+    cores = subst (AreCoreRuns program bound 0 ended.journals) (sym made.ends) (all_runs program bound entries 0 cores ended.journals made.journals one_core);
     legal = subst (λ (x : Parts). IsLegal (start x.capacities (length program.cores)) (merged (map entries_of ended.journals))) is_code
         (subst (λ n. IsLegal (start code.capacities n) (merged (map entries_of ended.journals))) as_many
         (subst (λ h. IsLegal (start code.capacities many) (merged h)) (sym made.journals) its_legal));
     quiet = subst (λ (x : Parts). Quiet x.ends x.capacities (length program.cores) (map entries_of ended.journals) (map (λ (end : MachineEnd). end.core) ended.cores)) is_code
         (subst (λ n. Quiet code.ends code.capacities n (map entries_of ended.journals) (map (λ (end : MachineEnd). end.core) ended.cores)) as_many
         (subst (λ js. Quiet code.ends code.capacities many js (map (λ (end : MachineEnd). end.core) ended.cores)) (sym made.journals)
-        (subst (Quiet code.ends code.capacities many (journals_of cores)) (sym (ap (map (λ (end : MachineEnd). end.core)) made.ends ∙ same_ends cores)) its_quiet)));
+        (subst (Quiet code.ends code.capacities many (journals_of cores entries)) (sym (ap (map (λ (end : MachineEnd). end.core)) made.ends ∙ same_ends cores)) its_quiet)));
   }

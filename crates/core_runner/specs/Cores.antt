@@ -1,13 +1,11 @@
 -- A core as it is seen from outside, when it agrees with the links of its run, and when it rests on them.
-use Rattle.std.specs.Prelude.{◌≡◌, ℕ, ◌<◌, ◌≤◌, List, [], ◌∷◌, ◌++◌, length, map, slice_get, Some, None, ◌⊎◌}
-use Rattle.std.specs.List.{AllByRecursion}
+use Rattle.std.specs.Prelude.{◌≡◌, ℕ, ◌<◌, List, [], ◌∷◌, ◌++◌, length, map, slice_get, Some, None, ◌⊎◌}
 use Rattle.ac_base.specs.declared.entry.Entry.{Entry}
 use Rattle.ac_base.specs.declared.ends.CoreEnd.{CoreEnd}
 use Rattle.ac_base.specs.declared.ends.MachineEnd.{MachineEnd}
 use Rattle.ac_base.specs.Stamps.{stamp_after}
 use Rattle.stack_code.specs.Parts.{Parts}
 use Rattle.code_meaning.specs.Machine.{Runs}
-use Rattle.ac_links.specs.Link.{link_of}
 use Rattle.ac_links.specs.Journals.{last_of}
 use Rattle.ac_links.specs.Party.{PartyAgrees}
 use Rattle.ac_history.specs.Quiet.{CoreRests}
@@ -26,11 +24,10 @@ pub record CoreView : Type 0 where
 abbrev pub EndsAs : CoreView → MachineEnd → Type 0
 EndsAs c end = Runs c.code c.core c.bound c.journal (record { core = Some end.core; count = end.instructions })
 
--- its journal has what was done at its ends of these links, and of channels alone
+-- its journal has what was done at its ends of these links
 pub record AgreesWith (c : CoreView) (links : List LinkViews) : Type 0 where
   pub core : c.core < length c.code.entries
   pub party : PartyAgrees (terms_in links) c.core (ends_in c.code.ends c.core links) c.journal
-  pub channels : AllByRecursion (λ e. link_of e.event < length c.code.ends) c.journal
 
 -- it has come to what is seen of it, which is its end, or it is idle and nothing on these links is for it
 pub record IsAtRest (c : CoreView) (links : List LinkViews) : Type 0 where
@@ -60,17 +57,16 @@ pub record IsCoreOf (code : Parts) (bound number : ℕ) (c : CoreView) : Type 0 
   pub core_is : c.core ≡ number
   pub bound_is : c.bound ≡ bound
 
--- the cores of the code in order, with what they have of its links, at which the worker has done nothing
+-- the cores of the code in order, with what they have of its links
 pub record AreCoresOf (code : Parts) (bound : ℕ) (cores : List CoreView) (links : List LinkViews) : Type 0 where
   pub count : length cores ≡ length code.entries
   pub each : (k : ℕ) (c : CoreView) → slice_get cores k ≡ Some c → IsCoreOf code bound k c
   pub agree : (k : ℕ) (c : CoreView) → slice_get cores k ≡ Some c → AgreesWith c links
   pub linked : AreLinksOf code links
-  pub undone : (l : ℕ) → length code.ends ≤ l → decisions_in links l ≡ []
 
 -- their journals, and that of the worker
-abbrev pub journals_of : List CoreView → List (List Entry)
-journals_of cores = map (λ c. c.journal) cores ++ [] ∷ []
+abbrev pub journals_of : List CoreView → List Entry → List (List Entry)
+journals_of cores entries = map (λ c. c.journal) cores ++ entries ∷ []
 
 -- what is seen of them
 abbrev pub ends_of : List CoreView → List CoreEnd

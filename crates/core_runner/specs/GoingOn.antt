@@ -5,9 +5,9 @@ use Rattle.ac_links.specs.declared.payloads.Terms.{Terms}
 use Rattle.ac_links.specs.Party.{LinkEnd}
 use Rattle.ac_history.specs.Quiet.{has_stopped, waits_on}
 use Rattle.core_ports.specs.AtHand.{AtHand}
-use Rattle.core_ports.specs.Ends.{has_room}
-use Rattle.core_driver.specs.declared.side.Side.TheVariants.{Owner, Peer}
-use Rattle.core_driver.specs.Sides.{side_of}
+use Rattle.core_ports.specs.Ends.{has_room, awaits_reply}
+use Rattle.core_ports.specs.declared.side.Side.TheVariants.{Owner, Peer}
+use Rattle.core_ports.specs.Sides.{side_of}
 use Rattle.core_runner.specs.Cores.{CoreView, EndsAs}
 
 -- the same core later: its journal has only grown
@@ -22,6 +22,8 @@ pub record IsLater (before after : CoreView) : Type 0 where
 pub record LeavesNothing (c : CoreView) (terms : ℕ → Terms) (ends : ℕ → LinkEnd) (hands : ℕ → AtHand) : Type 0 where
   pub decision : (l : ℕ) → side_of c.code.ends c.core l ≡ Owner → (hands l).decision ≡ false
   pub front : (l : ℕ) → side_of c.code.ends c.core l ≡ Peer → waits_on l c.end.core ≡ true → (hands l).front ≡ false
+  pub reply : (l : ℕ) → side_of c.code.ends c.core l ≡ Owner → (terms l).requests ≡ true → awaits_reply (ends l) ≡ true
+      → (hands l).reply ≡ false
   pub slot : (l : ℕ) → side_of c.code.ends c.core l ≡ Owner → waits_on l c.end.core ≡ true → has_room (terms l) (ends l) ≡ true
       → (hands l).slot ≡ false
 

@@ -1,12 +1,11 @@
 pub mod Cores
+pub mod DiskLeft
 pub mod GoingOn
-pub mod Hands
 pub mod Laws
-pub mod Lent
+pub mod Naming
 pub mod Network
 pub mod Outcomes
-pub mod Polls
 pub mod Run
 pub mod Seen
-pub mod Ends
+pub mod Workers
 pub mod inner

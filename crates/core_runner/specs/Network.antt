@@ -4,12 +4,16 @@ use Rattle.std.specs.List.{All}
 use Rattle.stack_code.specs.declared.parts.ChannelEnds.{ChannelEnds}
 use Rattle.stack_code.specs.Parts.{Parts}
 use Rattle.ac_links.specs.declared.payloads.Terms.{Terms}
+use Rattle.ac_base.specs.declared.entry.Payload.{Payload}
+use Rattle.ac_base.specs.declared.entry.Event.{Event}
+use Rattle.ac_links.specs.Link.{link_of}
 use Rattle.ac_links.specs.Views.{OwnerOffer, PeerDecision}
+use Rattle.ac_links.specs.Noted.{request_of}
 use Rattle.ac_links.specs.Party.{LinkEnd}
 use Rattle.core_channels.specs.LinkViews.{LinkViews, IsLink, link_at, terms_at}
-use Rattle.core_runner.specs.Hands.{heard_at}
-use Rattle.core_driver.specs.Sides.{side_of}
-use Rattle.core_runner.specs.Ends.{end_of}
+use Rattle.list_ports.specs.Hands.{heard_at}
+use Rattle.core_ports.specs.Sides.{side_of}
+use Rattle.list_ports.specs.Ends.{end_of}
 
 -- ---- the two parties of a link
 
@@ -39,6 +43,10 @@ offers_in links l = (link_at links l).offers
 
 abbrev pub decisions_in : List LinkViews → ℕ → List PeerDecision
 decisions_in links l = (link_at links l).decisions
+
+-- the request that an event of the worker answers, as the owner of its link has offered it
+abbrev pub request_in : List LinkViews → Event → Option Payload
+request_in links e = request_of (offers_in links (link_of e)) e
 
 -- the ends of a core
 abbrev pub ends_in : List ChannelEnds → ℕ → List LinkViews → ℕ → LinkEnd

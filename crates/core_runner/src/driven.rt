@@ -3,9 +3,9 @@
 ghost use Rattle.core_runner.specs.Seen.{view_of};
 
 use crate::cores::Core;
-use crate::list_ports::ListPorts;
 use ac_base::{Journal, MachineEnd, NoMemory};
 use core_driver::Driver;
+use list_ports::ListPorts;
 use std::alloc::Global;
 
 impl<'a> Core for Driver<'a> {

@@ -1,9 +1,10 @@
-//! The cores of a code on links that they share, and the one history that they make.
+//! The cores of a code and the worker on links that they share, and the one history that they make.
 
-ghost use Rattle.core_runner.specs.Laws.{CoresAreLegal, NoClockIsFull, CoresAreQuiet, CoresMakeARun};
+ghost use Rattle.core_runner.specs.Laws.{CoresAreLegal, NoClockIsFull, CoresAreQuiet, CoresAreServed, CoresMakeARun};
+ghost use Rattle.core_runner.specs.Naming.{RunsNameFiles};
 ghost use Rattle.core_runner.specs.Outcomes.{TriedIsDoneOrNeverHappens};
 
-/// Cores that agree with their links make a legal history.
+/// Cores and a worker that agree with their links make a legal history.
 pub fn cores_are_legal()
     ensures { CoresAreLegal }
 {}
@@ -18,6 +19,12 @@ pub fn cores_are_quiet()
     ensures { CoresAreQuiet }
 {}
 
+/// What was done in that history is what the worker's journal says, and a disk that has served the
+/// worker has served the history.
+pub fn cores_are_served()
+    ensures { CoresAreServed }
+{}
+
 /// Where each of them is done, they have made a run of every program whose code theirs is.
 pub fn cores_make_a_run()
     ensures { CoresMakeARun }
@@ -27,4 +34,9 @@ pub fn cores_make_a_run()
 /// never happens nothing of it is taken in the whole run, and where it is taken that is once.
 pub fn tried_is_done_or_never_happens()
     ensures { TriedIsDoneOrNeverHappens }
+{}
+
+/// In a run of a program each request that is done is of a file that its code names.
+pub fn runs_name_files()
+    ensures { RunsNameFiles }
 {}

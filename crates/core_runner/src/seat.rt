@@ -1,52 +1,55 @@
-//! A core at its place in a run, as a party that goes on in turn with the others.
-
-ghost use Rattle.std.specs.Prelude.{◌≡◌};
+//! The parties of a run at their places, which go on in turn.
 
 use crate::cores::Core;
-use crate::list_ports::ListPorts;
 use crate::network::Network;
+use crate::turns::take_turn;
+use crate::working::work;
 use ac_base::NoMemory;
+use ac_outside::Disk;
 use in_turn::Party;
 
-/// A core and its number.
+/// A core with its number; or the worker, whose number is that of the cores, with the stamp of its last
+/// entry.
 #[derive(Drop)]
-pub struct Seat<C> {
-    pub core: C,
-    pub number: u32,
+pub enum Seat<C> {
+    AtCore(C, u32),
+    AtWorker(u64, u32),
 }
 
-impl<'a, C: Core> Party<Network<'a>> for Seat<C> {
-    ghost use Rattle.ac_links.specs.Journals.{last_of};
-    ghost use Rattle.core_runner.specs.Cores.{IsDone};
-    ghost use Rattle.core_runner.specs.inner.Seats.{IsSeated, NetworkChanged};
-    ghost use Rattle.core_runner.specs.inner.Seats.{seated_still, done_still, network_unchanged, network_in_a_row, network_with_more};
+impl<'a, C: Core, D: Disk> Party<Network<'a, D>> for Seat<C> {
+    ghost use Rattle.core_runner.specs.inner.Boards.{board_of};
+    ghost use Rattle.core_runner.specs.inner.Changes.{BoardChanged};
+    ghost use Rattle.core_runner.specs.inner.Keeping.{board_unchanged, board_in_a_row, board_with_more, sits_still, rests_still};
+    ghost use Rattle.core_runner.specs.inner.Seats.{number_of, clock_of, Sits, RestsAt};
 
-    ghost number = { λ seat. seat.number };
+    ghost number = { λ seat. number_of seat };
 
-    ghost clock = { λ seat. last_of 0 (C.seen seat.core).journal };
+    ghost clock = { λ seat. clock_of C.seen seat };
 
-    ghost agrees = { λ seat network. IsSeated (C.seen seat.core) seat.number network };
+    ghost agrees = { λ seat network. Sits C.seen seat (board_of D.told network) };
 
-    ghost rests = { λ seat network. IsDone (C.seen seat.core) network.links };
+    ghost rests = { λ seat network. RestsAt C.seen seat (board_of D.told network) };
 
-    ghost changes = { NetworkChanged };
+    ghost changes = { λ test before after. BoardChanged test (board_of D.told before) (board_of D.told after) };
 
-    fn advance(&mut self, network: &mut Network<'a>) -> Result<bool, NoMemory> {
-        let before = self.core.journal().len();
-        network.links.reserve(64)?;
-        let mut ports = ListPorts::new(network.code.ends(), &mut network.links, self.number);
-        self.core.go_on(&mut ports)?;
-        Ok(before < self.core.journal().len())
+    fn advance(&mut self, network: &mut Network<'a, D>) -> Result<bool, NoMemory> {
+        match self {
+            Seat::AtCore(core, number) => take_turn(core, *number, network),
+            Seat::AtWorker(last, number) => work(last, *number, network),
+        }
     }
 
-    ghost alone = { λ seat test before after other changed seated.
-        seated_still (C.seen seat.core) seat.number test before after other changed seated };
+    ghost alone = { λ seat test before after other changed sits.
+        sits_still C.seen seat test (board_of D.told before) (board_of D.told after) other changed sits };
 
-    ghost undisturbed = { λ seat before after changed done. done_still (C.seen seat.core) before after changed done };
+    ghost undisturbed = { λ seat before after changed rests.
+        rests_still C.seen seat (board_of D.told before) (board_of D.told after) changed rests };
 
-    ghost unchanged = { network_unchanged };
+    ghost unchanged = { λ test network. board_unchanged test (board_of D.told network) };
 
-    ghost in_a_row = { network_in_a_row };
+    ghost in_a_row = { λ test first second third one two.
+        board_in_a_row test (board_of D.told first) (board_of D.told second) (board_of D.told third) one two };
 
-    ghost with_more = { network_with_more };
+    ghost with_more = { λ narrow wide before after more changed.
+        board_with_more narrow wide (board_of D.told before) (board_of D.told after) more changed };
 }

@@ -5,6 +5,7 @@ mod arithmetic;
 mod cells;
 mod elements;
 mod format;
+mod requests;
 
 pub use arithmetic::{
     both_bits, difference, differing_bits, either_bits, flipped, is_at_most, is_equal, is_less,
@@ -14,3 +15,4 @@ pub use arithmetic::{
 pub use cells::{int_in, place_in};
 pub use elements::within;
 pub use format::add_formatted;
+pub use requests::{Range, bytes_at, range_of, take_answer};

@@ -41,6 +41,8 @@ const FILED_LISTING: &str = "core a 0\nfunction f words 0\n0 Push 0\n1 Ret\n";
 
 const READS: &str = "core a(f); file p(\"x\"); async void f() { int b[1]; Read(p, 0, 1, b); }";
 
+const READ: &str = "a: finished after 2 steps, 10 instructions\n";
+
 const TWO: &str = "core a(f); async void f() { printf(\"%d\\n\", 1); printf(\"%d\\n\", 2); }";
 
 const ONE_STEP: &str = "a: out-of-steps after 1 steps, 3 instructions\n1\n";
@@ -177,9 +179,10 @@ impl Sink for Sips {
 #[test]
 fn reports_are_written_as_far_as_there_is_room(rt: HostRuntime) -> Result<(), Fail> {
     let alloc = rt.alloc();
-    let rows: [(&'static [&'static str], &'static str, u64, u8, &'static str); 15] = [
+    let rows: [(&'static [&'static str], &'static str, u64, u8, &'static str); 16] = [
         (&["run", "x.ac"], SEVEN, 999, 0, REPORT),
         (&["run", "x.ac"], FILED, 999, 0, EMPTY),
+        (&["run", "x.ac"], READS, 999, 0, READ),
         (&["run", "x.ac"], SEVEN, 44, 0, REPORT),
         (
             &["run", "x.ac"],
@@ -229,7 +232,7 @@ fn reports_are_written_as_far_as_there_is_room(rt: HostRuntime) -> Result<(), Fa
 #[test]
 fn no_run_is_kept_where_none_is_reported(rt: HostRuntime) -> Result<(), Fail> {
     let alloc = rt.alloc();
-    let rows: [(&'static [&'static str], &'static str, u64, u8, &'static str); 20] = [
+    let rows: [(&'static [&'static str], &'static str, u64, u8, &'static str); 18] = [
         (&["run", "y.ac"], SEVEN, 999, 7, "library fault\n"),
         (&["run", "x.ac", "--steps", "0"], SEVEN, 999, 1, USAGE),
         (&["run"], SEVEN, 999, 1, USAGE),
@@ -260,14 +263,12 @@ fn no_run_is_kept_where_none_is_reported(rt: HostRuntime) -> Result<(), Fail> {
             3,
             "rule C7 at 28\n",
         ),
-        (&["run", "x.ac"], READS, 999, 15, "not built at 51\n"),
         (&["check", "x.ac"], SEVEN, 999, 0, "accepted\n"),
         (&["check", "x.ac"], SEVEN, 9, 0, "accepted\n"),
         (&["check", "x.ac"], SEVEN, 8, 8, "accepted"),
         (&["code", "x.ac"], SEVEN, 999, 0, LISTING),
         (&["code", "x.ac"], SEVEN, 10, 8, "core a 0\nf"),
         (&["code", "x.ac"], FILED, 999, 0, FILED_LISTING),
-        (&["code", "x.ac"], READS, 999, 15, "not built at 51\n"),
     ];
     for (words, source, room, status, taken) in rows {
         let seen = called_on(alloc, words, source.as_bytes(), room)?;

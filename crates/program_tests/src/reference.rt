@@ -2,7 +2,6 @@
 
 use crate::rules::checked;
 use ac_base::{CoreEnd, EndWord, Entry, Event, Journal, Trap};
-use ac_compile::unbuilt;
 use ac_reference::{Reference, ReplayFault};
 use ac_types::Checked;
 use std::alloc::Global;
@@ -17,10 +16,7 @@ fn replayed(
     if checked.cores() == 0 {
         return Err(Fail::from("no core"));
     }
-    match unbuilt(checked) {
-        Some(_) => Err(Fail::from("a form is not built")),
-        None => Ok(Reference::replay(alloc, checked, 0, steps, journal)),
-    }
+    Ok(Reference::replay(alloc, checked, 0, steps, journal))
 }
 
 // What a core comes to without entries.

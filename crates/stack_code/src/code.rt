@@ -3,7 +3,7 @@
 ghost use Rattle.std.specs.Prelude.{◌≡◌, ◌<◌, length, slice_get, IfOk, IfSome, IfNone, Some};
 ghost use Rattle.stack_code.specs.Parts.{Begins};
 ghost use Rattle.stack_code.specs.Valid.{IsValid};
-ghost use Rattle.stack_code.specs.Kept.{IsTable, IsRanked};
+ghost use Rattle.stack_code.specs.Kept.{IsKept, IsTable, IsRanked};
 
 use crate::instr::Instr;
 use crate::lists::has_lists;
@@ -39,21 +39,39 @@ impl Model for Code {
     ghost invariant = { λ c. IsKept c.sketch c.table.items c.ranks };
 }
 
+// What is kept of a code beside its parts: by address the shapes and the ranks.
+#[derive(Drop)]
+struct Kept {
+    table: Vec<Option<Shape>>,
+    ranks: List<u64>,
+}
+
+// What is kept of these parts, and none exactly where they are not valid.
+fn kept_of(alloc: Global, sketch: &Sketch) -> Result<Option<Kept>, NoMemory>
+    ensures some { IfOk result (λ made. IfSome made (λ kept. IsKept sketch.now kept.table.items kept.ranks)) }
+    ensures none { IfOk result (λ made. IfNone made (IsValid sketch.now → ⊥)) }
+{
+    if !has_lists(sketch) {
+        return Ok(None);
+    }
+    let Some(table) = shapes(alloc, sketch)? else {
+        return Ok(None);
+    };
+    if !has_one_use(alloc, sketch, table.as_slice())? {
+        return Ok(None);
+    }
+    let Some(ranks) = quiet_ranks(alloc, sketch, table.as_slice())? else {
+        return Ok(None);
+    };
+    Ok(Some(Kept { table, ranks }))
+}
+
 fn code_of(alloc: Global, sketch: Sketch) -> Result<Option<Code>, NoMemory>
     ensures same { IfOk result (λ made. IfSome made (λ code. code ≡ sketch)) }
     ensures valid { IfOk result (λ made. IfSome made (λ code. IsValid sketch)) }
     ensures none { IfOk result (λ made. IfNone made (IsValid sketch → ⊥)) }
 {
-    if !has_lists(&sketch) {
-        return Ok(None);
-    }
-    let Some(table) = shapes(alloc, &sketch)? else {
-        return Ok(None);
-    };
-    if !has_one_use(alloc, &sketch, table.as_slice())? {
-        return Ok(None);
-    }
-    let Some(ranks) = quiet_ranks(alloc, &sketch, table.as_slice())? else {
+    let Some(Kept { table, ranks }) = kept_of(alloc, &sketch)? else {
         return Ok(None);
     };
     Ok(Some(Code {

@@ -23,3 +23,5 @@ mod outside;
 mod ports;
 #[cfg(test)]
 mod threads;
+#[cfg(test)]
+mod worker;

@@ -1,59 +1,70 @@
 //! One channel of two cores, on which each calls by its ports, in turn.
 
-ghost use Rattle.std.specs.Prelude.{◌≡◌, ◌<◌, false, length};
+ghost use Rattle.std.specs.Prelude.{◌≡◌, ◌<◌, false, length, IfOk};
 ghost use Rattle.core_channels.specs.LinkViews.{link_at};
-ghost use Rattle.core_driver.specs.declared.side.Side.TheVariants.{Owner, Peer};
-ghost use Rattle.core_driver.specs.Sides.{side_of};
+ghost use Rattle.core_ports.specs.declared.side.Side.TheVariants.{Owner, Peer};
+ghost use Rattle.core_ports.specs.Sides.{side_of};
 
-use super::channels::links;
-use ac_base::{Clock, Message, Payload};
-use core_channels::{Arrived, Links, Offering};
+use ac_base::{Clock, List, Message, NoMemory, Payload};
+use core_channels::{Arrived, Offering};
 use core_ports::Ports;
-use core_runner::ListPorts;
+use list_ports::{ListPorts, Wires};
 use stack_code::ChannelEnds;
+use std::alloc::Global;
 use std::test::Fail;
 
 // From core 0 to core 1.
 const CHANNELS: [ChannelEnds; 1] = [ChannelEnds { from: 0, to: 1 }];
 
-// Core 0 offers the message.
-fn offer(
-    links: &mut Links,
-    channels: &[ChannelEnds],
-    value: Message,
-    clock: &mut Clock,
-) -> Offering<Payload>
-    requires one { 0 < length links.old }
-    requires channel { (link_at links.old 0).terms.requests ≡ false }
-    requires owner { side_of channels.now 0 0 ≡ Owner }
-    ensures one { 0 < length links.new }
-    ensures channel { (link_at links.new 0).terms.requests ≡ false }
+// The channel, for one message, and a link of requests for each core.
+fn wires(alloc: Global) -> Result<Wires, NoMemory>
+    ensures one { IfOk result (λ it. 0 < length it.links) }
+    ensures channel { IfOk result (λ it. (link_at it.links 0).terms.requests ≡ false) }
+    ensures owner { IfOk result (λ it. side_of it.channels 0 0 ≡ Owner) }
+    ensures peer { IfOk result (λ it. side_of it.channels 1 0 ≡ Peer) }
 {
-    let mut ports = ListPorts::new(channels, links, 0);
+    let capacities = List::from_vec(Vec::from_slice(alloc, &[1, 16, 16])?);
+    let mut wires = Wires::new(alloc, CHANNELS.as_slice(), &capacities, 2)?;
+    wires.reserve(4)?;
+    Ok(wires)
+}
+
+// Core 0 offers the message.
+fn offer(wires: &mut Wires, value: Message, clock: &mut Clock) -> Offering<Payload>
+    requires one { 0 < length wires.old.links }
+    requires channel { (link_at wires.old.links 0).terms.requests ≡ false }
+    requires owner { side_of wires.old.channels 0 0 ≡ Owner }
+    ensures one { 0 < length wires.new.links }
+    ensures channel { (link_at wires.new.links 0).terms.requests ≡ false }
+    ensures channels { wires.new.channels ≡ wires.old.channels }
+{
+    let mut ports = ListPorts::new(wires, 0);
     ports.offer(0, Payload::Int(value), clock)
 }
 
 // Core 0 looks for what became of its offer.
-fn learn(links: &mut Links, channels: &[ChannelEnds], clock: &mut Clock) -> Arrived
-    requires one { 0 < length links.old }
-    requires channel { (link_at links.old 0).terms.requests ≡ false }
-    requires owner { side_of channels.now 0 0 ≡ Owner }
-    ensures one { 0 < length links.new }
-    ensures channel { (link_at links.new 0).terms.requests ≡ false }
+fn learn(wires: &mut Wires, clock: &mut Clock) -> Arrived
+    requires one { 0 < length wires.old.links }
+    requires channel { (link_at wires.old.links 0).terms.requests ≡ false }
+    requires owner { side_of wires.old.channels 0 0 ≡ Owner }
+    ensures one { 0 < length wires.new.links }
+    ensures channel { (link_at wires.new.links 0).terms.requests ≡ false }
+    ensures channels { wires.new.channels ≡ wires.old.channels }
 {
-    let mut ports = ListPorts::new(channels, links, 0);
+    let mut ports = ListPorts::new(wires, 0);
     ports.poll(0, false, clock)
 }
 
 // Core 1 looks for a message.
-fn receive(links: &mut Links, channels: &[ChannelEnds], wants: bool, clock: &mut Clock) -> Arrived
-    requires one { 0 < length links.old }
-    requires channel { (link_at links.old 0).terms.requests ≡ false }
-    requires peer { side_of channels.now 1 0 ≡ Peer }
-    ensures one { 0 < length links.new }
-    ensures channel { (link_at links.new 0).terms.requests ≡ false }
+fn receive(wires: &mut Wires, wants: bool, clock: &mut Clock) -> Arrived
+    requires one { 0 < length wires.old.links }
+    requires channel { (link_at wires.old.links 0).terms.requests ≡ false }
+    requires peer { side_of wires.old.channels 1 0 ≡ Peer }
+    ensures one { 0 < length wires.new.links }
+    ensures channel { (link_at wires.new.links 0).terms.requests ≡ false }
+    ensures channels { wires.new.channels ≡ wires.old.channels }
 {
-    let mut ports = ListPorts::new(channels, links, 1);
+    let mut ports = ListPorts::new(wires, 1);
     ports.poll(0, wants, clock)
 }
 
@@ -99,16 +110,16 @@ fn is_got(answer: Arrived, number: u64, value: Message, stamp: u64) -> bool {
 // is wanted; that is known when its sender looks, and then there is room again.
 #[test]
 fn a_message_crosses(rt: HostRuntime) -> Result<(), Fail> {
-    let mut links = links(rt.alloc())?;
+    let mut wires = wires(rt.alloc())?;
     let mut sender = Clock::new(0);
     let mut receiver = Clock::new(4);
-    assert!(rt; is_offered(offer(&mut links, &CHANNELS, 7, &mut sender), 0, 1));
-    assert!(rt; has_no_room(offer(&mut links, &CHANNELS, 8, &mut sender)));
-    assert!(rt; matches!(learn(&mut links, &CHANNELS, &mut sender), Arrived::Nothing));
-    let unwanted = receive(&mut links, &CHANNELS, false, &mut receiver);
+    assert!(rt; is_offered(offer(&mut wires, 7, &mut sender), 0, 1));
+    assert!(rt; has_no_room(offer(&mut wires, 8, &mut sender)));
+    assert!(rt; matches!(learn(&mut wires, &mut sender), Arrived::Nothing));
+    let unwanted = receive(&mut wires, false, &mut receiver);
     assert!(rt; matches!(unwanted, Arrived::Nothing));
-    assert!(rt; is_got(receive(&mut links, &CHANNELS, true, &mut receiver), 0, 7, 5));
-    assert!(rt; is_known(learn(&mut links, &CHANNELS, &mut sender), 0, 6));
-    assert!(rt; is_offered(offer(&mut links, &CHANNELS, 8, &mut sender), 1, 7));
+    assert!(rt; is_got(receive(&mut wires, true, &mut receiver), 0, 7, 5));
+    assert!(rt; is_known(learn(&mut wires, &mut sender), 0, 6));
+    assert!(rt; is_offered(offer(&mut wires, 8, &mut sender), 1, 7));
     Ok(())
 }

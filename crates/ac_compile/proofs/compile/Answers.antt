@@ -1,5 +1,5 @@
 use Rattle.std.proofs.lemmas.Result.{IfOk-weaker}
-use Rattle.ac_compile.proofs.Compiling.{is_short, is_few, is_code, is_same, is_meant, is_one_end, is_at_ends, if_both}
+use Rattle.ac_compile.proofs.Compiling.{is_short, is_few, is_code, is_same, is_one_end, is_at_ends, if_both}
 use Rattle.ac_compile.proofs.compile.Goals as goal
 
 pub program_code-requires-clause-short : goal.program_code-requires-clause-short
@@ -16,12 +16,9 @@ returns-clause-same c =
     IfOk-weaker c.program_code.result _ _ (is_same c.args.checked.now c.in_ok-program.program c.in_ok-program.ensures.same c.in_ok-program.ensures.in_place) c.program_code.ensures.same
 
 pub returns-clause-one_end : goal.returns-clause-one_end
-returns-clause-one_end c built =
-    if_both c.program_code.result (is_one_end c.args.checked.now c.in_ok-program.program c.in_ok-program.ensures.same built c.in_ok-program.ensures.in_place c.tree.ensures.small)
+returns-clause-one_end c =
+    if_both c.program_code.result (is_one_end c.args.checked.now c.in_ok-program.program c.in_ok-program.ensures.same c.in_ok-program.ensures.in_place c.tree.ensures.small)
     c.program_code.ensures.same c.program_code.ensures.ranked
-
-pub returns-clause-meant : goal.returns-clause-meant
-returns-clause-meant c built = IfOk-weaker c.program_code.result _ _ (is_meant c.args.checked.now c.in_ok-program.program c.in_ok-program.ensures.same built) c.program_code.ensures.same
 
 pub returns-clause-ends : goal.returns-clause-ends
 returns-clause-ends c =

@@ -8,7 +8,7 @@ use Rattle.core_state.specs.Moves.{Move, On}
 use Rattle.core_state.specs.Shared.{Shared}
 use Rattle.core_state.specs.Cancelling.{Outcome, by_outcome, decided, cancels}
 use Rattle.ac_semantics.specs.Threads.{CoreState, is_inside, arrived}
-use Rattle.ac_interpreter.specs.inner.Nexts.{past_first}
+use Rattle.interpreter_steps.specs.Works.{past_first}
 use Rattle.ac_interpreter.specs.inner.Under.{held_under, core_under}
 
 -- this has become of the first operation for which the test holds

@@ -4,7 +4,7 @@ use Rattle.ac_base.specs.declared.ends.CoreEnd.{CoreEnd}
 use Rattle.core_state.specs.Moves.{Move, On, Over}
 use Rattle.ac_semantics.specs.Held.{seen_of}
 use Rattle.ac_semantics.specs.Threads.{CoreState}
-use Rattle.ac_interpreter.specs.inner.State.{held_of}
+use Rattle.interpreter_state.specs.State.{held_of}
 use Rattle.ac_interpreter.specs.declared.running.Halt.{Halt}
 use Rattle.ac_interpreter.specs.declared.running.Core.{Core}
 

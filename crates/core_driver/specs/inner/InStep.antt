@@ -1,25 +1,23 @@
 -- How a core and what is outside it are in step.
-use Rattle.std.specs.Prelude.{◌≡◌, ℕ, ◌<◌, ◌≤◌, List, true, false, length, IsSome}
+use Rattle.std.specs.Prelude.{◌≡◌, ℕ, ◌≤◌, List, true, false}
 use Rattle.ac_links.specs.Journals.{last_of}
 use Rattle.ac_links.specs.Party.{PartyAgrees}
 use Rattle.core_channels.specs.Counts.{counted}
-use Rattle.core_ports.specs.Ends.{has_room}
+use Rattle.core_ports.specs.Ends.{awaits_reply, has_room}
 use Rattle.core_machine.specs.Machine.{Machine, IsOnItsWay}
-use Rattle.core_machine.specs.Points.{is_at_point, operations_of, to_send, receives_from, work_left}
-use Rattle.core_driver.specs.declared.side.Side.TheVariants.{Owner, Peer, Neither}
-use Rattle.core_driver.specs.Sides.{ArePortsOf, side_of}
-use Rattle.core_driver.specs.Driven.{AreOnChannels}
+use Rattle.core_machine.specs.Points.{is_at_point, operations_of, has_to_offer, receives_from, work_left}
+use Rattle.core_ports.specs.declared.side.Side.TheVariants.{Owner, Peer, Neither}
+use Rattle.core_ports.specs.Sides.{side_of}
+use Rattle.core_driver.specs.Sides.{ArePortsOf}
 use Rattle.core_driver.specs.Idle.{IsLater}
 use Rattle.core_driver.specs.inner.Outside.{Outside, Later}
 
--- the state is the code's, the ports are the core's own and agree with its journal, which has entries of channels alone, and the clock has
--- the journal's last stamp
+-- the state is the code's, the ports are the core's own and agree with its journal, and the clock has the journal's last stamp
 pub record InStep (m : Machine) (o : Outside) : Type 0 where
   pub run : IsOnItsWay m
   pub ports : ArePortsOf m.code m.core o.terms o.ends
   pub agrees : PartyAgrees o.terms m.core o.ends m.journal
   pub clock : o.last ≡ last_of 0 m.journal
-  pub channels : AreOnChannels (length m.code.ends) m.journal
 
 -- what holds after any part of a run, also where memory or stamps gave out
 pub record Holds (m : Machine) (o : Outside) (n : Machine) (p : Outside) : Type 0 where
@@ -40,13 +38,13 @@ pub record Looks (m : Machine) (o : Outside) (n : Machine) (p : Outside) : Type 
 pub record LeavesAt (m : Machine) (o : Outside) (l : ℕ) : Type 0 where
   pub decision : side_of m.code.ends m.core l ≡ Owner → (o.hand l).decision ≡ false
   pub front : side_of m.code.ends m.core l ≡ Peer → receives_from (operations_of m.state) l ≡ true → (o.hand l).front ≡ false
-  pub slot : l < length m.code.ends → side_of m.code.ends m.core l ≡ Owner → IsSome (to_send (operations_of m.state) l)
-      → has_room (o.terms l) (o.ends l) ≡ true → (o.hand l).slot ≡ false
+  pub slot : side_of m.code.ends m.core l ≡ Owner → has_to_offer (operations_of m.state) l ≡ true → has_room (o.terms l) (o.ends l) ≡ true
+      → (o.hand l).slot ≡ false
+  pub reply : side_of m.code.ends m.core l ≡ Owner → (o.terms l).requests ≡ true → awaits_reply (o.ends l) ≡ true → (o.hand l).reply ≡ false
 
 -- an offer was tried where one waits
 abbrev pub IsTried : Machine → Outside → Outside → ℕ → Type 0
-IsTried m o p l = l < length m.code.ends → side_of m.code.ends m.core l ≡ Owner → IsSome (to_send (operations_of m.state) l)
-    → counted (o.tries l) ≤ p.tries l
+IsTried m o p l = side_of m.code.ends m.core l ≡ Owner → has_to_offer (operations_of m.state) l ≡ true → counted (o.tries l) ≤ p.tries l
 
 -- a link was looked at: it was polled where it is the core's, and where nothing has come in an offer was tried and nothing at hand is left
 pub record IsLookedAt (o : Outside) (n : Machine) (p : Outside) (l : ℕ) : Type 0 where

@@ -14,7 +14,7 @@ use Rattle.stack_code.specs.Parts.{Parts}
 use Rattle.code_meaning.specs.Machine.{Flat, Block, block_at}
 use Rattle.code_safety.specs.Fit.{is_int}
 use Rattle.thread_table.specs.Operands.{is_reference, on_top}
-use Rattle.core_machine.specs.inner.Operands.{Stand, second_place}
+use Rattle.core_machine.specs.inner.Operands.{Stand, first_place, second_place}
 
 -- its operands, two or one on top, are ints
 abbrev pub HasInt : Flat → Type 0
@@ -49,6 +49,16 @@ pub record HasCall (code : Parts) (operands : List Cell) (number count : ℕ) : 
   pub room : count ≤ function.words
   pub same : arguments function.params (reverse (take count operands)) ≡ reverse (take count operands)
 
+-- the thread that runs has its place in the table
+abbrev pub IsListed : Flat → Type 0
+IsListed m = IfSome m.running (λ (t : Item). t.number < length m.threads)
+
+-- a place in a file, a length and an array, whose frame lives, from the bottom up
+pub record HasRequest (m : Flat) : Type 0 where
+  pub three : 3 ≤ length m.current.operands
+  pub home : HomeLives m.store (first_place m.current.operands).home
+  pub listed : IsListed m
+
 -- the innermost block lives
 pub record HasBlock (m : Flat) : Type 0 where
   pub number : BlockId
@@ -59,10 +69,6 @@ pub record HasBlock (m : Flat) : Type 0 where
 -- no block lies directly in it
 abbrev pub IsChildless : List (Option Block) → BlockId → Type 0
 IsChildless blocks b = (c : BlockId) (x : Block) → block_at blocks c ≡ Some x → x.parent ≢ Some b
-
--- the thread that runs has its place in the table
-abbrev pub IsListed : Flat → Type 0
-IsListed m = IfSome m.running (λ (t : Item). t.number < length m.threads)
 
 -- a thread is ready, and the first of those has its place
 pub record HasNext (m : Flat) : Type 0 where
@@ -104,6 +110,8 @@ is_on_threads i.End = true
 is_on_threads i.Yield = true
 is_on_threads (i.Send channel) = true
 is_on_threads (i.Recv channel) = true
+is_on_threads (i.Read file) = true
+is_on_threads (i.Write file) = true
 is_on_threads _ = false
 
 abbrev pub Finds : Parts → Flat → Instr → Type 0
@@ -154,4 +162,5 @@ Finds code m i.Yield = IsListed m
 Finds code m (i.Cancel level slot) = HasCell m level slot
 Finds code m (i.Send channel) = HasInt m × IsListed m
 Finds code m (i.Recv channel) = HasReference m × IsListed m
-Finds code m _ = ⊥
+Finds code m (i.Read file) = HasRequest m
+Finds code m (i.Write file) = HasRequest m

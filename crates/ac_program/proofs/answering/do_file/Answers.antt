@@ -1,7 +1,7 @@
 use Rattle.std.proofs.Common.{Err, None, refl, ap, subst}
 use Rattle.std.specs.Prelude.{Some}
 use Rattle.ac_program.specs.Lines.{library_line, limit_source_line}
-use Rattle.ac_program.specs.Headline.{IsDueOfFile, LeavesDisk}
+use Rattle.ac_program.specs.Headline.{IsDueOfFile, IsLeft}
 use Rattle.ac_program.specs.Making.{IsDueOf}
 use Rattle.ac_program.specs.Headline.IsDueOfFile.{library_fault, too_long, source}
 use Rattle.ac_program.proofs.Endings.{part_of, whole_as, part_as}
@@ -39,4 +39,4 @@ returns-in-Ok-clause-left g c =
     let disk = g.D.Disk.told c.args.disk.now in
     let later = g.D.Disk.told c.do_source.new.disk in
     λ is. left_as _ c.in-Ok.source c.args.task disk later c.in-Ok.ensures.whole
-    (subst (λ bytes. LeavesDisk (Some bytes) c.args.task disk later) c.as_slice.ensures (c.do_source.ensures.left is))
+    (subst (λ bytes. IsLeft (Some bytes) c.args.task disk later) c.as_slice.ensures (c.do_source.ensures.left is))

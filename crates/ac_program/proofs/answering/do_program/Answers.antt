@@ -6,7 +6,7 @@ use Rattle.ac_program.specs.Source.{needed}
 use Rattle.ac_program.specs.declared.outcome.Outcome.{Outcome}
 use Rattle.ac_program.specs.inner.Parts.{GivesDone}
 use Rattle.ac_program.proofs.Endings.{whole_of, part_of}
-use Rattle.ac_program.proofs.Left.{left_faults, long_left, made_faults, tells_well, tells_fault}
+use Rattle.ac_program.proofs.Left.{long_left, made_faults, tells_well, tells_fault}
 use Rattle.ac_program.proofs.Statuses.{made_status, not_above, not_one}
 use Rattle.ac_program.proofs.answering.do_program.Goals as goal
 
@@ -20,8 +20,8 @@ pub returns-in-Err-NoMemory-clause-disk : goal.returns-in-Err-NoMemory-clause-di
 returns-in-Err-NoMemory-clause-disk g c =
     let disk = g.D.Disk.told c.args.disk.now in
     let later = g.D.Disk.told c.make.new.disk in
-    let h = subst (λ fault. GivesDone c.args.task c.args.checked.now disk later (Err fault)) c.in-Err-NoMemory.field-0-is c.in-Err-NoMemory.ensures in
-    tells_well disk later _ (λ e. omega (arith, e, ap (λ (o : Outcome). o.status.number) c.no_memory.ensures)) (left_faults (needed c.args.task c.args.checked.now) disk later h)
+    tells_well disk later _ _ (λ e. omega (arith, e, ap (λ (o : Outcome). o.status.number) c.no_memory.ensures))
+    (λ kept _. absurd (kept (ap (λ (o : Outcome). o.status.number) c.no_memory.ensures)))
 
 pub returns-in-Err-Failed-clause-whole : goal.returns-in-Err-Failed-clause-whole
 returns-in-Err-Failed-clause-whole g c =
@@ -48,7 +48,7 @@ returns-in-Err-Failed-clause-disk g c =
     let later = g.D.Disk.told c.make.new.disk in
     let r = c.in-Err-Failed in
     let h = subst (λ fault. GivesDone c.args.task c.args.checked.now disk later (Err fault)) r.field-0-is r.ensures in
-    tells_fault disk later _ c.refuse.ensures.status h.cause.1
+    tells_fault disk later _ _ c.refuse.ensures.status h.cause.1
 
 pub returns-in-Err-TooLong-clause-whole : goal.returns-in-Err-TooLong-clause-whole
 returns-in-Err-TooLong-clause-whole g c =
@@ -85,7 +85,7 @@ returns-in-Err-TooLong-clause-disk g c =
     let a = c.refuse_file in
     let r = c.in-Err-TooLong in
     let h = subst (λ fault. GivesDone c.args.task c.args.checked.now disk later (Err fault)) r.field-0-is r.ensures in
-    tells_well disk later _ (λ is. let e = a.ensures.status (λ k. omega (arith, is, k)) (λ k. omega (arith, is, k)) in omega (arith, is, e)) h.cause
+    tells_well disk later _ _ (λ is. let e = a.ensures.status (λ k. omega (arith, is, k)) (λ k. omega (arith, is, k)) in omega (arith, is, e)) (λ _ _. h.cause)
 
 pub returns-in-Err-TooLong-clause-other : goal.returns-in-Err-TooLong-clause-other
 returns-in-Err-TooLong-clause-other g c = let a = c.refuse_file in (
@@ -143,8 +143,8 @@ returns-in-Ok-clause-disk g c =
     let disk = g.D.Disk.told c.args.disk.now in
     let later = g.D.Disk.told c.make.new.disk in
     let of_cores = made_status c.args.task c.args.checked.now disk later c.in-Ok.done.status.number c.in-Ok.done refl c.in-Ok.ensures in
-    tells_well disk later _ (λ is. not_above c.in-Ok.done.status.number 9 of_cores (sym (c.give.ensures.status (λ e. omega (arith, is, e))) ∙ is) (omega arith))
-    (made_faults c.args.task c.args.checked.now disk later c.in-Ok.done c.in-Ok.ensures)
+    tells_well disk later _ _ (λ is. not_above c.in-Ok.done.status.number 9 of_cores (sym (c.give.ensures.status (λ e. omega (arith, is, e))) ∙ is) (omega arith))
+    (λ _ none. made_faults c.args.task c.args.checked.now disk later c.in-Ok.done c.in-Ok.ensures (sym c.give.ensures.run ∙ none))
 
 pub returns-in-Ok-clause-other : goal.returns-in-Ok-clause-other
 returns-in-Ok-clause-other g c =

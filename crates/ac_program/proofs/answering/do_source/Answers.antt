@@ -3,7 +3,7 @@ use Rattle.ac_program.specs.Lines.{refusal_line, refusal_status}
 use Rattle.ac_program.specs.inner.Parts.{Stops}
 use Rattle.ac_program.specs.Making.{IsDueOf, IsDueOfProgram}
 use Rattle.ac_program.specs.Making.IsDueOf.{refused, ready}
-use Rattle.ac_program.specs.Headline.LeavesDisk.{of_program}
+use Rattle.ac_program.specs.Headline.IsLeft.{of_program}
 use Rattle.ac_program.proofs.Endings.{whole_of, part_of, whole_as, part_as}
 use Rattle.ac_program.proofs.Paths.{few_paths, paths_are_texts, paths_differ}
 use Rattle.ac_program.proofs.answering.do_source.Goals as goal
@@ -23,20 +23,17 @@ returns-in-Err-Refused-clause-part g c =
     part_of (IsDueOf c.args.source.now c.args.task _ _) (refusal_status x) c.refuse_source.result.status.number (refusal_line x) None c.refuse_source.result.run _ _
     (refused x refl refl refl h refl) c.refuse_source.ensures.run (λ f. rw c.in-Err-Refused.field-0-is at (c.refuse_source.ensures.part f))
 
-pub do_program-requires-clause-built : goal.do_program-requires-clause-built
-do_program-requires-clause-built g c = c.in-Ok.ensures.built
-
 pub do_program-requires-clause-few : goal.do_program-requires-clause-few
-do_program-requires-clause-few g c = c.in-Ok.ensures.is_within.within
+do_program-requires-clause-few g c = c.in-Ok.ensures.within
 
 pub do_program-requires-clause-files : goal.do_program-requires-clause-files
-do_program-requires-clause-files g c = few_paths c.args.source.now c.in-Ok.checked c.in-Ok.ensures.is_within.is_accepted
+do_program-requires-clause-files g c = few_paths c.args.source.now c.in-Ok.checked c.in-Ok.ensures.is_accepted
 
 pub do_program-requires-clause-texts : goal.do_program-requires-clause-texts
-do_program-requires-clause-texts g c = paths_are_texts c.args.source.now c.in-Ok.checked c.in-Ok.ensures.is_within.is_accepted
+do_program-requires-clause-texts g c = paths_are_texts c.args.source.now c.in-Ok.checked c.in-Ok.ensures.is_accepted
 
 pub do_program-requires-clause-differ : goal.do_program-requires-clause-differ
-do_program-requires-clause-differ g c = paths_differ c.args.source.now c.in-Ok.checked c.in-Ok.ensures.is_within.is_accepted
+do_program-requires-clause-differ g c = paths_differ c.args.source.now c.in-Ok.checked c.in-Ok.ensures.is_accepted
 
 pub returns-in-Ok-clause-whole : goal.returns-in-Ok-clause-whole
 returns-in-Ok-clause-whole g c =

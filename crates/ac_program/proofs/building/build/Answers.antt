@@ -1,4 +1,4 @@
-use Rattle.std.proofs.Common.{◌≡◌, ◌*◌, refl, sym, arith}
+use Rattle.std.proofs.Common.{◌≡◌, ◌*◌, refl, arith}
 use Rattle.std.proofs.lemmas.Result.{err_from_is_err_and}
 use Rattle.ac_program.specs.Source.{all_steps}
 use Rattle.ac_program.proofs.building.build.Goals as goal
@@ -13,19 +13,7 @@ returns-then-from-gt-MOST_STEPS c =
     let all : all_steps c.in_ok-checked.checked c.args.task ≡ c.from.result * c.from-2.result = rw (c.from.ensures, c.from-2.ensures, c.cores.ensures, c.steps.ensures) refl in
     record { program = c.in_ok-checked.checked; is_accepted = c.in_ok-checked.ensures c.args.task; over = omega (arith, c.if-from-gt-MOST_STEPS.true, all) }
 
-pub returns-in-Some : goal.returns-in-Some
-returns-in-Some c =
-    let all : all_steps c.in_ok-checked.checked c.args.task ≡ c.from.result * c.from-2.result = rw (c.from.ensures, c.from-2.ensures, c.cores.ensures, c.steps.ensures) refl in
-    record {
-      program = c.in_ok-checked.checked;
-      is_within = record { is_accepted = c.in_ok-checked.ensures c.args.task; within = omega (arith, c.if-from-gt-MOST_STEPS.false, all) };
-      unbuilt = sym c.in-Some.ensures.first;
-    }
-
 pub returns : goal.returns
 returns c =
     let all : all_steps c.in_ok-checked.checked c.args.task ≡ c.from.result * c.from-2.result = rw (c.from.ensures, c.from-2.ensures, c.cores.ensures, c.steps.ensures) refl in
-    record {
-      is_within = record { is_accepted = c.in_ok-checked.ensures c.args.task; within = omega (arith, c.if-from-gt-MOST_STEPS.false, all) };
-      built = c.in_default.ensures.none;
-    }
+    record { is_accepted = c.in_ok-checked.ensures c.args.task; within = omega (arith, c.if-from-gt-MOST_STEPS.false, all) }

@@ -1,16 +1,15 @@
-use Rattle.std.proofs.Common.{ℕ, ◌*◌, ◌≤◌, [], ap, sym, ◌∙◌, length, subst, Some}
+use Rattle.std.proofs.Common.{ℕ, ◌*◌, ◌≤◌, refl, ap, sym, ◌∙◌, length, subst}
 use Rattle.ac_base.specs.Report.{report_of}
 use Rattle.std.proofs.lemmas.Result.{err_from_is_err_and}
 use Rattle.ac_names.specs.Numbered.{core_names, file_paths}
 use Rattle.ac_resolve.specs.Resolution.{resolved}
 use Rattle.core_runner.specs.Run.{IsRunOf}
-use Rattle.ac_program.specs.Making.{started}
+use Rattle.core_runner.proofs.NamedRuns.{runs_name_files}
+use Rattle.ac_program.specs.Making.{begun}
+use Rattle.ac_program.proofs.NamedFiles.{names_its_files}
 use Rattle.ac_program.proofs.Names.{names_are, as_many, entries_are}
-use Rattle.ac_program.proofs.Filing.{starts, stops, halts, with_files}
+use Rattle.ac_program.proofs.Filing.{starts, stops, halts, holds_start}
 use Rattle.ac_program.proofs.execute.reported.Goals as goal
-
-pub run-requires-clause-meant : goal.run-requires-clause-meant
-run-requires-clause-meant g c = c.in_ok-code.ensures.meant c.requires.built
 
 pub run-requires-clause-keeps : goal.run-requires-clause-keeps
 run-requires-clause-keeps g c = c.in_ok-code.ensures.ends
@@ -20,25 +19,39 @@ run-requires-clause-few g c =
     let bound = subst (λ (n : ℕ). length (core_names c.args.checked.now.items) * n ≤ 4000000) (sym c.from.ensures) c.requires.few in
     subst (λ (n : ℕ). n * c.from.result ≤ 4000000) (sym (entries_are c.args.checked.now c.in_ok-code.code c.in_ok-code.ensures.code)) bound
 
+pub run-requires-clause-ready : goal.run-requires-clause-ready
+run-requires-clause-ready g c = c.in_ok-start.ensures.bound.1
+
+pub run-requires-clause-bound : goal.run-requires-clause-bound
+run-requires-clause-bound g c = c.in_ok-start.ensures.bound.0 ∙ sym c.in_ok-start.ensures.count
+
+pub run-requires-clause-held : goal.run-requires-clause-held
+run-requires-clause-held g c = holds_start (g.D.Disk.told c.args.disk.now).held (g.D.Disk.told c.start_files.new.disk).held (g.D.Disk.told c.args.disk.now).bound
+    c.as_slice.result.now c.in_ok-start.start c.requires.none (g.met.D.Disk.tells_bound c.args.disk.now) c.in_ok-start.ensures.silent c.in_ok-start.ensures.told
+
 pub report-requires : goal.report-requires
 report-requires g c =
     let made = c.in_ok-code.ensures in
     let program = resolved c.args.checked.now in
-    let run = subst (λ (b : ℕ). IsRunOf program b [] c.in_ok-ended.ended) c.from.ensures (c.in_ok-ended.ensures program made.code made.same) in
-    ap length c.names.ensures ∙ as_many c.args.checked.now c.in_ok-code.code c.args.steps c.in_ok-ended.ended made.code run
+    let run = subst (λ (b : ℕ). IsRunOf program b c.in_ok-start.start c.in_ok-ended.ended) c.from.ensures (c.in_ok-ended.ensures.run program made.code made.same) in
+    ap length c.names.ensures ∙ as_many c.args.checked.now c.in_ok-code.code c.args.steps c.in_ok-start.start c.in_ok-ended.ended made.code run
 
 pub returns : goal.returns
 returns g c =
     let made = c.in_ok-code.ensures in
     let program = resolved c.args.checked.now in
-    let run = subst (λ (b : ℕ). IsRunOf program b [] c.in_ok-ended.ended) c.from.ensures (c.in_ok-ended.ensures program made.code made.same) in
+    let run = subst (λ (b : ℕ). IsRunOf program b c.in_ok-start.start c.in_ok-ended.ended) c.from.ensures (c.in_ok-ended.ensures.run program made.code made.same) in
     record {
       start = c.in_ok-start.start;
+      between = g.D.Disk.told c.start_files.new.disk;
       files = starts _ _ _ _ c.in_ok-start.start (c.as_slice.ensures ∙ c.in_ok-paths.ensures)
           c.in_ok-start.ensures.cause c.in_ok-start.ensures.bound c.in_ok-start.ensures.count c.in_ok-start.ensures.short c.in_ok-start.ensures.told;
-      ended = record c.in_ok-ended.ended { start = c.in_ok-start.start };
-      kept = ap Some c.with_start.ensures;
-      is_run = with_files program _ _ c.in_ok-start.start c.in_ok-ended.ended run;
+      ended = c.in_ok-ended.ended;
+      kept = refl;
+      is_run = run;
+      left = c.in_ok-ended.ensures.disk program made.code made.same;
+      named = runs_name_files program c.args.steps c.in_ok-start.start c.in_ok-ended.ended (length (file_paths c.args.checked.now.items)) run
+          (names_its_files c.args.checked.now c.tree.ensures.clean c.tree.ensures.shaped);
       text = c.in_ok-text.ensures ∙ ap (λ names. report_of names c.in_ok-ended.ended.cores) (c.names.ensures ∙ names_are c.args.checked.now c.in_ok-code.code made.code);
       status = c.status-status.ensures;
     }
@@ -46,14 +59,18 @@ returns g c =
 pub returns-in_err-ended : goal.returns-in_err-ended
 returns-in_err-ended g c =
     let p = err_from_is_err_and c.from_residual-in_err-ended.result c.from_residual-in_err-ended.ensures.1 in
-    rw (p.1, p.2) (started c.in_ok-start.start (starts (g.D.Disk.told c.args.disk.now) (g.D.Disk.told c.start_files.new.disk) _ (file_paths c.args.checked.now.items) c.in_ok-start.start
-    (c.as_slice.ensures ∙ c.in_ok-paths.ensures) c.in_ok-start.ensures.cause c.in_ok-start.ensures.bound c.in_ok-start.ensures.count c.in_ok-start.ensures.short c.in_ok-start.ensures.told))
+    rw (p.1, p.2) (begun c.in_ok-start.start (g.D.Disk.told c.start_files.new.disk)
+    (starts (g.D.Disk.told c.args.disk.now) (g.D.Disk.told c.start_files.new.disk) _ (file_paths c.args.checked.now.items) c.in_ok-start.start
+    (c.as_slice.ensures ∙ c.in_ok-paths.ensures) c.in_ok-start.ensures.cause c.in_ok-start.ensures.bound c.in_ok-start.ensures.count c.in_ok-start.ensures.short c.in_ok-start.ensures.told)
+    (record { bound = c.run.ensures.bound; is_ready = c.run.ensures.ready }))
 
 pub returns-in_err-text : goal.returns-in_err-text
 returns-in_err-text g c =
     let p = err_from_is_err_and c.from_residual-in_err-text.result c.from_residual-in_err-text.ensures.1 in
-    rw (p.1, p.2) (started c.in_ok-start.start (starts (g.D.Disk.told c.args.disk.now) (g.D.Disk.told c.start_files.new.disk) _ (file_paths c.args.checked.now.items) c.in_ok-start.start
-    (c.as_slice.ensures ∙ c.in_ok-paths.ensures) c.in_ok-start.ensures.cause c.in_ok-start.ensures.bound c.in_ok-start.ensures.count c.in_ok-start.ensures.short c.in_ok-start.ensures.told))
+    rw (p.1, p.2) (begun c.in_ok-start.start (g.D.Disk.told c.start_files.new.disk)
+    (starts (g.D.Disk.told c.args.disk.now) (g.D.Disk.told c.start_files.new.disk) _ (file_paths c.args.checked.now.items) c.in_ok-start.start
+    (c.as_slice.ensures ∙ c.in_ok-paths.ensures) c.in_ok-start.ensures.cause c.in_ok-start.ensures.bound c.in_ok-start.ensures.count c.in_ok-start.ensures.short c.in_ok-start.ensures.told)
+    (record { bound = c.run.ensures.bound; is_ready = c.run.ensures.ready }))
 
 pub returns-in_err-start : goal.returns-in_err-start
 returns-in_err-start g c =

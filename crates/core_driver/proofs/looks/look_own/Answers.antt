@@ -1,24 +1,11 @@
-use Rattle.std.proofs.Common.{◌≡◌, length, refl, ap, ◌∙◌, arith}
-use Rattle.stack_code.specs.Parts.{Parts}
+use Rattle.std.proofs.Common.{refl, ◌∙◌}
 use Rattle.std.proofs.lemmas.Result.{err_from_is_err_and}
 use Rattle.core_driver.proofs.Together.{looks_then}
-use Rattle.core_driver.proofs.Looking.{channel_looked, full_never, full_next, requests_looked}
+use Rattle.core_driver.proofs.Looking.{full_never, full_next, own_looked}
 use Rattle.core_driver.proofs.looks.look_own.Goals as goal
 
 pub try_offer-requires-clause-side : goal.try_offer-requires-clause-side
 try_offer-requires-clause-side g c = rw (c.poll_own.ensures.looks.holds.machine.code, c.poll_own.ensures.looks.holds.machine.core) c.requires.side
-
-pub try_offer-requires-clause-channel : goal.try_offer-requires-clause-channel
-try_offer-requires-clause-channel g c =
-    let same : length c.ends-channels.result.now ≡ length c.poll_own.new.machine.code.ends = ap length (c.ends-channels.ensures ∙ ap (λ (p : Parts). p.ends) c.code.ensures) in
-    omega (arith, same)
-
-pub returns-then-link-channels-clause-looked : goal.returns-then-link-channels-clause-looked
-returns-then-link-channels-clause-looked g c = λ e.
-    let same : length c.ends-channels.result.now ≡ length c.args.machine.now.code.ends =
-    ap length (c.ends-channels.ensures ∙ ap (λ (p : Parts). p.ends) (c.code.ensures ∙ c.poll_own.ensures.looks.holds.machine.code)) in
-    requests_looked c.args.machine.now c.poll_own.new.machine _ _ c.args.link c.poll_own.ensures.looks c.in_ok-full.ensures.polled c.requires.side
-    (λ same. c.in_ok-full.ensures.decision c.if-full.false same) (omega (arith, same))
 
 pub returns-in_err-offered-clause-looks : goal.returns-in_err-offered-clause-looks
 returns-in_err-offered-clause-looks g c = looks_then c.args.machine.now c.poll_own.new.machine c.try_offer.new.machine _ _ _ c.poll_own.ensures.looks c.try_offer.ensures.looks
@@ -37,8 +24,9 @@ pub returns-clause-full : goal.returns-clause-full
 returns-clause-full g c = full_next _ _ _ _ (full_never _ _ _ _ refl c.in_ok-full.ensures.full c.if-full.false) c.in_ok-offered.ensures.full
 
 pub returns-clause-looked : goal.returns-clause-looked
-returns-clause-looked g c = λ e. channel_looked c.args.machine.now c.poll_own.new.machine _ _ c.args.link c.poll_own.ensures.looks c.in_ok-full.ensures.polled c.requires.side
-    (λ same. c.in_ok-full.ensures.decision c.if-full.false same) c.try_offer.new.machine _ c.try_offer.ensures.looks c.in_ok-offered.ensures.tried (c.in_ok-offered.ensures.slot e)
+returns-clause-looked g c = λ e. own_looked c.args.machine.now c.poll_own.new.machine _ _ c.args.link c.poll_own.ensures.looks c.in_ok-full.ensures.polled c.requires.side
+    (λ same. c.in_ok-full.ensures.decision c.if-full.false same) (λ same. c.in_ok-full.ensures.reply c.if-full.false same) c.try_offer.new.machine _
+    c.try_offer.ensures.looks c.in_ok-offered.ensures.tried (c.in_ok-offered.ensures.slot e)
 
 pub returns-clause-stays : goal.returns-clause-stays
 returns-clause-stays g c = g.met.P.Ports.stays_then c.args.ports.now c.poll_own.new.ports c.try_offer.new.ports c.poll_own.ensures.stays c.try_offer.ensures.stays

@@ -49,7 +49,7 @@ returns-in-Got-clause-looks g c = let fits : SFits w64 c.in-Got.value = search r
     (g.P.Ports.tries c.poll.new.self) c.poll.new.clock) (Some (record { event = event.Got c.args.link c.in-Got.number c.in-Got.value; stamp = c.in-Got.stamp })) c.args.link
     c.in-Got.ensures.tells c.in-Got.ensures.hand
     c.in-Got.ensures.terms c.in-Got.ensures.polls c.in-Got.ensures.tries) c.got.new.self (subst (λ v. HasCome c.make_room.new.self (event.Got c.args.link c.in-Got.number v) c.in-Got.stamp
-    c.got.new.self) (to_z-of_z w64 c.in-Got.value fits) c.got.ensures.come) c.got.ensures.less c.got.ensures.run (peer_is_channel _ _ c.args.link c.requires.side)
+    c.got.new.self) (to_z-of_z w64 c.in-Got.value fits) c.got.ensures.come) c.got.ensures.less c.got.ensures.run
 
 pub returns-in-Got-clause-looked : goal.returns-in-Got-clause-looked
 returns-in-Got-clause-looked g c = let fits : SFits w64 c.in-Got.value = search rules in λ e. peer_looked _ _ _ _ c.args.link
@@ -61,7 +61,7 @@ returns-in-Got-clause-looked g c = let fits : SFits w64 c.in-Got.value = search 
     (g.P.Ports.tries c.poll.new.self) c.poll.new.clock)
     (Some (record { event = event.Got c.args.link c.in-Got.number c.in-Got.value; stamp = c.in-Got.stamp })) c.args.link c.in-Got.ensures.tells c.in-Got.ensures.hand c.in-Got.ensures.terms
     c.in-Got.ensures.polls c.in-Got.ensures.tries) c.got.new.self (subst (λ v. HasCome c.make_room.new.self (event.Got c.args.link c.in-Got.number v) c.in-Got.stamp c.got.new.self)
-    (to_z-of_z w64 c.in-Got.value fits) c.got.ensures.come) c.got.ensures.less c.got.ensures.run (peer_is_channel _ _ c.args.link c.requires.side))
+    (to_z-of_z w64 c.in-Got.value fits) c.got.ensures.come) c.got.ensures.less c.got.ensures.run)
     (counts_here (g.P.Ports.polls c.args.ports.now) (g.P.Ports.polls c.poll.new.self) c.args.link c.in-Got.ensures.polls) c.requires.side
     (λ same waits. absurd (told_moves (outside (g.P.Ports.terms c.args.ports.now) (g.P.Ports.ends c.args.ports.now) (g.P.Ports.at_hand c.args.ports.now) (g.P.Ports.heard c.args.ports.now)
     (g.P.Ports.polls c.args.ports.now) (g.P.Ports.tries c.args.ports.now) c.args.clock.now)
@@ -83,7 +83,6 @@ returns-in-Pass-clause-looks g c = entered_looks c.args.machine.now c.make_room.
     (g.P.Ports.tries c.poll.new.self) c.poll.new.clock) (Some (record { event = event.Pass c.args.link c.in-Pass.number; stamp = c.in-Pass.stamp })) c.args.link c.in-Pass.ensures.tells
     c.in-Pass.ensures.hand
     c.in-Pass.ensures.terms c.in-Pass.ensures.polls c.in-Pass.ensures.tries) c.passed.new.self c.passed.ensures.come c.passed.ensures.less c.passed.ensures.run
-    (peer_is_channel _ _ c.args.link c.requires.side)
 
 pub returns-in-Pass-clause-looked : goal.returns-in-Pass-clause-looked
 returns-in-Pass-clause-looked g c = λ e. peer_looked _ _ _ _ c.args.link (entered_looks c.args.machine.now c.make_room.new.self _ c.requires.in_step c.requires.point
@@ -93,8 +92,7 @@ returns-in-Pass-clause-looked g c = λ e. peer_looked _ _ _ _ c.args.link (enter
     (outside (g.P.Ports.terms c.poll.new.self) (g.P.Ports.ends c.poll.new.self) (g.P.Ports.at_hand c.poll.new.self) (g.P.Ports.heard c.poll.new.self) (g.P.Ports.polls c.poll.new.self)
     (g.P.Ports.tries c.poll.new.self) c.poll.new.clock) (Some (record { event = event.Pass c.args.link c.in-Pass.number; stamp = c.in-Pass.stamp })) c.args.link c.in-Pass.ensures.tells
     c.in-Pass.ensures.hand
-    c.in-Pass.ensures.terms c.in-Pass.ensures.polls c.in-Pass.ensures.tries) c.passed.new.self c.passed.ensures.come c.passed.ensures.less c.passed.ensures.run
-    (peer_is_channel _ _ c.args.link c.requires.side))
+    c.in-Pass.ensures.terms c.in-Pass.ensures.polls c.in-Pass.ensures.tries) c.passed.new.self c.passed.ensures.come c.passed.ensures.less c.passed.ensures.run)
     (counts_here (g.P.Ports.polls c.args.ports.now) (g.P.Ports.polls c.poll.new.self) c.args.link c.in-Pass.ensures.polls) c.requires.side
     (λ same waits. absurd (told_moves (outside (g.P.Ports.terms c.args.ports.now) (g.P.Ports.ends c.args.ports.now) (g.P.Ports.at_hand c.args.ports.now) (g.P.Ports.heard c.args.ports.now)
     (g.P.Ports.polls c.args.ports.now) (g.P.Ports.tries c.args.ports.now) c.args.clock.now)

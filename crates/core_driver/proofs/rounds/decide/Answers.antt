@@ -1,4 +1,4 @@
-use Rattle.std.proofs.Common.{Some, None, refl}
+use Rattle.std.proofs.Common.{Some, None}
 use Rattle.ac_base.specs.declared.entry.Event.TheVariants as event
 use Rattle.core_driver.specs.inner.Outside.{outside}
 use Rattle.core_driver.proofs.Together.{nothing_holds, roomed_holds, up_to}
@@ -37,7 +37,7 @@ returns-in-Withdrawn-clause-holds g c = decided_holds c.args.machine.now c.make_
           c.in-Withdrawn.stamp;
     }))
     c.in-Withdrawn.ensures.tells c.in-Withdrawn.ensures.hand c.in-Withdrawn.ensures.terms c.in-Withdrawn.ensures.polls c.in-Withdrawn.ensures.tries) c.withdrawn.new.self _
-    c.withdrawn.ensures.decided refl c.withdrawn.ensures.less c.withdrawn.ensures.run
+    c.withdrawn.ensures.decided c.withdrawn.ensures.less c.withdrawn.ensures.run
 
 pub returns-in-Withdrawn-clause-came : goal.returns-in-Withdrawn-clause-came
 returns-in-Withdrawn-clause-came g c = decided_less c.args.machine.now c.make_room.new.self _ c.requires.in_step c.make_room.ensures.same c.make_room.ensures.state c.make_room.ensures.run
@@ -52,7 +52,7 @@ returns-in-Withdrawn-clause-came g c = decided_less c.args.machine.now c.make_ro
           c.in-Withdrawn.stamp;
     }))
     c.in-Withdrawn.ensures.tells c.in-Withdrawn.ensures.hand c.in-Withdrawn.ensures.terms c.in-Withdrawn.ensures.polls c.in-Withdrawn.ensures.tries) c.withdrawn.new.self _
-    c.withdrawn.ensures.decided refl c.withdrawn.ensures.less c.withdrawn.ensures.run c.args._ranks.now
+    c.withdrawn.ensures.decided c.withdrawn.ensures.less c.withdrawn.ensures.run c.args._ranks.now
 
 pub taken-requires-clause-asks : goal.taken-requires-clause-asks
 taken-requires-clause-asks g c = still_asks c.args.machine.now c.make_room.new.self _ c.requires.in_step c.make_room.ensures.same c.make_room.ensures.state c.make_room.ensures.run c.args.tried
@@ -70,7 +70,7 @@ returns-in-Taken-clause-holds g c = decided_holds c.args.machine.now c.make_room
       stamp =
           c.in-Taken.stamp;
     }))
-    c.in-Taken.ensures.tells c.in-Taken.ensures.hand c.in-Taken.ensures.terms c.in-Taken.ensures.polls c.in-Taken.ensures.tries) c.taken.new.self _ c.taken.ensures.decided refl
+    c.in-Taken.ensures.tells c.in-Taken.ensures.hand c.in-Taken.ensures.terms c.in-Taken.ensures.polls c.in-Taken.ensures.tries) c.taken.new.self _ c.taken.ensures.decided
     c.taken.ensures.less c.taken.ensures.run
 
 pub returns-in-Taken-clause-came : goal.returns-in-Taken-clause-came
@@ -85,7 +85,7 @@ returns-in-Taken-clause-came g c = decided_less c.args.machine.now c.make_room.n
       stamp =
           c.in-Taken.stamp;
     }))
-    c.in-Taken.ensures.tells c.in-Taken.ensures.hand c.in-Taken.ensures.terms c.in-Taken.ensures.polls c.in-Taken.ensures.tries) c.taken.new.self _ c.taken.ensures.decided refl
+    c.in-Taken.ensures.tells c.in-Taken.ensures.hand c.in-Taken.ensures.terms c.in-Taken.ensures.polls c.in-Taken.ensures.tries) c.taken.new.self _ c.taken.ensures.decided
     c.taken.ensures.less c.taken.ensures.run c.args._ranks.now
 
 pub returns-in-ClockFull-clause-holds : goal.returns-in-ClockFull-clause-holds

@@ -1,7 +1,9 @@
-use Rattle.std.proofs.Common.{ℕ, ◌<◌, List, length, refl, subst}
+use Rattle.std.proofs.Common.{ℕ, ◌<◌, List, [], ◌∷◌, ap, arith, length, subst, sym}
+use Rattle.std.proofs.lemmas.List.{length-append}
+use Rattle.core_runner.specs.declared.seat.Seat.TheVariants.{AtCore}
 use Rattle.core_runner.specs.Seen.{view_of}
-use Rattle.core_runner.specs.inner.Starting.{IsNew}
-use Rattle.core_runner.proofs.Starting.{in_order_more, all_with_last, new_driver}
+use Rattle.core_runner.specs.inner.Starting.{AreNewCores, AreNewSeats}
+use Rattle.core_runner.proofs.Starting.{core_more, worker_last, new_driver}
 use Rattle.core_runner.proofs.running.seats_of.Goals as goal
 
 pub loop-number-preserved : goal.loop-number-preserved
@@ -9,10 +11,19 @@ loop-number-preserved c =
     let at = c.loop-number in
     let m = c.in_ok-machine.ensures in
     let within = subst (λ (es : List ℕ). at.number < length es) c.entries.ensures c.loop-number-test.true in
+    let count = at.invariant.count in
     record {
-      numbers = in_order_more (λ seat. seat.number) at.seats.items c.push.new.self.items (record { core = c.new-core.result; number = at.number }) at.number
-          c.in_ok-push.ensures.items at.invariant.numbers refl;
-      new = all_with_last (λ seat. IsNew c.args.code.now c.args.steps seat.number (view_of seat.core)) at.seats.items c.push.new.self.items
-          (record { core = c.new-core.result; number = at.number }) c.in_ok-push.ensures.items at.invariant.new
-          (new_driver c.args.code.now c.args.steps at.number c.new-core.result c.in_ok-machine.machine c.new-core.ensures.machine m.code m.core m.bound m.journal within);
+      count = let e = ap (λ seats. length seats) c.in_ok-push.ensures.items in let n = length-append at.seats.items (AtCore c.new-core.result at.number ∷ []) in omega arith;
+      new = subst (AreNewCores view_of c.args.code.now c.args.steps 0) (sym c.in_ok-push.ensures.items)
+          (core_more view_of c.args.code.now c.args.steps 0 at.seats.items c.new-core.result at.number at.invariant.new (omega arith)
+          (new_driver c.args.code.now c.args.steps at.number c.new-core.result c.in_ok-machine.machine c.new-core.ensures.machine m.code m.core m.bound m.journal within));
     }
+
+pub returns : goal.returns
+returns c =
+    let at = c.loop-number in
+    let count = at.invariant.count in
+    let most = at.auto.number-end in
+    let least = c.loop-number-test.false in
+    subst (AreNewSeats view_of c.args.code.now c.args.steps) (sym c.in_ok-push-2.ensures.items)
+    (worker_last view_of c.args.code.now c.args.steps 0 at.seats.items (length c.entries.result.now) at.invariant.new (omega arith) (ap (λ (es : List ℕ). length es) c.entries.ensures))

@@ -6,7 +6,7 @@ use Rattle.ac_semantics.specs.Threads.{CoreState}
 use Rattle.ac_interpreter.specs.inner.Cores.{core_of}
 use Rattle.ac_interpreter.specs.inner.Outcomes.{outcome_of}
 use Rattle.ac_interpreter.specs.inner.Under.{core_under}
-use Rattle.ac_interpreter.proofs.Finding.{the_same}
+use Rattle.interpreter_state.proofs.Finding.{the_same}
 use Rattle.ac_interpreter.proofs.Trying.{undecided, comes_out}
 use Rattle.ac_interpreter.proofs.running.Core.decide.Goals as goal
 

@@ -3,7 +3,7 @@ use Rattle.ac_interpreter.specs.declared.cancelling.Fate.{Fate}
 use Rattle.ac_interpreter.specs.inner.Cancels.{after_outcome}
 use Rattle.ac_interpreter.specs.inner.Cores.{core_of}
 use Rattle.ac_interpreter.specs.inner.Outcomes.{outcome_of}
-use Rattle.ac_interpreter.specs.inner.State.{shared_of}
+use Rattle.interpreter_state.specs.State.{shared_of}
 use Rattle.ac_interpreter.proofs.Trying.{never_there}
 use Rattle.ac_interpreter.proofs.Turning.{on_ok}
 use Rattle.ac_interpreter.proofs.running.Core.end_at.Goals as goal

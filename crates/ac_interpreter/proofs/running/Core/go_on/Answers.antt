@@ -1,9 +1,9 @@
 use Rattle.std.proofs.Common.{sym, ap, ◌∙◌, subst}
-use Rattle.ac_interpreter.specs.inner.State.{held_of}
-use Rattle.ac_interpreter.specs.inner.Nexts.{next_with}
+use Rattle.interpreter_state.specs.State.{held_of}
+use Rattle.interpreter_steps.specs.Nexts.{next_with}
 use Rattle.ac_interpreter.specs.inner.Cores.{core_of}
 use Rattle.ac_interpreter.specs.inner.Under.{move_under, IsMoved}
-use Rattle.ac_interpreter.specs.declared.statements.Next.{Next}
+use Rattle.interpreter_steps.specs.declared.statements.Next.{Next}
 use Rattle.ac_interpreter.proofs.Growing.{Moved}
 use Rattle.ac_interpreter.proofs.Turning.{is_plain, cancels_here, plain_here, if_ok}
 use Rattle.ac_interpreter.proofs.running.Core.go_on.Goals as goal

@@ -2,7 +2,7 @@ use Rattle.std.proofs.Common.{◌≡◌, ap, sym, ◌∙◌}
 use Rattle.std.specs.Prelude.{position}
 use Rattle.core_state.specs.Cancelling.{is_to_try}
 use Rattle.ac_semantics.specs.Threads.{is_inside}
-use Rattle.ac_interpreter.proofs.Finding.{found_now, none_more}
+use Rattle.ac_interpreter.proofs.Searching.{found_now, none_more}
 use Rattle.ac_interpreter.proofs.running.Core.oldest_to_try.Goals as goal
 
 pub returns-then-branch : goal.returns-then-branch

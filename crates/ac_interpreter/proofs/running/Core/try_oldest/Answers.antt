@@ -1,7 +1,8 @@
 use Rattle.std.proofs.Common.{◌≡◌, List, true, false, refl, sym, ap, ◌∙◌, subst}
 use Rattle.std.specs.Prelude.{Option, Some, None, find, position}
 use Rattle.cancel_scope.specs.Outstanding.{has_begun}
-use Rattle.ac_interpreter.proofs.Finding.{none_found, found_at, is_not_begun}
+use Rattle.interpreter_state.proofs.Finding.{none_found, found_at}
+use Rattle.ac_interpreter.proofs.Searching.{is_not_begun}
 use Rattle.core_state.specs.Moves.{On}
 use Rattle.core_state.specs.Cancelling.{is_to_try}
 use Rattle.ac_semantics.specs.Threads.{CoreState, is_inside}
@@ -11,7 +12,7 @@ use Rattle.ac_interpreter.specs.inner.Cores.{core_of, end_or}
 use Rattle.ac_interpreter.specs.inner.Under.{core_under, move_under, IsMoved}
 use Rattle.ac_interpreter.proofs.Growing.{Moved}
 use Rattle.ac_interpreter.proofs.Trying.{none_to_try, never_happens, is_decided}
-use Rattle.ac_interpreter.proofs.Turning.{past_popped, if_ok}
+use Rattle.ac_interpreter.proofs.Turning.{if_ok}
 use Rattle.ac_interpreter.proofs.running.Core.try_oldest.Goals as goal
 
 pub returns-in-None-clause-state : goal.returns-in-None-clause-state
@@ -23,8 +24,8 @@ returns-in-None-clause-state c = λ past.
     let there : c.in_ok-oldest_to_try.field-0 ≡ position test os = c.in_ok-oldest_to_try.ensures in
     let none : None ≡ position test os = sym c.in-None.is ∙ there in
     none_to_try past todo c.args.block (core_of s) (none_found test os os none refl)
-    ∙ ap (λ (ws : List w.Work). On (core_under past todo (record (core_of s) { work = ws }))) (sym (past_popped c.pop.result s.work c.pop.new.self c.pop.ensures))
-    ∙ sym (ap (λ (o : Option Halt). move_under past todo (end_or (record (core_of s) { work = c.pop.new.self }) o)) c.requires.running)
+    ∙ ap (λ (ws : List w.Work). On (core_under past todo (record (core_of s) { work = ws }))) (sym c.drop_first.ensures)
+    ∙ sym (ap (λ (o : Option Halt). move_under past todo (end_or (record (core_of s) { work = c.drop_first.new.self }) o)) c.requires.running)
 
 pub returns-in_ok-end_at-in-Waiting-clause-state : goal.returns-in_ok-end_at-in-Waiting-clause-state
 returns-in_ok-end_at-in-Waiting-clause-state c = λ past.

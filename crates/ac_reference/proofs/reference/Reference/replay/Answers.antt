@@ -9,14 +9,14 @@ use Rattle.ac_reference.proofs.reference.Reference.replay.Goals as goal
 pub replayed-requires-clause-ends : goal.replayed-requires-clause-ends
 replayed-requires-clause-ends c =
     one_there c.in_ok-program.program (resolved c.args.checked.now) c.args.core c.args.steps c.in_ok-program.ensures.same
-    (λ entries. (c.in_ok-_code.ensures.one_end c.requires.built c.args.core c.args.steps entries
-    (is_core c.args.checked.now c.args.core c.requires.core)).0)
+    (λ entries. (c.in_ok-_code.ensures.one_end c.args.core c.args.steps entries
+    (is_core c.args.checked.now c.args.core c.requires)).0)
 
 pub replayed-requires-clause-link : goal.replayed-requires-clause-link
 replayed-requires-clause-link c =
     let p = c.in_ok-program.program in
     let few = is_few c.args.checked.now p c.in_ok-program.ensures.same c.tree.ensures.small in
-    let there = subst (λ (x : Resolved). c.args.core < length x.cores) (sym c.in_ok-program.ensures.same) (is_core c.args.checked.now c.args.core c.requires.core) in
+    let there = subst (λ (x : Resolved). c.args.core < length x.cores) (sym c.in_ok-program.ensures.same) (is_core c.args.checked.now c.args.core c.requires) in
     omega (arith, few, there)
 
 pub returns-clause-ok : goal.returns-clause-ok

@@ -1,7 +1,8 @@
-use Rattle.std.proofs.Common.{◌∙◌, sym, ap, subst, ◌<◌, ◌≡◌, length, slice_get}
+use Rattle.std.proofs.Common.{◌∙◌, sym, ap, subst, ◌<◌, ◌≤◌, ◌≡◌, length, slice_get}
 use Rattle.ac_links.specs.Views.{owner_lead}
 use Rattle.ac_links.specs.Noted.{decision_stamp}
 use Rattle.core_channels.proofs.Keeping.{views_known}
+use Rattle.core_channels.proofs.Opens.{open_known}
 use Rattle.core_channels.proofs.kept_link.KeptLink.know.Goals as goal
 
 pub returns-clause-link : goal.returns-clause-link
@@ -15,5 +16,6 @@ pub invariant_of-self : goal.invariant_of-self
 invariant_of-self c = record {
   views = returns-clause-link c;
   lead = c.lead_from-self-inside.ensures ∙ ap owner_lead c.as_slice.ensures.value;
+  open' = rw c.note_known.ensures.offers (subst (λ k. c.self.inside.open ≤ k) (sym (open_known c.self.inside.offers.items c.args.number c.args.stamp)) c.self.invariant.open');
   places = rw c.note_known.ensures.len c.self.invariant.places;
 }

@@ -6,6 +6,7 @@ use Rattle.core_channels.specs.Withdraws.{own_withdrawal, late_withdrawal, withd
 use Rattle.core_channels.proofs.Answering.{read_at}
 use Rattle.core_channels.proofs.Keeping.{views_withdraw}
 use Rattle.core_channels.proofs.Leads.{lead_withdrawn}
+use Rattle.core_channels.proofs.Opens.{open_withdrawn}
 use Rattle.core_channels.proofs.Stamping.{stamp_rises}
 use Rattle.core_channels.proofs.kept_link.KeptLink.withdraw.Goals as goal
 
@@ -23,6 +24,8 @@ invariant_of-self c =
     record {
       views = returns-in_default-clause-link c;
       lead = rw c.note_withdrawn.ensures.offers (c.self.invariant.lead ∙ sym (lead_withdrawn c.self.inside.offers.items c.args.number c.in-Some-after.stamp));
+      open' = rw c.note_withdrawn.ensures.offers
+          (let o = c.self.invariant.open' in let m = open_withdrawn c.self.inside.offers.items c.args.number c.in-Some-after.stamp in omega arith);
       places = rw c.note_withdrawn.ensures.len c.self.invariant.places;
     }
 

@@ -6,6 +6,5 @@ pub invariant_of-result : goal.invariant_of-result
 invariant_of-result c = record {
   clock = c.new.ensures ∙ ap (last_of 0) (sym c.requires);
   run = c.ending-ending.ensures.run;
-  channels = rw c.requires tt;
   going = λ e. let no : false ≡ true = e in absurd (cc);
 }

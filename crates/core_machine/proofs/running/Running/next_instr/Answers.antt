@@ -46,4 +46,4 @@ returns-clause-finds c =
     let there = slice_get-get_or instrs m.place i.Step (within m.code.now m.bound (flat_of m) fit c.requires.sound.valid t.0 t.1) in
     let same : slice_index_or instrs m.place i.Step ≡ slice_index_or c.args.instrs.now m.place i.Step = ap (λ xs. slice_index_or xs m.place i.Step) (sym c.requires.instrs) in
     finds_there m.code.now m.bound (flat_of m) fit c.requires.sound.valid t.0 t.1 (c.requires.sound.chained c.requires.running)
-    (slice_index_or c.args.instrs.now m.place i.Step) c.requires.sound.meant (there ∙ ap (λ x. Some x) same)
+    (slice_index_or c.args.instrs.now m.place i.Step) (there ∙ ap (λ x. Some x) same)

@@ -1,6 +1,0 @@
-use Rattle.std.proofs.Common.{◌≡◌, ◌-◌}
-use Rattle.work_item.specs.Store.{above}
-use Rattle.ac_interpreter.proofs.memory.Memory.above.Given as goal
-
-abbrev pub invariant-loop : goal.invariant-loop
-invariant-loop l = above l.self l.current (l.level - l.counter) ≡ above l.self l.fn.frame l.level

@@ -1,7 +1,0 @@
-use Rattle.std.proofs.Common.{◌≡◌, ◌++◌}
-use Rattle.core_state.specs.Requests.{bytes_at}
-use Rattle.ac_interpreter.proofs.Bytes.{from_here}
-use Rattle.ac_interpreter.proofs.memory.Memory.bytes_at.Given as goal
-
-abbrev pub invariant-loop-index : goal.invariant-loop-index
-invariant-loop-index l = l.bytes ++ from_here l.self l.place l.index ≡ bytes_at l.self l.place

@@ -1,6 +1,0 @@
-use Rattle.std.proofs.Common.{◌≡◌, ◌++◌, drop, map}
-use Rattle.ac_interpreter.specs.inner.Pending.{context_of}
-use Rattle.ac_interpreter.proofs.pending.Around.copy.Given as goal
-
-abbrev pub invariant-loop-context : goal.invariant-loop-context
-invariant-loop-context l = map context_of l.contexts.items ++ map context_of (drop l.context-index l.context-items) ≡ map context_of l.context-items

@@ -1,0 +1,2 @@
+mod Lengthened
+pub mod Examples

@@ -1,0 +1,7 @@
+mod Levels
+mod Clearing
+mod Releasing
+mod Counted
+pub mod Finding
+mod Taken
+mod Examples

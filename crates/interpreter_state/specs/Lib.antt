@@ -1,0 +1,5 @@
+pub mod Data
+pub mod Operations
+pub mod State
+pub mod Arrivals
+pub mod inner

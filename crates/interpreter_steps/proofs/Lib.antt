@@ -1,0 +1,6 @@
+mod Calling
+mod Ranges
+mod Copying
+mod Outcomes
+mod Returning
+mod Examples

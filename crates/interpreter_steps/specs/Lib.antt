@@ -1,0 +1,3 @@
+pub mod Works
+pub mod Nexts
+pub mod inner

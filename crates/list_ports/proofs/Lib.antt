@@ -1,0 +1,10 @@
+pub mod Answering
+pub mod Changing
+pub mod Examples
+pub mod Looking
+pub mod OwnerLooks
+pub mod Replying
+pub mod Rounds
+pub mod Serving
+pub mod Telling
+pub mod Wiring
