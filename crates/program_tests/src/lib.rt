@@ -2,8 +2,12 @@
 #![tactic(auto)]
 
 #[cfg(test)]
+mod disk_calls;
+#[cfg(test)]
 mod main_calls;
 #[cfg(test)]
 mod reference;
+#[cfg(test)]
+mod requests;
 #[cfg(test)]
 mod rules;

@@ -76,8 +76,8 @@ const WAITING: &str = "core a(f); core b(g); channel c(a, b, 1); channel d(b, a,
 const STALLED: &str =
     "a: stalled after 2 steps, 6 instructions\nb: stalled after 2 steps, 6 instructions\n";
 
-// A library of the one text `x.ac`.
-fn one_text(alloc: Global, text: &[u8]) -> Result<List<NamedBytes>, AllocError> {
+/// A library of the one text `x.ac`.
+pub(crate) fn one_text(alloc: Global, text: &[u8]) -> Result<List<NamedBytes>, AllocError> {
     let mut texts = Vec::new(alloc);
     texts.push(NamedBytes {
         name: List::from_vec(Vec::from_slice(alloc, b"x.ac")?),
@@ -86,16 +86,16 @@ fn one_text(alloc: Global, text: &[u8]) -> Result<List<NamedBytes>, AllocError> 
     Ok(List::from_vec(texts))
 }
 
-// The status of a call, whether it keeps a run, and how many bytes its first file had at the start.
+/// The status of a call, whether it keeps a run, and how many bytes its first file had at the start.
 #[derive(Clone, Copy)]
-struct Seen {
-    status: u8,
+pub(crate) struct Seen {
+    pub(crate) status: u8,
     ran: bool,
     first: Option<u64>,
 }
 
-// The one call of `ac_main`: each such call is proved through all its clauses.
-fn called<L: Library, K: Sink, D: Disk>(
+/// The one call of `ac_main`: each such call is proved through all its clauses.
+pub(crate) fn called<L: Library, K: Sink, D: Disk>(
     alloc: Global,
     words: &[&str],
     library: &mut L,

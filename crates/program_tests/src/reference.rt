@@ -7,7 +7,8 @@ use ac_types::Checked;
 use std::alloc::Global;
 use std::test::Fail;
 
-fn replayed(
+/// What the first core comes to under the journal.
+pub(crate) fn replayed(
     alloc: Global,
     checked: &Checked,
     steps: u64,
