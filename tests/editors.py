@@ -5,6 +5,7 @@
 - each regular expression of the grammar for VS Code is made of what all engines read alike, and some lines come out as they should;
 - each group of the Vim file has its colour, and where Vim is installed it colours those lines as the grammar does;
 - what the editors look for in the lines of ac-where finds the place of every test of tests/where, and nothing in other lines;
+- where Vim is installed, its list of errors has what stands without a place, and nothing else besides places;
 - the settings of the page are those of the files.
 
 Run from anywhere: python3 tests/editors.py. It prints what it finds, and ends with status 1 where it finds anything.
@@ -295,6 +296,46 @@ def place_faults():
                 yield f"{path.name}: {engine.pattern} takes {found[0].group(1)} for the file"
 
 
+# Lines without a place: those that Vim has in its list of errors, and those that it leaves out.
+KEPT = (
+    "x.ac: library fault: No such file or directory", "ac-where: there is no ac: set AC to its path", "limit: source", "limit: steps",
+    "limit: file 0", "limit: file 15", "disk fault", "usage: ac run|trace FILE [--steps N]",
+)
+LEFT_OUT = (
+    "library fault", "accepted", "a: finished after 1 steps, 9 instructions", "7", "", "rule C2 at 32", "limit: nesting at 281",
+    "    x = 1;", "    ^", "no disk fault", "disk faults",
+)
+# Reads the lines as those of :make, and writes the list of errors, one line for each.
+VIM_LIST_SCRIPT = """let &runtimepath = $AC_VIM . ',' . &runtimepath
+filetype plugin on
+edit x.ac
+cgetfile lines
+call writefile(map(getqflist(), 'v:val.lnum . ":" . v:val.col . ": " . v:val.text'), 'found')
+qall!
+"""
+
+
+def vim_list(lines):
+    """Vim's list of errors of these lines: line, column and text."""
+    with tempfile.TemporaryDirectory() as name:
+        folder = pathlib.Path(name)
+        (folder / "lines").write_text("".join(line + "\n" for line in lines))
+        (folder / "script.vim").write_text(VIM_LIST_SCRIPT)
+        words = ["vim", "-N", "-u", "NONE", "-i", "NONE", "-n", "-e", "-s", "-S", "script.vim"]
+        variables = dict(os.environ, AC_VIM=str(VIM))
+        subprocess.run(words, cwd=folder, env=variables, stdin=subprocess.DEVNULL, stdout=subprocess.DEVNULL, timeout=120)
+        return (folder / "found").read_text().splitlines()
+
+
+def vim_list_faults():
+    if not has_vim():
+        return
+    wanted = ["3:5: rule C2 at 32: a name"] + [f"0:0: {line}" for line in KEPT]
+    found = vim_list(["x.ac:3:5: rule C2 at 32: a name", *KEPT, *LEFT_OUT])
+    yield from (f"Vim has not in its list of errors: {line}" for line in wanted if line not in found)
+    yield from (f"Vim has in its list of errors: {line}" for line in found if line not in wanted)
+
+
 # The page
 
 
@@ -325,7 +366,8 @@ def file_faults():
 
 
 def main():
-    parts = (vim_faults, grammar_faults, sample_faults, vim_sample_faults, place_faults, page_faults, file_faults)
+    parts = (vim_faults, grammar_faults, sample_faults, vim_sample_faults, place_faults, vim_list_faults, page_faults,
+             file_faults)
     found = [fault for part in parts for fault in part()]
     for fault in found:
         print(fault)

@@ -34,6 +34,8 @@ LIMITS = {
     "bytes of a read or a write": (r"the length is over (\d+) or over that of the array",),
     "live words of a core": (r"the words that live would be over ([\d,]+):",),
     "output of a core": (r"the output of the core over (\S+) bytes",),
+    "text of a trace": (r"the text of the trace has more than (\S+) bytes",),
+    "turns of a load": (r"so is TURNS, from (\d+) to (\d+)",),
 }
 
 

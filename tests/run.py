@@ -20,8 +20,8 @@ ROOT = HERE.parent
 PAGE = ROOT / "docs" / "LANGUAGE.md"
 GUIDE = ROOT / "docs" / "GUIDE.md"
 PAGES = [ROOT / "README.md", GUIDE, PAGE]
-# The commands that `ac` has today. Those of others that the pages show are passed over.
-BUILT = ("run", "check", "code")
+# The commands of `ac`. Those of other programs that the pages show are passed over.
+BUILT = ("run", "trace", "check", "code", "audit", "load")
 PIECE = re.compile(r'(?:(\d+) \* )?"((?:[^"\\]|\\.)*)"')
 ESCAPE = re.compile(r"\\(x[0-9a-f]{2}|.)")
 PLAIN = {"n": "\n", "t": "\t", "r": "\r", "\\": "\\", '"': '"'}
@@ -97,6 +97,8 @@ def status_of(answer):
     """The status that goes with an answer of a page."""
     if answer.startswith(b"rule "):
         return 3
+    if answer.startswith(b"no at "):
+        return 13
     ends = re.findall(rb"^\w+: ([a-z-]+) after \d+ steps, \d+ instructions$", answer, re.M)
     kinds = {6: b"out-of-steps", 5: b"stalled", 0: b"finished"}
     if any(end not in kinds.values() for end in ends):
@@ -128,8 +130,9 @@ def calls(block):
 
 
 def is_session(block):
-    """Whether a block has other commands than those of `ac`, as one that makes a file or shows what is left in one."""
-    return any(not command.startswith("ac ") for command, *_ in calls(block))
+    """Whether a block has other commands than those of `ac`, as one that makes a file or shows what is left in one; an output that
+    goes into a file; or a trace."""
+    return any(not command.startswith("ac ") or " > " in command or ".trace" in command for command, *_ in calls(block))
 
 
 def session_tests():
@@ -157,15 +160,20 @@ def command_tests():
 
 
 def page_faults():
-    """The programs of the guide that are not those of the files that the commands after them name, and files without a line."""
-    program = None
+    """The programs of the guide that are not those of the files that the commands after them name, and files without a line.
+
+    A program may stand there in parts, one behind the other."""
+    program = ""
     for language, block in [*blocks(GUIDE), ("", "")]:
+        if language == "c":
+            program += block
+            continue
         named = re.search(r"^\$ ac .*?(examples/\w+\.ac)", block, re.M)
         if program and not named:
             yield f"docs/GUIDE.md: no command after the program\n{program}"
         elif program and (ROOT / named.group(1)).read_text() != program:
             yield f"docs/GUIDE.md: the program before {named.group(1)} is another"
-        program = block if language == "c" else None
+        program = ""
     for path in sorted((ROOT / "examples").glob("*.ac")):
         if f"({path.name})" not in (ROOT / "examples" / "README.md").read_text():
             yield f"examples/README.md: {path.name} has no line"
@@ -179,6 +187,9 @@ def examples():
         for source, answer in zip(texts, texts[1:])
         if source.startswith("core ") and re.match(r"\w+: [a-z-]+ after ", answer)
     ]
+    traced = [(source, answer) for source, answer in zip(texts, texts[1:]) if source.startswith("core ") and answer.startswith("ac-trace ")]
+    for number, (source, answer) in enumerate(traced, 1):
+        yield f"docs/LANGUAGE.md, trace {number}", (["trace", "x.ac"], "x.ac", source.encode(), 0, answer.encode())
     rows = re.findall(r"^\| `(core [^`]*)` \| `(rule C\d+ at \d+)`", PAGE.read_text(), re.M)
     pairs += [(source, answer + "\n") for source, answer in rows]
     for number, (source, answer) in enumerate(pairs, 1):
@@ -242,9 +253,10 @@ def other_file(folder, files):
 
 
 def session_failure(program, commands):
-    """The first command that differs, or nothing. They run beside the examples, and `ac` is the program."""
+    """The first command that differs, or nothing. They run beside the examples, the tests and the tools, and `ac` is the program."""
     with tempfile.TemporaryDirectory() as folder:
-        (pathlib.Path(folder) / "examples").symlink_to(ROOT / "examples")
+        for name in ("examples", "tests", "tools"):
+            (pathlib.Path(folder) / name).symlink_to(ROOT / name)
         for command, output, status in commands:
             text = f'ac() {{ {shlex.quote(program)} "$@"; }}\n{command}'
             try:

@@ -231,6 +231,7 @@ class CodeCore:
 
     def __init__(self, compiled, names, core, limit):
         self.word, self.steps, self.instructions, self.out, self.turn = None, 0, 0, bytearray(), 0
+        self.cut = False
         links = len(names.channels) + len(names.cores)
         self.requests = len(names.channels) + core.number
         self.sends = [deque() for _ in range(links)]
@@ -332,7 +333,7 @@ class CodeCore:
             try:
                 withdrawn = self.outcome(link, number)
             except Cut:
-                self.word = "stalled"
+                self.word, self.cut = "stalled", True
                 return False
             if withdrawn:
                 del self.offers[link, number]

@@ -76,20 +76,24 @@ def answers(value, answer, files):
     return True
 
 
-def legal(history, capacities, cores, files):
-    """The links after a legal history of so many cores, whose last links are those of their requests; raises Illegal at the first
-    entry that does not fit those before it. The files become what the history has made of them."""
-    links = [[] for _ in capacities]
-    channels = len(capacities) - cores
-    last, before = [0] * (cores + 1), (0, 0)
-    for place, e in enumerate(history):
+class Links:
+    """The links of so many cores, whose last links are those of their requests, and the files, after the entries that were taken."""
+
+    def __init__(self, capacities, cores, files):
+        self.capacities, self.cores, self.files = capacities, cores, files
+        self.links = [[] for _ in capacities]
+        self.last, self.before = [0] * (cores + 1), (0, 0)
+
+    def take(self, e):
+        """Takes the entry, and raises Illegal where it does not fit those before it. The files become what it makes of them."""
         def needs(holds, what):
             if not holds:
-                raise Illegal(f"entry {place}, {e}: {what}")
+                raise Illegal(what)
 
-        needs((e.stamp, e.party) > before, "not after the entry before it")
+        links, cores = self.links, self.cores
+        needs((e.stamp, e.party) > self.before, "not after the entry before it")
         needs(0 <= e.party <= cores and 0 <= e.link < len(links), "no such party or link")
-        asked = e.link >= channels
+        asked = e.link >= len(links) - cores
         needs((e.party == cores) == (e.event == "did" or e.event == "pass" and asked), "of another party")
         needs(e.party < cores or e.turn == 0, "a turn of the worker")
         offers = links[e.link]
@@ -97,43 +101,63 @@ def legal(history, capacities, cores, files):
         if e.event == "offer":
             needs(e.number == len(offers), "not the next number")
             needs(is_request(e.value) if asked else isinstance(e.value, int), "no such link carries it")
-            needs(room(capacities[e.link], offers), "no room")
-            offers.append(Offer(e.value, e.stamp))
-        elif e.event == "did":
-            needs(asked and e.number == front(offers), "not the least that is not decided")
-            offer = offers[e.number]
-            needs(offer.is_there(), "withdrawn")
-            needs(answers(offer.value, e.value, files), "not an answer of the disk")
-            offer.taken, offer.answer, answered = e.stamp, e.value, offer.stamp
+            needs(room(self.capacities[e.link], offers), "no room")
+        elif e.event in ("did", "got"):
+            needs(asked == (e.event == "did") and e.number == front(offers), "not the least that is not decided")
+            needs(offers[e.number].is_there(), "withdrawn")
+            needs(e.event == "did" or offers[e.number].value == e.value, "another value")
+            answered = offers[e.number].stamp
         elif e.event == "reply":
             needs(e.number < len(offers) and offers[e.number].answer == e.value is not None, "not its answer")
             needs(not offers[e.number].replied, "replied already")
-            offers[e.number].replied, answered = True, offers[e.number].taken
-        elif e.event == "got":
-            needs(not asked and e.number == front(offers), "not the least that is not decided")
-            offer = offers[e.number]
-            needs(offer.is_there(), "withdrawn")
-            needs(offer.value == e.value, "another value")
-            offer.taken, answered = e.stamp, offer.stamp
+            answered = offers[e.number].taken
         elif e.event == "pass":
             needs(e.number == front(offers), "not the least that is not decided")
-            offer = offers[e.number]
-            needs(offer.withdrawn is not None, "not withdrawn")
-            offer.passed, answered = e.stamp, offer.withdrawn
+            needs(offers[e.number].withdrawn is not None, "not withdrawn")
+            answered = offers[e.number].withdrawn
         elif e.event == "withdraw":
             needs(e.number < len(offers) and offers[e.number].is_there(), "taken or withdrawn already")
-            offers[e.number].withdrawn = e.stamp
         elif e.event == "room":
             needs(e.number < len(offers) and offers[e.number].passed is not None, "not passed")
             needs(not offers[e.number].known, "known already")
-            offers[e.number].known, answered = True, offers[e.number].passed
+            answered = offers[e.number].passed
         else:
             needs(e.number < len(offers) and offers[e.number].taken is not None, "not taken")
             needs(not offers[e.number].known, "known already")
-            offers[e.number].known, answered = True, offers[e.number].taken
-        needs(e.stamp == 1 + max(last[e.party], answered), "another stamp")
-        last[e.party], before = e.stamp, (e.stamp, e.party)
-    return links
+            answered = offers[e.number].taken
+        needs(e.stamp == 1 + max(self.last[e.party], answered), "another stamp")
+        needs(e.event != "did" or answers(offers[e.number].value, e.value, self.files), "not an answer of the disk")
+        self.note(e)
+
+    def note(self, e):
+        """What the entry makes of its link and its party."""
+        offers = self.links[e.link]
+        if e.event == "offer":
+            offers.append(Offer(e.value, e.stamp))
+        elif e.event in ("did", "got"):
+            offers[e.number].taken = e.stamp
+            offers[e.number].answer = e.value if e.event == "did" else None
+        elif e.event == "reply":
+            offers[e.number].replied = True
+        elif e.event == "pass":
+            offers[e.number].passed = e.stamp
+        elif e.event == "withdraw":
+            offers[e.number].withdrawn = e.stamp
+        else:
+            offers[e.number].known = True
+        self.last[e.party], self.before = e.stamp, (e.stamp, e.party)
+
+
+def legal(history, capacities, cores, files):
+    """The links after a legal history of so many cores; raises Illegal at the first entry that does not fit those before it. The
+    files become what the history has made of them."""
+    after = Links(capacities, cores, files)
+    for place, e in enumerate(history):
+        try:
+            after.take(e)
+        except Illegal as i:
+            raise Illegal(f"entry {place}, {e}: {i}") from None
+    return after.links
 
 
 def unrest(cores, names, links):
@@ -141,6 +165,8 @@ def unrest(cores, names, links):
     if any(front(offers) is not None for offers in links[len(names.channels):]):
         return "a request waits for the worker"
     for k, core in enumerate(cores):
+        if core.cut:
+            return f"core {k} stands at a cancel that needs an entry"
         if core.word is not None:
             continue
         if core.ready:

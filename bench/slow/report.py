@@ -1,14 +1,23 @@
 #!/usr/bin/env python3
-"""report.py run FILE [--steps N] [--order SEED]: prints the report as `ac run` does; the status is the exit status.
+"""Prints what `ac` does; the status is the exit status.
 
-Several cores run in an order of `ac`, or in the order of a seed, in which arrivals may come late."""
+    report.py run FILE [--steps N] [--order SEED]
+    report.py trace FILE [--steps N] [--order SEED]
+    report.py audit FILE TRACE
+
+Several cores run in an order of `ac`, or in the order of a seed, in which arrivals may come late. The files of the program are those
+of the folder, and none of them is changed."""
+import pathlib
 import sys
 import threading
 
+import audit
 import cores
 import disk as outside
+import history
 import rules
 import tokens_and_trees as lang
+import traces
 
 sys.setrecursionlimit(200_000)
 STATUS = {"finished": 0, "stalled": 5, "out-of-steps": 6}
@@ -56,6 +65,33 @@ def both(text, limit, seed=0, polls=False, disk=None):
     return of(names, cores.Program(names, program, limit).run(seed, polls, disk)[0])
 
 
+def trace(text, limit, seed=0, polls=False, disk=None):
+    """The status of a run in the order of this seed, and its trace."""
+    program, names = load(text)
+    disk = disk or outside.Disk({})
+    disk.start([file.path for file in names.files])
+    start = [disk.files[path] for path in disk.bound]
+    ended, journals = cores.Program(names, program, limit).run(seed, polls, disk)
+    told = traces.Trace(limit, start, history.merged(journals), [core.end()[:3] for core in ended])
+    return of(names, ended)[0], told
+
+
+def judged(text, told):
+    """The status and the line of an audit of this text of a trace."""
+    try:
+        rules.refusal(text, 0)
+        if len(told) > traces.LIMIT:
+            return 10, "limit: trace"
+        run = traces.read(told)
+        rules.refusal(text, run.steps)
+    except lang.Fault as f:
+        return f.status, f.line
+    except traces.WrongLine as w:
+        return 14, f"trace fault at line {w.args[0]}"
+    line = audit.verdict(load(text)[1], run)
+    return 0 if line == "yes" else 13, line
+
+
 def deep(act):
     """Runs with a large stack."""
     got = []
@@ -84,16 +120,28 @@ def option(args, name, other):
     return value
 
 
+def here():
+    """A disk of the files of this folder."""
+    return outside.Disk({path.name.encode(): path.read_bytes() for path in pathlib.Path().iterdir() if path.is_file()})
+
+
 def main():
-    args = sys.argv[2:]
+    command, *args = sys.argv[1:]
     limit, order = int(option(args, "--steps", 100_000)), option(args, "--order", None)
     seed, polls = (int(order), False) if order else (0, True)
     text = open(args[0], "rb").read()
 
     def go():
+        if command == "audit":
+            status, line = judged(text, open(args[1], "rb").read())
+            return status, line.encode() + b"\n"
         try:
             rules.refusal(text, limit)
-            return both(text, limit, seed, polls)
+            if command == "run":
+                return both(text, limit, seed, polls, here())
+            status, run = trace(text, limit, seed, polls, here())
+            written = traces.written(run)
+            return (status, written) if len(written) <= traces.LIMIT else (10, b"limit: trace\n")
         except lang.Fault as f:
             return f.status, f.line.encode() + b"\n"
     status, out = deep(go)

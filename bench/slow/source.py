@@ -148,7 +148,7 @@ class TreeCore:
         for item in names.top.values():
             if item.kind == "Global":
                 self.globals[item] = [item.value] if item.size is None else [0] * item.size
-        self.word = None
+        self.word, self.cut = None, False
         self.ready, self.threads, self.operations = deque(), set(), []
         self.outcome = None           # asked by a cancel whether an offer is withdrawn
         try:
@@ -242,7 +242,7 @@ class TreeCore:
         except Out:
             self.word = "out-of-steps"
         except Cut:
-            self.word = "stalled"
+            self.word, self.cut = "stalled", True
 
     def end(self):
         """How it ended, with what is seen of it."""

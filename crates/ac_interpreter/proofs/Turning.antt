@@ -1,6 +1,6 @@
 -- What a move of the running thread comes to under a journal, by what its next step is.
-use Rattle.std.proofs.Common.{◌≡◌, ℕ, List, [], ◌∷◌, refl, sym, ap, ◌∙◌, subst}
-use Rattle.std.specs.Prelude.{Option, Some, None, Bool, true, false, Result, Ok, Err, IfOk, OnOk, MatchOption, MatchBool}
+use Rattle.std.proofs.Common.{◌≡◌, ℕ, List, [], refl, sym, ap, ◌∙◌, subst}
+use Rattle.std.specs.Prelude.{Some, Bool, true, false, Result, Ok, Err, IfOk, OnOk, MatchBool}
 use Rattle.ac_base.specs.declared.entry.Entry.{Entry}
 use Rattle.ac_base.specs.declared.memory.NoMemory.{NoMemory}
 use Rattle.work_item.specs.declared.ids.BlockId.{BlockId}

@@ -9,16 +9,18 @@ use Rattle.ac_program.specs.declared.refusal.Refusal.{Refusal}
 use Rattle.ac_program.specs.declared.refusal.Refusal.TheVariants as r
 use Rattle.ac_lexer.specs.declared.fault.LexFault.TheVariants as l
 use Rattle.ac_program.specs.Lines.{refusal_status}
-use Rattle.ac_program.specs.declared.words.Task.{Task}
-use Rattle.ac_program.specs.declared.words.Task.TheVariants as t
+use Rattle.ac_words.specs.declared.task.Task.{Task}
+use Rattle.ac_words.specs.declared.task.Task.TheVariants as t
 use Rattle.std.specs.Prelude.{All, Contains, IfSome, IsTrue, is_some}
 use Rattle.ac_outside.specs.Disks.{DiskTold, Held}
 use Rattle.starting_files.specs.Starting.{bytes_at}
 use Rattle.ac_program.specs.Source.{IsReady, Refuses, needed}
-use Rattle.ac_program.specs.Headline.{IsShort, HasRun, GivesStatus, CallsFor, AreOfRuns, AreShort, HasLong, KnowsFiles}
+use Rattle.ac_words.specs.declared.task.Telling.{Telling}
+use Rattle.ac_program.specs.Reading.{IsShort}
+use Rattle.ac_program.specs.Headline.{HasRun, GivesStatus, CallsFor, AreOfRuns, AreShort, HasLong, KnowsFiles}
 use Rattle.ac_program.specs.Headline.CallsFor.{bad_token, unexpected, broken, over_long, too_deep, too_many, long_file, made}
 use Rattle.ac_program.proofs.Faults.{fault_refuses}
-use Rattle.ac_program.proofs.OneRun.{same_status}
+use Rattle.ac_program.proofs.OneRun.{same_told}
 use Rattle.ac_program.proofs.Refusals.{refused_once, refused_not, same_program}
 
 -- ---- the four ways in which a text calls for a status
@@ -80,17 +82,18 @@ module _ (text : List ℕ) (task : Task) (disk : DiskTold) (status : ℕ) where
 has_shape : (text : List ℕ) (task : Task) (program : Program) → IsReady text task program → HasShape program
 has_shape text task program k = let tree = k.is_accepted.spelled.tree in spelled_shape program tree.marks tree.spells
 
-module _ (text : List ℕ) (steps : ℕ) (program : Program) (disk : DiskTold) (k : IsReady text (t.Run steps) program) (m n : ℕ) (a : HasRun program steps disk m) (b : HasRun program steps disk n) where
+module _ (text : List ℕ) (steps : ℕ) (telling : Telling) (program : Program) (disk : DiskTold) (k : IsReady text (t.Run steps telling) program) (m n : ℕ)
+    (a : HasRun program steps telling disk m) (b : HasRun program steps telling disk n) where
   abbrev One : Type 0
-  One = (n ≡ m) ⊎ AreOfRuns text (t.Run steps) disk m n
+  One = (n ≡ m) ⊎ AreOfRuns text (t.Run steps telling) disk m n
 
   runs_differ : 1 ≤ length (resolved program).channels + length (resolved program).files → One
-  runs_differ some = inr (record { steps = steps; program = program; is_run = refl; is_ready = k; meets = some; one = a; other = b })
+  runs_differ some = inr (record { steps = steps; telling = telling; program = program; is_run = refl; is_ready = k; meets = some; one = a; other = b })
 
   runs_agree : (resolved program).channels ≡ [] → (resolved program).files ≡ [] → One
   runs_agree none no_files =
-      let same = same_status program k.is_accepted.clean (has_shape text (t.Run steps) program k) none no_files steps a.start b.start a.ended b.ended a.is_run b.is_run in
-      inl (b.status_is ∙ sym same ∙ sym a.status_is)
+      inl (same_told program k.is_accepted.clean (has_shape text (t.Run steps telling) program k) none no_files steps telling
+      a.start b.start a.ended b.ended m n a.line b.line a.each_file b.each_file a.is_run b.is_run a.tells b.tells)
 
   of_runs : One
   of_runs = by (resolved program).channels (resolved program).files refl refl where
@@ -101,7 +104,7 @@ module _ (text : List ℕ) (steps : ℕ) (program : Program) (disk : DiskTold) (
 
 gives_both : (text : List ℕ) (task : Task) (program : Program) (disk : DiskTold) (m n : ℕ) → IsReady text task program → GivesStatus task program disk m → GivesStatus task program disk n
     → (n ≡ m) ⊎ AreOfRuns text task disk m n
-gives_both text (t.Run steps) program disk m n k a b = of_runs text steps program disk k m n a b
+gives_both text (t.Run steps telling) program disk m n k a b = of_runs text steps telling program disk k m n a b
 gives_both text t.Check program disk m n k a b = inl (b ∙ sym a)
 gives_both text t.Code program disk m n k a b = inl (b ∙ sym a)
 

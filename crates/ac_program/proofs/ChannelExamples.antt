@@ -31,7 +31,8 @@ use Rattle.ac_history.specs.Quiet.{CoreIsQuiet}
 use Rattle.core_runner.specs.Network.{owner_of, peer_of}
 use Rattle.core_runner.specs.declared.ended.Ended.{Ended}
 use Rattle.core_runner.specs.Run.{nothing_yet, IsCoreRun, IsRunOf}
-use Rattle.ac_program.specs.declared.words.Task.TheVariants as t
+use Rattle.ac_words.specs.declared.task.Task.TheVariants as t
+use Rattle.ac_words.specs.declared.task.Telling.TheVariants as tell
 use Rattle.ac_program.specs.Source.{HasTokens, IsAccepted, IsReady}
 use Rattle.ac_program.specs.Headline.{HasRun, AreOfRuns}
 use Rattle.ac_program.proofs.Examples.{no_disk}
@@ -74,7 +75,7 @@ it_is_clean = program_told linked_tree.items (row.BySeveral ∷ []) its_rows Non
 it_is_accepted : IsAccepted linked_text linked_tree
 it_is_accepted = record { spelled = record { tokens = tokens_in linked_text; lexed = its_tokens; tree = its_tree }; clean = it_is_clean }
 
-pub it_is_ready : IsReady linked_text (t.Run 100) linked_tree
+pub it_is_ready : IsReady linked_text (t.Run 100 tell.Report) linked_tree
 it_is_ready = record { is_accepted = it_is_accepted; within = omega arith }
 
 -- ---- its run: both cores finish at once, and no message is sent
@@ -133,17 +134,19 @@ it_is_a_run = record {
   files = refl;
   every_core = refl;
   cores = (the_first_core, (the_second_core, refl));
+  in_order = (tt, (tt, (tt, tt)));
   legal = tt;
   quiet = record { core = each_core; worker = nothing_offered };
 }
 
-pub its_run_gives_0 : HasRun linked_tree 100 no_disk 0
-its_run_gives_0 = record { start = []; are_held = tt; ended = its_run; is_run = it_is_a_run; are_served = tt; status_is = refl }
+pub its_run_gives_0 : HasRun linked_tree 100 tell.Report no_disk 0
+its_run_gives_0 = record { start = []; each_file = refl; are_held = tt; ended = its_run; is_run = it_is_a_run; are_served = tt; line = _; tells = (refl, refl) }
 
 -- the program has a channel, so another of its runs might have another status; this one is that of two of its runs
-pub its_statuses : AreOfRuns linked_text (t.Run 100) no_disk 0 0
+pub its_statuses : AreOfRuns linked_text (t.Run 100 tell.Report) no_disk 0 0
 its_statuses = record {
   steps = 100;
+  telling = tell.Report;
   program = linked_tree;
   is_run = refl;
   is_ready = it_is_ready;

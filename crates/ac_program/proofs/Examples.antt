@@ -1,10 +1,9 @@
--- Words of a call, histories of small journals, lines, sources that are refused, and two.ac from its text to its report.
+-- Histories of small journals, lines, sources that are refused, and two.ac from its text to its report.
 use Rattle.std.proofs.Common.{◌≡◌, refl, ap, ◌∙◌, ℕ, zero, suc, ◌<◌, ◌≤◌, pos, ◌⊎◌, Bool, List, [], ◌∷◌, ◌++◌, length}
 use Rattle.std.proofs.Common.{map, codes, Option, None, Some, true, false, Result, Ok, Err, subst, sym, inl, inr, length-append, arith}
 use Rattle.std.specs.Prelude.{slice_get}
 use Rattle.std.specs.Fmt.{signed_decimal}
 use Rattle.std.specs.Str.{bytes_eq}
-use Rattle.std.proofs.lemmas.List.Elements.{All-from_recursion}
 use Rattle.std.proofs.lemmas.Fmt.{decimal_digit, decimal_step}
 use Rattle.ac_base.specs.Log.{Log}
 use Rattle.ac_base.specs.Report.{report_of, status_of}
@@ -37,7 +36,7 @@ use Rattle.ac_reach.specs.Reached.{ReachedFrom, is_entry, is_called, AreRows, Is
 use Rattle.ac_program.specs.declared.refusal.BrokenRule.{BrokenRule}
 use Rattle.ac_program.proofs.Answered.{not_unexpected, not_deep}
 use Rattle.ac_program.proofs.Calls.{calls_both}
-use Rattle.ac_program.proofs.Statuses.{IsOfCores, of_cores, other_cores}
+use Rattle.ac_program.proofs.Statuses.{apart_made, told_status}
 use Rattle.ac_base.specs.declared.entry.Entry.{Entry}
 use Rattle.ac_base.specs.declared.entry.Stamped.{Stamped}
 use Rattle.ac_history.specs.History.{Past, link_at, start, fits, makes}
@@ -63,9 +62,10 @@ use Rattle.ac_compile.proofs.Examples.{two, two_parts, two_is_compiled}
 use Rattle.ac_program.specs.declared.refusal.Refusal.TheVariants as r
 use Rattle.ac_program.specs.declared.execute.Done.{Done}
 use Rattle.core_runner.specs.declared.ended.Ended.{Ended}
-use Rattle.ac_program.specs.declared.words.Task.{Task}
-use Rattle.ac_program.specs.declared.words.Task.TheVariants as t
-use Rattle.ac_program.specs.Words.{IsPlain, IsNumber, IsBound, IsArguments, IsTask, IsCall, steps_of, no_more, operand, bound_apart, bound_joined, only_operands}
+use Rattle.ac_words.specs.declared.task.Task.TheVariants as t
+use Rattle.ac_words.specs.declared.task.Telling.TheVariants as tell
+use Rattle.ac_words.specs.Words.{IsBound, no_more, operand, bound_joined, IsCall, Does}
+use Rattle.ac_words.proofs.Examples.{no_file, run_a_file}
 use Rattle.ac_history.specs.Files.{Deed}
 use Rattle.ac_history.specs.Quiet.{CoreIsQuiet}
 use Rattle.file_ops.specs.Counting.{raised, failures_among}
@@ -77,10 +77,10 @@ use Rattle.ac_program.specs.Source.{HasTokens, HasFault, IsUnexpected, IsTooDeep
 use Rattle.ac_program.specs.Source.{IsSpelled, IsReady, all_steps, most_steps, names_of, needed}
 use Rattle.ac_program.specs.Lines.{accepted_line, disk_line, library_line, limit_file_line, limit_source_line, refusal_line, refusal_status}
 use Rattle.ac_outside.specs.Told.{LibraryTold, SinkTold}
-use Rattle.ac_program.specs.Reading.{Gave, TookBytes}
+use Rattle.ac_program.specs.Reading.{Gave, TookBytes, IsRead, IsShort}
 use Rattle.ac_program.specs.Writing.{TookFront}
 use Rattle.ac_program.specs.Making.{AreStarted, IsReported, IsDueOf, made as is_made, ready}
-use Rattle.ac_program.specs.Headline.{IsNoCall, IsRead, IsShort, IsDue, call, source, TookWhole, TookPart, GaveUp}
+use Rattle.ac_program.specs.Headline.{IsNoCall, IsDue, IsDueOfFile, call, source, of_task, TookWhole, TookPart, GaveUp}
 use Rattle.ac_program.specs.Headline.{alone, AreServed, KnowsFiles}
 use Rattle.ac_program.specs.Headline.{TellsUsage, TellsLibrary, TellsSink, IsOfText, AreOfRuns, CallsFor, made, bad_token, unexpected, broken, over_long, too_many}
 use Rattle.ac_tree.specs.declared.stmt.Stmt.{Stmt}
@@ -89,146 +89,6 @@ use Rattle.ac_resolve.specs.Resolution.{resolved}
 use Rattle.ac_links.specs.AtRest.{has_front}
 use Rattle.ac_program.proofs.TwoRules.{two_tree, two_is_clean}
 use Rattle.ac_outside.specs.Disks.{DiskTold}
-
--- ---- words
-
-x_ac : IsPlain (codes "x.ac")
-x_ac e = cc
-
--- run x.ac, check x.ac and code x.ac
-pub run_a_file : IsCall (codes "run" ∷ codes "x.ac" ∷ []) (t.Run 100000) (codes "x.ac")
-run_a_file = record { name = _; given = None; command = record { rest = _; form = refl; arguments = operand x_ac no_more }; is_task = (refl, refl) }
-
-pub check_a_file : IsCall (codes "check" ∷ codes "x.ac" ∷ []) t.Check (codes "x.ac")
-check_a_file = record { name = _; given = None; command = record { rest = _; form = refl; arguments = operand x_ac no_more }; is_task = (refl, refl) }
-
-pub code_of_a_file : IsCall (codes "code" ∷ codes "x.ac" ∷ []) t.Code (codes "x.ac")
-code_of_a_file = record { name = _; given = None; command = record { rest = _; form = refl; arguments = operand x_ac no_more }; is_task = (refl, refl) }
-
--- a command stands for its task alone, and a bound is for a run alone
-pub another_task : IsTask (codes "check") None t.Code → ⊥
-another_task h = let e = h.0 in cc
-
-pub no_run_of_a_check : (steps : ℕ) → IsTask (codes "check") None (t.Run steps) → ⊥
-no_run_of_a_check steps h = let e = h.0 in cc
-
-pub no_bound_of_a_check : (task : Task) → IsTask (codes "check") (Some 7) task → ⊥
-no_bound_of_a_check (t.Run steps) h = let e = h.0 in cc
-no_bound_of_a_check t.Check h = let e = h.1 in cc
-no_bound_of_a_check t.Code h = let e = h.1 in cc
-
-pub no_bound_of_a_listing : (task : Task) → IsTask (codes "code") (Some 7) task → ⊥
-no_bound_of_a_listing (t.Run steps) h = let e = h.0 in cc
-no_bound_of_a_listing t.Check h = let e = h.1 in cc
-no_bound_of_a_listing t.Code h = let e = h.1 in cc
-
--- only a run has steps
-pub the_steps_of_tasks : steps_of (t.Run 7) ∷ steps_of t.Check ∷ steps_of t.Code ∷ [] ≡ 7 ∷ 0 ∷ 0 ∷ []
-the_steps_of_tasks = refl
-
--- a number of one digit
-pub seven : IsNumber (codes "7") 7
-seven = record { some = omega arith; few = omega arith; digits = (omega arith, tt); first = λ e. cc; value = refl }
-
-bound_seven : IsBound (codes "7") 7
-bound_seven = record { number = seven; least = omega arith; most = omega arith }
-
--- run x.ac --steps 7, and run --steps=7 x.ac
-pub run_with_a_bound : IsCall (codes "run" ∷ codes "x.ac" ∷ codes "--steps" ∷ codes "7" ∷ []) (t.Run 7) (codes "x.ac")
-run_with_a_bound =
-    record { name = _; given = Some 7; command = record { rest = _; form = refl; arguments = operand x_ac (bound_apart refl bound_seven no_more) }; is_task = (refl, refl) }
-
-pub run_with_a_bound_before : IsCall (codes "run" ∷ codes "--steps=7" ∷ codes "x.ac" ∷ []) (t.Run 7) (codes "x.ac")
-run_with_a_bound_before =
-    record { name = _; given = Some 7; command = record { rest = _; form = refl; arguments = bound_joined refl bound_seven (operand x_ac no_more) }; is_task = (refl, refl) }
-
--- a leading nought is no number, and no word of eight digits is one
-pub no_leading_nought : (n : ℕ) → IsNumber (codes "07") n → ⊥
-no_leading_nought n h = h.first refl
-
-pub no_eight_digits : (n : ℕ) → IsNumber (codes "10000000") n → ⊥
-no_eight_digits n h = let le = h.few in omega (arith, le)
-
-pub no_digit : (n : ℕ) → IsNumber [] n → ⊥
-no_digit n h = let le = h.some in omega (arith, le)
-
--- the least bound and the greatest
-pub the_least_bound : IsBound (codes "1") 1
-the_least_bound = record {
-  number = record { some = omega arith; few = omega arith; digits = (omega arith, tt); first = λ e. omega (arith, e); value = refl };
-  least = omega arith;
-  most = omega arith;
-}
-
-pub the_greatest_bound : IsBound (codes "2000000") 2000000
-the_greatest_bound = record {
-  number = record {
-    some = omega arith;
-    few = omega arith;
-    digits = (omega arith, (omega arith, (omega arith, (omega arith, (omega arith, (omega arith, (omega arith, tt)))))));
-    first = λ e. omega (arith, e);
-    value = refl;
-  };
-  least = omega arith;
-  most = omega arith;
-}
-
-pub a_bound_past_it : IsBound (codes "2000001") 2000001 → ⊥
-a_bound_past_it h = let le = h.most in omega (arith, le)
-
--- run -- -x.ac: after `--` a word is an operand whatever it starts with, but for `-` alone
-pub a_file_behind_two_dashes : IsCall (codes "run" ∷ codes "--" ∷ codes "-x.ac" ∷ []) (t.Run 100000) (codes "-x.ac")
-a_file_behind_two_dashes = record {
-  name = _;
-  given = None;
-  command = record { rest = _; form = refl; arguments = only_operands refl (All-from_recursion (λ (word : List ℕ). word ≡ codes "-" → ⊥) (codes "-x.ac" ∷ []) ((λ e. cc), tt)) };
-  is_task = (refl, refl);
-}
-
-pub a_word_with_a_dash_in_front : IsPlain (codes "-x.ac") → ⊥
-a_word_with_a_dash_in_front h = h refl
-
--- there is no second bound
-pub no_second_bound : (operands : List (List ℕ)) (given : Option ℕ) → IsArguments (codes "--steps=1" ∷ codes "--steps=2" ∷ []) operands given → ⊥
-no_second_bound _ _ (operand plain more) = plain refl
-no_second_bound _ _ (bound_apart is bound more) = cc
-no_second_bound _ _ (bound_joined is bound more) = none_more more where
-  none_more : {operands : List (List ℕ)} → IsArguments (codes "--steps=2" ∷ []) operands None → ⊥
-  none_more (operand plain more) = plain refl
-  none_more (only_operands is all) = cc
-no_second_bound _ _ (only_operands is all) = cc
-
--- run and check without a file are no calls
-no_arguments : {rest operands : List (List ℕ)} {given : Option ℕ} (file : List ℕ) → [] ≡ rest → IsArguments rest (file ∷ operands) given → ⊥
-no_arguments file e (operand h more) = cc
-no_arguments file e (bound_apart is bound more) = cc
-no_arguments file e (bound_joined is bound more) = cc
-no_arguments file e (only_operands is all) = cc
-
-same_rest : {v w : List ℕ} {vs rest : List (List ℕ)} → v ∷ vs ≡ w ∷ rest → vs ≡ rest
-same_rest e = cc
-
-same_first : {v w : List ℕ} {vs rest : List (List ℕ)} → v ∷ vs ≡ w ∷ rest → v ≡ w
-same_first e = cc
-
-pub no_file : (task : Task) (file : List ℕ) → IsCall (codes "run" ∷ []) task file → ⊥
-no_file task file r = no_arguments file (same_rest r.command.form) r.command.arguments
-
-pub no_file_to_check : (task : Task) (file : List ℕ) → IsCall (codes "check" ∷ []) task file → ⊥
-no_file_to_check task file r = no_arguments file (same_rest r.command.form) r.command.arguments
-
--- trace x.ac is a command that is not there yet
-abbrev first_of : List ℕ → ℕ
-first_of [] = 0
-first_of (x ∷ _) = x
-
-no_command : (name : List ℕ) (given : Option ℕ) (task : Task) → codes "trace" ≡ name → IsTask name given task → ⊥
-no_command name given (t.Run steps) e h = let n : 116 ≡ 114 = ap first_of (e ∙ h.0) in omega (arith, n)
-no_command name given t.Check e h = let n : 116 ≡ 99 = ap first_of (e ∙ h.0) in omega (arith, n)
-no_command name given t.Code e h = let n : 116 ≡ 99 = ap first_of (e ∙ h.0) in omega (arith, n)
-
-pub another_command : (task : Task) (file : List ℕ) → IsCall (codes "trace" ∷ codes "x.ac" ∷ []) task file → ⊥
-another_command task file r = no_command r.name r.given task (same_first r.command.form) r.is_task
 
 -- ---- histories
 
@@ -299,10 +159,10 @@ no_other_status_tells_it h = neither (h.only no_file) where
 
 -- run x.ac is one
 pub no_usage_of_a_call : TellsUsage (codes "run" ∷ codes "x.ac" ∷ []) 1 → ⊥
-no_usage_of_a_call h = h.told refl (t.Run 100000) (codes "x.ac") run_a_file
+no_usage_of_a_call h = h.told refl (Does (t.Run 100000 tell.Report) (codes "x.ac")) run_a_file
 
 pub another_status_of_a_call : TellsUsage (codes "run" ∷ codes "x.ac" ∷ []) 4
-another_status_of_a_call = record { told = λ e. omega (arith, e); only = λ none. absurd (none (t.Run 100000) (codes "x.ac") run_a_file) }
+another_status_of_a_call = record { told = λ e. omega (arith, e); only = λ none. absurd (none (Does (t.Run 100000 tell.Report) (codes "x.ac")) run_a_file) }
 
 -- ---- what was read and written
 
@@ -379,6 +239,7 @@ it_is_a_run = record {
     },
     refl,
   );
+  in_order = (tt, (tt, tt));
   legal = tt;
   quiet = subst (λ (p : Resolved). EndsQuiet p [] its_run.cores) (sym two_ac) it_is_quiet;
 }
@@ -388,14 +249,14 @@ it_is_a_run = record {
 pub it_is_spelled : IsSpelled two_text two_tree
 it_is_spelled = record { tokens = two_tokens; lexed = record { lexed = two_ac_lexed; only = two_ac_only }; tree = two_ac_parsed }
 
-pub it_is_ready : IsReady two_text (t.Run 100) two_tree
+pub it_is_ready : IsReady two_text (t.Run 100 tell.Report) two_tree
 it_is_ready = record { is_accepted = record { spelled = it_is_spelled; clean = two_is_clean }; within = omega arith }
 
 -- one core may go 4,000,000 steps, and no more
-pub as_many_steps_as_there_may_be : all_steps two_tree (t.Run 4000000) ≤ most_steps
+pub as_many_steps_as_there_may_be : all_steps two_tree (t.Run 4000000 tell.Report) ≤ most_steps
 as_many_steps_as_there_may_be = omega arith
 
-pub one_step_too_many : most_steps < all_steps two_tree (t.Run 4000001)
+pub one_step_too_many : most_steps < all_steps two_tree (t.Run 4000001 tell.Report)
 one_step_too_many = omega arith
 
 -- and a check of it none
@@ -418,7 +279,7 @@ same_fault e = cc
 pub it_has_no_other : HasFault (codes "007") (l.BadByte 0) → ⊥
 it_has_no_other h = let e : 0 ≡ 1 = same_fault (it_has_a_fault.only (fault_at 0) h.lexed) in omega (arith, e)
 
-pub its_fault_refuses_it : Refuses (codes "007") (t.Run 100) (r.BadByte 1)
+pub its_fault_refuses_it : Refuses (codes "007") (t.Run 100 tell.Report) (r.BadByte 1)
 its_fault_refuses_it = it_has_a_fault
 
 pub it_has_no_tokens : (tokens : List Token) → HasTokens (codes "007") tokens → ⊥
@@ -431,7 +292,7 @@ nothing_is_spelled program h = it_has_no_tokens h.tokens h.lexed
 abbrev pub no_disk : DiskTold
 no_disk = record { held = None; bound = 0; is_ready = true; faults = 0 }
 
-pub a_fault_calls_for_2 : CallsFor (codes "007") (t.Run 100) no_disk 2
+pub a_fault_calls_for_2 : CallsFor (codes "007") (t.Run 100 tell.Report) no_disk 2
 a_fault_calls_for_2 = bad_token (l.BadByte 1) refl (omega arith) it_has_a_fault
 
 -- core a f; lacks a parenthesis at its eighth byte
@@ -443,7 +304,7 @@ it_is_unexpected = record {
   unexpected = no_parenthesis;
 }
 
-pub an_unexpected_token_calls_for_2 : CallsFor (codes "core a f;") (t.Run 100) no_disk 2
+pub an_unexpected_token_calls_for_2 : CallsFor (codes "core a f;") (t.Run 100 tell.Report) no_disk 2
 an_unexpected_token_calls_for_2 = unexpected 7 refl (omega arith) it_is_unexpected
 
 -- what a source spells is one program, whose tokens are neither unexpected nor too deep
@@ -519,7 +380,7 @@ one_assignment = parsed_tree _ _ [] refl
 pub it_breaks_a_rule : IsBroken undeclared_text its_rule
 it_breaks_a_rule = record { program = undeclared_tree; spelled = record { tokens = tokens_in undeclared_text; lexed = undeclared_tokens; tree = one_assignment }; least = its_least }
 
-pub a_broken_rule_calls_for_3 : CallsFor undeclared_text (t.Run 100) no_disk 3
+pub a_broken_rule_calls_for_3 : CallsFor undeclared_text (t.Run 100 tell.Report) no_disk 3
 a_broken_rule_calls_for_3 = broken its_rule refl (omega arith) it_breaks_a_rule
 
 pub in_a_check_too : CallsFor undeclared_text t.Check no_disk 3
@@ -538,18 +399,19 @@ two_ac_breaks_no_rule broken_rule h =
     two_is_clean least.number broken_rule.rule least.is
 
 -- two.ac with a step too many for its core, and with as many as there may be
-pub too_many_steps : IsTooMany two_text (t.Run 4000001)
+pub too_many_steps : IsTooMany two_text (t.Run 4000001 tell.Report)
 too_many_steps = record { program = two_tree; is_accepted = record { spelled = it_is_spelled; clean = two_is_clean }; over = one_step_too_many }
 
-pub not_too_many_steps : IsTooMany two_text (t.Run 4000000) → ⊥
+pub not_too_many_steps : IsTooMany two_text (t.Run 4000000 tell.Report) → ⊥
 not_too_many_steps h =
-    let over : most_steps < all_steps two_tree (t.Run 4000000) = subst (λ (p : Program). most_steps < all_steps p (t.Run 4000000)) (sym (its_only_program h.program h.is_accepted.spelled)) h.over in
+    let over : most_steps < all_steps two_tree (t.Run 4000000 tell.Report) = subst (λ (p : Program). most_steps < all_steps p (t.Run 4000000 tell.Report)) (sym
+    (its_only_program h.program h.is_accepted.spelled)) h.over in
     omega (arith, over)
 
-pub too_many_steps_call_for_10 : CallsFor two_text (t.Run 4000001) no_disk 10
+pub too_many_steps_call_for_10 : CallsFor two_text (t.Run 4000001 tell.Report) no_disk 10
 too_many_steps_call_for_10 = too_many refl (omega arith) too_many_steps
 
-pub it_is_not_ready : IsReady two_text (t.Run 4000001) two_tree → ⊥
+pub it_is_not_ready : IsReady two_text (t.Run 4000001 tell.Report) two_tree → ⊥
 it_is_not_ready h = let le = h.within in omega (arith, le)
 
 -- core a(f); async void f() { t: do { cancel t; } finish; } is ready too
@@ -575,7 +437,7 @@ a_cancel_breaks_none = program_told cancelling_tree.items (row.ByOne 0 ∷ [])
     (reached_in cancelling_tree.items refl (rw (do_is 28 (Some (codes "t")) (cancelled ∷ []), cancel_is 36 (codes "t")) refl)) None
     (rw (do_is 28 (Some (codes "t")) (cancelled ∷ []), cancel_is 36 (codes "t")) refl)
 
-pub a_cancel_is_ready : IsReady cancelling_text (t.Run 100) cancelling_tree
+pub a_cancel_is_ready : IsReady cancelling_text (t.Run 100 tell.Report) cancelling_tree
 a_cancel_is_ready = record {
   is_accepted = record { spelled = record { tokens = tokens_in cancelling_text; lexed = cancelling_tokens; tree = a_cancel }; clean = a_cancel_breaks_none };
   within = omega arith;
@@ -585,7 +447,7 @@ a_cancel_is_ready = record {
 pub it_is_not_short : (bytes : List ℕ) → length bytes ≡ 1048577 → IsShort bytes → ⊥
 it_is_not_short bytes e le = omega (arith, e, le)
 
-pub it_calls_for_10 : (bytes : List ℕ) → length bytes ≡ 1048577 → CallsFor bytes (t.Run 100) no_disk 10
+pub it_calls_for_10 : (bytes : List ℕ) → length bytes ≡ 1048577 → CallsFor bytes (t.Run 100 tell.Report) no_disk 10
 it_calls_for_10 bytes e = over_long refl (omega (arith, e))
 
 -- ---- a report
@@ -617,7 +479,7 @@ its_disk_is_left = record {
   held = tt;
 }
 
-its_reporting : IsReported two_tree 100 no_disk no_disk its_doing
+its_reporting : IsReported two_tree 100 tell.Report no_disk no_disk its_doing
 its_reporting = record {
   start = [];
   between = no_disk;
@@ -627,11 +489,11 @@ its_reporting = record {
   ended = its_run;
   kept = refl;
   is_run = it_is_a_run;
-  text = sym it_is_reported;
-  status = refl;
+  tells = (refl, sym it_is_reported);
+  is_traced = tt;
 }
 
-pub it_is_done : IsDueOf two_text (t.Run 100) no_disk no_disk 0 its_report (Some its_run)
+pub it_is_done : IsDueOf two_text (t.Run 100 tell.Report) no_disk no_disk 0 its_report (Some its_run)
 it_is_done = ready two_tree it_is_ready (is_made its_doing refl refl refl its_reporting)
 
 -- ac run two.ac --steps=100, with a library that tells the text and was opened once
@@ -656,15 +518,23 @@ hundred = record {
   most = omega arith;
 }
 
-pub its_call : IsCall its_words (t.Run 100) (codes "two.ac")
-its_call =
-    record { name = _; given = Some 100; command = record { rest = _; form = refl; arguments = operand (λ e. cc) (bound_joined refl hundred no_more) }; is_task = (refl, refl) }
+pub its_call : IsCall its_words (Does (t.Run 100 tell.Report) (codes "two.ac"))
+its_call = record {
+  name = _;
+  operands = _;
+  given = Some 100;
+  command = record { rest = _; form = refl; arguments = operand (λ e. cc) (bound_joined refl hundred no_more) };
+  stands = (refl, (refl, refl));
+}
 
 pub its_reading : IsRead its_library its_library_after (codes "two.ac")
 its_reading = record { just = record { once = refl; named = refl }; well = refl }
 
+pub it_is_due_of_its_file : IsDueOfFile (codes "two.ac") (t.Run 100 tell.Report) its_library its_library_after no_disk no_disk 0 its_report (Some its_run)
+it_is_due_of_its_file = source two_text its_reading refl (omega arith) it_is_done
+
 pub it_is_due : IsDue its_words its_library its_library_after no_disk no_disk 0 its_report (Some its_run)
-it_is_due = call (t.Run 100) (codes "two.ac") its_call (source two_text its_reading refl (omega arith) it_is_done)
+it_is_due = call (t.Run 100 tell.Report) (codes "two.ac") its_call it_is_due_of_its_file
 
 abbrev pub its_sink : SinkTold
 its_sink = record { held = Some []; faults = 0 }
@@ -696,7 +566,7 @@ a_fault_that_is_not_told h = let e = h.only (omega arith) in omega (arith, e)
 
 -- memory was refused: two.ac was opened, nothing is written
 pub memory_is_refused : GaveUp its_words its_library its_library_after no_disk no_disk None its_sink its_sink
-memory_is_refused = record { task = t.Run 100; file = codes "two.ac"; is_call = its_call; is_read = its_reading; files = alone refl; no_run = refl; nothing = refl }
+memory_is_refused = record { cut = of_task (t.Run 100 tell.Report) (codes "two.ac") its_call its_reading (alone refl); no_run = refl; nothing = refl }
 
 -- and where another name was opened, no call has this meaning
 pub another_name_is_opened : IsRead its_library (record its_library_after { names = Some (codes "" ∷ []) }) (codes "two.ac") → ⊥
@@ -712,19 +582,28 @@ no_fault_of_the_library h = let e = h.only (omega arith) (omega arith) in omega 
 pub its_reads_are_served : AreServed no_disk two_tree [] []
 its_reads_are_served = tt
 
-pub its_status_is_called_for : CallsFor two_text (t.Run 100) no_disk 0
-its_status_is_called_for = made two_tree (omega arith) it_is_ready tt (record { start = []; are_held = tt; ended = its_run; is_run = it_is_a_run; are_served = tt; status_is = refl })
+pub its_status_is_called_for : CallsFor two_text (t.Run 100 tell.Report) no_disk 0
+its_status_is_called_for = made two_tree (omega arith) it_is_ready tt (record {
+  start = [];
+  each_file = refl;
+  are_held = tt;
+  ended = its_run;
+  is_run = it_is_a_run;
+  are_served = tt;
+  line = its_report;
+  tells = (refl, sym it_is_reported);
+})
 
 -- it has no files, so they are known
-pub its_files_are_known : KnowsFiles two_text (t.Run 100) no_disk
+pub its_files_are_known : KnowsFiles two_text (t.Run 100 tell.Report) no_disk
 its_files_are_known program k some =
-    let e = ap (λ (p : Program). length (needed (t.Run 100) p)) (its_only_program program k.is_accepted.spelled) in absurd (omega (arith, some, e))
+    let e = ap (λ (p : Program). length (needed (t.Run 100 tell.Report) p)) (its_only_program program k.is_accepted.spelled) in absurd (omega (arith, some, e))
 
-pub it_calls_for_no_other : CallsFor two_text (t.Run 100) no_disk 2 → ⊥
-it_calls_for_no_other h = other (calls_both two_text (t.Run 100) no_disk its_files_are_known 0 2 its_status_is_called_for h) where
-  other : (◌≡◌ {A = ℕ} 2 0) ⊎ AreOfRuns two_text (t.Run 100) no_disk 0 2 → ⊥
+pub it_calls_for_no_other : CallsFor two_text (t.Run 100 tell.Report) no_disk 2 → ⊥
+it_calls_for_no_other h = other (calls_both two_text (t.Run 100 tell.Report) no_disk its_files_are_known 0 2 its_status_is_called_for h) where
+  other : (◌≡◌ {A = ℕ} 2 0) ⊎ AreOfRuns two_text (t.Run 100 tell.Report) no_disk 0 2 → ⊥
   other (inl e) = omega (arith, e)
-  other (inr r) = (other_cores 2 (subst IsOfCores (sym r.other.status_is) (of_cores r.other.ended.cores))).0 refl
+  other (inr r) = apart_made 2 (inl refl) (λ e. omega (arith, e)) (told_status r.telling r.program r.other.ended 2 r.other.line r.other.tells)
 
 -- ---- what is none of these
 
@@ -751,8 +630,8 @@ pub the_worker_passes_requests_over : makes false true true (event.Pass 1 0) ∷
 the_worker_passes_requests_over = refl
 
 -- its core cannot have finished and trapped
-pub not_with_another_run : (program : Program) → IsReported program 100 no_disk no_disk (record its_doing { status = record { number = 4 } }) → ⊥
-not_with_another_run program h = other h.ended h.kept h.status where
+pub not_with_another_run : (program : Program) → IsReported program 100 tell.Report no_disk no_disk (record its_doing { status = record { number = 4 } }) → ⊥
+not_with_another_run program h = other h.ended h.kept h.tells.0 where
   same_run : {a b : Ended} → Some a ≡ Some b → a ≡ b
   same_run e = cc
 
@@ -763,7 +642,7 @@ pub no_run_is_kept_without_memory : GaveUp its_words its_library its_library_aft
 no_run_is_kept_without_memory h = let e = h.no_run in cc
 
 pub a_call_is_one : IsNoCall its_words → ⊥
-a_call_is_one none = none (t.Run 100) (codes "two.ac") its_call
+a_call_is_one none = none (Does (t.Run 100 tell.Report) (codes "two.ac")) its_call
 
 pub the_whole_is_no_front : TookFront (Some []) (Some (codes "ab")) (codes "ab") → ⊥
 the_whole_is_no_front h =

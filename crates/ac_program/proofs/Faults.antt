@@ -10,7 +10,7 @@ use Rattle.ac_lexer.specs.Tokens.FaultHere.{stray, after_zero, after_number, lar
 use Rattle.ac_lexer.specs.Tokens.LexesFrom.{end, gap, token, fault}
 use Rattle.ac_program.specs.declared.refusal.Refusal.{Refusal}
 use Rattle.ac_program.specs.declared.refusal.Refusal.TheVariants as r
-use Rattle.ac_program.specs.declared.words.Task.{Task}
+use Rattle.ac_words.specs.declared.task.Task.{Task}
 use Rattle.ac_program.specs.Lines.{refusal_status}
 use Rattle.ac_program.specs.Source.{HasFault, Refuses}
 

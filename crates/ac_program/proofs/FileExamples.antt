@@ -28,7 +28,8 @@ use Rattle.ac_outside.specs.Files.{file_of}
 use Rattle.ac_outside.specs.Texts.{text_of}
 use Rattle.ac_outside.proofs.Examples.{named}
 use Rattle.starting_files.specs.declared.fault.StartFault.TheVariants as fault
-use Rattle.ac_program.specs.declared.words.Task.TheVariants as t
+use Rattle.ac_words.specs.declared.task.Task.TheVariants as t
+use Rattle.ac_words.specs.declared.task.Telling.TheVariants as tell
 use Rattle.ac_program.specs.Source.{HasTokens, IsAccepted, IsReady, needed}
 use Rattle.ac_program.specs.Lines.{accepted_line, disk_line, limit_file_line}
 use Rattle.ac_program.specs.Making.{AreStarted, AreStopped, AreLeft, IsDueOfProgram, IsTold, begun, disk_fault, untouched}
@@ -64,10 +65,10 @@ filing_is_accepted : IsAccepted filing_text filing_tree
 filing_is_accepted = record { spelled = record { tokens = tokens_in filing_text; lexed = filing_tokens; tree = a_file }; clean = a_file_breaks_none }
 
 -- it is ready, and a run needs its file, and no other task does
-pub a_file_is_ready : IsReady filing_text (t.Run 100) filing_tree
+pub a_file_is_ready : IsReady filing_text (t.Run 100 tell.Report) filing_tree
 a_file_is_ready = record { is_accepted = filing_is_accepted; within = omega arith }
 
-pub what_is_needed : needed (t.Run 100) filing_tree ∷ needed t.Check filing_tree ∷ needed t.Code filing_tree ∷ [] ≡ (codes "x" ∷ []) ∷ [] ∷ [] ∷ []
+pub what_is_needed : needed (t.Run 100 tell.Report) filing_tree ∷ needed t.Check filing_tree ∷ needed t.Code filing_tree ∷ [] ≡ (codes "x" ∷ []) ∷ [] ∷ [] ∷ []
 what_is_needed = refl
 
 -- where the disk tells a longer file, a run of it is refused, and a check is not
@@ -81,7 +82,7 @@ bound_in bytes = record { files = named (codes "x") bytes ∷ []; found = λ pat
 its_file_is_long : (bytes : List ℕ) → length bytes ≡ 1048577 → HasLong (long_disk bytes) (codes "x" ∷ [])
 its_file_is_long bytes e = record { path = codes "x"; is_one = (0, omega arith, refl); over = omega (arith, e) }
 
-pub a_long_file_calls_for_10 : (bytes : List ℕ) → length bytes ≡ 1048577 → CallsFor filing_text (t.Run 100) (long_disk bytes) 10
+pub a_long_file_calls_for_10 : (bytes : List ℕ) → length bytes ≡ 1048577 → CallsFor filing_text (t.Run 100 tell.Report) (long_disk bytes) 10
 a_long_file_calls_for_10 bytes e = long_file filing_tree refl (omega arith) a_file_is_ready (its_file_is_long bytes e)
 
 pub a_long_file_is_not_short : (bytes : List ℕ) → length bytes ≡ 1048577 → AreShort (long_disk bytes) (codes "x" ∷ []) → ⊥
@@ -91,7 +92,7 @@ pub a_check_accepts_it : CallsFor filing_text t.Check no_disk 0
 a_check_accepts_it = made filing_tree (omega arith) (record { is_accepted = filing_is_accepted; within = omega arith }) tt refl
 
 -- a disk that tells nothing does not decide a run of it, and decides a check
-pub a_run_asks_the_disk : KnowsFiles filing_text (t.Run 100) no_disk → ⊥
+pub a_run_asks_the_disk : KnowsFiles filing_text (t.Run 100 tell.Report) no_disk → ⊥
 a_run_asks_the_disk knows = let e = knows filing_tree a_file_is_ready (omega arith) in cc (e)
 
 pub a_check_does_not : KnowsFiles filing_text t.Check no_disk
@@ -150,7 +151,7 @@ reading_is_accepted : IsAccepted reading_text reading_tree
 reading_is_accepted = record { spelled = record { tokens = tokens_in reading_text; lexed = reading_tokens; tree = reading_parsed }; clean = reading_breaks_none }
 
 -- it is ready for a run and for a listing
-pub a_read_is_ready : IsReady reading_text (t.Run 100) reading_tree
+pub a_read_is_ready : IsReady reading_text (t.Run 100 tell.Report) reading_tree
 a_read_is_ready = record { is_accepted = reading_is_accepted; within = omega arith }
 
 pub there_is_a_listing_of_it : CallsFor reading_text t.Code no_disk 0
@@ -227,7 +228,7 @@ nothing_stops_it h = let rose = h.cause.1 in omega (arith, rose)
 pub there_is_no_second_file : (later : DiskTold) → AreStopped (codes "x" ∷ []) (fault.TooLong 1) a_disk later → ⊥
 there_is_no_second_file later h = let less = h.below in omega (arith, less)
 
-pub a_disk_fault_is_due : IsDueOfProgram (t.Run 100) filing_tree a_disk a_failed_disk 9 disk_line None
+pub a_disk_fault_is_due : IsDueOfProgram (t.Run 100 tell.Report) filing_tree a_disk a_failed_disk 9 disk_line None
 a_disk_fault_is_due = disk_fault refl refl refl its_file_stops_it
 
 -- a file that is too long is told by its number
@@ -243,13 +244,13 @@ its_length_stops_it bytes e = record {
 }
 
 pub a_long_file_is_due : (bytes : List ℕ) → length bytes ≡ 1048577
-    → IsDueOfProgram (t.Run 100) filing_tree (long_disk bytes) (bound_disk bytes) 10 (limit_file_line 0) None
+    → IsDueOfProgram (t.Run 100 tell.Report) filing_tree (long_disk bytes) (bound_disk bytes) 10 (limit_file_line 0) None
 a_long_file_is_due bytes e = long_file_due 0 refl refl refl (its_length_stops_it bytes e)
 
 pub nothing_is_left_undone : AreLeft (codes "x" ∷ []) a_disk a_disk
 nothing_is_left_undone = untouched refl
 
-pub want_of_memory_leaves_it : IsLeft (Some filing_text) (t.Run 100) a_disk its_disk
+pub want_of_memory_leaves_it : IsLeft (Some filing_text) (t.Run 100 tell.Report) a_disk its_disk
 want_of_memory_leaves_it = of_program filing_text filing_tree refl a_file_is_ready (begun (codes "ab" ∷ []) its_disk its_file_is_started (record { bound = refl; is_ready = refl }))
 
 -- also where the run had written to its file, and a call had failed

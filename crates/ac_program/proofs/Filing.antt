@@ -11,7 +11,8 @@ use Rattle.starting_files.specs.declared.fault.StartFault.{StartFault}
 use Rattle.starting_files.specs.declared.fault.StartFault.TheVariants as f
 use Rattle.starting_files.specs.Starting.{StartsFiles, StopsAtFile, StartHasCause, IsNumberBelow, bytes_at, given, not_given, most_bytes}
 use Rattle.ac_program.specs.declared.execute.Done.{Done}
-use Rattle.ac_program.specs.declared.words.Task.TheVariants as t
+use Rattle.ac_words.specs.declared.task.Task.TheVariants as t
+use Rattle.ac_words.specs.declared.task.Telling.{Telling}
 use Rattle.ac_program.specs.Making.{AreStarted, AreStopped, stopped}
 use Rattle.ac_program.specs.inner.Parts.{GivesDone}
 
@@ -31,11 +32,11 @@ stops disk later asked paths fault e some below cause told =
 abbrev pub none_made : StartFault → Result Done StartFault
 none_made fault = Err fault
 
-pub halts : (steps : ℕ) (program : Program) (disk later : DiskTold) (fault : StartFault) → AreStopped (file_paths program.items) fault disk later
-    → GivesDone (t.Run steps) program disk later (none_made fault)
-halts steps program disk later f.Failed h = h
-halts steps program disk later (f.TooLong file) h = h
-halts steps program disk later f.NoMemory h = stopped h
+pub halts : (steps : ℕ) (telling : Telling) (program : Program) (disk later : DiskTold) (fault : StartFault) → AreStopped (file_paths program.items) fault disk later
+    → GivesDone (t.Run steps telling) program disk later (none_made fault)
+halts steps telling program disk later f.Failed h = h
+halts steps telling program disk later (f.TooLong file) h = h
+halts steps telling program disk later f.NoMemory h = stopped h
 
 -- ---- the disk as the run begins
 

@@ -7,8 +7,8 @@ use Rattle.starting_files.specs.declared.fault.StartFault.TheVariants as f
 use Rattle.starting_files.specs.Starting.{StopsAtFile}
 use Rattle.ac_tree.specs.declared.item.Program.{Program}
 use Rattle.ac_program.specs.declared.execute.Done.{Done}
-use Rattle.ac_program.specs.declared.words.Task.{Task}
-use Rattle.ac_program.specs.declared.words.Task.TheVariants as t
+use Rattle.ac_words.specs.declared.task.Task.{Task}
+use Rattle.ac_words.specs.declared.task.Task.TheVariants as t
 use Rattle.ac_program.specs.Making.{AreLeft, AreStopped, Makes, stopped}
 use Rattle.ac_program.specs.Reading.{Gave}
 use Rattle.core_runner.specs.declared.ended.Ended.{Ended}
@@ -49,7 +49,7 @@ some_is_none run it e n = cc (e, n)
 
 -- where there is no run, the disk was left alone
 pub made_faults : (task : Task) (program : Program) (disk later : DiskTold) (done : Done) → Makes task program disk later done → done.run ≡ None → later.faults ≡ disk.faults
-made_faults (t.Run steps) program disk later done d none = absurd (some_is_none done.run d.ended d.kept none)
+made_faults (t.Run steps telling) program disk later done d none = absurd (some_is_none done.run d.ended d.kept none)
 made_faults t.Check program disk later done d none = ap faults_of d.alone
 made_faults t.Code program disk later done d none = ap faults_of d.alone
 

@@ -1,5 +1,5 @@
 -- What a run has left of a disk, in one: from what the disk told before the call to what it tells after it.
-use Rattle.std.proofs.Common.{◌≡◌, ℕ, suc, ◌≤◌, List, [], ◌∷◌, ◌++◌, length, map, Option, Some, Bool, true, false, refl, sym, ap, ◌∙◌, subst, arith}
+use Rattle.std.proofs.Common.{◌≡◌, ℕ, suc, ◌≤◌, List, [], ◌∷◌, ◌++◌, length, map, Option, Some, Bool, true, false, refl, ap, ◌∙◌, subst, arith}
 use Rattle.std.specs.Prelude.{◌&&◌, if◌then◌else◌, sum_by, IfSome}
 use Rattle.std.specs.List.{filter}
 use Rattle.std.proofs.lemmas.Bool.Decides.{nat_tests}
@@ -20,6 +20,7 @@ use Rattle.file_ops.specs.Counting.{raised, calls_among, failures_among, is_call
 use Rattle.core_runner.specs.DiskLeft.{deeds_of, LeavesFiles}
 use Rattle.core_runner.specs.Naming.{IsNamed, AreNamed}
 use Rattle.ac_program.specs.declared.execute.Done.{Done}
+use Rattle.ac_words.specs.declared.task.Telling.{Telling}
 use Rattle.ac_program.specs.Making.{IsReported}
 
 -- What the starting reads gave is what the disk held under the program's paths, and each read of the run was given what stood there. Then
@@ -65,7 +66,7 @@ names_are : (held : Held) (paths : List (List ℕ)) → map (λ f. f.name) (map 
 names_are held [] = refl
 names_are held (path ∷ paths) = ap (λ more. path ∷ more) (names_are held paths)
 
-module _ (program : Program) (bound : ℕ) (disk later : DiskTold) (done : Done) (h : IsReported program bound disk later done) where
+module _ (program : Program) (bound : ℕ) (telling : Telling) (disk later : DiskTold) (done : Done) (h : IsReported program bound telling disk later done) where
   abbrev paths : List (List ℕ)
   paths = file_paths program.items
 

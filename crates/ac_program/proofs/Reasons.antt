@@ -15,15 +15,16 @@ use Rattle.ac_history.specs.Files.{padded, IsServed}
 use Rattle.ac_outside.specs.Told.{LibraryTold, SinkTold}
 use Rattle.core_runner.specs.DiskLeft.{deeds_of, LeavesFiles}
 use Rattle.core_runner.specs.declared.ended.Ended.{Ended}
-use Rattle.ac_program.specs.declared.words.Task.{Task}
-use Rattle.ac_program.specs.Words.{IsCall}
+use Rattle.ac_words.specs.declared.task.Task.{Task}
+use Rattle.ac_words.specs.Words.{Does, Loads}
+use Rattle.ac_file_server.specs.ServerText.{load_text}
 use Rattle.ac_tree.specs.declared.item.Program.{Program}
 use Rattle.ac_program.specs.declared.execute.Done.{Done}
-use Rattle.ac_program.specs.declared.words.Task.TheVariants as t
+use Rattle.ac_words.specs.declared.task.Task.TheVariants as t
 use Rattle.ac_program.specs.Source.{needed}
-use Rattle.ac_program.specs.Making.{Makes, AreStopped}
-use Rattle.ac_program.specs.Reading.{Gave, TookBytes}
-use Rattle.ac_program.specs.Headline.{IsRead, IsDueOfFile, TookWhole, GivesStatus, CallsFor, IsCalledFor, IsOfText, IsDecided, AreShort, HasLong, KnowsFiles}
+use Rattle.ac_program.specs.Making.{Makes, IsDueOf, AreStopped, Tells}
+use Rattle.ac_program.specs.Reading.{Gave, TookBytes, IsRead, IsShort}
+use Rattle.ac_program.specs.Headline.{IsDueOfFile, TookWhole, GivesStatus, CallsFor, IsCalledFor, IsOfText, IsDecided, IsLoaded, summed, AreShort, HasLong, KnowsFiles}
 use Rattle.ac_program.specs.Making.IsDueOf.{refused, ready}
 use Rattle.ac_program.specs.Making.IsDueOfProgram.{disk_fault, long_file as is_filed, made as is_made}
 use Rattle.ac_program.specs.Headline.IsDueOfFile.{library_fault, too_long, source}
@@ -96,22 +97,32 @@ has_long paths file disk later stopped = let o = is_over disk.held later.held pa
 -- the status of what is made, and that no file is too long
 gives_of : (task : Task) (program : Program) (disk later : DiskTold) (status : ℕ) (done : Done) → status ≡ done.status.number → Makes task program disk later done
     → GivesStatus task program disk status
-gives_of (t.Run steps) program disk later status done n d =
+gives_of (t.Run steps telling) program disk later status done n d =
     record {
       start = d.start;
+      each_file = d.files.count;
       are_held = read_held disk.held d.between.held _ d.start d.files.told;
       ended = d.ended;
       is_run = d.is_run;
       are_served = served_after (resolved program) d.ended.journals disk.held d.between.held later _ d.start d.files.told d.left.held;
-      status_is = n ∙ d.status;
+      line = done.text;
+      tells = subst (λ (number : ℕ). Tells telling program d.ended number done.text) (sym n) d.tells;
     }
 gives_of t.Check program disk later status done n d = n ∙ d.status
 gives_of t.Code program disk later status done n d = n ∙ d.status
 
 pub short_of : (task : Task) (program : Program) (disk later : DiskTold) (done : Done) → Makes task program disk later done → AreShort disk (needed task program)
-short_of (t.Run steps) program disk later done d = read_short disk.held d.between.held _ d.start d.files.short d.files.told
+short_of (t.Run steps telling) program disk later done d = read_short disk.held d.between.held _ d.start d.files.short d.files.told
 short_of t.Check program disk later done d = none_long disk.held
 short_of t.Code program disk later done d = none_long disk.held
+
+-- what is due of a text is what it calls for
+module _ (bytes : List ℕ) (task : Task) (disk later : DiskTold) (status : ℕ) (text : List ℕ) (run : Option Ended) (o : IsOfText status) (short : IsShort bytes) where
+  calls_for : IsDueOf bytes task disk later status text run → CallsFor bytes task disk status
+  calls_for (refused y n x r h a) = calls_refused bytes task disk status y n short h
+  calls_for (ready p k (disk_fault n x r h)) = absurd (o.disk n)
+  calls_for (ready p k (is_filed number n x r h)) = long_file p n short k (has_long (needed task p) number disk later h)
+  calls_for (ready p k (is_made done n x r d)) = made p short k (short_of task p disk later done d) (gives_of task p disk later status done n d)
 
 -- a text that the library may have given calls for the status
 record IsFound (file : List ℕ) (task : Task) (before after : LibraryTold) (disk : DiskTold) (status : ℕ) : Type 0 where
@@ -124,18 +135,12 @@ module _ (file : List ℕ) (task : Task) (before after : LibraryTold) (disk late
   found : IsOfText status → IsDueOfFile file task before after disk later status text run → IsFound file task before after disk status
   found o (library_fault n x r j e a) = absurd (o.library n)
   found o (too_long n x r w took a) = let l = long_text (before.text_at file) after.left took in record { text = l.text; read = w; gave = l.gave; calls = over_long n l.long }
-  found o (source bytes w g s (refused y n x r h a)) = record { text = bytes; read = w; gave = g; calls = calls_refused bytes task disk status y n s h }
-  found o (source bytes w g s (ready p k (disk_fault n x r h))) = absurd (o.disk n)
-  found o (source bytes w g s (ready p k (is_filed number n x r h))) =
-      record { text = bytes; read = w; gave = g; calls = long_file p n s k (has_long (needed task p) number disk later h) }
-  found o (source bytes w g s (ready p k (is_made done n x r d))) =
-      record { text = bytes; read = w; gave = g; calls = made p s k (short_of task p disk later done d) (gives_of task p disk later status done n d) }
+  found o (source bytes w g s due) = record { text = bytes; read = w; gave = g; calls = calls_for bytes task disk later status text run o s due }
 
 -- ---- what the text decides
 
-module _ (words : List (List ℕ)) (task : Task) (file : List ℕ) (before after : LibraryTold) (disk later : DiskTold) (status : ℕ) (run : Option Ended) (sink written : SinkTold)
-    (is_call : IsCall words task file) (whole : status ≢ 8 → status ≢ 11 → TookWhole (IsDueOfFile file task before after disk later) status run sink written)
-    (only_call : (asked : Task) (name : List ℕ) → IsCall words asked name → (asked ≡ task) × (name ≡ file)) (o : IsOfText status) where
+module _ (task : Task) (file : List ℕ) (before after : LibraryTold) (disk later : DiskTold) (status : ℕ) (run : Option Ended) (sink written : SinkTold)
+    (whole : status ≢ 8 → status ≢ 11 → TookWhole (IsDueOfFile file task before after disk later) status run sink written) (o : IsOfText status) where
   here : IsFound file task before after disk status
   here = let w = whole o.sink o.memory in found file task before after disk later status w.text run o w.due
 
@@ -148,19 +153,29 @@ module _ (words : List (List ℕ)) (task : Task) (file : List ℕ) (before after
     only = λ number h. calls_both known task disk knows status number (calls_known known told) h;
   }
 
-  called_at : (asked : Task) (name known : List ℕ) → asked ≡ task → name ≡ file → before.text_at name ≡ Some known → KnowsFiles known asked disk → IsCalledFor known asked disk status
-  called_at asked name known g e told knows =
-      subst (λ (a : Task). IsCalledFor known a disk status) (sym g)
-      (called known (subst (λ (n : List ℕ). before.text_at n ≡ Some known) e told) (subst (λ (a : Task). KnowsFiles known a disk) g knows))
+  is_decided : IsDecided task file before after disk status
+  is_decided = record { text = here.text; is_read = here.read; gave = here.gave; calls = here.calls; only = called }
 
-  pub is_decided : IsDecided words before after disk status
-  is_decided = record {
-    task = task;
-    file = file;
-    text = here.text;
-    is_call = is_call;
-    is_read = here.read;
-    gave = here.gave;
-    calls = here.calls;
-    only = λ asked name known call told knows. called_at asked name known (only_call asked name call).0 (only_call asked name call).1 told knows;
+  -- for the words that call for it, and no other
+  pub decided_for : (asked : Task) (name : List ℕ) → Does asked name ≡ Does task file → IsDecided asked name before after disk status
+  decided_for asked name e = let same : (asked ≡ task) × (name ≡ file) = (cc (e), cc (e)) in
+      subst (λ (n : List ℕ). IsDecided asked n before after disk status) (sym same.1) (subst (λ (a : Task). IsDecided a file before after disk status) (sym same.0) is_decided)
+
+-- ---- what the text of the file server decides
+
+module _ (turns steps : ℕ) (short : IsShort (load_text turns)) (before : LibraryTold) (disk later : DiskTold) (status : ℕ) (run : Option Ended) (sink written : SinkTold)
+    (whole : status ≢ 8 → status ≢ 11 → TookWhole (IsDueOf (load_text turns) (summed turns steps) disk later) status run sink written) (o : IsOfText status) where
+  load_calls : CallsFor (load_text turns) (summed turns steps) disk status
+  load_calls = let w = whole o.sink o.memory in calls_for (load_text turns) (summed turns steps) disk later status w.text run o short w.due
+
+  is_loaded : IsLoaded turns steps before before disk status
+  is_loaded = record {
+    untouched = refl;
+    calls = load_calls;
+    only = λ knows. record { calls = load_calls; only = λ number h. calls_both (load_text turns) (summed turns steps) disk knows status number load_calls h };
   }
+
+  -- for the words that call for it, and no other
+  pub loaded_for : (number bound : ℕ) → Loads number bound ≡ Loads turns steps → IsLoaded number bound before before disk status
+  loaded_for number bound e = let one : number ≡ turns = cc (e) in let two : bound ≡ steps = cc (e) in
+      subst (λ (n : ℕ). IsLoaded n bound before before disk status) (sym one) (subst (λ (n : ℕ). IsLoaded turns n before before disk status) (sym two) is_loaded)

@@ -6,7 +6,7 @@ use Rattle.ac_lexer.specs.declared.fault.LexFault.TheVariants as l
 use Rattle.ac_tree.specs.declared.item.Program.{Program}
 use Rattle.ac_parser.specs.Places.{UnexpectedAt, TooDeepAt}
 use Rattle.ac_types.specs.Reached.{BreaksNone, IsLeastBroken}
-use Rattle.ac_program.specs.declared.words.Task.{Task}
+use Rattle.ac_words.specs.declared.task.Task.{Task}
 use Rattle.ac_program.specs.declared.refusal.Refusal.{Refusal}
 use Rattle.ac_program.specs.declared.refusal.Refusal.TheVariants as r
 use Rattle.ac_program.specs.Lines.{refusal_status}

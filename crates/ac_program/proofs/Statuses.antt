@@ -8,16 +8,16 @@ use Rattle.ac_program.specs.declared.refusal.Refusal.TheVariants as r
 use Rattle.ac_program.specs.declared.execute.Done.{Done}
 use Rattle.ac_program.specs.Lines.{refusal_status}
 use Rattle.ac_tree.specs.declared.item.Program.{Program}
-use Rattle.ac_program.specs.declared.words.Task.{Task}
-use Rattle.ac_program.specs.declared.words.Task.TheVariants as t
+use Rattle.ac_words.specs.declared.task.Task.{Task}
+use Rattle.ac_words.specs.declared.task.Task.TheVariants as t
 use Rattle.ac_outside.specs.Disks.{DiskTold}
-use Rattle.ac_program.specs.Making.{Makes}
+use Rattle.ac_words.specs.declared.task.Telling.{Telling}
+use Rattle.ac_words.specs.declared.task.Telling.TheVariants as w
+use Rattle.core_runner.specs.declared.ended.Ended.{Ended}
+use Rattle.ac_program.specs.Making.{Makes, Tells, whole, long_trace}
+use Rattle.ac_program.specs.Headline.{IsOfCores}
 
 -- ---- statuses of cores
-
--- a status of cores that have ended
-abbrev pub IsOfCores : ℕ → Type 0
-IsOfCores status = (status ≡ 0) ⊎ (status ≡ 4) ⊎ (status ≡ 5) ⊎ (status ≡ 6)
 
 pub chosen : (trapped out stalled : Bool) → IsOfCores (if trapped then 4 else (if out then 6 else (if stalled then 5 else 0)))
 chosen true out stalled = inr (inl refl)
@@ -28,10 +28,21 @@ chosen false false false = inl refl
 pub of_cores : (ends : List MachineEnd) → IsOfCores (status_of ends)
 of_cores ends = chosen (any_ends is_trapped ends) (any_ends is_out_of_steps ends) (any_ends is_stalled ends)
 
-pub made_status : (task : Task) (program : Program) (disk later : DiskTold) (status : ℕ) (done : Done) → status ≡ done.status.number → Makes task program disk later done → IsOfCores status
-made_status (t.Run steps) program disk later status done e d = subst IsOfCores (sym (e ∙ d.status)) (of_cores d.ended.cores)
-made_status t.Check program disk later status done e d = inl (e ∙ d.status)
-made_status t.Code program disk later status done e d = inl (e ∙ d.status)
+-- that of what is made, which may be a trace that is too long
+abbrev pub IsOfMade : ℕ → Type 0
+IsOfMade status = IsOfCores status ⊎ (status ≡ 10)
+
+pub told_status : (telling : Telling) (program : Program) (ended : Ended) (status : ℕ) (text : List ℕ) → Tells telling program ended status text → IsOfMade status
+told_status w.Report program ended status text h = inl (subst IsOfCores (sym h.0) (of_cores ended.cores))
+told_status (w.Summary turns) program ended status text h = inl (subst IsOfCores (sym h.0) (of_cores ended.cores))
+told_status w.Trace program ended status text (whole e s l) = inl (subst IsOfCores (sym e) (of_cores ended.cores))
+told_status w.Trace program ended status text (long_trace e x l) = inr e
+
+pub made_status : (task : Task) (program : Program) (disk later : DiskTold) (status : ℕ) (done : Done) → status ≡ done.status.number → Makes task program disk later done → IsOfMade status
+made_status (t.Run steps telling) program disk later status done e d =
+    subst IsOfMade (sym e) (told_status telling program d.ended done.status.number done.text d.tells)
+made_status t.Check program disk later status done e d = inl (inl (e ∙ d.status))
+made_status t.Code program disk later status done e d = inl (inl (e ∙ d.status))
 
 pub small : (status : ℕ) → IsOfCores status → status ≤ 6
 small status (inl e) = omega (arith, e)
@@ -47,6 +58,15 @@ not_one status (inl e) h = omega (arith, e, h)
 not_one status (inr (inl e)) h = omega (arith, e, h)
 not_one status (inr (inr (inl e))) h = omega (arith, e, h)
 not_one status (inr (inr (inr e))) h = omega (arith, e, h)
+
+-- none of these but 10 is of a refusal, of usage or of a failure
+pub not_made : (status other : ℕ) → IsOfMade status → status ≡ other → 7 ≤ other → other ≢ 10 → ⊥
+not_made status other (inl h) e l n = not_above status other h e l
+not_made status other (inr t) e l n = n (sym e ∙ t)
+
+pub not_made_one : (status : ℕ) → IsOfMade status → status ≡ 1 → ⊥
+not_made_one status (inl h) e = not_one status h e
+not_made_one status (inr t) e = omega (arith, t, e)
 
 -- ---- statuses of refusals
 
@@ -75,6 +95,10 @@ pub apart : (status : ℕ) → IsOfRefusal status → IsOfCores status → ⊥
 apart status (inl e) h = (other_cores status h).0 e
 apart status (inr (inl e)) h = (other_cores status h).1.0 e
 apart status (inr (inr e)) h = omega (arith, (other_cores status h).1.1, e)
+
+pub apart_made : (status : ℕ) → IsOfRefusal status → status ≢ 10 → IsOfMade status → ⊥
+apart_made status k n (inl h) = apart status k h
+apart_made status k n (inr t) = n t
 
 -- and none is that of the usage line, or of a failure
 pub one : (status : ℕ) → IsOfRefusal status → status ≡ 1 → ⊥

@@ -11,7 +11,7 @@ use Rattle.ac_parser.specs.Places.{Parses}
 use Rattle.ac_types.specs.declared.fault.CheckFault.{CheckFault}
 use Rattle.ac_types.specs.declared.fault.CheckFault.TheVariants as c
 use Rattle.ac_types.specs.Verdicts.{IsFault}
-use Rattle.ac_program.specs.declared.words.Task.{Task}
+use Rattle.ac_words.specs.declared.task.Task.{Task}
 use Rattle.ac_program.specs.Source.{HasTokens, IsSpelled}
 use Rattle.ac_program.specs.inner.Parts.{Stops, lex_stop, syntax_stop, check_stop}
 

@@ -1,5 +1,5 @@
 -- What is decided of two.ac: by its text, by its code, and by its machine, before the first instruction and at its end.
-use Rattle.std.proofs.Common.{◌≡◌, refl, ap, ◌∙◌, ℕ, zero, suc, pos, List, [], ◌∷◌, ◌++◌, length}
+use Rattle.std.proofs.Common.{◌≡◌, refl, ap, ◌∙◌, ℕ, zero, suc, pos, List, [], ◌∷◌, length}
 use Rattle.std.proofs.Common.{codes, Option, None, Some, true, false, subst, sym, arith}
 use Rattle.std.specs.Prelude.{slice_get}
 use Rattle.std.proofs.lemmas.List.Elements.{All-from_recursion}
@@ -14,15 +14,15 @@ use Rattle.stack_code.specs.declared.parts.Entered.{Entered}
 use Rattle.stack_code.specs.Parts.{Parts}
 use Rattle.code_meaning.specs.Machine.{exec, first_flat, Runs}
 use Rattle.ac_compile.proofs.Examples.{two, two_parts, two_is_compiled}
-use Rattle.ac_program.specs.declared.words.Task.{Task}
-use Rattle.ac_program.specs.declared.words.Task.TheVariants as t
-use Rattle.ac_program.specs.Words.{IsArguments, IsTask, IsCall, no_more, operand, bound_apart, bound_joined, only_operands}
+use Rattle.ac_words.specs.declared.task.Task.{Task}
+use Rattle.ac_words.specs.declared.task.Task.TheVariants as t
+use Rattle.ac_words.specs.declared.task.Telling.TheVariants as tell
+use Rattle.ac_words.specs.declared.task.Telling.{Telling}
 use Rattle.ac_program.specs.Source.{IsReady}
 use Rattle.ac_program.specs.Lines.{accepted_line}
 use Rattle.ac_program.specs.Making.{IsDueOf, IsTold, Makes, made as is_made, ready}
 use Rattle.ac_program.specs.Headline.{source}
 use Rattle.ac_program.specs.Headline.{HasRun, GivesStatus, AreOfRuns, IsCalledFor, IsDecided}
-use Rattle.std.specs.Str.Parse.{digits_value}
 use Rattle.ac_resolve.specs.Resolution.{resolved}
 use Rattle.ac_tree.specs.declared.item.Program.{Program}
 use Rattle.ac_translation.specs.Same.{IsSame}
@@ -33,84 +33,46 @@ use Rattle.code_meaning.specs.Machine.{Flat, FlatEnd}
 use Rattle.code_meaning.specs.Alone.{starts_none, IsAlone}
 use Rattle.code_listing.specs.Listing.{listing}
 use Rattle.core_machine.specs.Machine.{Machine, IsFirst, IsOnItsWay, IsSameCore}
+use Rattle.ac_program.proofs.Calls.{IsMadeAs}
+use Rattle.ac_program.proofs.Consequences.{no_long_trace}
 use Rattle.ac_program.proofs.OneStatus.{one_status}
-use Rattle.ac_program.proofs.Reasons.{is_decided}
+use Rattle.ac_program.proofs.Reasons.{decided_for}
 use Rattle.ac_program.proofs.TwoRules.{two_tree, two_is_clean}
-use Rattle.ac_program.proofs.Examples.{code_prints_seven, e, it_is_a_run, it_is_done, it_is_spelled, it_replays, its_call}
+use Rattle.ac_program.proofs.Examples.{code_prints_seven, e, it_is_a_run, it_is_done, it_is_reported, it_is_spelled, it_replays}
 use Rattle.ac_program.proofs.Examples.{its_end, its_library, its_only_program, its_library_after, its_reading}
-use Rattle.ac_program.proofs.Examples.{its_report, its_run, its_sink, its_status_is_called_for, its_files_are_known, its_words, no_disk, sink_with}
+use Rattle.ac_program.proofs.Examples.{its_report, its_run, its_sink, its_status_is_called_for, its_files_are_known, no_disk, sink_with}
 
 -- ---- its text decides
 
--- its words are one call alone
-first_word : {v w : List ℕ} {vs ws : List (List ℕ)} → v ∷ vs ≡ w ∷ ws → v ≡ w
-first_word e = cc
-
-other_words : {v w : List ℕ} {vs ws : List (List ℕ)} → v ∷ vs ≡ w ∷ ws → vs ≡ ws
-other_words e = cc
-
-its_last_word : {rest : List (List ℕ)} {given : Option ℕ} → codes "--steps=100" ∷ [] ≡ rest → IsArguments rest [] given → given ≡ Some 100
-its_last_word e no_more = cc
-its_last_word e (bound_apart is bound more) = cc
-its_last_word e (bound_joined {word} {value} {words} {operands} {steps} is bound more) =
-    let w : codes "--steps=100" ≡ word = first_word e in
-    let v : codes "100" ≡ value = same_value (w ∙ is) in
-    ap Some (bound.number.value ∙ ap (λ (ds : List ℕ). digits_value 10 ds) (sym v)) where
-      same_value : {v : List ℕ} → codes "--steps=100" ≡ codes "--steps=" ++ v → codes "100" ≡ v
-      same_value e = cc
-its_last_word {rest} e (only_operands {word} {words} is all) = absurd (no_dashes (first_word e ∙ is)) where
-  no_dashes : codes "--steps=100" ≡ codes "--" → ⊥
-  no_dashes e = cc
-
-its_arguments : {rest : List (List ℕ)} {given : Option ℕ} (name : List ℕ) → codes "two.ac" ∷ codes "--steps=100" ∷ [] ≡ rest → IsArguments rest (name ∷ []) given
-    → (name ≡ codes "two.ac") × (given ≡ Some 100)
-its_arguments name e (operand {word} {words} plain more) = (sym (first_word e), its_last_word (other_words e) more)
-its_arguments name e (bound_apart is bound more) = absurd (no_bound (first_word e ∙ is)) where
-  no_bound : codes "two.ac" ≡ codes "--steps" → ⊥
-  no_bound e = cc
-its_arguments name e (bound_joined {word} {value} is bound more) = absurd (no_bound (first_word e ∙ is)) where
-  no_bound : codes "two.ac" ≡ codes "--steps=" ++ value → ⊥
-  no_bound e = cc
-its_arguments name e (only_operands is all) = absurd (no_dashes (first_word e ∙ is)) where
-  no_dashes : codes "two.ac" ≡ codes "--" → ⊥
-  no_dashes e = cc
-
-its_only_task : (task : Task) → IsTask (codes "run") (Some 100) task → task ≡ t.Run 100
-its_only_task (t.Run steps) h = ap (λ (n : ℕ). t.Run n) h.1
-its_only_task t.Check h = let e = h.0 in cc
-its_only_task t.Code h = let e = h.0 in cc
-
-its_only_call : (task : Task) (name : List ℕ) → IsCall its_words task name → (task ≡ t.Run 100) × (name ≡ codes "two.ac")
-its_only_call task name r =
-    let a = its_arguments name (other_words r.command.form) r.command.arguments in
-    let named : IsTask (codes "run") r.given task = subst (λ (n : List ℕ). IsTask n r.given task) (sym (first_word r.command.form)) r.is_task in
-    (its_only_task task (subst (λ (given : Option ℕ). IsTask (codes "run") given task) a.1 named), a.0)
-
-pub it_is_decided : IsDecided its_words its_library its_library_after no_disk 0
-it_is_decided = is_decided its_words (t.Run 100) (codes "two.ac") its_library its_library_after no_disk no_disk 0 (Some its_run) its_sink (sink_with its_report 0) its_call
+pub it_is_decided : IsDecided (t.Run 100 tell.Report) (codes "two.ac") its_library its_library_after no_disk 0
+it_is_decided = decided_for (t.Run 100 tell.Report) (codes "two.ac") its_library its_library_after no_disk no_disk 0 (Some its_run) its_sink (sink_with its_report 0)
     (λ well kept. record { text = its_report; due = source two_text its_reading refl (omega arith) it_is_done; taken = refl })
-    its_only_call (record { usage = omega arith; library = omega arith; sink = omega arith; disk = omega arith; memory = omega arith })
+    (record { usage = omega arith; library = omega arith; sink = omega arith; disk = omega arith; memory = omega arith }) (t.Run 100 tell.Report) (codes "two.ac") refl
 
-pub it_is_called_for : IsCalledFor two_text (t.Run 100) no_disk 0
-it_is_called_for = it_is_decided.only (t.Run 100) (codes "two.ac") two_text its_call refl its_files_are_known
+pub it_is_called_for : IsCalledFor two_text (t.Run 100 tell.Report) no_disk 0
+it_is_called_for = it_is_decided.only two_text refl its_files_are_known
+
+-- its report has no limit
+pub its_report_is_never_too_long : IsMadeAs 10 two_text (t.Run 100 tell.Report) no_disk → ⊥
+its_report_is_never_too_long = no_long_trace two_text (t.Run 100 tell.Report) no_disk (λ steps e. cc)
 
 -- no two runs of a program without a channel and a file differ
-it_has_none : (steps : ℕ) (program : Program) → IsReady two_text (t.Run steps) program → ((resolved program).channels ≡ []) × ((resolved program).files ≡ [])
-it_has_none steps program k = subst (λ (p : Program). ((resolved p).channels ≡ []) × ((resolved p).files ≡ [])) (its_only_program program k.is_accepted.spelled) (refl, refl)
+it_has_none : (steps : ℕ) (telling : Telling) (program : Program) → IsReady two_text (t.Run steps telling) program → ((resolved program).channels ≡ []) × ((resolved program).files ≡ [])
+it_has_none steps telling program k = subst (λ (p : Program). ((resolved p).channels ≡ []) × ((resolved p).files ≡ [])) (its_only_program program k.is_accepted.spelled) (refl, refl)
 
-pub its_runs_do_not_differ : AreOfRuns two_text (t.Run 100) no_disk 0 4 → ⊥
+pub its_runs_do_not_differ : AreOfRuns two_text (t.Run 100 tell.Report) no_disk 0 4 → ⊥
 its_runs_do_not_differ r =
     let k = subst (λ (a : Task). IsReady two_text a r.program) r.is_run r.is_ready in
     let some = r.meets in
-    let many = ap (λ xs. length xs) (it_has_none r.steps r.program k).0 in
-    let files = ap (λ xs. length xs) (it_has_none r.steps r.program k).1 in
+    let many = ap (λ xs. length xs) (it_has_none r.steps r.telling r.program k).0 in
+    let files = ap (λ xs. length xs) (it_has_none r.steps r.telling r.program k).1 in
     omega (arith, some, many, files)
 
 -- no other status
-pub it_is_not_decided_otherwise : IsDecided its_words its_library its_library_after no_disk 4 → ⊥
+pub it_is_not_decided_otherwise : IsDecided (t.Run 100 tell.Report) (codes "two.ac") its_library its_library_after no_disk 4 → ⊥
 it_is_not_decided_otherwise h =
-    let called = h.only (t.Run 100) (codes "two.ac") two_text its_call refl its_files_are_known in
-    let e : 4 ≡ 0 = (one_status two_text (t.Run 100) no_disk 4 called it_has_none 0).1 its_status_is_called_for in
+    let called = h.only two_text refl its_files_are_known in
+    let e : 4 ≡ 0 = (one_status two_text (t.Run 100 tell.Report) no_disk 4 called it_has_none 0).1 its_status_is_called_for in
     omega (arith, e)
 
 -- ---- its code
@@ -163,8 +125,8 @@ a_check_keeps_no_run h = let e = h.no_run in cc
 pub its_check_gives_0_alone : GivesStatus t.Check two_tree no_disk 4 → ⊥
 its_check_gives_0_alone h = omega (arith, h)
 
-pub its_run_gives_0 : HasRun two_tree 100 no_disk 0
-its_run_gives_0 = record { start = []; are_held = tt; ended = its_run; is_run = it_is_a_run; are_served = tt; status_is = refl }
+pub its_run_gives_0 : HasRun two_tree 100 tell.Report no_disk 0
+its_run_gives_0 = record { start = []; each_file = refl; are_held = tt; ended = its_run; is_run = it_is_a_run; are_served = tt; line = its_report; tells = (refl, sym it_is_reported) }
 
 -- a code that prints nothing comes to another end
 abbrev pub silent : Parts

@@ -3,7 +3,6 @@
 use Rattle.std.specs.Prelude.{◌≡◌, ◌≢◌, ℕ, ◌+◌, ◌<◌, ◌≤◌, ◌⊎◌, List, [], length, map, All, Contains, is_some, IsTrue, IfSome, None, Some}
 use Rattle.std.specs.declared.option.Option.{Option}
 use Rattle.ac_base.specs.Log.{Log}
-use Rattle.ac_base.specs.Report.{status_of}
 use Rattle.ac_lexer.specs.declared.fault.LexFault.{LexFault}
 use Rattle.ac_tree.specs.declared.item.Program.{Program}
 use Rattle.ac_names.specs.Numbered.{file_paths}
@@ -14,30 +13,29 @@ use Rattle.ac_outside.specs.Told.{LibraryTold, SinkTold, OpenedJust, GrewBy}
 use Rattle.ac_outside.specs.Disks.{DiskTold}
 use Rattle.starting_files.specs.Starting.{bytes_at, most_bytes}
 use Rattle.core_runner.specs.declared.ended.Ended.{Ended}
-use Rattle.ac_program.specs.declared.words.Task.{Task}
-use Rattle.ac_program.specs.declared.words.Task.TheVariants as t
-use Rattle.ac_program.specs.Words.{IsCall}
-use Rattle.ac_program.specs.Reading.{Gave, TookBytes}
+use Rattle.ac_words.specs.declared.task.Task.{Task}
+use Rattle.ac_words.specs.declared.task.Task.TheVariants as t
+use Rattle.ac_words.specs.declared.task.Telling.{Telling}
+use Rattle.ac_words.specs.declared.task.Telling.TheVariants as w
+use Rattle.ac_words.specs.Words.{Asked, Does, Audits, Loads, IsCall}
+use Rattle.ac_file_server.specs.ServerText.{load_text}
+use Rattle.trace_text.specs.Spelling.{IsTheTrace}
+use Rattle.trace_audit.specs.RunTrace.{IsRunTrace}
+use Rattle.trace_audit.specs.Laws.{trace_of}
+use Rattle.ac_program.specs.Reading.{Gave, TookBytes, IsRead, IsShort}
 use Rattle.ac_program.specs.Writing.{TookFront}
 use Rattle.ac_program.specs.Source.{HasFault, IsUnexpected, IsTooDeep, IsBroken, IsTooMany, IsReady, needed}
 use Rattle.ac_history.specs.Files.{padded, IsServed}
 use Rattle.core_runner.specs.Run.{IsRunOf}
 use Rattle.core_runner.specs.DiskLeft.{deeds_of}
-use Rattle.ac_program.specs.Making.{IsDueOf, AreLeft}
+use Rattle.ac_program.specs.Making.{IsDueOf, AreLeft, Tells}
+use Rattle.ac_program.specs.Auditing.{IsDueOfAudit, AreRead}
 use Rattle.ac_program.specs.Lines.{usage_line, library_line, limit_source_line}
 
--- the words are not `run`, `check` or `code` with one file, and after `run` at most one bound on steps
+-- the words are not `run`, `trace`, `check` or `code` with one file, `audit` with two or `load` with a number of turns, where after `run`,
+-- `trace` and `load` there may be one bound on steps
 abbrev pub IsNoCall : List (List ℕ) → Type 0
-IsNoCall words = (task : Task) (file : List ℕ) → IsCall words task file → ⊥
-
--- just this file was opened, and no call of the library failed
-pub record IsRead (before after : LibraryTold) (file : List ℕ) : Type 0 where
-  pub just : OpenedJust before after file
-  pub well : after.faults ≡ before.faults
-
--- a source has at most 1,048,576 bytes
-abbrev pub IsShort : List ℕ → Type 0
-IsShort text = length text ≤ 1048576
+IsNoCall words = (asked : Asked) → IsCall words asked → ⊥
 
 -- ---- what is due: the status, the text that is written and the run that is kept, by the first refusal in the order of work
 
@@ -52,13 +50,22 @@ pub data IsDueOfFile (file : List ℕ) (task : Task) (before after : LibraryTold
   source : (bytes : List ℕ) → IsRead before after file → Gave (before.text_at file) bytes → IsShort bytes →
       IsDueOf bytes task disk later status text run → IsDueOfFile file task before after disk later status text run
 
--- for any words: where they are no call, the usage line, and the library and the disk are left alone
+-- a run with this bound on steps that is told by the summary of a load of so many turns
+abbrev pub summed : ℕ → ℕ → Task
+summed turns steps = t.Run steps (w.Summary turns)
+
+-- for any words: where they are no call, the usage line, and the library and the disk are left alone; and a load runs the text of the file
+-- server, and leaves the library alone
 pub data IsDue (words : List (List ℕ)) (before after : LibraryTold) (disk later : DiskTold)
     (status : ℕ) (text : List ℕ) (run : Option Ended) : Type 0 where
   usage : status ≡ 1 → text ≡ usage_line → run ≡ None → IsNoCall words → after ≡ before → later ≡ disk →
       IsDue words before after disk later status text run
-  call : (task : Task) (file : List ℕ) → IsCall words task file → IsDueOfFile file task before after disk later status text run →
+  call : (task : Task) (file : List ℕ) → IsCall words (Does task file) → IsDueOfFile file task before after disk later status text run →
       IsDue words before after disk later status text run
+  audit : (file trace : List ℕ) → IsCall words (Audits file trace) → run ≡ None → later ≡ disk →
+      IsDueOfAudit file trace before after status text → IsDue words before after disk later status text run
+  load : (turns steps : ℕ) → IsCall words (Loads turns steps) → after ≡ before →
+      IsDueOf (load_text turns) (summed turns steps) disk later status text run → IsDue words before after disk later status text run
 
 -- the sink has taken all of a text that is due with this status and this run
 pub record TookWhole (Due : ℕ → List ℕ → Option Ended → Type 0) (status : ℕ) (run : Option Ended) (sink written : SinkTold) : Type 0 where
@@ -79,14 +86,19 @@ pub data IsLeft (told : Option (List ℕ)) (task : Task) (disk later : DiskTold)
   of_program : (text : List ℕ) (program : Program) → Gave told text → IsReady text task program →
       AreLeft (needed task program) disk later → IsLeft told task disk later
 
--- memory was refused: the words are a call, just its file was opened, nothing is written and no run is kept
+-- the words are a call, just its files were opened, and this is left of the disk
+pub data IsCutShort (words : List (List ℕ)) (before after : LibraryTold) (disk later : DiskTold) : Type 0 where
+  of_task : (task : Task) (file : List ℕ) → IsCall words (Does task file) → IsRead before after file →
+      IsLeft (before.text_at file) task disk later → IsCutShort words before after disk later
+  of_audit : (file trace : List ℕ) → IsCall words (Audits file trace) → AreRead file trace before after → later ≡ disk →
+      IsCutShort words before after disk later
+  of_load : (turns steps : ℕ) → IsCall words (Loads turns steps) → after ≡ before →
+      IsLeft (Some (load_text turns)) (summed turns steps) disk later → IsCutShort words before after disk later
+
+-- memory was refused: the words are a call, nothing is written and no run is kept
 pub record GaveUp (words : List (List ℕ)) (before after : LibraryTold) (disk later : DiskTold) (run : Option Ended)
     (sink written : SinkTold) : Type 0 where
-  pub task : Task
-  pub file : List ℕ
-  pub is_call : IsCall words task file
-  pub is_read : IsRead before after file
-  pub files : IsLeft (before.text_at file) task disk later
+  pub cut : IsCutShort words before after disk later
   pub no_run : run ≡ None
   pub nothing : GrewBy sink.held written.held []
 
@@ -129,18 +141,20 @@ AreHeld disk paths start = IfSome disk.held (λ held. start ≡ map (bytes_at he
 abbrev pub AreServed : DiskTold → Program → List (List ℕ) → List Log → Type 0
 AreServed disk program start journals = IfSome disk.held (λ held. IsServed (padded start) (deeds_of (resolved program) journals))
 
--- a run of the program with this bound on steps and the files that the disk holds, whose cores have this status
-pub record HasRun (program : Program) (steps : ℕ) (disk : DiskTold) (status : ℕ) : Type 0 where
+-- a run of the program with this bound on steps and the files that the disk holds, which is told with this status
+pub record HasRun (program : Program) (steps : ℕ) (telling : Telling) (disk : DiskTold) (status : ℕ) : Type 0 where
   pub start : List (List ℕ)
+  pub each_file : length start ≡ length (file_paths program.items)
   pub are_held : AreHeld disk (file_paths program.items) start
   pub ended : Ended
   pub is_run : IsRunOf (resolved program) steps start ended
   pub are_served : AreServed disk program start ended.journals
-  pub status_is : status ≡ status_of ended.cores
+  pub line : List ℕ
+  pub tells : Tells telling program ended status line
 
--- the status of what a task makes of a program: that of the cores in a run, and else 0
+-- the status of what a task makes of a program: that with which a run is told, and else 0
 abbrev pub GivesStatus : Task → Program → DiskTold → ℕ → Type 0
-GivesStatus (t.Run steps) program disk status = HasRun program steps disk status
+GivesStatus (t.Run steps telling) program disk status = HasRun program steps telling disk status
 GivesStatus t.Check program disk status = status ≡ 0
 GivesStatus t.Code program disk status = status ≡ 0
 
@@ -166,7 +180,8 @@ pub data CallsFor (text : List ℕ) (task : Task) (disk : DiskTold) (status : �
   too_many : status ≡ 10 → IsShort text → IsTooMany text task → CallsFor text task disk status
   long_file : (program : Program) → status ≡ 10 → IsShort text → IsReady text task program → HasLong disk (needed task program) →
       CallsFor text task disk status
-  -- 0, and in a run also 4, 5 or 6: nothing refuses it, and this is the status of what is made of its program
+  -- 0, in a run also 4, 5 or 6, and 10 where its trace is too long: nothing refuses it, and this is the status of what is made of its
+  -- program
   made : (program : Program) → IsShort text → IsReady text task program → AreShort disk (needed task program) →
       GivesStatus task program disk status → CallsFor text task disk status
 
@@ -174,12 +189,13 @@ pub data CallsFor (text : List ℕ) (task : Task) (disk : DiskTold) (status : �
 -- of the requests of files, come first, nor where a call of the disk fails.
 pub record AreOfRuns (text : List ℕ) (task : Task) (disk : DiskTold) (status number : ℕ) : Type 0 where
   pub steps : ℕ
+  pub telling : Telling
   pub program : Program
-  pub is_run : task ≡ t.Run steps
+  pub is_run : task ≡ t.Run steps telling
   pub is_ready : IsReady text task program
   pub meets : 1 ≤ length (resolved program).channels + length (resolved program).files
-  pub one : HasRun program steps disk status
-  pub other : HasRun program steps disk number
+  pub one : HasRun program steps telling disk status
+  pub other : HasRun program steps telling disk number
 
 -- the text calls for the status, and for another only where both are statuses of runs of its program
 pub record IsCalledFor (text : List ℕ) (task : Task) (disk : DiskTold) (status : ℕ) : Type 0 where
@@ -192,13 +208,36 @@ KnowsFiles text task disk = (program : Program) → IsReady text task program �
 
 -- A text that the library may have given calls for the status; and where the library tells that text, and the disk the files of its
 -- program, for no other, but as its runs differ.
-pub record IsDecided (words : List (List ℕ)) (before after : LibraryTold) (disk : DiskTold) (status : ℕ) : Type 0 where
-  pub task : Task
-  pub file : List ℕ
+pub record IsDecided (task : Task) (file : List ℕ) (before after : LibraryTold) (disk : DiskTold) (status : ℕ) : Type 0 where
   pub text : List ℕ
-  pub is_call : IsCall words task file
   pub is_read : IsRead before after file
   pub gave : Gave (before.text_at file) text
   pub calls : CallsFor text task disk status
-  pub only : (asked : Task) (name known : List ℕ) → IsCall words asked name → before.text_at name ≡ Some known →
-      KnowsFiles known asked disk → IsCalledFor known asked disk status
+  pub only : (known : List ℕ) → before.text_at file ≡ Some known → KnowsFiles known task disk → IsCalledFor known task disk status
+
+-- The text of the file server calls for the status of its load, and the library is left alone; and for no other, but as its runs differ,
+-- where the disk tells the files of its program.
+pub record IsLoaded (turns steps : ℕ) (before after : LibraryTold) (disk : DiskTold) (status : ℕ) : Type 0 where
+  pub untouched : after ≡ before
+  pub calls : CallsFor (load_text turns) (summed turns steps) disk status
+  pub only : KnowsFiles (load_text turns) (summed turns steps) disk → IsCalledFor (load_text turns) (summed turns steps) disk status
+
+-- ---- a trace that is written
+
+-- the status of a run that is told whole
+abbrev pub IsOfCores : ℕ → Type 0
+IsOfCores status = (status ≡ 0) ⊎ (status ≡ 4) ⊎ (status ≡ 5) ⊎ (status ≡ 6)
+
+-- What the sink has taken is read back as the trace of the run that is kept and as no other, and that is a run of the program of a text
+-- that the library may have given.
+pub record ReadsBack (told : Option (List ℕ)) (task : Task) (run : Option Ended) (sink written : SinkTold) : Type 0 where
+  pub source : List ℕ
+  pub program : Program
+  pub gave : Gave told source
+  pub is_ready : IsReady source task program
+  pub ended : Ended
+  pub kept : run ≡ Some ended
+  pub text : List ℕ
+  pub taken : GrewBy sink.held written.held text
+  pub spells : IsTheTrace text (trace_of ended)
+  pub is_run : IsRunTrace (resolved program) (trace_of ended)

@@ -12,9 +12,9 @@ use Rattle.ac_names.specs.Numbered.{core_names, file_paths}
 use Rattle.ac_resolve.specs.Resolution.{resolved}
 use Rattle.ac_program.specs.declared.refusal.Refusal.{Refusal}
 use Rattle.ac_program.specs.declared.refusal.Refusal.TheVariants as r
-use Rattle.ac_program.specs.declared.words.Task.{Task}
-use Rattle.ac_program.specs.declared.words.Task.TheVariants as t
-use Rattle.ac_program.specs.Words.{steps_of}
+use Rattle.ac_words.specs.declared.task.Task.{Task}
+use Rattle.ac_words.specs.declared.task.Task.TheVariants as t
+use Rattle.ac_words.specs.Words.{steps_of}
 
 -- ---- tokens
 
@@ -86,7 +86,7 @@ pub record IsReady (source : List ℕ) (task : Task) (program : Program) : Type 
 
 -- the paths of the files that a task needs: those of the program for a run, in order
 abbrev pub needed : Task → Program → List (List ℕ)
-needed (t.Run steps) program = file_paths program.items
+needed (t.Run steps telling) program = file_paths program.items
 needed t.Check program = []
 needed t.Code program = []
 

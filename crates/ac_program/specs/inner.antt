@@ -1,2 +1,2 @@
-pub mod Scanning
+pub mod Answers
 pub mod Parts

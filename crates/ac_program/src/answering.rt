@@ -4,6 +4,7 @@ ghost use Rattle.std.specs.Prelude.{◌≡◌, ◌≢◌, ◌≤◌, [], All, Al
 ghost use Rattle.std.specs.Str.{IsUtf8};
 ghost use Rattle.ac_names.specs.Numbered.{file_paths};
 ghost use Rattle.ac_outside.specs.Told.{OpenedJust, GrewBy};
+ghost use Rattle.ac_words.specs.Words.{IsBounded};
 ghost use Rattle.ac_program.specs.Writing.{TookFront};
 ghost use Rattle.ac_program.specs.Lines.{limit_file_line, refusal_line, refusal_status};
 ghost use Rattle.ac_program.specs.Headline.{IsDueOfFile, IsLeft, TookWhole, TookPart, TellsDisk, TellsLibrary, TellsSink};
@@ -13,13 +14,13 @@ ghost use Rattle.ac_program.specs.Source.{all_steps, most_steps, needed};
 use crate::building::build;
 use crate::execute::{Done, make};
 use crate::outcome::Outcome;
-use crate::reading::{ReadFault, read_text};
+use crate::reading::{ReadFault, SOURCE_LIMIT, read_text};
 use crate::refusal::{LIMIT_SOURCE, Refusal, Stop, place_line};
-use crate::words::Task;
 use crate::writing::answer;
 use ac_base::Status;
 use ac_outside::{Disk, Library, Sink};
 use ac_types::Checked;
+use ac_words::Task;
 use starting_files::StartFault;
 use std::alloc::Global;
 
@@ -62,8 +63,8 @@ pub fn refuse<K: Sink>(sink: &mut K, number: u8, line: &str) -> Outcome
     refuse_with(sink, number, line.as_bytes())
 }
 
-// Writes the line of what refuses a source.
-fn refuse_source<K: Sink>(alloc: Global, sink: &mut K, refusal: Refusal) -> Outcome
+/// Writes the line of what refuses a source.
+pub fn refuse_source<K: Sink>(alloc: Global, sink: &mut K, refusal: Refusal) -> Outcome
     ensures run { result.run ≡ None }
     ensures status { result.status.number ≢ 8 → result.status.number ≢ 11 → result.status.number ≡ refusal_status refusal }
     ensures whole { result.status.number ≢ 8 → result.status.number ≢ 11 →
@@ -79,8 +80,8 @@ fn refuse_source<K: Sink>(alloc: Global, sink: &mut K, refusal: Refusal) -> Outc
     }
 }
 
-// Writes the text of what was made.
-fn give<K: Sink>(sink: &mut K, done: Done) -> Outcome
+/// Writes the text of what was made.
+pub fn give<K: Sink>(sink: &mut K, done: Done) -> Outcome
     requires { done.status.number ≢ 8 }
     ensures run { result.run ≡ done.run }
     ensures status { result.status.number ≢ 8 → result.status.number ≡ done.status.number }
@@ -103,7 +104,7 @@ fn refuse_file<K: Sink>(alloc: Global, sink: &mut K, file: u32) -> Outcome
     ensures memory { result.status.number ≡ 11 → GrewBy (K.told sink.old).held (K.told sink.new).held [] }
     ensures sink { TellsSink (K.told sink.old) (K.told sink.new) result.status.number }
 {
-    match place_line(alloc, b"limit: file ", file) {
+    match place_line(alloc, b"limit: file ", u64::from(file)) {
         Err(_) => no_memory(),
         Ok(line) => refuse_with(sink, 10, line.as_slice()),
     }
@@ -117,6 +118,7 @@ fn do_program<K: Sink, D: Disk>(
     sink: &mut K,
     disk: &mut D,
 ) -> Outcome
+    requires bounded { IsBounded task }
     requires few { all_steps checked.now task ≤ most_steps }
     requires files { length (file_paths checked.now.items) ≤ 16 }
     requires texts { All IsUtf8 (file_paths checked.now.items) }
@@ -151,6 +153,7 @@ pub fn do_source<K: Sink, D: Disk>(
     sink: &mut K,
     disk: &mut D,
 ) -> Outcome
+    requires bounded { IsBounded task }
     requires short { length source.now ≤ 1048576 }
     requires ready { IsTrue (D.told disk.old).is_ready }
     requires none { (D.told disk.old).bound ≡ 0 }
@@ -182,6 +185,7 @@ pub fn do_file<L: Library, K: Sink, D: Disk>(
     sink: &mut K,
     disk: &mut D,
 ) -> Outcome
+    requires bounded { IsBounded task }
     requires ready { IsTrue (D.told disk.old).is_ready }
     requires none { (D.told disk.old).bound ≡ 0 }
     ensures whole { result.status.number ≢ 8 → result.status.number ≢ 11 →
@@ -200,7 +204,7 @@ pub fn do_file<L: Library, K: Sink, D: Disk>(
     ensures sink { TellsSink (K.told sink.old) (K.told sink.new) result.status.number }
     ensures other { result.status.number ≢ 1 }
 {
-    match read_text(alloc, library, file) {
+    match read_text(alloc, library, file, SOURCE_LIMIT) {
         Err(ReadFault::NoMemory) => no_memory(),
         Err(ReadFault::Failed) => refuse(sink, 7, "library fault\n"),
         Err(ReadFault::TooLong) => refuse(sink, 10, LIMIT_SOURCE),

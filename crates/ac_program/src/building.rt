@@ -5,12 +5,12 @@ ghost use Rattle.ac_program.specs.inner.Parts.{GivesReady};
 
 use crate::front::accept;
 use crate::refusal::{Refusal, Stop};
-use crate::words::Task;
 use ac_types::Checked;
+use ac_words::Task;
 use std::alloc::Global;
 
-// How many steps all cores together may go.
-const MOST_STEPS: u64 = 4_000_000;
+/// How many steps all cores together may go.
+pub const MOST_STEPS: u64 = 4_000_000;
 
 /// The program of a source of at most 1,048,576 bytes, where nothing refuses it for the task.
 pub fn build(alloc: Global, source: &[u8], task: Task) -> Result<Checked, Stop>

@@ -6,16 +6,18 @@ ghost use Rattle.ac_names.specs.Numbered.{core_names, file_paths};
 ghost use Rattle.ac_resolve.specs.Resolution.{resolved};
 ghost use Rattle.ac_translation.specs.Translation.{code_of};
 ghost use Rattle.code_listing.specs.Listing.{listing};
-ghost use Rattle.ac_program.specs.declared.words.Task.TheVariants as t;
+ghost use Rattle.ac_words.specs.declared.task.Task.TheVariants as t;
+ghost use Rattle.ac_words.specs.Words.{IsBounded};
 ghost use Rattle.ac_program.specs.Lines.{accepted_line};
 ghost use Rattle.ac_program.specs.Source.{all_steps, most_steps};
 ghost use Rattle.ac_program.specs.inner.Parts.{GivesDone, GivesText};
 
-use crate::words::Task;
-use ac_base::{Bytes, List, NoMemory, Status, report, status};
+use crate::telling::tell;
+use ac_base::{Bytes, List, NoMemory, Status};
 use ac_compile::compile;
 use ac_outside::Disk;
 use ac_types::Checked;
+use ac_words::{Task, Telling};
 use code_listing::listing;
 use core_runner::{Ended, run};
 use starting_files::{StartFault, start_files};
@@ -40,33 +42,36 @@ fn paths_of(alloc: Global, checked: &Checked) -> Result<List<Bytes>, NoMemory>
     Ok(paths)
 }
 
-// A run of a program on its files, and its report.
+// A run of a program on its files, and what tells of it.
 fn reported<D: Disk>(
     alloc: Global,
     checked: &Checked,
     steps: u32,
+    telling: Telling,
     disk: &mut D,
 ) -> Result<Done, StartFault>
+    requires bounded { IsBounded (t.Run steps telling) }
     requires few { length (core_names checked.now.items) * steps ≤ 4000000 }
     requires files { length (file_paths checked.now.items) ≤ 16 }
     requires texts { All IsUtf8 (file_paths checked.now.items) }
     requires differ { AllPairs (λ path other. path ≢ other) (file_paths checked.now.items) }
     requires ready { IsTrue (D.told disk.old).is_ready }
     requires none { (D.told disk.old).bound ≡ 0 }
-    ensures { GivesDone (t.Run steps) checked.now (D.told disk.old) (D.told disk.new) result }
+    ensures { GivesDone (t.Run steps telling) checked.now (D.told disk.old) (D.told disk.new) result }
 {
-    // What holds of a tree at any time is asked for, for the proof.
+    // What holds of a tree and of its code at any time is asked for, for the proof.
     let _ = checked.tree();
     let code = compile(alloc, checked)?;
+    let _ = code.instrs();
+    let _ = code.ranks();
     let paths = paths_of(alloc, checked)?;
     let start = start_files(alloc, disk, paths.as_slice())?;
     let ended = run(alloc, &code, u64::from(steps), start, disk)?;
-    let text = report(alloc, code.names(), &ended.cores)?;
-    let status = status(&ended.cores);
+    let told = tell(alloc, code.names(), &ended, telling)?;
     Ok(Done {
         run: Some(ended),
-        text,
-        status,
+        text: told.text,
+        status: told.status,
     })
 }
 
@@ -104,6 +109,7 @@ pub fn make<D: Disk>(
     task: Task,
     disk: &mut D,
 ) -> Result<Done, StartFault>
+    requires bounded { IsBounded task }
     requires few { all_steps checked.now task ≤ most_steps }
     requires files { length (file_paths checked.now.items) ≤ 16 }
     requires texts { All IsUtf8 (file_paths checked.now.items) }
@@ -113,7 +119,7 @@ pub fn make<D: Disk>(
     ensures { GivesDone task checked.now (D.told disk.old) (D.told disk.new) result }
 {
     match task {
-        Task::Run(steps) => reported(alloc, checked, steps, disk),
+        Task::Run(steps, telling) => reported(alloc, checked, steps, telling, disk),
         Task::Check => Ok(accepted(alloc)?),
         Task::Code => Ok(listed(alloc, checked)?),
     }

@@ -1,7 +1,7 @@
 //! From a source text to the program that it spells.
 
 ghost use Rattle.std.specs.Prelude.{◌≤◌, length};
-ghost use Rattle.ac_program.specs.declared.words.Task.{Task};
+ghost use Rattle.ac_words.specs.declared.task.Task.{Task};
 ghost use Rattle.ac_program.specs.inner.Parts.{GivesTokens, GivesProgram, GivesChecked};
 
 use crate::refusal::Stop;

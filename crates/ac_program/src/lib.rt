@@ -1,49 +1,69 @@
-//! The top call: from the words of a command line to a status and a report.
+//! The top call: from the words of a command line to a status and what is written.
 #![tactic(auto)]
 
-ghost use Rattle.std.specs.Prelude.{◌≡◌, ◌≢◌, map, string_bytes, IsTrue};
-ghost use Rattle.ac_program.specs.Headline.{IsDue, TookWhole, TookPart, GaveUp, IsOfText, IsDecided};
+ghost use Rattle.std.specs.Prelude.{◌≡◌, ◌≢◌, ℕ, List, map, string_bytes, is_some, IsTrue};
+ghost use Rattle.ac_words.specs.declared.task.Task.{Task};
+ghost use Rattle.ac_words.specs.declared.task.Task.TheVariants.{Run};
+ghost use Rattle.ac_words.specs.declared.task.Telling.TheVariants.{Trace};
+ghost use Rattle.ac_words.specs.Words.{Does, Audits, Loads, IsCall};
+ghost use Rattle.ac_program.specs.Auditing.{IsJudged};
+ghost use Rattle.ac_program.specs.Headline.{IsDue, TookWhole, TookPart, GaveUp, IsOfText, IsDecided, IsLoaded, IsOfCores, ReadsBack};
 ghost use Rattle.ac_program.specs.Headline.{TellsUsage, TellsLibrary, TellsDisk, TellsSink};
 
 mod answering;
+mod auditing;
 mod building;
 mod execute;
 mod front;
+mod loading;
 mod outcome;
 mod reading;
 mod refusal;
-mod words;
+mod summary;
+mod telling;
 mod writing;
 
 use ac_outside::{Disk, Library, Sink};
+use ac_words::{Call, read_words};
 use answering::{USAGE, do_file, refuse};
+use auditing::audit_files;
 pub use core_runner::Ended;
+use loading::load;
 pub use outcome::Outcome;
 use std::alloc::Global;
-use words::read_words;
 
-/// Does what the words of a command line ask for: reads the text that they name from the library,
-/// and runs its program with the bound on steps that they give, on its files on the disk, or checks
-/// it, or compiles it; and writes the report, the line `accepted` or the listing of the code to the
-/// sink.
+/// Does what the words of a command line ask for. With the text of a file, which it reads from the
+/// library: runs its program with the bound on steps that they give, on its files on the disk, and
+/// writes the report or the trace of the run to the sink; or checks it, or compiles it, and writes the
+/// line `accepted` or the listing of the code. With two: says whether the trace that the second tells
+/// is a run of the program of the first. With a number N: runs the file server, each of whose clients
+/// takes N turns, and writes the line `load N status S`, with the status S of the run, and then what
+/// cores 1, 2 and 3, the clients, have printed.
 ///
-/// The statuses of a run, each with the report, are 4 where a core trapped, else 6 where one was
-/// out of steps, else 5 where one is stalled, as it waits and nothing can come any more, and else
-/// 0, where every core finished. Which of the messages for a core come first, and which of the
-/// requests of files, is not said by a program with channels or files, so its runs may have several
-/// statuses: the call's is that of the run that it gives. A check and a listing have 0. The others
-/// come with a line, by the first refusal in this order: 1 with the usage line where the words are
-/// not `run`, `check` or `code`, one FILE and, of a run alone, at most one bound from 1 to
-/// 2,000,000; 7 with `library fault` where a call of the library failed; 10 with `limit: source`
-/// where the text is longer than 1,048,576 bytes; 2 with `bad byte at B`, `number too large at B`,
-/// `open comment at B` or `open text at B` for the first lexical fault, and with `unexpected token
-/// at B` for the first token with which no program goes on; 10 with `limit: nesting at B` for the
-/// first token that is more than 256 deep; 3 with `rule Cn at B` for the least broken rule, by node
-/// and then by number; 10 with `limit: steps` where the cores together may go more than 4,000,000
-/// steps in a run; and before a run, file by file, 9 with `disk fault` where a call of the disk
-/// failed, and 10 with `limit: file K` where file K is longer than 1,048,576 bytes. B is a place in
-/// bytes from 0. The status is 8 where the sink failed, which has then taken a front of the text,
-/// and 11 where memory was refused, and nothing is written.
+/// The statuses of a run, each with the report, the trace or the summary, are 4 where a core
+/// trapped, else 6 where one was out of steps, else 5 where one is stalled, as it waits and nothing
+/// can come any more, and else 0, where every core finished. Which of the messages for a core come
+/// first, and which of the requests of files, is not said by a program with channels or files, so
+/// its runs may have several statuses: the call's is that of the run that it gives. A check and a
+/// listing have 0. An audit has 0 with `yes`, and 13 with `no at K` where entry K, counted from 0,
+/// is the first that may not come after those before it, or with `no at end` where all may and the
+/// end is not that of the run. The others come with a line, by the first refusal in this order: 1
+/// with the usage line where the words are not `run`, `trace`, `check` or `code` and one FILE,
+/// `audit`, FILE and TRACE, or `load` and a number from 1 to 500, and, for `run`, `trace` and `load`
+/// alone, at most one bound from 1 to 2,000,000; 7 with `library fault` where a call of the library
+/// failed; 10 with `limit: source` where the text is longer than 1,048,576 bytes; 2 with `bad byte
+/// at B`, `number too large at B`, `open comment at B` or `open text at B` for the first lexical
+/// fault, and with `unexpected token at B` for the first token with which no program goes on; 10
+/// with `limit: nesting at B` for the first token that is more than 256 deep; 3 with `rule Cn at B`
+/// for the least broken rule, by node and then by number; in an audit, with the text of the trace, 7
+/// as above, 10 with `limit: trace` where it is longer than 268,435,456 bytes, and 14 with `trace
+/// fault at line L` for the first line, counted from 1, that is not as it should be; 10 with `limit:
+/// steps` where the cores together may go more than 4,000,000 steps; before a run, file by file, 9
+/// with `disk fault` where a call of the disk failed, and 10 with `limit: file K` where file K is
+/// longer than 1,048,576 bytes; and after it 10 with `limit: trace` where its trace would be longer
+/// than 268,435,456 bytes. B is a place in bytes from 0. The status is 8 where the sink failed,
+/// which has then taken a front of the text, and 11 where memory was refused, and nothing is
+/// written.
 ///
 /// A run reads and writes the files of its program: where the disk tells them, they are read as they
 /// are, and afterwards hold what the run's history has written. What fails there is an answer to the
@@ -70,8 +90,8 @@ pub fn ac_main<L: Library, K: Sink, D: Disk>(
         TookPart (IsDue (map string_bytes words.now) (L.told library.old) (L.told library.new) (D.told disk.old) (D.told disk.new))
         result.run (K.told sink.old) (K.told sink.new) }
 
-    // Where memory was refused, the words are a call, just the file was opened, nothing is written
-    // and no run is kept. The files of its program are left as they were, unless a run had begun: of
+    // Where memory was refused, the words are a call, just its files were opened, none for a load,
+    // nothing is written and no run is kept. The files of a program are left as they were, unless a run had begun: of
     // the disk of such a run no more is said than that it bound no further file.
     ensures memory { result.status.number ≡ 11 →
         GaveUp (map string_bytes words.now) (L.told library.old) (L.told library.new) (D.told disk.old) (D.told disk.new)
@@ -92,11 +112,28 @@ pub fn ac_main<L: Library, K: Sink, D: Disk>(
     // Any other status is one that the text of the file calls for with the task of the words and the
     // files that the disk holds, and just the file was opened. It calls for no other, but for those of
     // other runs of a program with channels or files.
-    ensures decided { IsOfText result.status.number →
-        IsDecided (map string_bytes words.now) (L.told library.old) (L.told library.new) (D.told disk.old) result.status.number }
+    ensures decided { IsOfText result.status.number → (task : Task) (file : List ℕ) → IsCall (map string_bytes words.now) (Does task file) →
+        IsDecided task file (L.told library.old) (L.told library.new) (D.told disk.old) result.status.number }
+
+    // In an audit the two texts call for it, and for no other, and no more than the two files were
+    // opened, in this order.
+    ensures judged { IsOfText result.status.number → (file trace : List ℕ) → IsCall (map string_bytes words.now) (Audits file trace) →
+        IsJudged file trace (L.told library.old) (L.told library.new) result.status.number }
+
+    // In a load the text of the file server calls for it, and the library is left alone.
+    ensures loaded { IsOfText result.status.number → (turns steps : ℕ) → IsCall (map string_bytes words.now) (Loads turns steps) →
+        IsLoaded turns steps (L.told library.old) (L.told library.new) (D.told disk.old) result.status.number }
+
+    // The trace that is written is read back as that of the run that is kept, and is a run of the
+    // program, where the disk tells its files.
+    ensures read_back { IsOfCores result.status.number → IsTrue (is_some (D.told disk.old).held) → (steps : ℕ) (file : List ℕ) →
+        IsCall (map string_bytes words.now) (Does (Run steps Trace) file) →
+        ReadsBack ((L.told library.old).text_at file) (Run steps Trace) result.run (K.told sink.old) (K.told sink.new) }
 {
-    let Some(call) = read_words(words) else {
-        return refuse(sink, 1, USAGE);
-    };
-    do_file(alloc, call.file, call.task, library, sink, disk)
+    match read_words(words) {
+        None => refuse(sink, 1, USAGE),
+        Some(Call::Does { task, file }) => do_file(alloc, file, task, library, sink, disk),
+        Some(Call::Audits { file, trace }) => audit_files(alloc, file, trace, library, sink),
+        Some(Call::Loads { turns, steps }) => load(alloc, turns, steps, sink, disk),
+    }
 }

@@ -11,7 +11,10 @@ use std::alloc::{AllocError, Global};
 use thiserror::Error;
 
 /// How many bytes a source may have.
-pub const LIMIT: usize = 1_048_576;
+pub const SOURCE_LIMIT: usize = 1_048_576;
+
+/// How many bytes the text of a trace may have.
+pub const TRACE_LIMIT: usize = 268_435_456;
 
 // How many bytes one call reads at most.
 const CHUNK: usize = 4096;
@@ -23,7 +26,7 @@ pub enum ReadFault {
     #[error("library fault")]
     Failed,
     /// The text is over the limit.
-    #[error("limit: source")]
+    #[error("too long")]
     TooLong,
     /// Memory was refused.
     #[error("no memory")]
@@ -54,14 +57,20 @@ impl From<AllocError> for ReadFault {
 
 /// Opens the text of a name and reads it to its end, or to one byte past the limit. Whatever the
 /// answer, just that text was opened, once.
-pub fn read_text<L: Library>(alloc: Global, library: &mut L, name: &str) -> Result<Bytes, ReadFault>
+pub fn read_text<L: Library>(
+    alloc: Global,
+    library: &mut L,
+    name: &str,
+    limit: usize,
+) -> Result<Bytes, ReadFault>
+    requires { limit ≤ TRACE_LIMIT }
     ensures same { (L.told library.new).text_at ≡ (L.told library.old).text_at }
     ensures just { OpenedJust (L.told library.old) (L.told library.new) name.now }
 
     ensures whole { IfOk result (λ text. Gave ((L.told library.old).text_at name.now) text) }
-    ensures short { IfOk result (λ text. length text ≤ LIMIT) }
+    ensures short { IfOk result (λ text. length text ≤ limit) }
     ensures long { IsErrOf result ReadFault.TooLong →
-        TookBytes ((L.told library.old).text_at name.now) (L.told library.new).left (LIMIT + 1) }
+        TookBytes ((L.told library.old).text_at name.now) (L.told library.new).left (limit + 1) }
 
     ensures failed { IsErrOf result ReadFault.Failed → Rose (L.told library.old).faults (L.told library.new).faults }
     ensures well { result ≢ Err ReadFault.Failed → (L.told library.new).faults ≡ (L.told library.old).faults }
@@ -69,8 +78,8 @@ pub fn read_text<L: Library>(alloc: Global, library: &mut L, name: &str) -> Resu
     let mut text = Vec::new(alloc);
     library.open_text(name)?;
     let mut chunk = [0u8; CHUNK];
-    'reading: while text.len() <= LIMIT {
-        let want = CHUNK.min(LIMIT + 1 - text.len());
+    'reading: while text.len() <= limit {
+        let want = CHUNK.min(limit + 1 - text.len());
         let count = library.read(&mut chunk[..want])?;
         if count == 0 {
             return Ok(List::from_vec(text));

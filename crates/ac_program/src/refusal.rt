@@ -14,6 +14,9 @@ use std::alloc::Global;
 /// The line of a source that is too long.
 pub const LIMIT_SOURCE: &str = "limit: source\n";
 
+/// The line where all cores together may go too many steps.
+pub const LIMIT_STEPS: &str = "limit: steps\n";
+
 /// A rule that a program breaks, by its number, and the first byte of the part that breaks it.
 #[derive(Clone, Copy, Debug, PartialEq, Eq)]
 pub struct BrokenRule {
@@ -101,13 +104,13 @@ impl From<CheckFault> for Stop {
     }
 }
 
-/// Words and a place.
-pub fn place_line(alloc: Global, words: &[u8], at: u32) -> Result<Bytes, NoMemory>
+/// Words and a number.
+pub fn place_line(alloc: Global, words: &[u8], at: u64) -> Result<Bytes, NoMemory>
     ensures { IfOk result (λ line. line ≡ place_line words.now at) }
 {
-    let at = decimal(alloc, i64::from(at))?;
+    let at = at.to_string(alloc)?;
     let mut line = Vec::from_slice(alloc, words)?;
-    line.extend_from_slice(at.as_slice())?;
+    line.extend_from_slice(at.as_bytes())?;
     line.push(b'\n')?;
     Ok(List::from_vec(line))
 }
@@ -153,14 +156,21 @@ impl Refusal {
                 alloc,
                 LIMIT_SOURCE.as_bytes(),
             )?)),
-            Refusal::BadByte { at } => place_line(alloc, b"bad byte at ", at),
-            Refusal::NumberTooLarge { at } => place_line(alloc, b"number too large at ", at),
-            Refusal::OpenComment { at } => place_line(alloc, b"open comment at ", at),
-            Refusal::OpenText { at } => place_line(alloc, b"open text at ", at),
-            Refusal::Unexpected { at } => place_line(alloc, b"unexpected token at ", at),
-            Refusal::TooDeep { at } => place_line(alloc, b"limit: nesting at ", at),
+            Refusal::BadByte { at } => place_line(alloc, b"bad byte at ", u64::from(at)),
+            Refusal::NumberTooLarge { at } => place_line(
+                alloc,
+                b"number too large at ",
+                u64::from(at),
+            ),
+            Refusal::OpenComment { at } => place_line(alloc, b"open comment at ", u64::from(at)),
+            Refusal::OpenText { at } => place_line(alloc, b"open text at ", u64::from(at)),
+            Refusal::Unexpected { at } => place_line(alloc, b"unexpected token at ", u64::from(at)),
+            Refusal::TooDeep { at } => place_line(alloc, b"limit: nesting at ", u64::from(at)),
             Refusal::Broken(rule) => rule_line(alloc, rule),
-            Refusal::TooManySteps => Ok(List::from_vec(Vec::from_slice(alloc, b"limit: steps\n")?)),
+            Refusal::TooManySteps => Ok(List::from_vec(Vec::from_slice(
+                alloc,
+                LIMIT_STEPS.as_bytes(),
+            )?)),
         }
     }
 }

@@ -1,14 +1,13 @@
 -- A run under no entries, and a journal whose first entry does not fit.
-use Rattle.std.proofs.Common.{◌≡◌, ℕ, zero, suc, List, [], ◌∷◌, codes, pos, true, false, Option, Some, None, refl, ap, subst, arith}
+use Rattle.std.proofs.Common.{◌≡◌, zero, suc, List, [], ◌∷◌, codes, pos, true, false, Option, Some, None, refl, ap, subst, arith}
 use Rattle.ac_base.specs.declared.ends.EndWord.TheVariants.{Finished}
 use Rattle.ac_base.specs.declared.ends.CoreEnd.{CoreEnd}
 use Rattle.ac_base.specs.declared.entry.Entry.{Entry}
 use Rattle.ac_base.specs.declared.entry.Event.TheVariants.{Know}
 use Rattle.core_state.specs.Moves.{Move, Over}
-use Rattle.ac_commands.specs.declared.program.Function.{Function}
 use Rattle.ac_commands.specs.declared.program.Resolved.{Resolved}
 use Rattle.ac_semantics.specs.Threads.{CoreState}
-use Rattle.ac_semantics.specs.Replay.{Enters, Replays}
+use Rattle.ac_semantics.specs.Replay.{Enters}
 use Rattle.ac_semantics.proofs.Examples.{program, function}
 use Rattle.ac_interpreter.specs.Ends.{is_over}
 use Rattle.ac_interpreter.specs.Unfit.{RunEnds}

@@ -1,5 +1,4 @@
 -- What the slots that a statement takes hold, in the order in which they are given.
-use Rattle.std.specs.Prelude.{slice_get}
 use Rattle.std.proofs.Common.{◌≡◌, ℕ, zero, suc, ◌+◌, ℤ, List, [], ◌∷◌, ◌++◌, length, map, Option, Some, None, refl, sym, ap, ◌∙◌, subst, length-append, arith}
 use Rattle.ac_tree.specs.declared.expr.Expr.{Expr}
 use Rattle.ac_tree.specs.declared.stmt.Stmt.{Stmt}
@@ -8,7 +7,7 @@ use Rattle.ac_tree.specs.declared.stmt.Stmt.TheVariants as s
 use Rattle.ac_tree.specs.declared.stmt.Stmt.TheOpen.{Stmt-F}
 use Rattle.ac_names.specs.Statements.{Named, Shape, part_names, part_words, sum_words, array_len, shape_step, shape}
 use Rattle.ac_resolve.specs.Commands.{told, shapes}
-use Rattle.ac_resolve.specs.InPlace.{Use, AsInt, AsReference, AsBlock, NoReferences}
+use Rattle.ac_resolve.specs.InPlace.{Use, AsInt, AsBlock, NoReferences}
 use Rattle.ac_resolve.proofs.Shapes.{shape_is}
 
 abbrev pub ints : ℕ → List Use

@@ -1,3 +1,4 @@
 pub mod Finding
 pub mod Seen
 pub mod Examples
+pub mod Counted

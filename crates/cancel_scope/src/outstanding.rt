@@ -4,7 +4,7 @@ ghost use Rattle.std.specs.Prelude.{◌≡◌, ◌+◌, ◌≤◌, ◌<◌, [], 
 ghost use Rattle.std.specs.Prelude.{slice_get, slice_set, Some, OnOk, IfOk, option_copied};
 ghost use Rattle.cancel_scope.specs.declared.operation.Operation.{Operation};
 ghost use Rattle.std.specs.List.{list_any, remove};
-ghost use Rattle.cancel_scope.specs.Outstanding.{offered_as, as_begun, is_to_offer, is_offered, is_begun, is_to_receive};
+ghost use Rattle.cancel_scope.specs.Outstanding.{offered_as, as_begun, is_request, is_to_offer, is_offered, is_begun, is_to_receive};
 ghost use Rattle.cancel_scope.specs.Outstanding.{waiting_as, waits_on, change_first, without_first};
 
 use crate::operation::Operation;
@@ -20,16 +20,22 @@ use std::marker::Model;
 #[derive(Drop)]
 pub struct Outstanding {
     operations: VecDeque<Operation>,
+    requests: usize,
 }
 
 impl Model for Outstanding {
-    ghost use Rattle.std.specs.Prelude.{◌-◌};
+    ghost use Rattle.std.specs.Prelude.{◌≡◌, ◌-◌, length};
     ghost use Rattle.std.specs.VecDeque.{deque_len, deque_capacity};
     ghost use Rattle.cancel_scope.specs.Roomy.{Roomy};
+    ghost use Rattle.std.specs.List.{filter};
+    ghost use Rattle.cancel_scope.specs.Outstanding.{is_request};
 
     ghost Value = { Roomy };
 
     ghost view = { λ it. record { operations = it.operations.items; spare = deque_capacity it.operations - deque_len it.operations } };
+
+    // how many of them are requests is known without a look at each
+    ghost invariant = { λ it. it.requests ≡ length (filter (λ o. is_request o.asked) it.operations.items) };
 }
 
 fn any_waits(operations: &VecDeque<Operation>, link: u32) -> bool
@@ -45,6 +51,7 @@ impl Outstanding {
     {
         Outstanding {
             operations: VecDeque::new(alloc),
+            requests: 0,
         }
     }
 
@@ -84,7 +91,19 @@ impl Outstanding {
         ensures operations { self.new.operations ≡ self.old.operations ++ operation ∷ [] }
         ensures spare { self.new.spare + 1 ≡ self.old.spare }
     {
+        // There are no more requests than operations, so their number fits.
+        let _room = self.operations.capacity();
+        if operation.is_request() {
+            self.requests += 1;
+        }
         self.operations.push_back_reserved(operation);
+    }
+
+    /// Whether one is a request of a file. It takes as long for many operations as for one.
+    pub fn has_requests(&self) -> bool
+        ensures { result ≡ list_any (λ o. is_request o.asked) self.now.operations }
+    {
+        self.requests != 0
     }
 
     /// How many there are.
@@ -232,7 +251,12 @@ impl Outstanding {
         ensures operations { self.new.operations ≡ remove self.old.operations place }
     {
         match self.operations.remove(place) {
-            Some(operation) => operation,
+            Some(operation) => {
+                if operation.is_request() {
+                    self.requests -= 1;
+                }
+                operation
+            }
             None => unreachable!(),
         }
     }

@@ -351,10 +351,12 @@ module _ (m b : Machine) (o : Outside) (h : InStep m o) (point : is_at_point m.s
       owned : is_owner (o.ends (requests_of b)) ≡ true
       owned = subst (λ k. is_owner (o.ends k) ≡ true) is_own (h.ports.owner l side)
 
-      pub awaits_after : awaits_answer (operations_of b.state) l ≡ awaits_reply (o.ends l)
-      awaits_after = subst (λ k. awaits_answer (operations_of b.state) k ≡ awaits_reply (o.ends k)) (sym is_own) (awaits_alike b o roomed tracks owned)
+      pub awaits_after : (nat_eq l (requests_of b) && awaits_answer (operations_of b.state) l) ≡ awaits_reply (o.ends l)
+      awaits_after = ap (λ x. x && awaits_answer (operations_of b.state) l) (eq-eqb l (requests_of b) is_own) ∙ subst (λ k. awaits_answer (operations_of b.state) k ≡ awaits_reply (o.ends k))
+          (sym is_own) (awaits_alike b o roomed tracks owned)
 
-      pub reply_after : awaits_answer (operations_of b.state) l ≡ true → (n : ℕ) → n ≡ least_open (offers_of (o.ends l)) → IsSome (find (is_begun l n) (operations_of b.state))
+      pub reply_after : (nat_eq l (requests_of b) && awaits_answer (operations_of b.state) l) ≡ true → (n : ℕ) → n ≡ least_open (offers_of (o.ends l)) → IsSome (find (is_begun l n)
+          (operations_of b.state))
       reply_after waits n is =
           let there : awaits_reply (o.ends (requests_of b)) ≡ true = subst (λ k. awaits_reply (o.ends k) ≡ true) is_own (sym awaits_after ∙ waits) in
           let least : n ≡ least_open (offers_of (o.ends (requests_of b))) = subst (λ k. n ≡ least_open (offers_of (o.ends k))) is_own is in

@@ -13,11 +13,13 @@ pub mod Started
 pub mod Sound
 pub mod Follows
 pub mod Next
+pub mod Passing
 pub mod Entered
 pub mod Decided
 pub mod Received
 pub mod Pausing
 pub mod Points
+pub mod Unasked
 pub mod Begun
 pub mod Stopping
 pub mod Examples

@@ -12,7 +12,7 @@ use Rattle.code_meaning.specs.Machine.{Block, Caller, Flat, FlatEnd, Thread, arr
 use Rattle.stack_code.specs.Parts.{Parts}
 use Rattle.code_safety.specs.Left.{at_weight, callers_weight, owner_weight, parked_weight, ready_weight, running_weight, thread_weight, waiting_weight}
 use Rattle.core_machine.specs.Machine.{Machine}
-use Rattle.core_machine.specs.Points.{HasCome, HasTracks, awaits_answer, begun_number, carried_by, comes_first, entry_of}
+use Rattle.core_machine.specs.Points.{HasCome, HasTracks, IsInTurn, IsOfTurn, awaits_answer, begun_number, carried_by, comes_first, entry_of}
 use Rattle.core_machine.specs.Points.{has_to_offer, is_at_point, least_on, left_at, lesser, number_on, offer_carries}
 use Rattle.core_machine.specs.Points.{offer_number, operations_of, receives_from, requests_of, work_left}
 use Rattle.core_machine.proofs.Examples.{asks, first, hears, known, none_of_each, offer, running, second, sends, store, with_operations}
@@ -110,6 +110,16 @@ module _ (code : Parts) where
 
   pub an_operation_without_its_offer : HasTracks (record before { journal = [] }) → ⊥
   an_operation_without_its_offer h = let e = (h refl).each 0 0 in let no : ◌≡◌ {A = ℕ} 1 0 = e in absurd (omega (arith, no))
+
+  -- it is in its first turn; one that has ended is of any
+  pub the_turn_of_it : IsOfTurn before 1 × IsInTurn [] 1 (On running) × IsOfTurn (record before { state = Over over }) 7
+  the_turn_of_it = ((refl, (refl, refl)), (refl, (refl, refl)), tt)
+
+  pub another_turn : IsOfTurn before 2 → ⊥
+  another_turn h = let no : ◌≡◌ {A = ℕ} 1 2 = h.0 in absurd (omega (arith, no))
+
+  pub an_entry_that_is_still_to_come : IsOfTurn (record before { journal = [] }) 1 → ⊥
+  an_entry_that_is_still_to_come h = let no = h.1.0 in cc
 
   -- 8 steps are left, of 3 each, and the present move
   pub what_is_left_of_it : (left_at [] 9 (On running) ≡ 25) × (left_at [] 9 (Over over) ≡ 0) × (work_left [] (record before { state = On running }) ≡ 25)

@@ -17,6 +17,7 @@ use Rattle.stack_code.specs.Kept.{IsRanked}
 use Rattle.code_meaning.specs.Machine.{Flat, exec}
 use Rattle.code_safety.specs.Left.{left}
 use Rattle.code_safety.proofs.Waiting.{found_at}
+use Rattle.replay_laws.specs.Given.{Passes, passes_first}
 use Rattle.core_machine.specs.declared.ending.Ending.{Ending}
 use Rattle.core_machine.specs.declared.running.Running.{Running}
 use Rattle.core_machine.specs.declared.tried.Tried.{Tried}
@@ -248,6 +249,11 @@ makes_room m (Err e) journal ready settled = journal
 module _ (before after : Running) (old : Machine) (is : machine_of before ≡ old) where
   pub turn_goes : GoesOn (exec before.code.now before.bound) (state_of before) (state_of after) → GoesOn (exec old.code old.bound) old.state (state_of after)
   turn_goes h = subst (λ (n : Machine). GoesOn (exec n.code n.bound) n.state (state_of after)) is h
+
+  pub turn_passes : ((turn : ℕ) → passes_first before.code.now turn (state_of before) ≡ true
+      → (k : ℕ) × Passes before.code.now before.bound turn k (state_of before) (state_of after))
+      → (turn : ℕ) → passes_first old.code turn old.state ≡ true → (k : ℕ) × Passes old.code old.bound turn k old.state (state_of after)
+  turn_passes h = subst (λ (n : Machine). (turn : ℕ) → passes_first n.code turn n.state ≡ true → (k : ℕ) × Passes n.code n.bound turn k n.state (state_of after)) is h
 
   pub turn_same : IsSameCode before after → after.journal.entries ≡ before.journal.entries → IsSameCore old (machine_of after)
   turn_same same journal = subst (λ (n : Machine). IsSameCore n (machine_of after)) is (record { code = same.code; core = same.core; bound = same.bound; journal = journal })

@@ -1,5 +1,5 @@
 -- For which offers cores ask for outcomes, and what comes of them, by example.
-use Rattle.std.proofs.Common.{◌≡◌, refl, pos, true, false, List, [], ◌∷◌, Some, None, sym, ap, subst}
+use Rattle.std.proofs.Common.{◌≡◌, ℕ, refl, pos, true, false, List, [], ◌∷◌, Some, None, sym, ap, subst}
 use Rattle.std.specs.Prelude.{negsuc, find, slice_index_or, slice_set}
 use Rattle.ac_base.specs.declared.entry.Entry.{Entry}
 use Rattle.ac_base.specs.declared.entry.Event.TheVariants as event
@@ -18,9 +18,10 @@ use Rattle.core_state.specs.Shared.{first_shared}
 use Rattle.stack_code.specs.declared.instr.Instr.TheVariants as i
 use Rattle.stack_code.specs.Parts.{Parts}
 use Rattle.stack_code.proofs.Examples as examples
-use Rattle.code_meaning.specs.Machine.{Flat, FlatEnd, given, is_inside, marked, thread_at}
+use Rattle.code_meaning.specs.Machine.{Flat, FlatEnd, exec, given, is_inside, marked, thread_at}
 use Rattle.code_meaning.proofs.CancelExamples.{ended, of_thread, with_slot, within}
 use Rattle.code_meaning.proofs.MachineExamples.{block, item}
+use Rattle.replay_laws.specs.Given.{Passes, asks, asks_at, asks_by, asks_of, is_asking, is_on_offer, passes_by, passes_first}
 use Rattle.core_machine.specs.declared.tried.Tried.{Tried}
 use Rattle.core_machine.specs.Machine.{Machine}
 use Rattle.core_machine.specs.Tried.{HasDecided, cancelled_at, cancelled_by, cancelled_in, tried_as, tried_in, tried_of, tried_within}
@@ -70,6 +71,32 @@ pub it_asks_for_none : (tried_of code (On (core (of_thread 1 ∷ offered ∷ [])
     × (tried_within (core (offered ∷ [])) (Some (block 2)) ≡ None) × (tried_within (core (offered ∷ [])) None ≡ None)
     × (tried_of code (On (record (core (offered ∷ [])) { running = None })) ≡ None) × (tried_of code (Over (record { core = None; count = 7 })) ≡ None)
 it_asks_for_none = (refl, refl, refl, refl, refl, refl)
+
+-- ---- where an entry may come in
+
+pub whether_it_asks : (is_asking code (core (offered ∷ [])) ≡ true) × (is_asking code (core (of_thread 1 ∷ offered ∷ [])) ≡ false) × (asks code (core (offered ∷ [])) None ≡ false)
+    × (asks_by (core (offered ∷ [])) (Some i.Step) ≡ false) × (asks_at (core (offered ∷ [])) (block 0) ≡ true) × (asks_at (core (offered ∷ [])) (block 2) ≡ false)
+    × (asks_of (Some offered) ≡ true) × (asks_of None ≡ false) × (is_on_offer (Offered 3) ≡ true) × (is_on_offer Waiting ≡ false) × (is_on_offer (Started 3) ≡ false)
+whether_it_asks = (refl, refl, refl, refl, refl, refl, refl, refl, refl, refl, refl)
+
+-- no thread runs, in the turn 0
+abbrev at_point : Flat
+at_point = record (core []) { running = None }
+
+abbrev its_end : FlatEnd
+its_end = record { core = None; count = 7 }
+
+-- an entry of that turn could come in, and one of another could not; at a cancel that asks one could in any turn
+pub whether_it_is_passed : (passes_by code 0 at_point ≡ false) × (passes_by code 1 at_point ≡ true) × (passes_by code 0 (core []) ≡ true)
+    × (passes_by code 1 (core (offered ∷ [])) ≡ false) × (passes_first code 1 (On at_point) ≡ true) × (passes_first code 0 (On at_point) ≡ false)
+    × (passes_first code 0 (Over its_end) ≡ true)
+whether_it_is_passed = (refl, refl, refl, refl, refl, refl, refl)
+
+pub moves_that_pass : Passes code 9 0 0 (On at_point) (On at_point) × Passes code 9 0 1 (On (core [])) (exec code 9 (core [])) × Passes code 9 0 2 (Over its_end) (Over its_end)
+moves_that_pass = (refl, (refl, refl), refl)
+
+pub a_move_at_which_one_comes_in : Passes code 9 0 1 (On at_point) (exec code 9 at_point) → ⊥
+a_move_at_which_one_comes_in h = let no : false ≡ true = h.0 in cc
 
 -- ---- its outcome
 

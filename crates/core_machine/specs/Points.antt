@@ -122,3 +122,13 @@ left_at ranks bound (Over x) = 0
 -- a bound on what the core can still do: it falls with each instruction and each dispatch, and no entry raises it
 abbrev pub work_left : List ℕ → Machine → ℕ
 work_left ranks m = left_at ranks m.bound m.state
+
+-- ---- turns
+
+-- where it has not ended, it is in this turn, and the whole journal has come in
+abbrev pub IsInTurn : List Entry → ℕ → Move Flat FlatEnd → Type 0
+IsInTurn journal turn (On m) = (m.shared.turn ≡ turn) × ((m.shared.past ≡ journal) × (m.shared.todo ≡ []))
+IsInTurn journal turn (Over x) = Unit {0}
+
+abbrev pub IsOfTurn : Machine → ℕ → Type 0
+IsOfTurn m turn = IsInTurn m.journal turn m.state

@@ -9,6 +9,7 @@ mod cancelling;
 mod counter;
 mod ending;
 mod machine;
+mod numbered;
 mod operate;
 mod operations;
 mod payload;

@@ -4,7 +4,8 @@ use crate::answering::awaits_answer;
 use crate::beginning::{make_first, request_link, set_starts};
 use crate::counter::Counter;
 use crate::ending::{Ending, word_now};
-use crate::payload::payload_of;
+use crate::numbered::has_begun;
+use crate::payload::{carries, payload_of};
 use crate::running::Running;
 use crate::tried::Tried;
 use ac_base::{Answer, CoreEnd, Event, Journal, List, MachineEnd, Message, NoMemory, Payload};
@@ -161,7 +162,8 @@ impl<'a> CoreMachine<'a> {
 // ---- its dispatch points, where entries come in
 
 impl<'a> CoreMachine<'a> {
-    ghost use Rattle.std.specs.Prelude.{◌≡◌, ℕ, ◌<◌, ◌≤◌, List, Some, None, true, false, IsSome, MatchOption, OnOk, IfOk, find};
+    ghost use Rattle.std.specs.Prelude.{◌≡◌, ℕ, ◌<◌, ◌≤◌, List, Some, None, true, false, IsSome, MatchOption, OnOk, IfOk};
+    ghost use Rattle.std.specs.Prelude.{find, nat_eq, ◌&&◌};
     ghost use Rattle.ac_base.specs.declared.entry.Event.{Event};
     ghost use Rattle.cancel_scope.specs.Outstanding.{is_offered, is_begun};
     ghost use Rattle.core_state.specs.Moves.{GoesOn};
@@ -171,8 +173,9 @@ impl<'a> CoreMachine<'a> {
     ghost use Rattle.code_meaning.specs.Machine.{exec};
     ghost use Rattle.core_machine.specs.Machine.{ComesToEnd, IsOnItsWay, IsSameCore, HasEnded, has_ended, is_idle};
     ghost use Rattle.core_machine.specs.Points.{is_at_point, operations_of, has_to_offer, offer_carries, receives_from, work_left};
-    ghost use Rattle.core_machine.specs.Points.{KeepsOperations, HasTracks, HasCome, awaits_answer};
+    ghost use Rattle.core_machine.specs.Points.{KeepsOperations, HasTracks, HasCome, awaits_answer, requests_of};
     ghost use Rattle.core_machine.specs.Tried.{tried_of, HasDecided};
+    ghost use Rattle.replay_laws.specs.Given.{Passes, passes_first};
 
     /// The code that it runs.
     pub fn code(&self) -> &'a Code
@@ -220,7 +223,12 @@ impl<'a> CoreMachine<'a> {
         requires { has_ended self.now.state ≡ false }
         ensures { result ≡ has_to_offer (operations_of self.now.state) link }
     {
-        self.running.outstanding.to_offer(link).is_some()
+        let outstanding = &self.running.outstanding;
+        // Where there is no request, no operation need be asked.
+        if link == self.running.requests && !outstanding.has_requests() {
+            return false;
+        }
+        outstanding.to_offer(link).is_some()
     }
 
     /// What an offer of the oldest operation that is to be offered on a link carries. It takes the
@@ -238,15 +246,23 @@ impl<'a> CoreMachine<'a> {
         payload_of(self.running.alloc, &operation.asked)
     }
 
-    /// Whether of the operations that were offered on a link and have not ended that of the least number
-    /// has begun, so that the next answer may be that to it.
+    /// Whether the link is that of the core's requests, and of those that were offered there and have not
+    /// ended that of the least number has begun, so that the next answer may be that to it.
     ///
     /// Condition: the core has not ended.
     pub fn awaits_answer(&self, link: u32) -> bool
         requires { has_ended self.now.state ≡ false }
-        ensures { result ≡ awaits_answer (operations_of self.now.state) link }
+        ensures { result ≡ (nat_eq link (requests_of self.now) && awaits_answer (operations_of self.now.state) link) }
     {
-        awaits_answer(&self.running.outstanding, link)
+        let running = &self.running;
+        if link != running.requests {
+            return false;
+        }
+        // Where there is no request, no operation need be asked.
+        if !running.outstanding.has_requests() {
+            return false;
+        }
+        awaits_answer(&running.outstanding, link)
     }
 
     /// Whether an operation waits for a message from a link.
@@ -411,7 +427,8 @@ impl<'a> CoreMachine<'a> {
     }
 
     /// The running thread goes on as long as it is the same thread; where none runs, the front of
-    /// the ready list does. The ranks are there for the proof alone that the core comes to its end.
+    /// the ready list does. An entry could come in before its first move, and before no other. The
+    /// ranks are there for the proof alone that the core comes to its end.
     ///
     /// Conditions: the core has not ended, is not idle, and asks for no outcome.
     pub fn turn(&mut self, _ranks: &[u64]) -> Result<(), NoMemory>
@@ -422,8 +439,59 @@ impl<'a> CoreMachine<'a> {
         ensures goes { GoesOn (exec self.old.code self.old.bound) self.old.state self.new.state }
         ensures same { IsSameCore self.old self.new }
         ensures run { IsOnItsWay self.new }
+        ensures passes { (turn : ℕ) → passes_first self.old.code turn self.old.state ≡ true
+            → (k : ℕ) × Passes self.old.code self.old.bound turn k self.old.state self.new.state }
         ensures less { OnOk result (work_left _ranks.now self.new < work_left _ranks.now self.old) }
     {
         self.running.turn(_ranks)
+    }
+}
+
+// ---- what a journal that is given asks
+
+impl<'a> CoreMachine<'a> {
+    ghost use Rattle.std.specs.Prelude.{◌≡◌, false, find, is_some};
+    ghost use Rattle.cancel_scope.specs.Outstanding.{is_offered, is_begun};
+    ghost use Rattle.core_machine.specs.Machine.{has_ended};
+    ghost use Rattle.core_machine.specs.Points.{IsOfTurn, offer_carries, operations_of};
+
+    /// The turn of the core, where it has not ended. The whole of its journal has come in.
+    pub fn turns(&self) -> u64
+        ensures { IsOfTurn self.now result }
+    {
+        self.running.turn
+    }
+
+    /// Whether an offer of the oldest operation that is to be offered on a link carries this.
+    ///
+    /// Condition: the core has not ended.
+    pub fn would_offer(&self, link: u32, payload: &Payload) -> bool
+        requires { has_ended self.now.state ≡ false }
+        ensures { result ≡ offer_carries (operations_of self.now.state) link payload.now }
+    {
+        match self.running.outstanding.to_offer(link) {
+            None => false,
+            Some(operation) => carries(&operation.asked, payload),
+        }
+    }
+
+    /// Whether an operation stands on a link under that number.
+    ///
+    /// Condition: the core has not ended.
+    pub fn has_offered(&self, link: u32, number: u64) -> bool
+        requires { has_ended self.now.state ≡ false }
+        ensures { result ≡ is_some (find (is_offered link number) (operations_of self.now.state)) }
+    {
+        self.running.outstanding.offered(link, number).is_some()
+    }
+
+    /// Whether a request has begun on a link under that number.
+    ///
+    /// Condition: the core has not ended.
+    pub fn has_begun(&self, link: u32, number: u64) -> bool
+        requires { has_ended self.now.state ≡ false }
+        ensures { result ≡ is_some (find (is_begun link number) (operations_of self.now.state)) }
+    {
+        has_begun(&self.running.outstanding, link, number)
     }
 }

@@ -27,3 +27,29 @@ pub fn payload_of(alloc: Global, asked: &Asked) -> Result<Payload, NoMemory>
         Asked::Recv(_) => unreachable!(),
     }
 }
+
+/// Whether an offer of an operation that asks for this carries that.
+pub fn carries(asked: &Asked, payload: &Payload) -> bool
+    ensures { result ≡ carries asked.now payload.now }
+{
+    match (asked, payload) {
+        (Asked::Send(value), Payload::Int(carried)) => *value == *carried,
+        (
+            Asked::Read { file, from, into },
+            Payload::Read {
+                file: other,
+                from: at,
+                len,
+            },
+        ) => *file == *other && *from == *at && into.len == *len,
+        (
+            Asked::Write { file, from, bytes },
+            Payload::Write {
+                file: other,
+                from: at,
+                bytes: carried,
+            },
+        ) => *file == *other && *from == *at && bytes.as_slice() == carried.as_slice(),
+        _ => false,
+    }
+}

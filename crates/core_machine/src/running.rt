@@ -488,10 +488,11 @@ impl Running<'_> {
 // ---- one instruction after another
 
 impl Running<'_> {
-    ghost use Rattle.std.specs.Prelude.{◌≡◌, ◌≢◌, None, Some, IsSome, true, false, ◌<◌, ◌^◌, OnOk, OnErr, IfOk, slice_get};
+    ghost use Rattle.std.specs.Prelude.{◌≡◌, ◌≢◌, ℕ, None, Some, IsSome, true, false, ◌<◌, ◌^◌, OnOk, OnErr, IfOk, slice_get};
     ghost use Rattle.core_state.specs.Moves.{GoesOn};
     ghost use Rattle.stack_code.specs.Kept.{IsRanked};
     ghost use Rattle.code_meaning.specs.Machine.{exec};
+    ghost use Rattle.replay_laws.specs.Given.{Passes, passes_first};
     ghost use Rattle.core_machine.specs.Machine.{is_resting, is_idle, has_ended};
     ghost use Rattle.core_machine.specs.Points.{is_at_point};
     ghost use Rattle.core_machine.specs.State.{flat_of, state_of, IsSound};
@@ -655,6 +656,7 @@ impl Running<'_> {
         requires settled { self.old.threads.pending ≡ false }
         requires asks { tried_of self.old.code.now (state_of self.old) ≡ None }
         ensures goes { GoesOn (exec self.old.code.now self.old.bound) (state_of self.old) (state_of self.new) }
+        ensures passes { (turn : ℕ) → (k : ℕ) × Passes self.old.code.now self.old.bound turn k (state_of self.old) (state_of self.new) }
         ensures keeps { Keeps self.old self.new }
         ensures sound { IsSound self.new }
         ensures less { OnOk result (left_of _ranks.now self.new < left_of _ranks.now self.old) }
@@ -691,6 +693,8 @@ impl Running<'_> {
         requires ranked { IsRanked self.old.code.now _ranks.now }
         requires settled { self.old.threads.pending ≡ false }
         ensures goes { GoesOn (exec self.old.code.now self.old.bound) (state_of self.old) (state_of self.new) }
+        ensures passes { (turn : ℕ) → passes_first self.old.code.now turn (state_of self.old) ≡ true
+            → (k : ℕ) × Passes self.old.code.now self.old.bound turn k (state_of self.old) (state_of self.new) }
         ensures keeps { Keeps self.old self.new }
         ensures sound { IsSound self.new }
         ensures less { left_of _ranks.now self.new < left_of _ranks.now self.old }
@@ -708,6 +712,8 @@ impl Running<'_> {
         requires ranked { IsRanked self.old.code.now _ranks.now }
         requires asks { tried_of self.old.code.now (state_of self.old) ≡ None }
         ensures goes { GoesOn (exec self.old.code.now self.old.bound) (state_of self.old) (state_of self.new) }
+        ensures passes { (turn : ℕ) → passes_first self.old.code.now turn (state_of self.old) ≡ true
+            → (k : ℕ) × Passes self.old.code.now self.old.bound turn k (state_of self.old) (state_of self.new) }
         ensures same { IsSameCode self.old self.new }
         ensures journal { self.new.journal.entries ≡ self.old.journal.entries }
         ensures sound { IsSound self.new }

@@ -10,6 +10,7 @@ pub mod Idling
 pub mod NamedDeeds
 pub mod NamedRuns
 pub mod Naming
+pub mod Ordered
 pub mod Outcomes
 pub mod OutcomesExamples
 pub mod Parties

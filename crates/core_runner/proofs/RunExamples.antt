@@ -1,9 +1,11 @@
 -- What the laws say of the two cores of the other examples, of which one has sent 5 and the other has received it, and which run they make.
 use Rattle.std.proofs.Common.{◌≡◌, ℕ, zero, suc, ◌<◌, ◌≤◌, List, [], ◌∷◌, Some, true, false, refl, sym, subst, map, inl, arith}
-use Rattle.std.specs.Prelude.{slice_get}
+use Rattle.std.specs.Prelude.{pos, slice_get}
 use Rattle.std.proofs.lemmas.List.Elements.{All-from_recursion}
 use Rattle.ac_base.specs.Log.{Log}
 use Rattle.ac_base.specs.declared.entry.Entry.{Entry}
+use Rattle.ac_base.specs.declared.entry.Event.TheVariants.{Offer, Know}
+use Rattle.ac_base.specs.declared.entry.Payload.TheVariants.{Int}
 use Rattle.ac_base.specs.declared.entry.Stamped.{Stamped}
 use Rattle.ac_base.specs.declared.ends.CoreEnd.{CoreEnd}
 use Rattle.ac_base.specs.declared.ends.EndWord.TheVariants as word
@@ -21,10 +23,10 @@ use Rattle.ac_history.specs.Quiet.{after_all_of, CoreIsQuiet, IsQuiet}
 use Rattle.core_runner.specs.declared.ended.Ended.{Ended}
 use Rattle.core_runner.specs.Network.{owner_of, peer_of}
 use Rattle.core_runner.specs.Cores.{CoreView, IsAtRest, IsDone, HasFullClock}
-use Rattle.core_runner.specs.Run.{IsCoreRun, AreCoreRuns, IsRunOf, EndsQuiet, history_of, nothing_yet}
+use Rattle.core_runner.specs.Run.{IsCoreRun, AreCoreRuns, AreInOrder, IsRunOf, EndsQuiet, history_of, nothing_yet}
 use Rattle.core_runner.specs.Laws.{CoresAreLegal, NoClockIsFull, CoresAreQuiet, CoresAreServed, IsRunOfCores, CoresMakeARun}
 use Rattle.core_runner.specs.Workers.{WorkerHasNoStamp}
-use Rattle.core_runner.proofs.CoreExamples.{crossing, links_with, crossed, sender, receiver, stop, both_cores, it_agrees_too}
+use Rattle.core_runner.proofs.CoreExamples.{crossing, links_with, crossed, entry, sender, receiver, stop, both_cores, it_agrees_too}
 use Rattle.core_runner.proofs.CoreExamples.{nothing_is_asked, it_can_go_no_further, by_place, it_has_ended, so_has_the_receiver, it_is_done, not_with_an_instruction_more}
 
 -- ---- the laws
@@ -71,6 +73,13 @@ their_run = record {
   journals = log sender.journal ∷ log receiver.journal ∷ log [] ∷ [];
   cores = sender.end ∷ receiver.end ∷ [];
 }
+
+-- 1 before 3
+pub they_stand_in_order : AreInOrder their_run.journals
+they_stand_in_order = (((omega arith, tt), (tt, tt)), ((tt, tt), (tt, tt)))
+
+pub not_the_other_way_round : AreInOrder (log (entry 3 (Know 0 0) ∷ entry 1 (Offer 0 0 (Int (pos 5))) ∷ []) ∷ []) → ⊥
+not_the_other_way_round h = let le = h.0.0.0 in omega (arith, le)
 
 pub it_is_made : IsRunOfCores 9 [] its_cores [] their_run
 it_is_made = record { steps = refl; start = refl; journals = refl; ends = refl }

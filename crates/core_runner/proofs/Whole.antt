@@ -35,6 +35,7 @@ use Rattle.core_runner.specs.Run.{IsCoreRun, AreCoreRuns, IsRunOf}
 use Rattle.core_runner.specs.Laws.{IsRunOfCores}
 use Rattle.core_runner.proofs.Together.{how_many, journal_at, legal}
 use Rattle.core_runner.proofs.Clocks.{none_full, worker_not_full}
+use Rattle.core_runner.proofs.Ordered.{in_order}
 use Rattle.core_runner.proofs.Rested.{quiet}
 
 -- ---- a bound on the stamps
@@ -146,6 +147,7 @@ module _ (program : Resolved) (code : Parts) (bound : ℕ) (files : List (List �
     files = made.start;
     every_core = ap length made.ends ∙ length-map cores (λ (c : CoreView). c.end) ∙ all.count ∙ as_many;
     cores = subst (AreCoreRuns program bound 0 ended.journals) (sym made.ends) (all_runs program bound entries 0 cores ended.journals made.journals one_core);
+    in_order = in_order code bound cores entries links all work ended.journals made.journals;
     legal = subst (λ (x : Parts). IsLegal (start x.capacities (length program.cores)) (merged (map entries_of ended.journals))) is_code
         (subst (λ n. IsLegal (start code.capacities n) (merged (map entries_of ended.journals))) as_many
         (subst (λ h. IsLegal (start code.capacities many) (merged h)) (sym made.journals) its_legal));

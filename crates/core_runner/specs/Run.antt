@@ -1,12 +1,15 @@
 -- The run of a program, which stands here without its names.
 use Rattle.std.specs.Prelude.{◌≡◌, ℕ, suc, List, [], ◌∷◌, length, map, Some}
+use Rattle.std.specs.List.{AllByRecursion}
 use Rattle.ac_base.specs.Log.{Log}
+use Rattle.ac_base.specs.declared.entry.Entry.{Entry}
 use Rattle.ac_base.specs.declared.entry.Stamped.{Stamped}
 use Rattle.ac_base.specs.declared.ends.MachineEnd.{MachineEnd}
 use Rattle.ac_commands.specs.declared.program.Resolved.{Resolved}
 use Rattle.ac_semantics.specs.Replay.{Replays}
 use Rattle.code_meaning.specs.Machine.{Runs}
 use Rattle.ac_translation.specs.Translation.{code_of}
+use Rattle.ac_links.specs.Order.{Rises}
 use Rattle.ac_history.specs.Merged.{merged, entries_of}
 use Rattle.ac_history.specs.History.{Past, start, IsLegal}
 use Rattle.ac_history.specs.Quiet.{after_all_of, IsQuiet}
@@ -24,6 +27,10 @@ AreCoreRuns program bound core journals [] = length journals ≡ 1
 AreCoreRuns program bound core [] (end ∷ ends) = ⊥
 AreCoreRuns program bound core (journal ∷ journals) (end ∷ ends) =
     IsCoreRun program core bound journal end × AreCoreRuns program bound (suc core) journals ends
+
+-- each journal stands in the order of its stamps
+abbrev pub AreInOrder : List Log → Type 0
+AreInOrder journals = AllByRecursion (λ (journal : Log). Rises (λ (e : Entry). e.stamp) journal.entries) journals
 
 -- the history of a run: the journals, merged by the stamps of their entries (Lamport 1978)
 abbrev pub history_of : List Log → List Stamped
@@ -44,5 +51,6 @@ pub record IsRunOf (program : Resolved) (bound : ℕ) (start : List (List ℕ)) 
   pub files : ended.start ≡ start
   pub every_core : length ended.cores ≡ length program.cores
   pub cores : AreCoreRuns program bound 0 ended.journals ended.cores
+  pub in_order : AreInOrder ended.journals
   pub legal : IsLegal (nothing_yet program) (history_of ended.journals)
   pub quiet : EndsQuiet program (history_of ended.journals) ended.cores

@@ -1,7 +1,6 @@
 -- Where an answer can be stored, by example.
 use Rattle.std.proofs.Common.{◌≡◌, [], ◌∷◌, Some, None, true, false, refl}
 use Rattle.std.specs.Prelude.{pos}
-use Rattle.work_item.specs.declared.ids.FrameId.{FrameId}
 use Rattle.work_item.specs.declared.cell.Place.{Place}
 use Rattle.work_item.specs.Store.{Store, no_int}
 use Rattle.cancel_scope.specs.declared.operation.Asked.TheVariants.{Send, Read, Write}

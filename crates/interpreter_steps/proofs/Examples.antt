@@ -1,5 +1,5 @@
 -- What the interpreter keeps of the work of threads and answers to a step, as the meaning has it.
-use Rattle.std.proofs.Common.{◌≡◌, ℕ, List, [], ◌∷◌, refl}
+use Rattle.std.proofs.Common.{◌≡◌, List, [], ◌∷◌, refl}
 use Rattle.ac_base.specs.declared.ends.EndWord.TheVariants.{Finished}
 use Rattle.work_item.specs.declared.ids.BlockId.{BlockId}
 use Rattle.work_item.specs.declared.ids.FrameId.{FrameId}

@@ -4,6 +4,8 @@
 #[cfg(test)]
 mod disk_calls;
 #[cfg(test)]
+mod load_calls;
+#[cfg(test)]
 mod main_calls;
 #[cfg(test)]
 mod reference;

@@ -22,6 +22,10 @@ mod outside;
 #[cfg(test)]
 mod ports;
 #[cfg(test)]
+mod server_text;
+#[cfg(test)]
 mod threads;
+#[cfg(test)]
+mod traces;
 #[cfg(test)]
 mod worker;

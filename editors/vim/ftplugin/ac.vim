@@ -9,6 +9,7 @@ setlocal comments=s1:/*,mb:*,ex:*/,://
 setlocal commentstring=//\ %s
 setlocal makeprg=ac-where\ --columns=bytes\ check\ --\ %:S
 setlocal errorformat=%f:%l:%c:\ %m
-setlocal errorformat+=%+G%.%#:\ library\ fault:\ %.%#,%+Gac-where:\ %.%#,%+Glimit:\ source,%+Gusage:\ %.%#,%-G%.%#
+setlocal errorformat+=%+G%.%#:\ library\ fault:\ %.%#,%+Gac-where:\ %.%#,%+Gusage:\ %.%#
+setlocal errorformat+=%+Glimit:\ source,%+Glimit:\ steps,%+Glimit:\ file\ %.%#,%+Gdisk\ fault,%-G%.%#
 
 let b:undo_ftplugin = 'setlocal iskeyword< comments< commentstring< makeprg< errorformat<'

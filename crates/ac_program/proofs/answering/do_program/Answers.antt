@@ -7,7 +7,7 @@ use Rattle.ac_program.specs.declared.outcome.Outcome.{Outcome}
 use Rattle.ac_program.specs.inner.Parts.{GivesDone}
 use Rattle.ac_program.proofs.Endings.{whole_of, part_of}
 use Rattle.ac_program.proofs.Left.{long_left, made_faults, tells_well, tells_fault}
-use Rattle.ac_program.proofs.Statuses.{made_status, not_above, not_one}
+use Rattle.ac_program.proofs.Statuses.{made_status, not_made, not_made_one}
 use Rattle.ac_program.proofs.answering.do_program.Goals as goal
 
 pub returns-in-Err-NoMemory-clause-left : goal.returns-in-Err-NoMemory-clause-left
@@ -98,7 +98,7 @@ give-requires g c =
     let disk = g.D.Disk.told c.args.disk.now in
     let later = g.D.Disk.told c.make.new.disk in
     λ e.
-    not_above c.in-Ok.done.status.number 8 (made_status c.args.task c.args.checked.now disk later c.in-Ok.done.status.number c.in-Ok.done refl c.in-Ok.ensures) e (omega arith)
+    not_made c.in-Ok.done.status.number 8 (made_status c.args.task c.args.checked.now disk later c.in-Ok.done.status.number c.in-Ok.done refl c.in-Ok.ensures) e (omega arith) (omega arith)
 
 pub returns-in-Ok-clause-whole : goal.returns-in-Ok-clause-whole
 returns-in-Ok-clause-whole g c =
@@ -120,7 +120,8 @@ returns-in-Ok-clause-left g c =
     let later = g.D.Disk.told c.make.new.disk in
     λ is.
     let same = c.give.ensures.status (λ e. omega (arith, is, e)) in
-    absurd (not_above c.in-Ok.done.status.number 11 (made_status c.args.task c.args.checked.now disk later c.in-Ok.done.status.number c.in-Ok.done refl c.in-Ok.ensures) (sym same ∙ is) (omega arith))
+    absurd (not_made c.in-Ok.done.status.number 11 (made_status c.args.task c.args.checked.now disk later c.in-Ok.done.status.number c.in-Ok.done refl c.in-Ok.ensures) (sym same ∙ is) (omega arith)
+    (omega arith))
 
 pub returns-in-Ok-clause-memory : goal.returns-in-Ok-clause-memory
 returns-in-Ok-clause-memory g c =
@@ -128,7 +129,8 @@ returns-in-Ok-clause-memory g c =
     let later = g.D.Disk.told c.make.new.disk in
     λ is.
     let same = c.give.ensures.status (λ e. omega (arith, is, e)) in
-    absurd (not_above c.in-Ok.done.status.number 11 (made_status c.args.task c.args.checked.now disk later c.in-Ok.done.status.number c.in-Ok.done refl c.in-Ok.ensures) (sym same ∙ is) (omega arith))
+    absurd (not_made c.in-Ok.done.status.number 11 (made_status c.args.task c.args.checked.now disk later c.in-Ok.done.status.number c.in-Ok.done refl c.in-Ok.ensures) (sym same ∙ is) (omega arith)
+    (omega arith))
 
 pub returns-in-Ok-clause-no_run : goal.returns-in-Ok-clause-no_run
 returns-in-Ok-clause-no_run g c =
@@ -136,21 +138,22 @@ returns-in-Ok-clause-no_run g c =
     let later = g.D.Disk.told c.make.new.disk in
     λ is.
     let same = c.give.ensures.status (λ e. omega (arith, is, e)) in
-    absurd (not_above c.in-Ok.done.status.number 11 (made_status c.args.task c.args.checked.now disk later c.in-Ok.done.status.number c.in-Ok.done refl c.in-Ok.ensures) (sym same ∙ is) (omega arith))
+    absurd (not_made c.in-Ok.done.status.number 11 (made_status c.args.task c.args.checked.now disk later c.in-Ok.done.status.number c.in-Ok.done refl c.in-Ok.ensures) (sym same ∙ is) (omega arith)
+    (omega arith))
 
 pub returns-in-Ok-clause-disk : goal.returns-in-Ok-clause-disk
 returns-in-Ok-clause-disk g c =
     let disk = g.D.Disk.told c.args.disk.now in
     let later = g.D.Disk.told c.make.new.disk in
-    let of_cores = made_status c.args.task c.args.checked.now disk later c.in-Ok.done.status.number c.in-Ok.done refl c.in-Ok.ensures in
-    tells_well disk later _ _ (λ is. not_above c.in-Ok.done.status.number 9 of_cores (sym (c.give.ensures.status (λ e. omega (arith, is, e))) ∙ is) (omega arith))
+    let of_made = made_status c.args.task c.args.checked.now disk later c.in-Ok.done.status.number c.in-Ok.done refl c.in-Ok.ensures in
+    tells_well disk later _ _ (λ is. not_made c.in-Ok.done.status.number 9 of_made (sym (c.give.ensures.status (λ e. omega (arith, is, e))) ∙ is) (omega arith) (omega arith))
     (λ _ none. made_faults c.args.task c.args.checked.now disk later c.in-Ok.done c.in-Ok.ensures (sym c.give.ensures.run ∙ none))
 
 pub returns-in-Ok-clause-other : goal.returns-in-Ok-clause-other
 returns-in-Ok-clause-other g c =
     let disk = g.D.Disk.told c.args.disk.now in
     let later = g.D.Disk.told c.make.new.disk in
-    let of_cores = made_status c.args.task c.args.checked.now disk later c.in-Ok.done.status.number c.in-Ok.done refl c.in-Ok.ensures in (
-      (λ is. not_one c.in-Ok.done.status.number of_cores (sym (c.give.ensures.status (λ e. omega (arith, is, e))) ∙ is)),
-      (λ is. not_above c.in-Ok.done.status.number 7 of_cores (sym (c.give.ensures.status (λ e. omega (arith, is, e))) ∙ is) (omega arith)),
+    let of_made = made_status c.args.task c.args.checked.now disk later c.in-Ok.done.status.number c.in-Ok.done refl c.in-Ok.ensures in (
+      (λ is. not_made_one c.in-Ok.done.status.number of_made (sym (c.give.ensures.status (λ e. omega (arith, is, e))) ∙ is)),
+      (λ is. not_made c.in-Ok.done.status.number 7 of_made (sym (c.give.ensures.status (λ e. omega (arith, is, e))) ∙ is) (omega arith) (omega arith)),
     )

@@ -1,11 +1,11 @@
-use Rattle.std.proofs.Common.{ℕ, ◌*◌, ◌≤◌, refl, ap, sym, ◌∙◌, length, subst}
-use Rattle.ac_base.specs.Report.{report_of}
+use Rattle.std.proofs.Common.{ℕ, ◌*◌, ◌≤◌, refl, ap, sym, ◌∙◌, length, subst, arith}
 use Rattle.std.proofs.lemmas.Result.{err_from_is_err_and}
 use Rattle.ac_names.specs.Numbered.{core_names, file_paths}
 use Rattle.ac_resolve.specs.Resolution.{resolved}
 use Rattle.core_runner.specs.Run.{IsRunOf}
 use Rattle.core_runner.proofs.NamedRuns.{runs_name_files}
 use Rattle.ac_program.specs.Making.{begun}
+use Rattle.ac_program.proofs.Tellings.{tellable, tells_of, traced_where_told}
 use Rattle.ac_program.proofs.NamedFiles.{names_its_files}
 use Rattle.ac_program.proofs.Names.{names_are, as_many, entries_are}
 use Rattle.ac_program.proofs.Filing.{starts, stops, halts, holds_start}
@@ -29,31 +29,45 @@ pub run-requires-clause-held : goal.run-requires-clause-held
 run-requires-clause-held g c = holds_start (g.D.Disk.told c.args.disk.now).held (g.D.Disk.told c.start_files.new.disk).held (g.D.Disk.told c.args.disk.now).bound
     c.as_slice.result.now c.in_ok-start.start c.requires.none (g.met.D.Disk.tells_bound c.args.disk.now) c.in_ok-start.ensures.silent c.in_ok-start.ensures.told
 
-pub report-requires : goal.report-requires
-report-requires g c =
+pub tell-requires-clause-names : goal.tell-requires-clause-names
+tell-requires-clause-names g c =
     let made = c.in_ok-code.ensures in
     let program = resolved c.args.checked.now in
     let run = subst (λ (b : ℕ). IsRunOf program b c.in_ok-start.start c.in_ok-ended.ended) c.from.ensures (c.in_ok-ended.ensures.run program made.code made.same) in
     ap length c.names.ensures ∙ as_many c.args.checked.now c.in_ok-code.code c.args.steps c.in_ok-start.start c.in_ok-ended.ended made.code run
+
+pub tell-requires-clause-tellable : goal.tell-requires-clause-tellable
+tell-requires-clause-tellable g c =
+    let made = c.in_ok-code.ensures in
+    let program = resolved c.args.checked.now in
+    let run = subst (λ (b : ℕ). IsRunOf program b c.in_ok-start.start c.in_ok-ended.ended) c.from.ensures (c.in_ok-ended.ensures.run program made.code made.same) in
+    let paths = ap length (c.as_slice.ensures ∙ c.in_ok-paths.ensures) in
+    let files = c.requires.files in
+    tellable c.args.checked.now c.in_ok-code.code c.args.steps c.in_ok-start.start c.in_ok-ended.ended made.code c.instrs.ensures.valid run c.requires.bounded.0 c.requires.bounded.1 c.requires.few
+    (let count = c.in_ok-start.ensures.count in omega (arith, paths, files, count))
 
 pub returns : goal.returns
 returns g c =
     let made = c.in_ok-code.ensures in
     let program = resolved c.args.checked.now in
     let run = subst (λ (b : ℕ). IsRunOf program b c.in_ok-start.start c.in_ok-ended.ended) c.from.ensures (c.in_ok-ended.ensures.run program made.code made.same) in
+    let files = starts _ _ _ _ c.in_ok-start.start (c.as_slice.ensures ∙ c.in_ok-paths.ensures)
+    c.in_ok-start.ensures.cause c.in_ok-start.ensures.bound c.in_ok-start.ensures.count c.in_ok-start.ensures.short c.in_ok-start.ensures.told in
+    let left = c.in_ok-ended.ensures.disk program made.code made.same in
     record {
       start = c.in_ok-start.start;
       between = g.D.Disk.told c.start_files.new.disk;
-      files = starts _ _ _ _ c.in_ok-start.start (c.as_slice.ensures ∙ c.in_ok-paths.ensures)
-          c.in_ok-start.ensures.cause c.in_ok-start.ensures.bound c.in_ok-start.ensures.count c.in_ok-start.ensures.short c.in_ok-start.ensures.told;
+      files = files;
       ended = c.in_ok-ended.ended;
       kept = refl;
       is_run = run;
-      left = c.in_ok-ended.ensures.disk program made.code made.same;
+      left = left;
       named = runs_name_files program c.args.steps c.in_ok-start.start c.in_ok-ended.ended (length (file_paths c.args.checked.now.items)) run
           (names_its_files c.args.checked.now c.tree.ensures.clean c.tree.ensures.shaped);
-      text = c.in_ok-text.ensures ∙ ap (λ names. report_of names c.in_ok-ended.ended.cores) (c.names.ensures ∙ names_are c.args.checked.now c.in_ok-code.code made.code);
-      status = c.status-status.ensures;
+      tells = tells_of c.args.telling c.args.checked.now (c.names.result.now) c.in_ok-ended.ended c.in_ok-told.told
+          (c.names.ensures ∙ names_are c.args.checked.now c.in_ok-code.code made.code) c.in_ok-told.ensures;
+      is_traced = traced_where_told c.args.checked.now c.in_ok-code.code c.args.steps c.in_ok-start.start c.in_ok-ended.ended made.code c.instrs.ensures.valid _ c.ranks.ensures made.same run
+          (g.D.Disk.told c.args.disk.now) _ (g.D.Disk.told c.run.new.disk) files left;
     }
 
 pub returns-in_err-ended : goal.returns-in_err-ended
@@ -64,9 +78,9 @@ returns-in_err-ended g c =
     (c.as_slice.ensures ∙ c.in_ok-paths.ensures) c.in_ok-start.ensures.cause c.in_ok-start.ensures.bound c.in_ok-start.ensures.count c.in_ok-start.ensures.short c.in_ok-start.ensures.told)
     (record { bound = c.run.ensures.bound; is_ready = c.run.ensures.ready }))
 
-pub returns-in_err-text : goal.returns-in_err-text
-returns-in_err-text g c =
-    let p = err_from_is_err_and c.from_residual-in_err-text.result c.from_residual-in_err-text.ensures.1 in
+pub returns-in_err-told : goal.returns-in_err-told
+returns-in_err-told g c =
+    let p = err_from_is_err_and c.from_residual-in_err-told.result c.from_residual-in_err-told.ensures.1 in
     rw (p.1, p.2) (begun c.in_ok-start.start (g.D.Disk.told c.start_files.new.disk)
     (starts (g.D.Disk.told c.args.disk.now) (g.D.Disk.told c.start_files.new.disk) _ (file_paths c.args.checked.now.items) c.in_ok-start.start
     (c.as_slice.ensures ∙ c.in_ok-paths.ensures) c.in_ok-start.ensures.cause c.in_ok-start.ensures.bound c.in_ok-start.ensures.count c.in_ok-start.ensures.short c.in_ok-start.ensures.told)
@@ -76,6 +90,6 @@ pub returns-in_err-start : goal.returns-in_err-start
 returns-in_err-start g c =
     let p = err_from_is_err_and c.from_residual-in_err-start.result c.from_residual-in_err-start.ensures.1 in
     let fault = c.in_err-start.field-0.0 in
-    rw (p.1, p.2) (halts c.args.steps c.args.checked.now (g.D.Disk.told c.args.disk.now) (g.D.Disk.told c.start_files.new.disk) fault
+    rw (p.1, p.2) (halts c.args.steps c.args.telling c.args.checked.now (g.D.Disk.told c.args.disk.now) (g.D.Disk.told c.start_files.new.disk) fault
     (stops (g.D.Disk.told c.args.disk.now) (g.D.Disk.told c.start_files.new.disk) _ (file_paths c.args.checked.now.items) fault
     (c.as_slice.ensures ∙ c.in_ok-paths.ensures) c.in_err-start.ensures.some c.in_err-start.ensures.below c.in_err-start.ensures.cause c.in_err-start.ensures.told))

@@ -1,6 +1,6 @@
 use Rattle.std.proofs.Common.{sym, subst}
 use Rattle.std.proofs.lemmas.Result.{err_from_is_err_and}
-use Rattle.ac_program.specs.declared.words.Task.TheVariants as t
+use Rattle.ac_words.specs.declared.task.Task.TheVariants as t
 use Rattle.ac_program.specs.Source.{IsAccepted}
 use Rattle.ac_program.proofs.Stopping.{check_stops}
 use Rattle.ac_program.proofs.front.accept.Goals as goal

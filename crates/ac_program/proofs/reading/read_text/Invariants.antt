@@ -1,4 +1,4 @@
-use Rattle.std.proofs.Common.{◌≡◌, ◌-◌, ◌≤◌, IsTrue, vec_len}
+use Rattle.std.proofs.Common.{◌≡◌, ◌+◌, ◌-◌, ◌≤◌, IsTrue, vec_len}
 use Rattle.std.specs.Io.KnownBytes.{Consumes}
 use Rattle.ac_outside.specs.Told.{CountsOne, AddsName}
 use Rattle.ac_program.proofs.reading.read_text.Given as goal
@@ -11,8 +11,8 @@ invariant-reading g l = record {
   named : AddsName (g.L.Library.told l.fn.library).names (g.L.Library.told l.library).names l.name;
   well : (g.L.Library.told l.library).faults ≡ (g.L.Library.told l.fn.library).faults;
   consumed : Consumes ((g.L.Library.told l.fn.library).text_at l.name) (g.L.Library.told l.library).left l.text.items;
-  within : vec_len l.text ≤ 1048577;
+  within : vec_len l.text ≤ l.limit + 1;
 }
 
 abbrev pub decreases-reading : goal.decreases-reading
-decreases-reading g l = 1048577 - vec_len l.text
+decreases-reading g l = (l.limit + 1) - vec_len l.text

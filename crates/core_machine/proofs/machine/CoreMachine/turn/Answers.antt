@@ -1,4 +1,4 @@
-use Rattle.core_machine.proofs.Points.{asks_none, busy_by, goes_by, going_on, not_resting, turn_goes, turn_less, turn_ranked, turn_same}
+use Rattle.core_machine.proofs.Points.{asks_none, busy_by, goes_by, going_on, not_resting, turn_goes, turn_less, turn_passes, turn_ranked, turn_same}
 use Rattle.core_machine.proofs.machine.CoreMachine.turn.Goals as goal
 
 pub turn-requires-clause-running : goal.turn-requires-clause-running
@@ -17,6 +17,9 @@ turn-requires-clause-ranked c = turn_ranked c.self.inside.running c.args.self.no
 
 pub returns-clause-goes : goal.returns-clause-goes
 returns-clause-goes c = turn_goes c.self.inside.running c.turn.new.self c.args.self.now c.self.view_is c.turn.ensures.goes
+
+pub returns-clause-passes : goal.returns-clause-passes
+returns-clause-passes c = turn_passes c.self.inside.running c.turn.new.self c.args.self.now c.self.view_is c.turn.ensures.passes
 
 pub returns-clause-same : goal.returns-clause-same
 returns-clause-same c = turn_same c.self.inside.running c.turn.new.self c.args.self.now c.self.view_is c.turn.ensures.same c.turn.ensures.journal

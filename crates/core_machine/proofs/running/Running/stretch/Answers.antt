@@ -3,6 +3,7 @@ use Rattle.core_scheduler.specs.Schedule.{Schedule}
 use Rattle.core_machine.specs.declared.went.Follows.TheVariants.{Same, Away, Asks, Refused}
 use Rattle.core_machine.proofs.Sound.{keeps_on, code_of, goes_on}
 use Rattle.core_machine.proofs.Next.{went_goes, went_less}
+use Rattle.core_machine.proofs.Passing.{went_passes}
 use Rattle.core_machine.proofs.running.Running.stretch.Goals as goal
 
 pub steps-preserved : goal.steps-preserved
@@ -14,6 +15,8 @@ steps-preserved c =
     record {
       goes = goes_on c.args.self.now c.steps.self c.one.new.self (code_of c.args.self.now c.steps.self c.steps.invariant.keeps) c.steps.invariant.running
           c.steps.invariant.goes (c.one.ensures.done asks refused);
+      passes = λ turn. went_passes c.args.self.now c.steps.self c.one.new.self c.one.result (code_of c.args.self.now c.steps.self c.steps.invariant.keeps) c.one.ensures.stays c.one.ensures.refused
+          c.one.ensures.done c.steps.invariant.running c.steps.invariant.runs turn (c.steps.invariant.passes turn);
       keeps = keeps_on c.args.self.now c.steps.self c.one.new.self c.steps.invariant.keeps c.one.ensures.keeps;
       sound = c.one.ensures.sound;
       running = same.ended ∙ c.steps.invariant.running;
@@ -34,6 +37,8 @@ returns-in-Away c =
     let given : c.one.result ≢ Refused = λ e. let no : Away ≡ Refused = sym c.in-Away.is ∙ e in cc in
     record {
       goes = went_goes a b c.one.new.self c.one.result same c.one.ensures.keeps c.one.ensures.stays c.steps.invariant.running c.steps.invariant.goes c.one.ensures.done c.one.ensures.refused;
+      passes = λ turn. went_passes a b c.one.new.self c.one.result same c.one.ensures.stays c.one.ensures.refused c.one.ensures.done c.steps.invariant.running c.steps.invariant.runs turn
+          (c.steps.invariant.passes turn);
       keeps = keeps_on a b c.one.new.self c.steps.invariant.keeps c.one.ensures.keeps;
       sound = c.one.ensures.sound;
       less = went_less a b c.one.new.self c.one.result same c.one.ensures.keeps c.one.ensures.stays c.args._ranks.now given c.one.ensures.less c.one.ensures.asks
@@ -48,6 +53,8 @@ returns-in-Asks c =
     let given : c.one.result ≢ Refused = λ e. let no : Asks ≡ Refused = sym c.in-Asks.is ∙ e in cc in
     record {
       goes = went_goes a b c.one.new.self c.one.result same c.one.ensures.keeps c.one.ensures.stays c.steps.invariant.running c.steps.invariant.goes c.one.ensures.done c.one.ensures.refused;
+      passes = λ turn. went_passes a b c.one.new.self c.one.result same c.one.ensures.stays c.one.ensures.refused c.one.ensures.done c.steps.invariant.running c.steps.invariant.runs turn
+          (c.steps.invariant.passes turn);
       keeps = keeps_on a b c.one.new.self c.steps.invariant.keeps c.one.ensures.keeps;
       sound = c.one.ensures.sound;
       less = went_less a b c.one.new.self c.one.result same c.one.ensures.keeps c.one.ensures.stays c.args._ranks.now given c.one.ensures.less c.one.ensures.asks
@@ -60,6 +67,13 @@ returns-in-Refused-clause-goes c =
     let b = c.steps.self in
     went_goes a b c.one.new.self c.one.result (code_of a b c.steps.invariant.keeps) c.one.ensures.keeps c.one.ensures.stays c.steps.invariant.running c.steps.invariant.goes c.one.ensures.done
     c.one.ensures.refused
+
+pub returns-in-Refused-clause-passes : goal.returns-in-Refused-clause-passes
+returns-in-Refused-clause-passes c =
+    let a = c.args.self.now in
+    let b = c.steps.self in
+    λ turn. went_passes a b c.one.new.self c.one.result (code_of a b c.steps.invariant.keeps) c.one.ensures.stays c.one.ensures.refused c.one.ensures.done
+    c.steps.invariant.running c.steps.invariant.runs turn (c.steps.invariant.passes turn)
 
 pub returns-in-Refused-clause-keeps : goal.returns-in-Refused-clause-keeps
 returns-in-Refused-clause-keeps c = keeps_on c.args.self.now c.steps.self c.one.new.self c.steps.invariant.keeps c.one.ensures.keeps

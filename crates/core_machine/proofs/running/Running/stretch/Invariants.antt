@@ -1,4 +1,4 @@
-use Rattle.std.proofs.Common.{◌≡◌, ◌≤◌, ◌<◌, ◌^◌, None, Some, IsSome, false, slice_get}
+use Rattle.std.proofs.Common.{◌≡◌, ℕ, ◌≤◌, ◌<◌, ◌^◌, None, Some, IsSome, false, slice_get}
 use Rattle.core_state.specs.Moves.{GoesOn}
 use Rattle.code_meaning.specs.Machine.{exec}
 use Rattle.core_machine.specs.State.{flat_of, state_of, IsSound}
@@ -6,11 +6,13 @@ use Rattle.core_machine.specs.Tried.{tried_of}
 use Rattle.core_machine.specs.inner.Left.{left_of}
 use Rattle.core_machine.specs.inner.Changes.{Keeps}
 use Rattle.core_machine.specs.inner.Needs.{Finds}
+use Rattle.core_machine.proofs.Passing.{PassesTo}
 use Rattle.core_machine.proofs.running.Running.stretch.Given as goal
 
 abbrev pub invariant-steps : goal.invariant-steps
 invariant-steps l = record {
   goes : GoesOn (exec l.fn.self.code.now l.fn.self.bound) (state_of l.fn.self) (state_of l.self);
+  passes : (turn : ℕ) → PassesTo l.fn.self turn (state_of l.fn.self) (state_of l.self);
   keeps : Keeps l.fn.self l.self;
   sound : IsSound l.self;
   running : l.self.ended ≡ None;

@@ -1,0 +1,3 @@
+mod Parts
+pub mod Length
+pub mod Examples

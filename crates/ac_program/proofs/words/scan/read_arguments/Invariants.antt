@@ -1,7 +1,0 @@
-use Rattle.std.proofs.Common.{◌↔◌, ℕ, List, map, drop, string_bytes, Option, None}
-use Rattle.ac_program.specs.inner.Scanning.{CompletesAny, Completes}
-use Rattle.ac_program.proofs.words.scan.read_arguments.Given as goal
-
--- the words that are left decide
-abbrev pub invariant-loop-word : goal.invariant-loop-word
-invariant-loop-word l = (file : List ℕ) (given : Option ℕ) → CompletesAny None None (map string_bytes l.words) file given ↔ Completes l.scan (map string_bytes (drop l.word-index l.words)) file given

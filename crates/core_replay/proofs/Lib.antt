@@ -1,0 +1,6 @@
+pub mod Numbers
+pub mod Coming
+pub mod Deciding
+pub mod Going
+pub mod Ends
+pub mod Examples

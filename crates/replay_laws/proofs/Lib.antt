@@ -1,0 +1,5 @@
+pub mod Alike
+pub mod Refusals
+pub mod Turns
+pub mod Prefixes
+pub mod Examples

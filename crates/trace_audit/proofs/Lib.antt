@@ -1,0 +1,13 @@
+pub mod Comparing
+pub mod Ending
+pub mod Fronts
+pub mod Histories
+pub mod LawExamples
+pub mod Linking
+pub mod Merging
+pub mod Recovered
+pub mod Sound
+pub mod Stepping
+pub mod TraceExamples
+pub mod Traced
+pub mod Translated

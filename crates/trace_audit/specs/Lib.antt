@@ -1,0 +1,4 @@
+pub mod inner
+pub mod Judged
+pub mod Laws
+pub mod RunTrace

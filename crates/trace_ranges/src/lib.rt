@@ -1,0 +1,6 @@
+//! That the numbers of a trace fit their types, as its reader asks.
+#![tactic(auto)]
+
+mod ranges;
+
+pub use ranges::numbers_fit;

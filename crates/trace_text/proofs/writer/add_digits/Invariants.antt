@@ -1,0 +1,6 @@
+use Rattle.std.proofs.Common.{◌≡◌, ◌++◌, drop}
+use Rattle.ac_base.specs.Hexadecimal.{hex_digits}
+use Rattle.trace_text.proofs.writer.add_digits.Given as goal
+
+abbrev pub invariant-loop-byte : goal.invariant-loop-byte
+invariant-loop-byte l = l.text.items ++ hex_digits (drop l.byte-index l.bytes) ≡ l.fn.text.items ++ hex_digits l.bytes

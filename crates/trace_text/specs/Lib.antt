@@ -1,0 +1,4 @@
+pub mod inner
+pub mod Outcomes
+pub mod Spelling
+pub mod Text

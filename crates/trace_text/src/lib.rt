@@ -1,0 +1,15 @@
+//! The text of a trace: written from the trace, and read back exactly where it spells one.
+#![tactic(auto)]
+
+mod cursor;
+mod events;
+mod faults;
+mod reader;
+mod so_far;
+mod trace;
+mod writer;
+
+pub use faults::{TraceFault, WriteFault};
+pub use reader::read_trace;
+pub use trace::{Trace, TraceEnd};
+pub use writer::write_trace;

@@ -1,0 +1,324 @@
+//! Writing a trace, line by line.
+
+ghost use Rattle.std.specs.Prelude.{◌≡◌, ◌++◌, ◌∷◌, ◌<◌, ◌≤◌, [], length, OnOk};
+ghost use Rattle.std.specs.Fmt.{decimal, signed_decimal};
+ghost use Rattle.ac_base.specs.Hexadecimal.{hex_digit, hex_digits, hex_of};
+ghost use Rattle.ac_base.specs.Report.{word_text, trap_text};
+ghost use Rattle.trace_text.specs.Text.{spaced, offer_name, payload_text, answer_text, event_text, title};
+ghost use Rattle.trace_text.specs.Text.{steps_line, file_line, entry_line, outcome_text, end_line};
+ghost use Rattle.trace_text.specs.Text.{file_lines, entry_lines, end_lines, joined};
+ghost use Rattle.trace_text.specs.Outcomes.{Writes, trace_limit};
+ghost use Rattle.trace_text.specs.inner.Adding.{Adds};
+
+use crate::faults::WriteFault;
+use crate::trace::{Trace, TraceEnd};
+use ac_base::{Answer, Bytes, EndWord, Event, List, NoMemory, Payload, Stamped, Trap};
+use std::alloc::Global;
+
+/// The greatest length of a text, in bytes.
+const MOST_BYTES: usize = 268_435_456;
+
+fn add_number(alloc: Global, text: &mut Vec<u8>, number: u64) -> Result<(), NoMemory>
+    ensures { OnOk result (text.new.items ≡ text.old.items ++ decimal number) }
+{
+    let digits = number.to_string(alloc)?;
+    text.extend_from_slice(digits.as_bytes())?;
+    Ok(())
+}
+
+fn add_spaced(alloc: Global, text: &mut Vec<u8>, number: u64) -> Result<(), NoMemory>
+    ensures { OnOk result (text.new.items ≡ text.old.items ++ spaced number) }
+{
+    text.push(b' ')?;
+    add_number(alloc, text, number)
+}
+
+fn add_value(alloc: Global, text: &mut Vec<u8>, value: i64) -> Result<(), NoMemory>
+    ensures { OnOk result (text.new.items ≡ text.old.items ++ signed_decimal value) }
+{
+    let digits = value.to_string(alloc)?;
+    text.extend_from_slice(digits.as_bytes())?;
+    Ok(())
+}
+
+fn digit(number: u8) -> u8
+    requires { number < 16 }
+    ensures { result ≡ hex_digit number }
+{
+    if number < 10 {
+        b'0' + number
+    } else {
+        b'a' + (number - 10)
+    }
+}
+
+fn add_digits(text: &mut Vec<u8>, bytes: &[u8]) -> Result<(), NoMemory>
+    ensures { OnOk result (text.new.items ≡ text.old.items ++ hex_digits bytes.now) }
+{
+    for byte in bytes {
+        text.push(digit(*byte / 16))?;
+        text.push(digit(*byte % 16))?;
+    }
+    Ok(())
+}
+
+fn add_bytes(text: &mut Vec<u8>, bytes: &[u8]) -> Result<(), NoMemory>
+    ensures { OnOk result (text.new.items ≡ text.old.items ++ hex_of bytes.now) }
+{
+    match bytes {
+        [] => {
+            text.push(b'-')?;
+            Ok(())
+        }
+        _ => add_digits(text, bytes),
+    }
+}
+
+fn add_offer(alloc: Global, text: &mut Vec<u8>, link: u32, number: u64) -> Result<(), NoMemory>
+    ensures { OnOk result (text.new.items ≡ text.old.items ++ offer_name link number) }
+{
+    add_number(alloc, text, u64::from(link))?;
+    add_spaced(alloc, text, number)
+}
+
+fn add_payload(alloc: Global, text: &mut Vec<u8>, payload: &Payload) -> Result<(), NoMemory>
+    ensures { OnOk result (text.new.items ≡ text.old.items ++ payload_text payload.now) }
+{
+    match payload {
+        Payload::Int(value) => {
+            text.extend_from_slice(b" int ")?;
+            add_value(alloc, text, *value)
+        }
+        Payload::Read { file, from, len } => {
+            text.extend_from_slice(b" read ")?;
+            add_number(alloc, text, u64::from(*file))?;
+            add_spaced(alloc, text, u64::from(*from))?;
+            add_spaced(alloc, text, u64::from(*len))
+        }
+        Payload::Write { file, from, bytes } => {
+            text.extend_from_slice(b" write ")?;
+            add_number(alloc, text, u64::from(*file))?;
+            add_spaced(alloc, text, u64::from(*from))?;
+            text.push(b' ')?;
+            add_bytes(text, bytes.as_slice())
+        }
+    }
+}
+
+fn add_answer(alloc: Global, text: &mut Vec<u8>, answer: &Answer) -> Result<(), NoMemory>
+    ensures { OnOk result (text.new.items ≡ text.old.items ++ answer_text answer.now) }
+{
+    match answer {
+        Answer::Bytes(bytes) => {
+            text.extend_from_slice(b" bytes ")?;
+            add_bytes(text, bytes.as_slice())
+        }
+        Answer::Count(count) => {
+            text.extend_from_slice(b" count ")?;
+            add_number(alloc, text, u64::from(*count))
+        }
+        Answer::Fault(count) => {
+            text.extend_from_slice(b" fault ")?;
+            add_number(alloc, text, u64::from(*count))
+        }
+    }
+}
+
+fn add_event(alloc: Global, text: &mut Vec<u8>, event: &Event) -> Result<(), NoMemory>
+    ensures { OnOk result (text.new.items ≡ text.old.items ++ event_text event.now) }
+{
+    match *event {
+        Event::Offer {
+            link,
+            number,
+            ref payload,
+        } => {
+            text.extend_from_slice(b" offer ")?;
+            add_offer(alloc, text, link, number)?;
+            add_payload(alloc, text, payload)
+        }
+        Event::Withdraw { link, number } => {
+            text.extend_from_slice(b" withdraw ")?;
+            add_offer(alloc, text, link, number)
+        }
+        Event::Know { link, number } => {
+            text.extend_from_slice(b" know ")?;
+            add_offer(alloc, text, link, number)
+        }
+        Event::Room { link, number } => {
+            text.extend_from_slice(b" room ")?;
+            add_offer(alloc, text, link, number)
+        }
+        Event::Got {
+            link,
+            number,
+            value,
+        } => {
+            text.extend_from_slice(b" got ")?;
+            add_offer(alloc, text, link, number)?;
+            text.push(b' ')?;
+            add_value(alloc, text, value)
+        }
+        Event::Pass { link, number } => {
+            text.extend_from_slice(b" pass ")?;
+            add_offer(alloc, text, link, number)
+        }
+        Event::Did {
+            link,
+            number,
+            ref answer,
+        } => {
+            text.extend_from_slice(b" did ")?;
+            add_offer(alloc, text, link, number)?;
+            add_answer(alloc, text, answer)
+        }
+        Event::Reply {
+            link,
+            number,
+            ref answer,
+        } => {
+            text.extend_from_slice(b" reply ")?;
+            add_offer(alloc, text, link, number)?;
+            add_answer(alloc, text, answer)
+        }
+    }
+}
+
+fn add_title(text: &mut Vec<u8>) -> Result<(), NoMemory>
+    ensures { OnOk result (text.new.items ≡ text.old.items ++ joined (title ∷ [])) }
+{
+    text.extend_from_slice(b"ac-trace 1\n")?;
+    Ok(())
+}
+
+fn add_steps(alloc: Global, text: &mut Vec<u8>, steps: u64) -> Result<(), NoMemory>
+    ensures { OnOk result (text.new.items ≡ text.old.items ++ joined (steps_line steps ∷ [])) }
+{
+    text.extend_from_slice(b"steps ")?;
+    add_number(alloc, text, steps)?;
+    text.push(b'\n')?;
+    Ok(())
+}
+
+fn add_file(alloc: Global, text: &mut Vec<u8>, number: u64, bytes: &[u8]) -> Result<(), NoMemory>
+    ensures { OnOk result (text.new.items ≡ text.old.items ++ joined (file_line number bytes.now ∷ [])) }
+{
+    text.extend_from_slice(b"file ")?;
+    add_number(alloc, text, number)?;
+    text.push(b' ')?;
+    add_bytes(text, bytes)?;
+    text.push(b'\n')?;
+    Ok(())
+}
+
+fn add_entry(alloc: Global, text: &mut Vec<u8>, stamped: &Stamped) -> Result<(), NoMemory>
+    ensures { OnOk result (text.new.items ≡ text.old.items ++ joined (entry_line stamped.now ∷ [])) }
+{
+    add_number(alloc, text, stamped.entry.stamp)?;
+    add_spaced(alloc, text, u64::from(stamped.party))?;
+    add_spaced(alloc, text, stamped.entry.turn)?;
+    add_event(alloc, text, &stamped.entry.event)?;
+    text.push(b'\n')?;
+    Ok(())
+}
+
+fn trap_word(trap: Trap) -> &'static str
+    ensures { result.now ≡ trap_text trap }
+{
+    match trap {
+        Trap::ZeroDivisor => "zero-divisor",
+        Trap::Index => "index",
+        Trap::StackFull => "stack-full",
+        Trap::OutputFull => "output-full",
+        Trap::FileRange => "file-range",
+    }
+}
+
+fn end_word(word: EndWord) -> &'static str
+    ensures { result.now ≡ word_text word }
+{
+    match word {
+        EndWord::Finished => "finished",
+        EndWord::Trapped(trap) => trap_word(trap),
+        EndWord::OutOfSteps => "out-of-steps",
+        EndWord::Stalled => "stalled",
+    }
+}
+
+// How a core ended, its steps, and its output.
+fn add_outcome(alloc: Global, text: &mut Vec<u8>, end: &TraceEnd) -> Result<(), NoMemory>
+    ensures { OnOk result (text.new.items ≡ text.old.items ++ outcome_text end.now) }
+{
+    text.extend_from_slice(end_word(end.word).as_bytes())?;
+    add_spaced(alloc, text, end.steps)?;
+    text.push(b' ')?;
+    add_bytes(text, end.output.as_slice())
+}
+
+fn add_end(alloc: Global, text: &mut Vec<u8>, number: u64, end: &TraceEnd) -> Result<(), NoMemory>
+    ensures { OnOk result (text.new.items ≡ text.old.items ++ joined (end_line number end.now ∷ [])) }
+{
+    text.extend_from_slice(b"end ")?;
+    add_number(alloc, text, number)?;
+    text.push(b' ')?;
+    add_outcome(alloc, text, end)?;
+    text.push(b'\n')?;
+    Ok(())
+}
+
+// The text is within the limit so far.
+fn check(text: &[u8]) -> Result<(), WriteFault>
+    ensures adds { Adds text.now text.now [] result }
+    ensures short { OnOk result (length text.now ≤ trace_limit) }
+{
+    if text.len() > MOST_BYTES {
+        return Err(WriteFault::TooLong);
+    }
+    Ok(())
+}
+
+fn add_files(alloc: Global, text: &mut Vec<u8>, files: &[Bytes]) -> Result<(), WriteFault>
+    ensures { Adds text.old.items text.new.items (joined (file_lines 0 files.now)) result }
+{
+    for (number, bytes) in files.iter().enumerate() {
+        check(text.as_slice())?;
+        add_file(alloc, text, number as u64, bytes.as_slice())?;
+    }
+    Ok(())
+}
+
+fn add_entries(alloc: Global, text: &mut Vec<u8>, entries: &[Stamped]) -> Result<(), WriteFault>
+    ensures { Adds text.old.items text.new.items (joined (entry_lines entries.now)) result }
+{
+    for entry in entries {
+        check(text.as_slice())?;
+        add_entry(alloc, text, entry)?;
+    }
+    Ok(())
+}
+
+fn add_ends(alloc: Global, text: &mut Vec<u8>, ends: &[TraceEnd]) -> Result<(), WriteFault>
+    ensures { Adds text.old.items text.new.items (joined (end_lines 0 ends.now)) result }
+{
+    for (number, end) in ends.iter().enumerate() {
+        check(text.as_slice())?;
+        add_end(alloc, text, number as u64, end)?;
+    }
+    Ok(())
+}
+
+/// The text of a trace, where it has at most 268,435,456 bytes.
+///
+/// It takes time in proportion to what it writes, and stops behind the first line over the limit.
+pub fn write_trace(alloc: Global, trace: &Trace) -> Result<Bytes, WriteFault>
+    ensures { Writes trace.now result }
+{
+    let mut text = Vec::new(alloc);
+    add_title(&mut text)?;
+    add_steps(alloc, &mut text, trace.steps)?;
+    add_files(alloc, &mut text, trace.start.as_slice())?;
+    add_entries(alloc, &mut text, trace.entries.as_slice())?;
+    add_ends(alloc, &mut text, trace.ends.as_slice())?;
+    check(text.as_slice())?;
+    Ok(List::from_vec(text))
+}
