@@ -23,6 +23,7 @@ pub mod Making
 pub mod Never
 pub mod Weights
 pub mod Instructions
+pub mod EachInPlace
 pub mod Alone
 pub mod OwnActions
 pub mod EndsKept

@@ -1,30 +1,23 @@
--- No instruction concerns the journal; a run goes the same way where one more entry is still to come, and that entry is the next to come in.
-use Rattle.std.proofs.Common.{◌≡◌, ℕ, zero, suc, ◌+◌, ◌≤◌, List, [], ◌∷◌, ◌++◌, length, map, Option, Some, None, Result, Ok, Err, Bool, true, false, refl, sym, ap, ◌∙◌, subst, arith}
-use Rattle.std.specs.Prelude.{ℤ, find, reverse, take, drop, replicate, nat_le, nat_lt, nat_eq, slice_get, ◌&&◌, ◌^◌, ◌-◌, if◌then◌else◌, slice_set}
+-- A run goes the same way where one more entry is still to come, and that entry is the next to come in.
+use Rattle.std.proofs.Common.{◌≡◌, ℕ, zero, suc, ◌+◌, ◌≤◌, List, [], ◌∷◌, ◌++◌, Option, Some, None, Result, Ok, Err, Bool, true, false, refl, sym, ap, ◌∙◌, subst, arith}
+use Rattle.std.specs.Prelude.{find, replicate, nat_lt, nat_eq, slice_get, ◌^◌, ◌-◌, if◌then◌else◌, slice_set}
 use Rattle.std.proofs.lemmas.Bool.{eqb-true, eq-eqb}
 use Rattle.ac_base.specs.declared.ends.Trap.{Trap}
-use Rattle.ac_base.specs.declared.ends.Trap.TheVariants.{OutputFull}
 use Rattle.ac_base.specs.declared.ends.EndWord.TheVariants as word
 use Rattle.ac_base.specs.declared.entry.Entry.{Entry}
 use Rattle.work_item.specs.declared.ids.Item.{Item}
 use Rattle.work_item.specs.declared.ids.BlockId.{BlockId}
-use Rattle.work_item.specs.declared.cell.Cell.{Cell}
 use Rattle.work_item.specs.declared.cell.Cell.TheVariants as cell
-use Rattle.work_item.specs.Store.{Store, cell_at, int_in, place_in, no_int, released}
+use Rattle.work_item.specs.Store.{Store, cell_at, no_int}
 use Rattle.core_state.specs.Moves.{Move, On, Over, moves, and_then, GoesOn}
-use Rattle.core_state.specs.Arithmetic.{Computed, negated, not_true, flipped, truth, sum_of, difference_of, product_of, quotient, remainder}
-use Rattle.core_state.specs.Arithmetic.{shifted_left, shifted_right, is_equal, is_not_equal, is_less, is_at_most, both_bits, either_bits, differing_bits}
-use Rattle.core_state.specs.Frames.{element, set_element, part_at, begun, begun_with, first_store, block_in}
+use Rattle.core_state.specs.Frames.{begun, first_store, block_in}
 use Rattle.core_state.specs.Arrivals as arrivals
-use Rattle.cancel_scope.specs.declared.operation.Asked.{Asked}
-use Rattle.cancel_scope.specs.declared.operation.Asked.TheVariants as asked
 use Rattle.cancel_scope.specs.declared.operation.Operation.{Operation}
 use Rattle.cancel_scope.specs.declared.operation.Progress.{Progress}
 use Rattle.cancel_scope.specs.declared.operation.Progress.TheVariants.{Waiting, Offered, Started}
 use Rattle.core_state.specs.Arrivals.{Arrival, at_point, comes_in}
 use Rattle.core_state.specs.Cancelling.{Outcome, NeverHappens, by_outcome, outcome, goes_by, decided, tried, tries, is_to_try}
-use Rattle.core_state.specs.Shared.{Shared, begins_with, with_entry, with_step, with_turn, printed, formatted, output_limit, seen}
-use Rattle.core_state.specs.Requests.{read_of, write_of}
+use Rattle.core_state.specs.Shared.{Shared, begins_with, with_entry, with_turn, seen}
 use Rattle.core_state.proofs.Runs.{GoesOn-more}
 use Rattle.stack_code.specs.declared.instr.Instr.{Instr}
 use Rattle.stack_code.specs.declared.instr.Instr.TheVariants as i
@@ -35,186 +28,20 @@ use Rattle.code_meaning.specs.Machine.{Flat, FlatEnd, nobody, Caller, Block, arr
 use Rattle.code_meaning.specs.Machine.{on_many, one_operand}
 use Rattle.code_meaning.specs.Machine.{two_operands, always, text_at}
 use Rattle.code_meaning.specs.Machine.{calls, returns, arrives, arrives_in, arrives_at, dies, dies_in, counted_out, block_at, shared_at_first, first_flat, first_core, first_globals, thread_at}
-
--- one entry more is still to come
-abbrev pub more_shared : Entry → Shared → Shared
-more_shared e s = record s { todo = s.todo ++ e ∷ [] }
-
-abbrev pub more_to_come : Entry → Flat → Flat
-more_to_come e m = record m { shared = more_shared e m.shared }
-
--- the journal is as it was, and so is the turn
-pub record KeepsJournal (before after : Shared) : Type 0 where
-  pub past : after.past ≡ before.past
-  pub todo : after.todo ≡ before.todo
-  pub turn : after.turn ≡ before.turn
-
--- only a cancel takes entries of the journal
-abbrev pub is_cancel : Option Instr → Bool
-is_cancel (Some (i.Cancel level slot)) = true
-is_cancel _ = false
+use Rattle.code_safety.proofs.Alike.{Alike, KeepsJournal, begin_alike, is_cancel, more_shared, more_to_come}
 
 -- a move leads on just as with that entry, and keeps the journal
 abbrev pub Too : Entry → Flat → Move Flat FlatEnd → Move Flat FlatEnd → Type 0
 Too e m (On next) r = (r ≡ On (more_to_come e next)) × KeepsJournal m.shared next.shared
 Too e m (Over x) r = Unit {0}
 
-module _ (e : Entry) (m : Flat) where
-  abbrev m' : Flat
-  m' = more_to_come e m
+too_of : (e : Entry) (m : Flat) (a b : Move Flat FlatEnd) → Alike e m a b → Too e m a b
+too_of e m (On next) b h = h
+too_of e m (Over x) b h = tt
 
-  abbrev T : Move Flat FlatEnd → Move Flat FlatEnd → Type 0
-  T a b = Too e m a b
-
-  kept : KeepsJournal m.shared m.shared
-  kept = record { past = refl; todo = refl; turn = refl }
-
-  top_too : (go go' : Cell → List Cell → Move Flat FlatEnd) (ops : List Cell) → ((x : Cell) (below : List Cell) → T (go x below) (go' x below)) → T (on_top m go ops) (on_top m' go' ops)
-  top_too go go' [] h = (refl, kept)
-  top_too go go' (x ∷ below) h = h x below
-
-  two_too : (go go' : Cell → Cell → List Cell → Move Flat FlatEnd) (ops : List Cell) → ((x y : Cell) (below : List Cell) → T (go x y below) (go' x y below)) → T (on_two m go ops) (on_two m' go' ops)
-  two_too go go' [] h = (refl, kept)
-  two_too go go' (x ∷ []) h = (refl, kept)
-  two_too go go' (y ∷ x ∷ below) h = h x y below
-
-  three_too : (go go' : Cell → Cell → Cell → List Cell → Move Flat FlatEnd) (ops : List Cell) → ((x y z : Cell) (below : List Cell) → T (go x y z below) (go' x y z below))
-      → T (on_three m go ops) (on_three m' go' ops)
-  three_too go go' [] h = (refl, kept)
-  three_too go go' (x ∷ []) h = (refl, kept)
-  three_too go go' (y ∷ x ∷ []) h = (refl, kept)
-  three_too go go' (z ∷ y ∷ x ∷ below) h = h x y z below
-
-  many_too : (count : ℕ) (go go' : List Cell → List Cell → Move Flat FlatEnd) (ops : List Cell) → ((args below : List Cell) → T (go args below) (go' args below))
-      → T (on_many m count go ops) (on_many m' count go' ops)
-  many_too count go go' ops h = by (nat_le count (length ops))
-    where
-      by : (b : Bool) → T (if b then go (reverse (take count ops)) (drop count ops) else On m) (if b then go' (reverse (take count ops)) (drop count ops) else On m')
-      by true = h (reverse (take count ops)) (drop count ops)
-      by false = (refl, kept)
-
-  trap_too : {A : Type 0} (r : Result A Trap) (go go' : A → Move Flat FlatEnd) → ((x : A) → T (go x) (go' x)) → T (or_trap m r go) (or_trap m' r go')
-  trap_too (Ok x) go go' h = h x
-  trap_too (Err trap) go go' h = tt
-
-  -- what the instruction makes of a state whose shared part stays
-  one_too : (f : ℤ → ℤ) → T (one_operand m f) (one_operand m' f)
-  one_too f = top_too _ _ m.current.operands (λ x below. (refl, kept))
-
-  two_ints_too : (f : ℤ → ℤ → Computed) → T (two_operands m f) (two_operands m' f)
-  two_ints_too f = two_too _ _ m.current.operands (λ x y below. trap_too (f (int_in x) (int_in y)) _ _ (λ v. (refl, kept)))
-
-  print_too : (bytes : List ℕ) (below : List Cell)
-      → T (or_trap m (printed m.shared bytes) (λ s. flat.goes (with_shared m s) below)) (or_trap m' (printed m'.shared bytes) (λ s. flat.goes (with_shared m' s) below))
-  print_too bytes below = by (nat_le (length m.shared.output + length bytes) output_limit)
-    where
-      by : (b : Bool) → T (or_trap m (if b then Ok (record m.shared { output = m.shared.output ++ bytes }) else Err OutputFull) (λ s. flat.goes (with_shared m s) below))
-          (or_trap m' (if b then Ok (record m'.shared { output = m.shared.output ++ bytes }) else Err OutputFull) (λ s. flat.goes (with_shared m' s) below))
-      by true = (refl, record { past = refl; todo = refl; turn = refl })
-      by false = tt
-
-  calls_too : (o : Option Entered) (args below : List Cell) → T (calls m o args below) (calls m' o args below)
-  calls_too None args below = (refl, kept)
-  calls_too (Some f) args below = trap_too (begun_with m.store f.params f.words args) _ _ (λ store. (refl, kept))
-
-  returns_too : (value : Cell) (callers : List Caller) → T (returns m value callers) (returns m' value callers)
-  returns_too value [] = tt
-  returns_too value (c ∷ callers) = (refl, kept)
-
-  arrives_too : (t : Item) (o : Option BlockId) → T (arrives m t o) (arrives m' t o)
-  arrives_too t None = (refl, kept)
-  arrives_too t (Some b) = by (block_at m.blocks b)
-    where
-      at_block : (z : Bool) (x : Block) → T (arrives_at z m t b x) (arrives_at z m' t b x)
-      at_block true x = (refl, kept)
-      at_block false x = (refl, kept)
-
-      by : (o : Option Block) → T (arrives_in m t b o) (arrives_in m' t b o)
-      by None = (refl, kept)
-      by (Some x) = at_block (nat_eq x.count 0) x
-
-  dies_too : (store : Store) (t : Item) (o : Option BlockId) → T (On (dies (with_store m store) t o)) (On (dies (with_store m' store) t o))
-  dies_too store t None = (refl, kept)
-  dies_too store t (Some b) = by (block_at m.blocks b)
-    where
-      out : (z : Bool) (x : Block) → T (On (counted_out z (with_store m store) t b x)) (On (counted_out z (with_store m' store) t b x))
-      out true x = (refl, kept)
-      out false x = (refl, kept)
-
-      by : (o : Option Block) → T (On (dies_in (with_store m store) t b o)) (On (dies_in (with_store m' store) t b o))
-      by None = (refl, kept)
-      by (Some x) = out (nat_eq x.count 1 && x.waits) x
-
-  asks_too : (t : Item) (link : ℕ) (a : Asked) (below : List Cell) → T (flat.asks m t link a below) (flat.asks m' t link a below)
-  asks_too t link a below = by (flat.is_cancelled m.blocks m.current.block)
-    where
-      by : (b : Bool) → T (flat.asks_in b m t link a below) (flat.asks_in b m' t link a below)
-      by true = (refl, kept)
-      by false = (refl, kept)
-
-  requests_too : (t : Item) (it : Result Asked Trap) (below : List Cell) → T (flat.requests m t it below) (flat.requests m' t it below)
-  requests_too t it below = trap_too it _ _ (λ a. asks_too t m.shared.requests a below)
-
-  module _ (code : Parts) (bound : ℕ) (t : Item) where
-    step_too : T (begin code bound m t (Some i.Step)) (begin code bound m' t (Some i.Step))
-    step_too = by (nat_lt m.shared.steps bound) (flat.ends (flat.seen_of word.OutOfSteps false m) m.count) (flat.ends (flat.seen_of word.OutOfSteps false m') m.count) tt
-      where
-        by : (b : Bool) (x y : Move Flat FlatEnd) → T x y
-            → T (if b then flat.goes (with_shared m (with_step m.shared)) m.current.operands else x) (if b then flat.goes (with_shared m' (with_step m'.shared)) m.current.operands else y)
-        by true x y h = (refl, record { past = refl; todo = refl; turn = refl })
-        by false x y h = h
-
-    pub begin_too : (o : Option Instr) → is_cancel o ≡ false → T (begin code bound m t o) (begin code bound m' t o)
-    begin_too None p = (refl, kept)
-    begin_too (Some i.Step) p = step_too
-    begin_too (Some (i.Push v)) p = (refl, kept)
-    begin_too (Some (i.Load level slot)) p = (refl, kept)
-    begin_too (Some (i.LoadG slot)) p = (refl, kept)
-    begin_too (Some (i.Store level slot)) p = top_too _ _ m.current.operands (λ x below. (refl, kept))
-    begin_too (Some (i.StoreG slot)) p = top_too _ _ m.current.operands (λ x below. (refl, kept))
-    begin_too (Some (i.Arr level slot len)) p = (refl, kept)
-    begin_too (Some (i.ArrG slot len)) p = (refl, kept)
-    begin_too (Some i.Elem) p = two_too _ _ m.current.operands (λ x y below. trap_too (element m.store (place_in x) (int_in y)) _ _ (λ v. (refl, kept)))
-    begin_too (Some i.SetElem) p = three_too _ _ m.current.operands (λ x y z below. trap_too (set_element m.store (place_in y) (int_in z) (int_in x)) _ _ (λ v. (refl, kept)))
-    begin_too (Some i.Place) p = two_too _ _ m.current.operands (λ x y below. trap_too (part_at (place_in x) (int_in y)) _ _ (λ v. (refl, kept)))
-    begin_too (Some (i.Clear slot len)) p = (refl, kept)
-    begin_too (Some i.Neg) p = one_too negated
-    begin_too (Some i.Not) p = one_too not_true
-    begin_too (Some i.Flip) p = one_too flipped
-    begin_too (Some i.Bool) p = one_too truth
-    begin_too (Some i.BitOr) p = two_ints_too (always either_bits)
-    begin_too (Some i.BitXor) p = two_ints_too (always differing_bits)
-    begin_too (Some i.BitAnd) p = two_ints_too (always both_bits)
-    begin_too (Some i.Eq) p = two_ints_too (always is_equal)
-    begin_too (Some i.Ne) p = two_ints_too (always is_not_equal)
-    begin_too (Some i.Less) p = two_ints_too (always is_less)
-    begin_too (Some i.LessEq) p = two_ints_too (always is_at_most)
-    begin_too (Some i.More) p = two_ints_too (always (λ x y. is_less y x))
-    begin_too (Some i.MoreEq) p = two_ints_too (always (λ x y. is_at_most y x))
-    begin_too (Some i.Shl) p = two_ints_too (always shifted_left)
-    begin_too (Some i.Shr) p = two_ints_too (always shifted_right)
-    begin_too (Some i.Add) p = two_ints_too (always sum_of)
-    begin_too (Some i.Sub) p = two_ints_too (always difference_of)
-    begin_too (Some i.Mul) p = two_ints_too (always product_of)
-    begin_too (Some i.Div) p = two_ints_too quotient
-    begin_too (Some i.Rem) p = two_ints_too remainder
-    begin_too (Some i.Drop) p = top_too _ _ m.current.operands (λ x below. (refl, kept))
-    begin_too (Some (i.Jump to)) p = (refl, kept)
-    begin_too (Some (i.Jz to)) p = top_too _ _ m.current.operands (λ x below. (refl, kept))
-    begin_too (Some (i.Jnz to)) p = top_too _ _ m.current.operands (λ x below. (refl, kept))
-    begin_too (Some (i.Print text count)) p = many_too count _ _ m.current.operands (λ args below. print_too (formatted (text_at code text) (map int_in args)) below)
-    begin_too (Some (i.Call function count)) p = many_too count _ _ m.current.operands (λ args below. calls_too (slice_get code.functions function) args below)
-    begin_too (Some i.Ret) p = top_too _ _ m.current.operands (λ x below. returns_too (cell.Int (int_in x)) m.current.callers)
-    begin_too (Some (i.Enter slot)) p = (refl, kept)
-    begin_too (Some (i.Finish slot)) p = arrives_too t m.current.block
-    begin_too (Some (i.Async slots to)) p = trap_too (begun m.store (Some m.current.frame) (replicate slots no_int)) _ _ (λ store. (refl, kept))
-    begin_too (Some i.End) p = dies_too (released m.store m.current.frame) t m.current.block
-    begin_too (Some (i.Cancel level slot)) p = let no : true ≡ false = p in absurd (cc)
-    begin_too (Some i.Yield) p = (refl, kept)
-    begin_too (Some (i.Send channel)) p = top_too _ _ m.current.operands (λ x below. asks_too t channel (asked.Send (int_in x)) below)
-    begin_too (Some (i.Recv channel)) p = top_too _ _ m.current.operands (λ x below. asks_too t channel (asked.Recv (place_in x)) below)
-    begin_too (Some (i.Read file)) p = three_too _ _ m.current.operands (λ x y z below. requests_too t (read_of file (int_in x) (int_in y) (place_in z)) below)
-    begin_too (Some (i.Write file)) p = three_too _ _ m.current.operands (λ x y z below. requests_too t (write_of m.store file (int_in x) (int_in y) (place_in z)) below)
+pub begin_too : (e : Entry) (m : Flat) (code : Parts) (bound : ℕ) (t : Item) (o : Option Instr) → is_cancel o ≡ false
+    → Too e m (begin code bound m t o) (begin code bound (more_to_come e m) t o)
+begin_too e m code bound t o p = too_of e m (begin code bound m t o) (begin code bound (more_to_come e m) t o) (begin_alike e m code bound t o p)
 
 -- ---- a move
 

@@ -21,6 +21,7 @@ pub mod Dying
 pub mod Weights
 pub mod Falling
 pub mod ArrivalWeights
+pub mod Alike
 pub mod Moving
 pub mod NoEntries
 pub mod OwnFunction

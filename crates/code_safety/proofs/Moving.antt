@@ -23,7 +23,8 @@ use Rattle.stack_code.specs.Kept.{IsRanked}
 use Rattle.code_meaning.specs.Machine.{Flat, FlatEnd, arrived, resumed, begin, exec, exec_of, dispatched, told, nobody, thread_at}
 use Rattle.code_safety.specs.Fit.{IsThread, life_at, IsFit}
 use Rattle.code_safety.specs.Left.{left, left_to_come}
-use Rattle.code_safety.proofs.Journal.{Too, more_to_come, is_cancel, begin_too}
+use Rattle.code_safety.proofs.Alike.{is_cancel, more_to_come}
+use Rattle.code_safety.proofs.Journal.{Too, begin_too}
 use Rattle.code_safety.proofs.Plain.{is_plain, Onward, on_both, on_each, Next, onward}
 use Rattle.code_safety.proofs.Own.{thread_of}
 use Rattle.code_safety.proofs.PlainFit.{plain_fit}

@@ -1,5 +1,5 @@
 -- What the end of a core's requests tells of its journal: which of them were taken, and which have their answers.
-use Rattle.std.proofs.Common.{◌≡◌, ℕ, zero, suc, ◌+◌, ◌≤◌, List, [], ◌∷◌, Option, Some, None, IsSome, Bool, true, false, cond, refl, sym, ap, ◌∙◌, arith}
+use Rattle.std.proofs.Common.{◌≡◌, ℕ, zero, suc, ◌+◌, List, [], ◌∷◌, Option, Some, None, IsSome, Bool, true, false, cond, refl, sym, ap, ◌∙◌, arith}
 use Rattle.std.specs.Prelude.{is_some, is_none, nat_eq, not, ◌&&◌, ◌||◌, slice_get, if◌then◌else◌}
 use Rattle.std.specs.List.{filter}
 use Rattle.std.proofs.Math.Dec.{eqb-suc-suc, eqb-suc-zero, eqb-zero-suc}
@@ -202,30 +202,6 @@ least_is_open (o ∷ os) h = by (least_is_open os) (is_some o.withdrawn || is_so
     by later true e some = later some
     by later false e some = ap not e
 
-pub least_is_least : (os : List OwnerOffer) (k : ℕ) → is_open (slice_get os k) ≡ true → least_open os ≤ k
-least_is_least [] k h = let no : false ≡ true = h in absurd (cc)
-least_is_least (o ∷ os) zero h = by (is_some o.withdrawn || is_some o.reply) refl
-  where
-    by : (b : Bool) → (is_some o.withdrawn || is_some o.reply) ≡ b → (if b then suc (least_open os) else 0) ≤ 0
-    by true e = let no : false ≡ true = sym (ap not e) ∙ h in absurd (cc)
-    by false e = omega arith
-least_is_least (o ∷ os) (suc k) h = by (least_is_least os k h) (is_some o.withdrawn || is_some o.reply)
-  where
-    by : least_open os ≤ k → (b : Bool) → (if b then suc (least_open os) else 0) ≤ suc k
-    by later true = omega (arith, later)
-    by later false = omega arith
-
--- where one is open the least is there
-pub least_is_there : (os : List OwnerOffer) (k : ℕ) → is_open (slice_get os k) ≡ true → IsSome (slice_get os (least_open os))
-least_is_there [] k h = h
-least_is_there (o ∷ os) k h = by (λ k h. least_is_there os k h) (is_some o.withdrawn || is_some o.reply) refl k h
-  where
-    by : ((k : ℕ) → is_open (slice_get os k) ≡ true → IsSome (slice_get os (least_open os))) → (b : Bool) → (is_some o.withdrawn || is_some o.reply) ≡ b → (k : ℕ)
-        → is_open (slice_get (o ∷ os) k) ≡ true → IsSome (slice_get (o ∷ os) (if b then suc (least_open os) else 0))
-    by later true e zero h = let no : false ≡ true = sym (ap not e) ∙ h in absurd (cc)
-    by later true e (suc k) h = later k h
-    by later false e k h = refl
-
 pub known_is_there : (o : Option OwnerOffer) → is_known o ≡ true → IsSome o
 known_is_there None h = h
 known_is_there (Some o) h = refl
@@ -245,17 +221,3 @@ open_parts (Some o) h = by o.withdrawn o.reply h
     by None None e = (known o.known, refl, refl)
     by None (Some r) e = let no : false ≡ true = e in absurd (cc)
     by (Some w) r e = let no : false ≡ true = e in absurd (cc)
-
--- one that was taken and has no answer is open, and known
-pub taken_is_open : (o : Option OwnerOffer) → is_taken o ≡ true → is_replied o ≡ false → (is_open o ≡ true) × (is_known o ≡ true)
-taken_is_open None h none = let no : false ≡ true = h in absurd (cc)
-taken_is_open (Some o) h none =
-    let both = and_parts (is_none o.withdrawn) (is_some o.known) h in
-    (ap (λ b. not (b || is_some o.reply)) (none_is o.withdrawn both.0) ∙ ap not none, both.1)
-
--- one that may be withdrawn and has no answer is open, and not known
-pub standing_is_open : (o : Option OwnerOffer) → may_withdraw o ≡ true → is_replied o ≡ false → (is_open o ≡ true) × (is_known o ≡ false)
-standing_is_open None h none = let no : false ≡ true = h in absurd (cc)
-standing_is_open (Some o) h none =
-    let both = and_parts (is_none o.withdrawn) (is_none o.known) h in
-    (ap (λ b. not (b || is_some o.reply)) (none_is o.withdrawn both.0) ∙ ap not none, none_is o.known both.1)

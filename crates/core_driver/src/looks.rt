@@ -16,7 +16,7 @@ use core_channels::{Arrived, Offering};
 use core_machine::CoreMachine;
 use core_ports::{Ports, Side, side_of};
 
-// A poll of a link on which the core sends; an answer is wanted where one may come next.
+// A poll of a link on which the core sends; where it carries requests, a reply is wanted.
 fn poll_own<P: Ports>(
     machine: &mut CoreMachine<'_>,
     ports: &mut P,
@@ -45,8 +45,7 @@ fn poll_own<P: Ports>(
     ensures stays { P.stays ports.old ports.new }
 {
     machine.make_room()?;
-    let awaits = machine.awaits_answer(link);
-    match ports.poll(link, awaits, clock) {
+    match ports.poll(link, true, clock) {
         Arrived::Know { number, stamp } => {
             machine.know(link, number, stamp);
             Ok(false)

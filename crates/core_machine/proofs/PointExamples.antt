@@ -12,9 +12,9 @@ use Rattle.code_meaning.specs.Machine.{Block, Caller, Flat, FlatEnd, Thread, arr
 use Rattle.stack_code.specs.Parts.{Parts}
 use Rattle.code_safety.specs.Left.{at_weight, callers_weight, owner_weight, parked_weight, ready_weight, running_weight, thread_weight, waiting_weight}
 use Rattle.core_machine.specs.Machine.{Machine}
-use Rattle.core_machine.specs.Points.{HasCome, HasTracks, IsInTurn, IsOfTurn, awaits_answer, begun_number, carried_by, comes_first, entry_of}
-use Rattle.core_machine.specs.Points.{has_to_offer, is_at_point, least_on, left_at, lesser, number_on, offer_carries}
-use Rattle.core_machine.specs.Points.{offer_number, operations_of, receives_from, requests_of, work_left}
+use Rattle.core_machine.specs.Points.{HasCome, HasTracks, IsInTurn, IsOfTurn, carried_by, entry_of}
+use Rattle.core_machine.specs.Points.{has_to_offer, is_at_point, left_at, offer_carries}
+use Rattle.core_machine.specs.Points.{operations_of, receives_from, requests_of, work_left}
 use Rattle.core_machine.proofs.Examples.{asks, first, hears, known, none_of_each, offer, running, second, sends, store, with_operations}
 
 abbrev over : FlatEnd
@@ -41,28 +41,6 @@ what_an_offer_carries = (refl, refl, refl, refl, refl, refl)
 
 pub what_is_received : (receives_from (sends ∷ hears ∷ []) 1 ≡ true) × (receives_from (sends ∷ hears ∷ []) 0 ≡ false)
 what_is_received = (refl, refl)
-
--- ---- answers to requests
-
--- a request that has begun under that number
-abbrev begun : ℕ → Operation
-begun number = as_begun (offered_as number asks)
-
-pub the_numbers_of_an_operation : (offer_number (Offered 3) ≡ Some 3) × (offer_number (Started 3) ≡ None) × (begun_number (Started 3) ≡ Some 3) × (begun_number Waiting ≡ None)
-    × (number_on begun_number 2 (begun 3) ≡ Some 3) × (number_on begun_number 1 (begun 3) ≡ None) × (number_on offer_number 2 (offered_as 3 asks) ≡ Some 3)
-the_numbers_of_an_operation = (refl, refl, refl, refl, refl, refl, refl)
-
-pub the_least_of_them : (lesser (Some 3) (Some 1) ≡ Some 1) × (lesser None (Some 4) ≡ Some 4) × (lesser (Some 4) None ≡ Some 4)
-    × (least_on begun_number (begun 3 ∷ offered_as 0 asks ∷ begun 1 ∷ []) 2 ≡ Some 1) × (least_on begun_number (offered_as 0 asks ∷ []) 2 ≡ None)
-the_least_of_them = (refl, refl, refl, refl, refl)
-
-pub which_comes_first : (comes_first (Some 1) (Some 2) ≡ true) × (comes_first (Some 2) (Some 1) ≡ false) × (comes_first (Some 2) None ≡ true) × (comes_first None None ≡ false)
-which_comes_first = (refl, refl, refl, refl)
-
--- an answer may come to the first of those that were offered, once it has begun
-pub whether_it_awaits_an_answer : (awaits_answer (begun 0 ∷ offered_as 1 asks ∷ []) 2 ≡ true) × (awaits_answer (offered_as 0 asks ∷ begun 1 ∷ []) 2 ≡ false) × (awaits_answer (asks ∷ []) 2 ≡ false)
-    × (awaits_answer (begun 0 ∷ []) 1 ≡ false)
-whether_it_awaits_an_answer = (refl, refl, refl, refl)
 
 -- ---- an entry
 

@@ -11,6 +11,7 @@ use Rattle.ac_base.specs.declared.ends.EndWord.TheVariants as word
 use Rattle.ac_base.specs.declared.ends.CoreEnd.{CoreEnd}
 use Rattle.ac_base.specs.declared.ends.MachineEnd.{MachineEnd}
 use Rattle.ac_base.specs.declared.entry.Entry.{Entry}
+use Rattle.ac_base.specs.declared.entry.Event.TheVariants as event
 use Rattle.work_item.specs.declared.ids.Item.{Item}
 use Rattle.work_item.specs.declared.ids.BlockId.{BlockId}
 use Rattle.work_item.specs.declared.cell.Cell.{Cell}
@@ -41,6 +42,7 @@ use Rattle.code_meaning.specs.Machine.{one_operand, two_operands, always, text_a
 use Rattle.code_meaning.specs.Machine.{first_flat, asks_in, calls_off, counted, is_cancelled, is_inside, marked}
 use Rattle.code_safety.specs.Left.{left_to_come}
 use Rattle.code_safety.specs.KeptEnds.{KeepsEnds, IsAtEnd, AreAtEnds}
+use Rattle.code_safety.proofs.Alike.{Alike, begin_alike, more_to_come}
 use Rattle.code_safety.proofs.Beginnings.{ends_from}
 use Rattle.code_safety.proofs.OwnEnds.{own_ends}
 use Rattle.code_safety.proofs.Waiting.{found_at}
@@ -58,6 +60,10 @@ abbrev Shows : Flat → Move Flat FlatEnd → Type 0
 Shows m (On n) = m.shared.todo ≡ [] → n.shared.todo ≡ []
 Shows m (Over x) = m.shared.todo ≡ [] → IsSome x.core
 
+-- an entry, whichever it is
+any : Entry
+any = record { stamp = 0; turn = 0; event = event.Know 0 0 }
+
 module _ (m : Flat) where
   abbrev L : Move Flat FlatEnd → Type 0
   L = Shows m
@@ -68,80 +74,10 @@ module _ (m : Flat) where
   shown : (why : EndWord) (idle : Bool) → m.shared.todo ≡ [] → IsSome (seen why idle m.store.globals m.operations m.shared)
   shown why idle k = ap (λ todo. is_some (seen_left why idle m.store.globals m.operations m.shared todo)) k
 
-  top_shows : (go : Cell → List Cell → Move Flat FlatEnd) (ops : List Cell) → ((x : Cell) (below : List Cell) → L (go x below)) → L (on_top m go ops)
-  top_shows go [] h = same
-  top_shows go (x ∷ below) h = h x below
-
-  two_show : (go : Cell → Cell → List Cell → Move Flat FlatEnd) (ops : List Cell) → ((x y : Cell) (below : List Cell) → L (go x y below)) → L (on_two m go ops)
-  two_show go [] h = same
-  two_show go (x ∷ []) h = same
-  two_show go (y ∷ x ∷ below) h = h x y below
-
-  three_show : (go : Cell → Cell → Cell → List Cell → Move Flat FlatEnd) (ops : List Cell) → ((x y z : Cell) (below : List Cell) → L (go x y z below)) → L (on_three m go ops)
-  three_show go [] h = same
-  three_show go (x ∷ []) h = same
-  three_show go (y ∷ x ∷ []) h = same
-  three_show go (z ∷ y ∷ x ∷ below) h = h x y z below
-
-  many_show : (count : ℕ) (go : List Cell → List Cell → Move Flat FlatEnd) (ops : List Cell) → ((args below : List Cell) → L (go args below)) → L (on_many m count go ops)
-  many_show count go ops h = by (nat_le count (length ops))
-    where
-      by : (b : Bool) → L (if b then go (reverse (take count ops)) (drop count ops) else On m)
-      by true = h (reverse (take count ops)) (drop count ops)
-      by false = same
-
-  trap_shows : {A : Type 0} (r : Result A Trap) (go : A → Move Flat FlatEnd) → ((x : A) → L (go x)) → L (or_trap m r go)
-  trap_shows (Ok x) go h = h x
-  trap_shows (Err trap) go h = shown (word.Trapped trap) false
-
-  one_shows : (f : ℤ → ℤ) → L (one_operand m f)
-  one_shows f = top_shows _ m.current.operands (λ x below. same)
-
-  ints_show : (f : ℤ → ℤ → Computed) → L (two_operands m f)
-  ints_show f = two_show _ m.current.operands (λ x y below. trap_shows (f (int_in x) (int_in y)) _ (λ v. same))
-
-  print_shows : (bytes : List ℕ) (below : List Cell) → L (or_trap m (printed m.shared bytes) (λ s. flat.goes (with_shared m s) below))
-  print_shows bytes below = by (nat_le (length m.shared.output + length bytes) output_limit)
-    where
-      by : (b : Bool) → L (or_trap m (if b then Ok (record m.shared { output = m.shared.output ++ bytes }) else Err OutputFull) (λ s. flat.goes (with_shared m s) below))
-      by true = same
-      by false = shown (word.Trapped OutputFull) false
-
-  calls_show : (o : Option Entered) (args below : List Cell) → L (calls m o args below)
-  calls_show None args below = same
-  calls_show (Some f) args below = trap_shows (begun_with m.store f.params f.words args) _ (λ store. same)
-
-  returns_show : (value : Cell) (callers : List Caller) → L (returns m value callers)
-  returns_show value [] = shown word.Finished false
-  returns_show value (c ∷ callers) = same
-
-  arrives_shows : (t : Item) (o : Option BlockId) → L (arrives m t o)
-  arrives_shows t None = same
-  arrives_shows t (Some b) = by (block_at m.blocks b)
-    where
-      at_block : (z : Bool) (x : Block) → L (arrives_at z m t b x)
-      at_block true x = same
-      at_block false x = same
-
-      by : (o : Option Block) → L (arrives_in m t b o)
-      by None = same
-      by (Some x) = at_block (nat_eq x.count 0) x
-
-  dies_shows : (store : Store) (t : Item) (o : Option BlockId) → L (On (dies (with_store m store) t o))
-  dies_shows store t None = same
-  dies_shows store t (Some b) = by (block_at m.blocks b)
-    where
-      out : (z : Bool) (x : Block) → L (On (counted_out z (with_store m store) t b x))
-      out true x = same
-      out false x = same
-
-      by : (o : Option Block) → L (On (dies_in (with_store m store) t b o))
-      by None = same
-      by (Some x) = out (nat_eq x.count 1 && x.waits) x
-
-  asks_show : (b : Bool) (t : Item) (link : ℕ) (asked : Asked) (below : List Cell) → L (asks_in b m t link asked below)
-  asks_show true t link asked below = same
-  asks_show false t link asked below = same
+  -- what leads on just as with an entry still to come
+  alike_shows : (a b : Move Flat FlatEnd) → Alike any m a b → L a
+  alike_shows (On next) b h = λ none. h.1.todo ∙ none
+  alike_shows (Over x) b h = λ none. subst (λ (end : Option CoreEnd). IsSome end) (sym h.0.shows) (shown h.0.word h.0.idle none)
 
   -- where an entry is to come, nothing is said
   none_shown : (e : Entry) (es : List Entry) → m.shared.todo ≡ e ∷ es → (x : Move Flat FlatEnd) → L x
@@ -180,66 +116,9 @@ module _ (m : Flat) where
       go None e = same
       go (Some o) e = by o o.progress (not_begun o e)
 
-  module _ (code : Parts) (bound : ℕ) (t : Item) where
-    step_shows : L (begin code bound m t (Some i.Step))
-    step_shows = by (nat_lt m.shared.steps bound)
-      where
-        by : (b : Bool) → L (if b then flat.goes (with_shared m (with_step m.shared)) m.current.operands else flat.ends (flat.seen_of word.OutOfSteps false m) m.count)
-        by true = same
-        by false = shown word.OutOfSteps false
-
-    begin_shows : (instr : Instr) → L (begin code bound m t (Some instr))
-    begin_shows i.Step = step_shows
-    begin_shows (i.Push v) = same
-    begin_shows (i.Load level slot) = same
-    begin_shows (i.LoadG slot) = same
-    begin_shows (i.Store level slot) = top_shows _ m.current.operands (λ x below. same)
-    begin_shows (i.StoreG slot) = top_shows _ m.current.operands (λ x below. same)
-    begin_shows (i.Arr level slot len) = same
-    begin_shows (i.ArrG slot len) = same
-    begin_shows i.Elem = two_show _ m.current.operands (λ x y below. trap_shows (element m.store (place_in x) (int_in y)) _ (λ v. same))
-    begin_shows i.SetElem = three_show _ m.current.operands (λ x y z below. trap_shows (set_element m.store (place_in y) (int_in z) (int_in x)) _ (λ store. same))
-    begin_shows i.Place = two_show _ m.current.operands (λ x y below. trap_shows (part_at (place_in x) (int_in y)) _ (λ part. same))
-    begin_shows (i.Clear slot len) = same
-    begin_shows i.Neg = one_shows negated
-    begin_shows i.Not = one_shows not_true
-    begin_shows i.Flip = one_shows flipped
-    begin_shows i.Bool = one_shows truth
-    begin_shows i.BitOr = ints_show (always either_bits)
-    begin_shows i.BitXor = ints_show (always differing_bits)
-    begin_shows i.BitAnd = ints_show (always both_bits)
-    begin_shows i.Eq = ints_show (always is_equal)
-    begin_shows i.Ne = ints_show (always is_not_equal)
-    begin_shows i.Less = ints_show (always is_less)
-    begin_shows i.LessEq = ints_show (always is_at_most)
-    begin_shows i.More = ints_show (always (λ x y. is_less y x))
-    begin_shows i.MoreEq = ints_show (always (λ x y. is_at_most y x))
-    begin_shows i.Shl = ints_show (always shifted_left)
-    begin_shows i.Shr = ints_show (always shifted_right)
-    begin_shows i.Add = ints_show (always sum_of)
-    begin_shows i.Sub = ints_show (always difference_of)
-    begin_shows i.Mul = ints_show (always product_of)
-    begin_shows i.Div = ints_show quotient
-    begin_shows i.Rem = ints_show remainder
-    begin_shows i.Drop = top_shows _ m.current.operands (λ x below. same)
-    begin_shows (i.Jump to) = same
-    begin_shows (i.Jz to) = top_shows _ m.current.operands (λ x below. same)
-    begin_shows (i.Jnz to) = top_shows _ m.current.operands (λ x below. same)
-    begin_shows (i.Print text count) = many_show count _ m.current.operands (λ args below. print_shows (formatted (text_at code text) (map int_in args)) below)
-    begin_shows (i.Call function count) = many_show count _ m.current.operands (λ args below. calls_show (slice_get code.functions function) args below)
-    begin_shows i.Ret = top_shows _ m.current.operands (λ x below. returns_show (cell.Int (int_in x)) m.current.callers)
-    begin_shows (i.Enter slot) = same
-    begin_shows (i.Finish slot) = arrives_shows t m.current.block
-    begin_shows (i.Async slots to) = trap_shows (begun m.store (Some m.current.frame) (replicate slots no_int)) (λ store. On (starts m t to store)) (λ store. same)
-    begin_shows i.End = dies_shows (released m.store m.current.frame) t m.current.block
-    begin_shows i.Yield = same
-    begin_shows (i.Cancel level slot) = calls_off_shows (block_in (cell_at m.store m.current.frame level slot))
-    begin_shows (i.Send channel) = top_shows _ m.current.operands (λ x below. asks_show (is_cancelled m.blocks m.current.block) t channel _ below)
-    begin_shows (i.Recv channel) = top_shows _ m.current.operands (λ x below. asks_show (is_cancelled m.blocks m.current.block) t channel _ below)
-    begin_shows (i.Read file) = three_show _ m.current.operands (λ x y z below.
-        trap_shows (read_of file (int_in x) (int_in y) (place_in z)) _ (λ asked. asks_show (is_cancelled m.blocks m.current.block) t m.shared.requests asked below))
-    begin_shows (i.Write file) = three_show _ m.current.operands (λ x y z below.
-        trap_shows (write_of m.store file (int_in x) (int_in y) (place_in z)) _ (λ asked. asks_show (is_cancelled m.blocks m.current.block) t m.shared.requests asked below))
+  begin_shows : (code : Parts) (bound : ℕ) (t : Item) (o : Option Instr) → L (begin code bound m t o)
+  begin_shows code bound t (Some (i.Cancel level slot)) = calls_off_shows (block_in (cell_at m.store m.current.frame level slot))
+  begin_shows code bound t o = alike_shows (begin code bound m t o) (begin code bound (more_to_come any m) t o) (begin_alike any m code bound t o refl)
 
 -- ---- a run with no entry to come
 
@@ -257,14 +136,10 @@ module _ (code : Parts) (bound : ℕ) where
   exec_shows : (m : Flat) → m.shared.todo ≡ [] → Shows m (exec code bound m)
   exec_shows m last = by m.running
     where
-      at_place : (t : Item) (o : Option Instr) → Shows m (begin code bound m t o)
-      at_place t None = same m
-      at_place t (Some instr) = begin_shows m code bound t instr
-
       by : (o : Option Item) → Shows m (exec_of code bound m o)
       by None = subst (λ todo. Shows m (at_point (told m.count) m.shared m.store m.operations (λ shared x. On (arrived m shared x)) (dispatched m m.ready) todo)) (sym last)
           (dispatched_shows m m.ready)
-      by (Some t) = at_place t (slice_get code.instrs m.current.place)
+      by (Some t) = begin_shows m code bound t (slice_get code.instrs m.current.place)
 
   seen_at_end : (k : ℕ) (m : Flat) (end : FlatEnd) → m.shared.todo ≡ [] → moves (exec code bound) k m ≡ Over end → IsSome end.core
   seen_at_end zero m end last h = let no : On m ≡ Over end = h in absurd (cc)

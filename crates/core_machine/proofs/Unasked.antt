@@ -9,7 +9,7 @@ use Rattle.cancel_scope.specs.Outstanding.{is_outgoing, is_request, is_to_offer,
 use Rattle.core_machine.specs.declared.running.Running.{Running}
 use Rattle.core_machine.specs.Machine.{Machine, has_ended}
 use Rattle.core_machine.specs.State.{IsSound, machine_of, state_of}
-use Rattle.core_machine.specs.Points.{awaits_answer, begun_number, comes_first, has_to_offer, least_on, lesser, number_on, offer_number, operations_of, requests_of}
+use Rattle.core_machine.specs.Points.{has_to_offer, operations_of, requests_of}
 use Rattle.core_machine.specs.Tracks.{IsPlaced}
 use Rattle.core_machine.proofs.Points.{going_on, operations_are, tracks_of}
 
@@ -34,16 +34,6 @@ module _ (requests : ℕ) where
   pub nothing_to_offer : (os : List Operation) → All (IsPlaced requests) os → list_any (λ o. is_request o.asked) os ≡ false → has_to_offer os requests ≡ false
   nothing_to_offer os placed none = ap is_some (none_to_offer os placed none)
 
-  none_begun : (os : List Operation) → All (IsPlaced requests) os → list_any (λ o. is_request o.asked) os ≡ false → least_on begun_number os requests ≡ None
-  none_begun [] placed none = refl
-  none_begun (o ∷ os) placed none =
-      let rest = elsewhere o os placed none in
-      let first : number_on begun_number requests o ≡ None = ap (λ b. if b then begun_number o.progress else None) rest.0 in
-      ap (λ a. lesser a (least_on begun_number os requests)) first ∙ none_begun os rest.1.0 rest.1.1
-
-  pub nothing_awaited : (os : List Operation) → All (IsPlaced requests) os → list_any (λ o. is_request o.asked) os ≡ false → awaits_answer os requests ≡ false
-  nothing_awaited os placed none = ap (λ a. comes_first a (least_on offer_number os requests)) (none_begun os placed none)
-
 -- ---- a core that goes on
 
 module _ (m : Running) (old : Machine) (is : machine_of m ≡ old) (sound : IsSound m) (going : has_ended old.state ≡ false) where
@@ -63,11 +53,3 @@ module _ (m : Running) (old : Machine) (is : machine_of m ≡ old) (sound : IsSo
   offers_none link at none =
       subst (λ l. has_to_offer (operations_of old.state) l ≡ false) (sym (at ∙ requests_are))
       (nothing_to_offer (requests_of old) (operations_of old.state) placed (subst (λ os. list_any (λ (o : Operation). is_request o.asked) os ≡ false) same none))
-
-  pub awaits_none : (link : ℕ) → link ≡ m.requests → list_any (λ o. is_request o.asked) m.outstanding.operations ≡ false → awaits_answer (operations_of old.state) link ≡ false
-  awaits_none link at none =
-      subst (λ l. awaits_answer (operations_of old.state) l ≡ false) (sym (at ∙ requests_are))
-      (nothing_awaited (requests_of old) (operations_of old.state) placed (subst (λ os. list_any (λ (o : Operation). is_request o.asked) os ≡ false) same none))
-
-  pub operations_same : m.outstanding.operations ≡ operations_of old.state
-  operations_same = same

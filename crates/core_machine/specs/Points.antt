@@ -45,42 +45,6 @@ offer_carries os link payload = carried_by (find (is_to_offer link) os) payload
 abbrev pub receives_from : List Operation → ℕ → Bool
 receives_from os link = is_some (find (is_to_receive link) os)
 
--- ---- answers to requests
-
--- the number under which an operation stands, and that under which it has begun
-abbrev pub offer_number : Progress → Option ℕ
-offer_number (Offered number) = Some number
-offer_number _ = None
-
-abbrev pub begun_number : Progress → Option ℕ
-begun_number (Started number) = Some number
-begun_number _ = None
-
--- where it is one of that link
-abbrev pub number_on : (Progress → Option ℕ) → ℕ → Operation → Option ℕ
-number_on number link o = if nat_eq o.link link then number o.progress else None
-
-abbrev pub lesser : Option ℕ → Option ℕ → Option ℕ
-lesser None b = b
-lesser (Some a) None = Some a
-lesser (Some a) (Some b) = Some (min a b)
-
--- the least of the numbers that operations of that link have
-abbrev pub least_on : (Progress → Option ℕ) → List Operation → ℕ → Option ℕ
-least_on number [] link = None
-least_on number (o ∷ os) link = lesser (number_on number link o) (least_on number os link)
-
--- the first is there, and where the second is there it is greater
-abbrev pub comes_first : Option ℕ → Option ℕ → Bool
-comes_first None b = false
-comes_first (Some a) None = true
-comes_first (Some a) (Some b) = nat_lt a b
-
--- of the operations that were offered on a link and have not ended that of the least number has begun: answers come in order, so the next
--- one may be that to it
-abbrev pub awaits_answer : List Operation → ℕ → Bool
-awaits_answer os link = comes_first (least_on begun_number os link) (least_on offer_number os link)
-
 -- ---- what holds of them
 
 -- the link of the core's requests

@@ -1,6 +1,5 @@
 //! The machine that callers see.
 
-use crate::answering::awaits_answer;
 use crate::beginning::{make_first, request_link, set_starts};
 use crate::counter::Counter;
 use crate::ending::{Ending, word_now};
@@ -163,7 +162,7 @@ impl<'a> CoreMachine<'a> {
 
 impl<'a> CoreMachine<'a> {
     ghost use Rattle.std.specs.Prelude.{◌≡◌, ℕ, ◌<◌, ◌≤◌, List, Some, None, true, false, IsSome, MatchOption, OnOk, IfOk};
-    ghost use Rattle.std.specs.Prelude.{find, nat_eq, ◌&&◌};
+    ghost use Rattle.std.specs.Prelude.{find};
     ghost use Rattle.ac_base.specs.declared.entry.Event.{Event};
     ghost use Rattle.cancel_scope.specs.Outstanding.{is_offered, is_begun};
     ghost use Rattle.core_state.specs.Moves.{GoesOn};
@@ -173,7 +172,7 @@ impl<'a> CoreMachine<'a> {
     ghost use Rattle.code_meaning.specs.Machine.{exec};
     ghost use Rattle.core_machine.specs.Machine.{ComesToEnd, IsOnItsWay, IsSameCore, HasEnded, has_ended, is_idle};
     ghost use Rattle.core_machine.specs.Points.{is_at_point, operations_of, has_to_offer, offer_carries, receives_from, work_left};
-    ghost use Rattle.core_machine.specs.Points.{KeepsOperations, HasTracks, HasCome, awaits_answer, requests_of};
+    ghost use Rattle.core_machine.specs.Points.{KeepsOperations, HasTracks, HasCome};
     ghost use Rattle.core_machine.specs.Tried.{tried_of, HasDecided};
     ghost use Rattle.replay_laws.specs.Given.{Passes, passes_first};
 
@@ -244,25 +243,6 @@ impl<'a> CoreMachine<'a> {
             unreachable!()
         };
         payload_of(self.running.alloc, &operation.asked)
-    }
-
-    /// Whether the link is that of the core's requests, and of those that were offered there and have not
-    /// ended that of the least number has begun, so that the next answer may be that to it.
-    ///
-    /// Condition: the core has not ended.
-    pub fn awaits_answer(&self, link: u32) -> bool
-        requires { has_ended self.now.state ≡ false }
-        ensures { result ≡ (nat_eq link (requests_of self.now) && awaits_answer (operations_of self.now.state) link) }
-    {
-        let running = &self.running;
-        if link != running.requests {
-            return false;
-        }
-        // Where there is no request, no operation need be asked.
-        if !running.outstanding.has_requests() {
-            return false;
-        }
-        awaits_answer(&running.outstanding, link)
     }
 
     /// Whether an operation waits for a message from a link.

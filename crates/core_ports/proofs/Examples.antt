@@ -212,13 +212,16 @@ pub none_that_is_not_wanted : IsPollAnswer for_one (Decides []) none_at_hand fal
 none_that_is_not_wanted h = cc
 
 pub a_reply_that_is_wanted : IsPollAnswer asking (Owns (known_at 4 a_read ∷ [])) none_at_hand true 4 5 (arrived.Reply 0 (Count 2) 6)
-a_reply_that_is_wanted = (refl, refl, refl)
+a_reply_that_is_wanted = (refl, refl, refl, refl)
+
+pub no_reply_to_one_that_is_not_known : IsPollAnswer asking (Owns (a_read ∷ [])) none_at_hand true 4 5 (arrived.Reply 0 (Count 2) 6) → ⊥
+no_reply_to_one_that_is_not_known h = let e = h.3 in cc
 
 pub no_reply_on_a_channel : IsPollAnswer for_one (Owns (known_at 4 five ∷ [])) none_at_hand true 4 5 (arrived.Reply 0 (Count 2) 6) → ⊥
 no_reply_on_a_channel h = let e = h.1 in cc
 
 pub nothing_is_there : IsPollAnswer for_one (Owns []) none_at_hand true 0 1 arrived.Nothing
-nothing_is_there = record { decision = refl; front = λ w. refl; reply = λ w. refl }
+nothing_is_there = record { decision = refl; front = λ w. refl; reply = λ w waits. refl }
 
 pub a_decision_at_hand_is_not_missed : IsPollAnswer for_one (Owns (five ∷ [])) (record none_at_hand { decision = true }) false 4 1 arrived.Nothing → ⊥
 a_decision_at_hand_is_not_missed h = let e = h.decision in cc
@@ -227,10 +230,10 @@ pub nor_a_front_that_is_wanted : IsPollAnswer for_one (Decides []) (record none_
 nor_a_front_that_is_wanted h = let e = h.0.front refl in cc
 
 pub a_front_that_is_not_wanted : IsPollAnswer for_one (Decides []) (record none_at_hand { front = true }) false 3 1 arrived.Nothing
-a_front_that_is_not_wanted = record { decision = refl; front = λ w. cc; reply = λ w. refl }
+a_front_that_is_not_wanted = record { decision = refl; front = λ w. cc; reply = λ w waits. refl }
 
 pub not_yet_on_a_receiving_link : IsPollAnswer for_one (Decides []) none_at_hand true 3 1 arrived.NotYet
-not_yet_on_a_receiving_link = (record { decision = refl; front = λ w. refl; reply = λ w. refl }, refl, refl)
+not_yet_on_a_receiving_link = (record { decision = refl; front = λ w. refl; reply = λ w waits. refl }, refl, refl)
 
 pub not_on_a_sending_one : IsPollAnswer for_one (Owns []) none_at_hand true 0 1 arrived.NotYet → ⊥
 not_on_a_sending_one h = let e = h.1 in cc

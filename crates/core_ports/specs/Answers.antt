@@ -12,7 +12,7 @@ use Rattle.core_channels.specs.declared.answers.Withdrawing.{Withdrawing}
 use Rattle.core_channels.specs.declared.answers.Withdrawing.TheVariants as withdraw
 use Rattle.core_channels.specs.declared.answers.Arrived.{Arrived}
 use Rattle.core_channels.specs.declared.answers.Arrived.TheVariants as arrived
-use Rattle.core_ports.specs.Ends.{is_peer, offers_of, has_room}
+use Rattle.core_ports.specs.Ends.{is_peer, offers_of, has_room, awaits_reply}
 use Rattle.core_ports.specs.AtHand.{AtHand}
 
 -- the answer to an offer at this end by a core whose last stamp is `last`; what is not offered is handed back
@@ -30,11 +30,11 @@ IsWithdrawalAnswer heard last (withdraw.Withdrawn s) = Unit {0}
 IsWithdrawalAnswer heard last (withdraw.Taken s) = Unit {0}
 IsWithdrawalAnswer heard last withdraw.ClockFull = stamp_after last heard ≡ None
 
--- a poll that answers nothing has missed nothing that is at hand
-pub record MissesNothing (hand : AtHand) (wants : Bool) : Type 0 where
+-- a poll that answers nothing has missed nothing that is at hand; no reply comes before the decision of its request is known
+pub record MissesNothing (end : LinkEnd) (hand : AtHand) (wants : Bool) : Type 0 where
   pub decision : hand.decision ≡ false
   pub front : wants ≡ true → hand.front ≡ false
-  pub reply : wants ≡ true → hand.reply ≡ false
+  pub reply : wants ≡ true → awaits_reply end ≡ true → hand.reply ≡ false
 
 -- the answer to a poll; a decision is that of the first offer that is not known, and the rest comes only where it is wanted
 abbrev pub IsPollAnswer : Terms → LinkEnd → AtHand → Bool → ℕ → ℕ → Arrived → Type 0
@@ -43,9 +43,9 @@ IsPollAnswer terms end hand wants heard last (arrived.Room number s) = number �
 IsPollAnswer terms end hand wants heard last (arrived.Got number value s) = wants ≡ true
 IsPollAnswer terms end hand wants heard last (arrived.Pass number s) = wants ≡ true
 IsPollAnswer terms end hand wants heard last (arrived.Reply number answer s) =
-    (wants ≡ true) × (terms.requests ≡ true) × (number ≡ least_open (offers_of end))
-IsPollAnswer terms end hand wants heard last arrived.Nothing = MissesNothing hand wants
-IsPollAnswer terms end hand wants heard last arrived.NotYet = MissesNothing hand wants × (is_peer end ≡ true) × (wants ≡ true)
+    (wants ≡ true) × (terms.requests ≡ true) × (number ≡ least_open (offers_of end)) × (awaits_reply end ≡ true)
+IsPollAnswer terms end hand wants heard last arrived.Nothing = MissesNothing end hand wants
+IsPollAnswer terms end hand wants heard last arrived.NotYet = MissesNothing end hand wants × (is_peer end ≡ true) × (wants ≡ true)
 IsPollAnswer terms end hand wants heard last arrived.ClockFull =
     (stamp_after last heard ≡ None) × (is_peer end ≡ true → wants ≡ true)
 

@@ -6,7 +6,7 @@ ghost use Rattle.ac_links.specs.Payloads.{is_payload};
 ghost use Rattle.ac_links.specs.Views.{may_withdraw};
 ghost use Rattle.ac_links.specs.Party.{LinkEnd};
 ghost use Rattle.core_channels.specs.Laws.{told_by_offering, told_by_withdrawing};
-ghost use Rattle.core_ports.specs.Ends.{is_owner, is_held, offer_at, awaits_reply, AreUpTo};
+ghost use Rattle.core_ports.specs.Ends.{is_owner, is_held, offer_at, AreUpTo};
 ghost use Rattle.core_ports.specs.Tells.{told_by_arrival, Tells};
 ghost use Rattle.core_ports.specs.AtHand.{AtHand};
 ghost use Rattle.core_ports.specs.Answers.{IsOfferAnswer, IsWithdrawalAnswer, IsPollAnswer};
@@ -80,14 +80,13 @@ pub trait Ports {
         ensures stays { stays self.old self.new };
 
     /// Looks for what has come on the link: a decision of the first offer that is not known, and
-    /// where it is wanted the next message, or the reply to the first request that waits for one.
+    /// where it is wanted the next message, or the reply to the first request that is neither withdrawn
+    /// nor replied, once that is known to be taken.
     ///
-    /// Condition: the link is one of the core's; on a link of requests, a reply is wanted only where
-    /// the first request that is neither withdrawn nor replied is known to be taken; and the clock's
-    /// last stamp is at least every stamp at the core's ends.
+    /// Condition: the link is one of the core's, and the clock's last stamp is at least every stamp at
+    /// the core's ends.
     fn poll(&mut self, link: u32, wants: bool, clock: &mut Clock) -> Arrived
         requires link { is_held (ends self.old link) ≡ true }
-        requires wants { wants ≡ true → (terms self.old link).requests ≡ true → awaits_reply (ends self.old link) ≡ true }
         requires clock { AreUpTo clock.old (ends self.old) }
         ensures answer { IsPollAnswer (terms self.old link) (ends self.old link) (at_hand self.old link) wants
             (heard self.new link) clock.old result }

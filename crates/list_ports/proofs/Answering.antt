@@ -21,6 +21,7 @@ use Rattle.core_ports.specs.Answers.{IsOfferAnswer, IsWithdrawalAnswer, IsPollAn
 use Rattle.core_ports.specs.declared.side.Side.TheVariants.{Owner, Peer}
 use Rattle.list_ports.specs.Hands.{has_decision, next_reply, hand_at, greatest, last_stamp_of, heard_at}
 use Rattle.list_ports.specs.Polls.{replied_at, replying, awaited, looked, received, taking}
+use Rattle.list_ports.proofs.Known.{next_is_known}
 use Rattle.list_ports.proofs.Wiring.{carries_requests}
 
 -- ---- stamps that were seen
@@ -114,10 +115,10 @@ module _ (v : LinkViews) (wants : Bool) (last : ℕ) where
     module _ (wanted : wants ≡ true) where
       replied_answer : (r : Response) (q : Option ℕ) → next_reply v ≡ Some r → stamp_after last r.of ≡ q → Polled (replied_at (least_open v.offers) r q)
       replied_answer r None here e = (none_above last r.of (heard_at v Owner) (waits_below v.offers v.decisions r here) e, λ p. cc)
-      replied_answer r (Some s) here e = (wanted, carries_requests v r it here, refl)
+      replied_answer r (Some s) here e = (wanted, carries_requests v r it here, refl, next_is_known v.offers v.decisions r it.agree undecided here)
 
       replying_answer : (q : Option Response) → next_reply v ≡ q → Polled (replying v last q)
-      replying_answer None here = record { decision = undecided; front = λ w. refl; reply = λ w. ap is_some here }
+      replying_answer None here = record { decision = undecided; front = λ w. refl; reply = λ w waits. ap is_some here }
       replying_answer (Some r) here = replied_answer r (stamp_after last r.of) here refl
 
     awaited_answer : (b : Bool) → wants ≡ b → Polled (awaited v last b)
@@ -125,7 +126,7 @@ module _ (v : LinkViews) (wants : Bool) (last : ℕ) where
     awaited_answer false e = record {
       decision = undecided;
       front = λ w. refl;
-      reply = λ w. let no : false ≡ true = sym e ∙ w in absurd (cc);
+      reply = λ w waits. let no : false ≡ true = sym e ∙ w in absurd (cc);
     }
 
     waits_answer : Polled (awaited v last wants)
@@ -162,9 +163,9 @@ module _ (v : LinkViews) (last : ℕ) where
       passed (stamp_after last w) (none_above last w (heard_at v Peer) (omega arith))
 
   by_front : (o : Option OwnerOffer) → slice_get v.offers (length v.decisions) ≡ o → Taken o
-  by_front None e = record { decision = refl; front = λ w. ap is_some e; reply = λ w. refl }
+  by_front None e = record { decision = refl; front = λ w. ap is_some e; reply = λ w waits. refl }
   by_front (Some o) e = by_withdrawal o o.withdrawn refl (among last_stamp_of v.offers (length v.decisions) o e)
 
   pub taking_is_answered : (wants : Bool) → IsPollAnswer v.terms (Decides v.decisions) (hand_at v Peer) wants (heard_at v Peer) last (taking v last wants)
   taking_is_answered true = by_front (slice_get v.offers (length v.decisions)) refl
-  taking_is_answered false = record { decision = refl; front = λ w. cc; reply = λ w. refl }
+  taking_is_answered false = record { decision = refl; front = λ w. cc; reply = λ w waits. refl }

@@ -1,6 +1,7 @@
 pub mod Answering
 pub mod Changing
 pub mod Examples
+pub mod Known
 pub mod Looking
 pub mod OwnerLooks
 pub mod Replying

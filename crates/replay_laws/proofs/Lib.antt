@@ -1,4 +1,3 @@
-pub mod Alike
 pub mod Refusals
 pub mod Turns
 pub mod Prefixes

@@ -31,10 +31,9 @@ use Rattle.stack_code.specs.Kept.{IsRanked}
 use Rattle.code_meaning.specs.Machine as flat
 use Rattle.code_meaning.specs.Machine.{Flat, FlatEnd, nobody, arrived, resumed, begin, exec, exec_of, dispatched, told, first_flat, first_core, first_globals, shared_at_first, thread_at}
 use Rattle.code_safety.proofs.Beginnings.{comes_to}
-use Rattle.code_safety.proofs.Journal.{more_shared, more_to_come}
+use Rattle.code_safety.proofs.Alike.{Alike, begin_alike, more_shared, more_to_come}
 use Rattle.code_safety.proofs.Waiting.{found_at}
 use Rattle.replay_laws.specs.Given.{HasRun}
-use Rattle.replay_laws.proofs.Alike.{Alike, begin_alike}
 use Rattle.replay_laws.proofs.Refusals.{no_run}
 use Rattle.replay_laws.proofs.Turns.{Keeps, stays, takes, exec_keeps}
 

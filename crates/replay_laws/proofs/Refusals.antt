@@ -26,9 +26,9 @@ use Rattle.stack_code.specs.declared.parts.Entered.{Entered}
 use Rattle.stack_code.specs.Parts.{Parts, Begins}
 use Rattle.code_meaning.specs.Machine as flat
 use Rattle.code_meaning.specs.Machine.{Flat, FlatEnd, nobody, arrived, resumed, begin, exec, exec_of, dispatched, told, first_flat, thread_at}
-use Rattle.code_safety.proofs.Journal.{more_shared, more_to_come, TriesNext, run_more}
+use Rattle.code_safety.proofs.Journal.{TriesNext, run_more}
+use Rattle.code_safety.proofs.Alike.{Alike, begin_alike, more_shared, more_to_come}
 use Rattle.replay_laws.specs.Given.{HasRun, HasComeTo, is_on_offer, asks_of, asks_at, asks_by, asks, passes_by, Passes}
-use Rattle.replay_laws.proofs.Alike.{Alike, begin_alike}
 
 -- ---- a journal has one end
 

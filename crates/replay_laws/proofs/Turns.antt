@@ -24,9 +24,8 @@ use Rattle.stack_code.specs.declared.instr.Instr.TheVariants as i
 use Rattle.stack_code.specs.Parts.{Parts}
 use Rattle.code_meaning.specs.Machine as flat
 use Rattle.code_meaning.specs.Machine.{Flat, FlatEnd, nobody, arrived, resumed, begin, exec, exec_of, dispatched, told, first_flat, first_core, first_globals, shared_at_first, thread_at}
-use Rattle.code_safety.proofs.Journal.{more_to_come, is_cancel}
+use Rattle.code_safety.proofs.Alike.{Alike, begin_alike, is_cancel, more_to_come}
 use Rattle.replay_laws.specs.Given.{HasRun, Rises, last_turn}
-use Rattle.replay_laws.proofs.Alike.{Alike, begin_alike}
 
 -- ---- what a move makes of the journal
 

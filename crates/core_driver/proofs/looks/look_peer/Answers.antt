@@ -14,10 +14,6 @@ receives_from-wants-requires g c = still_going _ (ap is_at_point c.make_room.ens
 pub poll-requires-clause-link : goal.poll-requires-clause-link
 poll-requires-clause-link g c = peer_holds _ (c.requires.in_step.ports.peer c.args.link c.requires.side)
 
-pub poll-requires-clause-wants : goal.poll-requires-clause-wants
-poll-requires-clause-wants g c = λ wanted asks. let no : false ≡ true = sym (no_requests _ _ _ _ c.args.link c.requires.in_step.ports (peer_is_channel _ _ c.args.link c.requires.side)) ∙
-    asks in absurd (cc)
-
 pub poll-requires-clause-clock : goal.poll-requires-clause-clock
 poll-requires-clause-clock g c = up_to _ _ c.requires.in_step
 

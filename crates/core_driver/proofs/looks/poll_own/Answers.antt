@@ -1,13 +1,12 @@
-use Rattle.std.proofs.Common.{◌≡◌, ℕ, Some, None, true, sym, ap, ◌∙◌, subst}
+use Rattle.std.proofs.Common.{◌≡◌, ℕ, Some, None, true, refl, ap, ◌∙◌, subst}
 use Rattle.ac_base.specs.declared.entry.Event.TheVariants as event
 use Rattle.core_machine.specs.Points.{is_at_point}
-use Rattle.ac_links.specs.declared.payloads.Terms.{Terms}
 use Rattle.ac_links.specs.Party.{LinkEnd}
 use Rattle.core_ports.specs.AtHand.{AtHand}
 use Rattle.core_ports.specs.Ends.{awaits_reply}
 use Rattle.core_driver.proofs.Together.{entered_looks, frees_after, knows_after, nothing_looks, owner_gets_nothing, owner_is_no_peer}
-use Rattle.core_driver.proofs.Together.{owner_passes_nothing, roomed_looks, still_going, told_moves, up_to}
-use Rattle.core_driver.proofs.Awaiting.{awaits_after, reply_after}
+use Rattle.core_driver.proofs.Together.{owner_passes_nothing, roomed_looks, told_moves, up_to}
+use Rattle.core_driver.proofs.Awaiting.{reply_after}
 use Rattle.core_driver.proofs.Looking.{counts_here, full_there, owner_holds, poll_called}
 use Rattle.core_driver.specs.inner.Outside.{outside}
 use Rattle.core_driver.proofs.looks.poll_own.Goals as goal
@@ -18,20 +17,13 @@ poll-requires-clause-link g c = owner_holds _ (c.requires.in_step.ports.owner c.
 pub poll-requires-clause-clock : goal.poll-requires-clause-clock
 poll-requires-clause-clock g c = up_to _ _ c.requires.in_step
 
-pub poll-requires-clause-wants : goal.poll-requires-clause-wants
-poll-requires-clause-wants g c = λ wants asks. sym (awaits_after c.args.machine.now c.make_room.new.self _ c.requires.in_step c.requires.point c.make_room.ensures.same
-    c.make_room.ensures.state c.make_room.ensures.run c.make_room.ensures.tracks c.args.link c.requires.side asks) ∙ sym c.awaits_answer-awaits.ensures ∙ wants
-
-pub awaits_answer-awaits-requires : goal.awaits_answer-awaits-requires
-awaits_answer-awaits-requires g c = still_going _ (ap is_at_point c.make_room.ensures.state ∙ c.requires.point)
-
 pub replied-requires-clause-point : goal.replied-requires-clause-point
 replied-requires-clause-point g c = ap is_at_point c.make_room.ensures.state ∙ c.requires.point
 
 pub replied-requires-clause-some : goal.replied-requires-clause-some
 replied-requires-clause-some g c = reply_after c.args.machine.now c.make_room.new.self _ c.requires.in_step c.requires.point c.make_room.ensures.same c.make_room.ensures.state
-    c.make_room.ensures.run c.make_room.ensures.tracks c.args.link c.requires.side c.in-Reply.ensures.answer.1 (sym c.awaits_answer-awaits.ensures ∙ c.in-Reply.ensures.answer.0)
-    c.in-Reply.number c.in-Reply.ensures.answer.2
+    c.make_room.ensures.run c.make_room.ensures.tracks c.args.link c.requires.side c.in-Reply.ensures.answer.1 c.in-Reply.ensures.answer.3 c.in-Reply.number
+    c.in-Reply.ensures.answer.2
 
 pub know-requires-clause-point : goal.know-requires-clause-point
 know-requires-clause-point g c = ap is_at_point c.make_room.ensures.state ∙ c.requires.point
@@ -196,12 +188,8 @@ returns-in-ClockFull-clause-polled g c = counts_here (g.P.Ports.polls c.args.por
 
 pub returns-in-Nothing-clause-reply : goal.returns-in-Nothing-clause-reply
 returns-in-Nothing-clause-reply g c = λ e same asks waits.
-    let carries = subst (λ (t : ℕ → Terms). (t c.args.link).requests ≡ true) c.in-Nothing.ensures.terms asks in
     let there = subst (λ (x : ℕ → LinkEnd). awaits_reply (x c.args.link) ≡ true) c.in-Nothing.ensures.tells.0 waits in
-    let wants : c.awaits_answer-awaits.result ≡ true = c.awaits_answer-awaits.ensures
-    ∙ awaits_after c.args.machine.now c.make_room.new.self _ c.requires.in_step c.requires.point c.make_room.ensures.same c.make_room.ensures.state c.make_room.ensures.run
-    c.make_room.ensures.tracks c.args.link c.requires.side carries ∙ there in
-    ap (λ (f : ℕ → AtHand). (f c.args.link).reply) c.in-Nothing.ensures.hand ∙ c.in-Nothing.ensures.answer.reply wants
+    ap (λ (f : ℕ → AtHand). (f c.args.link).reply) c.in-Nothing.ensures.hand ∙ c.in-Nothing.ensures.answer.reply refl there
 
 pub unreachable-requires : goal.unreachable-requires
 unreachable-requires g c = owner_gets_nothing _ _ c.args.link c.in-Got.number c.in-Got.value (c.requires.in_step.ports.owner c.args.link c.requires.side) c.in-Got.ensures.tells.fits

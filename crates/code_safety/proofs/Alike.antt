@@ -1,4 +1,5 @@
--- An instruction that ends a core ends it before an entry that is still to come, too, and then nothing is seen of the end.
+-- No instruction but a cancel concerns the journal: with one entry more still to come it leads on too, and where it ends the core, nothing
+-- is seen of the end.
 use Rattle.std.proofs.Common.{◌≡◌, ℕ, ◌+◌, List, [], ◌∷◌, ◌++◌, length, map, Option, Some, None, Result, Ok, Err, Bool, true, false, refl}
 use Rattle.std.specs.Prelude.{ℤ, reverse, take, drop, replicate, nat_le, nat_lt, nat_eq, slice_get, ◌&&◌, if◌then◌else◌}
 use Rattle.ac_base.specs.declared.ends.Trap.{Trap}
@@ -17,7 +18,7 @@ use Rattle.core_state.specs.Arithmetic.{shifted_left, shifted_right, is_equal, i
 use Rattle.core_state.specs.Frames.{element, set_element, part_at, begun, begun_with}
 use Rattle.cancel_scope.specs.declared.operation.Asked.{Asked}
 use Rattle.cancel_scope.specs.declared.operation.Asked.TheVariants as asked
-use Rattle.core_state.specs.Shared.{with_step, printed, formatted, output_limit, seen_left}
+use Rattle.core_state.specs.Shared.{Shared, with_step, printed, formatted, output_limit, seen_left}
 use Rattle.core_state.specs.Requests.{read_of, write_of}
 use Rattle.stack_code.specs.declared.instr.Instr.{Instr}
 use Rattle.stack_code.specs.declared.instr.Instr.TheVariants as i
@@ -27,8 +28,25 @@ use Rattle.code_meaning.specs.Machine as flat
 use Rattle.code_meaning.specs.Machine.{Flat, FlatEnd, nobody, Caller, Block, arrived, resumed, begin, exec, exec_of, dispatched, told, with_store, with_shared, or_trap, on_top, on_two, on_three}
 use Rattle.code_meaning.specs.Machine.{on_many, one_operand}
 use Rattle.code_meaning.specs.Machine.{two_operands, always, text_at}
-use Rattle.code_safety.proofs.Journal.{more_to_come, KeepsJournal, is_cancel}
 use Rattle.code_meaning.specs.Machine.{calls, returns, arrives, arrives_in, arrives_at, dies, dies_in, counted_out, block_at, shared_at_first, first_flat, first_core, first_globals, thread_at}
+
+-- one entry more is still to come
+abbrev pub more_shared : Entry → Shared → Shared
+more_shared e s = record s { todo = s.todo ++ e ∷ [] }
+
+abbrev pub more_to_come : Entry → Flat → Flat
+more_to_come e m = record m { shared = more_shared e m.shared }
+
+-- the journal is as it was, and so is the turn
+pub record KeepsJournal (before after : Shared) : Type 0 where
+  pub past : after.past ≡ before.past
+  pub todo : after.todo ≡ before.todo
+  pub turn : after.turn ≡ before.turn
+
+-- only a cancel takes entries of the journal
+abbrev pub is_cancel : Option Instr → Bool
+is_cancel (Some (i.Cancel level slot)) = true
+is_cancel _ = false
 
 -- an end shows the core as it is
 pub record Ends (m : Flat) (x : FlatEnd) : Type 0 where
