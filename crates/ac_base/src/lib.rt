@@ -22,4 +22,4 @@ pub use hexadecimal::hex;
 pub use list::{Bytes, List, Name};
 pub use memory::NoMemory;
 pub use span::Span;
-pub use texts::{decimal, report, status};
+pub use texts::{decimal, end_word, report, status};

@@ -30,7 +30,8 @@ fn trap_word(trap: Trap) -> &'static str
     }
 }
 
-fn end_word(word: EndWord) -> &'static str
+/// The word for how a core has ended, as a report and a trace have it.
+pub fn end_word(word: EndWord) -> &'static str
     ensures { result.now ≡ word_text word }
 {
     match word {

@@ -3,11 +3,15 @@
 use Rattle.std.proofs.Common.{◌≡◌, ℕ, ◌+◌, List, [], ◌∷◌, ◌++◌, length, map, Option, Some, None, Bool, true, false, inl, inr, refl, sym, ap, subst}
 use Rattle.std.specs.Prelude.{slice_get, pos}
 use Rattle.ac_tree.specs.declared.expr.Expr.{Expr}
+use Rattle.ac_tree.specs.declared.expr.Expr.TheVariants as expr
 use Rattle.ac_tree.specs.declared.expr.Link.{Link}
-use Rattle.ac_tree.specs.declared.stmt.Stmt.{Stmt}
+use Rattle.ac_tree.specs.declared.stmt.Stmt.{Stmt, roll-Stmt}
+use Rattle.ac_tree.specs.declared.stmt.Stmt.TheFolds.{map-Stmt}
+use Rattle.ac_tree.specs.declared.stmt.Stmt.TheVariants as stmt
 use Rattle.ac_tree.specs.declared.stmt.Stmt.TheOpen.{Stmt-F}
 use Rattle.ac_tree.specs.Shape as shape
 use Rattle.ac_tree.specs.Shape.{IsExpr, AreLinks as LinksShaped, IsPlace as PlaceShaped, IsCall, AreExprs, IsDeclaration, IsAssignment, IsFirst, IsNext, IsStmt, AreEntries}
+use Rattle.ac_tree.proofs.Folds.{link_folds, for_folds}
 use Rattle.ac_names.specs.declared.meaning.Meaning.{Meaning}
 use Rattle.ac_names.specs.declared.meaning.Meaning.TheVariants as m
 use Rattle.ac_names.specs.declared.names.Names.{Names}
@@ -29,8 +33,7 @@ use Rattle.ac_types.specs.Judged.{call_tests, sends_away, takes_away, channel_te
 use Rattle.ac_types.specs.Expressions.{number_of, one_node, join_nodes, expr_nodes, links_step, args_step, values_all, value_all}
 use Rattle.ac_types.specs.Statements.{stmt_nodes, body_nodes, some_gives, for_gives}
 use Rattle.ac_types.proofs.Cleans.{AllClean, clean_sooner, clean_later}
-use Rattle.ac_types.proofs.Forms as nodes
-use Rattle.ac_types.proofs.Forms.{ExprNodes, link_nodes, StmtNodes, of_stmt, some_nodes}
+use Rattle.ac_types.proofs.Forms.{ExprNodes, of_expr, of_link, link_nodes, StmtNodes, of_stmt, some_nodes, expr_is, stmt_is}
 use Rattle.ac_commands.specs.declared.value.Action.TheVariants as act
 use Rattle.ac_commands.specs.declared.value.Place.TheVariants as slots
 use Rattle.ac_commands.specs.declared.value.Value.{Value}
@@ -38,10 +41,10 @@ use Rattle.ac_commands.specs.declared.value.ValueLink.{ValueLink}
 use Rattle.ac_commands.specs.declared.command.Command.{Command}
 use Rattle.ac_commands.specs.declared.command.Command.TheVariants as cm
 use Rattle.ac_resolve.specs.Places.{constant_value, reference_to, function_of, channel_of, cancel_of}
-use Rattle.ac_resolve.specs.Computed.{Reading, InScopes, read, link_in, links_step as reading_links, arguments_step, file_operands}
+use Rattle.ac_resolve.specs.Computed.{Reading, InScopes, read, read_step, link_step, link_in, links_step as reading_links, arguments_step, file_operands}
 use Rattle.ac_resolve.specs.Computed.{value_in, argument_in, target_in, values_in, some_in, initial_in}
 use Rattle.ac_resolve.specs.Commands.{Texts, Told, told_step, told, some_told, some_shape, commands, some_texts, some_commands, for_names}
-use Rattle.ac_resolve.proofs.Forms as reads
+use Rattle.ac_resolve.proofs.Forms.{expr_reads, stmt_tells}
 use Rattle.ac_resolve.proofs.Tellings.{is_told, listed_same, some_same, some_alike}
 use Rattle.ac_resolve.proofs.ValuesInPlace.{AreClean}
 use Rattle.stack_code.specs.declared.instr.Instr.{Instr}
@@ -171,38 +174,38 @@ module _ (t : Tables) (calls : List ℕ) where
 
     -- an argument that is no variable has the code of its value
     call_argument : (x : Expr) → IsCall x → V (value_in x scopes a.depth) → V (argument_in x scopes a.depth)
-    call_argument _ (shape.function_call at name args gs) v = value_given (reads.call_reads at name args) refl v
-    call_argument _ (shape.send at channel value g) v = value_given (reads.send_reads at channel value) refl v
-    call_argument _ (shape.recv at channel place g) v = value_given (reads.recv_reads at channel place) refl v
-    call_argument _ (shape.read at file from len array g h) v = value_given (reads.read_reads at file from len array) refl v
-    call_argument _ (shape.write at file from len array g h) v = value_given (reads.write_reads at file from len array) refl v
+    call_argument _ (shape.function_call at name args gs) v = value_given (expr_reads _ (expr.rolls-Call at name args)) refl v
+    call_argument _ (shape.send at channel value g) v = value_given (expr_reads _ (expr.rolls-Send at channel value)) refl v
+    call_argument _ (shape.recv at channel place g) v = value_given (expr_reads _ (expr.rolls-Recv at channel place)) refl v
+    call_argument _ (shape.read at file from len array g h) v = value_given (expr_reads _ (expr.rolls-Read at file from len array)) refl v
+    call_argument _ (shape.write at file from len array g h) v = value_given (expr_reads _ (expr.rolls-Write at file from len array)) refl v
 
     argument_given : (x : Expr) → IsExpr x → V (value_in x scopes a.depth) → V (argument_in x scopes a.depth)
-    argument_given _ (shape.number at value) v = value_given (reads.number_reads at value) refl v
-    argument_given _ (shape.constant at which) v = value_given (reads.constant_reads at which) refl v
-    argument_given _ (shape.place _ (shape.variable at name)) v = argument_as (reads.name_reads at name) (each.argument_holds P own (visible name scopes) a.depth)
-    argument_given _ (shape.place _ (shape.element at name index g)) v = value_given (reads.index_reads at name index) refl v
+    argument_given _ (shape.number at value) v = value_given (expr_reads _ (expr.rolls-Number at value)) refl v
+    argument_given _ (shape.constant at which) v = value_given (expr_reads _ (expr.rolls-Const at which)) refl v
+    argument_given _ (shape.place _ (shape.variable at name)) v = argument_as (expr_reads _ (expr.rolls-Name at name)) (each.argument_holds P own (visible name scopes) a.depth)
+    argument_given _ (shape.place _ (shape.element at name index g)) v = value_given (expr_reads _ (expr.rolls-Index at name index)) refl v
     argument_given _ (shape.call x g) v = call_argument x g v
-    argument_given _ (shape.group at inner g) v = value_given (reads.group_reads at inner) refl v
-    argument_given _ (shape.unary at op inner g) v = value_given (reads.unary_reads at op inner) refl v
-    argument_given _ (shape.chain at level first link links g gs) v = value_given (reads.chain_reads at level first (link ∷ links)) refl v
+    argument_given _ (shape.group at inner g) v = value_given (expr_reads _ (expr.rolls-Group at inner)) refl v
+    argument_given _ (shape.unary at op inner g) v = value_given (expr_reads _ (expr.rolls-Unary at op inner)) refl v
+    argument_given _ (shape.chain at level first link links g gs) v = value_given (expr_reads _ (expr.rolls-Chain at level first (link ∷ links))) refl v
 
     mutual
       value_at : (w : Position) (x : Expr) → IsExpr x → At (expr_nodes x) w → V (value_in x scopes a.depth)
-      value_at w _ (shape.number at value) c = value_as (reads.number_reads at value) (each.number_holds P own value)
-      value_at w _ (shape.constant at which) c = value_as (reads.constant_reads at which) (each.number_holds P own (constant_value which))
+      value_at w _ (shape.number at value) c = value_as (expr_reads _ (expr.rolls-Number at value)) (each.number_holds P own value)
+      value_at w _ (shape.constant at which) c = value_as (expr_reads _ (expr.rolls-Const at which)) (each.number_holds P own (constant_value which))
       value_at w _ (shape.place x g) c = place_value w x g c
       value_at w _ (shape.call x g) c = call_at w x g c
       value_at w _ (shape.group at inner g) c =
-          let k = form w (nodes.group_is at inner) c in
-          value_as (reads.group_reads at inner) (value_at po.Value inner g (k.0.1, k.1.1))
+          let k = form w (expr_is _ (expr.rolls-Group at inner)) c in
+          value_as (expr_reads _ (expr.rolls-Group at inner)) (value_at po.Value inner g (k.0.1, k.1.1))
       value_at w _ (shape.unary at op inner g) c =
-          let k = form w (nodes.unary_is at op inner) c in
-          value_as (reads.unary_reads at op inner) (each.unary_holds P own op _ (value_at po.Value inner g (k.0.1, k.1.1)))
+          let k = form w (expr_is _ (expr.rolls-Unary at op inner)) c in
+          value_as (expr_reads _ (expr.rolls-Unary at op inner)) (each.unary_holds P own op _ (value_at po.Value inner g (k.0.1, k.1.1)))
       value_at w _ (shape.chain at level first link links g gs) c =
-          let k = form w (nodes.chain_is at level first (link ∷ links)) c in
+          let k = form w (expr_is _ (expr.rolls-Chain at level first (link ∷ links))) c in
           let parts : Fair (λ t a. used first t a ++ links_nodes (link ∷ links) t a) a = (k.0.1, k.1.1) in
-          value_as (reads.chain_reads at level first (link ∷ links))
+          value_as (expr_reads _ (expr.rolls-Chain at level first (link ∷ links)))
           (each.chain_holds P own _ _ (value_at po.Value first g (sooner (used first) (links_nodes (link ∷ links)) a parts))
           (links_at (link ∷ links) gs (later (used first) (links_nodes (link ∷ links)) a parts)))
 
@@ -211,28 +214,28 @@ module _ (t : Tables) (calls : List ℕ) where
       links_at _ (shape.one_link link links g gs) c =
           let left : Given = λ t a. link_nodes link t scopes a po.Value in
           each.one_link P own (link_in link scopes a.depth) _
-          (subst (λ (z : InScopes ValueLink). V (z scopes a.depth).operand) (sym (reads.link_reads link))
-          (value_at po.Value link.operand g (form po.Value (nodes.link_is link) (sooner left (links_nodes links) a c))))
+          (subst (λ (z : InScopes ValueLink). V (z scopes a.depth).operand) (sym (link_folds read_step link_step link))
+          (value_at po.Value link.operand g (form po.Value (link_folds of_expr of_link link) (sooner left (links_nodes links) a c))))
           (links_at links gs (later left (links_nodes links) a c))
 
       place_value : (w : Position) (x : Expr) → PlaceShaped x → At (expr_nodes x) w → V (value_in x scopes a.depth)
-      place_value w _ (shape.variable at name) c = value_as (reads.name_reads at name) (each.variable_holds P own _)
+      place_value w _ (shape.variable at name) c = value_as (expr_reads _ (expr.rolls-Name at name)) (each.variable_holds P own _)
       place_value w _ (shape.element at name index g) c =
-          let k = form w (nodes.index_is at name index) c in
-          value_as (reads.index_reads at name index) (each.element_holds P own _ _ (value_at po.Value index g (k.0.1, k.1.1)))
+          let k = form w (expr_is _ (expr.rolls-Index at name index)) c in
+          value_as (expr_reads _ (expr.rolls-Index at name index)) (each.element_holds P own _ _ (value_at po.Value index g (k.0.1, k.1.1)))
 
       target_at : (x : Expr) → PlaceShaped x → Fair (used x) a → Targets P own (target_in x scopes a.depth)
-      target_at _ (shape.variable at name) c = target_as (reads.name_reads at name) (each.target_holds P own _)
+      target_at _ (shape.variable at name) c = target_as (expr_reads _ (expr.rolls-Name at name)) (each.target_holds P own _)
       target_at _ (shape.element at name index g) c =
-          let k = form po.Value (nodes.index_is at name index) c in
-          target_as (reads.index_reads at name index) (each.put_holds P own _ _ (value_at po.Value index g (k.0.1, k.1.1)))
+          let k = form po.Value (expr_is _ (expr.rolls-Index at name index)) c in
+          target_as (expr_reads _ (expr.rolls-Index at name index)) (each.put_holds P own _ _ (value_at po.Value index g (k.0.1, k.1.1)))
 
       -- where an operation puts what it receives
       reference_at : (x : Expr) → PlaceShaped x → Fair (used x) a → V (reference_to (target_in x scopes a.depth))
-      reference_at _ (shape.variable at name) c = reference_as (reads.name_reads at name) (each.reference_holds P own _)
+      reference_at _ (shape.variable at name) c = reference_as (expr_reads _ (expr.rolls-Name at name)) (each.reference_holds P own _)
       reference_at _ (shape.element at name index g) c =
-          let k = form po.Value (nodes.index_is at name index) c in
-          reference_as (reads.index_reads at name index) (each.part_holds P own _ _ (value_at po.Value index g (k.0.1, k.1.1)))
+          let k = form po.Value (expr_is _ (expr.rolls-Index at name index)) c in
+          reference_as (expr_reads _ (expr.rolls-Index at name index)) (each.part_holds P own _ _ (value_at po.Value index g (k.0.1, k.1.1)))
 
       arguments_at : (o : Option Meaning) (n : ℕ) (xs : List Expr) → AreExprs xs → Fair (args_nodes o n xs) a → Holds P own (values_code (arguments_step (map read xs) scopes a.depth))
       arguments_at o n _ shape.no_expr c = each.none_holds P own
@@ -244,27 +247,27 @@ module _ (t : Tables) (calls : List ℕ) where
 
       call_at : (w : Position) (x : Expr) → IsCall x → At (expr_nodes x) w → V (value_in x scopes a.depth)
       call_at w _ (shape.function_call at name args gs) c =
-          let k = form w (nodes.call_is at name args) c in
+          let k = form w (expr_is _ (expr.rolls-Call at name args)) c in
           let o = visible name scopes in
-          value_as (reads.call_reads at name args)
+          value_as (expr_reads _ (expr.rolls-Call at name args))
           (each.act_holds P own (act.Call (function_of o)) _ (called_fair o (length (map expr_nodes args)) w k.0.0 k.1.0) (arguments_at o 0 args gs (k.0.1, k.1.1)))
       call_at w _ (shape.send at channel value g) c =
-          let k = form w (nodes.send_is at channel value) c in
+          let k = form w (expr_is _ (expr.rolls-Send at channel value)) c in
           let o = visible channel scopes in
-          value_as (reads.send_reads at channel value)
+          value_as (expr_reads _ (expr.rolls-Send at channel value))
           (each.act_holds P own (act.Send (channel_of o)) _ (own_end (sends_away a.reached) o w k.0.0) (each.operand_holds P own _ (value_at po.Value value g (k.0.1, k.1.1))))
       call_at w _ (shape.recv at channel place g) c =
-          let k = form w (nodes.recv_is at channel place) c in
+          let k = form w (expr_is _ (expr.rolls-Recv at channel place)) c in
           let o = visible channel scopes in
-          value_as (reads.recv_reads at channel place)
+          value_as (expr_reads _ (expr.rolls-Recv at channel place))
           (each.act_holds P own (act.Recv (channel_of o)) _ (own_end (takes_away a.reached) o w k.0.0) (each.operand_holds P own _ (reference_at place g (k.0.1, k.1.1))))
       call_at w _ (shape.read at file from len array g h) c =
-          let k = form w (nodes.read_is at file from len array) c in
-          value_as (reads.read_reads at file from len array) (each.act_holds P own _ _ tt (in_file from len array
+          let k = form w (expr_is _ (expr.rolls-Read at file from len array)) c in
+          value_as (expr_reads _ (expr.rolls-Read at file from len array)) (each.act_holds P own _ _ tt (in_file from len array
           (value_at po.Value from g (sooner (used from) (used len) a (k.0.1, k.1.1))) (value_at po.Value len h (later (used from) (used len) a (k.0.1, k.1.1)))))
       call_at w _ (shape.write at file from len array g h) c =
-          let k = form w (nodes.write_is at file from len array) c in
-          value_as (reads.write_reads at file from len array) (each.act_holds P own _ _ tt (in_file from len array
+          let k = form w (expr_is _ (expr.rolls-Write at file from len array)) c in
+          value_as (expr_reads _ (expr.rolls-Write at file from len array)) (each.act_holds P own _ _ tt (in_file from len array
           (value_at po.Value from g (sooner (used from) (used len) a (k.0.1, k.1.1))) (value_at po.Value len h (later (used from) (used len) a (k.0.1, k.1.1)))))
 
     -- ---- parts of statements
@@ -300,6 +303,11 @@ module _ (t : Tables) (calls : List ℕ) where
   same_does : {q q2 : Told} {k k2 : StmtNodes} → q ≡ q2 → k ≡ k2 → Does q2 k2 → Does q k
   same_does {q} {q2} {k} {k2} e g h = subst (λ x. Does x k) (sym e) (subst (λ y. Does q2 y) (sym g) h)
 
+  -- a form does it if it does by its parts
+  form_does : (y : Stmt-F Stmt) {x : Stmt} → roll-Stmt y ≡ x
+      → Does (told_step (map-Stmt Stmt Told told y)) (of_stmt (map-Stmt Stmt StmtNodes stmt_nodes y)) → DoesIt x
+  form_does y is h = same_does (stmt_tells y is) (stmt_is y is) h
+
   append : (a : Around) (xs ys : List Command) → B a xs → B a ys → B a (xs ++ ys)
   append a xs ys p q = each.bodies_append (IsFair t calls a.reached) (own_fair t calls a.reached) xs ys p q
 
@@ -310,13 +318,13 @@ module _ (t : Tables) (calls : List ℕ) where
   given_by x n t a = part_gives (stmt_nodes x) t n a
 
   declaration_does : (x : Stmt) → IsDeclaration x → DoesIt x
-  declaration_does _ (shape.int at name value g) = same_does (reads.int_tells at name value) (nodes.int_is at name value) (λ n a texts c.
+  declaration_does _ (shape.int at name value g) = form_does _ (stmt.rolls-Int at name value) (λ n a texts c.
       each.set_holds (P a n.scopes) (own a n.scopes) _ _ (initial_at a n.scopes value g (c.0.1, c.1.1)) (each.target_holds (P a n.scopes) (own a n.scopes) (slots.Local 0 n.slot)))
-  declaration_does _ (shape.array at name size) = same_does (reads.array_tells at name size) (nodes.array_is at name size) (λ n a texts c.
+  declaration_does _ (shape.array at name size) = form_does _ (stmt.rolls-Array at name size) (λ n a texts c.
       each.clear_holds (P a n.scopes) (own a n.scopes) n.slot (array_len size))
 
   assignment_does : (x : Stmt) → IsAssignment x → DoesIt x
-  assignment_does _ (shape.assign at place value g h) = same_does (reads.assign_tells at place value) (nodes.assign_is at place value) (λ n a texts c.
+  assignment_does _ (shape.assign at place value g h) = form_does _ (stmt.rolls-Assign at place value) (λ n a texts c.
       let parts : Fair (λ t a. used_in n po.Value place t a ++ used_in n po.Whole value t a) a = (c.0.1, c.1.1) in
       each.set_holds (P a n.scopes) (own a n.scopes) _ _
       (value_at a n.scopes po.Whole value h (later (used_in n po.Value place) (used_in n po.Whole value) a parts))
@@ -400,14 +408,14 @@ module _ (t : Tables) (calls : List ℕ) where
 
   mutual
     statement_does : (x : Stmt) → IsStmt x → DoesIt x
-    statement_does _ (shape.block at body g) = same_does (reads.block_tells at body) (nodes.block_is at body) (λ n a texts c. entries_do body g (opened n) a texts (c.0.1, c.1.1))
-    statement_does _ (shape.empty at) = same_does (reads.empty_tells at) (nodes.empty_is at) (λ n a texts c. each.nothing_holds (P a n.scopes) (own a n.scopes))
+    statement_does _ (shape.block at body g) = form_does _ (stmt.rolls-Block at body) (λ n a texts c. entries_do body g (opened n) a texts (c.0.1, c.1.1))
+    statement_does _ (shape.empty at) = form_does _ (stmt.rolls-Empty at) (λ n a texts c. each.nothing_holds (P a n.scopes) (own a n.scopes))
     statement_does _ (shape.assignment x g) = assignment_does x g
-    statement_does _ (shape.call_stmt at call g) = same_does (reads.call_stmt_tells at call) (nodes.call_made at call) (λ n a texts c.
+    statement_does _ (shape.call_stmt at call g) = form_does _ (stmt.rolls-Call at call) (λ n a texts c.
         each.run_holds (P a n.scopes) (own a n.scopes) _ (value_at a n.scopes po.Statement call (shape.call call g) (c.0.1, c.1.1)))
-    statement_does _ (shape.print at format args gs) = same_does (reads.print_tells at format args) (nodes.print_is at format args) (λ n a texts c.
+    statement_does _ (shape.print at format args gs) = form_does _ (stmt.rolls-Print at format args) (λ n a texts c.
         each.print_holds (P a n.scopes) (own a n.scopes) _ _ (values_at a n.scopes args gs (c.0.1, c.1.1)))
-    statement_does _ (shape.if_alone at test body g gb) = same_does (reads.if_tells at test body None) (nodes.if_is at test body None) (λ n a texts c.
+    statement_does _ (shape.if_alone at test body g gb) = form_does _ (stmt.rolls-If at test body None) (λ n a texts c.
         let left = used_in n po.Value test in
         let middle = given_by body n in
         let none : Given = λ t a. [] in
@@ -415,7 +423,7 @@ module _ (t : Tables) (calls : List ℕ) where
         let parts : Fair (λ t a. left t a ++ right t a) a = (c.0.1, c.1.1) in
         each.if_alone_holds (P a n.scopes) (own a n.scopes) _ _ (value_at a n.scopes po.Value test g (sooner left right a parts))
         (statement_does body gb n a texts (sooner middle none a (later left right a parts))))
-    statement_does _ (shape.if_else at test body other g gb go) = same_does (reads.if_tells at test body (Some other)) (nodes.if_is at test body (Some other)) (λ n a texts c.
+    statement_does _ (shape.if_else at test body other g gb go) = form_does _ (stmt.rolls-If at test body (Some other)) (λ n a texts c.
         let left = used_in n po.Value test in
         let middle = given_by body n in
         let last = given_by other (moved n (part_words (stmt_nodes body))) in
@@ -426,25 +434,25 @@ module _ (t : Tables) (calls : List ℕ) where
         each.if_else_holds (P a n.scopes) (own a n.scopes) _ _ _ (value_at a n.scopes po.Value test g (sooner left right a parts))
         (statement_does body gb n a texts (sooner middle last a ends))
         (statement_does other go (moved n (part_words (told body).shape)) a ((told body).texts texts) others))
-    statement_does _ (shape.while at test body g gb) = same_does (reads.while_tells at test body) (nodes.while_is at test body) (λ n a texts c.
+    statement_does _ (shape.while at test body g gb) = form_does _ (stmt.rolls-While at test body) (λ n a texts c.
         let left = used_in n po.Value test in
         let right : Given = λ t a. part_gives (stmt_nodes body) t n (inside_loop a) in
         let parts : Fair (λ t a. left t a ++ right t a) a = (c.0.1, c.1.1) in
         each.while_holds (P a n.scopes) (own a n.scopes) _ _ (value_at a n.scopes po.Value test g (sooner left right a parts))
         (statement_does body gb n (inside_loop a) texts (later left right a parts)))
     statement_does _ (shape.for at init test next body gi gt gn gb) =
-        same_does (reads.for_tells at init test next body) (nodes.for_is at init test next body)
+        same_does (for_folds told_step at init test next body) (for_folds of_stmt at init test next body)
         (for_all at init test next body (first_does init gi) gt (next_does next gn) (statement_does body gb))
-    statement_does _ (shape.break at) = same_does (reads.break_tells at) (nodes.break_is at) (λ n a texts c. each.break_holds (P a n.scopes) (own a n.scopes))
-    statement_does _ (shape.continue at) = same_does (reads.continue_tells at) (nodes.continue_is at) (λ n a texts c. each.continue_holds (P a n.scopes) (own a n.scopes))
-    statement_does _ (shape.return at value g) = same_does (reads.return_tells at value) (nodes.return_is at value) (λ n a texts c.
+    statement_does _ (shape.break at) = form_does _ (stmt.rolls-Break at) (λ n a texts c. each.break_holds (P a n.scopes) (own a n.scopes))
+    statement_does _ (shape.continue at) = form_does _ (stmt.rolls-Continue at) (λ n a texts c. each.continue_holds (P a n.scopes) (own a n.scopes))
+    statement_does _ (shape.return at value g) = form_does _ (stmt.rolls-Return at value) (λ n a texts c.
         each.return_holds (P a n.scopes) (own a n.scopes) _ (some_at a n.scopes po.Whole value g (c.0.1, c.1.1)))
-    statement_does _ (shape.do_finish at label body g) = same_does (reads.do_finish_tells at label body) (nodes.do_is at label body) (λ n a texts c.
+    statement_does _ (shape.do_finish at label body g) = form_does _ (stmt.rolls-Do at label body) (λ n a texts c.
         each.do_holds (P a n.scopes) (own a n.scopes) n.slot _ (entries_do body g (opened (in_do label a.depth n)) (inside_do a) texts (c.0.1, c.1.1)))
-    statement_does _ (shape.async at body g) = same_does (reads.async_tells at body) (nodes.async_is at body) (λ n a texts c.
+    statement_does _ (shape.async at body g) = form_does _ (stmt.rolls-Async at body) (λ n a texts c.
         each.async_holds (P a n.scopes) (own a n.scopes) _ _ (statement_does body g (in_async n) (inside_async a) texts (c.0.1, c.1.1)))
-    statement_does _ (shape.cancel at label) = same_does (reads.cancel_tells at label) (nodes.cancel_is at label) (λ n a texts c. cancel_does a n.scopes (visible label n.labels))
-    statement_does _ (shape.yield at) = same_does (reads.yield_tells at) (nodes.yield_is at) (λ n a texts c. each.yield_holds (P a n.scopes) (own a n.scopes))
+    statement_does _ (shape.cancel at label) = form_does _ (stmt.rolls-Cancel at label) (λ n a texts c. cancel_does a n.scopes (visible label n.labels))
+    statement_does _ (shape.yield at) = form_does _ (stmt.rolls-Yield at) (λ n a texts c. each.yield_holds (P a n.scopes) (own a n.scopes))
 
     pub entries_do : (xs : List Stmt) → AreEntries xs → (n : Names) (a : Around) (texts : Texts) → Fair (entries_given xs n) a → B a (commands (map told xs) n a.depth texts)
     entries_do _ shape.no_entry n a texts c = tt

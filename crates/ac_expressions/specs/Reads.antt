@@ -19,10 +19,14 @@ use Rattle.ac_expressions.specs.declared.forms.Operation.TheVariants as o
 use Rattle.ac_expressions.specs.declared.expressions.Transfer.{Transfer}
 use Rattle.ac_expressions.specs.Spelling.{link, unary_of, constant_of}
 use Rattle.reading_laws.specs.Readers.{Reads, halt, unexpected, ◌>>=◌, look, within, many_at}
-use Rattle.reading_laws.specs.Letters.{sign, starts_with, word_at, mark_at, name_at, number_at, has_name, deep_name_at}
+use Rattle.reading_laws.specs.Letters.{sign, by_next, by_kind, starts_with, word_at, mark_at, name_at, number_at, has_name, deep_name_at}
 use Rattle.ac_expressions.specs.Operators.{constant_at, unary_sign_at, operator_at, has_operator}
 
 -- ---- what the next token begins
+
+abbrev pub is_primary : Primary → Bool
+is_primary p.Other = false
+is_primary _ = true
 
 abbrev pub if_there : {A : Type 0} → Option A → Primary → Primary
 if_there (Some a) x = x
@@ -40,19 +44,10 @@ primary_mark m.OpenParen = p.Group
 primary_mark a = if_there (unary_of a) p.Unary
 
 abbrev pub primary_kind : Kind → Primary
-primary_kind (k.Name name) = p.Name
-primary_kind (k.Number n) = p.Number
-primary_kind (k.Text text) = p.Other
-primary_kind (k.Word a) = primary_word a
-primary_kind (k.Mark a) = primary_mark a
+primary_kind = by_kind p.Name p.Number p.Other primary_word primary_mark
 
 abbrev pub primary_of : List Token → Primary
-primary_of [] = p.Other
-primary_of (t ∷ ts) = primary_kind t.kind
-
-abbrev pub is_primary : Primary → Bool
-is_primary p.Other = false
-is_primary _ = true
+primary_of = by_next p.Other primary_kind
 
 -- an expression can begin with the next token
 abbrev pub begins_expr : List Token → Bool
@@ -69,8 +64,7 @@ operation_kind (k.Word a) = operation_word a
 operation_kind _ = o.Write
 
 abbrev pub operation_of : List Token → Operation
-operation_of [] = o.Write
-operation_of (t ∷ ts) = operation_kind t.kind
+operation_of = by_next o.Write operation_kind
 
 -- ---- chains
 

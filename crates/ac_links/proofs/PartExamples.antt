@@ -5,11 +5,11 @@ use Rattle.ac_base.specs.declared.entry.Payload.TheVariants.{Int}
 use Rattle.ac_base.specs.declared.entry.Answer.TheVariants.{Bytes, Count, Fault}
 use Rattle.ac_base.specs.declared.entry.Event.TheVariants.{Offer, Withdraw, Know, Room, Got, Pass, Did, Reply}
 use Rattle.ac_links.specs.declared.offer.LinkOffer.{LinkOffer}
-use Rattle.ac_links.specs.declared.offer.Standing.TheVariants.{Taken, Passed}
+use Rattle.ac_links.specs.declared.offer.Standing.TheVariants.{Offered, Taken, Withdrawn, Passed}
 use Rattle.ac_links.specs.declared.payloads.Terms.{Terms}
 use Rattle.ac_links.specs.Payloads.{is_request, fits_read, fits_write, message_fits, answer_of, has_answer}
 use Rattle.ac_links.specs.Payloads.Taking.{Message, Done}
-use Rattle.ac_links.specs.Link.{is_offered, is_taken, is_withdrawn, is_passed, can_offer, can_take, can_know, can_withdraw, can_pass, can_free, can_reply, link_fits, link_after}
+use Rattle.ac_links.specs.Link.{is_offered, is_taken, is_withdrawn, is_passed, is_decided, can_offer, can_take, can_know, can_withdraw, can_pass, can_free, can_reply, link_fits, link_after}
 use Rattle.ac_links.specs.Link.{knows, withdraws, passes, frees, replies, standing_stamp, offered_payload, changed, taken_with, now_taken, now_known, now_replied, new_offer}
 use Rattle.ac_links.specs.Order.{stamp_of, of_party, AllFrom}
 use Rattle.ac_links.specs.Journals.{LinkAgrees}
@@ -55,6 +55,9 @@ one_that_is_taken = refl
 
 pub one_that_is_passed : is_offered Passed ∷ is_taken Passed ∷ is_withdrawn Passed ∷ is_passed Passed ∷ [] ≡ false ∷ false ∷ false ∷ true ∷ []
 one_that_is_passed = refl
+
+pub what_is_decided : is_decided Offered ∷ is_decided Taken ∷ is_decided Withdrawn ∷ is_decided Passed ∷ [] ≡ false ∷ true ∷ false ∷ true ∷ []
+what_is_decided = refl
 
 -- what each event needs of its offer
 pub of_an_open_offer : knows (slice_get offered 0) ∷ withdraws (slice_get offered 0) ∷ passes (slice_get offered 0) ∷ frees (slice_get offered 0) ∷ [] ≡ false ∷ true ∷ false ∷ false ∷ []

@@ -1,13 +1,13 @@
 -- Small scopes, statements and programs: what their names mean, and the slots and numbers that they take.
-use Rattle.std.proofs.Common.{◌≡◌, refl, sym, ap, ◌∙◌, ℕ, pos, negsuc, Bool, true, false, List, [], ◌∷◌, map, codes, Some, None, arith}
+use Rattle.std.proofs.Common.{◌≡◌, refl, ap, ◌∙◌, ℕ, pos, negsuc, Bool, true, false, List, [], ◌∷◌, map, codes, Some, None, arith}
 use Rattle.std.specs.Global.{Vec}
 use Rattle.ac_tree.specs.declared.expr.Expr.TheVariants as e
-use Rattle.ac_tree.specs.declared.stmt.Stmt.TheFolds.{fold-roll-Stmt}
 use Rattle.ac_tree.specs.declared.stmt.Stmt.TheVariants as s
 use Rattle.ac_tree.specs.declared.stmt.Stmt.TheOpen.{Stmt-F}
 use Rattle.ac_tree.specs.declared.item.Item.{Item}
 use Rattle.ac_tree.specs.declared.item.Item.TheVariants as i
 use Rattle.ac_tree.specs.declared.item.Param.{Param}
+use Rattle.ac_tree.proofs.Folds.{stmt_folds}
 use Rattle.ac_names.specs.declared.kind.Kind.TheVariants as k
 use Rattle.ac_names.specs.declared.meaning.Meaning.{Meaning}
 use Rattle.ac_names.specs.declared.meaning.Meaning.TheVariants as m
@@ -161,30 +161,29 @@ pub a_form_with_its_parts : part_step ℕ (λ f. 7) (Stmt-F.Block 0 (a_part ∷ 
 a_form_with_its_parts = refl
 
 pub a_statement_told : part_all ℕ (λ f. 7) (s.Yield 0) ≡ part None 0 7
-a_statement_told = ap (part_all ℕ (λ f. 7)) (sym (s.rolls-Yield 0)) ∙ fold-roll-Stmt (Part ℕ) (part_step ℕ (λ f. 7)) (Stmt-F.Yield 0)
+a_statement_told = stmt_folds (part_step ℕ (λ f. 7)) _ (s.rolls-Yield 0)
 
 -- int y;
 pub an_int : shape (s.Int 0 y None) ≡ part (Some (record { name = y; len = None })) 1 tt
-an_int = ap shape (sym (s.rolls-Int 0 y None)) ∙ fold-roll-Stmt Shape shape_step (Stmt-F.Int 0 y None)
+an_int = stmt_folds shape_step _ (s.rolls-Int 0 y None)
 
 -- int y[3];
 pub an_array : shape (s.Array 0 y (pos 3)) ≡ part (Some (record { name = y; len = Some 3 })) 3 tt
-an_array = ap shape (sym (s.rolls-Array 0 y (pos 3))) ∙ fold-roll-Stmt Shape shape_step (Stmt-F.Array 0 y (pos 3))
+an_array = stmt_folds shape_step _ (s.rolls-Array 0 y (pos 3))
 
 -- do { int y; int y[3]; } finish; takes a slot of its own too, and declares nothing round it
 pub a_block : shape (s.Do 0 None (s.Int 4 y None ∷ s.Array 11 y (pos 3) ∷ [])) ≡ part None 5 tt
 a_block =
-    ap shape (sym (s.rolls-Do 0 None (s.Int 4 y None ∷ s.Array 11 y (pos 3) ∷ [])))
-    ∙ fold-roll-Stmt Shape shape_step (Stmt-F.Do 0 None (s.Int 4 y None ∷ s.Array 11 y (pos 3) ∷ [])) ∙ rw (ap shape refl, inner_int, inner_array) refl where
+    stmt_folds shape_step _ (s.rolls-Do 0 None (s.Int 4 y None ∷ s.Array 11 y (pos 3) ∷ [])) ∙ rw (ap shape refl, inner_int, inner_array) refl where
       inner_int : shape (s.Int 4 y None) ≡ part (Some (record { name = y; len = None })) 1 tt
-      inner_int = ap shape (sym (s.rolls-Int 4 y None)) ∙ fold-roll-Stmt Shape shape_step (Stmt-F.Int 4 y None)
+      inner_int = stmt_folds shape_step _ (s.rolls-Int 4 y None)
 
       inner_array : shape (s.Array 11 y (pos 3)) ≡ part (Some (record { name = y; len = Some 3 })) 3 tt
-      inner_array = ap shape (sym (s.rolls-Array 11 y (pos 3))) ∙ fold-roll-Stmt Shape shape_step (Stmt-F.Array 11 y (pos 3))
+      inner_array = stmt_folds shape_step _ (s.rolls-Array 11 y (pos 3))
 
 -- async { int y; } takes its slots in a frame of its own
 pub a_body : shape (s.Async 0 (s.Int 6 y None)) ≡ part None 0 tt
-a_body = ap shape (sym (s.rolls-Async 0 (s.Int 6 y None))) ∙ fold-roll-Stmt Shape shape_step (Stmt-F.Async 0 (s.Int 6 y None))
+a_body = stmt_folds shape_step _ (s.rolls-Async 0 (s.Int 6 y None))
 
 abbrev int_y : Shape
 int_y = part (Some (record { name = y; len = None })) 1 tt

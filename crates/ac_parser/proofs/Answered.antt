@@ -14,6 +14,7 @@ use Rattle.reading_laws.proofs.Heads.{SameHead, Local, Moves, stops_at, behind_r
 use Rattle.reading_laws.proofs.Parts.{Filled, GoodAt, Is, itself, Seq, seq, verdict, at_once, bind_good}
 use Rattle.reading_laws.proofs.Rows.{Many, none, some, many}
 use Rattle.ac_parser.proofs.Programs.{items_law}
+use Rattle.reading_laws.proofs.Rows.{good_by}
 
 abbrev program_of : List Item → Program
 program_of xs = record { items = xs }
@@ -67,16 +68,9 @@ by_end x _ _ Q itself g = g
 is_whole : (p : Program) (ms : List Marked) → Seq (List Item) Program (Many Item ItemSpells) (λ xs. Is Program (program_of xs)) p ms → ProgramSpells p ms
 is_whole _ _ (seq xs p a c g e) = by_end (program_of xs) p c (λ p c. ProgramSpells p (a ++ c)) e (subst (λ (ms : List Marked). ItemsSpell xs ms) (sym (append-nil a)) (items_are xs a g))
 
-moved_good : (f : List Token → Reads Program) (P Q : Program → List Marked → Type 0) (a : List Token) → ((x : Program) (ms : List Marked) → P x ms → Q x ms) → GoodAt 256 Program f P a
-    → GoodAt 256 Program f Q a
-moved_good f P Q a c u = record {
-  ok = λ x r h. let z = u.ok x r h in record { used = z.used; split = z.split; low = z.low; spells = c x z.used z.spells };
-  err = λ d r h. let z = u.err d r h in record { used = z.used; split = z.split; low = z.low; closing = z.closing; why = z.why; value = z.value; spells = c z.value (z.used ++ z.closing) z.spells };
-}
-
 good_program : (a : List Token) → GoodAt 256 Program program_at ProgramSpells a
 unfolding program_at many
-good_program a = moved_good program_at (Seq (List Item) Program (Many Item ItemSpells) (λ xs. Is Program (program_of xs))) ProgramSpells a is_whole
+good_program a = good_by 256 Program program_at program_at (Seq (List Item) Program (Many Item ItemSpells) (λ xs. Is Program (program_of xs))) ProgramSpells a refl is_whole
     (bind_good 256 (List Item) Program items_at (λ xs. end_at (program_of xs)) (Many Item ItemSpells) (λ xs. Is Program (program_of xs)) a (items_law.good a) (λ xs m h. end_good (program_of xs) m)
     (λ xs. fill_end (program_of xs)))
 

@@ -23,6 +23,7 @@ use Rattle.ac_expressions.proofs.Openings.{law_expr_bind}
 use Rattle.ac_expressions.proofs.UnaryLaws.{whole_law}
 use Rattle.ac_parser.proofs.StatementHeads.{if_ends, else_ends}
 use Rattle.ac_parser.proofs.CompoundLaws.{stmt_named, NoElse}
+use Rattle.reading_laws.proofs.Rows.{good_by}
 
 -- ---- `[ else stmt ]` behind a statement
 
@@ -63,21 +64,6 @@ else_fails : (x : Option Stmt) (ms : List Marked) (rest : List Token) → (ret {
 unfolding ret
 else_fails _ _ rest itself h = h
 
-moved_good : (L : ℕ) (X : Type 0) (f g : List Token → Reads X) (P Q : X → List Marked → Type 0) (a : List Token) → g a ≡ f a → ((x : X) (ms : List Marked) → P x ms → Q x ms) → GoodAt L X f P a
-    → GoodAt L X g Q a
-moved_good L X f g P Q a e c u = record {
-  ok = λ x r h. let z = u.ok x r (sym e ∙ h) in record { used = z.used; split = z.split; low = z.low; spells = c x z.used z.spells };
-  err = λ d r h. let z = u.err d r (sym e ∙ h) in record {
-    used = z.used;
-    split = z.split;
-    low = z.low;
-    closing = z.closing;
-    why = z.why;
-    value = z.value;
-    spells = c z.value (z.used ++ z.closing) z.spells;
-  };
-}
-
 module _ (L depth room : ℕ) (le : depth ≤ L) (sl : Law L Stmt (stmt_named (suc depth) room) NoElse) where
   some_law : Law L (Option Stmt) (bind (sign_part depth (word w.Else)) (λ _. made_of (stmt_named (suc depth) room) (λ z. Some z))) OtherEnds
   some_law = law_then (law_sign L depth le (word w.Else)) (λ _. law_made (λ z. Some z) OtherEnds sl (λ z rest h. h))
@@ -90,9 +76,9 @@ module _ (L depth room : ℕ) (le : depth ≤ L) (sl : Law L Stmt (stmt_named (s
   other_case : (y : Stmt) (a : List Token) (t : Bool) → starts_with (word w.Else) a ≡ t → (t ≡ true → ends_open y ≡ false) → GoodAt L (Option Stmt) (other_at (stmt_at room)) (OtherSpells depth y) a
   unfolding either bind made_of ret sign_part
   other_case y a true q e =
-      moved_good L (Option Stmt) (bind (sign_part depth (word w.Else)) (λ _. made_of (stmt_named (suc depth) room) (λ z. Some z))).read (other_at (stmt_at room))
+      good_by L (Option Stmt) (bind (sign_part depth (word w.Else)) (λ _. made_of (stmt_named (suc depth) room) (λ z. Some z))).read (other_at (stmt_at room))
       (bind (sign_part depth (word w.Else)) (λ _. made_of (stmt_named (suc depth) room) (λ z. Some z))).spells (OtherSpells depth y) a (rw q refl) (is_else depth room y (e refl)) (some_law.good a)
-  other_case y a false q e = moved_good L (Option Stmt) (λ a. Ok (None, a)) (other_at (stmt_at room)) (ret {X = Option Stmt} None).spells (OtherSpells depth y) a (rw q refl) (is_none depth y)
+  other_case y a false q e = good_by L (Option Stmt) (λ a. Ok (None, a)) (other_at (stmt_at room)) (ret {X = Option Stmt} None).spells (OtherSpells depth y) a (rw q refl) (is_none depth y)
       ((law_ret {L = L} None OtherEnds).good a)
 
   other_reads : (y : Stmt) (x : Option Stmt) (ms : List Marked) → OtherSpells depth y x ms → (rest : List Token) → OtherEnds x rest

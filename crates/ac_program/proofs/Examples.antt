@@ -27,12 +27,11 @@ use Rattle.ac_parser.proofs.Examples.{two_ac as two_ac_parsed, no_parenthesis}
 use Rattle.ac_types.specs.Reached.{BreaksNone, IsLeastBroken}
 use Rattle.ac_types.specs.declared.rule.Rule.TheVariants as rule
 use Rattle.ac_types.specs.Reached.{entries_of, all_calls, AreReached}
-use Rattle.ac_types.proofs.Forms.{assign_is, do_is, cancel_is, name_is, number_is}
+use Rattle.ac_types.proofs.Forms.{expr_is, stmt_is}
 use Rattle.ac_types.proofs.Judging.{program_told}
-use Rattle.ac_reach.specs.declared.reached.Reached.{Reached}
 use Rattle.ac_reach.specs.declared.reached.Reached.TheVariants as row
-use Rattle.ac_reach.specs.Reached as reach
-use Rattle.ac_reach.specs.Reached.{ReachedFrom, is_entry, is_called, AreRows, IsReachedBy}
+use Rattle.ac_reach.specs.Reached.{AreRows}
+use Rattle.ac_reach.proofs.Examples.{one_row}
 use Rattle.ac_program.specs.declared.refusal.BrokenRule.{BrokenRule}
 use Rattle.ac_program.proofs.Answered.{not_unexpected, not_deep}
 use Rattle.ac_program.proofs.Calls.{calls_both}
@@ -331,26 +330,6 @@ none_is_too_deep at h =
     not_deep two_tokens two_tree at two_ac_parsed (subst (λ (ts : List Token). TooDeepAt ts at) (same_tokens (two_ac_only (found h.tokens) h.lexed.lexed)) h.deep)
 
 -- the core alone reaches a function that calls none
-none_reached : (calls : List (List ℕ)) (entry : Option ℕ) (function : ℕ) → entry ≡ None → ReachedFrom calls entry function → ⊥
-none_reached calls entry function e (is_entry _ h) = cc
-none_reached calls entry function e (is_called caller _ h c) = none_reached calls entry caller e h
-
-only_core : (core : ℕ) → reach.Reaches ([] ∷ []) (Some 0 ∷ []) core 0 → core ≡ 0
-only_core zero h = refl
-only_core (suc core) h = absurd (none_reached ([] ∷ []) _ 0 refl h)
-
-same_core : (a b : ℕ) → Some (row.ByOne a) ≡ Some (row.ByOne b) → a ≡ b
-same_core a b e = cc
-
-one_row : AreRows ([] ∷ []) (Some 0 ∷ []) (row.ByOne 0 ∷ [])
-one_row = record { count = refl; each = each } where
-  each : (function : ℕ) (found : Reached) → slice_get (row.ByOne 0 ∷ []) function ≡ Some found → IsReachedBy ([] ∷ []) (Some 0 ∷ []) function found
-  each zero row.ByNone e = cc
-  each zero row.BySeveral e = cc
-  each zero (row.ByOne k) e =
-      subst (λ (k : ℕ). reach.Reaches ([] ∷ []) (Some 0 ∷ []) k 0 × ((core : ℕ) → reach.Reaches ([] ∷ []) (Some 0 ∷ []) core 0 → core ≡ k)) (same_core 0 k e) (is_entry 0 refl, only_core)
-  each (suc function) found e = cc
-
 pub reached_in : (items : List Item) → entries_of items ≡ Some 0 ∷ [] → all_calls items ≡ [] ∷ [] → AreReached items (row.ByOne 0 ∷ [])
 reached_in items e c = subst (λ (z : List (List ℕ) × List (Option ℕ)). AreRows z.0 z.1 (row.ByOne 0 ∷ [])) (λ j. (sym c j, sym e j)) one_row
 
@@ -367,8 +346,9 @@ undeclared_tokens = record { lexed = lexes 99 0 _ _ refl; only = λ other d. lex
 
 its_least : IsLeastBroken undeclared_tree.items 2 28
 its_least = program_told undeclared_tree.items (row.ByOne 0 ∷ [])
-    (reached_in undeclared_tree.items refl (rw (assign_is 28 (expr.Name 28 (codes "x")) (expr.Number 32 (pos 1)), name_is 28 (codes "x"), number_is 32 (pos 1)) refl))
-    (Some (record { rule = rule.NameIsDeclared; at = 28 })) (rw (assign_is 28 (expr.Name 28 (codes "x")) (expr.Number 32 (pos 1)), name_is 28 (codes "x")) refl)
+    (reached_in undeclared_tree.items refl
+    (rw (stmt_is _ (s.rolls-Assign 28 (expr.Name 28 (codes "x")) (expr.Number 32 (pos 1))), expr_is _ (expr.rolls-Name 28 (codes "x")), expr_is _ (expr.rolls-Number 32 (pos 1))) refl))
+    (Some (record { rule = rule.NameIsDeclared; at = 28 })) (rw (stmt_is _ (s.rolls-Assign 28 (expr.Name 28 (codes "x")) (expr.Number 32 (pos 1))), expr_is _ (expr.rolls-Name 28 (codes "x"))) refl)
 
 abbrev pub its_rule : BrokenRule
 its_rule = record { rule = 2; at = 28 }
@@ -434,8 +414,8 @@ cancelling_tokens = record { lexed = lexes 99 0 _ _ refl; only = λ other d. lex
 
 a_cancel_breaks_none : BreaksNone cancelling_tree.items
 a_cancel_breaks_none = program_told cancelling_tree.items (row.ByOne 0 ∷ [])
-    (reached_in cancelling_tree.items refl (rw (do_is 28 (Some (codes "t")) (cancelled ∷ []), cancel_is 36 (codes "t")) refl)) None
-    (rw (do_is 28 (Some (codes "t")) (cancelled ∷ []), cancel_is 36 (codes "t")) refl)
+    (reached_in cancelling_tree.items refl (rw (stmt_is _ (s.rolls-Do 28 (Some (codes "t")) (cancelled ∷ [])), stmt_is _ (s.rolls-Cancel 36 (codes "t"))) refl)) None
+    (rw (stmt_is _ (s.rolls-Do 28 (Some (codes "t")) (cancelled ∷ [])), stmt_is _ (s.rolls-Cancel 36 (codes "t"))) refl)
 
 pub a_cancel_is_ready : IsReady cancelling_text (t.Run 100 tell.Report) cancelling_tree
 a_cancel_is_ready = record {

@@ -21,9 +21,13 @@ use Rattle.ac_parser.proofs.Answered.{parsed_tree}
 use Rattle.ac_parser.specs.Places.{IsTree}
 use Rattle.ac_reach.specs.declared.reached.Reached.TheVariants as row
 use Rattle.ac_types.specs.Reached.{BreaksNone}
-use Rattle.ac_types.proofs.Forms.{array_is, call_made, number_is, read_is}
+use Rattle.ac_types.proofs.Forms.{expr_is, stmt_is}
 use Rattle.ac_types.proofs.Judging.{program_told}
 use Rattle.ac_outside.specs.Disks.{DiskTold, Held}
+use Rattle.ac_base.specs.Log.{Log}
+use Rattle.ac_base.specs.declared.entry.Answer.TheVariants.{Bytes}
+use Rattle.ac_base.specs.declared.entry.Event.TheVariants.{Offer, Did}
+use Rattle.ac_base.specs.declared.entry.Payload.TheVariants.{Read}
 use Rattle.ac_outside.specs.Files.{file_of}
 use Rattle.ac_outside.specs.Texts.{text_of}
 use Rattle.ac_outside.proofs.Examples.{named}
@@ -35,8 +39,8 @@ use Rattle.ac_program.specs.Lines.{accepted_line, disk_line, limit_file_line}
 use Rattle.ac_program.specs.Making.{AreStarted, AreStopped, AreLeft, IsDueOfProgram, IsTold, begun, disk_fault, untouched}
 use Rattle.ac_program.specs.Making.IsDueOfProgram.{long_file as long_file_due}
 use Rattle.ac_program.specs.declared.execute.Done.{Done}
-use Rattle.ac_program.specs.Headline.{IsLeft, of_program, AreHeld, AreShort, HasLong, KnowsFiles, TellsDisk, CallsFor, made, long_file}
-use Rattle.ac_program.proofs.Examples.{its_run, no_disk, reached_in}
+use Rattle.ac_program.specs.Headline.{IsLeft, of_program, AreHeld, AreServed, AreShort, HasLong, KnowsFiles, TellsDisk, CallsFor, made, long_file}
+use Rattle.ac_program.proofs.Examples.{its_run, no_disk, reached_in, journal}
 
 -- ---- programs with a file
 
@@ -144,8 +148,20 @@ reading_tokens = record { lexed = lexes 99 0 _ _ refl; only = λ other d. lexes_
 reading_breaks_none : BreaksNone reading_tree.items
 reading_breaks_none = program_told reading_tree.items (row.ByOne 0 ∷ [])
     (reached_in reading_tree.items refl
-    (rw (array_is 41 (codes "b") (pos 1), call_made 51 a_read, read_is 51 (codes "p") nought one (codes "b"), number_is 59 (pos 0), number_is 62 (pos 1)) refl)) None
-    (rw (array_is 41 (codes "b") (pos 1), call_made 51 a_read, read_is 51 (codes "p") nought one (codes "b"), number_is 59 (pos 0), number_is 62 (pos 1)) refl)
+    (rw (
+      stmt_is _ (s.rolls-Array 41 (codes "b") (pos 1)),
+      stmt_is _ (s.rolls-Call 51 a_read),
+      expr_is _ (expr.rolls-Read 51 (codes "p") nought one (codes "b")),
+      expr_is _ (expr.rolls-Number 59 (pos 0)),
+      expr_is _ (expr.rolls-Number 62 (pos 1)),
+    ) refl)) None
+    (rw (
+      stmt_is _ (s.rolls-Array 41 (codes "b") (pos 1)),
+      stmt_is _ (s.rolls-Call 51 a_read),
+      expr_is _ (expr.rolls-Read 51 (codes "p") nought one (codes "b")),
+      expr_is _ (expr.rolls-Number 59 (pos 0)),
+      expr_is _ (expr.rolls-Number 62 (pos 1)),
+    ) refl)
 
 reading_is_accepted : IsAccepted reading_text reading_tree
 reading_is_accepted = record { spelled = record { tokens = tokens_in reading_text; lexed = reading_tokens; tree = reading_parsed }; clean = reading_breaks_none }
@@ -273,3 +289,16 @@ a_fault_in_a_run = record { told = λ e. omega (arith, e); only = λ _ _ _ none.
 
 pub a_fault_that_is_not_told : TellsDisk a_disk a_failed_disk 10 None → ⊥
 a_fault_that_is_not_told h = let e = h.only (omega arith) (omega arith) (omega arith) refl in omega (arith, e)
+
+-- ---- what a run reads
+
+-- the core asks for the first byte of its file, and the worker answers with this one
+abbrev pub reading_journals : ℕ → List Log
+reading_journals byte = journal (record { stamp = 1; turn = 1; event = Offer 0 0 (Read 0 0 1) } ∷ [])
+    ∷ journal (record { stamp = 2; turn = 0; event = Did 0 0 (Bytes (byte ∷ [])) } ∷ []) ∷ []
+
+pub its_read_is_served : AreServed a_disk reading_tree (codes "ab" ∷ []) (reading_journals 97)
+its_read_is_served = (refl, tt)
+
+pub not_with_another_byte : AreServed a_disk reading_tree (codes "ab" ∷ []) (reading_journals 98) → ⊥
+not_with_another_byte h = let e : false ≡ true = h.0 in cc (e)

@@ -5,6 +5,7 @@ use Rattle.ac_tree.specs.declared.expr.Expr.TheVariants as e
 use Rattle.ac_tree.specs.declared.expr.BinaryOp.TheVariants as b
 use Rattle.ac_tree.specs.declared.stmt.Stmt.TheVariants as s
 use Rattle.ac_tree.specs.declared.item.Program.{Program}
+use Rattle.ac_tree.proofs.Folds.{link_folds}
 use Rattle.ac_reach.specs.declared.reached.Reached.{Reached}
 use Rattle.ac_reach.specs.declared.reached.Reached.TheVariants as r
 use Rattle.ac_reach.specs.Reached.{IsReachedBy, ReachedFrom, is_entry, is_called}
@@ -12,7 +13,7 @@ use Rattle.ac_types.specs.inner.Seen.{first_of}
 use Rattle.ac_types.specs.Items.{program_nodes}
 use Rattle.ac_types.specs.Reached.{Reaches, all_calls, entries_of, AreReached, BreaksNone}
 use Rattle.ac_types.proofs.Judging.{program_told}
-use Rattle.ac_types.proofs.Forms.{print_is, chain_is, link_is, number_is}
+use Rattle.ac_types.proofs.Forms.{of_expr, of_link, expr_is, stmt_is}
 use Rattle.ac_resolve.proofs.Examples.{sum, product, link, one_core}
 
 abbrev pub two_tree : Program
@@ -43,14 +44,14 @@ reached_by_a = record { count = refl; each = each } where
 
 none_broken : None ≡ first_of (program_nodes two_tree.items (r.ByOne 0 ∷ []))
 none_broken = rw (
-  print_is 28 (codes "%d\n") (sum ∷ []),
-  chain_is 43 9 (e.Number 43 (pos 1)) (link b.Add product ∷ []),
-  link_is (link b.Add product),
-  chain_is 45 10 (e.Number 45 (pos 2)) (link b.Mul (e.Number 47 (pos 3)) ∷ []),
-  link_is (link b.Mul (e.Number 47 (pos 3))),
-  number_is 43 (pos 1),
-  number_is 45 (pos 2),
-  number_is 47 (pos 3),
+  stmt_is _ (s.rolls-Print 28 (codes "%d\n") (sum ∷ [])),
+  expr_is _ (e.rolls-Chain 43 9 (e.Number 43 (pos 1)) (link b.Add product ∷ [])),
+  link_folds of_expr of_link (link b.Add product),
+  expr_is _ (e.rolls-Chain 45 10 (e.Number 45 (pos 2)) (link b.Mul (e.Number 47 (pos 3)) ∷ [])),
+  link_folds of_expr of_link (link b.Mul (e.Number 47 (pos 3))),
+  expr_is _ (e.rolls-Number 43 (pos 1)),
+  expr_is _ (e.rolls-Number 45 (pos 2)),
+  expr_is _ (e.rolls-Number 47 (pos 3)),
 ) refl
 
 pub two_is_clean : BreaksNone two_tree.items

@@ -1,5 +1,5 @@
 -- Three functions, of which the first calls the second and the third the first, and three cores: what they reach.
-use Rattle.std.proofs.Common.{◌≡◌, refl, sym, ap, ◌∙◌, subst, ℕ, zero, suc, ◌<◌, ◌≤◌, Bool, true, false, List, [], ◌∷◌, length, Option, Some, None, arith}
+use Rattle.std.proofs.Common.{◌≡◌, refl, subst, ℕ, zero, suc, ◌<◌, ◌≤◌, true, false, List, [], ◌∷◌, Option, Some, None, arith}
 use Rattle.std.specs.Prelude.{slice_get}
 use Rattle.ac_reach.specs.declared.reached.Reached.{Reached}
 use Rattle.ac_reach.specs.declared.reached.Reached.TheVariants as r
@@ -50,12 +50,12 @@ the_third_core_reaches_the_second_function = is_called 0 1 (is_called 2 0 (is_en
 pub the_first_core_reaches_the_first_function : Reaches calls entries 0 0
 the_first_core_reaches_the_first_function = is_entry 0 refl
 
-from_none : (entry : Option ℕ) (function : ℕ) → ReachedFrom calls entry function → entry ≡ None → ⊥
-from_none entry function (is_entry _ h) e = cc
-from_none entry function (is_called caller _ h c) e = from_none entry caller h e
+pub none_reached : (calls : List (List ℕ)) (entry : Option ℕ) (function : ℕ) → entry ≡ None → ReachedFrom calls entry function → ⊥
+none_reached calls entry function e (is_entry _ h) = cc
+none_reached calls entry function e (is_called caller _ h c) = none_reached calls entry caller e h
 
 pub the_second_core_reaches_none : (function : ℕ) → Reaches calls entries 1 function → ⊥
-the_second_core_reaches_none function h = from_none None function h refl
+the_second_core_reaches_none function h = none_reached calls None function refl h
 
 same_number : (a b : ℕ) → Some a ≡ Some b → a ≡ b
 same_number a b e = cc
@@ -91,7 +91,7 @@ only_third : (core : ℕ) → Reaches calls entries core 2 → core ≡ 2
 only_third zero h = absurd (the_first_core_does_not_reach_the_third_function h)
 only_third (suc zero) h = absurd (the_second_core_reaches_none 2 h)
 only_third (suc (suc zero)) h = refl
-only_third (suc (suc (suc n))) h = absurd (from_none (entry_in (slice_get entries (suc (suc (suc n))))) 2 h refl)
+only_third (suc (suc (suc n))) h = absurd (none_reached calls (entry_in (slice_get entries (suc (suc (suc n))))) 2 refl h)
 
 pub one_reaches_the_third : IsReachedBy calls entries 2 (r.ByOne 2)
 one_reaches_the_third = (is_entry 2 refl, only_third)
@@ -124,6 +124,18 @@ their_rows = record { count = refl; each = each } where
 
 pub a_row_too_few : AreRows calls entries (r.BySeveral ∷ r.BySeveral ∷ []) → ⊥
 a_row_too_few h = let e = h.count in omega (arith, e)
+
+-- ---- one function that calls none, and the core that enters it
+
+pub only_core : (core : ℕ) → Reaches ([] ∷ []) (Some 0 ∷ []) core 0 → core ≡ 0
+only_core zero h = refl
+only_core (suc core) h = absurd (none_reached ([] ∷ []) _ 0 refl h)
+
+pub one_row : AreRows ([] ∷ []) (Some 0 ∷ []) (r.ByOne 0 ∷ [])
+one_row = record { count = refl; each = each } where
+  each : (function : ℕ) (row : Reached) → slice_get (r.ByOne 0 ∷ []) function ≡ Some row → IsReachedBy ([] ∷ []) (Some 0 ∷ []) function row
+  each zero row e = subst (IsReachedBy ([] ∷ []) (Some 0 ∷ []) 0) (same_reached (r.ByOne 0) row e) (is_entry 0 refl, only_core)
+  each (suc function) row e = cc
 
 -- ---- flags of one core
 

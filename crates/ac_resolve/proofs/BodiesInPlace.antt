@@ -3,10 +3,13 @@ use Rattle.std.proofs.Common.{◌≡◌, ℕ, ◌+◌, ◌-◌, ◌<◌, ◌≤�
 use Rattle.std.specs.Prelude.{nat_lt}
 use Rattle.std.proofs.lemmas.Bool.Decides.{nat_tests}
 use Rattle.ac_tree.specs.declared.expr.Expr.{Expr}
-use Rattle.ac_tree.specs.declared.stmt.Stmt.{Stmt}
+use Rattle.ac_tree.specs.declared.stmt.Stmt.{Stmt, roll-Stmt}
+use Rattle.ac_tree.specs.declared.stmt.Stmt.TheFolds.{map-Stmt}
+use Rattle.ac_tree.specs.declared.stmt.Stmt.TheVariants as stmt
 use Rattle.ac_tree.specs.declared.stmt.Stmt.TheOpen.{Stmt-F}
 use Rattle.ac_tree.specs.Shape as shape
 use Rattle.ac_tree.specs.Shape.{IsDeclaration, IsAssignment, IsFirst, IsNext, IsStmt, AreEntries}
+use Rattle.ac_tree.proofs.Folds.{stmt_folds, for_folds}
 use Rattle.ac_names.specs.declared.meaning.Meaning.{Meaning}
 use Rattle.ac_names.specs.declared.meaning.Meaning.TheVariants as m
 use Rattle.ac_names.specs.declared.names.Names.{Names}
@@ -25,20 +28,19 @@ use Rattle.ac_types.specs.Formats.{HasHoles}
 use Rattle.ac_types.specs.Statements.{stmt_nodes, body_gives, some_gives, for_gives}
 use Rattle.ac_types.proofs.Cleans.{AllClean, clean_sooner, clean_later, not_false}
 use Rattle.ac_types.proofs.Formats.{formats_are_printed}
-use Rattle.ac_types.proofs.Forms.{StmtNodes, of_stmt, some_nodes}
+use Rattle.ac_types.proofs.Forms.{StmtNodes, of_stmt, some_nodes, stmt_is}
 use Rattle.ac_commands.specs.declared.command.Command.{Command}
 use Rattle.ac_commands.specs.declared.command.Command.TheVariants as cm
 use Rattle.ac_commands.specs.declared.program.Resolved.{Resolved}
 use Rattle.ac_resolve.specs.Places.{cancel_of}
 use Rattle.ac_resolve.specs.Computed.{values_in, some_in}
 use Rattle.ac_resolve.specs.Commands.{Texts, Told, told_step, told, some_told, some_shape, all_texts, commands, some_texts, some_commands, for_names}
-use Rattle.ac_resolve.proofs.Forms as tells
-use Rattle.ac_types.proofs.Forms as parts
+use Rattle.ac_resolve.proofs.Forms.{stmt_tells}
 use Rattle.ac_resolve.proofs.Tellings.{Kept, kept_same, kept_further, last_there, is_told, body_kept, listed_same, some_same, some_alike}
 use Rattle.ac_resolve.specs.InPlace.{Use, AsInt, AsBlock, Round, FrameRound, frame_at, with_entered, in_loop, in_block, in_body, local, to_variable}
 use Rattle.ac_resolve.specs.InPlace.{IsCommand, nothing, set, clear, run, print, if_alone, if_else, while_loop, for_loop, leave, go_on, give}
 use Rattle.ac_resolve.specs.InPlace.{do_finish, start, cancel, yield, AreCommands, no_command, one_command}
-use Rattle.ac_resolve.proofs.Uses.{ints, uses_of, uses_in, uses_some, Declares, are_uses, own_uses, block_uses, int_uses, array_uses, if_uses, while_uses, for_uses, do_uses}
+use Rattle.ac_resolve.proofs.Uses.{ints, uses_step, uses_of, uses_in, uses_some, Declares, are_uses, own_uses}
 use Rattle.ac_resolve.proofs.Stretches.{Hold, Stands, whole_stands, stands_sooner, stands_later, hold_one, hold_ints, hold_first}
 use Rattle.ac_resolve.proofs.Within.{AllWithin, within_declared, all_further, all_entered, reached_here, entered_length, entered_uses, AllLabels, IsLabel, label_declared}
 use Rattle.ac_resolve.proofs.Within.{labels_further, labels_entered, entered_now, AreBefore, before_more, before_entered}
@@ -132,6 +134,11 @@ module _ (program : Resolved) (t : Tables) where
   same_does : {q q2 : Told} {k k2 : StmtNodes} {us vs : List Use} → q ≡ q2 → k ≡ k2 → us ≡ vs → Does q2 k2 vs → Does q k us
   same_does {q} {q2} {k} {k2} {us} {vs} e g f h = subst (λ x. Does x k us) (sym e) (subst (λ y. Does q2 y us) (sym g) (subst (λ z. Does q2 k2 z) (sym f) h))
 
+  -- a form does it if it does by its parts
+  form_does : (form : Stmt-F Stmt) {x : Stmt} → roll-Stmt form ≡ x
+      → Does (told_step (map-Stmt Stmt Told told form)) (of_stmt (map-Stmt Stmt StmtNodes stmt_nodes form)) (uses_step (map-Stmt Stmt (List Use) uses_of form)) → DoesIt x
+  form_does form is h = same_does (stmt_tells form is) (stmt_is form is) (stmt_folds uses_step form is) h
+
   declared_named : (r : Round) (depth : ℕ) (named : Option Named) (us : List Use) (slot : ℕ) (scopes : List (List Declaration)) → 0 < length r.frames → Declares named us
       → Stands (frame_at r.frames 0).uses us slot → AllWithin program t r.frames depth scopes → AllWithin program t r.frames depth (declared_at named depth slot scopes)
   declared_named r depth None us slot scopes some d st h = h
@@ -150,15 +157,15 @@ module _ (program : Resolved) (t : Tables) where
   -- ---- declarations and assignments
 
   declaration_does : (x : Stmt) → IsDeclaration x → DoesIt x
-  declaration_does _ (shape.int at name value g) = same_does (tells.int_tells at name value) (parts.int_is at name value) (int_uses at name value) (λ r n a texts i c.
+  declaration_does _ (shape.int at name value g) = form_does _ (stmt.rolls-Int at name value) (λ r n a texts i c.
       single program r _ (set r _ _ (to_variable _ (local 0 n.slot i.some (hold_first _ n.slot AsInt (hold_one _ AsInt n.slot i.slots))))
       (initial_at program t r a n.scopes i.names value g c.1)))
-  declaration_does _ (shape.array at name size) = same_does (tells.array_tells at name size) (parts.array_is at name size) (array_uses at name size) (λ r n a texts i c.
+  declaration_does _ (shape.array at name size) = form_does _ (stmt.rolls-Array at name size) (λ r n a texts i c.
       let hold = hold_ints _ (array_len size) n.slot i.slots in
       single program r _ (clear r n.slot (array_len size) hold.room hold.each))
 
   assignment_does : (x : Stmt) → IsAssignment x → DoesIt x
-  assignment_does _ (shape.assign at place value g h) = same_does (tells.assign_tells at place value) (parts.assign_is at place value) refl (λ r n a texts i c.
+  assignment_does _ (shape.assign at place value g h) = form_does _ (stmt.rolls-Assign at place value) (λ r n a texts i c.
       let left = expr_nodes place t n.scopes a po.Value in
       let right = expr_nodes value t n.scopes a po.Whole in
       single program r _ (set r _ _ (target_at program t r a n.scopes i.names place g (clean_sooner left right c.1))
@@ -312,24 +319,24 @@ module _ (program : Resolved) (t : Tables) where
 
   mutual
     pub statement_does : (x : Stmt) → IsStmt x → DoesIt x
-    statement_does _ (shape.block at body g) = same_does (tells.block_tells at body) (parts.block_is at body) (block_uses at body) (λ r n a texts i c.
+    statement_does _ (shape.block at body g) = form_does _ (stmt.rolls-Block at body) (λ r n a texts i c.
         entries_do body g r (opened n) a texts (at_names (opened n) _ _ i i.names i.labels (omega arith) i.slots i.kept) c.1)
-    statement_does _ (shape.empty at) = same_does (tells.empty_tells at) (parts.empty_is at) refl (λ r n a texts i c. single program r _ (nothing r))
+    statement_does _ (shape.empty at) = form_does _ (stmt.rolls-Empty at) (λ r n a texts i c. single program r _ (nothing r))
     statement_does _ (shape.assignment x g) = assignment_does x g
-    statement_does _ (shape.call_stmt at call g) = same_does (tells.call_stmt_tells at call) (parts.call_made at call) refl (λ r n a texts i c.
+    statement_does _ (shape.call_stmt at call g) = form_does _ (stmt.rolls-Call at call) (λ r n a texts i c.
         single program r _ (run r _ (value_at program t r a n.scopes i.names po.Statement refl call (shape.call call g) c.1)))
-    statement_does _ (shape.print at format args gs) = same_does (tells.print_tells at format args) (parts.print_is at format args) refl (λ r n a texts i c.
+    statement_does _ (shape.print at format args gs) = form_does _ (stmt.rolls-Print at format args) (λ r n a texts i c.
         let fits = (formats_are_printed format (length args)).0 (not_true (is_misprinted (holes false 0 format) (length args)) (λ e. c.0 16 (inl (refl, e)))) in
         single program r _ (print r (length texts) _ format (i.kept (length texts) format (last_there texts format))
         (subst (HasHoles format) (values_length args n.scopes a.depth) fits) (values_at program t r a n.scopes i.names args gs c.1)))
-    statement_does _ (shape.if_alone at test body g gb) = same_does (tells.if_tells at test body None) (parts.if_is at test body None) (if_uses at test body None) (λ r n a texts i c.
+    statement_does _ (shape.if_alone at test body g gb) = form_does _ (stmt.rolls-If at test body None) (λ r n a texts i c.
         let left = expr_nodes test t n.scopes a po.Value in
         let right = part_gives (stmt_nodes body) t n a in
         single program r _ (if_alone r _ _ (value_at program t r a n.scopes i.names po.Value refl test g (clean_sooner left (right ++ []) c.1))
         (statement_does body gb r n a texts (at_names n _ _ i i.names i.labels (omega arith) (stands_sooner _ (uses_of body) [] n.slot i.slots) i.kept)
         (clean_sooner right [] (clean_later left (right ++ []) c.1)))))
     statement_does _ (shape.if_else at test body other g gb go) =
-        same_does (tells.if_tells at test body (Some other)) (parts.if_is at test body (Some other)) (if_uses at test body (Some other)) (λ r n a texts i c.
+        form_does _ (stmt.rolls-If at test body (Some other)) (λ r n a texts i c.
         let after = (told body).texts texts in
         let words = part_words (told body).shape in
         let left = expr_nodes test t n.scopes a po.Value in
@@ -343,31 +350,31 @@ module _ (program : Resolved) (t : Tables) where
         (kept_further after _ program.texts ((is_told other).texts after) i.kept)) (clean_sooner middle right later))
         (statement_does other go r (moved n words) a after
         (at_names (moved n words) _ _ i i.names i.labels (omega arith) (stands_later _ (uses_of body) (uses_of other) n.slot words (are_uses body).many i.slots) i.kept) clean)))
-    statement_does _ (shape.while at test body g gb) = same_does (tells.while_tells at test body) (parts.while_is at test body) (while_uses at test body) (λ r n a texts i c.
+    statement_does _ (shape.while at test body g gb) = form_does _ (stmt.rolls-While at test body) (λ r n a texts i c.
         let left = expr_nodes test t n.scopes a po.Value in
         let right = part_gives (stmt_nodes body) t n (inside_loop a) in
         single program r _ (while_loop r _ _ (value_at program t r a n.scopes i.names po.Value refl test g (clean_sooner left right c.1))
         (statement_does body gb (in_loop r) n (inside_loop a) texts (in_a_loop i) (clean_later left right c.1))))
     statement_does _ (shape.for at init test next body gi gt gn gb) =
-        same_does (tells.for_tells at init test next body) (parts.for_is at init test next body) (for_uses at init test next body)
+        same_does (for_folds told_step at init test next body) (for_folds of_stmt at init test next body) (for_folds uses_step at init test next body)
         (for_all at init test next body (first_does init gi) gt (next_does next gn) (statement_does body gb))
-    statement_does _ (shape.break at) = same_does (tells.break_tells at) (parts.break_is at) refl (λ r n a texts i c.
+    statement_does _ (shape.break at) = form_does _ (stmt.rolls-Break at) (λ r n a texts i c.
         single program r _ (leave r (i.loop ∙ not_false a.in_loop (λ e. c.0 9 (inl (refl, e))))))
-    statement_does _ (shape.continue at) = same_does (tells.continue_tells at) (parts.continue_is at) refl (λ r n a texts i c.
+    statement_does _ (shape.continue at) = form_does _ (stmt.rolls-Continue at) (λ r n a texts i c.
         single program r _ (go_on r (i.loop ∙ not_false a.in_loop (λ e. c.0 9 (inl (refl, e))))))
-    statement_does _ (shape.return at value g) = same_does (tells.return_tells at value) (parts.return_is at value) refl (λ r n a texts i c.
+    statement_does _ (shape.return at value g) = form_does _ (stmt.rolls-Return at value) (λ r n a texts i c.
         single program r _ (give r _ (i.block ∙ not_true (is_closed a) (λ e. c.0 9 (inl (refl, e)))) (test_at program t r a n.scopes i.names po.Whole refl value g c.1)))
-    statement_does _ (shape.do_finish at label body g) = same_does (tells.do_finish_tells at label body) (parts.do_is at label body) (do_uses at label body) (λ r n a texts i c.
+    statement_does _ (shape.do_finish at label body g) = form_does _ (stmt.rolls-Do at label body) (λ r n a texts i c.
         single program r _ (do_finish r n.slot _ (hold_first _ n.slot AsBlock (hold_one _ AsBlock n.slot (stands_sooner _ (AsBlock ∷ []) (uses_in body) n.slot i.slots)))
         (not_true _ (λ e. no_less_than_itself n.slot (i.before n.slot e)))
         (entries_do body g (in_block n.slot r) (opened (in_do label a.depth n)) (inside_do a) texts (block_round label (uses_in body) r n a _ i) c.1)))
-    statement_does _ (shape.async at body g) = same_does (tells.async_tells at body) (parts.async_is at body) refl (λ r n a texts i c.
+    statement_does _ (shape.async at body g) = form_does _ (stmt.rolls-Async at body) (λ r n a texts i c.
         single program r _ (subst (λ words. IsCommand program r (cm.Async words ((told body).commands (in_async n) (a.depth + 1) texts))) (are_uses body).many
         (start r (uses_of body) _ (i.block ∙ in_do_closed a (not_false a.in_do (λ e. c.0 7 (inr (inl (refl, e)))))) (own_uses body)
         (statement_does body g (in_body (uses_of body) r) (in_async n) (inside_async a) texts (body_round (uses_of body) r n a _ i.names i.labels i.kept) c.1))))
-    statement_does _ (shape.cancel at label) = same_does (tells.cancel_tells at label) (parts.cancel_is at label) refl (λ r n a texts i c.
+    statement_does _ (shape.cancel at label) = form_does _ (stmt.rolls-Cancel at label) (λ r n a texts i c.
         single program r _ (cancel_there r a.depth (visible label n.labels) (i.labels label) (λ e. c.0 8 (inr (inl (refl, e))))))
-    statement_does _ (shape.yield at) = same_does (tells.yield_tells at) (parts.yield_is at) refl (λ r n a texts i c. single program r _ (yield r))
+    statement_does _ (shape.yield at) = form_does _ (stmt.rolls-Yield at) (λ r n a texts i c. single program r _ (yield r))
 
     pub entries_do : (xs : List Stmt) → AreEntries xs → (r : Round) (n : Names) (a : Around) (texts : Texts) → IsRound r n a (uses_in xs) (all_texts (map told xs) texts)
         → AllClean (bodies_nodes xs n a) → AreCommands program r (commands (map told xs) n a.depth texts)

@@ -15,6 +15,7 @@ use Rattle.ac_tree.specs.declared.item.Function as tree
 use Rattle.ac_tree.specs.declared.item.Item.{Item}
 use Rattle.ac_tree.specs.declared.item.Item.TheVariants as i
 use Rattle.ac_tree.specs.declared.item.Program.{Program}
+use Rattle.ac_tree.proofs.Folds.{link_folds}
 use Rattle.ac_names.specs.declared.meaning.Meaning.TheVariants as m
 use Rattle.ac_names.specs.declared.names.Names.{Names}
 use Rattle.ac_names.specs.declared.past.Counts.{Counts}
@@ -46,7 +47,7 @@ use Rattle.ac_resolve.specs.InPlace.{AnInt, AnArray, OneInt, IsValue, number, va
 use Rattle.ac_resolve.specs.InPlace.{IsCommand, set, do_finish, start, cancel, AreCommands, no_command, one_command, IsCore, IsChannel, IsFunction, IsInPlace}
 use Rattle.ac_resolve.proofs.Uses.{ints}
 use Rattle.ac_resolve.proofs.Stretches.{Stands, hold_ints}
-use Rattle.ac_resolve.proofs.Forms.{number_reads, name_reads, chain_reads, link_reads, index_reads, call_reads, recv_reads, print_tells, int_tells, yield_tells}
+use Rattle.ac_resolve.proofs.Forms.{expr_reads, stmt_tells}
 
 -- ---- trees and what they become
 
@@ -83,27 +84,27 @@ sum_value = v.Chain (v.Number (pos 1)) (with_value b.Add (v.Chain (v.Number (pos
 
 sum_read : (read sum).value ≡ (λ scopes depth. sum_value)
 sum_read = rw (
-  chain_reads 43 9 (e.Number 43 (pos 1)) (link b.Add product ∷ []),
-  link_reads (link b.Add product),
-  chain_reads 45 10 (e.Number 45 (pos 2)) (link b.Mul (e.Number 47 (pos 3)) ∷ []),
-  link_reads (link b.Mul (e.Number 47 (pos 3))),
-  number_reads 43 (pos 1),
-  number_reads 45 (pos 2),
-  number_reads 47 (pos 3),
+  expr_reads _ (e.rolls-Chain 43 9 (e.Number 43 (pos 1)) (link b.Add product ∷ [])),
+  link_folds read_step link_step (link b.Add product),
+  expr_reads _ (e.rolls-Chain 45 10 (e.Number 45 (pos 2)) (link b.Mul (e.Number 47 (pos 3)) ∷ [])),
+  link_folds read_step link_step (link b.Mul (e.Number 47 (pos 3))),
+  expr_reads _ (e.rolls-Number 43 (pos 1)),
+  expr_reads _ (e.rolls-Number 45 (pos 2)),
+  expr_reads _ (e.rolls-Number 47 (pos 3)),
 ) refl
 
 -- printf("%d\n", 1+2*3);
 pub two_ac : resolved (one_core (s.Print 28 (codes "%d\n") (sum ∷ []) ∷ [])) ≡ one_core_resolved 0 (c.Print 0 (sum_value ∷ []) ∷ []) (codes "%d\n" ∷ [])
-two_ac = rw (print_tells 28 (codes "%d\n") (sum ∷ []), sum_read) refl
+two_ac = rw (stmt_tells _ (s.rolls-Print 28 (codes "%d\n") (sum ∷ [])), sum_read) refl
 
 -- int x = 1; int y = x; each takes a slot
 pub two_slots : resolved (one_core (s.Int 28 (codes "x") (Some (e.Number 36 (pos 1))) ∷ s.Int 39 (codes "y") (Some (e.Name 47 (codes "x"))) ∷ []))
     ≡ one_core_resolved 2 (c.Set (t.Variable (p.Local 0 0)) (v.Number (pos 1)) ∷ c.Set (t.Variable (p.Local 0 1)) (v.Variable (p.Local 0 0)) ∷ []) []
 two_slots = rw (
-  int_tells 28 (codes "x") (Some (e.Number 36 (pos 1))),
-  int_tells 39 (codes "y") (Some (e.Name 47 (codes "x"))),
-  ap (λ (r : Reading). r.value) (name_reads 47 (codes "x")),
-  ap (λ (r : Reading). r.value) (number_reads 36 (pos 1)),
+  stmt_tells _ (s.rolls-Int 28 (codes "x") (Some (e.Number 36 (pos 1)))),
+  stmt_tells _ (s.rolls-Int 39 (codes "y") (Some (e.Name 47 (codes "x")))),
+  ap (λ (r : Reading). r.value) (expr_reads _ (e.rolls-Name 47 (codes "x"))),
+  ap (λ (r : Reading). r.value) (expr_reads _ (e.rolls-Number 36 (pos 1))),
 ) refl
 
 -- ---- calls and operations
@@ -117,18 +118,18 @@ scopes = (record { name = codes "x"; meaning = m.Local 0 1 } ∷ record { name =
 pub a_call_of_three : value_in (e.Call 0 (codes "f") (e.Name 2 (codes "x") ∷ e.Name 5 (codes "a") ∷ e.Name 8 (codes "b") ∷ [])) scopes 1
     ≡ v.Act (act.Call 7) (v.Variable (p.Local 1 1) ∷ v.Reference (ar.Local 1 2 3) ∷ v.Reference (ar.Param 1 0) ∷ [])
 a_call_of_three =
-    ap (λ (q : Reading). q.value scopes 1) (call_reads 0 (codes "f") (e.Name 2 (codes "x") ∷ e.Name 5 (codes "a") ∷ e.Name 8 (codes "b") ∷ []))
-    ∙ rw (name_reads 2 (codes "x"), name_reads 5 (codes "a"), name_reads 8 (codes "b")) refl
+    ap (λ (q : Reading). q.value scopes 1) (expr_reads _ (e.rolls-Call 0 (codes "f") (e.Name 2 (codes "x") ∷ e.Name 5 (codes "a") ∷ e.Name 8 (codes "b") ∷ [])))
+    ∙ rw (expr_reads _ (e.rolls-Name 2 (codes "x")), expr_reads _ (e.rolls-Name 5 (codes "a")), expr_reads _ (e.rolls-Name 8 (codes "b"))) refl
 
 -- Recv(c, &x) and Recv(c, &a[2]): the one int is referred to
 pub into_a_variable : value_in (e.Recv 0 (codes "c") (e.Name 9 (codes "x"))) scopes 0 ≡ v.Act (act.Recv 4) (v.Reference (ar.Local 0 1 1) ∷ [])
-into_a_variable = ap (λ (q : Reading). q.value scopes 0) (recv_reads 0 (codes "c") (e.Name 9 (codes "x"))) ∙ rw (name_reads 9 (codes "x")) refl
+into_a_variable = ap (λ (q : Reading). q.value scopes 0) (expr_reads _ (e.rolls-Recv 0 (codes "c") (e.Name 9 (codes "x")))) ∙ rw (expr_reads _ (e.rolls-Name 9 (codes "x"))) refl
 
 pub into_an_element : value_in (e.Recv 0 (codes "c") (e.Index 9 (codes "a") (e.Number 11 (pos 2)))) scopes 0
     ≡ v.Act (act.Recv 4) (v.Part (ar.Local 0 2 3) (v.Number (pos 2)) ∷ [])
 into_an_element =
-    ap (λ (q : Reading). q.value scopes 0) (recv_reads 0 (codes "c") (e.Index 9 (codes "a") (e.Number 11 (pos 2))))
-    ∙ rw (index_reads 9 (codes "a") (e.Number 11 (pos 2)), number_reads 11 (pos 2)) refl
+    ap (λ (q : Reading). q.value scopes 0) (expr_reads _ (e.rolls-Recv 0 (codes "c") (e.Index 9 (codes "a") (e.Number 11 (pos 2)))))
+    ∙ rw (expr_reads _ (e.rolls-Index 9 (codes "a") (e.Number 11 (pos 2))), expr_reads _ (e.rolls-Number 11 (pos 2))) refl
 
 -- ---- what names stand for
 
@@ -190,16 +191,16 @@ pub targets_of_forms : target_step (Expr-F.Name 0 (codes "x")) scopes 1 ∷ targ
 targets_of_forms = refl
 
 pub a_target : target_in (e.Name 9 (codes "x")) scopes 0 ≡ t.Variable (p.Local 0 1)
-a_target = ap (λ (q : Reading). q.target scopes 0) (name_reads 9 (codes "x"))
+a_target = ap (λ (q : Reading). q.target scopes 0) (expr_reads _ (e.rolls-Name 9 (codes "x")))
 
 pub values_in_order : values_in (e.Name 0 (codes "x") ∷ e.Number 3 (pos 7) ∷ []) scopes 0 ≡ v.Variable (p.Local 0 1) ∷ v.Number (pos 7) ∷ []
-values_in_order = rw (ap (λ (q : Reading). q.value) (name_reads 0 (codes "x")), ap (λ (q : Reading). q.value) (number_reads 3 (pos 7))) refl
+values_in_order = rw (ap (λ (q : Reading). q.value) (expr_reads _ (e.rolls-Name 0 (codes "x"))), ap (λ (q : Reading). q.value) (expr_reads _ (e.rolls-Number 3 (pos 7)))) refl
 
 pub a_value_that_may_be_left_out : some_in None scopes 0 ∷ some_in (Some (e.Number 3 (pos 7))) scopes 0 ∷ [] ≡ None ∷ Some (v.Number (pos 7)) ∷ []
-a_value_that_may_be_left_out = rw (ap (λ (q : Reading). q.value) (number_reads 3 (pos 7))) refl
+a_value_that_may_be_left_out = rw (ap (λ (q : Reading). q.value) (expr_reads _ (e.rolls-Number 3 (pos 7)))) refl
 
 pub a_first_value : initial_in None scopes 0 ∷ initial_in (Some (e.Number 3 (pos 7))) scopes 0 ∷ [] ≡ v.Number (pos 0) ∷ v.Number (pos 7) ∷ []
-a_first_value = rw (ap (λ (q : Reading). q.value) (number_reads 3 (pos 7))) refl
+a_first_value = rw (ap (λ (q : Reading). q.value) (expr_reads _ (e.rolls-Number 3 (pos 7)))) refl
 
 -- ---- statements by their parts
 
@@ -255,7 +256,7 @@ pub what_a_block_tells : shape_of (told_step (Stmt-F.Block 0 (one_told ∷ one_t
 what_a_block_tells = refl
 
 pub what_a_body_tells : commands (body_told (s.Yield 4 ∷ s.Yield 11 ∷ [])) slot_five 0 one_text ≡ c.Yield ∷ c.Yield ∷ []
-what_a_body_tells = rw (yield_tells 4, yield_tells 11) refl
+what_a_body_tells = rw (stmt_tells _ (s.rolls-Yield 4), stmt_tells _ (s.rolls-Yield 11)) refl
 
 -- ---- items by their parts
 
@@ -278,16 +279,16 @@ abbrev printing_resolved : Function
 printing_resolved = record { name = codes "f"; is_async = true; gives_int = false; params = false ∷ []; slots = 1; body = c.Print 1 [] ∷ [] }
 
 pub a_function : function_in printing [] one_text ≡ printing_resolved
-a_function = rw (print_tells 22 (codes "t") []) refl
+a_function = rw (stmt_tells _ (s.rolls-Print 22 (codes "t") [])) refl
 
 pub functions_alone : functions_in (i.Core 0 (codes "a") (codes "f") ∷ i.Function printing ∷ []) [] one_text ≡ printing_resolved ∷ []
-functions_alone = rw (print_tells 22 (codes "t") []) refl
+functions_alone = rw (stmt_tells _ (s.rolls-Print 22 (codes "t") [])) refl
 
 pub its_texts : function_texts printing one_text ≡ codes "s" ∷ codes "t" ∷ []
-its_texts = rw (print_tells 22 (codes "t") []) refl
+its_texts = rw (stmt_tells _ (s.rolls-Print 22 (codes "t") [])) refl
 
 pub texts_of_items : items_texts (i.Function printing ∷ i.Core 0 (codes "a") (codes "f") ∷ i.Function printing ∷ []) [] ≡ codes "t" ∷ codes "t" ∷ []
-texts_of_items = rw (print_tells 22 (codes "t") []) refl
+texts_of_items = rw (stmt_tells _ (s.rolls-Print 22 (codes "t") [])) refl
 
 -- core a(f); channel d(k, l, 5); where k and l are the cores 2 and 0
 abbrev two_items : List Item

@@ -1,9 +1,8 @@
 -- What the slots that a statement takes hold, in the order in which they are given.
-use Rattle.std.proofs.Common.{◌≡◌, ℕ, zero, suc, ◌+◌, ℤ, List, [], ◌∷◌, ◌++◌, length, map, Option, Some, None, refl, sym, ap, ◌∙◌, subst, length-append, arith}
-use Rattle.ac_tree.specs.declared.expr.Expr.{Expr}
+use Rattle.std.proofs.Common.{◌≡◌, ℕ, zero, suc, ◌+◌, List, [], ◌∷◌, ◌++◌, length, map, Option, Some, None, refl, sym, ap, ◌∙◌, subst, length-append, arith}
+use Rattle.std.specs.Prelude.{option_map}
 use Rattle.ac_tree.specs.declared.stmt.Stmt.{Stmt}
 use Rattle.ac_tree.specs.declared.stmt.Stmt.TheFolds.{fold-Stmt, fold-roll-Stmt, ind-Stmt, map-Stmt}
-use Rattle.ac_tree.specs.declared.stmt.Stmt.TheVariants as s
 use Rattle.ac_tree.specs.declared.stmt.Stmt.TheOpen.{Stmt-F}
 use Rattle.ac_names.specs.Statements.{Named, Shape, part_names, part_words, sum_words, array_len, shape_step, shape}
 use Rattle.ac_resolve.specs.Commands.{told, shapes}
@@ -29,7 +28,7 @@ some_uses None = []
 some_uses (Some x) = x
 
 -- an async body takes its slots in a frame of its own
-abbrev uses_step : Stmt-F (List Use) → List Use
+abbrev pub uses_step : Stmt-F (List Use) → List Use
 uses_step (Stmt-F.Block at body) = joined body
 uses_step (Stmt-F.Int at name value) = AsInt ∷ []
 uses_step (Stmt-F.Array at name size) = ints (array_len size)
@@ -46,37 +45,7 @@ abbrev pub uses_in : List Stmt → List Use
 uses_in body = joined (map uses_of body)
 
 abbrev pub uses_some : Option Stmt → List Use
-uses_some None = []
-uses_some (Some x) = uses_of x
-
--- ---- each form that takes slots, since a fold does not compute
-
-pub block_uses : (at : ℕ) (body : List Stmt) → uses_of (s.Block at body) ≡ uses_in body
-block_uses at body = ap uses_of (sym (s.rolls-Block at body)) ∙ fold-roll-Stmt (List Use) uses_step (Stmt-F.Block at body)
-
-pub int_uses : (at : ℕ) (name : List ℕ) (value : Option Expr) → uses_of (s.Int at name value) ≡ AsInt ∷ []
-int_uses at name value = ap uses_of (sym (s.rolls-Int at name value)) ∙ fold-roll-Stmt (List Use) uses_step (Stmt-F.Int at name value)
-
-pub array_uses : (at : ℕ) (name : List ℕ) (size : ℤ) → uses_of (s.Array at name size) ≡ ints (array_len size)
-array_uses at name size = ap uses_of (sym (s.rolls-Array at name size)) ∙ fold-roll-Stmt (List Use) uses_step (Stmt-F.Array at name size)
-
-pub if_uses : (at : ℕ) (test : Expr) (body : Stmt) (other : Option Stmt) → uses_of (s.If at test body other) ≡ uses_of body ++ uses_some other
-if_uses at test body None = ap uses_of (sym (s.rolls-If at test body None)) ∙ fold-roll-Stmt (List Use) uses_step (Stmt-F.If at test body None)
-if_uses at test body (Some x) = ap uses_of (sym (s.rolls-If at test body (Some x))) ∙ fold-roll-Stmt (List Use) uses_step (Stmt-F.If at test body (Some x))
-
-pub while_uses : (at : ℕ) (test : Expr) (body : Stmt) → uses_of (s.While at test body) ≡ uses_of body
-while_uses at test body = ap uses_of (sym (s.rolls-While at test body)) ∙ fold-roll-Stmt (List Use) uses_step (Stmt-F.While at test body)
-
-pub for_uses : (at : ℕ) (init : Option Stmt) (test : Option Expr) (next : Option Stmt) (body : Stmt)
-    → uses_of (s.For at init test next body) ≡ uses_some init ++ (uses_some next ++ uses_of body)
-for_uses at None test None body = ap uses_of (sym (s.rolls-For at None test None body)) ∙ fold-roll-Stmt (List Use) uses_step (Stmt-F.For at None test None body)
-for_uses at None test (Some y) body = ap uses_of (sym (s.rolls-For at None test (Some y) body)) ∙ fold-roll-Stmt (List Use) uses_step (Stmt-F.For at None test (Some y) body)
-for_uses at (Some x) test None body = ap uses_of (sym (s.rolls-For at (Some x) test None body)) ∙ fold-roll-Stmt (List Use) uses_step (Stmt-F.For at (Some x) test None body)
-for_uses at (Some x) test (Some y) body =
-    ap uses_of (sym (s.rolls-For at (Some x) test (Some y) body)) ∙ fold-roll-Stmt (List Use) uses_step (Stmt-F.For at (Some x) test (Some y) body)
-
-pub do_uses : (at : ℕ) (label : Option (List ℕ)) (body : List Stmt) → uses_of (s.Do at label body) ≡ AsBlock ∷ uses_in body
-do_uses at label body = ap uses_of (sym (s.rolls-Do at label body)) ∙ fold-roll-Stmt (List Use) uses_step (Stmt-F.Do at label body)
+uses_some x = some_uses (option_map uses_of x)
 
 -- ---- they are as many as the statement takes, and hold what it declares
 

@@ -5,9 +5,11 @@ use Rattle.std.specs.Prelude.{nat_eq, slice_get}
 use Rattle.std.proofs.lemmas.Bool.Decides.{nat_tests}
 use Rattle.std.proofs.lemmas.Option.{slice_get_within}
 use Rattle.ac_tree.specs.declared.expr.Expr.{Expr}
+use Rattle.ac_tree.specs.declared.expr.Expr.TheVariants as expr
 use Rattle.ac_tree.specs.declared.expr.Link.{Link}
 use Rattle.ac_tree.specs.Shape as shape
 use Rattle.ac_tree.specs.Shape.{IsExpr, AreLinks as LinksShaped, IsPlace as PlaceShaped, IsCall, AreExprs}
+use Rattle.ac_tree.proofs.Folds.{link_folds}
 use Rattle.ac_names.specs.declared.meaning.Meaning.{Meaning}
 use Rattle.ac_names.specs.declared.meaning.Meaning.TheVariants as m
 use Rattle.ac_names.specs.declared.kind.Kind.TheVariants as ki
@@ -25,7 +27,7 @@ use Rattle.ac_types.specs.Judged.{Tests, is_misplaced, is_miscounted, name_tests
 use Rattle.ac_types.specs.Expressions.{one_node, join_nodes, expr_nodes, links_step, args_step, values_all, value_all}
 use Rattle.ac_types.specs.Reached.{IsBrokenRule}
 use Rattle.ac_types.proofs.Cleans.{AllClean, clean_sooner, clean_later, not_false}
-use Rattle.ac_types.proofs.Forms.{ExprNodes, link_nodes}
+use Rattle.ac_types.proofs.Forms.{ExprNodes, of_expr, of_link, link_nodes, expr_is}
 use Rattle.ac_commands.specs.declared.value.Action.TheVariants as act
 use Rattle.ac_commands.specs.declared.value.Place.{Place}
 use Rattle.ac_commands.specs.declared.value.Place.TheVariants as pl
@@ -36,10 +38,9 @@ use Rattle.ac_commands.specs.declared.value.ValueLink.{ValueLink}
 use Rattle.ac_commands.specs.declared.command.Target.{Target}
 use Rattle.ac_commands.specs.declared.program.Resolved.{Resolved}
 use Rattle.ac_resolve.specs.Places.{constant_value, place_of, array_of, name_argument, array_at, reference_to, function_of, channel_of, file_of}
-use Rattle.ac_resolve.specs.Computed.{Reading, InScopes, read, link_in, links_step as reading_links, arguments_step, file_operands}
+use Rattle.ac_resolve.specs.Computed.{Reading, InScopes, read, read_step, link_step, link_in, links_step as reading_links, arguments_step, file_operands}
 use Rattle.ac_resolve.specs.Computed.{value_in, argument_in, target_in, values_in, some_in, initial_in}
-use Rattle.ac_resolve.proofs.Forms as reads
-use Rattle.ac_types.proofs.Forms as nodes
+use Rattle.ac_resolve.proofs.Forms.{expr_reads}
 use Rattle.ac_resolve.specs.InPlace.{Round, AsInt, AsReference, Holds, IsPlace, global, local, IsArray, global_array, local_array, parameter}
 use Rattle.ac_resolve.specs.InPlace.{Want, AnInt, AnArray, OneInt, want_of, IsOne, call, send, recv, read as reads_file, write as writes_file}
 use Rattle.ac_resolve.specs.InPlace.{IsValue, number, variable, reference, one_int, element, part, unary, chain, acts, AreLinks, no_link, one_link}
@@ -227,46 +228,46 @@ module _ (program : Resolved) (t : Tables) (r : Round) (a : Around) (scopes : Li
 
   call_argument : (b : Bool) (x : Expr) → IsCall x → AsValue x → AllClean (expr_nodes x t scopes a (position_of b)) → IsValue program r (want_of b) (argument_in x scopes a.depth)
   call_argument b _ (shape.function_call at name args gs) v c =
-      plain_argument b _ v (reads.call_reads at name args) refl
-      (λ e. (clean_as (position_of b) (nodes.call_is at name args) c).0 4
+      plain_argument b _ v (expr_reads _ (expr.rolls-Call at name args)) refl
+      (λ e. (clean_as (position_of b) (expr_is _ (expr.rolls-Call at name args)) c).0 4
       (inr (inr (inl (refl, second_true (is_other ki.Function (visible name scopes)) _ (array_place e)))))) c
   call_argument b _ (shape.send at channel value g) v c =
-      plain_argument b _ v (reads.send_reads at channel value) refl
-      (λ e. (clean_as (position_of b) (nodes.send_is at channel value) c).0 4
+      plain_argument b _ v (expr_reads _ (expr.rolls-Send at channel value)) refl
+      (λ e. (clean_as (position_of b) (expr_is _ (expr.rolls-Send at channel value)) c).0 4
       (inr (inl (refl, second_true (is_other ki.Channel (visible channel scopes)) _ (array_place e))))) c
   call_argument b _ (shape.recv at channel place g) v c =
-      plain_argument b _ v (reads.recv_reads at channel place) refl
-      (λ e. (clean_as (position_of b) (nodes.recv_is at channel place) c).0 4
+      plain_argument b _ v (expr_reads _ (expr.rolls-Recv at channel place)) refl
+      (λ e. (clean_as (position_of b) (expr_is _ (expr.rolls-Recv at channel place)) c).0 4
       (inr (inl (refl, second_true (is_other ki.Channel (visible channel scopes)) _ (array_place e))))) c
   call_argument b _ (shape.read at file from len array g h) v c =
-      plain_argument b _ v (reads.read_reads at file from len array) refl
-      (λ e. (clean_as (position_of b) (nodes.read_is at file from len array) c).0 4
+      plain_argument b _ v (expr_reads _ (expr.rolls-Read at file from len array)) refl
+      (λ e. (clean_as (position_of b) (expr_is _ (expr.rolls-Read at file from len array)) c).0 4
       (inr (inl (refl, second_true (is_other ki.File (visible file scopes)) _ (second_true (is_other ki.Array (visible array scopes)) _ (array_place e)))))) c
   call_argument b _ (shape.write at file from len array g h) v c =
-      plain_argument b _ v (reads.write_reads at file from len array) refl
-      (λ e. (clean_as (position_of b) (nodes.write_is at file from len array) c).0 4
+      plain_argument b _ v (expr_reads _ (expr.rolls-Write at file from len array)) refl
+      (λ e. (clean_as (position_of b) (expr_is _ (expr.rolls-Write at file from len array)) c).0 4
       (inr (inl (refl, second_true (is_other ki.File (visible file scopes)) _ (second_true (is_other ki.Array (visible array scopes)) _ (array_place e)))))) c
 
   argument_at : (b : Bool) (x : Expr) → IsExpr x → AsValue x → AllClean (expr_nodes x t scopes a (position_of b)) → IsValue program r (want_of b) (argument_in x scopes a.depth)
   argument_at b _ (shape.number at value) v c =
-      plain_argument b _ v (reads.number_reads at value) refl (λ e. (clean_as (position_of b) (nodes.number_is at value) c).0 4 (inl (refl, array_place e))) c
+      plain_argument b _ v (expr_reads _ (expr.rolls-Number at value)) refl (λ e. (clean_as (position_of b) (expr_is _ (expr.rolls-Number at value)) c).0 4 (inl (refl, array_place e))) c
   argument_at b _ (shape.constant at which) v c =
-      plain_argument b _ v (reads.constant_reads at which) refl (λ e. (clean_as (position_of b) (nodes.const_is at which) c).0 4 (inl (refl, array_place e))) c
+      plain_argument b _ v (expr_reads _ (expr.rolls-Const at which)) refl (λ e. (clean_as (position_of b) (expr_is _ (expr.rolls-Const at which)) c).0 4 (inl (refl, array_place e))) c
   argument_at b _ (shape.place _ (shape.variable at name)) v c =
-      let k = clean_as (position_of b) (nodes.name_is at name) c in
-      argument_as b (reads.name_reads at name) (argument_there program t r a.depth b (visible name scopes) (within name) k.0)
+      let k = clean_as (position_of b) (expr_is _ (expr.rolls-Name at name)) c in
+      argument_as b (expr_reads _ (expr.rolls-Name at name)) (argument_there program t r a.depth b (visible name scopes) (within name) k.0)
   argument_at b _ (shape.place _ (shape.element at name index g)) v c =
-      plain_argument b _ v (reads.index_reads at name index) refl
-      (λ e. (clean_as (position_of b) (nodes.index_is at name index) c).0 4
+      plain_argument b _ v (expr_reads _ (expr.rolls-Index at name index)) refl
+      (λ e. (clean_as (position_of b) (expr_is _ (expr.rolls-Index at name index)) c).0 4
       (inr (inl (refl, second_true (is_other ki.Array (visible name scopes)) _ (array_place e))))) c
   argument_at b _ (shape.call _ g) v c = call_argument b _ g v c
   argument_at b _ (shape.group at inner g) v c =
-      plain_argument b _ v (reads.group_reads at inner) refl (λ e. (clean_as (position_of b) (nodes.group_is at inner) c).0 4 (inl (refl, array_place e))) c
+      plain_argument b _ v (expr_reads _ (expr.rolls-Group at inner)) refl (λ e. (clean_as (position_of b) (expr_is _ (expr.rolls-Group at inner)) c).0 4 (inl (refl, array_place e))) c
   argument_at b _ (shape.unary at op inner g) v c =
-      plain_argument b _ v (reads.unary_reads at op inner) refl (λ e. (clean_as (position_of b) (nodes.unary_is at op inner) c).0 4 (inl (refl, array_place e))) c
+      plain_argument b _ v (expr_reads _ (expr.rolls-Unary at op inner)) refl (λ e. (clean_as (position_of b) (expr_is _ (expr.rolls-Unary at op inner)) c).0 4 (inl (refl, array_place e))) c
   argument_at b _ (shape.chain at level first link rest g gs) v c =
-      plain_argument b _ v (reads.chain_reads at level first (link ∷ rest)) refl
-      (λ e. (clean_as (position_of b) (nodes.chain_is at level first (link ∷ rest)) c).0 4 (inl (refl, array_place e))) c
+      plain_argument b _ v (expr_reads _ (expr.rolls-Chain at level first (link ∷ rest))) refl
+      (λ e. (clean_as (position_of b) (expr_is _ (expr.rolls-Chain at level first (link ∷ rest))) c).0 4 (inl (refl, array_place e))) c
 
   counted_right : (o : Option Signature) (s : Signature) (function args : ℕ) → o ≡ Some s → (is_miscounted (callee_of function o) args ≡ true → ⊥) → args ≡ length s.params
   counted_right o s function args e n =
@@ -323,21 +324,21 @@ module _ (program : Resolved) (t : Tables) (r : Round) (a : Around) (scopes : Li
 
   mutual
     pub value_at : (w : Position) → IsPlain w → (x : Expr) → IsExpr x → AllClean (expr_nodes x t scopes a w) → IsValue program r AnInt (value_in x scopes a.depth)
-    value_at w plain _ (shape.number at value) c = value_as (reads.number_reads at value) (number value)
-    value_at w plain _ (shape.constant at which) c = value_as (reads.constant_reads at which) (number (constant_value which))
+    value_at w plain _ (shape.number at value) c = value_as (expr_reads _ (expr.rolls-Number at value)) (number value)
+    value_at w plain _ (shape.constant at which) c = value_as (expr_reads _ (expr.rolls-Const at which)) (number (constant_value which))
     value_at w plain _ (shape.place x g) c = place_value w plain x g c
     value_at w plain _ (shape.call x g) c = call_at w x g c
     value_at w plain _ (shape.group at inner g) c =
-        let k = clean_as w (nodes.group_is at inner) c in
-        value_as (reads.group_reads at inner) (value_at po.Value refl inner g k.1)
+        let k = clean_as w (expr_is _ (expr.rolls-Group at inner)) c in
+        value_as (expr_reads _ (expr.rolls-Group at inner)) (value_at po.Value refl inner g k.1)
     value_at w plain _ (shape.unary at op inner g) c =
-        let k = clean_as w (nodes.unary_is at op inner) c in
-        value_as (reads.unary_reads at op inner) (unary op _ (value_at po.Value refl inner g k.1))
+        let k = clean_as w (expr_is _ (expr.rolls-Unary at op inner)) c in
+        value_as (expr_reads _ (expr.rolls-Unary at op inner)) (unary op _ (value_at po.Value refl inner g k.1))
     value_at w plain _ (shape.chain at level first link rest g gs) c =
-        let k = clean_as w (nodes.chain_is at level first (link ∷ rest)) c in
+        let k = clean_as w (expr_is _ (expr.rolls-Chain at level first (link ∷ rest))) c in
         let left = expr_nodes first t scopes a po.Value in
         let right = links_nodes (link ∷ rest) in
-        value_as (reads.chain_reads at level first (link ∷ rest))
+        value_as (expr_reads _ (expr.rolls-Chain at level first (link ∷ rest)))
         (chain _ _ (value_at po.Value refl first g (clean_sooner left right k.1)) (links_at (link ∷ rest) gs (clean_later left right k.1)))
 
     links_at : (ls : List Link) → LinksShaped ls → AllClean (links_nodes ls) → AreLinks program r (reading_links (map link_in ls) scopes a.depth)
@@ -346,26 +347,26 @@ module _ (program : Resolved) (t : Tables) (r : Round) (a : Around) (scopes : Li
         let left = link_nodes link t scopes a po.Value in
         let right = links_nodes rest in
         one_link (link_in link scopes a.depth) _
-        (subst (λ (z : InScopes ValueLink). IsValue program r AnInt (z scopes a.depth).operand) (sym (reads.link_reads link))
-        (value_at po.Value refl link.operand g (clean_as po.Value (nodes.link_is link) (clean_sooner left right c))))
+        (subst (λ (z : InScopes ValueLink). IsValue program r AnInt (z scopes a.depth).operand) (sym (link_folds read_step link_step link))
+        (value_at po.Value refl link.operand g (clean_as po.Value (link_folds of_expr of_link link) (clean_sooner left right c))))
         (links_at rest gs (clean_later left right c))
 
     place_value : (w : Position) → IsPlain w → (x : Expr) → PlaceShaped x → AllClean (expr_nodes x t scopes a w) → IsValue program r AnInt (value_in x scopes a.depth)
     place_value w plain _ (shape.variable at name) c =
-        let k = clean_as w (nodes.name_is at name) c in
-        value_as (reads.name_reads at name) (variable _ (place_there program t r a.depth (visible name scopes) w plain (within name) k.0))
+        let k = clean_as w (expr_is _ (expr.rolls-Name at name)) c in
+        value_as (expr_reads _ (expr.rolls-Name at name)) (variable _ (place_there program t r a.depth (visible name scopes) w plain (within name) k.0))
     place_value w plain _ (shape.element at name index g) c =
-        let k = clean_as w (nodes.index_is at name index) c in
-        value_as (reads.index_reads at name index)
+        let k = clean_as w (expr_is _ (expr.rolls-Index at name index)) c in
+        value_as (expr_reads _ (expr.rolls-Index at name index))
         (element _ _ (index_there program t r a.depth (visible name scopes) w (within name) k.0) (value_at po.Value refl index g k.1))
 
     pub target_at : (x : Expr) → PlaceShaped x → AllClean (expr_nodes x t scopes a po.Value) → IsTarget program r (target_in x scopes a.depth)
     target_at _ (shape.variable at name) c =
-        let k = clean_as po.Value (nodes.name_is at name) c in
-        target_as (reads.name_reads at name) (to_variable _ (place_there program t r a.depth (visible name scopes) po.Value refl (within name) k.0))
+        let k = clean_as po.Value (expr_is _ (expr.rolls-Name at name)) c in
+        target_as (expr_reads _ (expr.rolls-Name at name)) (to_variable _ (place_there program t r a.depth (visible name scopes) po.Value refl (within name) k.0))
     target_at _ (shape.element at name index g) c =
-        let k = clean_as po.Value (nodes.index_is at name index) c in
-        target_as (reads.index_reads at name index)
+        let k = clean_as po.Value (expr_is _ (expr.rolls-Index at name index)) c in
+        target_as (expr_reads _ (expr.rolls-Index at name index))
         (to_element _ _ (index_there program t r a.depth (visible name scopes) po.Value (within name) k.0) (value_at po.Value refl index g k.1))
 
     arguments_at : (function : ℕ) (xs : List Expr) → AreExprs xs → (n : ℕ) (bs : List Bool) → SeesAt (slice_get t.functions function) n bs → length xs ≡ length bs
@@ -382,32 +383,32 @@ module _ (program : Resolved) (t : Tables) (r : Round) (a : Around) (scopes : Li
 
     call_at : (w : Position) (x : Expr) → IsCall x → AllClean (expr_nodes x t scopes a w) → IsValue program r AnInt (value_in x scopes a.depth)
     call_at w _ (shape.function_call at name args gs) c =
-        let k = clean_as w (nodes.call_is at name args) c in
+        let k = clean_as w (expr_is _ (expr.rolls-Call at name args)) c in
         let o = visible name scopes in
-        value_as (reads.call_reads at name args)
+        value_as (expr_reads _ (expr.rolls-Call at name args))
         (called_at o args w (λ function bs s e q. arguments_at function args gs 0 bs s e q)
         (function_there program t r a.depth o (within name) (λ e. k.0 4 (inr (inr (inl (refl, first_true _ _ e))))) (λ e. k.0 2 (inl (refl, declared e)))) k.0 k.1)
     call_at w _ (shape.send at channel value g) c =
-        let k = clean_as w (nodes.send_is at channel value) c in
-        value_as (reads.send_reads at channel value)
+        let k = clean_as w (expr_is _ (expr.rolls-Send at channel value)) c in
+        value_as (expr_reads _ (expr.rolls-Send at channel value))
         (acts _ _ _ (send _ (channel_used (visible channel scopes) _ w (within channel) k.0)) (one (value_at po.Value refl value g k.1)))
     call_at w _ (shape.recv at channel place g) c =
-        let k = clean_as w (nodes.recv_is at channel place) c in
-        value_as (reads.recv_reads at channel place)
+        let k = clean_as w (expr_is _ (expr.rolls-Recv at channel place)) c in
+        value_as (expr_reads _ (expr.rolls-Recv at channel place))
         (acts _ _ _ (recv _ (channel_used (visible channel scopes) _ w (within channel) k.0)) (one (reference_there program t r a.depth _ (target_at place g k.1))))
     call_at w _ (shape.read at file from len array g h) c =
-        let k = clean_as w (nodes.read_is at file from len array) c in
+        let k = clean_as w (expr_is _ (expr.rolls-Read at file from len array)) c in
         let left = expr_nodes from t scopes a po.Value in
         let right = expr_nodes len t scopes a po.Value in
-        value_as (reads.read_reads at file from len array)
+        value_as (expr_reads _ (expr.rolls-Read at file from len array))
         (acts _ _ _ (reads_file _ (file_used (visible file scopes) (visible array scopes) w (within file) k.0))
         (in_file from len array (value_at po.Value refl from g (clean_sooner left right k.1)) (value_at po.Value refl len h (clean_later left right k.1))
         (array_used (visible file scopes) (visible array scopes) w (within array) k.0)))
     call_at w _ (shape.write at file from len array g h) c =
-        let k = clean_as w (nodes.write_is at file from len array) c in
+        let k = clean_as w (expr_is _ (expr.rolls-Write at file from len array)) c in
         let left = expr_nodes from t scopes a po.Value in
         let right = expr_nodes len t scopes a po.Value in
-        value_as (reads.write_reads at file from len array)
+        value_as (expr_reads _ (expr.rolls-Write at file from len array))
         (acts _ _ _ (writes_file _ (file_used (visible file scopes) (visible array scopes) w (within file) k.0))
         (in_file from len array (value_at po.Value refl from g (clean_sooner left right k.1)) (value_at po.Value refl len h (clean_later left right k.1))
         (array_used (visible file scopes) (visible array scopes) w (within array) k.0)))

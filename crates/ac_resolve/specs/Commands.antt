@@ -1,5 +1,5 @@
 -- Statements without their names. What a statement declares and the slots that it takes are those by which the rules are judged.
-use Rattle.std.specs.Prelude.{ℕ, ◌+◌, List, [], ◌∷◌, ◌++◌, length, map, Option, None, Some}
+use Rattle.std.specs.Prelude.{ℕ, ◌+◌, List, [], ◌∷◌, ◌++◌, length, map, Option, None, Some, option_map}
 use Rattle.ac_tree.specs.declared.stmt.Stmt.{Stmt}
 use Rattle.ac_tree.specs.declared.stmt.Stmt.TheFolds.{fold-Stmt, map-Stmt}
 use Rattle.ac_tree.specs.declared.stmt.Stmt.TheOpen.{Stmt-F}
@@ -105,8 +105,7 @@ abbrev pub told : Stmt → Told
 told = fold-Stmt Told told_step
 
 abbrev pub some_told : Option Stmt → Option Told
-some_told None = None
-some_told (Some x) = Some (told x)
+some_told x = option_map told x
 
 abbrev pub body_told : List Stmt → List Told
 body_told body = map told body

@@ -1,7 +1,7 @@
 -- What small programs weigh: the tokens that each text of them has, but for those that the weight leaves out.
-use Rattle.std.proofs.Common.{◌≡◌, refl, sym, ap, ◌∙◌, ℕ, zero, suc, ◌<◌, ◌≤◌, pos, List, [], ◌∷◌, map, codes, None, Some, Bool, true, false, arith}
+use Rattle.std.proofs.Common.{◌≡◌, refl, ◌∙◌, ℕ, zero, suc, ◌<◌, ◌≤◌, pos, List, [], ◌∷◌, map, codes, None, Some, Bool, true, false, arith}
 use Rattle.std.specs.Prelude.{replicate}
-use Rattle.ac_tree.specs.declared.expr.Expr.{Expr, fold-Expr, fold-roll-Expr}
+use Rattle.ac_tree.specs.declared.expr.Expr.{Expr, fold-Expr}
 use Rattle.ac_tree.specs.declared.expr.Expr.TheOpen.{Expr-F, Link-F}
 use Rattle.ac_tree.specs.declared.expr.Expr.TheVariants as e
 use Rattle.ac_tree.specs.declared.expr.Constant.TheVariants as c
@@ -10,8 +10,8 @@ use Rattle.ac_tree.specs.declared.expr.BinaryOp.{BinaryOp}
 use Rattle.ac_tree.specs.declared.expr.BinaryOp.TheVariants as b
 use Rattle.ac_tree.specs.declared.expr.UnaryOp.TheVariants as u
 use Rattle.ac_tree.specs.declared.stmt.Stmt.{Stmt}
+use Rattle.ac_tree.specs.declared.stmt.Stmt.TheFolds.{fold-Stmt}
 use Rattle.ac_tree.specs.declared.stmt.Stmt.TheVariants as s
-use Rattle.ac_tree.specs.declared.stmt.Stmt.TheFolds.{fold-Stmt, fold-roll-Stmt}
 use Rattle.ac_tree.specs.declared.stmt.Stmt.TheOpen.{Stmt-F}
 use Rattle.ac_tree.specs.declared.item.Item.{Item}
 use Rattle.ac_tree.specs.declared.item.Item.TheVariants as i
@@ -23,6 +23,7 @@ use Rattle.ac_tree.specs.Shape.{IsDeclaration, array, block, empty as empty_stmt
 use Rattle.ac_tree.specs.Shape.{AreItems, HasShape}
 use Rattle.ac_tree.specs.Weight.{total, total_some, expr_weigh, link_weigh, expr_weight, exprs_weight, value_weight, label_weight, stmt_weigh, stmt_weight, body_weight}
 use Rattle.ac_tree.specs.Weight.{param_weight, params_weight, item_weight, items_weight, IsSmall}
+use Rattle.ac_tree.proofs.Folds.{expr_folds, stmt_folds}
 use Rattle.ac_tree.proofs.WeightForms.{number_weighs, const_weighs, name_weighs, index_weighs, group_weighs, unary_weighs, send_weighs, recv_weighs, read_weighs, write_weighs, call_weighs}
 use Rattle.ac_tree.proofs.WeightForms.{chain_weighs}
 use Rattle.ac_tree.proofs.WeightForms.{empty_weighs, int_weighs, array_weighs, assign_weighs, call_stmt_weighs, print_weighs, while_weighs, break_weighs, continue_weighs, return_weighs}
@@ -227,12 +228,11 @@ abbrev is_place : Expr → Bool
 is_place = fold-Expr Bool (Unit {0}) place_step no_step
 
 place_told : (y : Expr) → IsPlace y → is_place y ≡ true
-place_told _ (variable at name) = ap is_place (sym (e.rolls-Name at name)) ∙ fold-roll-Expr Bool (Unit {0}) place_step no_step (Expr-F.Name at name)
-place_told _ (element at name index h) =
-    ap is_place (sym (e.rolls-Index at name index)) ∙ fold-roll-Expr Bool (Unit {0}) place_step no_step (Expr-F.Index at name index)
+place_told _ (variable at name) = expr_folds place_step no_step _ (e.rolls-Name at name)
+place_told _ (element at name index h) = expr_folds place_step no_step _ (e.rolls-Index at name index)
 
 number_told : is_place one ≡ false
-number_told = ap is_place (sym (e.rolls-Number 0 (pos 1))) ∙ fold-roll-Expr Bool (Unit {0}) place_step no_step (Expr-F.Number 0 (pos 1))
+number_told = expr_folds place_step no_step _ (e.rolls-Number 0 (pos 1))
 
 pub a_name_is_a_place : IsPlace x
 a_name_is_a_place = variable 0 (codes "x")
@@ -283,37 +283,36 @@ abbrev keeps_places : Stmt → Bool
 keeps_places = fold-Stmt Bool kept_step
 
 assigned_told : (x : Stmt) → IsAssignment x → keeps_places x ≡ true
-assigned_told _ (assign at into value p h) =
-    ap keeps_places (sym (s.rolls-Assign at into value)) ∙ fold-roll-Stmt Bool kept_step (Stmt-F.Assign at into value) ∙ place_told into p
+assigned_told _ (assign at into value p h) = stmt_folds kept_step _ (s.rolls-Assign at into value) ∙ place_told into p
 
 declared_told : (x : Stmt) → IsDeclaration x → keeps_places x ≡ true
-declared_told _ (int at name value h) = ap keeps_places (sym (s.rolls-Int at name value)) ∙ fold-roll-Stmt Bool kept_step (Stmt-F.Int at name value)
-declared_told _ (array at name size) = ap keeps_places (sym (s.rolls-Array at name size)) ∙ fold-roll-Stmt Bool kept_step (Stmt-F.Array at name size)
+declared_told _ (int at name value h) = stmt_folds kept_step _ (s.rolls-Int at name value)
+declared_told _ (array at name size) = stmt_folds kept_step _ (s.rolls-Array at name size)
 
 kept_told : (x : Stmt) → IsStmt x → keeps_places x ≡ true
 kept_told x (assignment _ h) = assigned_told x h
-kept_told _ (block at body h) = ap keeps_places (sym (s.rolls-Block at body)) ∙ fold-roll-Stmt Bool kept_step (Stmt-F.Block at body)
-kept_told _ (empty_stmt at) = ap keeps_places (sym (s.rolls-Empty at)) ∙ fold-roll-Stmt Bool kept_step (Stmt-F.Empty at)
-kept_told _ (call_stmt at call h) = ap keeps_places (sym (s.rolls-Call at call)) ∙ fold-roll-Stmt Bool kept_step (Stmt-F.Call at call)
-kept_told _ (print at format args h) = ap keeps_places (sym (s.rolls-Print at format args)) ∙ fold-roll-Stmt Bool kept_step (Stmt-F.Print at format args)
-kept_told _ (if_alone at test body h hs) = ap keeps_places (sym (s.rolls-If at test body None)) ∙ fold-roll-Stmt Bool kept_step (Stmt-F.If at test body None)
-kept_told _ (if_else at test body other h hs hos) = ap keeps_places (sym (s.rolls-If at test body (Some other))) ∙ fold-roll-Stmt Bool kept_step (Stmt-F.If at test body (Some other))
-kept_told _ (while at test body h hs) = ap keeps_places (sym (s.rolls-While at test body)) ∙ fold-roll-Stmt Bool kept_step (Stmt-F.While at test body)
-kept_told _ (for at init test next body a b c d) = ap keeps_places (sym (s.rolls-For at init test next body)) ∙ fold-roll-Stmt Bool kept_step (Stmt-F.For at init test next body)
-kept_told _ (break at) = ap keeps_places (sym (s.rolls-Break at)) ∙ fold-roll-Stmt Bool kept_step (Stmt-F.Break at)
-kept_told _ (continue at) = ap keeps_places (sym (s.rolls-Continue at)) ∙ fold-roll-Stmt Bool kept_step (Stmt-F.Continue at)
-kept_told _ (return at value h) = ap keeps_places (sym (s.rolls-Return at value)) ∙ fold-roll-Stmt Bool kept_step (Stmt-F.Return at value)
-kept_told _ (do_finish at label body h) = ap keeps_places (sym (s.rolls-Do at label body)) ∙ fold-roll-Stmt Bool kept_step (Stmt-F.Do at label body)
-kept_told _ (async at body h) = ap keeps_places (sym (s.rolls-Async at body)) ∙ fold-roll-Stmt Bool kept_step (Stmt-F.Async at body)
-kept_told _ (cancel at label) = ap keeps_places (sym (s.rolls-Cancel at label)) ∙ fold-roll-Stmt Bool kept_step (Stmt-F.Cancel at label)
-kept_told _ (yield at) = ap keeps_places (sym (s.rolls-Yield at)) ∙ fold-roll-Stmt Bool kept_step (Stmt-F.Yield at)
+kept_told _ (block at body h) = stmt_folds kept_step _ (s.rolls-Block at body)
+kept_told _ (empty_stmt at) = stmt_folds kept_step _ (s.rolls-Empty at)
+kept_told _ (call_stmt at call h) = stmt_folds kept_step _ (s.rolls-Call at call)
+kept_told _ (print at format args h) = stmt_folds kept_step _ (s.rolls-Print at format args)
+kept_told _ (if_alone at test body h hs) = stmt_folds kept_step _ (s.rolls-If at test body None)
+kept_told _ (if_else at test body other h hs hos) = stmt_folds kept_step _ (s.rolls-If at test body (Some other))
+kept_told _ (while at test body h hs) = stmt_folds kept_step _ (s.rolls-While at test body)
+kept_told _ (for at init test next body a b c d) = stmt_folds kept_step _ (s.rolls-For at init test next body)
+kept_told _ (break at) = stmt_folds kept_step _ (s.rolls-Break at)
+kept_told _ (continue at) = stmt_folds kept_step _ (s.rolls-Continue at)
+kept_told _ (return at value h) = stmt_folds kept_step _ (s.rolls-Return at value)
+kept_told _ (do_finish at label body h) = stmt_folds kept_step _ (s.rolls-Do at label body)
+kept_told _ (async at body h) = stmt_folds kept_step _ (s.rolls-Async at body)
+kept_told _ (cancel at label) = stmt_folds kept_step _ (s.rolls-Cancel at label)
+kept_told _ (yield at) = stmt_folds kept_step _ (s.rolls-Yield at)
 
 -- 1 = 1;
 abbrev pub into_a_number : Stmt
 into_a_number = s.Assign 0 one one
 
 into_a_number_told : keeps_places into_a_number ≡ false
-into_a_number_told = ap keeps_places (sym (s.rolls-Assign 0 one one)) ∙ fold-roll-Stmt Bool kept_step (Stmt-F.Assign 0 one one) ∙ number_told
+into_a_number_told = stmt_folds kept_step _ (s.rolls-Assign 0 one one) ∙ number_told
 
 first_told : (x : Stmt) (xs : List Stmt) → AreEntries (x ∷ xs) → keeps_places x ≡ true
 first_told x xs (declares _ _ h hs) = declared_told x h

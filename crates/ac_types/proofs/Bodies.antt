@@ -3,8 +3,7 @@ use Rattle.std.proofs.Common.{◌≡◌, ℕ, ◌+◌, List, [], ◌∷◌, Opti
 use Rattle.ac_tree.specs.declared.expr.Expr.{Expr}
 use Rattle.ac_tree.specs.declared.stmt.Stmt.{Stmt}
 use Rattle.ac_tree.specs.declared.stmt.Stmt.TheVariants as s
-use Rattle.ac_tree.specs.declared.stmt.Stmt.TheFolds.{fold-roll-Stmt}
-use Rattle.ac_tree.specs.declared.stmt.Stmt.TheOpen.{Stmt-F}
+use Rattle.ac_tree.proofs.Folds.{if_folds, for_folds}
 use Rattle.ac_types.specs.declared.around.Around.{Around}
 use Rattle.ac_types.specs.declared.around.Position.TheVariants as p
 use Rattle.ac_types.specs.declared.numbered.Tables.{Tables}
@@ -19,19 +18,6 @@ use Rattle.ac_names.proofs.Statements.{names_of, same_names, names_shut, names_t
 use Rattle.ac_types.specs.inner.Statements.{SeenPart, seen_step, stmt_seen, some_seen, if_seen, for_seen, bodies, after, after_listed}
 use Rattle.ac_types.specs.inner.Statements.{after_some, after_init, after_body, after_scope, after_value, after_test, after_open, after_shut}
 use Rattle.ac_types.specs.Statements.{Gives, gives_step}
-
--- ---- the forms with parts that may be left out
-
-pub if_is : (at : ℕ) (test : Expr) (body : Stmt) (other : Option Stmt) → stmt_seen (s.If at test body other) ≡ if_seen at test (stmt_seen body) (some_seen other)
-if_is at test body None = ap stmt_seen (sym (s.rolls-If at test body None)) ∙ fold-roll-Stmt SeenPart seen_step (Stmt-F.If at test body None)
-if_is at test body (Some x) = ap stmt_seen (sym (s.rolls-If at test body (Some x))) ∙ fold-roll-Stmt SeenPart seen_step (Stmt-F.If at test body (Some x))
-
-pub for_is : (at : ℕ) (init : Option Stmt) (test : Option Expr) (next : Option Stmt) (body : Stmt) →
-    stmt_seen (s.For at init test next body) ≡ for_seen at (some_seen init) test (some_seen next) (stmt_seen body)
-for_is at None test None body = ap stmt_seen (sym (s.rolls-For at None test None body)) ∙ fold-roll-Stmt SeenPart seen_step (Stmt-F.For at None test None body)
-for_is at None test (Some y) body = ap stmt_seen (sym (s.rolls-For at None test (Some y) body)) ∙ fold-roll-Stmt SeenPart seen_step (Stmt-F.For at None test (Some y) body)
-for_is at (Some x) test None body = ap stmt_seen (sym (s.rolls-For at (Some x) test None body)) ∙ fold-roll-Stmt SeenPart seen_step (Stmt-F.For at (Some x) test None body)
-for_is at (Some x) test (Some y) body = ap stmt_seen (sym (s.rolls-For at (Some x) test (Some y) body)) ∙ fold-roll-Stmt SeenPart seen_step (Stmt-F.For at (Some x) test (Some y) body)
 
 -- ---- a scope
 
@@ -65,7 +51,7 @@ pub if_after : (t : Tables) (a : Around) (x : Stmt) (at : ℕ) (test : Expr) (bo
 if_after t a x at test body body2 other w v u z is e same f g =
     g ∙ ap (after_some t a (some_seen other)) (f ∙ ap (λ b. after t a (stmt_seen b) v) same ∙ ap (after t a (stmt_seen body)) e)
     ∙ if_walk t a at test (stmt_seen body) (some_seen other) w
-    ∙ ap (λ q. after t a q w) (sym (if_is at test body other) ∙ ap stmt_seen (sym is))
+    ∙ ap (λ q. after t a q w) (sym (if_folds seen_step at test body other) ∙ ap stmt_seen (sym is))
 
 -- ---- `for`
 
@@ -114,7 +100,7 @@ for_after t a a2 x at init test next body body2 w w1 w2 w3 w4 w5 c is e1 e2 e3 e
     ∙ ap (after t (inside_loop a) (stmt_seen body))
     (e4 ∙ ap (after_some t a (some_seen next)) (e3 ∙ ap (after_value t a p.Value test) (e2 ∙ ap (after_init t a (some_seen init)) e1))))
     ∙ shut_for t a at (some_seen init) test (some_seen next) (stmt_seen body) w
-    ∙ ap (λ q. after t a q w) (sym (for_is at init test next body) ∙ ap stmt_seen (sym is))
+    ∙ ap (λ q. after t a q w) (sym (for_folds seen_step at init test next body) ∙ ap stmt_seen (sym is))
 
 -- ---- a statement of a list
 

@@ -1,5 +1,5 @@
 -- Small programs and the rules that they break.
-use Rattle.std.proofs.Common.{◌≡◌, refl, sym, ap, subst, ℕ, zero, suc, ℤ, pos, List, [], ◌∷◌, ◌++◌, map, codes, slice_get, Bool, true, false, Option, Some, None, inl, inr, arith}
+use Rattle.std.proofs.Common.{◌≡◌, refl, sym, ap, subst, ℕ, ℤ, pos, List, [], ◌∷◌, ◌++◌, map, codes, Bool, true, false, Option, Some, None, inl, inr, arith}
 use Rattle.std.specs.Prelude.{negsuc, if◌then◌else◌}
 use Rattle.ac_tree.specs.declared.expr.Expr.{Expr}
 use Rattle.ac_tree.specs.declared.expr.Expr.TheVariants as e
@@ -13,6 +13,7 @@ use Rattle.ac_tree.specs.declared.item.Item.{Item}
 use Rattle.ac_tree.specs.declared.item.Item.TheVariants as i
 use Rattle.ac_tree.specs.declared.item.Function.{Function}
 use Rattle.ac_tree.specs.declared.item.Param.{Param}
+use Rattle.ac_tree.proofs.Folds.{link_folds}
 use Rattle.ac_names.specs.declared.meaning.Meaning.{Meaning}
 use Rattle.ac_names.specs.declared.meaning.Meaning.TheVariants as m
 use Rattle.ac_names.specs.declared.names.Names.{Names}
@@ -20,8 +21,9 @@ use Rattle.ac_names.specs.Statements.{part, part_gives}
 use Rattle.ac_names.specs.Items.{no_past, outermost, function_names}
 use Rattle.ac_reach.specs.declared.reached.Reached.{Reached}
 use Rattle.ac_reach.specs.declared.reached.Reached.TheVariants as r
-use Rattle.ac_reach.specs.Reached.{ReachedFrom, is_entry, is_called, AreRows, IsReachedBy, here_is}
+use Rattle.ac_reach.specs.Reached.{is_entry, is_called, AreRows, here_is}
 use Rattle.ac_reach.specs.Reached as reach
+use Rattle.ac_reach.proofs.Examples.{none_reached, only_core, one_row}
 use Rattle.ac_types.specs.declared.around.Around.{Around}
 use Rattle.ac_types.specs.declared.around.Position.{Position}
 use Rattle.ac_types.specs.declared.around.Position.TheVariants as p
@@ -47,8 +49,7 @@ use Rattle.ac_types.specs.Reached.{function_number, calls_in, entries_of, all_ca
 use Rattle.ac_types.specs.Verdicts.{IsFault}
 use Rattle.ac_types.specs.inner.Seen.{first_of}
 use Rattle.ac_types.proofs.Formats.{formats_are_printed}
-use Rattle.ac_types.proofs.Forms.{number_is, name_is, index_is, unary_is, chain_is, link_is, call_is, send_is, read_is, block_is, empty_is, int_is, array_is, assign_is}
-use Rattle.ac_types.proofs.Forms.{call_made, print_is, if_is, while_is, for_is, break_is, return_is, do_is, async_is, cancel_is, yield_is}
+use Rattle.ac_types.proofs.Forms.{of_expr, of_link, expr_is, stmt_is}
 use Rattle.ac_types.proofs.Judging.{program_told}
 
 -- ---- numbers and their order
@@ -327,18 +328,18 @@ pub an_element_in_preorder : firsts (expr_step (List Node) one_node [] join_node
 an_element_in_preorder = refl
 
 pub a_number_has_one_node : firsts (expr_all (List Node) one_node [] join_nodes (e.Number 5 (pos 1)) no_tables [] in_plain p.Value) ≡ 5 ∷ []
-a_number_has_one_node = rw (number_is 5 (pos 1)) refl
+a_number_has_one_node = rw (expr_is _ (e.rolls-Number 5 (pos 1))) refl
 
 pub values_in_order : firsts (values_all (List Node) one_node [] join_nodes (e.Number 5 (pos 1) ∷ e.Number 8 (pos 1) ∷ []) no_tables [] in_plain) ≡ 5 ∷ 8 ∷ []
-values_in_order = rw (number_is 5 (pos 1), number_is 8 (pos 1)) refl
+values_in_order = rw (expr_is _ (e.rolls-Number 5 (pos 1)), expr_is _ (e.rolls-Number 8 (pos 1))) refl
 
 pub a_value_that_may_be_left_out : firsts (value_all (List Node) one_node [] join_nodes p.Whole None no_tables [] in_plain)
     ∷ firsts (value_all (List Node) one_node [] join_nodes p.Whole (Some (e.Number 5 (pos 1))) no_tables [] in_plain) ∷ [] ≡ [] ∷ (5 ∷ []) ∷ []
-a_value_that_may_be_left_out = rw (number_is 5 (pos 1)) refl
+a_value_that_may_be_left_out = rw (expr_is _ (e.rolls-Number 5 (pos 1))) refl
 
 pub a_value_that_is_used : firsts (used (List Node) one_node [] join_nodes (e.Number 5 (pos 1)) no_tables (from_slot 0) in_plain)
     ∷ firsts (valued (List Node) one_node [] join_nodes p.Whole (Some (e.Number 5 (pos 1))) no_tables (from_slot 0) in_plain) ∷ [] ≡ (5 ∷ []) ∷ (5 ∷ []) ∷ []
-a_value_that_is_used = rw (number_is 5 (pos 1)) refl
+a_value_that_is_used = rw (expr_is _ (e.rolls-Number 5 (pos 1))) refl
 
 -- a statement that takes one slot, and whose node begins at the number of that slot
 abbrev slot_told : Gives (List Node)
@@ -364,7 +365,7 @@ pub a_block_and_a_body : firsts (gives_step (List Node) one_node [] join_nodes (
 a_block_and_a_body = refl
 
 pub a_yield_has_one_node : firsts (part_gives (stmt_all (List Node) one_node [] join_nodes (s.Yield 4)) no_tables (from_slot 0) in_plain) ≡ 4 ∷ []
-a_yield_has_one_node = rw (yield_is 4) refl
+a_yield_has_one_node = rw (stmt_is _ (s.rolls-Yield 4)) refl
 
 -- ---- small programs: the first bytes of the nodes that break rules, with the numbers of those rules
 
@@ -430,50 +431,60 @@ the_empty_program = refl
 
 -- int x; int x;
 pub declared_twice : in_one_core (s.Int 28 (codes "x") None ∷ s.Int 35 (codes "x") None ∷ []) ≡ (35, 1 ∷ []) ∷ []
-declared_twice = rw (int_is 28 (codes "x") None, int_is 35 (codes "x") None) refl
+declared_twice = rw (stmt_is _ (s.rolls-Int 28 (codes "x") None), stmt_is _ (s.rolls-Int 35 (codes "x") None)) refl
 
 -- int x; { int x; }
 pub declared_in_two_scopes : in_one_core (s.Int 28 (codes "x") None ∷ s.Block 35 (s.Int 37 (codes "x") None ∷ []) ∷ []) ≡ []
-declared_in_two_scopes = rw (int_is 28 (codes "x") None, block_is 35 (s.Int 37 (codes "x") None ∷ []), int_is 37 (codes "x") None) refl
+declared_in_two_scopes = rw (stmt_is _ (s.rolls-Int 28 (codes "x") None), stmt_is _ (s.rolls-Block 35 (s.Int 37 (codes "x") None ∷ [])), stmt_is _ (s.rolls-Int 37 (codes "x") None)) refl
 
 -- x = 1;
 abbrev undeclared : List Stmt
 undeclared = s.Assign 28 (e.Name 28 (codes "x")) (a_number_at 32) ∷ []
 
 pub not_declared : in_one_core undeclared ≡ (28, 2 ∷ []) ∷ []
-not_declared = rw (assign_is 28 (e.Name 28 (codes "x")) (a_number_at 32), name_is 28 (codes "x"), number_is 32 (pos 1)) refl
+not_declared = rw (stmt_is _ (s.rolls-Assign 28 (e.Name 28 (codes "x")) (a_number_at 32)), expr_is _ (e.rolls-Name 28 (codes "x")), expr_is _ (e.rolls-Number 32 (pos 1))) refl
 
 -- int x = x;
 pub not_declared_before_its_end : in_one_core (s.Int 28 (codes "x") (Some (e.Name 36 (codes "x"))) ∷ []) ≡ (36, 2 ∷ []) ∷ []
-not_declared_before_its_end = rw (int_is 28 (codes "x") (Some (e.Name 36 (codes "x"))), name_is 36 (codes "x")) refl
+not_declared_before_its_end = rw (stmt_is _ (s.rolls-Int 28 (codes "x") (Some (e.Name 36 (codes "x")))), expr_is _ (e.rolls-Name 36 (codes "x"))) refl
 
 -- f = 1;
 pub a_function_is_no_variable : in_one_core (s.Assign 28 (e.Name 28 (codes "f")) (a_number_at 32) ∷ []) ≡ (28, 4 ∷ []) ∷ []
-a_function_is_no_variable = rw (assign_is 28 (e.Name 28 (codes "f")) (a_number_at 32), name_is 28 (codes "f"), number_is 32 (pos 1)) refl
+a_function_is_no_variable = rw (stmt_is _ (s.rolls-Assign 28 (e.Name 28 (codes "f")) (a_number_at 32)), expr_is _ (e.rolls-Name 28 (codes "f")), expr_is _ (e.rolls-Number 32 (pos 1))) refl
 
 -- f(1);
 pub an_argument_too_many : in_one_core (s.Call 28 (e.Call 28 (codes "f") (a_number_at 30 ∷ [])) ∷ []) ≡ (28, 3 ∷ []) ∷ []
-an_argument_too_many = rw (call_made 28 (e.Call 28 (codes "f") (a_number_at 30 ∷ [])), call_is 28 (codes "f") (a_number_at 30 ∷ []), number_is 30 (pos 1)) refl
+an_argument_too_many = rw (
+  stmt_is _ (s.rolls-Call 28 (e.Call 28 (codes "f") (a_number_at 30 ∷ []))),
+  expr_is _ (e.rolls-Call 28 (codes "f") (a_number_at 30 ∷ [])),
+  expr_is _ (e.rolls-Number 30 (pos 1)),
+) refl
 
 -- core a(f); async void f() {} void g() { f(); yield; }
 pub in_a_plain_function : faults (program_nodes (one_core [] ++ a_function 30 false false (codes "g") [] (s.Call 41 (e.Call 41 (codes "f") []) ∷ s.Yield 46 ∷ []) ∷ []) (r.ByOne 0 ∷ r.ByNone ∷ []))
     ≡ (41, 5 ∷ []) ∷ (46, 6 ∷ []) ∷ []
-in_a_plain_function = rw (call_made 41 (e.Call 41 (codes "f") []), call_is 41 (codes "f") [], yield_is 46) refl
+in_a_plain_function = rw (stmt_is _ (s.rolls-Call 41 (e.Call 41 (codes "f") [])), expr_is _ (e.rolls-Call 41 (codes "f") []), stmt_is _ (s.rolls-Yield 46)) refl
 
 -- async ;
 pub a_body_in_no_do : in_one_core (s.Async 28 (s.Empty 34) ∷ []) ≡ (28, 7 ∷ []) ∷ []
-a_body_in_no_do = rw (async_is 28 (s.Empty 34), empty_is 34) refl
+a_body_in_no_do = rw (stmt_is _ (s.rolls-Async 28 (s.Empty 34)), stmt_is _ (s.rolls-Empty 34)) refl
 
 -- k: do { async cancel k; cancel m; return; } finish
 abbrev body_of_a_do : List Stmt
 body_of_a_do = s.Async 36 (s.Cancel 42 (codes "k")) ∷ s.Cancel 52 (codes "m") ∷ s.Return 62 None ∷ []
 
 pub in_a_do : in_one_core (s.Do 31 (Some (codes "k")) body_of_a_do ∷ []) ≡ (52, 8 ∷ []) ∷ (62, 9 ∷ []) ∷ []
-in_a_do = rw (do_is 31 (Some (codes "k")) body_of_a_do, async_is 36 (s.Cancel 42 (codes "k")), cancel_is 42 (codes "k"), cancel_is 52 (codes "m"), return_is 62 None) refl
+in_a_do = rw (
+  stmt_is _ (s.rolls-Do 31 (Some (codes "k")) body_of_a_do),
+  stmt_is _ (s.rolls-Async 36 (s.Cancel 42 (codes "k"))),
+  stmt_is _ (s.rolls-Cancel 42 (codes "k")),
+  stmt_is _ (s.rolls-Cancel 52 (codes "m")),
+  stmt_is _ (s.rolls-Return 62 None),
+) refl
 
 -- while (1) break; break;
 pub in_no_loop : in_one_core (s.While 28 (a_number_at 35) (s.Break 38) ∷ s.Break 45 ∷ []) ≡ (45, 9 ∷ []) ∷ []
-in_no_loop = rw (while_is 28 (a_number_at 35) (s.Break 38), number_is 35 (pos 1), break_is 38, break_is 45) refl
+in_no_loop = rw (stmt_is _ (s.rolls-While 28 (a_number_at 35) (s.Break 38)), expr_is _ (e.rolls-Number 35 (pos 1)), stmt_is _ (s.rolls-Break 38), stmt_is _ (s.rolls-Break 45)) refl
 
 -- for (int i; i; i = 1) i = 1; i = 1; where the first part has a scope of its own
 abbrev set_i : ℕ → ℕ → Stmt
@@ -481,27 +492,27 @@ set_i at right = s.Assign at (e.Name at (codes "i")) (a_number_at right)
 
 pub a_scope_of_its_own : in_one_core (s.For 28 (Some (s.Int 33 (codes "i") None)) (Some (e.Name 40 (codes "i"))) (Some (set_i 43 47)) (set_i 50 54) ∷ set_i 57 61 ∷ []) ≡ (57, 2 ∷ []) ∷ []
 a_scope_of_its_own = rw (
-  for_is 28 (Some (s.Int 33 (codes "i") None)) (Some (e.Name 40 (codes "i"))) (Some (set_i 43 47)) (set_i 50 54),
-  int_is 33 (codes "i") None,
-  assign_is 43 (e.Name 43 (codes "i")) (a_number_at 47),
-  assign_is 50 (e.Name 50 (codes "i")) (a_number_at 54),
-  assign_is 57 (e.Name 57 (codes "i")) (a_number_at 61),
-  name_is 40 (codes "i"),
-  name_is 43 (codes "i"),
-  name_is 50 (codes "i"),
-  name_is 57 (codes "i"),
-  number_is 47 (pos 1),
-  number_is 54 (pos 1),
-  number_is 61 (pos 1),
+  stmt_is _ (s.rolls-For 28 (Some (s.Int 33 (codes "i") None)) (Some (e.Name 40 (codes "i"))) (Some (set_i 43 47)) (set_i 50 54)),
+  stmt_is _ (s.rolls-Int 33 (codes "i") None),
+  stmt_is _ (s.rolls-Assign 43 (e.Name 43 (codes "i")) (a_number_at 47)),
+  stmt_is _ (s.rolls-Assign 50 (e.Name 50 (codes "i")) (a_number_at 54)),
+  stmt_is _ (s.rolls-Assign 57 (e.Name 57 (codes "i")) (a_number_at 61)),
+  expr_is _ (e.rolls-Name 40 (codes "i")),
+  expr_is _ (e.rolls-Name 43 (codes "i")),
+  expr_is _ (e.rolls-Name 50 (codes "i")),
+  expr_is _ (e.rolls-Name 57 (codes "i")),
+  expr_is _ (e.rolls-Number 47 (pos 1)),
+  expr_is _ (e.rolls-Number 54 (pos 1)),
+  expr_is _ (e.rolls-Number 61 (pos 1)),
 ) refl
 
 -- int x[4097];
 pub an_array_too_large : in_one_core (s.Array 28 (codes "x") (pos 4097) ∷ []) ≡ (28, 13 ∷ []) ∷ []
-an_array_too_large = rw (array_is 28 (codes "x") (pos 4097)) refl
+an_array_too_large = rw (stmt_is _ (s.rolls-Array 28 (codes "x") (pos 4097))) refl
 
 -- printf("%d%d", 1);
 pub an_argument_too_few : in_one_core (s.Print 28 (codes "%d%d") (a_number_at 43 ∷ []) ∷ []) ≡ (28, 16 ∷ []) ∷ []
-an_argument_too_few = rw (print_is 28 (codes "%d%d") (a_number_at 43 ∷ []), number_is 43 (pos 1)) refl
+an_argument_too_few = rw (stmt_is _ (s.rolls-Print 28 (codes "%d%d") (a_number_at 43 ∷ [])), expr_is _ (e.rolls-Number 43 (pos 1))) refl
 
 -- core a(f); void f() {}
 pub a_plain_entry : faults (program_nodes (i.Core 0 (codes "a") (codes "f") ∷ a_function 11 false false (codes "f") [] [] ∷ []) (r.ByOne 0 ∷ [])) ≡ (0, 10 ∷ []) ∷ []
@@ -523,20 +534,20 @@ with_arrays = one_core (s.Array 28 (codes "h") (pos 3) ∷ s.Call 38 (e.Call 38 
 
 pub an_array_for_an_int : faults (program_nodes with_arrays (r.ByOne 0 ∷ r.ByOne 0 ∷ [])) ≡ (43, 4 ∷ []) ∷ []
 an_array_for_an_int = rw (
-  array_is 28 (codes "h") (pos 3),
-  call_made 38 (e.Call 38 (codes "g") (array_at 40 ∷ array_at 43 ∷ [])),
-  call_is 38 (codes "g") (array_at 40 ∷ array_at 43 ∷ []),
-  name_is 40 (codes "h"),
-  name_is 43 (codes "h"),
+  stmt_is _ (s.rolls-Array 28 (codes "h") (pos 3)),
+  stmt_is _ (s.rolls-Call 38 (e.Call 38 (codes "g") (array_at 40 ∷ array_at 43 ∷ []))),
+  expr_is _ (e.rolls-Call 38 (codes "g") (array_at 40 ∷ array_at 43 ∷ [])),
+  expr_is _ (e.rolls-Name 40 (codes "h")),
+  expr_is _ (e.rolls-Name 43 (codes "h")),
 ) refl
 
 pub the_first_calls_the_second : all_calls with_arrays ≡ (1 ∷ []) ∷ [] ∷ []
 the_first_calls_the_second = rw (
-  array_is 28 (codes "h") (pos 3),
-  call_made 38 (e.Call 38 (codes "g") (array_at 40 ∷ array_at 43 ∷ [])),
-  call_is 38 (codes "g") (array_at 40 ∷ array_at 43 ∷ []),
-  name_is 40 (codes "h"),
-  name_is 43 (codes "h"),
+  stmt_is _ (s.rolls-Array 28 (codes "h") (pos 3)),
+  stmt_is _ (s.rolls-Call 38 (e.Call 38 (codes "g") (array_at 40 ∷ array_at 43 ∷ []))),
+  expr_is _ (e.rolls-Call 38 (codes "g") (array_at 40 ∷ array_at 43 ∷ [])),
+  expr_is _ (e.rolls-Name 40 (codes "h")),
+  expr_is _ (e.rolls-Name 43 (codes "h")),
 ) refl
 
 -- core a(f); void f(int x, int x[]) {}
@@ -551,10 +562,10 @@ with_a_channel = i.Core 0 (codes "a") (codes "f") ∷ i.Core 11 (codes "b") (cod
     ∷ a_function 42 true false (codes "f") [] (s.Call 59 (e.Send 59 (codes "c") (a_number_at 67)) ∷ []) ∷ []
 
 pub another_core_sends : faults (program_nodes with_a_channel (r.BySeveral ∷ [])) ≡ (59, 11 ∷ []) ∷ []
-another_core_sends = rw (call_made 59 (e.Send 59 (codes "c") (a_number_at 67)), send_is 59 (codes "c") (a_number_at 67), number_is 67 (pos 1)) refl
+another_core_sends = rw (stmt_is _ (s.rolls-Call 59 (e.Send 59 (codes "c") (a_number_at 67))), expr_is _ (e.rolls-Send 59 (codes "c") (a_number_at 67)), expr_is _ (e.rolls-Number 67 (pos 1))) refl
 
 pub its_core_sends : faults (program_nodes with_a_channel (r.ByOne 0 ∷ [])) ≡ []
-its_core_sends = rw (call_made 59 (e.Send 59 (codes "c") (a_number_at 67)), send_is 59 (codes "c") (a_number_at 67), number_is 67 (pos 1)) refl
+its_core_sends = rw (stmt_is _ (s.rolls-Call 59 (e.Send 59 (codes "c") (a_number_at 67))), expr_is _ (e.rolls-Send 59 (codes "c") (a_number_at 67)), expr_is _ (e.rolls-Number 67 (pos 1))) refl
 
 -- core a(f); async int f() { if (1+f()) h[1] = f(); else h[-f()] = 1; return Read(g, 1, 1, h); } int h[3]; file g("d");
 abbrev call_at : ℕ → Expr
@@ -575,24 +586,24 @@ with_values = i.Core 0 (codes "a") (codes "f")
 
 pub calls_in_values : faults (program_nodes with_values (r.ByOne 0 ∷ [])) ≡ (33, 18 ∷ []) ∷ (58, 18 ∷ []) ∷ []
 calls_in_values = rw (
-  if_is 27 sum (s.Assign 38 (element 38 (a_number_at 40)) (call_at 45)) (Some (s.Assign 55 (element 55 (e.Unary 57 u.Neg (call_at 58))) (a_number_at 65))),
-  chain_is 31 9 (a_number_at 31) (record { op = b.Add; operand = call_at 33 } ∷ []),
-  link_is (record { op = b.Add; operand = call_at 33 }),
-  assign_is 38 (element 38 (a_number_at 40)) (call_at 45),
-  assign_is 55 (element 55 (e.Unary 57 u.Neg (call_at 58))) (a_number_at 65),
-  index_is 38 (codes "h") (a_number_at 40),
-  index_is 55 (codes "h") (e.Unary 57 u.Neg (call_at 58)),
-  unary_is 57 u.Neg (call_at 58),
-  call_is 33 (codes "f") [],
-  call_is 45 (codes "f") [],
-  call_is 58 (codes "f") [],
-  return_is 68 (Some (e.Read 75 (codes "g") (a_number_at 83) (a_number_at 86) (codes "h"))),
-  read_is 75 (codes "g") (a_number_at 83) (a_number_at 86) (codes "h"),
-  number_is 31 (pos 1),
-  number_is 40 (pos 1),
-  number_is 65 (pos 1),
-  number_is 83 (pos 1),
-  number_is 86 (pos 1),
+  stmt_is _ (s.rolls-If 27 sum (s.Assign 38 (element 38 (a_number_at 40)) (call_at 45)) (Some (s.Assign 55 (element 55 (e.Unary 57 u.Neg (call_at 58))) (a_number_at 65)))),
+  expr_is _ (e.rolls-Chain 31 9 (a_number_at 31) (record { op = b.Add; operand = call_at 33 } ∷ [])),
+  link_folds of_expr of_link (record { op = b.Add; operand = call_at 33 }),
+  stmt_is _ (s.rolls-Assign 38 (element 38 (a_number_at 40)) (call_at 45)),
+  stmt_is _ (s.rolls-Assign 55 (element 55 (e.Unary 57 u.Neg (call_at 58))) (a_number_at 65)),
+  expr_is _ (e.rolls-Index 38 (codes "h") (a_number_at 40)),
+  expr_is _ (e.rolls-Index 55 (codes "h") (e.Unary 57 u.Neg (call_at 58))),
+  expr_is _ (e.rolls-Unary 57 u.Neg (call_at 58)),
+  expr_is _ (e.rolls-Call 33 (codes "f") []),
+  expr_is _ (e.rolls-Call 45 (codes "f") []),
+  expr_is _ (e.rolls-Call 58 (codes "f") []),
+  stmt_is _ (s.rolls-Return 68 (Some (e.Read 75 (codes "g") (a_number_at 83) (a_number_at 86) (codes "h")))),
+  expr_is _ (e.rolls-Read 75 (codes "g") (a_number_at 83) (a_number_at 86) (codes "h")),
+  expr_is _ (e.rolls-Number 31 (pos 1)),
+  expr_is _ (e.rolls-Number 40 (pos 1)),
+  expr_is _ (e.rolls-Number 65 (pos 1)),
+  expr_is _ (e.rolls-Number 83 (pos 1)),
+  expr_is _ (e.rolls-Number 86 (pos 1)),
 ) refl
 
 -- ---- tables
@@ -654,26 +665,6 @@ without_a_row = refl
 
 -- ---- what is reached in `core a(f); async void f() {}`
 
-none_reached : (calls : List (List ℕ)) (entry : Option ℕ) (function : ℕ) → entry ≡ None → ReachedFrom calls entry function → ⊥
-none_reached calls entry function e (is_entry _ h) = cc
-none_reached calls entry function e (is_called caller _ h c) = none_reached calls entry caller e h
-
-only_core : (core : ℕ) → reach.Reaches ([] ∷ []) (Some 0 ∷ []) core 0 → core ≡ 0
-only_core zero h = refl
-only_core (suc core) h = absurd (none_reached ([] ∷ []) _ 0 refl h)
-
-same_core : (a b : ℕ) → Some (r.ByOne a) ≡ Some (r.ByOne b) → a ≡ b
-same_core a b e = cc
-
-one_row : AreRows ([] ∷ []) (Some 0 ∷ []) (r.ByOne 0 ∷ [])
-one_row = record { count = refl; each = each } where
-  each : (function : ℕ) (row : Reached) → slice_get (r.ByOne 0 ∷ []) function ≡ Some row → IsReachedBy ([] ∷ []) (Some 0 ∷ []) function row
-  each zero r.ByNone e = cc
-  each zero r.BySeveral e = cc
-  each zero (r.ByOne k) e =
-      subst (λ (k : ℕ). reach.Reaches ([] ∷ []) (Some 0 ∷ []) k 0 × ((core : ℕ) → reach.Reaches ([] ∷ []) (Some 0 ∷ []) core 0 → core ≡ k)) (same_core 0 k e) (is_entry 0 refl, only_core)
-  each (suc function) row e = cc
-
 pub reached_by_its_core : AreReached (one_core []) (r.ByOne 0 ∷ [])
 reached_by_its_core = one_row
 
@@ -724,13 +715,13 @@ it_breaks_none = program_told (one_core []) (r.ByOne 0 ∷ []) one_row None refl
 
 -- core a(f); async void f() { x = 1; }
 calls_nothing : all_calls (one_core undeclared) ≡ [] ∷ []
-calls_nothing = rw (assign_is 28 (e.Name 28 (codes "x")) (a_number_at 32), name_is 28 (codes "x"), number_is 32 (pos 1)) refl
+calls_nothing = rw (stmt_is _ (s.rolls-Assign 28 (e.Name 28 (codes "x")) (a_number_at 32)), expr_is _ (e.rolls-Name 28 (codes "x")), expr_is _ (e.rolls-Number 32 (pos 1))) refl
 
 its_row : AreReached (one_core undeclared) (r.ByOne 0 ∷ [])
 its_row = subst (λ calls. AreRows calls (Some 0 ∷ []) (r.ByOne 0 ∷ [])) (sym calls_nothing) one_row
 
 its_first : Some (record { rule = rule.NameIsDeclared; at = 28 }) ≡ first_of (program_nodes (one_core undeclared) (r.ByOne 0 ∷ []))
-its_first = rw (assign_is 28 (e.Name 28 (codes "x")) (a_number_at 32), name_is 28 (codes "x")) refl
+its_first = rw (stmt_is _ (s.rolls-Assign 28 (e.Name 28 (codes "x")) (a_number_at 32)), expr_is _ (e.rolls-Name 28 (codes "x"))) refl
 
 pub its_least : IsLeastBroken (one_core undeclared) 2 28
 its_least = program_told (one_core undeclared) (r.ByOne 0 ∷ []) its_row (Some (record { rule = rule.NameIsDeclared; at = 28 })) its_first

@@ -1,13 +1,10 @@
 -- A request that has its answer: what it has read goes into a frame that lives.
-use Rattle.std.proofs.Common.{◌≡◌, ℕ, ◌+◌, ◌<◌, List, [], ◌∷◌, length, drop, Option, Some, None, refl, sym, ap, ◌∙◌, subst, arith}
-use Rattle.std.specs.Prelude.{All, find, slice_get, min}
-use Rattle.std.proofs.lemmas.List.{drop_more}
-use Rattle.std.proofs.lemmas.Option.{get_or_from_slice_get}
+use Rattle.std.proofs.Common.{◌≡◌, ℕ, Some, None, subst}
+use Rattle.std.specs.Prelude.{All, find}
 use Rattle.work_item.specs.Store.{Store}
 use Rattle.cancel_scope.specs.declared.operation.Asked.{Asked}
 use Rattle.cancel_scope.specs.declared.operation.Asked.TheVariants as asked
 use Rattle.cancel_scope.specs.declared.operation.Operation.{Operation}
-use Rattle.cancel_scope.specs.declared.operation.Progress.{Progress}
 use Rattle.cancel_scope.specs.Outstanding.{is_begun}
 use Rattle.core_values.specs.Answers.{ReadsIntoLiving}
 use Rattle.code_safety.specs.Living.{AskedLives}

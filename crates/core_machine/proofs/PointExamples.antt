@@ -2,9 +2,7 @@
 use Rattle.std.proofs.Common.{◌≡◌, ℕ, ◌+◌, length, refl, pos, true, false, List, arith, [], ◌∷◌, Some, None}
 use Rattle.ac_base.specs.declared.entry.Event.TheVariants as event
 use Rattle.ac_base.specs.declared.entry.Payload.TheVariants as payload
-use Rattle.cancel_scope.specs.declared.operation.Operation.{Operation}
-use Rattle.cancel_scope.specs.declared.operation.Progress.TheVariants.{Waiting, Offered, Started}
-use Rattle.cancel_scope.specs.Outstanding.{as_begun, offered_as}
+use Rattle.cancel_scope.specs.Outstanding.{offered_as}
 use Rattle.core_state.specs.Moves.{On, Over}
 use Rattle.core_state.specs.Arrivals.{has_ended}
 use Rattle.core_state.specs.Shared.{with_entry}

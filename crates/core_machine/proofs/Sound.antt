@@ -43,7 +43,7 @@ use Rattle.core_machine.specs.State.{shared_of, flat_of, end_or, own_link, state
 use Rattle.core_machine.specs.Tracks.{Tracks}
 use Rattle.core_machine.specs.Tried.{cancelled_by, cancelled_at, tried_within, tried_of}
 use Rattle.core_machine.specs.inner.Left.{left_from, left_of}
-use Rattle.core_machine.specs.inner.Changes.{IsSameCode, Keeps, Does, Stays, Enters, entry_now, item_of}
+use Rattle.core_machine.specs.inner.Changes.{IsSameCode, Keeps, Does, Stays, Enters, entry_now, item_of, at_address}
 use Rattle.core_machine.proofs.Found.{finds}
 use Rattle.core_machine.proofs.Standing.{tracks_entered}
 use Rattle.core_machine.proofs.Started.{IsAtItsLink, StartsTo, exec_starts, tracks_started}
@@ -303,6 +303,17 @@ moved_by before after t instr run here does =
 
 pub keeps_on : (a b c : Running) → Keeps a b → Keeps b c → Keeps a c
 keeps_on a b c k l = record { code = l.code ∙ k.code; core = l.core ∙ k.core; bound = l.bound ∙ k.bound; journal = l.journal ∙ k.journal }
+
+-- the address of the running thread is none of them
+pub keeps_to : (a b : Running) (to : ℕ) → Keeps a b → Keeps a (at_address b to)
+keeps_to a b to k = record { code = k.code; core = k.core; bound = k.bound; journal = k.journal }
+
+pub keeps_at : (a b : Running) (from to : ℕ) → Keeps a b → Keeps (at_address a from) (at_address b to)
+keeps_at a b from to k = record { code = k.code; core = k.core; bound = k.bound; journal = k.journal }
+
+-- the state of a core and of the address held apart, each of which is known
+pub passed_on : (m n : Running) (a b : ℕ) → m ≡ n → a ≡ b → state_of (at_address m a) ≡ state_of (at_address n b)
+passed_on m n a b e f = ap (λ x. state_of (at_address x a)) e ∙ ap (λ x. state_of (at_address n x)) f
 
 -- one turn more of the same code
 pub goes_on : (a b c : Running) → IsSameCode a b → b.ended ≡ None → GoesOn (exec a.code.now a.bound) (state_of a) (state_of b) → state_of c ≡ exec b.code.now b.bound (flat_of b)

@@ -1,11 +1,9 @@
 -- A running core comes to an end under its journal, of which something is seen, since no entry is still to come; and where it has ended
 -- or is idle, that is its end.
-use Rattle.std.proofs.Common.{◌≡◌, ℕ, zero, suc, ◌+◌, List, [], ◌∷◌, ◌++◌, length, map, Option, Some, None, IsSome, Result, Ok, Err, Bool, true, false, refl, sym, ap, ◌∙◌, subst, arith}
-use Rattle.std.specs.Prelude.{ℤ, find, reverse, take, drop, replicate, nat_le, nat_lt, nat_eq, slice_get, slice_set, is_none, is_some, not, ◌&&◌, ◌^◌, ◌-◌, if◌then◌else◌}
+use Rattle.std.proofs.Common.{◌≡◌, ℕ, zero, suc, List, [], ◌∷◌, Option, Some, None, IsSome, Bool, true, false, refl, sym, ap, ◌∙◌, subst, arith}
+use Rattle.std.specs.Prelude.{find, nat_lt, slice_get, slice_set, is_none, is_some, not, ◌^◌, ◌-◌, if◌then◌else◌}
 use Rattle.std.proofs.lemmas.Bool.{and_parts}
 use Rattle.std.proofs.lemmas.List.Elements.{All-nil}
-use Rattle.ac_base.specs.declared.ends.Trap.{Trap}
-use Rattle.ac_base.specs.declared.ends.Trap.TheVariants.{OutputFull}
 use Rattle.ac_base.specs.declared.ends.EndWord.{EndWord}
 use Rattle.ac_base.specs.declared.ends.EndWord.TheVariants as word
 use Rattle.ac_base.specs.declared.ends.CoreEnd.{CoreEnd}
@@ -14,26 +12,19 @@ use Rattle.ac_base.specs.declared.entry.Entry.{Entry}
 use Rattle.ac_base.specs.declared.entry.Event.TheVariants as event
 use Rattle.work_item.specs.declared.ids.Item.{Item}
 use Rattle.work_item.specs.declared.ids.BlockId.{BlockId}
-use Rattle.work_item.specs.declared.cell.Cell.{Cell}
-use Rattle.work_item.specs.declared.cell.Cell.TheVariants as cell
-use Rattle.work_item.specs.Store.{Store, int_in, place_in, no_int, released, cell_at}
-use Rattle.cancel_scope.specs.declared.operation.Asked.{Asked}
+use Rattle.work_item.specs.Store.{cell_at}
 use Rattle.cancel_scope.specs.declared.operation.Progress.{Progress}
 use Rattle.cancel_scope.specs.declared.operation.Progress.TheVariants as progress
 use Rattle.cancel_scope.specs.declared.operation.Operation.{Operation}
 use Rattle.cancel_scope.specs.Outstanding.{has_begun}
 use Rattle.core_state.specs.Moves.{Move, On, Over, GoesOn, moves, and_then}
-use Rattle.core_state.specs.Arithmetic.{Computed, truth, negated, not_true, flipped, sum_of, difference_of, product_of, quotient, remainder}
-use Rattle.core_state.specs.Arithmetic.{shifted_left, shifted_right, is_equal, is_not_equal, is_less, is_at_most, both_bits, either_bits, differing_bits}
-use Rattle.core_state.specs.Frames.{element, set_element, part_at, begun, begun_with, block_in}
+use Rattle.core_state.specs.Frames.{block_in}
 use Rattle.core_state.specs.Arrivals.{at_point}
 use Rattle.core_state.specs.Cancelling.{Outcome, by_outcome, decided, is_to_try, tried, tries}
-use Rattle.core_state.specs.Requests.{read_of, write_of}
-use Rattle.core_state.specs.Shared.{Shared, core_end, with_step, with_turn, printed, formatted, output_limit, seen, seen_left}
+use Rattle.core_state.specs.Shared.{Shared, core_end, with_turn, seen, seen_left}
 use Rattle.core_state.proofs.Runs.{GoesOn-more}
 use Rattle.stack_code.specs.declared.instr.Instr.{Instr}
 use Rattle.stack_code.specs.declared.instr.Instr.TheVariants as i
-use Rattle.stack_code.specs.declared.parts.Entered.{Entered}
 use Rattle.stack_code.specs.Parts.{Parts}
 use Rattle.stack_code.specs.Kept.{IsRanked}
 use Rattle.code_meaning.specs.Machine as flat

@@ -1,5 +1,5 @@
 -- For which offers cores ask for outcomes, and what comes of them, by example.
-use Rattle.std.proofs.Common.{◌≡◌, ℕ, refl, pos, true, false, List, [], ◌∷◌, Some, None, sym, ap, subst}
+use Rattle.std.proofs.Common.{◌≡◌, refl, pos, true, false, List, [], ◌∷◌, Some, None, sym, ap, subst}
 use Rattle.std.specs.Prelude.{negsuc, find, slice_index_or, slice_set}
 use Rattle.ac_base.specs.declared.entry.Entry.{Entry}
 use Rattle.ac_base.specs.declared.entry.Event.TheVariants as event

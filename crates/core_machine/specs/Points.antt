@@ -1,11 +1,9 @@
 -- What callers see of a core at its dispatch points, where entries come in.
-use Rattle.std.specs.Prelude.{◌≡◌, ℕ, suc, min, Bool, true, false, List, [], ◌∷◌, ◌++◌, length, nat_eq, nat_lt}
-use Rattle.std.specs.Prelude.{Option, Some, None, find, is_none, is_some, if◌then◌else◌}
+use Rattle.std.specs.Prelude.{◌≡◌, ℕ, suc, Bool, false, List, [], ◌∷◌, ◌++◌, length}
+use Rattle.std.specs.Prelude.{Option, Some, None, find, is_none, is_some}
 use Rattle.ac_base.specs.declared.entry.Entry.{Entry}
 use Rattle.ac_base.specs.declared.entry.Event.{Event}
 use Rattle.ac_base.specs.declared.entry.Payload.{Payload}
-use Rattle.cancel_scope.specs.declared.operation.Progress.{Progress}
-use Rattle.cancel_scope.specs.declared.operation.Progress.TheVariants.{Offered, Started}
 use Rattle.cancel_scope.specs.declared.operation.Operation.{Operation}
 use Rattle.cancel_scope.specs.Outstanding.{is_to_offer, is_to_receive, carries}
 use Rattle.core_state.specs.Moves.{Move, On, Over}

@@ -7,6 +7,7 @@ mod beginning;
 mod calls;
 mod cancelling;
 mod counter;
+mod elements;
 mod ending;
 mod machine;
 mod numbered;

@@ -9,7 +9,7 @@ use crate::went::{Follows, Went, done, how_on};
 use ac_base::{Journal, NoMemory, Trap};
 use cancel_scope::Outstanding;
 use core_scheduler::Scheduler;
-use core_values::{add_formatted, within};
+use core_values::add_formatted;
 use finish_block::Blocks;
 use stack_code::{Code, Instr};
 use std::alloc::Global;
@@ -52,7 +52,7 @@ impl Running<'_> {
     ghost use Rattle.core_machine.specs.declared.ending.Ending.{Ending};
     ghost use Rattle.code_safety.specs.Fit.{is_int};
     ghost use Rattle.thread_table.specs.Operands.{on_top};
-    ghost use Rattle.core_machine.specs.inner.Changes.{Keeps, Does, Continues};
+    ghost use Rattle.core_machine.specs.inner.Changes.{Keeps, DoesAt, Continues};
 
     /// One instruction more.
     #[inline(always)]
@@ -88,11 +88,32 @@ impl Running<'_> {
         self.ended = Some(ending);
     }
 
+    /// One instruction more, and on to that address, which is held apart from the core.
+    #[inline(always)]
+    pub fn pass_to(&mut self, address: &mut usize, to: usize)
+        ensures core { self.new ≡ record self.old { count = min (self.old.count + 1) (2 ^ 64 - 1) } }
+        ensures address { address.new ≡ to }
+    {
+        *address = to;
+        self.count_one();
+    }
+
+    /// One instruction more, and on to the next address, which is held apart from the core.
+    #[inline(always)]
+    pub fn pass(&mut self, address: &mut usize)
+        requires { address.old < 2 ^ 32 }
+        ensures core { self.new ≡ record self.old { count = min (self.old.count + 1) (2 ^ 64 - 1) } }
+        ensures address { address.new ≡ address.old + 1 }
+    {
+        *address += 1;
+        self.count_one();
+    }
+
     /// Uses a step. It says whether there was one.
-    pub fn step(&mut self) -> bool
+    pub fn step(&mut self, address: &mut usize) -> bool
         requires running { self.old.ended ≡ None }
-        requires inside { self.old.place < 2 ^ 32 }
-        ensures does { Does self.old Instr.Step self.new }
+        requires inside { address.old < 2 ^ 32 }
+        ensures does { DoesAt self.old address.old Instr.Step self.new address.new }
         ensures keeps { Keeps self.old self.new }
         ensures continues { result ≡ true → Continues self.old self.new }
     {
@@ -101,62 +122,62 @@ impl Running<'_> {
             return false;
         }
         self.steps += 1;
-        self.go_on();
+        self.pass(address);
         true
     }
 
     /// Drops an operand.
-    pub fn drop_one(&mut self)
+    pub fn drop_one(&mut self, address: &mut usize)
         requires running { self.old.ended ≡ None }
-        requires inside { self.old.place < 2 ^ 32 }
+        requires inside { address.old < 2 ^ 32 }
         requires one { 1 ≤ length self.old.operands }
-        ensures does { Does self.old Instr.Drop self.new }
+        ensures does { DoesAt self.old address.old Instr.Drop self.new address.new }
         ensures keeps { Keeps self.old self.new }
         ensures continues { Continues self.old self.new }
     {
         let _ = self.operands.pop();
-        self.go_on();
+        self.pass(address);
     }
 
     /// Goes to an address.
-    pub fn jump(&mut self, to: u32)
+    pub fn jump(&mut self, address: &mut usize, to: u32)
         requires running { self.old.ended ≡ None }
-        ensures does { Does self.old (Instr.Jump to) self.new }
+        ensures does { DoesAt self.old address.old (Instr.Jump to) self.new address.new }
         ensures keeps { Keeps self.old self.new }
         ensures continues { Continues self.old self.new }
     {
-        self.go_to(to as usize);
+        self.pass_to(address, to as usize);
     }
 
     /// Goes to an address where an int is 0.
-    pub fn jump_if_zero(&mut self, to: u32)
+    pub fn jump_if_zero(&mut self, address: &mut usize, to: u32)
         requires running { self.old.ended ≡ None }
-        requires inside { self.old.place < 2 ^ 32 }
+        requires inside { address.old < 2 ^ 32 }
         requires int { on_top is_int self.old.operands ≡ true }
-        ensures does { Does self.old (Instr.Jz to) self.new }
+        ensures does { DoesAt self.old address.old (Instr.Jz to) self.new address.new }
         ensures keeps { Keeps self.old self.new }
         ensures continues { Continues self.old self.new }
     {
         if self.operands.pop_int() == 0 {
-            self.go_to(to as usize);
+            self.pass_to(address, to as usize);
         } else {
-            self.go_on();
+            self.pass(address);
         }
     }
 
     /// Goes to an address where an int is not 0.
-    pub fn jump_if_not_zero(&mut self, to: u32)
+    pub fn jump_if_not_zero(&mut self, address: &mut usize, to: u32)
         requires running { self.old.ended ≡ None }
-        requires inside { self.old.place < 2 ^ 32 }
+        requires inside { address.old < 2 ^ 32 }
         requires int { on_top is_int self.old.operands ≡ true }
-        ensures does { Does self.old (Instr.Jnz to) self.new }
+        ensures does { DoesAt self.old address.old (Instr.Jnz to) self.new address.new }
         ensures keeps { Keeps self.old self.new }
         ensures continues { Continues self.old self.new }
     {
         if self.operands.pop_int() != 0 {
-            self.go_to(to as usize);
+            self.pass_to(address, to as usize);
         } else {
-            self.go_on();
+            self.pass(address);
         }
     }
 }
@@ -171,93 +192,99 @@ impl Running<'_> {
     ghost use Rattle.code_safety.specs.Fit.{is_int};
     ghost use Rattle.thread_table.specs.Operands.{on_top};
     ghost use Rattle.core_machine.specs.State.{flat_of, state_of};
-    ghost use Rattle.core_machine.specs.inner.Changes.{Keeps, Does, Stays, Continues};
+    ghost use Rattle.core_machine.specs.inner.Changes.{Keeps, Does, DoesAt, StaysAt, Continues};
 
     /// Pushes an int.
-    pub fn push(&mut self, value: i64) -> Result<(), NoMemory>
+    pub fn push(&mut self, address: &mut usize, value: i64) -> Result<(), NoMemory>
         requires running { self.old.ended ≡ None }
-        requires inside { self.old.place < 2 ^ 32 }
-        ensures ok { OnOk result (Does self.old (Instr.Push value) self.new) }
-        ensures err { OnErr result (Stays self.old self.new) }
+        requires inside { address.old < 2 ^ 32 }
+        ensures ok { OnOk result (DoesAt self.old address.old (Instr.Push value) self.new address.new) }
+        ensures err { OnErr result (StaysAt self.old address.old self.new address.new) }
         ensures keeps { Keeps self.old self.new }
         ensures continues { Continues self.old self.new }
     {
         self.operands.push(Cell::Int(value))?;
-        self.go_on();
+        self.pass(address);
         Ok(())
     }
 
     /// Pushes what a slot holds.
-    pub fn load(&mut self, level: u32, slot: u32) -> Result<(), NoMemory>
+    pub fn load(&mut self, address: &mut usize, level: u32, slot: u32) -> Result<(), NoMemory>
         requires running { self.old.ended ≡ None }
-        requires inside { self.old.place < 2 ^ 32 }
+        requires inside { address.old < 2 ^ 32 }
         requires level { HasLevel self.old.frames self.old.frame level }
         requires slot { HasSlot self.old.frames (above self.old.frames self.old.frame level) slot }
-        ensures ok { OnOk result (Does self.old (Instr.Load level slot) self.new) }
-        ensures err { OnErr result (Stays self.old self.new) }
+        ensures ok { OnOk result (DoesAt self.old address.old (Instr.Load level slot) self.new address.new) }
+        ensures err { OnErr result (StaysAt self.old address.old self.new address.new) }
         ensures keeps { Keeps self.old self.new }
         ensures continues { Continues self.old self.new }
     {
         let cell = self.frames.read(self.frame, level, slot);
         self.operands.push(cell)?;
-        self.go_on();
+        self.pass(address);
         Ok(())
     }
 
     /// Pushes what a global holds.
-    pub fn load_global(&mut self, slot: u32) -> Result<(), NoMemory>
+    pub fn load_global(&mut self, address: &mut usize, slot: u32) -> Result<(), NoMemory>
         requires running { self.old.ended ≡ None }
-        requires inside { self.old.place < 2 ^ 32 }
+        requires inside { address.old < 2 ^ 32 }
         requires slot { HasGlobal self.old.frames slot }
-        ensures ok { OnOk result (Does self.old (Instr.LoadG slot) self.new) }
-        ensures err { OnErr result (Stays self.old self.new) }
+        ensures ok { OnOk result (DoesAt self.old address.old (Instr.LoadG slot) self.new address.new) }
+        ensures err { OnErr result (StaysAt self.old address.old self.new address.new) }
         ensures keeps { Keeps self.old self.new }
         ensures continues { Continues self.old self.new }
     {
         let value = self.frames.read_global(slot);
         self.operands.push(Cell::Int(value))?;
-        self.go_on();
+        self.pass(address);
         Ok(())
     }
 
     /// Pops an int into a slot.
-    pub fn store(&mut self, level: u32, slot: u32)
+    pub fn store(&mut self, address: &mut usize, level: u32, slot: u32)
         requires running { self.old.ended ≡ None }
-        requires inside { self.old.place < 2 ^ 32 }
+        requires inside { address.old < 2 ^ 32 }
         requires level { HasLevel self.old.frames self.old.frame level }
         requires slot { HasSlot self.old.frames (above self.old.frames self.old.frame level) slot }
         requires int { on_top is_int self.old.operands ≡ true }
-        ensures does { Does self.old (Instr.Store level slot) self.new }
+        ensures does { DoesAt self.old address.old (Instr.Store level slot) self.new address.new }
         ensures keeps { Keeps self.old self.new }
         ensures continues { Continues self.old self.new }
     {
         let value = self.operands.pop_int();
         self.frames.write(self.frame, level, slot, Cell::Int(value));
-        self.go_on();
+        self.pass(address);
     }
 
     /// Pops an int into a global.
-    pub fn store_global(&mut self, slot: u32)
+    pub fn store_global(&mut self, address: &mut usize, slot: u32)
         requires running { self.old.ended ≡ None }
-        requires inside { self.old.place < 2 ^ 32 }
+        requires inside { address.old < 2 ^ 32 }
         requires slot { HasGlobal self.old.frames slot }
         requires int { on_top is_int self.old.operands ≡ true }
-        ensures does { Does self.old (Instr.StoreG slot) self.new }
+        ensures does { DoesAt self.old address.old (Instr.StoreG slot) self.new address.new }
         ensures keeps { Keeps self.old self.new }
         ensures continues { Continues self.old self.new }
     {
         let value = self.operands.pop_int();
         self.frames.write_global(slot, value);
-        self.go_on();
+        self.pass(address);
     }
 
     /// Pushes the reference to an array in a frame.
-    pub fn array(&mut self, level: u32, slot: u32, len: u32) -> Result<(), NoMemory>
+    pub fn array(
+        &mut self,
+        address: &mut usize,
+        level: u32,
+        slot: u32,
+        len: u32,
+    ) -> Result<(), NoMemory>
         requires running { self.old.ended ≡ None }
-        requires inside { self.old.place < 2 ^ 32 }
+        requires inside { address.old < 2 ^ 32 }
         requires level { HasLevel self.old.frames self.old.frame level }
-        ensures ok { OnOk result (Does self.old (Instr.Arr level slot len) self.new) }
-        ensures err { OnErr result (Stays self.old self.new) }
+        ensures ok { OnOk result (DoesAt self.old address.old (Instr.Arr level slot len) self.new address.new) }
+        ensures err { OnErr result (StaysAt self.old address.old self.new address.new) }
         ensures keeps { Keeps self.old self.new }
         ensures continues { Continues self.old self.new }
     {
@@ -267,16 +294,16 @@ impl Running<'_> {
             start: slot,
             len,
         }))?;
-        self.go_on();
+        self.pass(address);
         Ok(())
     }
 
     /// Pushes the reference to an array in the globals.
-    pub fn global_array(&mut self, slot: u32, len: u32) -> Result<(), NoMemory>
+    pub fn global_array(&mut self, address: &mut usize, slot: u32, len: u32) -> Result<(), NoMemory>
         requires running { self.old.ended ≡ None }
-        requires inside { self.old.place < 2 ^ 32 }
-        ensures ok { OnOk result (Does self.old (Instr.ArrG slot len) self.new) }
-        ensures err { OnErr result (Stays self.old self.new) }
+        requires inside { address.old < 2 ^ 32 }
+        ensures ok { OnOk result (DoesAt self.old address.old (Instr.ArrG slot len) self.new address.new) }
+        ensures err { OnErr result (StaysAt self.old address.old self.new address.new) }
         ensures keeps { Keeps self.old self.new }
         ensures continues { Continues self.old self.new }
     {
@@ -285,7 +312,7 @@ impl Running<'_> {
             start: slot,
             len,
         }))?;
-        self.go_on();
+        self.pass(address);
         Ok(())
     }
 
@@ -304,100 +331,6 @@ impl Running<'_> {
     }
 }
 
-// ---- elements of arrays
-
-impl Running<'_> {
-    ghost use Rattle.std.specs.Prelude.{◌≡◌, true, None, Some, ◌+◌, ◌-◌, ◌≤◌, ◌<◌, ◌^◌, [], ◌∷◌, length};
-    ghost use Rattle.work_item.specs.Conditions.{HomeLives};
-    ghost use Rattle.stack_code.specs.declared.instr.Instr.{Instr};
-    ghost use Rattle.code_safety.specs.Fit.{is_int};
-    ghost use Rattle.thread_table.specs.Operands.{is_reference};
-    ghost use Rattle.core_machine.specs.inner.Operands.{Stand, second_place};
-    ghost use Rattle.core_machine.specs.inner.Changes.{Keeps, Does, Continues};
-
-    /// Pops an index, then a reference, and pushes that element. Each of these says whether it did so,
-    /// and did not trap.
-    pub fn element(&mut self) -> bool
-        requires running { self.old.ended ≡ None }
-        requires inside { self.old.place < 2 ^ 32 }
-        requires operands { Stand (is_int ∷ is_reference ∷ []) self.old.operands }
-        requires home { HomeLives self.old.frames (second_place self.old.operands).home }
-        ensures does { Does self.old Instr.Elem self.new }
-        ensures keeps { Keeps self.old self.new }
-        ensures continues { result ≡ true → Continues self.old self.new }
-    {
-        let index = self.operands.pop_int();
-        let place = self.operands.top_place();
-        match within(place, index) {
-            Ok(index) => {
-                let value = self.frames.read_at(place, index);
-                self.operands.replace(Cell::Int(value));
-                self.go_on();
-                true
-            }
-            Err(trap) => {
-                self.end(Ending::Trapped(trap));
-                false
-            }
-        }
-    }
-
-    /// Pops an index, a reference and an int, and puts the int into that element.
-    pub fn set_element(&mut self) -> bool
-        requires running { self.old.ended ≡ None }
-        requires inside { self.old.place < 2 ^ 32 }
-        requires operands { Stand (is_int ∷ is_reference ∷ is_int ∷ []) self.old.operands }
-        requires home { HomeLives self.old.frames (second_place self.old.operands).home }
-        ensures does { Does self.old Instr.SetElem self.new }
-        ensures keeps { Keeps self.old self.new }
-        ensures continues { result ≡ true → Continues self.old self.new }
-    {
-        let index = self.operands.pop_int();
-        let place = self.operands.pop_place();
-        let value = self.operands.pop_int();
-        match within(place, index) {
-            Ok(index) => {
-                self.frames.write_at(place, index, value);
-                self.go_on();
-                true
-            }
-            Err(trap) => {
-                self.end(Ending::Trapped(trap));
-                false
-            }
-        }
-    }
-
-    /// Pops an index, then a reference, and pushes the reference to just that element.
-    pub fn element_place(&mut self) -> bool
-        requires running { self.old.ended ≡ None }
-        requires inside { self.old.place < 2 ^ 32 }
-        requires operands { Stand (is_int ∷ is_reference ∷ []) self.old.operands }
-        requires place { (second_place self.old.operands).start + (second_place self.old.operands).len < 2 ^ 32 }
-        ensures does { Does self.old Instr.Place self.new }
-        ensures keeps { Keeps self.old self.new }
-        ensures continues { result ≡ true → Continues self.old self.new }
-    {
-        let index = self.operands.pop_int();
-        let place = self.operands.top_place();
-        match within(place, index) {
-            Ok(index) => {
-                self.operands.replace(Cell::Array(Place {
-                    home: place.home,
-                    start: place.start + index,
-                    len: 1,
-                }));
-                self.go_on();
-                true
-            }
-            Err(trap) => {
-                self.end(Ending::Trapped(trap));
-                false
-            }
-        }
-    }
-}
-
 // ---- operators
 
 impl Running<'_> {
@@ -407,32 +340,32 @@ impl Running<'_> {
     ghost use Rattle.thread_table.specs.Operands.{on_top};
     ghost use Rattle.core_machine.specs.inner.Operands.{Stand};
     ghost use Rattle.core_machine.specs.inner.Operators.{unary, binary};
-    ghost use Rattle.core_machine.specs.inner.Changes.{Keeps, Does, Continues};
+    ghost use Rattle.core_machine.specs.inner.Changes.{Keeps, DoesAt, Continues};
 
     /// Applies an operator to one int.
     #[inline(always)]
-    pub fn apply_unary(&mut self, instr: Instr)
+    pub fn apply_unary(&mut self, address: &mut usize, instr: Instr)
         requires running { self.old.ended ≡ None }
-        requires inside { self.old.place < 2 ^ 32 }
+        requires inside { address.old < 2 ^ 32 }
         requires operator { IsSome (unary instr) }
         requires int { on_top is_int self.old.operands ≡ true }
-        ensures does { Does self.old instr self.new }
+        ensures does { DoesAt self.old address.old instr self.new address.new }
         ensures keeps { Keeps self.old self.new }
         ensures continues { Continues self.old self.new }
     {
         let x = self.operands.top_int();
-        self.operands.replace(Cell::Int(unary(instr, x)));
-        self.go_on();
+        self.operands.replace_int(unary(instr, x));
+        self.pass(address);
     }
 
     /// Applies an operator to two ints. It says whether it did so, and did not trap.
     #[inline(always)]
-    pub fn apply_binary(&mut self, instr: Instr) -> bool
+    pub fn apply_binary(&mut self, address: &mut usize, instr: Instr) -> bool
         requires running { self.old.ended ≡ None }
-        requires inside { self.old.place < 2 ^ 32 }
+        requires inside { address.old < 2 ^ 32 }
         requires operator { IsSome (binary instr) }
         requires ints { Stand (is_int ∷ is_int ∷ []) self.old.operands }
-        ensures does { Does self.old instr self.new }
+        ensures does { DoesAt self.old address.old instr self.new address.new }
         ensures keeps { Keeps self.old self.new }
         ensures continues { result ≡ true → Continues self.old self.new }
     {
@@ -440,8 +373,8 @@ impl Running<'_> {
         let x = self.operands.top_int();
         match binary(instr, x, y) {
             Ok(value) => {
-                self.operands.replace(Cell::Int(value));
-                self.go_on();
+                self.operands.replace_int(value);
+                self.pass(address);
                 true
             }
             Err(trap) => {
@@ -500,8 +433,8 @@ impl Running<'_> {
     ghost use Rattle.core_machine.specs.declared.went.Follows.{Follows};
     ghost use Rattle.core_machine.specs.Tried.{cancelled_by, tried_within, tried_of};
     ghost use Rattle.core_machine.specs.inner.Left.{left_of};
-    ghost use Rattle.core_machine.specs.inner.Needs.{Finds, is_on_threads};
-    ghost use Rattle.core_machine.specs.inner.Changes.{IsSameCode, Keeps, Does, Stays, Continues};
+    ghost use Rattle.core_machine.specs.inner.Needs.{Finds, is_on_threads, is_apart};
+    ghost use Rattle.core_machine.specs.inner.Changes.{IsSameCode, Keeps, Does, DoesAt, Stays, StaysAt, Continues, at_address};
 
     // An instruction on blocks, threads and operations, which finds what it needs.
     fn change_threads(&mut self, instr: Instr) -> Result<(), NoMemory>
@@ -532,12 +465,14 @@ impl Running<'_> {
         }
     }
 
-    // One instruction, which finds what it needs.
-    #[inline(always)]
-    fn execute(&mut self, instr: &Instr) -> Result<Went, NoMemory>
+    // An instruction that is met seldom, or that need not leave the same thread running; it finds what it
+    // needs. It is no part of the run loop, which stays small.
+    #[inline(never)]
+    fn apart(&mut self, instr: &Instr) -> Result<Went, NoMemory>
         requires running { self.old.ended ≡ None }
         requires runs { IsSome self.old.schedule.running }
         requires inside { self.old.place < 2 ^ 32 }
+        requires apart { is_apart instr.now ≡ true }
         requires finds { Finds self.old.code.now (flat_of self.old) instr.now }
         requires settled { self.old.threads.pending ≡ false }
         ensures ok { IfOk result (λ went. went ≢ Went.Asks → Does self.old instr.now self.new) }
@@ -549,46 +484,10 @@ impl Running<'_> {
         ensures continues { IfOk result (λ went. went ≡ Went.On → Continues self.old self.new) }
     {
         match *instr {
-            Instr::Step => return Ok(done(self.step())),
-            Instr::Push(value) => self.push(value)?,
-            Instr::Load { level, slot } => self.load(level, slot)?,
-            Instr::LoadG { slot } => self.load_global(slot)?,
-            Instr::Store { level, slot } => self.store(level, slot),
-            Instr::StoreG { slot } => self.store_global(slot),
-            Instr::Arr { level, slot, len } => self.array(level, slot, len)?,
-            Instr::ArrG { slot, len } => self.global_array(slot, len)?,
-            Instr::Elem => return Ok(done(self.element())),
-            Instr::SetElem => return Ok(done(self.set_element())),
             Instr::Place => return Ok(done(self.element_place())),
             Instr::Clear { slot, len } => self.clear(slot, len),
-            Instr::Drop => self.drop_one(),
-            Instr::Jump { to } => self.jump(to),
-            Instr::Jz { to } => self.jump_if_zero(to),
-            Instr::Jnz { to } => self.jump_if_not_zero(to),
             Instr::Print { text, count } => return Ok(done(self.print(text, count)?)),
-            Instr::Call { function, count } => return Ok(done(self.call(function, count)?)),
-            Instr::Ret => return Ok(done(self.ret()?)),
-            // One arm for each operator, so that nothing looks at the instruction twice.
-            Instr::Neg => self.apply_unary(Instr::Neg),
-            Instr::Not => self.apply_unary(Instr::Not),
-            Instr::Flip => self.apply_unary(Instr::Flip),
-            Instr::Bool => self.apply_unary(Instr::Bool),
-            Instr::BitOr => return Ok(done(self.apply_binary(Instr::BitOr))),
-            Instr::BitXor => return Ok(done(self.apply_binary(Instr::BitXor))),
-            Instr::BitAnd => return Ok(done(self.apply_binary(Instr::BitAnd))),
-            Instr::Eq => return Ok(done(self.apply_binary(Instr::Eq))),
-            Instr::Ne => return Ok(done(self.apply_binary(Instr::Ne))),
-            Instr::Less => return Ok(done(self.apply_binary(Instr::Less))),
-            Instr::LessEq => return Ok(done(self.apply_binary(Instr::LessEq))),
-            Instr::More => return Ok(done(self.apply_binary(Instr::More))),
-            Instr::MoreEq => return Ok(done(self.apply_binary(Instr::MoreEq))),
-            Instr::Shl => return Ok(done(self.apply_binary(Instr::Shl))),
-            Instr::Shr => return Ok(done(self.apply_binary(Instr::Shr))),
-            Instr::Add => return Ok(done(self.apply_binary(Instr::Add))),
-            Instr::Sub => return Ok(done(self.apply_binary(Instr::Sub))),
-            Instr::Mul => return Ok(done(self.apply_binary(Instr::Mul))),
-            Instr::Div => return Ok(done(self.apply_binary(Instr::Div))),
-            Instr::Rem => return Ok(done(self.apply_binary(Instr::Rem))),
+            Instr::Cancel { level, slot } => return self.cancel(level, slot),
             Instr::Enter { .. }
             | Instr::Finish { .. }
             | Instr::Async { .. }
@@ -601,48 +500,133 @@ impl Running<'_> {
                 self.change_threads(*instr)?;
                 return Ok(Went::Away);
             }
-            Instr::Cancel { level, slot } => return self.cancel(level, slot),
+            _ => unreachable!(),
         }
         Ok(Went::On)
     }
 
-    /// The next instruction of the running thread.
+    // One instruction, which finds what it needs. The address of the running thread is held apart from
+    // the core, so that compiled code need not write it at each one.
     #[inline(always)]
-    pub fn next_instr<'i>(&self, instrs: &'i [Instr]) -> &'i Instr
+    fn execute(&mut self, address: &mut usize, instr: &Instr) -> Result<Went, NoMemory>
+        requires running { self.old.ended ≡ None }
+        requires runs { IsSome self.old.schedule.running }
+        requires inside { address.old < 2 ^ 32 }
+        requires finds { Finds self.old.code.now (flat_of (at_address self.old address.old)) instr.now }
+        requires settled { self.old.threads.pending ≡ false }
+        ensures ok { IfOk result (λ went. went ≢ Went.Asks → DoesAt self.old address.old instr.now self.new address.new) }
+        ensures asks { IfOk result (λ went. went ≡ Went.Asks → IsSome
+            (tried_within (flat_of (at_address self.old address.old))
+            (cancelled_by (flat_of (at_address self.old address.old)) (Some instr.now)))) }
+        ensures stays { IfOk result (λ went. went ≡ Went.Asks → StaysAt self.old address.old self.new address.new) }
+        ensures err { OnErr result (StaysAt self.old address.old self.new address.new) }
+        ensures keeps { Keeps self.old self.new }
+        ensures continues { IfOk result (λ went. went ≡ Went.On → Continues self.old self.new) }
+    {
+        match *instr {
+            Instr::Step => return Ok(done(self.step(address))),
+            Instr::Push(value) => self.push(address, value)?,
+            Instr::Load { level, slot } => self.load(address, level, slot)?,
+            Instr::LoadG { slot } => self.load_global(address, slot)?,
+            Instr::Store { level, slot } => self.store(address, level, slot),
+            Instr::StoreG { slot } => self.store_global(address, slot),
+            Instr::Arr { level, slot, len } => self.array(address, level, slot, len)?,
+            Instr::ArrG { slot, len } => self.global_array(address, slot, len)?,
+            Instr::Elem => return Ok(done(self.element(address))),
+            Instr::SetElem => return Ok(done(self.set_element(address))),
+            Instr::Drop => self.drop_one(address),
+            Instr::Jump { to } => self.jump(address, to),
+            Instr::Jz { to } => self.jump_if_zero(address, to),
+            Instr::Jnz { to } => self.jump_if_not_zero(address, to),
+            Instr::Call { function, count } => return Ok(done(self.call(
+                address, function, count,
+            )?)),
+            Instr::Ret => return Ok(done(self.ret(address)?)),
+            // One arm for each operator, so that nothing looks at the instruction twice.
+            Instr::Neg => self.apply_unary(address, Instr::Neg),
+            Instr::Not => self.apply_unary(address, Instr::Not),
+            Instr::Flip => self.apply_unary(address, Instr::Flip),
+            Instr::Bool => self.apply_unary(address, Instr::Bool),
+            Instr::BitOr => return Ok(done(self.apply_binary(address, Instr::BitOr))),
+            Instr::BitXor => return Ok(done(self.apply_binary(address, Instr::BitXor))),
+            Instr::BitAnd => return Ok(done(self.apply_binary(address, Instr::BitAnd))),
+            Instr::Eq => return Ok(done(self.apply_binary(address, Instr::Eq))),
+            Instr::Ne => return Ok(done(self.apply_binary(address, Instr::Ne))),
+            Instr::Less => return Ok(done(self.apply_binary(address, Instr::Less))),
+            Instr::LessEq => return Ok(done(self.apply_binary(address, Instr::LessEq))),
+            Instr::More => return Ok(done(self.apply_binary(address, Instr::More))),
+            Instr::MoreEq => return Ok(done(self.apply_binary(address, Instr::MoreEq))),
+            Instr::Shl => return Ok(done(self.apply_binary(address, Instr::Shl))),
+            Instr::Shr => return Ok(done(self.apply_binary(address, Instr::Shr))),
+            Instr::Add => return Ok(done(self.apply_binary(address, Instr::Add))),
+            Instr::Sub => return Ok(done(self.apply_binary(address, Instr::Sub))),
+            Instr::Mul => return Ok(done(self.apply_binary(address, Instr::Mul))),
+            Instr::Div => return Ok(done(self.apply_binary(address, Instr::Div))),
+            Instr::Rem => return Ok(done(self.apply_binary(address, Instr::Rem))),
+            Instr::Place
+            | Instr::Clear { .. }
+            | Instr::Print { .. }
+            | Instr::Cancel { .. }
+            | Instr::Enter { .. }
+            | Instr::Finish { .. }
+            | Instr::Async { .. }
+            | Instr::End
+            | Instr::Yield
+            | Instr::Send { .. }
+            | Instr::Recv { .. }
+            | Instr::Read { .. }
+            | Instr::Write { .. } => {
+                self.place = *address;
+                let went = self.apart(instr);
+                *address = self.place;
+                match went? {
+                    Went::On => {}
+                    Went::Away => return Ok(Went::Away),
+                    Went::Asks => return Ok(Went::Asks),
+                }
+            }
+        }
+        Ok(Went::On)
+    }
+
+    /// The next instruction of the running thread, with its address held apart from the core.
+    #[inline(always)]
+    pub fn next_instr<'i>(&self, address: usize, instrs: &'i [Instr]) -> &'i Instr
         requires running { self.now.ended ≡ None }
         requires runs { IsSome self.now.schedule.running }
-        requires sound { IsSound self.now }
+        requires sound { IsSound (at_address self.now address) }
         requires instrs { instrs.now ≡ self.now.code.now.instrs }
-        ensures here { slice_get self.now.code.now.instrs self.now.place ≡ Some result.now }
-        ensures inside { self.now.place < 2 ^ 32 }
-        ensures finds { Finds self.now.code.now (flat_of self.now) result.now }
+        ensures here { slice_get self.now.code.now.instrs address ≡ Some result.now }
+        ensures inside { address < 2 ^ 32 }
+        ensures finds { Finds self.now.code.now (flat_of (at_address self.now address)) result.now }
     {
-        &instrs[self.place]
+        &instrs[address]
     }
 
     // That next instruction is done. The ranks are there for the proof alone that less is left to do.
     #[inline(always)]
-    fn one(&mut self, instr: &Instr, _ranks: &[u64]) -> Follows
+    fn one(&mut self, address: &mut usize, instr: &Instr, _ranks: &[u64]) -> Follows
         requires running { self.old.ended ≡ None }
         requires runs { IsSome self.old.schedule.running }
-        requires sound { IsSound self.old }
-        requires here { slice_get self.old.code.now.instrs self.old.place ≡ Some instr.now }
-        requires inside { self.old.place < 2 ^ 32 }
-        requires finds { Finds self.old.code.now (flat_of self.old) instr.now }
+        requires sound { IsSound (at_address self.old address.old) }
+        requires here { slice_get self.old.code.now.instrs address.old ≡ Some instr.now }
+        requires inside { address.old < 2 ^ 32 }
+        requires finds { Finds self.old.code.now (flat_of (at_address self.old address.old)) instr.now }
         requires ranked { IsRanked self.old.code.now _ranks.now }
         requires settled { self.old.threads.pending ≡ false }
         ensures done { result ≢ Follows.Asks → result ≢ Follows.Refused
-            → state_of self.new ≡ exec self.old.code.now self.old.bound (flat_of self.old) }
-        ensures asks { result ≡ Follows.Asks → IsSome (tried_of self.old.code.now (state_of self.old)) }
-        ensures stays { result ≡ Follows.Asks → Stays self.old self.new }
-        ensures refused { result ≡ Follows.Refused → Stays self.old self.new }
+            → state_of (at_address self.new address.new)
+            ≡ exec self.old.code.now self.old.bound (flat_of (at_address self.old address.old)) }
+        ensures asks { result ≡ Follows.Asks → IsSome (tried_of self.old.code.now (state_of (at_address self.old address.old))) }
+        ensures stays { result ≡ Follows.Asks → StaysAt self.old address.old self.new address.new }
+        ensures refused { result ≡ Follows.Refused → StaysAt self.old address.old self.new address.new }
         ensures keeps { Keeps self.old self.new }
-        ensures sound { IsSound self.new }
+        ensures sound { IsSound (at_address self.new address.new) }
         ensures less { result ≢ Follows.Asks → result ≢ Follows.Refused
-            → left_of _ranks.now self.new < left_of _ranks.now self.old }
+            → left_of _ranks.now (at_address self.new address.new) < left_of _ranks.now (at_address self.old address.old) }
         ensures continues { result ≡ Follows.Same → Continues self.old self.new }
     {
-        how_on(self.execute(instr))
+        how_on(self.execute(address, instr))
     }
 
     // The instructions of the running thread, until it need not be the same thread that goes on, or
@@ -663,13 +647,23 @@ impl Running<'_> {
     {
         let code = self.code;
         let instrs = code.instrs();
-        let mut instr = self.next_instr(instrs);
+        let mut address = self.place;
+        let mut instr = self.next_instr(address, instrs);
         'steps: loop {
-            match self.one(instr, _ranks) {
-                Follows::Same => instr = self.next_instr(instrs),
-                Follows::Away => return Ok(()),
-                Follows::Asks => return Ok(()),
-                Follows::Refused => return Err(NoMemory),
+            match self.one(&mut address, instr, _ranks) {
+                Follows::Same => instr = self.next_instr(address, instrs),
+                Follows::Away => {
+                    self.place = address;
+                    return Ok(());
+                }
+                Follows::Asks => {
+                    self.place = address;
+                    return Ok(());
+                }
+                Follows::Refused => {
+                    self.place = address;
+                    return Err(NoMemory);
+                }
             }
         }
     }

@@ -67,7 +67,7 @@ impl Running<'_> {
         if self.schedule.running().is_none() {
             return None;
         }
-        match *self.next_instr(self.code.instrs()) {
+        match *self.next_instr(self.place, self.code.instrs()) {
             Instr::Cancel { level, slot } => Some(self.block_in(level, slot)),
             _ => None,
         }

@@ -1,12 +1,14 @@
 -- A few tokens: their depths, and what is read of them.
-use Rattle.std.proofs.Common.{◌≡◌, refl, ℕ, ◌≤◌, ℤ, pos, negsuc, Bool, true, false, List, [], ◌∷◌, codes, Option, Some, None, Result, Ok, Err, arith}
+use Rattle.std.proofs.Common.{◌≡◌, refl, ℕ, ◌≤◌, ℤ, pos, negsuc, Bool, true, false, List, [], ◌∷◌, map, codes, Option, Some, None, Result, Ok, Err, arith}
+use Rattle.std.specs.Prelude.{if◌then◌else◌}
 use Rattle.ac_lexer.specs.declared.token.Token.{Token}
+use Rattle.ac_lexer.specs.declared.token.Kind.{Kind}
 use Rattle.ac_lexer.specs.declared.token.Kind.TheVariants as k
 use Rattle.ac_lexer.specs.declared.token.Word.TheVariants as w
 use Rattle.ac_lexer.specs.declared.token.Mark.TheVariants as m
 use Rattle.reading_laws.specs.Marks.{Marked, mark, tokens, IsWord, IsMark, IsName, IsNumber, IsText, Low, cut}
 use Rattle.reading_laws.specs.Readers.{Reads, unexpected, too_deep, halt, ◌>>=◌, token_at, is_there, look, within, many_at, with_front}
-use Rattle.reading_laws.specs.Letters.{word, sign, same_word, same_mark, starts_with, has_other, sign_in, sign_at, word_at, mark_at}
+use Rattle.reading_laws.specs.Letters.{word, sign, same_word, same_mark, by_next, by_kind, starts_with, has_other, sign_in, sign_at, word_at, mark_at}
 use Rattle.reading_laws.specs.Letters.{name_kind, name_at, number_kind, number_at, negated_number, negated_kind, negated_at, text_kind, has_name, has_number, has_text, deep_name_at}
 
 -- x 7
@@ -114,6 +116,18 @@ nothing_is_picked = refl
 
 pub a_text_comes_next : has_text (a_text ∷ a_name ∷ []) ∷ has_text (a_name ∷ a_text ∷ []) ∷ has_text [] ∷ [] ≡ true ∷ false ∷ false ∷ []
 a_text_comes_next = refl
+
+-- ---- what the next token says
+
+abbrev its_number : Kind → ℕ
+its_number = by_kind 1 2 3 (λ a. if same_word a w.Do then 4 else 5) (λ a. if same_mark a m.Comma then 6 else 7)
+
+pub what_kinds_say : map its_number (a_name.kind ∷ a_number.kind ∷ a_text.kind ∷ a_word.kind ∷ a_mark.kind ∷ k.Word w.Else ∷ k.Mark m.Comma ∷ []) ≡ 1 ∷ 2 ∷ 3 ∷ 4 ∷ 7 ∷ 5 ∷ 6 ∷ []
+unfolding same_word same_mark
+what_kinds_say = refl
+
+pub what_the_next_says : by_next 0 its_number (a_number ∷ a_name ∷ []) ∷ by_next 0 its_number [] ∷ [] ≡ 2 ∷ 0 ∷ []
+what_the_next_says = refl
 
 -- ---- one word or mark
 

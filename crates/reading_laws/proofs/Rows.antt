@@ -83,7 +83,7 @@ joined : (X : Type 0) (P : X → List Marked → Type 0) (xs : List X) (ms : Lis
 joined X P _ _ (first xs ms s) = is_some X P xs ms s
 joined X P _ _ (second _ _ itself) = none
 
-good_by : (L : ℕ) (X : Type 0) (f g : List Token → Reads X) (P Q : X → List Marked → Type 0) (a : List Token) → g a ≡ f a → ((x : X) (ms : List Marked) → P x ms → Q x ms) → GoodAt L X f P a
+pub good_by : (L : ℕ) (X : Type 0) (f g : List Token → Reads X) (P Q : X → List Marked → Type 0) (a : List Token) → g a ≡ f a → ((x : X) (ms : List Marked) → P x ms → Q x ms) → GoodAt L X f P a
     → GoodAt L X g Q a
 good_by L X f g P Q a e m u = record {
   ok = λ x r h. let z = u.ok x r (sym e ∙ h) in record { used = z.used; split = z.split; low = z.low; spells = m x z.used z.spells };

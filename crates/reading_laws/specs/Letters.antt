@@ -95,6 +95,21 @@ abbrev pub has_other : Sign → List Token → Bool
 has_other wanted [] = false
 has_other wanted (t ∷ ts) = not (is_kind wanted t.kind)
 
+-- ---- what the next token says
+
+-- by its kind, where there is one
+abbrev pub by_next : {A : Type 0} → A → (Kind → A) → List Token → A
+by_next none by [] = none
+by_next none by (t ∷ ts) = by t.kind
+
+-- by which word or mark it is; of a name and of a number, only that it is one
+abbrev pub by_kind : {A : Type 0} → A → A → A → (Word → A) → (Mark → A) → Kind → A
+by_kind name number other of_word of_mark (k.Name found) = name
+by_kind name number other of_word of_mark (k.Number n) = number
+by_kind name number other of_word of_mark (k.Text text) = other
+by_kind name number other of_word of_mark (k.Word a) = of_word a
+by_kind name number other of_word of_mark (k.Mark a) = of_mark a
+
 -- ---- a token that may be too deep
 
 abbrev pub deep_name_at : ℕ → List Token → Reads (ℕ × List ℕ)

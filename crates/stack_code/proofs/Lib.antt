@@ -2,6 +2,7 @@ pub mod Reversed
 pub mod Tables
 pub mod Known
 pub mod Rounds
+pub mod Leading
 pub mod Effects
 pub mod Homes
 pub mod Shaped

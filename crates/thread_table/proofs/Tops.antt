@@ -1,6 +1,8 @@
 -- The last elements of a list, which are the first ones of the list turned round.
 use Rattle.std.proofs.Common.{◌≡◌, ℕ, ◌-◌, ◌≤◌, List, [], ◌∷◌, ◌++◌, length, take, drop, set, refl, sym, ap, ◌∙◌, arith}
-use Rattle.std.specs.Prelude.{reverse}
+use Rattle.std.specs.Prelude.{reverse, Bool, true, false}
+use Rattle.work_item.specs.declared.cell.Cell.{Cell}
+use Rattle.thread_table.specs.Operands.{on_top}
 use Rattle.std.proofs.lemmas.List.{reverse-append, reverse-reverse, length-reverse, length-append, take-append-drop, length-drop}
 use Rattle.std.proofs.Math.Seq.{take-append_seam, drop-append_seam}
 
@@ -38,3 +40,7 @@ last_set items (y ∷ ys) x turned some =
     let at : length items - 1 ≡ length (reverse ys) = omega (arith, ap length is, length-append (reverse ys) (y ∷ [])) in
     ap (λ k. reverse (set items k x)) at ∙ ap (λ l. reverse (set l (length (reverse ys)) x)) is ∙ ap reverse (set_last (reverse ys) y x)
     ∙ reverse-append (reverse ys) (x ∷ []) ∙ ap (λ l. x ∷ l) (reverse-reverse ys)
+
+pub one_at_least : (cells : List Cell) (fits : Cell → Bool) → on_top fits cells ≡ true → 1 ≤ length cells
+one_at_least [] fits e = let no : false ≡ true = e in absurd (cc)
+one_at_least (x ∷ xs) fits e = omega arith

@@ -1,6 +1,7 @@
 //! The operands of a thread.
 
-ghost use Rattle.std.specs.Prelude.{◌≡◌, ◌≤◌, true, false, [], ◌∷◌, OnOk, OnErr, length, reverse, take, drop};
+ghost use Rattle.std.specs.Vec.{vec_len, vec_capacity};
+ghost use Rattle.std.specs.Prelude.{◌≡◌, ◌≤◌, ◌<◌, true, false, [], ◌∷◌, OnOk, OnErr, length, reverse, take, drop};
 ghost use Rattle.work_item.specs.declared.cell.Cell.{Cell};
 ghost use Rattle.code_safety.specs.Fit.{is_int};
 ghost use Rattle.thread_table.specs.Operands.{is_reference, on_top};
@@ -27,6 +28,16 @@ impl Model for Operands {
     ghost view = { λ it. reverse it.cells.items };
 }
 
+// Makes room for one more, which is seldom asked for.
+#[inline(never)]
+fn grow(cells: &mut Vec<Cell>) -> Result<(), NoMemory>
+    ensures items { cells.new.items ≡ cells.old.items }
+    ensures ok { OnOk result (vec_len cells.new < vec_capacity cells.new) }
+{
+    cells.reserve(1)?;
+    Ok(())
+}
+
 impl Operands {
     /// No operands.
     pub fn new(alloc: Global) -> Operands
@@ -42,7 +53,9 @@ impl Operands {
         ensures ok { OnOk result (self.new ≡ cell ∷ self.old) }
         ensures err { OnErr result (self.new ≡ self.old) }
     {
-        self.cells.reserve(1)?;
+        if self.cells.len() == self.cells.capacity() {
+            grow(&mut self.cells)?;
+        }
         self.cells.push_reserved(cell);
         Ok(())
     }
@@ -111,6 +124,18 @@ impl Operands {
     {
         let top = self.cells.len() - 1;
         self.cells[top] = cell;
+    }
+
+    /// Puts an int in the place of the topmost, which is an int.
+    pub fn replace_int(&mut self, value: i64)
+        requires { on_top is_int self.old ≡ true }
+        ensures { self.new ≡ Cell.Int value ∷ drop 1 self.old }
+    {
+        let top = self.cells.len() - 1;
+        match &mut self.cells[top] {
+            Cell::Int(held) => *held = value,
+            _ => unreachable!(),
+        }
     }
 
     /// So many from the top, the topmost last.

@@ -24,8 +24,6 @@ use Rattle.trace_text.specs.declared.trace.TraceEnd.{TraceEnd}
 use Rattle.trace_audit.specs.declared.verdict.Verdict.TheVariants.{Yes, NoAt, NoAtEnd}
 use Rattle.trace_audit.specs.RunTrace.{journal_of, HasReplay, nothing_yet, Fits, AllFit, EndsAsTold, AllEndAsTold, file_limit, EndsWell, IsRunTrace}
 use Rattle.trace_audit.specs.Judged.{IsFirstMisfit, Judges}
-use Rattle.ac_links.specs.Link.{is_decided}
-use Rattle.ac_links.specs.declared.offer.Standing.TheVariants.{Offered, Taken, Withdrawn, Passed}
 
 -- ---- its trace
 
@@ -238,8 +236,3 @@ twice_is_judged_no = the_second_is_the_first_misfit
 
 pub one_end_is_judged_no : Judges two_cores (record its_trace { ends = waits_told ∷ [] }) NoAtEnd
 one_end_is_judged_no = ((record { follows = refl; replay = λ lt. it_has_a_replay }, tt), not_with_one_end)
-
--- ---- which offers are decided
-
-pub what_is_decided : is_decided Offered ∷ is_decided Taken ∷ is_decided Withdrawn ∷ is_decided Passed ∷ [] ≡ false ∷ true ∷ false ∷ true ∷ []
-what_is_decided = refl

@@ -3,7 +3,6 @@
 ghost use Rattle.std.specs.Prelude.{◌≡◌, ◌++◌, ◌∷◌, ◌<◌, ◌≤◌, [], length, OnOk};
 ghost use Rattle.std.specs.Fmt.{decimal, signed_decimal};
 ghost use Rattle.ac_base.specs.Hexadecimal.{hex_digit, hex_digits, hex_of};
-ghost use Rattle.ac_base.specs.Report.{word_text, trap_text};
 ghost use Rattle.trace_text.specs.Text.{spaced, offer_name, payload_text, answer_text, event_text, title};
 ghost use Rattle.trace_text.specs.Text.{steps_line, file_line, entry_line, outcome_text, end_line};
 ghost use Rattle.trace_text.specs.Text.{file_lines, entry_lines, end_lines, joined};
@@ -12,7 +11,7 @@ ghost use Rattle.trace_text.specs.inner.Adding.{Adds};
 
 use crate::faults::WriteFault;
 use crate::trace::{Trace, TraceEnd};
-use ac_base::{Answer, Bytes, EndWord, Event, List, NoMemory, Payload, Stamped, Trap};
+use ac_base::{Answer, Bytes, Event, List, NoMemory, Payload, Stamped, end_word};
 use std::alloc::Global;
 
 /// The greatest length of a text, in bytes.
@@ -220,29 +219,6 @@ fn add_entry(alloc: Global, text: &mut Vec<u8>, stamped: &Stamped) -> Result<(),
     add_event(alloc, text, &stamped.entry.event)?;
     text.push(b'\n')?;
     Ok(())
-}
-
-fn trap_word(trap: Trap) -> &'static str
-    ensures { result.now ≡ trap_text trap }
-{
-    match trap {
-        Trap::ZeroDivisor => "zero-divisor",
-        Trap::Index => "index",
-        Trap::StackFull => "stack-full",
-        Trap::OutputFull => "output-full",
-        Trap::FileRange => "file-range",
-    }
-}
-
-fn end_word(word: EndWord) -> &'static str
-    ensures { result.now ≡ word_text word }
-{
-    match word {
-        EndWord::Finished => "finished",
-        EndWord::Trapped(trap) => trap_word(trap),
-        EndWord::OutOfSteps => "out-of-steps",
-        EndWord::Stalled => "stalled",
-    }
 }
 
 // How a core ended, its steps, and its output.

@@ -1,15 +1,15 @@
 -- What always holds of the globals and the frames holds after each call.
-use Rattle.std.proofs.Common.{◌≡◌, ℕ, ◌+◌, ◌-◌, ◌<◌, ◌≤◌, ◌^◌, replicate, List, [], ◌∷◌, ◌++◌, length, Option, Some, None, Result, Ok, Err, OnOk}
+use Rattle.std.proofs.Common.{◌≡◌, ℕ, ◌+◌, ◌<◌, ◌≤◌, ◌^◌, List, [], ◌∷◌, ◌++◌, length, Option, Some, None, Result, Ok, Err, OnOk}
 use Rattle.std.proofs.Common.{OnErr, true, false, ℤ, inl, inr, refl, sym, ap, ◌∙◌, subst, arith, set, get_or-set_same}
 use Rattle.std.proofs.lemmas.Bool.{cases_eq}
 use Rattle.std.proofs.lemmas.List.{set-get_or}
 use Rattle.ac_base.specs.declared.memory.NoMemory.{NoMemory}
 use Rattle.work_item.specs.declared.cell.Cell.{Cell}
 use Rattle.work_item.specs.declared.ids.FrameId.{FrameId}
-use Rattle.work_item.specs.Store.{Frame, no_cells, some_with, all_words, no_int}
+use Rattle.work_item.specs.Store.{Frame, no_cells, some_with, all_words}
 use Rattle.work_item.specs.inner.Kept.{new_frame}
 use Rattle.work_item.specs.Table.{at, children_of, IsSettled, IsWhole}
-use Rattle.work_item.proofs.Filling.{length-filled}
+use Rattle.work_item.proofs.Filling.{filled, length-filled}
 use Rattle.work_item.proofs.Children.{within, other, pushed, children_same, children-push, words_same, words-push}
 
 settled_same : (t : List (Option Frame)) (n : ℕ) (x y : Frame) → IsSettled t → at t n ≡ Some x → y.parent ≡ x.parent → y.over ≡ x.over → IsSettled (set t n (Some y))
@@ -48,15 +48,14 @@ whole_made globals t new w going few = record {
   fits = omega (arith, few, words-push t (Some new));
 }
 
-pub whole_pushed : (globals : List ℤ) (t u : List (Option Frame)) (new : Frame) (r : Result FrameId NoMemory) → IsWhole globals t → OnOk r (u ≡ t ++ Some new ∷ []) → OnErr r (u ≡ t) → new.over ≡ false
+whole_pushed : (globals : List ℤ) (t u : List (Option Frame)) (new : Frame) (r : Result FrameId NoMemory) → IsWhole globals t → OnOk r (u ≡ t ++ Some new ∷ []) → OnErr r (u ≡ t) → new.over ≡ false
     → length globals + all_words t + (length new.cells + 4) < 2 ^ 64 → IsWhole globals u
 whole_pushed globals t u new (Ok f) w ok err going few = subst (IsWhole globals) (sym ok) (whole_made globals t new w going few)
 whole_pushed globals t u new (Err e) w ok err going few = subst (IsWhole globals) (sym err) w
 
-pub whole_filled : (globals : List ℤ) (t same u : List (Option Frame)) (parent : Option FrameId) (cells first : List Cell) (words : ℕ) (r : Result FrameId NoMemory) → IsWhole globals t → same ≡ t
-    → OnOk r (u ≡ same ++ Some (new_frame parent cells) ∷ []) → OnErr r (u ≡ same) → length first ≤ words → cells ≡ first ++ replicate (words - length first) no_int
+pub whole_filled : (globals : List ℤ) (t u : List (Option Frame)) (parent : Option FrameId) (first : List Cell) (words : ℕ) (r : Result FrameId NoMemory) → IsWhole globals t
+    → OnOk r (u ≡ t ++ Some (new_frame parent (filled first words)) ∷ []) → OnErr r (u ≡ t) → length first ≤ words
     → length globals + all_words t + (words + 4) < 2 ^ 64 → IsWhole globals u
-whole_filled globals t same u parent cells first words r w e ok err le is few =
-    let size = ap length is ∙ length-filled first words le in
-    let less = subst (λ k. length globals + all_words t + (k + 4) < 2 ^ 64) (sym size) few in
-    whole_pushed globals same u (new_frame parent cells) r (subst (IsWhole globals) (sym e) w) ok err refl (subst (λ x. length globals + all_words x + (length cells + 4) < 2 ^ 64) (sym e) less)
+whole_filled globals t u parent first words r w ok err le few =
+    let less = subst (λ k. length globals + all_words t + (k + 4) < 2 ^ 64) (sym (length-filled first words le)) few in
+    whole_pushed globals t u (new_frame parent (filled first words)) r w ok err refl less

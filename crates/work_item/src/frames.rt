@@ -91,8 +91,7 @@ impl Frames {
         ensures ok { OnOk result (self.new ≡ made self.old parent (first.now ++ replicate (words - length first.now) no_int)) }
         ensures err { OnErr result (self.new ≡ self.old) }
     {
-        let cells = self.table.cells(self.alloc, first, words)?;
-        self.table.push(parent, cells)
+        self.table.push(self.alloc, parent, first, words)
     }
 
     /// The number of the frame so many levels up, at level 0 of the frame itself. It takes one look

@@ -1,12 +1,12 @@
 //! The frames that live, each with the count of those that live in it.
 
-ghost use Rattle.std.specs.Prelude.{◌≡◌, ℕ, ◌+◌, ◌-◌, ◌^◌, ◌<◌, ◌≤◌, [], ◌∷◌, ◌++◌, length, take, replicate, true};
-ghost use Rattle.std.specs.Prelude.{nat_lt, slice_index_or, slice_set, IsSome, IfSome, IfOk, OnOk, OnErr, Some, None};
+ghost use Rattle.std.specs.Prelude.{◌≡◌, ℕ, ◌+◌, ◌-◌, ◌^◌, ◌<◌, ◌≤◌, [], ◌∷◌, ◌++◌, length, replicate};
+ghost use Rattle.std.specs.Prelude.{nat_lt, slice_index_or, slice_set, IsSome, IfSome, IsSomeAnd, IfOk, OnOk, OnErr, Some, None};
 ghost use Rattle.work_item.specs.Store.{all_words, no_cells, no_int, some_with, some_over, cleared, parent_or};
 ghost use Rattle.work_item.specs.Table.{at, children_of};
 ghost use Rattle.work_item.specs.inner.Kept.{parent_at, new_frame, is_done, is_alone, LivesIn};
 ghost use Rattle.work_item.specs.inner.Kept.{IsRooted, CanCountMore, CanCountLess, with_more, with_less};
-ghost use Rattle.work_item.specs.inner.Kept.{live_at, in_place, place_at, places_of};
+ghost use Rattle.work_item.specs.inner.Kept.{live_at, in_place, place_at, places_of, IsNew, AreSameBelow, IsFreed};
 
 use crate::cell::Cell;
 use crate::ids::FrameId;
@@ -30,9 +30,7 @@ const HEAD_WORDS: u64 = 4;
 // The place of a frame that is gone.
 const NO_PLACE: u32 = u32::MAX;
 
-// How many lists of cells are kept for frames to come, and the most cells that one of them has room for.
-const SPARES: usize = 64;
-
+// The most cells for which a list has room that is kept for a frame to come.
 const SPARE_CELLS: usize = 64;
 
 /// The frames of a core, each at its number. The youngest places are used again once their frames
@@ -43,11 +41,13 @@ const SPARE_CELLS: usize = 64;
 pub struct Table {
     // By number, the place of a frame that lives.
     places: Vec<u32>,
+    // By place, the frames that live, and gaps. From `top` on all are free: what a slot holds there is
+    // left of a frame that is gone, and only its list of cells is used, for the next frame at that
+    // place, so that a call need not ask for memory.
     slots: Vec<Option<Live>>,
+    top: usize,
     // The words of those that live.
     words: u64,
-    // The lists of cells of frames that are gone, so that a call need not ask for memory.
-    spares: Vec<Vec<Cell>>,
 }
 
 impl Model for Table {
@@ -60,7 +60,7 @@ impl Model for Table {
 
     ghost view = { λ s. frames_of (lives_of (places_of s.places.items) s.slots.items) };
 
-    ghost invariant = { λ s. IsKept (places_of s.places.items) s.slots.items s.words };
+    ghost invariant = { λ s. IsKept (places_of s.places.items) s.slots.items s.top s.words };
 }
 
 // Counts a frame in at the place of its parent.
@@ -87,21 +87,51 @@ fn count_out(slots: &mut Vec<Option<Live>>, parent: Option<usize>)
     }
 }
 
-// Takes the gaps away that come last.
-fn drop_gaps(slots: &mut Vec<Option<Live>>)
-    ensures { (place : ℕ) → live_at slots.new.items place ≡ live_at slots.old.items place }
+// Where the free places begin that come last, at `top` or below it.
+#[inline(always)]
+fn below_gaps(slots: &Vec<Option<Live>>, top: usize) -> usize
+    requires { top ≤ length slots.now.items }
+    ensures lower { result ≤ top }
+    ensures taken { (place : ℕ) → IsSome (live_at slots.now.items place) → place < top → place < result }
 {
-    while ends_in_gap(slots) {
-        let _ = slots.pop();
+    let mut low = top;
+    while low > 0 && slots[low - 1].is_none() {
+        low -= 1;
+    }
+    low
+}
+
+// Whether the list of cells is kept for a frame to come.
+#[inline(always)]
+fn is_small(slot: &Option<Live>) -> bool {
+    match slot {
+        Some(live) => live.cells.capacity() <= SPARE_CELLS,
+        None => false,
     }
 }
 
-fn ends_in_gap(slots: &[Option<Live>]) -> bool
-    ensures { result ≡ true → slots.now ≡ take (length slots.now - 1) slots.now ++ None ∷ [] }
+// Gives back the memory of a frame, and gives the place from which on all are free then.
+#[inline(never)]
+fn empty(slots: &mut Vec<Option<Live>>, place: usize, top: usize) -> usize
+    requires place { place < top }
+    requires top { top ≤ length slots.old.items }
+    ensures { IsFreed slots.old.items place top slots.new.items result }
 {
-    match slots {
-        [.., last] => last.is_none(),
-        [] => false,
+    slots[place] = None;
+    below_gaps(slots, top)
+}
+
+// Frees a place, and gives the one from which on all are free then.
+#[inline(always)]
+fn free(slots: &mut Vec<Option<Live>>, place: usize, top: usize) -> usize
+    requires place { place < top }
+    requires top { top ≤ length slots.old.items }
+    ensures { IsFreed slots.old.items place top slots.new.items result }
+{
+    if place + 1 == top && is_small(&slots[place]) {
+        below_gaps(slots, place)
+    } else {
+        empty(slots, place, top)
     }
 }
 
@@ -150,11 +180,78 @@ fn fill(cells: &mut Vec<Cell>, first: &[Cell], words: usize) -> Result<(), NoMem
     Ok(())
 }
 
-// Keeps a list of cells for a frame to come, where there is a place for it.
-fn keep(spares: &mut Vec<Vec<Cell>>, cells: Vec<Cell>) {
-    if spares.len() < SPARES && cells.capacity() <= SPARE_CELLS {
-        let _ = spares.push(cells);
+// Makes a new frame out of one that is gone.
+#[inline(always)]
+fn renew(
+    live: &mut Live,
+    parent: Option<FrameId>,
+    first: &[Cell],
+    words: usize,
+) -> Result<(), NoMemory>
+    requires { length first.now ≤ words }
+    ensures { OnOk result (IsNew parent (first.now ++ replicate (words - length first.now) no_int) live.new) }
+{
+    fill(&mut live.cells, first, words)?;
+    live.parent = parent;
+    live.over = false;
+    live.children = 0;
+    Ok(())
+}
+
+// Makes a new frame in a slot that holds none, or in one behind the last.
+#[inline(never)]
+fn add(
+    slots: &mut Vec<Option<Live>>,
+    alloc: Global,
+    place: usize,
+    parent: Option<FrameId>,
+    first: &[Cell],
+    words: usize,
+) -> Result<(), NoMemory>
+    requires place { place ≤ length slots.old.items }
+    requires first { length first.now ≤ words }
+    ensures made { OnOk result (IsSomeAnd (live_at slots.new.items place)
+        (IsNew parent (first.now ++ replicate (words - length first.now) no_int))) }
+    ensures below { AreSameBelow place slots.old.items slots.new.items }
+{
+    let mut cells = Vec::new(alloc);
+    fill(&mut cells, first, words)?;
+    let live = Live {
+        parent,
+        cells,
+        over: false,
+        children: 0,
+    };
+    if place < slots.len() {
+        slots[place] = Some(live);
+    } else {
+        slots.push(Some(live))?;
     }
+    Ok(())
+}
+
+// Makes a new frame at that place, from which on all are free.
+#[inline(always)]
+fn make_at(
+    slots: &mut Vec<Option<Live>>,
+    alloc: Global,
+    place: usize,
+    parent: Option<FrameId>,
+    first: &[Cell],
+    words: usize,
+) -> Result<(), NoMemory>
+    requires place { place ≤ length slots.old.items }
+    requires first { length first.now ≤ words }
+    ensures made { OnOk result (IsSomeAnd (live_at slots.new.items place)
+        (IsNew parent (first.now ++ replicate (words - length first.now) no_int))) }
+    ensures below { AreSameBelow place slots.old.items slots.new.items }
+{
+    if place < slots.len() {
+        if let Some(live) = &mut slots[place] {
+            return renew(live, parent, first, words);
+        }
+    }
+    add(slots, alloc, place, parent, first, words)
 }
 
 // Sets so many cells from that one on to 0.
@@ -175,8 +272,8 @@ impl Table {
         Table {
             places: Vec::new(alloc),
             slots: Vec::new(alloc),
+            top: 0,
             words: 0,
-            spares: Vec::new(alloc),
         }
     }
 
@@ -187,52 +284,35 @@ impl Table {
         self.words
     }
 
-    /// So many cells for a new frame, which begin with these and are 0 from there on.
+    /// A new frame under the next number, of so many cells, which begin with these and are 0 from
+    /// there on.
     #[inline(always)]
-    pub fn cells(
+    pub fn push(
         &mut self,
         alloc: Global,
+        parent: Option<FrameId>,
         first: &[Cell],
         words: u32,
-    ) -> Result<Vec<Cell>, NoMemory>
-        requires { length first.now ≤ words }
-        ensures cells { IfOk result (λ cells. cells.items ≡ first.now ++ replicate (words - length first.now) no_int) }
-        ensures same { self.new ≡ self.old }
-    {
-        let mut cells = match self.spares.pop() {
-            Some(cells) => cells,
-            None => Vec::new(alloc),
-        };
-        fill(&mut cells, first, words as usize)?;
-        Ok(cells)
-    }
-
-    /// A new frame under the next number.
-    #[inline(always)]
-    pub fn push(&mut self, parent: Option<FrameId>, cells: Vec<Cell>) -> Result<FrameId, NoMemory>
+    ) -> Result<FrameId, NoMemory>
         requires parent { LivesIn self.old parent }
-        requires words { all_words self.old + (length cells.items + 4) < 2 ^ 64 }
+        requires first { length first.now ≤ words }
+        requires words { all_words self.old + (words + 4) < 2 ^ 64 }
         ensures number { IfOk result (λ f. f.number ≡ length self.old) }
-        ensures ok { OnOk result (self.new ≡ self.old ++ Some (new_frame parent cells.items) ∷ []) }
+        ensures ok { OnOk result (self.new ≡ self.old
+            ++ Some (new_frame parent (first.now ++ replicate (words - length first.now) no_int)) ∷ []) }
         ensures err { OnErr result (self.new ≡ self.old) }
     {
         let number = self.places.len() as u64;
-        let words = cells.len() as u64 + HEAD_WORDS;
-        let place = self.slots.len();
+        let place = self.top;
         if place >= NO_PLACE as usize {
             return Err(NoMemory);
         }
         let outer = place_or_none(&self.places, parent);
         self.places.reserve(1)?;
-        self.slots.reserve(1)?;
+        make_at(&mut self.slots, alloc, place, parent, first, words as usize)?;
         self.places.push_reserved(place as u32);
-        self.slots.push_reserved(Some(Live {
-            parent,
-            cells,
-            over: false,
-            children: 0,
-        }));
-        self.words += words;
+        self.top = place + 1;
+        self.words += words as u64 + HEAD_WORDS;
         count_in(&mut self.slots, outer);
         Ok(FrameId { number })
     }
@@ -342,18 +422,13 @@ impl Table {
         ensures rooted { IsRooted self.new }
     {
         let place = place_of(&self.places, frame);
+        let live = live_of(&self.places, &self.slots, frame);
+        let parent = live.parent;
+        self.words -= live.cells.len() as u64 + HEAD_WORDS;
         self.places[frame.number as usize] = NO_PLACE;
-        match self.slots[place].take() {
-            Some(live) => {
-                self.words -= live.cells.len() as u64 + HEAD_WORDS;
-                let outer = place_or_none(&self.places, live.parent);
-                count_out(&mut self.slots, outer);
-                drop_gaps(&mut self.slots);
-                let parent = live.parent;
-                keep(&mut self.spares, live.cells);
-                parent
-            }
-            None => unreachable!(),
-        }
+        let outer = place_or_none(&self.places, parent);
+        count_out(&mut self.slots, outer);
+        self.top = free(&mut self.slots, place, self.top);
+        parent
     }
 }

@@ -16,7 +16,7 @@ use Rattle.ac_parser.specs.declared.forms.ParamsBegin.{ParamsBegin}
 use Rattle.ac_parser.specs.declared.forms.ParamsBegin.TheVariants as p
 use Rattle.reading_laws.specs.Readers.{Reads, halt, unexpected, ◌>>=◌, many_at}
 use Rattle.reading_laws.specs.inner.Tokens.{has_token}
-use Rattle.reading_laws.specs.Letters.{word, sign, starts_with, word_at, mark_at, name_at, number_at, negated_at, text_at}
+use Rattle.reading_laws.specs.Letters.{word, sign, by_next, starts_with, word_at, mark_at, name_at, number_at, negated_at, text_at}
 use Rattle.ac_parser.specs.inner.ReadsStatements.{block_at, stmt_at}
 
 -- ---- what the next token begins
@@ -35,8 +35,7 @@ item_kind (k.Word a) = item_word a
 item_kind _ = b.Other
 
 abbrev pub item_begins : List Token → ItemBegins
-item_begins [] = b.Other
-item_begins (t ∷ ts) = item_kind t.kind
+item_begins = by_next b.Other item_kind
 
 abbrev pub params_word : Word → ParamsBegin
 params_word w.Void = p.Void
@@ -48,8 +47,7 @@ params_kind (k.Word a) = params_word a
 params_kind _ = p.Other
 
 abbrev pub params_begin : List Token → ParamsBegin
-params_begin [] = p.Other
-params_begin (t ∷ ts) = params_kind t.kind
+params_begin = by_next p.Other params_kind
 
 -- ---- globals
 

@@ -1,5 +1,5 @@
 -- Reading statements from left to right.
-use Rattle.std.specs.Prelude.{ℕ, ◌-◌, zero, suc, Bool, true, false, ◌||◌, List, [], ◌∷◌, length, Option, Some, None, Ok, Err, if◌then◌else◌}
+use Rattle.std.specs.Prelude.{ℕ, ◌-◌, zero, suc, Bool, true, false, ◌||◌, List, length, Option, Some, None, Ok, Err, if◌then◌else◌}
 use Rattle.ac_tree.specs.declared.expr.Expr.{Expr}
 use Rattle.ac_tree.specs.declared.stmt.Stmt.{Stmt}
 use Rattle.ac_tree.specs.declared.stmt.Stmt.TheVariants as s
@@ -8,7 +8,6 @@ use Rattle.ac_lexer.specs.declared.token.Word.TheVariants as w
 use Rattle.ac_lexer.specs.declared.token.Mark.{Mark}
 use Rattle.ac_lexer.specs.declared.token.Mark.TheVariants as m
 use Rattle.ac_lexer.specs.declared.token.Kind.{Kind}
-use Rattle.ac_lexer.specs.declared.token.Kind.TheVariants as k
 use Rattle.ac_lexer.specs.declared.token.Token.{Token}
 use Rattle.ac_parser.specs.declared.forms.Opening.{Opening}
 use Rattle.ac_parser.specs.declared.forms.Opening.TheVariants as f
@@ -16,7 +15,7 @@ use Rattle.ac_parser.specs.declared.forms.ForBegins.{ForBegins}
 use Rattle.ac_parser.specs.declared.forms.ForBegins.TheVariants as b
 use Rattle.ac_parser.specs.declared.statements.ForHead.{ForHead}
 use Rattle.reading_laws.specs.Readers.{Reads, halt, unexpected, ◌>>=◌, look, within, many_at}
-use Rattle.reading_laws.specs.Letters.{word, sign, starts_with, word_at, mark_at, name_at, has_name, has_other}
+use Rattle.reading_laws.specs.Letters.{word, sign, by_next, by_kind, starts_with, word_at, mark_at, name_at, has_name, has_other}
 use Rattle.reading_laws.specs.inner.Tokens.{deep_number_at, deep_text_at}
 use Rattle.ac_expressions.specs.Reads.{place_of, begins_expr, more_args_at, call_at, named_place_at, operation_at, expr_at}
 
@@ -46,15 +45,10 @@ opening_mark m.Semicolon = f.Empty
 opening_mark _ = f.Other
 
 abbrev pub opening_kind : Kind → Opening
-opening_kind (k.Name name) = f.Name
-opening_kind (k.Number n) = f.Other
-opening_kind (k.Text text) = f.Other
-opening_kind (k.Word a) = opening_word a
-opening_kind (k.Mark a) = opening_mark a
+opening_kind = by_kind f.Name f.Other f.Other opening_word opening_mark
 
 abbrev pub opening_of : List Token → Opening
-opening_of [] = f.Other
-opening_of (t ∷ ts) = opening_kind t.kind
+opening_of = by_next f.Other opening_kind
 
 abbrev pub is_opening : Opening → Bool
 is_opening f.Other = false
@@ -69,14 +63,11 @@ for_word w.Int = b.Int
 for_word _ = b.Other
 
 abbrev pub for_kind : Kind → ForBegins
-for_kind (k.Name name) = b.Name
-for_kind (k.Word a) = for_word a
-for_kind _ = b.Other
+for_kind = by_kind b.Name b.Other b.Other for_word (λ a. b.Other)
 
 -- what the first part of a `for` begins with
 abbrev pub for_begins : List Token → ForBegins
-for_begins [] = b.Other
-for_begins (t ∷ ts) = for_kind t.kind
+for_begins = by_next b.Other for_kind
 
 -- ---- parts; the room is that of the first token of the part, and one more than that of what stands between parentheses in it
 

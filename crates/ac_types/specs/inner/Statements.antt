@@ -1,5 +1,5 @@
 -- A walk after the parts of a statement: what it has seen, by what it had seen before.
-use Rattle.std.specs.Prelude.{ℕ, ℤ, List, map, Option, None, Some}
+use Rattle.std.specs.Prelude.{ℕ, ℤ, List, map, Option, None, Some, option_map}
 use Rattle.ac_tree.specs.declared.expr.Expr.{Expr}
 use Rattle.ac_tree.specs.declared.stmt.Stmt.{Stmt}
 use Rattle.ac_tree.specs.declared.stmt.Stmt.TheOpen.{Stmt-F}
@@ -25,8 +25,7 @@ abbrev pub stmt_seen : Stmt → SeenPart
 stmt_seen = stmt_all (Seen → Seen) noted unseen join_seen
 
 abbrev pub some_seen : Option Stmt → Option SeenPart
-some_seen None = None
-some_seen (Some x) = Some (stmt_seen x)
+some_seen x = option_map stmt_seen x
 
 abbrev pub body_seen : List Stmt → List SeenPart
 body_seen body = map stmt_seen body

@@ -50,6 +50,17 @@ pub record Stays (before after : Running) : Type 0 where
   pub flat : flat_of after ≡ flat_of before
   pub ended : after.ended ≡ before.ended
 
+-- ---- with the address of its running thread held apart
+
+abbrev pub at_address : Running → ℕ → Running
+at_address m address = record m { place = address }
+
+abbrev pub DoesAt : Running → ℕ → Instr → Running → ℕ → Type 0
+DoesAt before from instr after to = Does (at_address before from) instr (at_address after to)
+
+abbrev pub StaysAt : Running → ℕ → Running → ℕ → Type 0
+StaysAt before from after to = Stays (at_address before from) (at_address after to)
+
 -- ---- an entry
 
 -- an entry that is made now

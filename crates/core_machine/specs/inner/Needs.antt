@@ -114,6 +114,14 @@ is_on_threads (i.Read file) = true
 is_on_threads (i.Write file) = true
 is_on_threads _ = false
 
+-- an instruction that is no part of the run loop
+abbrev pub is_apart : Instr → Bool
+is_apart i.Place = true
+is_apart (i.Clear slot len) = true
+is_apart (i.Print text count) = true
+is_apart (i.Cancel level slot) = true
+is_apart instr = is_on_threads instr
+
 abbrev pub Finds : Parts → Flat → Instr → Type 0
 Finds code m i.Step = Unit {0}
 Finds code m (i.Push value) = Unit {0}

@@ -1,5 +1,5 @@
 -- The frames as they are kept, with their words and counts of children.
-use Rattle.std.specs.Prelude.{◌≡◌, ℕ, ◌+◌, ◌-◌, ◌<◌, ◌^◌, List, Option, Some, None, IsSome, IsSomeAnd}
+use Rattle.std.specs.Prelude.{◌≡◌, ℕ, ◌+◌, ◌-◌, ◌<◌, ◌≤◌, ◌^◌, List, length, Option, Some, None, IsSome, IsSomeAnd}
 use Rattle.std.specs.Prelude.{IfSome, is_none, Bool, false, ◌&&◌, nat_eq, nat_lt, if◌then◌else◌, map, slice_index_or, slice_set}
 use Rattle.work_item.specs.Store.{Frame, all_words}
 use Rattle.work_item.specs.declared.ids.FrameId.{FrameId}
@@ -86,10 +86,35 @@ pub record IsSound (lives : List (Option Live)) (words : ℕ) : Type 0 where
   pub counts : Counts lives (frames_of lives)
   pub words_are : words ≡ all_words (frames_of lives)
 
--- the frames lie at places of their own
-pub record IsKept (places : List (Option ℕ)) (slots : List (Option Live)) (words : ℕ) : Type 0 where
+-- the frames lie at places of their own, below the top; what lies elsewhere is of frames that are gone
+pub record IsKept (places : List (Option ℕ)) (slots : List (Option Live)) (top words : ℕ) : Type 0 where
   pub placed : ArePlaces places slots
+  pub low : (number place : ℕ) → slice_index_or places number None ≡ Some place → place < top
+  pub fits : top ≤ length slots
   pub sound : IsSound (lives_of places slots) words
+
+-- ---- slots that are taken and freed
+
+-- a frame that has just been made, as it is kept
+pub record IsNew (parent : Option FrameId) (cells : List Cell) (live : Live) : Type 0 where
+  pub parent_is : live.parent ≡ parent
+  pub cells_are : live.cells.items ≡ cells
+  pub goes_on : live.over ≡ false
+  pub childless : live.children ≡ 0
+
+-- below a place all is as it was, and no slot was taken away
+pub record AreSameBelow (top : ℕ) (slots now : List (Option Live)) : Type 0 where
+  pub same : (place : ℕ) → place < top → live_at now place ≡ live_at slots place
+  pub long : length slots ≤ length now
+
+-- a place is free, the others are as they were, and those that were taken below `top` lie below `low`
+pub record IsFreed (slots : List (Option Live)) (free top : ℕ) (now : List (Option Live)) (low : ℕ) : Type 0 where
+  pub same : (place : ℕ) → (free ≡ place → ⊥) → live_at now place ≡ live_at slots place
+  pub long : length now ≡ length slots
+  pub lower : low ≤ top
+  pub below : (place : ℕ) → (free ≡ place → ⊥) → IsSome (live_at slots place) → place < top → place < low
+
+-- ---- counts
 
 abbrev pub one_more : Option Live → Option Live
 one_more None = None

@@ -2,20 +2,21 @@ use Rattle.std.proofs.Common.{◌≡◌, ◌<◌, ◌^◌, length, Some, slice_i
 use Rattle.std.proofs.lemmas.Option.{slice_get-get_or}
 use Rattle.stack_code.specs.declared.instr.Instr.TheVariants as i
 use Rattle.core_machine.specs.State.{flat_of}
+use Rattle.core_machine.specs.inner.Changes.{at_address}
 use Rattle.core_machine.proofs.Sound as sound
 use Rattle.core_machine.proofs.Sound.{within, finds_there, is_item}
 use Rattle.core_machine.proofs.running.Running.next_instr.Goals as goal
 
-pub bounds-instrs-self : goal.bounds-instrs-self
-bounds-instrs-self c =
-    let m = c.args.self.now in
+pub bounds-instrs-address : goal.bounds-instrs-address
+bounds-instrs-address c =
+    let m = at_address c.args.self.now c.args.address in
     let fit = c.requires.sound.fit c.requires.running in
     let t = is_item m.schedule.running c.requires.runs in
     subst (λ xs. m.place < length xs) (sym c.requires.instrs) (within m.code.now m.bound (flat_of m) fit c.requires.sound.valid t.0 t.1)
 
-pub offset_bounds-instrs-self : goal.offset_bounds-instrs-self
-offset_bounds-instrs-self c =
-    let m = c.args.self.now in
+pub offset_bounds-instrs-address : goal.offset_bounds-instrs-address
+offset_bounds-instrs-address c =
+    let m = at_address c.args.self.now c.args.address in
     let fit = c.requires.sound.fit c.requires.running in
     let t = is_item m.schedule.running c.requires.runs in
     let l : m.place < 2 ^ 32 = sound.inside m.code.now m.bound (flat_of m) fit c.requires.sound.valid t.0 t.1 in
@@ -23,7 +24,7 @@ offset_bounds-instrs-self c =
 
 pub returns-clause-here : goal.returns-clause-here
 returns-clause-here c =
-    let m = c.args.self.now in
+    let m = at_address c.args.self.now c.args.address in
     let fit = c.requires.sound.fit c.requires.running in
     let t = is_item m.schedule.running c.requires.runs in
     let instrs = m.code.now.instrs in
@@ -33,13 +34,13 @@ returns-clause-here c =
 
 pub returns-clause-inside : goal.returns-clause-inside
 returns-clause-inside c =
-    let m = c.args.self.now in
+    let m = at_address c.args.self.now c.args.address in
     let t = is_item m.schedule.running c.requires.runs in
     sound.inside m.code.now m.bound (flat_of m) (c.requires.sound.fit c.requires.running) c.requires.sound.valid t.0 t.1
 
 pub returns-clause-finds : goal.returns-clause-finds
 returns-clause-finds c =
-    let m = c.args.self.now in
+    let m = at_address c.args.self.now c.args.address in
     let fit = c.requires.sound.fit c.requires.running in
     let t = is_item m.schedule.running c.requires.runs in
     let instrs = m.code.now.instrs in

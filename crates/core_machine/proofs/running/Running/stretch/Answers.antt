@@ -1,23 +1,28 @@
 use Rattle.std.proofs.Common.{◌≡◌, ◌≢◌, IsSome, sym, ◌∙◌, subst, arith}
 use Rattle.core_scheduler.specs.Schedule.{Schedule}
 use Rattle.core_machine.specs.declared.went.Follows.TheVariants.{Same, Away, Asks, Refused}
-use Rattle.core_machine.proofs.Sound.{keeps_on, code_of, goes_on}
+use Rattle.core_machine.specs.inner.Changes.{at_address}
+use Rattle.core_machine.proofs.Sound.{keeps_on, keeps_to, keeps_at, code_of, goes_on}
 use Rattle.core_machine.proofs.Next.{went_goes, went_less}
 use Rattle.core_machine.proofs.Passing.{went_passes}
 use Rattle.core_machine.proofs.running.Running.stretch.Goals as goal
 
 pub steps-preserved : goal.steps-preserved
 steps-preserved c =
+    let a = c.args.self.now in
+    let b = at_address c.steps.self c.steps.address in
+    let d = at_address c.one.new.self c.one.new.address in
+    let same_code = code_of a b (keeps_to a c.steps.self c.steps.address c.steps.invariant.keeps) in
     let asks : c.one.result ≢ Asks = λ e. let no : Same ≡ Asks = sym c.in-Same.is ∙ e in cc in
     let refused : c.one.result ≢ Refused = λ e. let no : Same ≡ Refused = sym c.in-Same.is ∙ e in cc in
     let same = c.one.ensures.continues c.in-Same.is in
     let less = c.one.ensures.less asks refused in
     record {
-      goes = goes_on c.args.self.now c.steps.self c.one.new.self (code_of c.args.self.now c.steps.self c.steps.invariant.keeps) c.steps.invariant.running
+      goes = goes_on a b d same_code c.steps.invariant.running
           c.steps.invariant.goes (c.one.ensures.done asks refused);
-      passes = λ turn. went_passes c.args.self.now c.steps.self c.one.new.self c.one.result (code_of c.args.self.now c.steps.self c.steps.invariant.keeps) c.one.ensures.stays c.one.ensures.refused
+      passes = λ turn. went_passes a b d c.one.result same_code c.one.ensures.stays c.one.ensures.refused
           c.one.ensures.done c.steps.invariant.running c.steps.invariant.runs turn (c.steps.invariant.passes turn);
-      keeps = keeps_on c.args.self.now c.steps.self c.one.new.self c.steps.invariant.keeps c.one.ensures.keeps;
+      keeps = keeps_on a c.steps.self c.one.new.self c.steps.invariant.keeps c.one.ensures.keeps;
       sound = c.one.ensures.sound;
       running = same.ended ∙ c.steps.invariant.running;
       runs = subst (λ (s : Schedule). IsSome s.running) (sym same.schedule) c.steps.invariant.runs;
@@ -32,48 +37,59 @@ steps-preserved c =
 pub returns-in-Away : goal.returns-in-Away
 returns-in-Away c =
     let a = c.args.self.now in
-    let b = c.steps.self in
-    let same = code_of a b c.steps.invariant.keeps in
+    let b = at_address c.steps.self c.steps.address in
+    let d = at_address c.one.new.self c.one.new.address in
+    let same_code = code_of a b (keeps_to a c.steps.self c.steps.address c.steps.invariant.keeps) in
+    let kept = keeps_at c.steps.self c.one.new.self c.steps.address c.one.new.address c.one.ensures.keeps in
     let given : c.one.result ≢ Refused = λ e. let no : Away ≡ Refused = sym c.in-Away.is ∙ e in cc in
     record {
-      goes = went_goes a b c.one.new.self c.one.result same c.one.ensures.keeps c.one.ensures.stays c.steps.invariant.running c.steps.invariant.goes c.one.ensures.done c.one.ensures.refused;
-      passes = λ turn. went_passes a b c.one.new.self c.one.result same c.one.ensures.stays c.one.ensures.refused c.one.ensures.done c.steps.invariant.running c.steps.invariant.runs turn
+      goes = went_goes a b d c.one.result same_code kept c.one.ensures.stays c.steps.invariant.running c.steps.invariant.goes c.one.ensures.done c.one.ensures.refused;
+      passes = λ turn. went_passes a b d c.one.result same_code c.one.ensures.stays c.one.ensures.refused c.one.ensures.done c.steps.invariant.running c.steps.invariant.runs turn
           (c.steps.invariant.passes turn);
-      keeps = keeps_on a b c.one.new.self c.steps.invariant.keeps c.one.ensures.keeps;
+      keeps = keeps_to a c.one.new.self c.one.new.address (keeps_on a c.steps.self c.one.new.self c.steps.invariant.keeps c.one.ensures.keeps);
       sound = c.one.ensures.sound;
-      less = went_less a b c.one.new.self c.one.result same c.one.ensures.keeps c.one.ensures.stays c.args._ranks.now given c.one.ensures.less c.one.ensures.asks
+      less = went_less a b d c.one.result same_code kept c.one.ensures.stays c.args._ranks.now given c.one.ensures.less c.one.ensures.asks
           c.steps.invariant.less c.steps.invariant.asks;
     }
 
 pub returns-in-Asks : goal.returns-in-Asks
 returns-in-Asks c =
     let a = c.args.self.now in
-    let b = c.steps.self in
-    let same = code_of a b c.steps.invariant.keeps in
+    let b = at_address c.steps.self c.steps.address in
+    let d = at_address c.one.new.self c.one.new.address in
+    let same_code = code_of a b (keeps_to a c.steps.self c.steps.address c.steps.invariant.keeps) in
+    let kept = keeps_at c.steps.self c.one.new.self c.steps.address c.one.new.address c.one.ensures.keeps in
     let given : c.one.result ≢ Refused = λ e. let no : Asks ≡ Refused = sym c.in-Asks.is ∙ e in cc in
     record {
-      goes = went_goes a b c.one.new.self c.one.result same c.one.ensures.keeps c.one.ensures.stays c.steps.invariant.running c.steps.invariant.goes c.one.ensures.done c.one.ensures.refused;
-      passes = λ turn. went_passes a b c.one.new.self c.one.result same c.one.ensures.stays c.one.ensures.refused c.one.ensures.done c.steps.invariant.running c.steps.invariant.runs turn
+      goes = went_goes a b d c.one.result same_code kept c.one.ensures.stays c.steps.invariant.running c.steps.invariant.goes c.one.ensures.done c.one.ensures.refused;
+      passes = λ turn. went_passes a b d c.one.result same_code c.one.ensures.stays c.one.ensures.refused c.one.ensures.done c.steps.invariant.running c.steps.invariant.runs turn
           (c.steps.invariant.passes turn);
-      keeps = keeps_on a b c.one.new.self c.steps.invariant.keeps c.one.ensures.keeps;
+      keeps = keeps_to a c.one.new.self c.one.new.address (keeps_on a c.steps.self c.one.new.self c.steps.invariant.keeps c.one.ensures.keeps);
       sound = c.one.ensures.sound;
-      less = went_less a b c.one.new.self c.one.result same c.one.ensures.keeps c.one.ensures.stays c.args._ranks.now given c.one.ensures.less c.one.ensures.asks
+      less = went_less a b d c.one.result same_code kept c.one.ensures.stays c.args._ranks.now given c.one.ensures.less c.one.ensures.asks
           c.steps.invariant.less c.steps.invariant.asks;
     }
 
 pub returns-in-Refused-clause-goes : goal.returns-in-Refused-clause-goes
 returns-in-Refused-clause-goes c =
     let a = c.args.self.now in
-    let b = c.steps.self in
-    went_goes a b c.one.new.self c.one.result (code_of a b c.steps.invariant.keeps) c.one.ensures.keeps c.one.ensures.stays c.steps.invariant.running c.steps.invariant.goes c.one.ensures.done
+    let b = at_address c.steps.self c.steps.address in
+    let d = at_address c.one.new.self c.one.new.address in
+    let same_code = code_of a b (keeps_to a c.steps.self c.steps.address c.steps.invariant.keeps) in
+    let kept = keeps_at c.steps.self c.one.new.self c.steps.address c.one.new.address c.one.ensures.keeps in
+    went_goes a b d c.one.result same_code kept c.one.ensures.stays c.steps.invariant.running c.steps.invariant.goes c.one.ensures.done
     c.one.ensures.refused
 
 pub returns-in-Refused-clause-passes : goal.returns-in-Refused-clause-passes
 returns-in-Refused-clause-passes c =
     let a = c.args.self.now in
-    let b = c.steps.self in
-    λ turn. went_passes a b c.one.new.self c.one.result (code_of a b c.steps.invariant.keeps) c.one.ensures.stays c.one.ensures.refused c.one.ensures.done
+    let b = at_address c.steps.self c.steps.address in
+    let d = at_address c.one.new.self c.one.new.address in
+    let same_code = code_of a b (keeps_to a c.steps.self c.steps.address c.steps.invariant.keeps) in
+    λ turn. went_passes a b d c.one.result same_code c.one.ensures.stays c.one.ensures.refused c.one.ensures.done
     c.steps.invariant.running c.steps.invariant.runs turn (c.steps.invariant.passes turn)
 
 pub returns-in-Refused-clause-keeps : goal.returns-in-Refused-clause-keeps
-returns-in-Refused-clause-keeps c = keeps_on c.args.self.now c.steps.self c.one.new.self c.steps.invariant.keeps c.one.ensures.keeps
+returns-in-Refused-clause-keeps c =
+    let a = c.args.self.now in
+    keeps_to a c.one.new.self c.one.new.address (keeps_on a c.steps.self c.one.new.self c.steps.invariant.keeps c.one.ensures.keeps)

@@ -12,7 +12,7 @@ place_of-requires c = has_place _ _ _ c.args.frame.number c.self.view_is c.requi
 
 pub index_mut-requires : goal.index_mut-requires
 index_mut-requires c =
-    let lt = is_in _ _ _ c.args.frame.number _ c.self.invariant c.place_of.ensures in
+    let lt = is_in _ _ _ _ c.args.frame.number _ c.self.invariant c.place_of.ensures in
     omega (arith, lt, c.self.inside.slots.ok.0)
 
 pub clear_cells-requires : goal.clear_cells-requires
@@ -29,7 +29,7 @@ invariant_of-self c =
     let cells = c.clear_cells.new.cells in
     let e = stands _ _ c.args.frame.number _ _ _ c.self.invariant.placed c.place_of.ensures c.index_mut.ensures.value c.in-Some.is in
     let size = ap length (c.clear_cells.ensures ∙ ap (cleared c.args.slot c.args.len) c.deref_mut.ensures.value) ∙ length-cleared c.args.slot c.args.len x.cells.items in
-    kept_same _ _ _ c.args.frame.number _ x (record x { cells = with_items x.cells cells }) c.self.invariant c.place_of.ensures e refl refl
+    kept_same _ _ _ _ c.args.frame.number _ x (record x { cells = with_items x.cells cells }) c.self.invariant c.place_of.ensures e refl refl
     (ap length (with_items_is x.cells cells (size ∙ sym x.cells.ok.0)) ∙ size)
 
 pub returns : goal.returns

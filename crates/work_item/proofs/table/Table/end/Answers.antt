@@ -8,7 +8,7 @@ place_of-requires c = has_place _ _ _ c.args.frame.number c.self.view_is c.requi
 
 pub index_mut-requires : goal.index_mut-requires
 index_mut-requires c =
-    let lt = is_in _ _ _ c.args.frame.number _ c.self.invariant c.place_of.ensures in
+    let lt = is_in _ _ _ _ c.args.frame.number _ c.self.invariant c.place_of.ensures in
     omega (arith, lt, c.self.inside.slots.ok.0)
 
 pub unreachable-requires : goal.unreachable-requires
@@ -17,7 +17,7 @@ unreachable-requires c = not_gap _ _ c.args.frame.number _ _ c.self.invariant.pl
 pub invariant_of-self : goal.invariant_of-self
 invariant_of-self c =
     let e = stands _ _ c.args.frame.number _ _ _ c.self.invariant.placed c.place_of.ensures c.index_mut.ensures.value c.in-Some.is in
-    kept_same _ _ _ c.args.frame.number _ c.in-Some.live _ c.self.invariant c.place_of.ensures e refl refl refl
+    kept_same _ _ _ _ c.args.frame.number _ c.in-Some.live _ c.self.invariant c.place_of.ensures e refl refl refl
 
 pub returns-clause-ended : goal.returns-clause-ended
 returns-clause-ended c =
@@ -27,4 +27,4 @@ returns-clause-ended c =
 pub returns-clause-rooted : goal.returns-clause-rooted
 returns-clause-rooted c =
     let e = stands _ _ c.args.frame.number _ _ _ c.self.invariant.placed c.place_of.ensures c.index_mut.ensures.value c.in-Some.is in
-    (kept_same _ _ c.self.inside.words c.args.frame.number _ c.in-Some.live (record c.in-Some.live { over = true }) c.self.invariant c.place_of.ensures e refl refl refl).sound.rooted
+    (kept_same _ _ c.self.inside.top c.self.inside.words c.args.frame.number _ c.in-Some.live (record c.in-Some.live { over = true }) c.self.invariant c.place_of.ensures e refl refl refl).sound.rooted

@@ -8,7 +8,7 @@ place_of-requires c = has_place _ _ _ c.args.frame.number c.self.view_is (lives_
 
 pub index_mut-requires : goal.index_mut-requires
 index_mut-requires c =
-    let lt = is_in _ _ _ c.args.frame.number _ c.self.invariant c.place_of.ensures in
+    let lt = is_in _ _ _ _ c.args.frame.number _ c.self.invariant c.place_of.ensures in
     omega (arith, lt, c.self.inside.slots.ok.0)
 
 pub index_mut-requires-in-Some : goal.index_mut-requires-in-Some
@@ -23,7 +23,7 @@ unreachable-requires c = not_gap _ _ c.args.frame.number _ _ c.self.invariant.pl
 pub invariant_of-self : goal.invariant_of-self
 invariant_of-self c =
     let e = stands _ _ c.args.frame.number _ _ _ c.self.invariant.placed c.place_of.ensures c.index_mut.ensures.value c.in-Some.is in
-    kept_same _ _ _ c.args.frame.number _ c.in-Some.live _ c.self.invariant c.place_of.ensures e refl refl (length-set _ _ _)
+    kept_same _ _ _ _ c.args.frame.number _ c.in-Some.live _ c.self.invariant c.place_of.ensures e refl refl (length-set _ _ _)
 
 pub returns : goal.returns
 returns c =
