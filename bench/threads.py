@@ -3,8 +3,9 @@
 
     python3 bench/threads.py
 
-The program must have been built (the README's first command). Each time is the least of several
-runs, less that of an empty program in the same language. These ratios are printed, each with its goal:
+The program must have been built (the README's first command). The programs run in rounds, each once in
+a round, so that a change of the machine's speed meets all of them. Each time is the least of its runs,
+less that of an empty program in the same language. These ratios are printed, each with its goal:
 
 - Fibonacci's number of 26 by recursion, against the same functions in CPython;
 - 200,000 times a `do` with one thread in it, against 100,000 times;
@@ -19,6 +20,7 @@ import time
 PROGRAM = pathlib.Path(__file__).resolve().parent.parent / "crates" / "ac" / "out" / "ac"
 STEPS = 2_000_000
 DEPTH = 26
+ROUNDS = 21
 EMPTY = "core a(f);\nasync void f() { }\n"
 RECURSION = r"""core a(f);
 int fibonacci(int n) {
@@ -56,16 +58,20 @@ async void f() {
 """
 
 
-def best(words, wanted, runs):
-    """The least time of these words, each run of which has to begin with what is wanted."""
-    times = []
-    for _ in range(runs):
-        begin = time.perf_counter()
-        done = subprocess.run(words, capture_output=True)
-        times.append(time.perf_counter() - begin)
-        if done.returncode != 0 or not done.stdout.decode().startswith(wanted):
-            sys.exit(f"{words} ended with {done.returncode} and printed {done.stdout[:200]!r}")
-    return min(times)
+def run(words, wanted):
+    """The time of these words, whose run has to begin with what is wanted."""
+    begin = time.perf_counter()
+    done = subprocess.run(words, capture_output=True)
+    taken = time.perf_counter() - begin
+    if done.returncode != 0 or not done.stdout.decode().startswith(wanted):
+        sys.exit(f"{words} ended with {done.returncode} and printed {done.stdout[:200]!r}")
+    return taken
+
+
+def best(jobs):
+    """The least time of each of these words, of some rounds."""
+    times = [[run(words, wanted) for words, wanted in jobs] for _ in range(ROUNDS)]
+    return [min(column) for column in zip(*times)]
 
 
 def fibonacci(n):
@@ -96,22 +102,30 @@ def yields(count):
 
 def main():
     with tempfile.TemporaryDirectory() as folder:
-        def timed(ending, text, words, tail, wanted):
-            file = pathlib.Path(folder) / f"x.{ending}"
+        jobs = []
+
+        def add(ending, text, words, tail, wanted):
+            file = pathlib.Path(folder) / f"{len(jobs)}.{ending}"
             file.write_text(text)
-            return best([*words, str(file), *tail], wanted, 7)
+            jobs.append(([*words, str(file), *tail], wanted))
 
         def ac(text, wanted):
-            return timed("ac", text, [str(PROGRAM), "run"], ["--steps", str(STEPS)], wanted)
+            add("ac", text, [str(PROGRAM), "run"], ["--steps", str(STEPS)], wanted)
 
         def python(text, wanted):
-            return timed("py", text, [sys.executable, "-S", "-E"], [], wanted)
+            add("py", text, [sys.executable, "-S", "-E"], [], wanted)
 
-        start, python_start = ac(EMPTY, report(0, 2)), python(PYTHON_EMPTY, "")
-        seen = ac(RECURSION % DEPTH, recursion()) - start
-        other = python(PYTHON_RECURSION % DEPTH, f"{fibonacci(DEPTH)}\n") - python_start
-        half, whole = (ac(BLOCKS % n, blocks(n)) - start for n in (100_000, 200_000))
-        few, many = (ac(YIELDS % n, yields(n)) - start for n in (10_000, 20_000))
+        ac(EMPTY, report(0, 2))
+        python(PYTHON_EMPTY, "")
+        ac(RECURSION % DEPTH, recursion())
+        python(PYTHON_RECURSION % DEPTH, f"{fibonacci(DEPTH)}\n")
+        for n in (100_000, 200_000):
+            ac(BLOCKS % n, blocks(n))
+        for n in (10_000, 20_000):
+            ac(YIELDS % n, yields(n))
+        start, python_start, seen, other, half, whole, few, many = best(jobs)
+    seen, other = seen - start, other - python_start
+    half, whole, few, many = half - start, whole - start, few - start, many - start
     print(f"Fibonacci's number of {DEPTH}: {seen * 1000:.1f} ms, CPython's {other * 1000:.1f} ms")
     print(f"ratio: {seen / other:.2f} (goal: at most 1.0)")
     print(f"100,000 blocks with a thread: {half * 1000:.1f} ms, 200,000: {whole * 1000:.1f} ms")

@@ -1,4 +1,3 @@
-pub mod Applied
 pub mod Blocks
 pub mod Rounds
 pub mod Does
@@ -14,6 +13,8 @@ pub mod Sound
 pub mod Follows
 pub mod Next
 pub mod Passing
+pub mod Led
+pub mod Pushed
 pub mod Entered
 pub mod Decided
 pub mod Received

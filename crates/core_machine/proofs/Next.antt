@@ -1,18 +1,16 @@
 -- A turn: what was given to a thread goes onto its operands, and then the core runs.
-use Rattle.std.proofs.Common.{◌≡◌, ◌≢◌, ℕ, ◌<◌, ◌≤◌, List, None, IsSome, false, refl, sym, ◌∙◌, subst, arith}
-use Rattle.core_state.specs.Moves.{GoesOn}
-use Rattle.code_meaning.specs.Machine.{exec}
+use Rattle.std.proofs.Common.{◌≡◌, ◌≢◌, ℕ, ◌<◌, ◌≤◌, List, None, IsSome, false, refl, sym, ◌∙◌, arith}
 use Rattle.core_machine.specs.declared.running.Running.{Running}
 use Rattle.core_machine.specs.declared.went.Follows.{Follows}
 use Rattle.core_machine.specs.declared.went.Follows.TheVariants.{Same, Away, Asks, Refused}
 use Rattle.core_machine.specs.Machine.{is_resting}
 use Rattle.core_machine.specs.State.{flat_of, state_of, IsSound}
 use Rattle.core_machine.specs.Tried.{tried_of}
-use Rattle.core_machine.specs.inner.Changes.{IsSameCode, Keeps, Stays}
+use Rattle.core_machine.specs.inner.Changes.{Keeps, Stays}
 use Rattle.core_machine.specs.inner.Left.{left_of}
 use Rattle.core_machine.specs.inner.Needs.{HasNext}
 use Rattle.core_machine.proofs.Lives.{has_next}
-use Rattle.core_machine.proofs.Sound.{stays_state, stays_left, code_of, goes_on}
+use Rattle.core_machine.proofs.Sound.{stays_left, code_of}
 
 pub next_there : (m : Running) → IsSound m → m.ended ≡ None → m.schedule.running ≡ None → is_resting (flat_of m) ≡ false → HasNext (flat_of m)
 next_there m sound still idle active = has_next m.code.now (flat_of m) (sound.fit still) idle active
@@ -20,21 +18,7 @@ next_there m sound still idle active = has_next m.code.now (flat_of m) (sound.fi
 -- ---- a stretch
 
 -- its last instruction was done, or the core asks for an outcome there, or memory was refused
-module _ (a b c : Running) (how : Follows) (same : IsSameCode a b) (keeps : Keeps b c) (stays : how ≡ Asks → Stays b c) where
-  pub went_goes : b.ended ≡ None → GoesOn (exec a.code.now a.bound) (state_of a) (state_of b)
-      → (how ≢ Asks → how ≢ Refused → state_of c ≡ exec b.code.now b.bound (flat_of b)) → (how ≡ Refused → Stays b c)
-      → GoesOn (exec a.code.now a.bound) (state_of a) (state_of c)
-  went_goes still goes moved refused = by how refl
-    where
-      still_there : Stays b c → GoesOn (exec a.code.now a.bound) (state_of a) (state_of c)
-      still_there s = subst (GoesOn (exec a.code.now a.bound) (state_of a)) (sym (stays_state b c s)) goes
-
-      by : (w : Follows) → how ≡ w → GoesOn (exec a.code.now a.bound) (state_of a) (state_of c)
-      by Same e = goes_on a b c same still goes (moved (λ asks. let no : Same ≡ Asks = sym e ∙ asks in cc) (λ r. let no : Same ≡ Refused = sym e ∙ r in cc))
-      by Away e = goes_on a b c same still goes (moved (λ asks. let no : Away ≡ Asks = sym e ∙ asks in cc) (λ r. let no : Away ≡ Refused = sym e ∙ r in cc))
-      by Asks e = still_there (stays e)
-      by Refused e = still_there (refused e)
-
+module _ (a b c : Running) (how : Follows) (keeps : Keeps b c) (stays : how ≡ Asks → Stays b c) where
   pub went_less : (ranks : List ℕ) → how ≢ Refused → (how ≢ Asks → how ≢ Refused → left_of ranks c < left_of ranks b) → (how ≡ Asks → IsSome (tried_of b.code.now (state_of b)))
       → left_of ranks b ≤ left_of ranks a → (IsSome (tried_of b.code.now (state_of b)) → left_of ranks b < left_of ranks a) → left_of ranks c < left_of ranks a
   went_less ranks given falls asks least less = by how refl

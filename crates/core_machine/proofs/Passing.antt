@@ -1,5 +1,5 @@
 -- The moves of a turn of a core, at none of which but the first an entry could come in.
-use Rattle.std.proofs.Common.{◌≡◌, ◌≢◌, ℕ, zero, suc, [], Option, Some, None, IsSome, Bool, true, false, refl, sym, ap, ◌∙◌, subst}
+use Rattle.std.proofs.Common.{◌≡◌, ℕ, zero, suc, [], Option, Some, None, IsSome, Bool, true, false, refl, sym, ap, ◌∙◌, subst}
 use Rattle.std.specs.Prelude.{List, find, is_none, is_some, nat_eq, not, slice_get, if◌then◌else◌}
 use Rattle.ac_base.specs.declared.ends.CoreEnd.{CoreEnd}
 use Rattle.ac_base.specs.declared.ends.EndWord.{EndWord}
@@ -24,8 +24,6 @@ use Rattle.replay_laws.specs.Given.{asks, asks_at, asks_by, asks_of, is_asking, 
 use Rattle.core_machine.specs.declared.ending.Ending.{Ending}
 use Rattle.core_machine.specs.declared.ending.Ending.TheVariants.{Finished, Trapped, OutOfSteps}
 use Rattle.core_machine.specs.declared.running.Running.{Running}
-use Rattle.core_machine.specs.declared.went.Follows.{Follows}
-use Rattle.core_machine.specs.declared.went.Follows.TheVariants.{Same, Away, Asks, Refused}
 use Rattle.core_machine.specs.Points.{IsOfTurn}
 use Rattle.core_machine.specs.State.{flat_of, end_or, machine_of, state_of}
 use Rattle.core_machine.specs.Tried.{cancelled_at, cancelled_by, tried_as, tried_in, tried_of, tried_within}
@@ -150,7 +148,7 @@ abbrev pub PassesTo : Running → ℕ → Move Flat FlatEnd → Move Flat FlatEn
 PassesTo m turn from to = (k : ℕ) × Passes m.code.now m.bound turn k from to
 
 -- its instruction was done
-one_passes : (a b c : Running) → IsSameCode a b → b.ended ≡ None → IsSome b.schedule.running → state_of c ≡ exec b.code.now b.bound (flat_of b) → (turn : ℕ)
+pub one_passes : (a b c : Running) → IsSameCode a b → b.ended ≡ None → IsSome b.schedule.running → state_of c ≡ exec b.code.now b.bound (flat_of b) → (turn : ℕ)
     → PassesTo a turn (state_of a) (state_of b) → PassesTo a turn (state_of a) (state_of c)
 one_passes a b c k still runs done turn before =
     let same : state_of c ≡ exec a.code.now a.bound (flat_of b) = done ∙ ap (λ (code : Parts). exec code b.bound (flat_of b)) k.code ∙ ap (λ (n : ℕ). exec a.code.now n (flat_of b)) k.bound in
@@ -158,23 +156,6 @@ one_passes a b c k still runs done turn before =
     let past = passes_running a.code.now turn (flat_of b) runs (done_asks_not a.code.now a.bound (flat_of b) c refl same) in
     let more = passes_more a.code.now a.bound turn before.0 (state_of a) (flat_of b) there past in
     (more.0, subst (λ (x : Move Flat FlatEnd). Passes a.code.now a.bound turn more.0 (state_of a) x) (sym same) more.1)
-
--- it was done, or nothing was
-module _ (a b c : Running) (how : Follows) (same : IsSameCode a b) (stays : how ≡ Asks → Stays b c) (refused : how ≡ Refused → Stays b c)
-    (moved : how ≢ Asks → how ≢ Refused → state_of c ≡ exec b.code.now b.bound (flat_of b)) where
-  pub went_passes : b.ended ≡ None → IsSome b.schedule.running → (turn : ℕ) → PassesTo a turn (state_of a) (state_of b) → PassesTo a turn (state_of a) (state_of c)
-  went_passes still runs turn before = by how refl
-    where
-      still_there : Stays b c → PassesTo a turn (state_of a) (state_of c)
-      still_there s = subst (λ (x : Move Flat FlatEnd). PassesTo a turn (state_of a) x) (sym (stays_state b c s)) before
-
-      by : (w : Follows) → how ≡ w → PassesTo a turn (state_of a) (state_of c)
-      by Same e =
-          one_passes a b c same still runs (moved (λ asks. let no : Same ≡ Asks = sym e ∙ asks in cc) (λ r. let no : Same ≡ Refused = sym e ∙ r in cc)) turn before
-      by Away e =
-          one_passes a b c same still runs (moved (λ asks. let no : Away ≡ Asks = sym e ∙ asks in cc) (λ r. let no : Away ≡ Refused = sym e ∙ r in cc)) turn before
-      by Asks e = still_there (stays e)
-      by Refused e = still_there (refused e)
 
 -- where no entry of that turn can come in before the first of them
 abbrev pub PassesFrom : Running → ℕ → Move Flat FlatEnd → Move Flat FlatEnd → Type 0

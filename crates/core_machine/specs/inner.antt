@@ -6,3 +6,4 @@ pub mod Left
 pub mod Changes
 pub mod Deciding
 pub mod Follows
+pub mod Led

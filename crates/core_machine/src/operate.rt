@@ -1,48 +1,159 @@
 //! Instructions that apply an operator.
 
-ghost use Rattle.std.specs.Prelude.{◌≡◌, IsSome, Some, option_map};
-ghost use Rattle.core_machine.specs.inner.Operators.{unary, binary};
-
+use crate::ending::Ending;
+use crate::running::Running;
 use ac_base::Trap;
-use core_values as arithmetic;
+use core_values::{
+    both_bits, difference, differing_bits, either_bits, is_at_most, is_equal, is_less,
+    is_not_equal, product, shifted_left, shifted_right, sum,
+};
 use stack_code::Instr;
+use stack_code::Instr::{
+    Add, BitAnd, BitOr, BitXor, Eq, Less, LessEq, More, MoreEq, Mul, Ne, Shl, Shr, Sub,
+};
 
-#[inline(always)]
-pub fn unary(instr: Instr, x: i64) -> i64
-    requires { IsSome (unary instr) }
-    ensures { option_map (λ f. f x) (unary instr) ≡ Some result }
-{
-    match instr {
-        Instr::Neg => arithmetic::negated(x),
-        Instr::Not => arithmetic::not_true(x),
-        Instr::Flip => arithmetic::flipped(x),
-        Instr::Bool => arithmetic::truth(x),
-        _ => unreachable!(),
+impl Running<'_> {
+    ghost use Rattle.std.specs.Prelude.{◌≡◌, true, false, None, IsSome, ◌+◌, ◌<◌, ◌^◌, [], ◌∷◌};
+    ghost use Rattle.stack_code.specs.declared.instr.Instr.{Instr};
+    ghost use Rattle.code_safety.specs.Fit.{is_int};
+    ghost use Rattle.thread_table.specs.Operands.{on_top};
+    ghost use Rattle.core_machine.specs.inner.Operands.{Stand};
+    ghost use Rattle.core_machine.specs.inner.Operators.{binary, IsUnary, IsBinary, IsPartial};
+    ghost use Rattle.core_machine.specs.inner.Changes.{Keeps, Does, DoesAt, Continues, at_address};
+    ghost use Rattle.core_machine.specs.inner.Led.{pushed};
+
+    /// Applies an operator to one int. The instruction is there for the proof alone.
+    #[inline(always)]
+    pub fn apply_unary<F: Fn(i64) -> i64>(
+        &mut self,
+        address: &mut usize,
+        _instr: Instr,
+        operator: F,
+    )
+        requires running { self.old.ended ≡ None }
+        requires inside { address.old < 2 ^ 32 }
+        requires callable { F.IsAlwaysCallable operator }
+        requires operator { IsUnary (F.post operator) _instr }
+        requires int { on_top is_int self.old.operands ≡ true }
+        ensures does { DoesAt self.old address.old _instr self.new address.new }
+        ensures keeps { Keeps self.old self.new }
+        ensures continues { Continues self.old self.new }
+    {
+        let x = self.operands.top_int();
+        self.operands.replace_int(operator(x));
+        self.pass(address);
     }
-}
 
-#[inline(always)]
-pub fn binary(instr: Instr, x: i64, y: i64) -> Result<i64, Trap>
-    requires { IsSome (binary instr) }
-    ensures { option_map (λ f. f x y) (binary instr) ≡ Some result }
-{
-    Ok(match instr {
-        Instr::BitOr => arithmetic::either_bits(x, y),
-        Instr::BitXor => arithmetic::differing_bits(x, y),
-        Instr::BitAnd => arithmetic::both_bits(x, y),
-        Instr::Eq => arithmetic::is_equal(x, y),
-        Instr::Ne => arithmetic::is_not_equal(x, y),
-        Instr::Less => arithmetic::is_less(x, y),
-        Instr::LessEq => arithmetic::is_at_most(x, y),
-        Instr::More => arithmetic::is_less(y, x),
-        Instr::MoreEq => arithmetic::is_at_most(y, x),
-        Instr::Shl => arithmetic::shifted_left(x, y),
-        Instr::Shr => arithmetic::shifted_right(x, y),
-        Instr::Add => arithmetic::sum(x, y),
-        Instr::Sub => arithmetic::difference(x, y),
-        Instr::Mul => arithmetic::product(x, y),
-        Instr::Div => return arithmetic::quotient(x, y),
-        Instr::Rem => return arithmetic::remainder(x, y),
-        _ => unreachable!(),
-    })
+    /// Applies an operator to two ints. The instruction is there for the proof alone.
+    #[inline(always)]
+    pub fn apply_binary<F: Fn(i64, i64) -> i64>(
+        &mut self,
+        address: &mut usize,
+        _instr: Instr,
+        operator: F,
+    )
+        requires running { self.old.ended ≡ None }
+        requires inside { address.old < 2 ^ 32 }
+        requires callable { F.IsAlwaysCallable operator }
+        requires operator { IsBinary (F.post operator) _instr }
+        requires ints { Stand (is_int ∷ is_int ∷ []) self.old.operands }
+        ensures does { DoesAt self.old address.old _instr self.new address.new }
+        ensures keeps { Keeps self.old self.new }
+        ensures continues { Continues self.old self.new }
+    {
+        let y = self.operands.pop_int();
+        let x = self.operands.top_int();
+        self.operands.replace_int(operator(x, y));
+        self.pass(address);
+    }
+
+    /// Applies an operator to two ints that may trap. It says whether it did not. The instruction is
+    /// there for the proof alone.
+    #[inline(always)]
+    pub fn divide<F: Fn(i64, i64) -> Result<i64, Trap>>(
+        &mut self,
+        address: &mut usize,
+        _instr: Instr,
+        operator: F,
+    ) -> bool
+        requires running { self.old.ended ≡ None }
+        requires inside { address.old < 2 ^ 32 }
+        requires callable { F.IsAlwaysCallable operator }
+        requires operator { IsPartial (F.post operator) _instr }
+        requires ints { Stand (is_int ∷ is_int ∷ []) self.old.operands }
+        ensures does { DoesAt self.old address.old _instr self.new address.new }
+        ensures keeps { Keeps self.old self.new }
+        ensures continues { result ≡ true → Continues self.old self.new }
+    {
+        let y = self.operands.pop_int();
+        let x = self.operands.top_int();
+        match operator(x, y) {
+            Ok(value) => {
+                self.operands.replace_int(value);
+                self.pass(address);
+                true
+            }
+            Err(trap) => {
+                self.end(Ending::Trapped(trap));
+                false
+            }
+        }
+    }
+
+    /// Applies an operator to an int and to this one, which the instruction before it pushes: both are
+    /// done at once. The instruction is there for the proof alone.
+    #[inline(always)]
+    fn apply_to<F: Fn(i64, i64) -> i64>(
+        &mut self,
+        address: &mut usize,
+        _instr: Instr,
+        y: i64,
+        operator: F,
+    )
+        requires running { self.old.ended ≡ None }
+        requires inside { address.old + 1 < 2 ^ 32 }
+        requires callable { F.IsAlwaysCallable operator }
+        requires operator { IsBinary (F.post operator) _instr }
+        requires int { on_top is_int self.old.operands ≡ true }
+        ensures does { Does (pushed (at_address self.old address.old) y) _instr (at_address self.new address.new) }
+        ensures keeps { Keeps self.old self.new }
+        ensures continues { Continues self.old self.new }
+    {
+        let x = self.operands.top_int();
+        self.operands.replace_int(operator(x, y));
+        self.pass(address);
+        self.pass(address);
+    }
+
+    /// Pushes an int and does the next instruction, where that is an operator on two ints that does not
+    /// trap. It says whether it was; else nothing has changed.
+    #[inline(always)]
+    pub fn push_and_apply(&mut self, address: &mut usize, value: i64, next: &Instr) -> bool
+        requires running { self.old.ended ≡ None }
+        requires inside { address.old + 1 < 2 ^ 32 }
+        requires int { IsSome (binary next.now) → on_top is_int self.old.operands ≡ true }
+        ensures does { result ≡ true → Does (pushed (at_address self.old address.old) value) next.now (at_address self.new address.new) }
+        ensures stays { result ≡ false → at_address self.new address.new ≡ at_address self.old address.old }
+        ensures keeps { Keeps self.old self.new }
+        ensures continues { Continues self.old self.new }
+    {
+        match *next {
+            BitOr => self.apply_to(address, BitOr, value, |x, y| either_bits(x, y)),
+            BitXor => self.apply_to(address, BitXor, value, |x, y| differing_bits(x, y)),
+            BitAnd => self.apply_to(address, BitAnd, value, |x, y| both_bits(x, y)),
+            Eq => self.apply_to(address, Eq, value, |x, y| is_equal(x, y)),
+            Ne => self.apply_to(address, Ne, value, |x, y| is_not_equal(x, y)),
+            Less => self.apply_to(address, Less, value, |x, y| is_less(x, y)),
+            LessEq => self.apply_to(address, LessEq, value, |x, y| is_at_most(x, y)),
+            More => self.apply_to(address, More, value, |x, y| is_less(y, x)),
+            MoreEq => self.apply_to(address, MoreEq, value, |x, y| is_at_most(y, x)),
+            Shl => self.apply_to(address, Shl, value, |x, y| shifted_left(x, y)),
+            Shr => self.apply_to(address, Shr, value, |x, y| shifted_right(x, y)),
+            Add => self.apply_to(address, Add, value, |x, y| sum(x, y)),
+            Sub => self.apply_to(address, Sub, value, |x, y| difference(x, y)),
+            Mul => self.apply_to(address, Mul, value, |x, y| product(x, y)),
+            _ => return false,
+        }
+        true
+    }
 }

@@ -4,12 +4,15 @@ ghost use Rattle.std.specs.Prelude.{◌≡◌};
 
 use crate::counter::Counter;
 use crate::ending::Ending;
-use crate::operate::{binary, unary};
 use crate::went::{Follows, Went, done, how_on};
 use ac_base::{Journal, NoMemory, Trap};
 use cancel_scope::Outstanding;
 use core_scheduler::Scheduler;
-use core_values::add_formatted;
+use core_values::{
+    add_formatted, both_bits, difference, differing_bits, either_bits, flipped, is_at_most,
+    is_equal, is_less, is_not_equal, negated, not_true, product, quotient, remainder, shifted_left,
+    shifted_right, sum, truth,
+};
 use finish_block::Blocks;
 use stack_code::{Code, Instr};
 use std::alloc::Global;
@@ -331,60 +334,6 @@ impl Running<'_> {
     }
 }
 
-// ---- operators
-
-impl Running<'_> {
-    ghost use Rattle.std.specs.Prelude.{◌≡◌, true, None, Some, IsSome, ◌+◌, ◌-◌, ◌≤◌, ◌<◌, ◌^◌, [], ◌∷◌, length};
-    ghost use Rattle.stack_code.specs.declared.instr.Instr.{Instr};
-    ghost use Rattle.code_safety.specs.Fit.{is_int};
-    ghost use Rattle.thread_table.specs.Operands.{on_top};
-    ghost use Rattle.core_machine.specs.inner.Operands.{Stand};
-    ghost use Rattle.core_machine.specs.inner.Operators.{unary, binary};
-    ghost use Rattle.core_machine.specs.inner.Changes.{Keeps, DoesAt, Continues};
-
-    /// Applies an operator to one int.
-    #[inline(always)]
-    pub fn apply_unary(&mut self, address: &mut usize, instr: Instr)
-        requires running { self.old.ended ≡ None }
-        requires inside { address.old < 2 ^ 32 }
-        requires operator { IsSome (unary instr) }
-        requires int { on_top is_int self.old.operands ≡ true }
-        ensures does { DoesAt self.old address.old instr self.new address.new }
-        ensures keeps { Keeps self.old self.new }
-        ensures continues { Continues self.old self.new }
-    {
-        let x = self.operands.top_int();
-        self.operands.replace_int(unary(instr, x));
-        self.pass(address);
-    }
-
-    /// Applies an operator to two ints. It says whether it did so, and did not trap.
-    #[inline(always)]
-    pub fn apply_binary(&mut self, address: &mut usize, instr: Instr) -> bool
-        requires running { self.old.ended ≡ None }
-        requires inside { address.old < 2 ^ 32 }
-        requires operator { IsSome (binary instr) }
-        requires ints { Stand (is_int ∷ is_int ∷ []) self.old.operands }
-        ensures does { DoesAt self.old address.old instr self.new address.new }
-        ensures keeps { Keeps self.old self.new }
-        ensures continues { result ≡ true → Continues self.old self.new }
-    {
-        let y = self.operands.pop_int();
-        let x = self.operands.top_int();
-        match binary(instr, x, y) {
-            Ok(value) => {
-                self.operands.replace_int(value);
-                self.pass(address);
-                true
-            }
-            Err(trap) => {
-                self.end(Ending::Trapped(trap));
-                false
-            }
-        }
-    }
-}
-
 // ---- printing
 
 impl Running<'_> {
@@ -435,6 +384,7 @@ impl Running<'_> {
     ghost use Rattle.core_machine.specs.inner.Left.{left_of};
     ghost use Rattle.core_machine.specs.inner.Needs.{Finds, is_on_threads, is_apart};
     ghost use Rattle.core_machine.specs.inner.Changes.{IsSameCode, Keeps, Does, DoesAt, Stays, StaysAt, Continues, at_address};
+    ghost use Rattle.core_machine.specs.inner.Led.{IsLed};
 
     // An instruction on blocks, threads and operations, which finds what it needs.
     fn change_threads(&mut self, instr: Instr) -> Result<(), NoMemory>
@@ -543,26 +493,26 @@ impl Running<'_> {
             )?)),
             Instr::Ret => return Ok(done(self.ret(address)?)),
             // One arm for each operator, so that nothing looks at the instruction twice.
-            Instr::Neg => self.apply_unary(address, Instr::Neg),
-            Instr::Not => self.apply_unary(address, Instr::Not),
-            Instr::Flip => self.apply_unary(address, Instr::Flip),
-            Instr::Bool => self.apply_unary(address, Instr::Bool),
-            Instr::BitOr => return Ok(done(self.apply_binary(address, Instr::BitOr))),
-            Instr::BitXor => return Ok(done(self.apply_binary(address, Instr::BitXor))),
-            Instr::BitAnd => return Ok(done(self.apply_binary(address, Instr::BitAnd))),
-            Instr::Eq => return Ok(done(self.apply_binary(address, Instr::Eq))),
-            Instr::Ne => return Ok(done(self.apply_binary(address, Instr::Ne))),
-            Instr::Less => return Ok(done(self.apply_binary(address, Instr::Less))),
-            Instr::LessEq => return Ok(done(self.apply_binary(address, Instr::LessEq))),
-            Instr::More => return Ok(done(self.apply_binary(address, Instr::More))),
-            Instr::MoreEq => return Ok(done(self.apply_binary(address, Instr::MoreEq))),
-            Instr::Shl => return Ok(done(self.apply_binary(address, Instr::Shl))),
-            Instr::Shr => return Ok(done(self.apply_binary(address, Instr::Shr))),
-            Instr::Add => return Ok(done(self.apply_binary(address, Instr::Add))),
-            Instr::Sub => return Ok(done(self.apply_binary(address, Instr::Sub))),
-            Instr::Mul => return Ok(done(self.apply_binary(address, Instr::Mul))),
-            Instr::Div => return Ok(done(self.apply_binary(address, Instr::Div))),
-            Instr::Rem => return Ok(done(self.apply_binary(address, Instr::Rem))),
+            Instr::Neg => self.apply_unary(address, Instr::Neg, |x| negated(x)),
+            Instr::Not => self.apply_unary(address, Instr::Not, |x| not_true(x)),
+            Instr::Flip => self.apply_unary(address, Instr::Flip, |x| flipped(x)),
+            Instr::Bool => self.apply_unary(address, Instr::Bool, |x| truth(x)),
+            Instr::BitOr => self.apply_binary(address, Instr::BitOr, |x, y| either_bits(x, y)),
+            Instr::BitXor => self.apply_binary(address, Instr::BitXor, |x, y| differing_bits(x, y)),
+            Instr::BitAnd => self.apply_binary(address, Instr::BitAnd, |x, y| both_bits(x, y)),
+            Instr::Eq => self.apply_binary(address, Instr::Eq, |x, y| is_equal(x, y)),
+            Instr::Ne => self.apply_binary(address, Instr::Ne, |x, y| is_not_equal(x, y)),
+            Instr::Less => self.apply_binary(address, Instr::Less, |x, y| is_less(x, y)),
+            Instr::LessEq => self.apply_binary(address, Instr::LessEq, |x, y| is_at_most(x, y)),
+            Instr::More => self.apply_binary(address, Instr::More, |x, y| is_less(y, x)),
+            Instr::MoreEq => self.apply_binary(address, Instr::MoreEq, |x, y| is_at_most(y, x)),
+            Instr::Shl => self.apply_binary(address, Instr::Shl, |x, y| shifted_left(x, y)),
+            Instr::Shr => self.apply_binary(address, Instr::Shr, |x, y| shifted_right(x, y)),
+            Instr::Add => self.apply_binary(address, Instr::Add, |x, y| sum(x, y)),
+            Instr::Sub => self.apply_binary(address, Instr::Sub, |x, y| difference(x, y)),
+            Instr::Mul => self.apply_binary(address, Instr::Mul, |x, y| product(x, y)),
+            Instr::Div => return Ok(done(self.divide(address, Instr::Div, |x, y| quotient(x, y)))),
+            Instr::Rem => return Ok(done(self.divide(address, Instr::Rem, |x, y| remainder(x, y)))),
             Instr::Place
             | Instr::Clear { .. }
             | Instr::Print { .. }
@@ -614,12 +564,9 @@ impl Running<'_> {
         requires finds { Finds self.old.code.now (flat_of (at_address self.old address.old)) instr.now }
         requires ranked { IsRanked self.old.code.now _ranks.now }
         requires settled { self.old.threads.pending ≡ false }
-        ensures done { result ≢ Follows.Asks → result ≢ Follows.Refused
-            → state_of (at_address self.new address.new)
-            ≡ exec self.old.code.now self.old.bound (flat_of (at_address self.old address.old)) }
+        ensures led { IsLed (at_address self.old address.old) (at_address self.new address.new) }
         ensures asks { result ≡ Follows.Asks → IsSome (tried_of self.old.code.now (state_of (at_address self.old address.old))) }
         ensures stays { result ≡ Follows.Asks → StaysAt self.old address.old self.new address.new }
-        ensures refused { result ≡ Follows.Refused → StaysAt self.old address.old self.new address.new }
         ensures keeps { Keeps self.old self.new }
         ensures sound { IsSound (at_address self.new address.new) }
         ensures less { result ≢ Follows.Asks → result ≢ Follows.Refused
@@ -627,6 +574,69 @@ impl Running<'_> {
         ensures continues { result ≡ Follows.Same → Continues self.old self.new }
     {
         how_on(self.execute(address, instr))
+    }
+
+    // A push of an int and an operator after it, both at once, so that the int need not be put onto the
+    // operands. It says whether the next two were so; else nothing has changed.
+    #[inline(always)]
+    fn two_at_once(
+        &mut self,
+        address: &mut usize,
+        instr: &Instr,
+        instrs: &[Instr],
+        _ranks: &[u64],
+    ) -> bool
+        requires running { self.old.ended ≡ None }
+        requires runs { IsSome self.old.schedule.running }
+        requires sound { IsSound (at_address self.old address.old) }
+        requires here { slice_get self.old.code.now.instrs address.old ≡ Some instr.now }
+        requires instrs { instrs.now ≡ self.old.code.now.instrs }
+        requires ranked { IsRanked self.old.code.now _ranks.now }
+        ensures led { result ≡ true → IsLed (at_address self.old address.old) (at_address self.new address.new) }
+        ensures sound { result ≡ true → IsSound (at_address self.new address.new) }
+        ensures less { result ≡ true
+            → left_of _ranks.now (at_address self.new address.new) < left_of _ranks.now (at_address self.old address.old) }
+        ensures stays { result ≡ false → at_address self.new address.new ≡ at_address self.old address.old }
+        ensures keeps { Keeps self.old self.new }
+        ensures continues { Continues self.old self.new }
+    {
+        let Instr::Push(value) = *instr else {
+            return false;
+        };
+        self.push_and_apply(address, value, &instrs[*address + 1])
+    }
+
+    // The next instruction is done, or two of them.
+    #[inline(always)]
+    fn one_or_two(
+        &mut self,
+        address: &mut usize,
+        instr: &Instr,
+        instrs: &[Instr],
+        _ranks: &[u64],
+    ) -> Follows
+        requires running { self.old.ended ≡ None }
+        requires runs { IsSome self.old.schedule.running }
+        requires sound { IsSound (at_address self.old address.old) }
+        requires here { slice_get self.old.code.now.instrs address.old ≡ Some instr.now }
+        requires inside { address.old < 2 ^ 32 }
+        requires finds { Finds self.old.code.now (flat_of (at_address self.old address.old)) instr.now }
+        requires instrs { instrs.now ≡ self.old.code.now.instrs }
+        requires ranked { IsRanked self.old.code.now _ranks.now }
+        requires settled { self.old.threads.pending ≡ false }
+        ensures led { IsLed (at_address self.old address.old) (at_address self.new address.new) }
+        ensures asks { result ≡ Follows.Asks → IsSome (tried_of self.old.code.now (state_of (at_address self.old address.old))) }
+        ensures stays { result ≡ Follows.Asks → StaysAt self.old address.old self.new address.new }
+        ensures keeps { Keeps self.old self.new }
+        ensures sound { IsSound (at_address self.new address.new) }
+        ensures less { result ≢ Follows.Asks → result ≢ Follows.Refused
+            → left_of _ranks.now (at_address self.new address.new) < left_of _ranks.now (at_address self.old address.old) }
+        ensures continues { result ≡ Follows.Same → Continues self.old self.new }
+    {
+        if self.two_at_once(address, instr, instrs, _ranks) {
+            return Follows::Same;
+        }
+        self.one(address, instr, _ranks)
     }
 
     // The instructions of the running thread, until it need not be the same thread that goes on, or
@@ -639,8 +649,7 @@ impl Running<'_> {
         requires ranked { IsRanked self.old.code.now _ranks.now }
         requires settled { self.old.threads.pending ≡ false }
         requires asks { tried_of self.old.code.now (state_of self.old) ≡ None }
-        ensures goes { GoesOn (exec self.old.code.now self.old.bound) (state_of self.old) (state_of self.new) }
-        ensures passes { (turn : ℕ) → (k : ℕ) × Passes self.old.code.now self.old.bound turn k (state_of self.old) (state_of self.new) }
+        ensures led { IsLed self.old self.new }
         ensures keeps { Keeps self.old self.new }
         ensures sound { IsSound self.new }
         ensures less { OnOk result (left_of _ranks.now self.new < left_of _ranks.now self.old) }
@@ -650,7 +659,7 @@ impl Running<'_> {
         let mut address = self.place;
         let mut instr = self.next_instr(address, instrs);
         'steps: loop {
-            match self.one(&mut address, instr, _ranks) {
+            match self.one_or_two(&mut address, instr, instrs, _ranks) {
                 Follows::Same => instr = self.next_instr(address, instrs),
                 Follows::Away => {
                     self.place = address;

@@ -65,10 +65,7 @@ impl Operands {
         requires { 1 ≤ length self.old }
         ensures { self.old ≡ result ∷ self.new }
     {
-        match self.cells.pop() {
-            Some(cell) => cell,
-            None => unreachable!(),
-        }
+        self.cells.take_last()
     }
 
     /// Takes the topmost, which is an int.

@@ -5,6 +5,7 @@ pub mod Numbers
 pub mod Stands
 pub mod Clearing
 pub mod Filling
+mod Laying
 pub mod Levels
 pub mod Whole
 pub mod Keeping

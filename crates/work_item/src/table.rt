@@ -180,7 +180,19 @@ fn fill(cells: &mut Vec<Cell>, first: &[Cell], words: usize) -> Result<(), NoMem
     Ok(())
 }
 
-// Makes a new frame out of one that is gone.
+// Sets cells to these, and to 0 from there on.
+#[inline(always)]
+fn refill(cells: &mut [Cell], first: &[Cell])
+    requires { length first.now ≤ length cells.old }
+    ensures { cells.new ≡ first.now ++ replicate (length cells.old - length first.now) no_int }
+{
+    for index in 0..first.len() {
+        cells[index] = first[index];
+    }
+    cells[first.len()..].fill(Cell::Int(0));
+}
+
+// Makes a new frame out of one that is gone. Mostly it has as many cells as that one had.
 #[inline(always)]
 fn renew(
     live: &mut Live,
@@ -191,7 +203,11 @@ fn renew(
     requires { length first.now ≤ words }
     ensures { OnOk result (IsNew parent (first.now ++ replicate (words - length first.now) no_int) live.new) }
 {
-    fill(&mut live.cells, first, words)?;
+    if live.cells.len() == words {
+        refill(live.cells.as_mut_slice(), first);
+    } else {
+        fill(&mut live.cells, first, words)?;
+    }
     live.parent = parent;
     live.over = false;
     live.children = 0;

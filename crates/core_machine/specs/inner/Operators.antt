@@ -1,5 +1,6 @@
 -- Which operator an instruction applies.
-use Rattle.std.specs.Prelude.{ℤ, Option, Some, None}
+use Rattle.std.specs.Prelude.{◌≡◌, ℤ, Option, Some, None, Ok, option_map, FitsSigned}
+use Rattle.std.specs.Int.{w64}
 use Rattle.core_state.specs.Arithmetic.{Computed, truth, negated, not_true, flipped, sum_of, difference_of}
 use Rattle.core_state.specs.Arithmetic.{product_of, quotient, remainder, shifted_left, shifted_right, is_equal}
 use Rattle.core_state.specs.Arithmetic.{is_not_equal, is_less, is_at_most, both_bits, either_bits, differing_bits}
@@ -34,3 +35,17 @@ binary i.Mul = Some (always product_of)
 binary i.Div = Some quotient
 binary i.Rem = Some remainder
 binary _ = None
+
+-- ---- what a call of such a kind gives is what the instruction's operator gives
+
+abbrev pub IsUnary : (ℤ → ℤ → Type 0) → Instr → Type 0
+IsUnary gives instr = (x z : ℤ) → FitsSigned w64 x → gives x z → option_map (λ f. f x) (unary instr) ≡ Some z
+
+abbrev pub IsBinary : (ℤ → ℤ → ℤ → Type 0) → Instr → Type 0
+IsBinary gives instr =
+    (x y z : ℤ) → FitsSigned w64 x → FitsSigned w64 y → gives x y z → option_map (λ f. f x y) (binary instr) ≡ Some (Ok z)
+
+-- which may trap
+abbrev pub IsPartial : (ℤ → ℤ → Computed → Type 0) → Instr → Type 0
+IsPartial gives instr =
+    (x y : ℤ) (r : Computed) → FitsSigned w64 x → FitsSigned w64 y → gives x y r → option_map (λ f. f x y) (binary instr) ≡ Some r

@@ -2,28 +2,25 @@ use Rattle.std.proofs.Common.{◌≡◌, ◌≢◌, IsSome, sym, ◌∙◌, subs
 use Rattle.core_scheduler.specs.Schedule.{Schedule}
 use Rattle.core_machine.specs.declared.went.Follows.TheVariants.{Same, Away, Asks, Refused}
 use Rattle.core_machine.specs.inner.Changes.{at_address}
-use Rattle.core_machine.proofs.Sound.{keeps_on, keeps_to, keeps_at, code_of, goes_on}
-use Rattle.core_machine.proofs.Next.{went_goes, went_less}
-use Rattle.core_machine.proofs.Passing.{went_passes}
+use Rattle.core_machine.proofs.Sound.{keeps_on, keeps_to, keeps_at, code_of}
+use Rattle.core_machine.proofs.Led.{led_on}
+use Rattle.core_machine.proofs.Next.{went_less}
 use Rattle.core_machine.proofs.running.Running.stretch.Goals as goal
 
 pub steps-preserved : goal.steps-preserved
 steps-preserved c =
     let a = c.args.self.now in
     let b = at_address c.steps.self c.steps.address in
-    let d = at_address c.one.new.self c.one.new.address in
+    let d = at_address c.one_or_two.new.self c.one_or_two.new.address in
     let same_code = code_of a b (keeps_to a c.steps.self c.steps.address c.steps.invariant.keeps) in
-    let asks : c.one.result ≢ Asks = λ e. let no : Same ≡ Asks = sym c.in-Same.is ∙ e in cc in
-    let refused : c.one.result ≢ Refused = λ e. let no : Same ≡ Refused = sym c.in-Same.is ∙ e in cc in
-    let same = c.one.ensures.continues c.in-Same.is in
-    let less = c.one.ensures.less asks refused in
+    let asks : c.one_or_two.result ≢ Asks = λ e. let no : Same ≡ Asks = sym c.in-Same.is ∙ e in cc in
+    let refused : c.one_or_two.result ≢ Refused = λ e. let no : Same ≡ Refused = sym c.in-Same.is ∙ e in cc in
+    let same = c.one_or_two.ensures.continues c.in-Same.is in
+    let less = c.one_or_two.ensures.less asks refused in
     record {
-      goes = goes_on a b d same_code c.steps.invariant.running
-          c.steps.invariant.goes (c.one.ensures.done asks refused);
-      passes = λ turn. went_passes a b d c.one.result same_code c.one.ensures.stays c.one.ensures.refused
-          c.one.ensures.done c.steps.invariant.running c.steps.invariant.runs turn (c.steps.invariant.passes turn);
-      keeps = keeps_on a c.steps.self c.one.new.self c.steps.invariant.keeps c.one.ensures.keeps;
-      sound = c.one.ensures.sound;
+      led = led_on a b d same_code c.steps.invariant.led c.one_or_two.ensures.led;
+      keeps = keeps_on a c.steps.self c.one_or_two.new.self c.steps.invariant.keeps c.one_or_two.ensures.keeps;
+      sound = c.one_or_two.ensures.sound;
       running = same.ended ∙ c.steps.invariant.running;
       runs = subst (λ (s : Schedule). IsSome s.running) (sym same.schedule) c.steps.invariant.runs;
       settled = same.pending ∙ c.steps.invariant.settled;
@@ -38,17 +35,15 @@ pub returns-in-Away : goal.returns-in-Away
 returns-in-Away c =
     let a = c.args.self.now in
     let b = at_address c.steps.self c.steps.address in
-    let d = at_address c.one.new.self c.one.new.address in
+    let d = at_address c.one_or_two.new.self c.one_or_two.new.address in
     let same_code = code_of a b (keeps_to a c.steps.self c.steps.address c.steps.invariant.keeps) in
-    let kept = keeps_at c.steps.self c.one.new.self c.steps.address c.one.new.address c.one.ensures.keeps in
-    let given : c.one.result ≢ Refused = λ e. let no : Away ≡ Refused = sym c.in-Away.is ∙ e in cc in
+    let kept = keeps_at c.steps.self c.one_or_two.new.self c.steps.address c.one_or_two.new.address c.one_or_two.ensures.keeps in
+    let given : c.one_or_two.result ≢ Refused = λ e. let no : Away ≡ Refused = sym c.in-Away.is ∙ e in cc in
     record {
-      goes = went_goes a b d c.one.result same_code kept c.one.ensures.stays c.steps.invariant.running c.steps.invariant.goes c.one.ensures.done c.one.ensures.refused;
-      passes = λ turn. went_passes a b d c.one.result same_code c.one.ensures.stays c.one.ensures.refused c.one.ensures.done c.steps.invariant.running c.steps.invariant.runs turn
-          (c.steps.invariant.passes turn);
-      keeps = keeps_to a c.one.new.self c.one.new.address (keeps_on a c.steps.self c.one.new.self c.steps.invariant.keeps c.one.ensures.keeps);
-      sound = c.one.ensures.sound;
-      less = went_less a b d c.one.result same_code kept c.one.ensures.stays c.args._ranks.now given c.one.ensures.less c.one.ensures.asks
+      led = led_on a b d same_code c.steps.invariant.led c.one_or_two.ensures.led;
+      keeps = keeps_to a c.one_or_two.new.self c.one_or_two.new.address (keeps_on a c.steps.self c.one_or_two.new.self c.steps.invariant.keeps c.one_or_two.ensures.keeps);
+      sound = c.one_or_two.ensures.sound;
+      less = went_less a b d c.one_or_two.result kept c.one_or_two.ensures.stays c.args._ranks.now given c.one_or_two.ensures.less c.one_or_two.ensures.asks
           c.steps.invariant.less c.steps.invariant.asks;
     }
 
@@ -56,40 +51,26 @@ pub returns-in-Asks : goal.returns-in-Asks
 returns-in-Asks c =
     let a = c.args.self.now in
     let b = at_address c.steps.self c.steps.address in
-    let d = at_address c.one.new.self c.one.new.address in
+    let d = at_address c.one_or_two.new.self c.one_or_two.new.address in
     let same_code = code_of a b (keeps_to a c.steps.self c.steps.address c.steps.invariant.keeps) in
-    let kept = keeps_at c.steps.self c.one.new.self c.steps.address c.one.new.address c.one.ensures.keeps in
-    let given : c.one.result ≢ Refused = λ e. let no : Asks ≡ Refused = sym c.in-Asks.is ∙ e in cc in
+    let kept = keeps_at c.steps.self c.one_or_two.new.self c.steps.address c.one_or_two.new.address c.one_or_two.ensures.keeps in
+    let given : c.one_or_two.result ≢ Refused = λ e. let no : Asks ≡ Refused = sym c.in-Asks.is ∙ e in cc in
     record {
-      goes = went_goes a b d c.one.result same_code kept c.one.ensures.stays c.steps.invariant.running c.steps.invariant.goes c.one.ensures.done c.one.ensures.refused;
-      passes = λ turn. went_passes a b d c.one.result same_code c.one.ensures.stays c.one.ensures.refused c.one.ensures.done c.steps.invariant.running c.steps.invariant.runs turn
-          (c.steps.invariant.passes turn);
-      keeps = keeps_to a c.one.new.self c.one.new.address (keeps_on a c.steps.self c.one.new.self c.steps.invariant.keeps c.one.ensures.keeps);
-      sound = c.one.ensures.sound;
-      less = went_less a b d c.one.result same_code kept c.one.ensures.stays c.args._ranks.now given c.one.ensures.less c.one.ensures.asks
+      led = led_on a b d same_code c.steps.invariant.led c.one_or_two.ensures.led;
+      keeps = keeps_to a c.one_or_two.new.self c.one_or_two.new.address (keeps_on a c.steps.self c.one_or_two.new.self c.steps.invariant.keeps c.one_or_two.ensures.keeps);
+      sound = c.one_or_two.ensures.sound;
+      less = went_less a b d c.one_or_two.result kept c.one_or_two.ensures.stays c.args._ranks.now given c.one_or_two.ensures.less c.one_or_two.ensures.asks
           c.steps.invariant.less c.steps.invariant.asks;
     }
 
-pub returns-in-Refused-clause-goes : goal.returns-in-Refused-clause-goes
-returns-in-Refused-clause-goes c =
+pub returns-in-Refused-clause-led : goal.returns-in-Refused-clause-led
+returns-in-Refused-clause-led c =
     let a = c.args.self.now in
     let b = at_address c.steps.self c.steps.address in
-    let d = at_address c.one.new.self c.one.new.address in
-    let same_code = code_of a b (keeps_to a c.steps.self c.steps.address c.steps.invariant.keeps) in
-    let kept = keeps_at c.steps.self c.one.new.self c.steps.address c.one.new.address c.one.ensures.keeps in
-    went_goes a b d c.one.result same_code kept c.one.ensures.stays c.steps.invariant.running c.steps.invariant.goes c.one.ensures.done
-    c.one.ensures.refused
-
-pub returns-in-Refused-clause-passes : goal.returns-in-Refused-clause-passes
-returns-in-Refused-clause-passes c =
-    let a = c.args.self.now in
-    let b = at_address c.steps.self c.steps.address in
-    let d = at_address c.one.new.self c.one.new.address in
-    let same_code = code_of a b (keeps_to a c.steps.self c.steps.address c.steps.invariant.keeps) in
-    λ turn. went_passes a b d c.one.result same_code c.one.ensures.stays c.one.ensures.refused c.one.ensures.done
-    c.steps.invariant.running c.steps.invariant.runs turn (c.steps.invariant.passes turn)
+    let d = at_address c.one_or_two.new.self c.one_or_two.new.address in
+    led_on a b d (code_of a b (keeps_to a c.steps.self c.steps.address c.steps.invariant.keeps)) c.steps.invariant.led c.one_or_two.ensures.led
 
 pub returns-in-Refused-clause-keeps : goal.returns-in-Refused-clause-keeps
 returns-in-Refused-clause-keeps c =
     let a = c.args.self.now in
-    keeps_to a c.one.new.self c.one.new.address (keeps_on a c.steps.self c.one.new.self c.steps.invariant.keeps c.one.ensures.keeps)
+    keeps_to a c.one_or_two.new.self c.one_or_two.new.address (keeps_on a c.steps.self c.one_or_two.new.self c.steps.invariant.keeps c.one_or_two.ensures.keeps)

@@ -1,18 +1,15 @@
-use Rattle.std.proofs.Common.{◌≡◌, ℕ, ◌≤◌, ◌<◌, ◌^◌, None, Some, IsSome, false, slice_get}
-use Rattle.core_state.specs.Moves.{GoesOn}
-use Rattle.code_meaning.specs.Machine.{exec}
+use Rattle.std.proofs.Common.{◌≡◌, ◌≤◌, ◌<◌, ◌^◌, None, Some, IsSome, false, slice_get}
 use Rattle.core_machine.specs.State.{flat_of, state_of, IsSound}
 use Rattle.core_machine.specs.Tried.{tried_of}
 use Rattle.core_machine.specs.inner.Left.{left_of}
 use Rattle.core_machine.specs.inner.Changes.{Keeps, at_address}
+use Rattle.core_machine.specs.inner.Led.{IsLed}
 use Rattle.core_machine.specs.inner.Needs.{Finds}
-use Rattle.core_machine.proofs.Passing.{PassesTo}
 use Rattle.core_machine.proofs.running.Running.stretch.Given as goal
 
 abbrev pub invariant-steps : goal.invariant-steps
 invariant-steps l = record {
-  goes : GoesOn (exec l.fn.self.code.now l.fn.self.bound) (state_of l.fn.self) (state_of (at_address l.self l.address));
-  passes : (turn : ℕ) → PassesTo l.fn.self turn (state_of l.fn.self) (state_of (at_address l.self l.address));
+  led : IsLed l.fn.self (at_address l.self l.address);
   keeps : Keeps l.fn.self l.self;
   sound : IsSound (at_address l.self l.address);
   running : l.self.ended ≡ None;

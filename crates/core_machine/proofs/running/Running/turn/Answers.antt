@@ -15,4 +15,4 @@ returns-then-is_none-clause-passes c =
 
 pub returns-clause-passes : goal.returns-clause-passes
 returns-clause-passes c =
-    then_passes c.args.self.now c.settle.new.self c.settle.ensures.stays c.settle.ensures.same c.stretch.new.self (λ turn first. c.stretch.ensures.passes turn)
+    then_passes c.args.self.now c.settle.new.self c.settle.ensures.stays c.settle.ensures.same c.stretch.new.self (λ turn first. c.stretch.ensures.led.passes turn)
