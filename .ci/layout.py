@@ -4,7 +4,9 @@
 - no clause of a public call reaches a definition of specs/inner, however far its words lead;
 - each definition of specs and each lemma of proofs has a use, or is a law that docs/ name;
 - each definition that a public clause reaches stands in a worked example, in a file of proofs whose name ends in Examples;
-- no two files of a crate begin with the same sentence.
+- no two files of a crate begin with the same sentence;
+- a file of src, specs or proofs has no more than 800 lines, and a proof file opens with what it shows;
+- an edit changes lines that stand once in their file, and opens no comment to rewrite a function.
 
 Run from anywhere: python3 .ci/layout.py. It prints what it finds, and ends with status 1 where it finds anything.
 """
@@ -272,6 +274,45 @@ def same_heads():
                     seen.setdefault(first, path)
 
 
+MADE = ("Lib.antt", "Answers.antt", "Invariants.antt", "Proof.antt")
+
+
+def openings():
+    """Files that are too long, and proof files that do not say what they show."""
+    for crate in CRATES:
+        for folder in ("src", "specs", "proofs"):
+            for path in sorted((crate / folder).rglob("*")):
+                if path.suffix not in (".rt", ".antt"):
+                    continue
+                lines = path.read_text(encoding="utf8").split("\n")
+                if len(lines) > 801:
+                    yield f"{path.relative_to(ROOT)}: {len(lines) - 1} lines, more than 800"
+                written = folder == "proofs" and path.name not in MADE
+                if written and not lines[0].startswith("--"):
+                    yield f"{path.relative_to(ROOT)}: does not open with what it shows"
+
+
+def edits():
+    """Edits that cannot be applied, and those that open a comment."""
+    for crate in CRATES:
+        for path in sorted((crate / "must-fail").glob("*.edit")):
+            place, texts, file = str(path.relative_to(ROOT)), {}, None
+            for line in path.read_text(encoding="utf8").split("\n"):
+                word, _, rest = line.partition(": ")
+                if word == "file":
+                    file = crate / rest
+                    if file not in texts:
+                        texts[file] = file.read_text(encoding="utf8") if file.is_file() else ""
+                elif word == "old":
+                    old, times = rest, texts.get(file, "").count(rest)
+                    if times != 1:
+                        yield f"{place}: its old line stands {times} times: {rest}"
+                elif word == "new":
+                    if re.search(r"/\*|\*/|(^|\s)//", rest):
+                        yield f"{place}: opens a comment"
+                    texts[file] = texts.get(file, "").replace(old, rest, 1)
+
+
 def main():
     every = modules()
     found = reached(every)
@@ -283,7 +324,7 @@ def main():
                 print(f"{module.path.relative_to(ROOT)}: public {len(told)}; inner {len(rest)}: {' '.join(rest)}")
         return 0
     faults = list(too_wide()) + list(inner_reached(every, found)) + list(without_example(every, found))
-    faults += list(without_use(every)) + list(same_heads())
+    faults += list(without_use(every)) + list(same_heads()) + list(openings()) + list(edits())
     for fault in faults:
         print(fault)
     print(f"layout: {len(found)} definitions are reached by public clauses, {len(faults)} faults")

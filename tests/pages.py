@@ -4,7 +4,10 @@
 - each link leads to a file or folder of the repository, and its part after `#` to a heading there;
 - of a link whose words are a name in backticks, the file has a definition of that name;
 - each path in backticks that begins with a folder of the top is there, a `*` standing for what its place may have;
-- CONTRIBUTING.md has a row for each of the rules C1 to C18, whose tests and edit bear its number.
+- CONTRIBUTING.md has a row for each of the rules C1 to C18, whose tests and edit bear its number;
+- docs/ARCHITECTURE.md has the layers of crates.txt with their crates in the same order, docs/PROOFS.md has a heading for each
+  crate in that order, and no crate uses one of a layer above;
+- no line of docs/SEMANTICS.md and docs/PROOFS.md has more than 600 characters.
 
 Run from anywhere: python3 tests/pages.py. It prints what it finds, and ends with status 1 where it finds anything.
 """
@@ -80,9 +83,51 @@ def faults_of_rules():
         yield f"C{number} is no rule"
 
 
+def layers():
+    """The layers of crates.txt, each with its crates and what these use."""
+    found = {}
+    for line in (ROOT / "crates.txt").read_text().splitlines():
+        if line.startswith("# "):
+            crates = found.setdefault(line[2:].partition(":")[0], {})
+        elif line.strip():
+            head, _, uses = line.partition(":")
+            crates[head.split()[0]] = uses.split()
+    return found
+
+
+def faults_of_layers():
+    found = layers()
+    level = {crate: number for number, crates in enumerate(found.values()) for crate in crates}
+    for crates in found.values():
+        for crate, uses in crates.items():
+            yield from (f"crates.txt: {crate} uses {use} of a layer above" for use in uses if level.get(use, 0) > level[crate])
+    shown = {}
+    for line in (ROOT / "docs" / "ARCHITECTURE.md").read_text().splitlines():
+        heading, row = re.match(r"## \d+\. (.*)$", line), re.match(r"\| `(\w+)` \|", line)
+        if heading:
+            rows = shown.setdefault(heading[1].lower(), [])
+        elif line.startswith("## "):
+            rows = []
+        elif row and shown:
+            rows.append(row[1])
+    if shown != {name: list(crates) for name, crates in found.items()}:
+        yield "docs/ARCHITECTURE.md: its layers are not those of crates.txt"
+    told = re.findall(r"^### (.*)$", (ROOT / "docs" / "PROOFS.md").read_text(), re.M)
+    if [crate for line in told for crate in line.split(", ")] != list(level):
+        yield "docs/PROOFS.md: its headings are not the crates of crates.txt"
+
+
+def faults_of_length():
+    for name in ("SEMANTICS.md", "PROOFS.md"):
+        for number, line in enumerate((ROOT / "docs" / name).read_text().splitlines(), 1):
+            if len(line) > 600:
+                yield f"docs/{name}: line {number} has {len(line)} characters"
+
+
 def main():
     found = [f"{page.relative_to(ROOT)}: {fault}" for page in PAGES for fault in faults_of(page)]
     found += [f"CONTRIBUTING.md: {fault}" for fault in faults_of_rules()]
+    found += list(faults_of_layers()) + list(faults_of_length())
     for fault in found:
         print(fault)
     print(f"pages: {len(found)} faults")

@@ -7,6 +7,7 @@
 Words pick the tests whose path has one of them in it. README.md says what a test looks like. The second form runs nothing: it
 writes the tests into a new folder, as `rt try --cases` takes them.
 """
+import os
 import pathlib
 import re
 import shlex
@@ -95,6 +96,8 @@ def read(path):
 
 def status_of(answer):
     """The status that goes with an answer of a page."""
+    if re.match(rb"(bad byte|number too large|open comment|open text|unexpected token) at \d+\n", answer):
+        return 2
     if answer.startswith(b"rule "):
         return 3
     if answer.startswith(b"no at "):
@@ -160,19 +163,19 @@ def command_tests():
 
 
 def page_faults():
-    """The programs of the guide that are not those of the files that the commands after them name, and files without a line.
+    """The programs of README.md and the guide that are not those of the files that the commands after them name, and files without a line.
 
     A program may stand there in parts, one behind the other."""
     program = ""
-    for language, block in [*blocks(GUIDE), ("", "")]:
+    for language, block in [*blocks(PAGES[0]), ("", ""), *blocks(GUIDE), ("", "")]:
         if language == "c":
             program += block
             continue
         named = re.search(r"^\$ ac .*?(examples/\w+\.ac)", block, re.M)
         if program and not named:
-            yield f"docs/GUIDE.md: no command after the program\n{program}"
+            yield f"README.md, docs/GUIDE.md: no command after the program\n{program}"
         elif program and (ROOT / named.group(1)).read_text() != program:
-            yield f"docs/GUIDE.md: the program before {named.group(1)} is another"
+            yield f"README.md, docs/GUIDE.md: the program before {named.group(1)} is another"
         program = ""
     for path in sorted((ROOT / "examples").glob("*.ac")):
         if f"({path.name})" not in (ROOT / "examples" / "README.md").read_text():
@@ -252,15 +255,21 @@ def other_file(folder, files):
     return None
 
 
+def with_tools(program):
+    """An environment in which `ac-where` and `ac-diagram` are found as if they were installed, and run this program."""
+    return {**os.environ, "AC": str(program), "PATH": f"{ROOT / 'tools'}{os.pathsep}{os.environ['PATH']}"}
+
+
 def session_failure(program, commands):
-    """The first command that differs, or nothing. They run beside the examples, the tests and the tools, and `ac` is the program."""
+    """The first command that differs, or nothing. They run beside docs, examples, tests and tools, and `ac` is the program."""
     with tempfile.TemporaryDirectory() as folder:
-        for name in ("examples", "tests", "tools"):
+        for name in ("docs", "examples", "tests", "tools"):
             (pathlib.Path(folder) / name).symlink_to(ROOT / name)
         for command, output, status in commands:
             text = f'ac() {{ {shlex.quote(program)} "$@"; }}\n{command}'
             try:
-                done = subprocess.run(["sh", "-c", text], cwd=folder, stdout=subprocess.PIPE, stderr=subprocess.STDOUT, timeout=SECONDS)
+                done = subprocess.run(["sh", "-c", text], cwd=folder, env=with_tools(program), stdout=subprocess.PIPE,
+                                      stderr=subprocess.STDOUT, timeout=SECONDS)
             except subprocess.TimeoutExpired:
                 return f"  {command}\n  not done after {SECONDS} seconds"
             if (done.returncode, done.stdout) != (status, output):

@@ -1,8 +1,9 @@
 //! The files of the system as a disk.
 
-ghost use Rattle.std.specs.Prelude.{◌≡◌, ◌≤◌, length, IfErr, None, true};
+ghost use Rattle.std.specs.Prelude.{◌≡◌, ◌≤◌, [], ◌∷◌, ◌++◌, length, IfErr, OnOk, None, Some, true};
 ghost use Rattle.std.specs.Io.{ReadsAtMost};
 
+use ac_base::{Bytes, List, NoMemory};
 use ac_outside::{BindFault, Disk, FILE_BYTES, Failed, Torn};
 use std::alloc::Global;
 use std::fs::{OpenFile, OpenOptions};
@@ -13,23 +14,32 @@ use std::rt::Files;
 
 /// The files of the system, bound by their paths.
 ///
-/// It tells no contents. That a write past the end of a file fills the gap with zeros is the
-/// system's.
+/// It tells the paths that it was to bind, until memory was refused, and no contents. That a write past
+/// the end of a file fills the gap with zeros is the system's.
 #[derive(Drop)]
 pub struct FileDisk<'a, R: Files> {
     files: &'a R,
     bound: Vec<R::File>,
+    binds: Vec<Bytes>,
     is_ready: bool,
     faults: u64,
+    earlier: u64,
 }
 
 impl<'a, R: Files> Model for FileDisk<'a, R> {
-    ghost use Rattle.std.specs.Prelude.{◌≤◌, length};
+    ghost use Rattle.std.specs.Prelude.{◌≤◌, Some, None, length, if◌then◌else◌};
     ghost use Rattle.ac_adapters.specs.inner.Binding.{Binding};
 
     ghost Value = { Binding };
 
-    ghost view = { λ s. record { bound = length s.bound.items; is_ready = s.is_ready; faults = s.faults } };
+    ghost view = { λ s.
+        record {
+          bound = length s.bound.items;
+          is_ready = s.is_ready;
+          binds = (if s.is_ready then Some s.binds.items else None);
+          faults = s.faults;
+          earlier = s.earlier;
+        } };
 
     ghost invariant = { λ s. length s.bound.items ≤ 16 };
 }
@@ -37,13 +47,15 @@ impl<'a, R: Files> Model for FileDisk<'a, R> {
 impl<'a, R: Files> FileDisk<'a, R> {
     /// The files of this runtime, none of them bound.
     pub fn new(files: &'a R, alloc: Global) -> FileDisk<'a, R>
-        ensures { result ≡ record { bound = 0; is_ready = true; faults = 0 } }
+        ensures { result ≡ record { bound = 0; is_ready = true; binds = Some []; faults = 0; earlier = 0 } }
     {
         FileDisk {
             files,
             bound: Vec::new(alloc),
+            binds: Vec::new(alloc),
             is_ready: true,
             faults: 0,
+            earlier: 0,
         }
     }
 
@@ -53,6 +65,15 @@ impl<'a, R: Files> FileDisk<'a, R> {
     {
         self.faults
     }
+}
+
+// Appends a path.
+fn note(paths: &mut Vec<Bytes>, path: &str) -> Result<(), NoMemory>
+    ensures { OnOk result (paths.new.items ≡ paths.old.items ++ path.now ∷ []) }
+{
+    let bytes = Vec::from_slice(*paths.allocator(), path.as_bytes())?;
+    paths.push(List::from_vec(bytes))?;
+    Ok(())
 }
 
 // Opens the file of a path, an empty one where there is none, and gives its length.
@@ -99,11 +120,17 @@ impl<R: Files> Disk for FileDisk<'_, R>
 where
     R::File: FileExt,
 {
-    ghost told = { λ s. record { held = None; bound = s.bound; is_ready = s.is_ready; faults = s.faults } };
+    ghost told = { λ s.
+        record { held = None; bound = s.bound; is_ready = s.is_ready; binds = s.binds; faults = s.faults; earlier = s.earlier } };
 
     ghost tells_bound = { λ disk. tt };
 
     fn bind(&mut self, _file: u32, path: &str) -> Result<u32, BindFault> {
+        self.earlier = self.faults;
+        if note(&mut self.binds, path).is_err() {
+            self.is_ready = false;
+            return Err(BindFault::NoMemory);
+        }
         let Ok((file, len)) = open_at(self.files, path) else {
             self.faults = self.faults.saturating_add(1);
             return Err(BindFault::Failed);
@@ -122,6 +149,7 @@ where
     }
 
     fn read_at(&mut self, file: u32, from: u32, into: &mut [u8]) -> Result<usize, Failed> {
+        self.earlier = self.faults;
         match read_all(&self.bound[file as usize], from, into) {
             Ok(count) => Ok(count),
             Err(_) => {
@@ -132,6 +160,7 @@ where
     }
 
     fn write_at(&mut self, file: u32, from: u32, bytes: &[u8]) -> Result<(), Torn> {
+        self.earlier = self.faults;
         let written = write_all(&self.bound[file as usize], from, bytes);
         if written.is_err() {
             self.faults = self.faults.saturating_add(1);

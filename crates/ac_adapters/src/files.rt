@@ -50,9 +50,11 @@ impl<'a, R: Files> FileLibrary<'a, R> {
 
 impl<R: Files> Library for FileLibrary<'_, R> {
     ghost told = { λ s.
-        record { text_at = λ _. None; is_open = s.is_open; left = s.left; opens = None; names = None; faults = s.faults } };
+        record { text_at = λ _. None; is_open = s.is_open; left = s.left; opens = None; reads = None; names = None; faults = s.faults } };
 
     ghost tells_opens = { λ _ _ told. told };
+
+    ghost tells_reads = { λ _ _ told. told };
 
     fn open_text(&mut self, name: &str) -> Result<(), Failed> {
         match fs::open(self.files, name) {

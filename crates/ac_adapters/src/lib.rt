@@ -1,5 +1,5 @@
 //! The files of the system as a library and as a disk, and standard output as a sink. They tell no
-//! contents.
+//! contents; the disk tells the paths that it was to bind.
 #![tactic(auto)]
 
 mod disk;

@@ -1,4 +1,5 @@
--- What the definitions say of small runs, of stamps and of bytes.
+-- What the definitions say of small runs, of stamps and of bytes: lines, reports and statuses, the stamp after two others, hexadecimal.
+-- All of it computes but the decimal numbers of a report: the four that occur here have a lemma each, and the texts are rewritten by them.
 use Rattle.std.proofs.Common.{◌≡◌, refl, ℕ, pos, List, true, false, [], ◌∷◌, ◌++◌, map, codes, Some, None, ap, ◌∙◌, arith}
 use Rattle.std.specs.Prelude.{negsuc}
 use Rattle.std.specs.Fmt.{decimal, signed_decimal}

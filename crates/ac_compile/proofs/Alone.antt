@@ -1,4 +1,6 @@
 -- The code of a program without channels and files starts no operation.
+-- One use of EachInPlace: such a program has no action on a channel or a file, and no form has another instruction that starts an
+-- operation. A cancel starts none.
 use Rattle.std.proofs.Common.{◌≡◌, ℕ, ◌<◌, List, [], length, true, refl, ap, arith}
 use Rattle.ac_tree.specs.declared.item.Program.{Program}
 use Rattle.ac_tree.specs.Shape.{HasShape}

@@ -1,4 +1,6 @@
 -- The code of each form of a statement that has statements in it: its parts are smaller.
+-- For the function that emits statements, which calls itself on their bodies: the measure by which it ends, and that there is room for each
+-- part where there is for the whole.
 use Rattle.std.proofs.Common.{◌≡◌, ℕ, ◌+◌, ◌*◌, ◌<◌, ◌≤◌, List, map, Option, Some, None, sym, ap, ◌∙◌, arith}
 use Rattle.std.specs.Option.{option_map}
 use Rattle.ac_commands.specs.declared.value.Value.{Value}

@@ -1,4 +1,6 @@
 -- What is said of the code of a program, from what is known of the program.
+-- Here the clauses of `compile` come together: the code is the translation, short enough (Weights), valid (Validity), has the same runs as
+-- its source, keeps its ends (EndsKept), and has one end (OneEnd).
 use Rattle.std.proofs.Common.{◌≡◌, ◌+◌, ◌<◌, ◌^◌, length, Result, Ok, Err, IfOk, sym, ap, ◌∙◌, subst}
 use Rattle.std.proofs.lemmas.List.{length-map}
 use Rattle.ac_tree.specs.declared.item.Program.{Program}

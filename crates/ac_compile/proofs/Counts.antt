@@ -1,4 +1,5 @@
 -- Each value has an instruction at least, so that numbers of 32 bits count the arguments of what has room.
+-- By the form of a value, each of which has an instruction of its own or that of a part; then by induction over a list of them.
 use Rattle.std.proofs.Common.{◌≤◌, List, [], ◌∷◌, length, sym, subst, arith}
 use Rattle.ac_tree.specs.declared.expr.BinaryOp.{BinaryOp}
 use Rattle.ac_commands.specs.declared.value.Value.{Value, map-Value, ind-Value, fold-roll-Value}

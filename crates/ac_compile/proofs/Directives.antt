@@ -1,4 +1,5 @@
 -- A format has as many directives for the code as it has places for arguments.
+-- The rule of the language counts places (`HasHoles`), the code its directives; by induction on how the places were counted.
 use Rattle.std.proofs.Common.{◌≡◌, ℕ, List, refl, arith}
 use Rattle.std.proofs.lemmas.Bool.{ne_eqb}
 use Rattle.ac_types.specs.Formats.{HasHoles, no_more, a_byte, a_percent_sign, a_number, a_letter}

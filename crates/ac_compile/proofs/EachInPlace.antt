@@ -1,5 +1,6 @@
 -- What holds of each instruction of the code of a program that is in place: what holds of those that a form of the language has of its own,
 -- of a cancel, and of the actions on its functions, channels and files.
+-- By induction on the program as it is in place, with the laws of Instructions for each form.
 use Rattle.std.proofs.Common.{◌≡◌, ℕ, zero, suc, List, [], ◌∷◌, length, Option, Some, true, refl, arith}
 use Rattle.std.specs.Prelude.{All, slice_get}
 use Rattle.ac_commands.specs.declared.value.Action.{Action}

@@ -1,4 +1,6 @@
 -- What is emitted after what.
+-- `with_code p e` is what has been emitted with the piece p behind it. These laws put pieces together as the emitting functions do: one
+-- after another, a jump whose address is set behind what it passes over, and the elements of a list in a loop.
 use Rattle.std.proofs.Common.{◌≡◌, ℕ, ◌+◌, ◌<◌, List, [], ◌∷◌, ◌++◌, length, refl, sym, ap, ◌∙◌, arith, append_assoc, append-nil, length-append, length-set, get_or, drop, ◌≤◌}
 use Rattle.std.specs.Prelude.{slice_set}
 use Rattle.std.proofs.Math.Seq.{set-append_seam}

@@ -1,4 +1,6 @@
 -- The code of small programs.
+-- Two whole programs, of which one has a call, a block and a thread, and single statements, instruction by instruction; and where there is
+-- one end and where there is not.
 use Rattle.std.proofs.Common.{◌≡◌, refl, sym, ap, ◌∙◌, ℕ, zero, suc, ◌+◌, ◌<◌, ◌≤◌, ◌^◌, pos, List, [], ◌∷◌, codes, true, false, Option, Some, None, subst, arith}
 use Rattle.std.specs.Prelude.{slice_get}
 use Rattle.ac_tree.specs.declared.expr.BinaryOp.TheVariants as b

@@ -1,4 +1,7 @@
 -- Where the jumps of a piece to the exits of its loop are set, it is the piece in that loop.
+-- The emitter leaves these jumps at 0 and notes where they are. `IsFilled` says of a piece that setting them gives the piece with its
+-- exits; it is kept by each way to make a piece, so it holds of every body (Closed, in `ac_translation`). The hard case is two pieces in a
+-- row, where setting the jumps of one leaves the other.
 use Rattle.std.proofs.Common.{◌≡◌, ℕ, ◌+◌, ◌≤◌, List, [], ◌∷◌, ◌++◌, length, refl, sym, ap, ◌∙◌, subst, arith, append_assoc, length-append}
 use Rattle.std.specs.Prelude.{slice_set}
 use Rattle.std.proofs.Math.Seq.{set-append_seam}

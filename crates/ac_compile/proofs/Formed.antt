@@ -1,4 +1,6 @@
 -- A program in place is well formed.
+-- `ac_resolve` says what is in its place, `ac_translation` what its simulation asks for; by induction on the program the second follows
+-- from the first.
 use Rattle.std.proofs.Common.{◌≡◌, ℕ, List, [], ◌∷◌, length, map, Option, Some, None, Bool, true, refl, sym, ap, ◌∙◌, arith}
 use Rattle.std.specs.Prelude.{◌&&◌, not}
 use Rattle.std.proofs.lemmas.Bool.{eq-eqb}
@@ -97,6 +99,7 @@ module _ (program : Resolved) where
 
   -- ---- statements
 
+  -- By the forms of statements that are in place; each gives its operands, where it stands, and its bodies.
   mutual
     command_formed : (r : Round) (x : Command) → IsCommand program r x → is_well_formed x (round_of r) ≡ true
     command_formed _ _ (nothing r) =

@@ -1,4 +1,5 @@
 -- The code of each form of a value and of a statement.
+-- Folds do not compute on a form as it is written; here each gets its equation, so that the other files need no fold.
 use Rattle.std.proofs.Common.{◌≡◌, ℕ, ◌+◌, List, map, length, Option, Some, None, sym, ap, ◌∙◌}
 use Rattle.std.specs.Prelude.{ℤ}
 use Rattle.std.proofs.lemmas.List.{length-map}

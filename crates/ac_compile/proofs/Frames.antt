@@ -1,9 +1,11 @@
 -- The shape of an address, from the frames round it: a body for each, and the blocks that are entered in them.
+-- `ac_resolve` knows frames and uses, `stack_code` bodies and open blocks. `shape_of` makes the one of the other, and each law says what an
+-- instruction finds in it.
 use Rattle.std.proofs.Common.{◌≡◌, ℕ, zero, suc, ◌+◌, ◌-◌, ◌<◌, ◌≤◌, List, [], ◌∷◌, length, false, Some, refl, ap, ◌∙◌, arith, le-leb, eq-eqb}
 use Rattle.std.specs.Prelude.{slice_get, ◌||◌, nat_eq}
 use Rattle.std.specs.List.{list_any}
 use Rattle.std.proofs.lemmas.Bool.{ne_eqb}
-use Rattle.stack_code.specs.declared.shape.Kind.{Kind}
+use Rattle.stack_code.specs.declared.shape.CellKind.{CellKind}
 use Rattle.stack_code.specs.declared.shape.Home.{Home}
 use Rattle.stack_code.specs.declared.shape.Home.TheVariants as home
 use Rattle.stack_code.specs.declared.shape.Body.{Body}
@@ -60,7 +62,7 @@ abbrev pub blocks_of : List FrameRound → List OpenBlock
 blocks_of [] = []
 blocks_of (f ∷ frames) = own_blocks (suc (length frames)) f.entered (blocks_of frames)
 
-abbrev pub shape_of : List Home → List FrameRound → List Kind → Shape
+abbrev pub shape_of : List Home → List FrameRound → List CellKind → Shape
 shape_of homes frames kinds = record { bodies = bodies_of homes frames; blocks = blocks_of frames; operands = kinds }
 
 -- a block of other bodies is not among those of one frame
@@ -91,12 +93,12 @@ entered_in (f ∷ frames) (suc level) slot lt =
     rw n (passed_over (suc (length frames)) (length frames - level) slot f.entered (blocks_of frames) (ne_eqb (suc (length frames)) (length frames - level) (λ e. omega (arith, e)))
     ∙ entered_in frames level slot (omega arith))
 
-pub entered_at : (homes : List Home) (frames : List FrameRound) (kinds : List Kind) (level slot : ℕ) → level < length frames →
+pub entered_at : (homes : List Home) (frames : List FrameRound) (kinds : List CellKind) (level slot : ℕ) → level < length frames →
     is_entered (shape_of homes frames kinds) level slot ≡ is_among slot (frame_at frames level).entered
 entered_at homes frames kinds level slot lt = rw (bodies_length homes frames) (entered_in frames level slot lt)
 
 -- what `Enter` makes of a shape
-pub entered_shape : (homes : List Home) (frames : List FrameRound) (kinds : List Kind) (slot : ℕ) → 0 < length frames →
+pub entered_shape : (homes : List Home) (frames : List FrameRound) (kinds : List CellKind) (slot : ℕ) → 0 < length frames →
     entered slot (shape_of homes frames kinds) ≡ shape_of homes (with_entered slot frames) kinds
 entered_shape homes [] kinds slot lt = absurd (omega arith)
 entered_shape homes (f ∷ frames) kinds slot lt = rw (bodies_length (other_homes homes) frames) refl
@@ -112,7 +114,7 @@ entered_length (f ∷ frames) slot = refl
 -- ---- the innermost frame
 
 -- the body of an `Async` enters no block before its first statement
-pub no_own : (homes : List Home) (uses : List Use) (frames : List FrameRound) (kinds : List Kind) →
+pub no_own : (homes : List Home) (uses : List Use) (frames : List FrameRound) (kinds : List CellKind) →
     has_own (shape_of homes (record { uses = uses; entered = [] } ∷ frames) kinds) ≡ false
 no_own homes uses frames kinds = rw (bodies_length (other_homes homes) frames) (none_own frames (suc (length frames)) (omega arith)) where
   none_in : (bodies at : ℕ) (slots : List ℕ) (others : List OpenBlock) → nat_eq bodies at ≡ false →
@@ -125,6 +127,6 @@ no_own homes uses frames kinds = rw (bodies_length (other_homes homes) frames) (
   none_own (f ∷ fs) at lt = none_in (suc (length fs)) at f.entered (blocks_of fs) (ne_eqb (suc (length fs)) at (λ e. omega (arith, e, lt))) ∙ none_own fs at (omega arith)
 
 -- the frame so many levels up has so many slots from that one on
-pub body_there : (homes : List Home) (frames : List FrameRound) (kinds : List Kind) (level slot len : ℕ) → level < length frames → slot + len ≤ length (frame_at frames level).uses →
+pub body_there : (homes : List Home) (frames : List FrameRound) (kinds : List CellKind) (level slot len : ℕ) → level < length frames → slot + len ≤ length (frame_at frames level).uses →
     body_with (shape_of homes frames kinds) level slot len ≡ Some (body_of (home_of homes level) (frame_at frames level))
 body_there homes frames kinds level slot len lt le = rw (body_here homes frames level lt, le-leb (slot + len) (length (frame_at frames level).uses) le) refl

@@ -1,5 +1,6 @@
 -- What holds of each instruction of the code of a value, a command or a body: it holds of the code of the whole where it holds of that of
 -- the parts, of what the whole does with them, and of each instruction that concerns neither another function nor another core.
+-- One law for each form, for any property of instructions.
 use Rattle.std.proofs.Common.{◌≡◌, ℕ, ◌+◌, List, [], ◌∷◌, ◌++◌, length, map, Option, Some, None, Bool, true, false, refl, sym, subst}
 use Rattle.std.specs.Prelude.{ℤ, pos}
 use Rattle.ac_tree.specs.declared.expr.UnaryOp.{UnaryOp}

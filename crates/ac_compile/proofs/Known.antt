@@ -1,4 +1,6 @@
 -- What is known of the frames round an address: what their slots hold, and what instructions do with them.
+-- `Knows`: the table of the code has for each body what its frame holds. From it: a slot that is loaded, set or made an array of is there,
+-- and its use is that which it has.
 use Rattle.std.proofs.Common.{◌≡◌, ℕ, zero, suc, ◌+◌, ◌<◌, ◌≤◌, List, [], ◌∷◌, length, Bool, true, false, Some, refl, sym, ap, ◌∙◌, subst, arith, lt-ltb, le-leb, eq-eqb}
 use Rattle.std.specs.Prelude.{slice_get, nat_eq, option_map}
 use Rattle.std.proofs.lemmas.Option.{slice_get_within}
@@ -8,8 +10,8 @@ use Rattle.ac_commands.specs.declared.value.Array.TheVariants as a
 use Rattle.ac_commands.specs.declared.program.Function.{Function}
 use Rattle.ac_commands.specs.declared.program.Resolved.{Resolved}
 use Rattle.stack_code.specs.declared.parts.Entered.{Entered}
-use Rattle.stack_code.specs.declared.shape.Kind.{Kind}
-use Rattle.stack_code.specs.declared.shape.Kind.TheVariants as kind
+use Rattle.stack_code.specs.declared.shape.CellKind.{CellKind}
+use Rattle.stack_code.specs.declared.shape.CellKind.TheVariants as kind
 use Rattle.stack_code.specs.declared.shape.Home.{Home}
 use Rattle.stack_code.specs.declared.shape.Body.{Body}
 use Rattle.stack_code.specs.declared.shape.Shape.{Shape}
@@ -56,7 +58,7 @@ module _ (code : Parts) where
   agree_at t homes (f ∷ frames) (suc level) lt h = agree_at t (other_homes homes) frames level (omega arith) h.1
 
   -- the home of a body is that of its frame
-  home_is : (homes : List Home) (frames : List FrameRound) (kinds : List Kind) (level : ℕ) (h : Home) → level < length frames → home_at (shape_of homes frames kinds) level ≡ Some h
+  home_is : (homes : List Home) (frames : List FrameRound) (kinds : List CellKind) (level : ℕ) (h : Home) → level < length frames → home_at (shape_of homes frames kinds) level ≡ Some h
       → home_of homes level ≡ h
   home_is homes frames kinds level h lt e = one_home (home_of homes level) h (sym (ap (option_map (λ (body : Body). body.home)) (body_here homes frames level lt)) ∙ e) where
     one_home : (x y : Home) → Some x ≡ Some y → x ≡ y
@@ -66,7 +68,7 @@ module _ (code : Parts) where
     abbrev K : Table → Type 0
     K = Knows code homes r.frames
 
-    abbrev shape : List Kind → Shape
+    abbrev shape : List CellKind → Shape
     shape kinds = shape_of homes r.frames kinds
 
     -- a slot that the frame so many levels up holds
@@ -80,14 +82,14 @@ module _ (code : Parts) where
       pub use_there : HasUse t (home_of homes level) slot held
       use_there = ap (λ (uses : List Use). slice_get uses slot) there.uses ∙ h
 
-      pub loads_well : use_of (is_reference held) ≡ stack_use held → (kinds : List Kind) (x : Home) → home_at (shape kinds) level ≡ Some x → Loads code t x slot
+      pub loads_well : use_of (is_reference held) ≡ stack_use held → (kinds : List CellKind) (x : Home) → home_at (shape kinds) level ≡ Some x → Loads code t x slot
       loads_well same kinds x e =
           subst (λ y. Loads code t y slot) (home_is homes r.frames kinds level x lt e) (record { held = held; there = use_there; loaded = ap use_of array_there ∙ same })
 
-      pub uses_well : (kinds : List Kind) (x : Home) → home_at (shape kinds) level ≡ Some x → HasUse t x slot held
+      pub uses_well : (kinds : List CellKind) (x : Home) → home_at (shape kinds) level ≡ Some x → HasUse t x slot held
       uses_well kinds x e = subst (λ y. HasUse t y slot held) (home_is homes r.frames kinds level x lt e) use_there
 
-    pub ints_well : (level slot len : ℕ) → level < length r.frames → HoldInts r level slot len → (t : Table) → K t → (kinds : List Kind) → UsesInts code t (shape kinds) level slot len
+    pub ints_well : (level slot len : ℕ) → level < length r.frames → HoldInts r level slot len → (t : Table) → K t → (kinds : List CellKind) → UsesInts code t (shape kinds) level slot len
     ints_well level slot len lt h t k kinds x e at le at_lt = uses_well level at AsInt lt (h at le at_lt) t k kinds x e
 
     pub one_int : (level slot : ℕ) → Holds r level slot AsInt → HoldInts r level slot 1
@@ -97,14 +99,14 @@ module _ (code : Parts) where
     slot_in level slot held h = let lt = slice_get_within (frame_at r.frames level).uses slot held h in omega (arith, lt)
 
     module _ (program : Resolved) (m : Belongs code program) where
-      pub load_does : (place : Place) → IsPlace program r place → (kinds : List Kind) → Does code K (variable_code place) (shape kinds) (shape (kind.Int ∷ kinds))
+      pub load_does : (place : Place) → IsPlace program r place → (kinds : List CellKind) → Does code K (variable_code place) (shape kinds) (shape (kind.Int ∷ kinds))
       load_does _ (global slot lt) kinds = record { finds = λ t k at. rw (m.globals, lt-ltb slot program.slots lt) refl; used = λ t k. tt }
       load_does _ (local level slot lt h) kinds = record {
         finds = λ t k at. rw (body_there homes r.frames kinds level slot 1 lt (slot_in level slot AsInt h), array_there level slot AsInt lt h t k) refl;
         used = λ t k. loads_well level slot AsInt lt h t k refl kinds;
       }
 
-      pub array_does : (array : Array) → IsArray program r array → (kinds : List Kind) → Does code K (array_code array) (shape kinds) (shape (kind.Reference (single array) ∷ kinds))
+      pub array_does : (array : Array) → IsArray program r array → (kinds : List CellKind) → Does code K (array_code array) (shape kinds) (shape (kind.Reference (single array) ∷ kinds))
       array_does _ (global_array slot len le) kinds = record { finds = λ t k at. rw (m.globals, le-leb (slot + len) program.slots le) refl; used = λ t k. tt }
       array_does _ (local_array level slot len lt le h) kinds = record {
         finds = λ t k at. rw (body_there homes r.frames kinds level slot len lt le) refl;

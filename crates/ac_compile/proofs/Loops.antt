@@ -1,4 +1,6 @@
 -- What loops emit.
+-- The body of a loop is emitted while the exits of the loop round it are put aside; when the end of the loop is known its own are set
+-- (Filling). Here these steps together make the piece `loop`.
 use Rattle.std.proofs.Common.{◌≡◌, ℕ, ◌+◌, ◌<◌, ◌≤◌, List, [], ◌∷◌, ◌++◌, length, Option, Some, None, refl, sym, ap, ◌∙◌, subst, arith, append_assoc, append-nil, length-append}
 use Rattle.std.specs.Prelude.{IfSome}
 use Rattle.ac_commands.specs.declared.value.Value.{Value}

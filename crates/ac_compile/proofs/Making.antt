@@ -1,4 +1,5 @@
 -- The parts of a code that is made are those of the program's code.
+-- For the loops over functions, whose invariant is that those made and those to come are the whole list, and for the record of all parts.
 use Rattle.std.proofs.Common.{◌≡◌, ℕ, ◌+◌, ◌<◌, List, [], ◌∷◌, ◌++◌, length, get_or, drop, sym, ap, ◌∙◌, append_assoc}
 use Rattle.std.proofs.lemmas.List.{at_drop_more}
 use Rattle.ac_commands.specs.declared.program.Function.{Function}

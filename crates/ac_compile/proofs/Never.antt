@@ -1,4 +1,5 @@
 -- What is none only where something fails is not none where it holds.
+-- So that `program_code` has a code where `Code::make` says that it gives none only for parts that are not valid.
 use Rattle.std.proofs.Common.{◌≡◌, Option, Some, None}
 use Rattle.std.specs.Prelude.{IfNone}
 

@@ -1,4 +1,5 @@
 -- A program and its code come to one end and to no other.
+-- The code does since it is valid (`code_safety`), and the source has the same runs.
 use Rattle.std.proofs.Common.{◌≡◌, ℕ, ◌<◌, List, Option, length, sym, ap, subst}
 use Rattle.ac_base.specs.declared.ends.CoreEnd.{CoreEnd}
 use Rattle.ac_base.specs.declared.entry.Entry.{Entry}

@@ -1,4 +1,5 @@
 -- A core of a program comes to one end alone.
+-- A core enters one function, and a run has one end (Simulation, in `core_state`).
 use Rattle.std.proofs.Common.{◌≡◌, ℕ, List, Option, Some, refl, sym, ◌∙◌, subst}
 use Rattle.std.specs.Prelude.{slice_get}
 use Rattle.ac_base.specs.declared.ends.CoreEnd.{CoreEnd}

@@ -1,5 +1,7 @@
 -- What the code of a value or a statement that breaks no rule calls is what its nodes call, and it sends and receives only where no core
 -- that reaches its function is at another end.
+-- By induction on the tree, along its nodes: `Fair` says that the nodes given break no rule and that what they call is among these; each
+-- form hands each part the nodes that are the part's own.
 use Rattle.std.proofs.Common.{◌≡◌, ℕ, ◌+◌, List, [], ◌∷◌, ◌++◌, length, map, Option, Some, None, Bool, true, false, inl, inr, refl, sym, ap, subst}
 use Rattle.std.specs.Prelude.{slice_get, pos}
 use Rattle.ac_tree.specs.declared.expr.Expr.{Expr}
@@ -406,6 +408,7 @@ module _ (t : Tables) (calls : List ℕ) where
   cancel_does a scopes (Some what) = each.cancel_holds (P a scopes) (own a scopes) _ _ tt
   cancel_does a scopes None = each.cancel_holds (P a scopes) (own a scopes) _ _ tt
 
+  -- By the form of a statement: its nodes are those of its parts in order, which are divided as the form says.
   mutual
     statement_does : (x : Stmt) → IsStmt x → DoesIt x
     statement_does _ (shape.block at body g) = form_does _ (stmt.rolls-Block at body) (λ n a texts c. entries_do body g (opened n) a texts (c.0.1, c.1.1))

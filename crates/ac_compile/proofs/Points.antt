@@ -1,4 +1,7 @@
 -- A piece of code in its place: what each of its addresses finds, where it leads, and what it uses slots for.
+-- `Fit` is what is shown of every piece, for any table in which it stands: it begins and ends with these shapes, and each address in it is
+-- fine: its instruction fits, leads to the table's shapes, and goes forward, to a `Step` or to the end of a function. Then one law for each
+-- way to make a piece.
 use Rattle.std.proofs.Common.{◌≡◌, ℕ, zero, suc, ◌+◌, ◌<◌, ◌≤◌, ◌⊎◌, inl, inr, ⊎_elim, List, [], ◌∷◌, ◌++◌, length, Bool, true, false, Option, Some, None, refl, sym, ap, ◌∙◌, subst, subst₂}
 use Rattle.std.proofs.Common.{arith, length-append}
 use Rattle.std.specs.Prelude.{slice_get, pos}

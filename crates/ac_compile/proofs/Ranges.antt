@@ -1,5 +1,7 @@
 -- Whatever is reached in the code of a program lies among the instructions of the function whose body is the outermost one round it: what
 -- is said of a function's addresses holds as well where the table says nothing of any other address.
+-- The table is masked but for one function and for where functions begin; the addresses of that function are still fine, so by induction on
+-- how an address is reached it is in the masked table.
 use Rattle.std.proofs.Common.{◌≡◌, ℕ, zero, suc, ◌+◌, ◌<◌, ◌≤◌, ◌⊎◌, inl, inr, ⊎_elim, List, [], ◌∷◌, length}
 use Rattle.std.proofs.Common.{Bool, true, false, Option, Some, None, refl, sym, ap, ◌∙◌, subst, arith, le-leb, lt-ltb, eq-eqb}
 use Rattle.std.specs.Prelude.{slice_get, slice_index_or, nat_eq, nat_le, nat_lt, ◌&&◌, ◌||◌, if◌then◌else◌}
@@ -152,6 +154,7 @@ module _ (code : Parts) (program : Resolved) (m : Belongs code program) where
     pub stands : Stands t.points place (function_points code program m number function in_place place)
 
   -- the functions from one on
+  -- By induction over the functions: the first is the one that is asked for, or the others are, one address range further.
   pub section_from : (t : Table) (number place to k : ℕ) (fs : List Function) (d : AreFunctions program fs) → Placed code.instrs (functions_code fs) no_exits place to
       → Stands t.points place (all_points code program m number place fs d) → ((j : ℕ) → slice_get program.functions (number + j) ≡ slice_get fs j)
       → ((j : ℕ) → slice_get code.functions (number + j) ≡ slice_get (functions_from place fs) j) → ((j : ℕ) → slice_get t.functions (number + j) ≡ slice_get (all_uses program fs d) j)

@@ -1,4 +1,6 @@
--- What is reached in a code each of whose addresses is fine: one shape for each address, one use for each slot, and no circle without a `Step`.
+-- What is reached in a code each of whose addresses is fine: one shape for each address, one use for each slot, and no circle without a
+-- `Step`.
+-- By induction on how an address is reached it has the table's shape; the rest is read off there (Circles for the last).
 use Rattle.std.proofs.Common.{◌≡◌, ℕ, ◌<◌, ◌⊎◌, length, Bool, Option, Some, None, refl, sym, ap, ◌∙◌, subst, arith}
 use Rattle.std.specs.Prelude.{slice_get}
 use Rattle.stack_code.specs.declared.instr.Instr.{Instr}

@@ -1,4 +1,6 @@
 -- The code of a statement begins and ends with no operand, whatever is round it, and each of its addresses is fine.
+-- By induction on the statement as it is in place. What is round it is left open: frames, blocks, and the shape at the exits of a loop,
+-- where one is.
 use Rattle.std.proofs.Common.{◌≡◌, ℕ, suc, ◌+◌, ◌<◌, inl, List, [], ◌∷◌, ◌++◌, length, map, Bool, true, false, Option, Some, None, refl, sym, ap, ◌∙◌, subst, arith, lt-ltb, eq-eqb, length-append}
 use Rattle.std.specs.Prelude.{slice_get, pos}
 use Rattle.ac_types.specs.Formats.{HasHoles}
@@ -8,8 +10,8 @@ use Rattle.ac_commands.specs.declared.command.Command.{Command}
 use Rattle.ac_commands.specs.declared.program.Resolved.{Resolved}
 use Rattle.stack_code.specs.declared.instr.Instr.{Instr}
 use Rattle.stack_code.specs.declared.instr.Instr.TheVariants as i
-use Rattle.stack_code.specs.declared.shape.Kind.{Kind}
-use Rattle.stack_code.specs.declared.shape.Kind.TheVariants as kind
+use Rattle.stack_code.specs.declared.shape.CellKind.{CellKind}
+use Rattle.stack_code.specs.declared.shape.CellKind.TheVariants as kind
 use Rattle.stack_code.specs.declared.shape.Home.{Home}
 use Rattle.stack_code.specs.declared.shape.Home.TheVariants as home
 use Rattle.stack_code.specs.declared.shape.Leads.TheVariants.{Stop, One, Two}
@@ -76,7 +78,7 @@ module _ (code : Parts) where
     abbrev K : Table → Type 0
     K = Knows code homes r.frames
 
-    abbrev shape : List Kind → Shape
+    abbrev shape : List CellKind → Shape
     shape kinds = shape_of homes r.frames kinds
 
     -- no operand
@@ -90,10 +92,10 @@ module _ (code : Parts) where
     abbrev Runs : Piece → Type 0
     Runs piece = Fit code K around bare bare piece
 
-    abbrev Makes : List Kind → List Kind → Piece → Type 0
+    abbrev Makes : List CellKind → List CellKind → Piece → Type 0
     Makes before after piece = Fit code K around (shape before) (shape after) piece
 
-    abbrev int_alone : List Kind
+    abbrev int_alone : List CellKind
     int_alone = kind.Int ∷ []
 
     step_does : (s : Shape) → Does code K i.Step s s
@@ -102,17 +104,17 @@ module _ (code : Parts) where
     step_fit : (s : Shape) → Fit code K around s s (one i.Step)
     step_fit s = one_fit code K around i.Step s s (step_does s)
 
-    then_fit : (x y z : List Kind) (a b : Piece) → Makes x y a → Makes y z b → Makes x z (a ⨾ b)
+    then_fit : (x y z : List CellKind) (a b : Piece) → Makes x y a → Makes y z b → Makes x z (a ⨾ b)
     then_fit x y z a b f g = both_fit code K around (shape x) (shape y) (shape z) a b f g
 
-    after_step : (after : List Kind) (b : Piece) → Makes [] after b → Makes [] after (one i.Step ⨾ b)
+    after_step : (after : List CellKind) (b : Piece) → Makes [] after b → Makes [] after (one i.Step ⨾ b)
     after_step after b f = then_fit [] [] after (one i.Step) b (step_fit bare) f
 
     -- operands are pushed, and then used
-    use_fit : (kinds : List Kind) (a b : Piece) → Makes [] kinds a → Makes kinds [] b → Runs (one i.Step ⨾ a ⨾ b)
+    use_fit : (kinds : List CellKind) (a b : Piece) → Makes [] kinds a → Makes kinds [] b → Runs (one i.Step ⨾ a ⨾ b)
     use_fit kinds a b f g = after_step [] (a ⨾ b) (then_fit [] kinds [] a b f g)
 
-    plainly : (instr : Instr) (before after : List Kind) → Does code K instr (shape before) (shape after) → Makes before after (one instr)
+    plainly : (instr : Instr) (before after : List CellKind) → Does code K instr (shape before) (shape after) → Makes before after (one instr)
     plainly instr before after d = one_fit code K around instr (shape before) (shape after) d
 
     same : (p q : Piece) → p ≡ q → Runs q → Runs p
@@ -418,6 +420,7 @@ module _ (code : Parts) (program : Resolved) (m : Belongs code program) where
 
   -- ---- statements
 
+  -- By the form of a statement, with the laws above for its parts; the bodies of loops, blocks and `async` are in another round.
   mutual
     pub command_fit : (homes : List Home) (r : Round) (w : IsAround r) (x : Command) → IsCommand program r x → Runs code homes r w (command_code x)
     command_fit homes _ w _ (nothing r) = same code homes r w _ _ nothing_form (step_fit code homes r w (bare code homes r w))

@@ -1,4 +1,5 @@
 -- An address at which a `Step` stands.
+-- Apart from the others, since Points and Circles both speak of it.
 use Rattle.std.proofs.Common.{◌≡◌, ℕ, Some}
 use Rattle.std.specs.Prelude.{slice_get}
 use Rattle.stack_code.specs.declared.instr.Instr.TheVariants as i

@@ -1,4 +1,6 @@
 -- What tests, branches and blocks emit.
+-- The jump of a test is emitted without its address, which is set when the end of the body is known; with `else` there are two such jumps.
+-- Each law follows one emitting function from state to state.
 use Rattle.std.proofs.Common.{◌≡◌, ℕ, ◌+◌, List, [], ◌++◌, length, Option, Some, None, refl, sym, ap, ◌∙◌, append-nil}
 use Rattle.ac_commands.specs.declared.value.Value.{Value}
 use Rattle.stack_code.specs.declared.instr.Instr.TheVariants as i

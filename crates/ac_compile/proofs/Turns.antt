@@ -1,4 +1,6 @@
 -- Code whose ways part and meet again: what is passed over, the two ways of a test, and loops, in any shape.
+-- For any shape, so that values and statements share them: both ways come to the end with the same shape. A loop's back way goes to its
+-- head, which is a `Step`.
 use Rattle.std.proofs.Common.{◌≡◌, ℕ, ◌+◌, inl, inr, List, [], ◌∷◌, ◌++◌, length, Option, Some, refl, sym, ap, ◌∙◌, subst, arith, append_assoc, length-append, le_refl}
 use Rattle.std.specs.Prelude.{slice_get}
 use Rattle.stack_code.specs.declared.instr.Instr.{Instr}
@@ -208,6 +210,7 @@ module _ (code : Parts) where
         at_next : ShapeAt t (place + (head.size + body.size)) s
         at_back : ShapeAt t (place + (head.size + body.size) + next.size) s
 
+      -- The parts stand one after the other, so each begins where the one before it ended, with the shape that it leaves.
       laps : (t : Table) (place : ℕ) → Stands t.points place (loop_points place) → Laps t place
       unfolding loop_points
       laps t place d =
@@ -236,6 +239,7 @@ module _ (code : Parts) where
             at_back = at_back;
           }
 
+      -- Each part is fine in its range, with the loop's exits; the jump back leads to a start.
       pub loop_fit : Fit code K around s s (loop turns head body next)
       loop_fit = record {
         sized = loop_sized turns head body next x.sized y.sized z.sized;

@@ -1,4 +1,5 @@
 -- The code of a program in which everything is in its place is valid.
+-- Its lists are those of the program; what is reached is read off the table of all functions (Entries, Reached).
 use Rattle.std.proofs.Common.{◌≡◌, ℕ, zero, suc, ◌+◌, ◌<◌, ◌^◌, List, [], ◌∷◌, ◌++◌, length, map, get_or, Bool, true, false, Option, Some, None, refl, sym, ap, ◌∙◌, subst, arith, add-one}
 use Rattle.std.proofs.Common.{length-append, All}
 use Rattle.std.specs.Prelude.{slice_get, replicate}

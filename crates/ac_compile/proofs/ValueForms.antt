@@ -1,4 +1,6 @@
 -- What emits each form of a value.
+-- Each law follows one branch of the emitting function from state to state: the parts in order, and for `&&` and `||` two jumps whose
+-- addresses are set behind them.
 use Rattle.std.proofs.Common.{◌≡◌, ℕ, ◌+◌, ◌^◌, ◌<◌, List, ◌∷◌, length, map, refl, sym, ap, ◌∙◌, arith}
 use Rattle.ac_tree.specs.declared.expr.BinaryOp.{BinaryOp}
 use Rattle.ac_tree.specs.declared.expr.BinaryOp.TheVariants as b

@@ -1,4 +1,5 @@
 -- The code of a value pushes one operand of the wanted kind, whatever is round it and below.
+-- By induction on the value as it is in place, for any operands below; a list of values pushes one for each.
 use Rattle.std.proofs.Common.{◌≡◌, ℕ, zero, suc, ◌+◌, ◌<◌, List, [], ◌∷◌, ◌++◌, length, map, reverse, Bool, true, false, Option, Some, None, refl, sym, ap, ◌∙◌, subst, arith, inr, lt-ltb, eq-eqb}
 use Rattle.std.specs.Prelude.{ℤ, slice_get, replicate, pos, if◌then◌else◌}
 use Rattle.std.proofs.lemmas.List.{length-map, reverse-append}
@@ -14,8 +15,8 @@ use Rattle.ac_commands.specs.declared.program.Resolved.{Resolved}
 use Rattle.stack_code.specs.declared.instr.Instr.{Instr}
 use Rattle.stack_code.specs.declared.instr.Instr.TheVariants as i
 use Rattle.stack_code.specs.declared.parts.Entered.{Entered}
-use Rattle.stack_code.specs.declared.shape.Kind.{Kind}
-use Rattle.stack_code.specs.declared.shape.Kind.TheVariants as kind
+use Rattle.stack_code.specs.declared.shape.CellKind.{CellKind}
+use Rattle.stack_code.specs.declared.shape.CellKind.TheVariants as kind
 use Rattle.stack_code.specs.declared.shape.Home.{Home}
 use Rattle.stack_code.specs.declared.shape.Leads.TheVariants.{Two}
 use Rattle.stack_code.specs.declared.shape.Shape.{Shape}
@@ -39,53 +40,53 @@ use Rattle.ac_compile.proofs.Known.{Belongs, Knows, single, one_single, load_doe
 -- ---- kinds
 
 -- what serves where that is wanted
-abbrev pub Serves : Want → Kind → Type 0
+abbrev pub Serves : Want → CellKind → Type 0
 Serves AnInt k = k ≡ kind.Int
 Serves AnArray k = (one : Bool) × (k ≡ kind.Reference one)
 Serves OneInt k = k ≡ kind.Reference true
 
-abbrev AllServe : List Want → List Kind → Type 0
+abbrev AllServe : List Want → List CellKind → Type 0
 AllServe [] [] = Unit {0}
 AllServe [] (k ∷ kinds) = ⊥
 AllServe (w ∷ wants) [] = ⊥
 AllServe (w ∷ wants) (k ∷ kinds) = Serves w k × AllServe wants kinds
 
 -- operands from left to right, on top of others
-abbrev on_top : List Kind → List Kind → List Kind
+abbrev on_top : List CellKind → List CellKind → List CellKind
 on_top [] below = below
 on_top (k ∷ kinds) below = on_top kinds (k ∷ below)
 
 -- so many ints on top of other operands
-abbrev pub ints : ℕ → List Kind → List Kind
+abbrev pub ints : ℕ → List CellKind → List CellKind
 ints zero below = below
 ints (suc n) below = ints n (kind.Int ∷ below)
 
-int_on_top : (n : ℕ) (below : List Kind) → ints n (kind.Int ∷ below) ≡ kind.Int ∷ ints n below
+int_on_top : (n : ℕ) (below : List CellKind) → ints n (kind.Int ∷ below) ≡ kind.Int ∷ ints n below
 int_on_top zero below = refl
 int_on_top (suc n) below = int_on_top n (kind.Int ∷ below)
 
-pub ints_taken : (n : ℕ) (below : List Kind) → taken (replicate n want.Int) (ints n below) ≡ Some below
+pub ints_taken : (n : ℕ) (below : List CellKind) → taken (replicate n want.Int) (ints n below) ≡ Some below
 ints_taken zero below = refl
 ints_taken (suc n) below = ap (taken (replicate (suc n) want.Int)) (int_on_top n below) ∙ ints_taken n below
 
-if_some : (test : Bool) (x y : Option (List Kind)) (go : List Kind → Option (List Kind)) → x ≡ on_some y go → (if test then x else None) ≡ on_some (if test then y else None) go
+if_some : (test : Bool) (x y : Option (List CellKind)) (go : List CellKind → Option (List CellKind)) → x ≡ on_some y go → (if test then x else None) ≡ on_some (if test then y else None) go
 if_some true x y go e = e
 if_some false x y go e = refl
 
-taken_both : (xs ys : List stack.Want) (kinds : List Kind) → taken (xs ++ ys) kinds ≡ on_some (taken xs kinds) (taken ys)
+taken_both : (xs ys : List stack.Want) (kinds : List CellKind) → taken (xs ++ ys) kinds ≡ on_some (taken xs kinds) (taken ys)
 taken_both [] ys kinds = refl
 taken_both (x ∷ xs) ys [] = refl
 taken_both (x ∷ xs) ys (k ∷ kinds) = if_some (takes x k) (taken (xs ++ ys) kinds) (taken xs kinds) (taken ys) (taken_both xs ys kinds)
 
-takes_served : (array : Bool) (k : Kind) → Serves (want_of array) k → takes (shapes.want_of array) k ≡ true
+takes_served : (array : Bool) (k : CellKind) → Serves (want_of array) k → takes (shapes.want_of array) k ≡ true
 takes_served true k e = ap (takes want.Reference) e.1
 takes_served false k e = ap (takes want.Int) e
 
-one_taken : (w : stack.Want) (k : Kind) (below : List Kind) → takes w k ≡ true → taken (w ∷ []) (k ∷ below) ≡ Some below
+one_taken : (w : stack.Want) (k : CellKind) (below : List CellKind) → takes w k ≡ true → taken (w ∷ []) (k ∷ below) ≡ Some below
 one_taken w k below e = rw e refl
 
 -- the arguments of a call
-arguments_taken : (params : List Bool) (kinds below : List Kind) → AllServe (map want_of params) kinds → taken (shapes.arguments params) (on_top kinds below) ≡ Some below
+arguments_taken : (params : List Bool) (kinds below : List CellKind) → AllServe (map want_of params) kinds → taken (shapes.arguments params) (on_top kinds below) ≡ Some below
 arguments_taken [] [] below h = refl
 arguments_taken [] (k ∷ kinds) below h = absurd h
 arguments_taken (p ∷ params) [] below h = absurd h
@@ -101,48 +102,48 @@ module _ (code : Parts) (homes : List Home) (r : Round) (program : Resolved) (m 
   abbrev K : Table → Type 0
   K = Knows code homes r.frames
 
-  abbrev shape : List Kind → Shape
+  abbrev shape : List CellKind → Shape
   shape kinds = shape_of homes r.frames kinds
 
-  abbrev Makes : List Kind → List Kind → Piece → Type 0
+  abbrev Makes : List CellKind → List CellKind → Piece → Type 0
   Makes before after piece = (around : Option Shape) → Fit code K around (shape before) (shape after) piece
 
   -- an operand on top of others
-  abbrev pub Pushes : Kind → Piece → Type 0
-  Pushes k piece = (below : List Kind) → Makes below (k ∷ below) piece
+  abbrev pub Pushes : CellKind → Piece → Type 0
+  Pushes k piece = (below : List CellKind) → Makes below (k ∷ below) piece
 
   record Gives (w : Want) (piece : Piece) : Type 0 where
-    given : Kind
+    given : CellKind
     serves : Serves w given
     pushes : Pushes given piece
 
   -- operands from left to right
   record Row (wants : List Want) (piece : Piece) : Type 0 where
-    kinds : List Kind
+    kinds : List CellKind
     serve : AllServe wants kinds
-    pushes : (below : List Kind) → Makes below (on_top kinds below) piece
+    pushes : (below : List CellKind) → Makes below (on_top kinds below) piece
 
   -- ---- one instruction
 
-  abbrev Instr_does : Instr → List Kind → List Kind → Type 0
+  abbrev Instr_does : Instr → List CellKind → List CellKind → Type 0
   Instr_does instr before after = Does code K instr (shape before) (shape after)
 
   -- it goes on at the next address
-  plainly : (instr : Instr) (before after : List Kind) → Instr_does instr before after → Makes before after (one instr)
+  plainly : (instr : Instr) (before after : List CellKind) → Instr_does instr before after → Makes before after (one instr)
   plainly instr before after d around = one_fit code K around instr (shape before) (shape after) d
 
-  then_fit : (x y z : List Kind) (a b : Piece) → Makes x y a → Makes y z b → Makes x z (a ⨾ b)
+  then_fit : (x y z : List CellKind) (a b : Piece) → Makes x y a → Makes y z b → Makes x z (a ⨾ b)
   then_fit x y z a b f g around = both_fit code K around (shape x) (shape y) (shape z) a b (f around) (g around)
 
-  unary_does : (op : UnaryOp) (below : List Kind) → Instr_does (unary_code op) (kind.Int ∷ below) (kind.Int ∷ below)
+  unary_does : (op : UnaryOp) (below : List CellKind) → Instr_does (unary_code op) (kind.Int ∷ below) (kind.Int ∷ below)
   unary_does u.Neg below = record { finds = λ t k at. refl; used = λ t k. tt }
   unary_does u.Not below = record { finds = λ t k at. refl; used = λ t k. tt }
   unary_does u.Flip below = record { finds = λ t k at. refl; used = λ t k. tt }
 
-  pub jz_branches : (below : List Kind) → Branches code i.Jz (shape (kind.Int ∷ below)) (shape below)
+  pub jz_branches : (below : List CellKind) → Branches code i.Jz (shape (kind.Int ∷ below)) (shape below)
   jz_branches below = record { finds = λ at to. refl; used = λ t to. tt }
 
-  jnz_branches : (below : List Kind) → Branches code i.Jnz (shape (kind.Int ∷ below)) (shape below)
+  jnz_branches : (below : List CellKind) → Branches code i.Jnz (shape (kind.Int ∷ below)) (shape below)
   jnz_branches below = record { finds = λ at to. refl; used = λ t to. tt }
 
   pub push_fit : (value : ℤ) → Pushes kind.Int (one (i.Push value))
@@ -153,7 +154,7 @@ module _ (code : Parts) (homes : List Home) (r : Round) (program : Resolved) (m 
       then_fit below (kind.Int ∷ below) (kind.Int ∷ below) right (one i.Bool) (f below)
       (plainly i.Bool (kind.Int ∷ below) (kind.Int ∷ below) (record { finds = λ t k at. refl; used = λ t k. tt }))
 
-  joined_fit : (op : BinaryOp) (right : Piece) → Pushes kind.Int right → (below : List Kind) → Makes (kind.Int ∷ below) (kind.Int ∷ below) (joined_code op right)
+  joined_fit : (op : BinaryOp) (right : Piece) → Pushes kind.Int right → (below : List CellKind) → Makes (kind.Int ∷ below) (kind.Int ∷ below) (joined_code op right)
   joined_fit b.Or right f below around =
       lazily_fit code K around i.Jnz (i.Push (pos 1)) (shape (kind.Int ∷ below)) (shape below) (shape (kind.Int ∷ below)) right (jnz_branches below) (truth_fit right f below around)
       (push_fit (pos 1) below around)
@@ -165,7 +166,7 @@ module _ (code : Parts) (homes : List Home) (r : Round) (program : Resolved) (m 
       (plainly (operator_code op) (kind.Int ∷ kind.Int ∷ below) (kind.Int ∷ below) (record { finds = λ t k at. refl; used = λ t k. tt })) around
 
   -- an array and an index, and then an instruction
-  pub indexed_fit : (array : Array) (index : Piece) (last : Instr) (x y : List Kind) → IsArray program r array → Pushes kind.Int index →
+  pub indexed_fit : (array : Array) (index : Piece) (last : Instr) (x y : List CellKind) → IsArray program r array → Pushes kind.Int index →
       Instr_does last (kind.Int ∷ kind.Reference (single array) ∷ x) y → Makes x y (one (array_code array) ⨾ index ⨾ one last)
   indexed_fit array index last x y h f d =
       let whole = kind.Reference (single array) ∷ x in
@@ -194,7 +195,7 @@ module _ (code : Parts) (homes : List Home) (r : Round) (program : Resolved) (m 
   abbrev transferred : List Want
   transferred = AnInt ∷ AnInt ∷ AnArray ∷ []
 
-  transfer_fit : (instr : Instr) (file : ℕ) (kinds below : List Kind) → file < length program.files → AllServe transferred kinds
+  transfer_fit : (instr : Instr) (file : ℕ) (kinds below : List CellKind) → file < length program.files → AllServe transferred kinds
       → ((at : ℕ) (s : Shape) → effect code at instr s ≡ shapes.transfers at file s) → ((t : Table) (s : Shape) → UsesWell code t instr s) →
       Makes (on_top kinds below) (kind.Int ∷ below) (one instr)
   transfer_fit instr file [] below lt h is used = absurd h
@@ -206,7 +207,7 @@ module _ (code : Parts) (homes : List Home) (r : Round) (program : Resolved) (m 
       (record { finds = λ t k at. is at (shape (z ∷ y ∷ x ∷ below)) ∙ rw (lt-ltb file 16 few, h.0, h.1.0, h.1.1.0.1) refl; used = λ t k. used t (shape (z ∷ y ∷ x ∷ below)) })
   transfer_fit instr file (x ∷ y ∷ z ∷ w ∷ kinds) below lt h is used = absurd h.1.1.1
 
-  action_fit : (action : Action) (wants : List Want) (kinds : List Kind) (count : ℕ) → Wants program action wants → AllServe wants kinds → count ≡ length wants → (below : List Kind)
+  action_fit : (action : Action) (wants : List Want) (kinds : List CellKind) (count : ℕ) → Wants program action wants → AllServe wants kinds → count ≡ length wants → (below : List CellKind)
       → Makes (on_top kinds below) (kind.Int ∷ below) (one (action_code action count))
   action_fit _ _ kinds count (call callee function e) h n below =
       let there = m.functions callee function e in
@@ -226,7 +227,7 @@ module _ (code : Parts) (homes : List Home) (r : Round) (program : Resolved) (m 
 
   -- ---- values
 
-  same_pushes : (k : Kind) (p q : Piece) → p ≡ q → Pushes k q → Pushes k p
+  same_pushes : (k : CellKind) (p q : Piece) → p ≡ q → Pushes k q → Pushes k p
   same_pushes k p q e f = subst (Pushes k) (sym e) f
 
   gives_int : (p : Piece) → Pushes kind.Int p → Gives AnInt p
@@ -242,6 +243,7 @@ module _ (code : Parts) (homes : List Home) (r : Round) (program : Resolved) (m 
   as_many _ _ no_operand = refl
   as_many _ _ (one_operand want wants x xs h hs) = ap suc (as_many wants xs hs)
 
+  -- By the form of a value, with its code by form (Forms) and the laws above for what comes behind its parts.
   mutual
     value_fit : (w : Want) (x : Value) → IsValue program r w x → Gives w (value_code x)
     value_fit _ _ (number value) = gives_int _ (same_pushes kind.Int _ _ (number_form value) (push_fit value))
@@ -279,7 +281,7 @@ module _ (code : Parts) (homes : List Home) (r : Round) (program : Resolved) (m 
         then_fit below (on_top row.kinds below) (kind.Int ∷ below) (values_code operands) (one (action_code action (length operands))) (row.pushes below)
         (action_fit action wants row.kinds (length operands) w row.serve (as_many wants operands x) below)))
 
-    links_fit : (links : List ValueLink) → AreLinks program r links → (below : List Kind) → Makes (kind.Int ∷ below) (kind.Int ∷ below) (chained_code (map link_code links))
+    links_fit : (links : List ValueLink) → AreLinks program r links → (below : List CellKind) → Makes (kind.Int ∷ below) (kind.Int ∷ below) (chained_code (map link_code links))
     links_fit _ no_link below around = no_fit code K around (shape (kind.Int ∷ below))
     links_fit _ (one_link l rest x y) below around =
         let others = chained_code (map link_code rest) in
@@ -301,7 +303,7 @@ module _ (code : Parts) (homes : List Home) (r : Round) (program : Resolved) (m 
   pub int_fit : (x : Value) → IsValue program r AnInt x → Pushes kind.Int (value_code x)
   int_fit x h = int_of _ (value_fit AnInt x h)
 
-  pub ints_fit : (xs : List Value) → AreInts program r xs → (below : List Kind) → Makes below (ints (length xs) below) (values_code xs)
+  pub ints_fit : (xs : List Value) → AreInts program r xs → (below : List CellKind) → Makes below (ints (length xs) below) (values_code xs)
   ints_fit [] h below around = no_fit code K around (shape below)
   ints_fit (x ∷ xs) h below around =
       then_fit below (kind.Int ∷ below) (ints (length xs) (kind.Int ∷ below)) (value_code x) (values_code xs) (int_fit x h.0 below) (ints_fit xs h.1 (kind.Int ∷ below)) around

@@ -1,4 +1,6 @@
 -- The code of a program has at most four instructions for each token that it weighs, whatever its forms.
+-- A small tree weighs at most as many tokens as a text can have, so that 32 bits count all addresses. By induction on the tree, form by
+-- form.
 use Rattle.std.proofs.Common.{◌≡◌, ℕ, ◌+◌, ◌-◌, ◌*◌, ◌<◌, ◌≤◌, ◌^◌, List, [], ◌∷◌, ◌++◌, length, map, Option, Some, None, refl, sym, ap, ◌∙◌, subst, arith}
 use Rattle.std.specs.Prelude.{ℤ, pos}
 use Rattle.ac_tree.specs.declared.expr.BinaryOp.{BinaryOp}
@@ -165,6 +167,7 @@ moves_light action from len array scopes depth =
     let k = len.1.value scopes depth in
     omega (arith, e, g, h, k)
 
+-- An expression may be read, be an argument or be set, so each form has three bounds; most are values alone (`only_value`).
 layer : (y : Expr-F Expr_ Link_) → IsLight (read_layer y) (weight_layer y)
 layer (Expr-F.Number at n) =
     let light : Light (λ scopes depth. v.Number n) 1 = λ scopes depth. let e = number_size n in omega (arith, e) in
@@ -365,6 +368,7 @@ told_layer y = told_step (map-Stmt Stmt Told told (map-Stmt Stmt_ Stmt (λ x. x.
 abbrev stmt_layer_weight : Stmt-F Stmt_ → ℕ
 stmt_layer_weight y = stmt_weigh (map-Stmt Stmt ℕ stmt_weight (map-Stmt Stmt_ Stmt (λ x. x.0) y))
 
+-- The code of the form in its parts, each bounded by what that part weighs; the sums are then compared.
 stmt_layer : (y : Stmt-F Stmt_) → IsShort (told_layer y) (stmt_layer_weight y)
 stmt_layer (Stmt-F.Block at body) n depth texts = let h = stmts_short body (opened n) depth texts in omega (arith, h)
 stmt_layer (Stmt-F.Empty at) n depth texts = let e = single_size Command-F.Nothing cm.Nothing (sym cm.rolls-Nothing) in omega (arith, e)

@@ -1,4 +1,6 @@
--- The laws of calls and places.
+-- The laws of calls and places, given that of expressions one deeper: arguments up to the closing parenthesis, elements, and names alone.
+-- First the parts, that they read as the definition does (`.._same`), what they spell both ways (`is_..`, `.._is`), then the laws, put together from
+-- those of `Parts`. The hard case is that of arguments that may be too deep: they begin with an expression or with `)` (`closed_opens`).
 use Rattle.std.proofs.Common.{◌≡◌, ℕ, suc, ◌+◌, ◌<◌, ◌≤◌, Bool, true, false, List, [], ◌∷◌, ◌++◌, length, refl, ap, ◌∙◌, subst, inl, inr, arith}
 use Rattle.std.specs.Prelude.{◌||◌}
 use Rattle.std.proofs.lemmas.List.{append-nil}

@@ -1,4 +1,6 @@
--- The laws of chains, given that of unary expressions.
+-- The laws of chains, given that of unary expressions: an expression of a level is one of the next level and the links behind it.
+-- By induction on the levels that are left up to 11, where it is the unary expression (`chain_law`). The hard part is where an operand ends:
+-- behind it stands a link of this level or the end, and neither goes on an expression of the next level (`links_binding`).
 use Rattle.std.proofs.Common.{◌≡◌, ℕ, zero, suc, ◌+◌, ◌<◌, ◌≤◌, true, List, [], ◌∷◌, ◌++◌, length, Ok, refl, sym, ap, ◌∙◌, subst, arith}
 use Rattle.std.specs.Prelude.{pos}
 use Rattle.std.proofs.lemmas.List.{append-nil}

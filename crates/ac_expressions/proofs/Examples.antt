@@ -1,4 +1,5 @@
--- Operators and their levels, small expressions with the depths of their tokens, and what is read of a few tokens.
+-- Small expressions with the depths of their tokens, by the cases of the grammar; operators and their levels; and what is read of a few tokens.
+-- Readers compute. Most are given `number_expr_at` for the reader of what is inside, so that an example is of one reader alone.
 use Rattle.std.proofs.Common.{◌≡◌, refl, ℕ, ◌+◌, pos, true, false, List, [], ◌∷◌, ◌++◌, map, codes, Some, None, Ok, Err, arith}
 use Rattle.ac_tree.specs.declared.expr.Expr.{Expr}
 use Rattle.ac_tree.specs.declared.expr.Expr.TheVariants as e

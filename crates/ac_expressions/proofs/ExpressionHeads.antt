@@ -1,4 +1,6 @@
--- What an expression begins with, and what does not go on one.
+-- What an expression begins with, and what does not go on one. What goes on it is a number, `binding`: the level of the operator that comes
+-- next, more for a bracket or a parenthesis, 0 for the rest; so "nothing goes on an expression of this level" is one comparison (`Ends`).
+-- The first token of a spelling, its place and its form are found by induction on the spelling (`expr_head`).
 use Rattle.std.proofs.Common.{◌≡◌, ℕ, ℤ, suc, ◌+◌, ◌<◌, ◌≤◌, Bool, true, false, List, [], ◌∷◌, ◌++◌, Option, Some, None, refl, sym, ap, ◌∙◌, arith}
 use Rattle.std.specs.Prelude.{◌==◌}
 use Rattle.std.proofs.lemmas.Bool.Decides.{nat_tests}
@@ -140,6 +142,7 @@ pub record CallHeaded (depth : ℕ) (x : Expr) (ms : List Marked) : Type 0 where
   pub headed : Headed depth x form ms
   pub primary : is_primary form ≡ true
 
+-- a case for each form of call: its first token is the name or the word, and tells the form
 pub call_head : (depth : ℕ) (x : Expr) (ms : List Marked) → CallSpells depth x ms → CallHeaded depth x ms
 call_head _ _ _ (function_call depth t left right name args ms q r g v) =
     record {
@@ -199,6 +202,7 @@ call_head _ _ _ (write depth t left named comma second third into right file arr
       primary = refl;
     }
 
+-- word for word: the three named results tell their form, and the others name none
 pub constant_form : (a : Word) (which : Constant) → constant_of a ≡ Some which → primary_word a ≡ p.Constant
 constant_form w.Ok which o = refl
 constant_form w.Cancelled which o = refl

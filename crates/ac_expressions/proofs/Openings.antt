@@ -1,4 +1,6 @@
--- What an expression begins with, and what follows one.
+-- What an expression may begin with, and that it ends before a word or a mark that goes on none: so an expression and such a sign behind it have
+-- a law (`law_expr_bind`, `law_expr_made`). Each token that can begin an expression does begin one, made of smallest parts (`expr_opens`), as
+-- the law of parts that may be too deep asks; and each spelling begins with such a token (`expr_first`).
 use Rattle.std.proofs.Common.{◌≡◌, ℕ, zero, suc, ◌+◌, ◌<◌, ◌≤◌, Bool, true, false, List, [], ◌∷◌, ◌++◌, Option, Some, None, refl, sym, ap, ◌∙◌, subst, arith}
 use Rattle.ac_tree.specs.declared.expr.Expr.{Expr}
 use Rattle.ac_tree.specs.declared.expr.Expr.TheVariants as e
@@ -79,6 +81,7 @@ open_unary depth t a q (Some op) o h = let v = fill_up (suc depth) 0 11 refl in
 open_unary depth t a q None o h = cc
 
 -- an operation's word
+-- each of the four words goes on with an operation of the name `x` and smallest expressions; another word is none
 pub operation_opens : (depth : ℕ) (t : Token) (a : Word) → IsWord a t → primary_word a ≡ p.Operation → Opens Expr (CallSpells depth) depth t
 operation_opens depth t w.Send q h =
     let v = fill_up (suc depth) 10 1 refl in

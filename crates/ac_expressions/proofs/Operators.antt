@@ -1,4 +1,6 @@
--- Parts that are a constant or an operator.
+-- Parts that are a constant or an operator: for each its spelling and its law, as those of names in `Letters`, by the tables of the grammar.
+-- A binary operator is read at a level: its table gives level and operator, and it is picked where the levels are equal. Each level from 1 to 10
+-- has an operator, so that a chain of it can be filled in (`fill_operator`).
 use Rattle.std.proofs.Common.{◌≡◌, ℕ, zero, suc, ◌≤◌, Bool, true, false, List, [], ◌∷◌, Option, Some, None, refl, ap, ◌∙◌, subst, arith}
 use Rattle.std.specs.Prelude.{◌==◌, if◌then◌else◌}
 use Rattle.std.proofs.lemmas.Bool.Decides.{nat_tests}

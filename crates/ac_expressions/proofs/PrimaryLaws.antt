@@ -1,4 +1,6 @@
--- The laws of operations, primaries and unary expressions, and so of all expressions.
+-- The laws of the operations `Send`, `Recv`, `Read` and `Write`, given those of expressions one deeper and, for an index in `Recv`, two deeper.
+-- As in `CallLaws`: the parts, what they spell both ways, the laws. The hard case is what stands between the parentheses of `Recv`: it may be
+-- too deep itself, and the index of its place has one room less, so its spelling must not depend on the room (`recv_by`).
 use Rattle.std.proofs.Common.{◌≡◌, ℕ, suc, ◌-◌, ◌+◌, ◌<◌, ◌≤◌, true, List, [], ◌∷◌, ◌++◌, refl, ap, arith}
 use Rattle.ac_tree.specs.declared.expr.Expr.{Expr}
 use Rattle.ac_tree.specs.declared.expr.Expr.TheVariants as e

@@ -1,4 +1,5 @@
--- Reading parts one after the other, as a loop does.
+-- Reading parts one after the other, as a loop does: what is read so far, in front of what the rest is read as, is what the whole is read as.
+-- That is the invariant of the loops for links and arguments, and of the parser's; a lemma for each way a turn ends, by what `many_at` comes to.
 use Rattle.std.proofs.Common.{◌≡◌, ℕ, suc, ◌-◌, ◌+◌, ◌≤◌, ◌<◌, List, [], ◌∷◌, ◌++◌, Ok, Err, refl, sym, ap, ◌∙◌, append_assoc, arith}
 use Rattle.std.specs.Prelude.{Bool, true, false}
 use Rattle.std.proofs.lemmas.List.{append-nil}

@@ -1,4 +1,5 @@
--- What an expression is read as, at each turn of the functions that read it.
+-- What an expression is read as, at each turn of the functions that read it: `chain` by its level, `primary` by the form of the first token.
+-- The recursive reader of the definition is unfolded once; where a part fails, the whole fails alike (`fails_first`).
 use Rattle.std.proofs.Common.{◌≡◌, ◌≢◌, ℕ, zero, suc, ◌-◌, ◌+◌, ◌≤◌, ◌<◌, List, Result, Ok, refl, sym, ap, ◌∙◌, arith}
 use Rattle.ac_tree.specs.declared.expr.Expr.{Expr}
 use Rattle.ac_tree.specs.declared.expr.Link.{Link}

@@ -1,4 +1,6 @@
--- The laws of unary expressions, and so of all expressions.
+-- The laws of operations by their first word, of primaries and of unary expressions, and so of all expressions (`whole_law`).
+-- By induction on the room: at 0 the next token is too deep; else the first token selects the primary (`law_select`), and what stands inside has
+-- the law of one room less, or of two less for an index in `Recv`.
 use Rattle.std.proofs.Common.{◌≡◌, ℕ, zero, suc, ◌-◌, ◌+◌, Bool, true, List, [], ◌∷◌, ◌++◌, Result, Ok, Err, refl, sym, ap, ◌∙◌, subst, arith}
 use Rattle.std.specs.Prelude.{if◌then◌else◌}
 use Rattle.ac_tree.specs.declared.expr.Expr.{Expr}

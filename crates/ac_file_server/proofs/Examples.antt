@@ -1,4 +1,4 @@
--- The parts of the text for three turns, written out, and how long they are.
+-- The parts of the text for three turns, written out, and how long they are: by computing, once the decimal of 3 is known.
 use Rattle.std.proofs.Common.{◌≡◌, refl, codes, ◌++◌, length, arith}
 use Rattle.std.proofs.lemmas.Fmt.{decimal_digit}
 use Rattle.std.specs.Fmt.{decimal}

@@ -1,4 +1,5 @@
--- The text is short.
+-- The text is short, at most 2131 bytes (`the_text_is_short`, for `load_text`): the part without clients has a length that computes, and that of a
+-- client varies only with the digits of the turns, of which there are three at most. Lengths are added line by line (`length_of_lines`).
 use Rattle.std.proofs.Common.{◌≡◌, ℕ, ◌+◌, ◌≤◌, suc, List, [], ◌∷◌, ◌++◌, length, codes, refl, ◌∙◌, ap, sym, subst, arith, length-append}
 use Rattle.std.proofs.lemmas.Fmt.{length-decimal-le}
 use Rattle.std.specs.Fmt.{decimal}

@@ -1,4 +1,4 @@
--- A text to which parts are added one by one.
+-- A text to which parts are added one by one is that text with all of them behind it, for `load_text`: by putting appends in order.
 use Rattle.std.proofs.Common.{◌≡◌, ℕ, List, ◌++◌, ◌∙◌, ap, append_assoc}
 
 pub three_parts : (text a b c x y z : List ℕ) → x ≡ text ++ a → y ≡ x ++ b → z ≡ y ++ c → z ≡ text ++ (a ++ (b ++ c))

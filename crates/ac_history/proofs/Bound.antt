@@ -1,4 +1,5 @@
--- How great the stamps of a legal history are.
+-- How great the stamps of a legal history are. For `stamps_are_few`.
+-- By induction on the entries: after n of them all stamps kept of offers and parties are at most n, and the next entry's stamp is at most one more than the greatest of them.
 use Rattle.std.proofs.Common.{◌≡◌, ℕ, zero, suc, ◌+◌, ◌≤◌, List, [], ◌∷◌, ◌++◌, Option, Some, None, Bool, true, arith, length, get_or, set}
 use Rattle.std.specs.Prelude.{◌==◌, ◌&&◌, slice_get, replicate}
 use Rattle.std.specs.List.{AllByRecursion}

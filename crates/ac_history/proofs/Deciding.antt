@@ -1,4 +1,5 @@
--- The worker does the next request of a link: its journal, its end, the ring and the disk go on agreeing.
+-- The worker does the next request of a link: its journal, its end, the ring and the disk go on agreeing. For `the_worker_goes_on`.
+-- One law of ac_links each for the journal, the views and the ring; the disk has one more deed at the end. Of an undecided offer nothing is known (`beyond`).
 use Rattle.std.proofs.Common.{◌≡◌, ℕ, ◌<◌, List, [], ◌∷◌, ◌++◌, Option, Some, None, Bool, true, refl, sym, ap, ◌∙◌, subst, arith, length}
 use Rattle.std.specs.Prelude.{slice_get, ◌==◌, ◌&&◌, IfSome}
 use Rattle.std.proofs.lemmas.Bool.Decides.{nat_tests}

@@ -1,4 +1,5 @@
--- The deeds of the worker, and the disk.
+-- The deeds of the worker, and the disk: what serves the worker's journal serves the merged history. For `network_is_served`.
+-- The two have the same deeds, since what a request asked is told by its link (Runtime). Deeds and contents of lists put together, by induction.
 use Rattle.std.proofs.Common.{◌≡◌, ℕ, List, [], ◌∷◌, ◌++◌, Option, refl, sym, ap, ◌∙◌, subst, append_assoc}
 use Rattle.std.specs.List.{AllByRecursion}
 use Rattle.std.proofs.lemmas.List.{append-nil}

@@ -1,4 +1,5 @@
 -- What the definitions of a history say of small ones.
+-- Those that hold do so by computing.
 use Rattle.std.proofs.Common.{◌≡◌, ◌≢◌, ℕ, zero, suc, ◌<◌, List, [], ◌∷◌, Some, None, Bool, true, false, ◌&&◌, refl, arith}
 use Rattle.std.specs.Prelude.{pos, nat_lt}
 use Rattle.std.proofs.lemmas.Bool.Decides.{nat_tests}

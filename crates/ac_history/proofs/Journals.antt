@@ -1,4 +1,5 @@
 -- What holds of each journal, and of all entries together.
+-- By induction on the list of journals, whose first is that of party q, the next that of party q + 1.
 use Rattle.std.proofs.Common.{◌≡◌, ℕ, zero, suc, ◌+◌, List, [], ◌∷◌, ◌++◌, subst, arith, get_or}
 use Rattle.std.specs.List.{AllByRecursion}
 use Rattle.ac_base.specs.declared.entry.Event.{Event}

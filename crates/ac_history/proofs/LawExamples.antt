@@ -1,4 +1,5 @@
 -- What the laws of histories say of the small histories of the other examples.
+-- Each takes a law as its hypothesis and gives it what the small history has.
 use Rattle.std.proofs.Common.{◌≡◌, refl, ℕ, ◌≤◌, [], ◌∷◌}
 use Rattle.std.specs.List.{AllByRecursion}
 use Rattle.ac_base.specs.declared.entry.Answer.TheVariants.{Bytes, Count}

@@ -1,4 +1,6 @@
--- What entries make of one offer: each withdrawal and each taking of it is seen in how it stands.
+-- What entries make of one offer: each withdrawal and each taking of it is seen in how it stands. For `offers_end_once`.
+-- How an offer stands counts 1 for withdrawn or 1 for taken, never both. By induction on a legal history each such entry adds its 1 there, so there is at most one.
+-- What its owner knows to be taken stands as taken by then.
 use Rattle.std.proofs.Common.{◌≡◌, ℕ, zero, suc, ◌+◌, ◌<◌, ◌≤◌, List, [], ◌∷◌, ◌++◌, length, Option, Some, None, Bool, true, false, cond, refl, sym, ap, ◌∙◌, subst, arith, inl, inr, get_or, set}
 use Rattle.std.specs.Prelude.{◌==◌, ◌&&◌, slice_get, slice_set, replicate}
 use Rattle.std.proofs.Math.Dec.{eqb-suc-suc, eqb-suc-zero, eqb-zero-suc}

@@ -1,4 +1,5 @@
 -- What becomes of an offer in small histories: one that is withdrawn, and one that is taken.
+-- All by computing, but for the two that take a law as their hypothesis.
 use Rattle.std.proofs.Common.{◌≡◌, ◌+◌, ◌≤◌, List, [], ◌∷◌, refl}
 use Rattle.std.specs.Prelude.{pos}
 use Rattle.ac_base.specs.declared.entry.Payload.TheVariants.{Int}

@@ -1,4 +1,5 @@
 -- What the parts say of which the definitions of a history are made, for the small histories of the other examples.
+-- Those that hold do so by computing.
 use Rattle.std.proofs.Common.{◌≡◌, refl, ℕ, List, [], ◌∷◌, Option, Some, None, Bool, true, false, cond, arith}
 use Rattle.std.specs.Prelude.{pos, ◌==◌}
 use Rattle.ac_base.specs.declared.entry.Payload.{Payload}

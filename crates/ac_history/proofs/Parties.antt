@@ -1,4 +1,5 @@
--- Parties that agree with their journals are a network.
+-- Parties that agree with their journals are a network. For `parties_are_a_network`.
+-- At each link the ends of its owner and its peer are the two views, and what each party noted of all links is told by its end of that one.
 use Rattle.std.proofs.Common.{◌≡◌, ℕ, suc, ◌+◌, ◌-◌, ◌<◌, List, [], ◌∷◌, true, refl, sym, ap, ◌∙◌, subst, inl, inr, arith, length, get_or}
 use Rattle.std.specs.List.{AllByRecursion}
 use Rattle.std.proofs.lemmas.Bool.Decides.{leb_tells}

@@ -1,4 +1,5 @@
 -- The network of the other examples by its parties, each with all its ends; and networks, disks and workers that do not agree.
+-- What holds is put together end by end.
 use Rattle.std.proofs.Common.{◌≡◌, ◌≢◌, refl, ℕ, zero, suc, ◌≤◌, ◌<◌, List, [], ◌∷◌, true, false, arith}
 use Rattle.std.specs.Prelude.{◌==◌, slice_index_or}
 use Rattle.std.specs.List.{filter}

@@ -1,4 +1,5 @@
--- What is left of all journals by party, and how the merged list rises.
+-- What is left of all journals by party, and how the merged list rises: by stamp, then party.
+-- All journals one behind another stand by party, then stamp (`Rows`). A stable sort by stamps makes of it a list that rises by stamp, then party (`lex_in_order`).
 use Rattle.std.proofs.Common.{◌≡◌, ℕ, zero, suc, ◌+◌, ◌<◌, ◌≤◌, List, [], ◌∷◌, ◌++◌, Bool, true, false, cond, refl, ap, ◌∙◌, inl, inr, ◌⊎◌, arith, get_or}
 use Rattle.std.specs.Prelude.{◌==◌, ◌&&◌, ◌||◌, nat_lt, nat_le}
 use Rattle.std.specs.List.{filter, AllByRecursion}

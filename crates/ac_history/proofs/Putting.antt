@@ -1,4 +1,5 @@
--- The bytes of a file are taken out, and then those or others are put back.
+-- The bytes of a file are taken out, and then those or others are put back. For `Legal::write`, which takes the bytes out while it writes them.
+-- Two writes to one place of a list are one; where the same bytes come back, nothing has changed.
 use Rattle.std.proofs.Common.{◌≡◌, ℕ, List, [], Bool, true, false, Ok, Err, ap, ◌∙◌}
 use Rattle.std.specs.Prelude.{Result, IfOk, OnErr, slice_set, if◌then◌else◌}
 use Rattle.std.proofs.lemmas.List.{set-set, set-get_or}

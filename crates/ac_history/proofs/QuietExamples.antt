@@ -1,4 +1,5 @@
 -- When small runs are quiet: two cores with a channel from the first to the second, and each with a link of its requests.
+-- That a run is quiet is shown core by core and link by link; that one is not, at the one core or link that is not.
 use Rattle.std.proofs.Common.{◌≡◌, refl, ℕ, zero, suc, ◌<◌, ◌≤◌, List, [], ◌∷◌, Some, Bool, true, false, subst, arith, length}
 use Rattle.std.specs.Prelude.{pos, slice_get}
 use Rattle.ac_base.specs.declared.entry.Payload.TheVariants.{Int, Write}

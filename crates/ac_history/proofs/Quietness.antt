@@ -1,4 +1,5 @@
--- Parties that rest by the views of their links are quiet in the merged history.
+-- Parties that rest by the views of their links are quiet in the merged history. For `parties_at_rest_are_quiet`.
+-- After the merged history each link is the one that its two views make (Runtime), and of that link ac_links says that it has nothing for a side that rests.
 use Rattle.std.proofs.Common.{◌≡◌, ℕ, ◌-◌, ◌<◌, ◌≤◌, List, [], ◌∷◌, Bool, true, false, cond, refl, sym, ap, ◌∙◌, subst, inl, inr, arith, length, get_or, set}
 use Rattle.std.specs.Prelude.{nat_le}
 use Rattle.std.specs.List.{filter}

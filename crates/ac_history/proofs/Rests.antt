@@ -1,4 +1,5 @@
--- Where all cores and all links rest, the run is quiet, and the other way round.
+-- Where all cores and all links rest, the run is quiet, and the other way round. For `is_quiet`.
+-- The test asks each core and each link once, where the definition asks of each core all of its links; the two are matched by a link's owner and peer.
 use Rattle.std.proofs.Common.{◌≡◌, ℕ, zero, suc, ◌+◌, ◌<◌, ◌≤◌, List, [], ◌∷◌, Option, Some, None, Bool, true}
 use Rattle.std.proofs.Common.{false, refl, sym, ap, ◌∙◌, ◌⊎◌, zero-add, subst, inl, inr, arith, length, eq-eqb, eqb-true}
 use Rattle.std.specs.Prelude.{◌==◌, ◌&&◌, ◌||◌, nat_le, nat_eq, slice_get}
@@ -88,6 +89,8 @@ none_of (o ∷ os) known replied =
     let a : is_news o ≡ false = known.0 in let b : is_unreplied o ≡ false = replied.0 in
     let rest : list_any (λ o. is_news o || is_unreplied o) os ≡ false = none_of os known.1 replied.1 in grind arith
 
+-- A link that is there has an owner and a peer. What the owner is still to know or to have comes from the test of the link, room and offers from that of the core:
+-- an operation that waits on a link could go on there if the link had anything for the core.
 pub rests_is_quiet : (past : Past) (parties : List LinkParties) (cores : List CoreEnd) → length parties ≡ length past.links
     → cores_rest past parties cores ≡ true → links_rest past parties cores ≡ true → IsQuiet (owner_in parties) (peer_in parties) past cores
 rests_is_quiet past parties cores same all each = record { core = core; worker = worker }
@@ -138,6 +141,7 @@ has_parties : (past : Past) (l k : ℕ) (o : Option LinkParties) → has_for pas
 has_parties past l k None has = cc
 has_parties past l k (Some p) has = (p, refl)
 
+-- Were an operation able to go on, its link would have room for the core as its owner, or an offer for it as its peer; where it is quiet, it has neither.
 pub quiet_cores_rest : (past : Past) (parties : List LinkParties) (cores : List CoreEnd) → length parties ≡ length past.links
     → IsQuiet (owner_in parties) (peer_in parties) past cores → cores_rest past parties cores ≡ true
 quiet_cores_rest past parties cores same quiet =

@@ -1,4 +1,5 @@
--- A history that goes entry by entry is one that is legal and served.
+-- A history that goes entry by entry is one that is legal and served, and the other way round; its files are what the deeds leave.
+-- By induction on the entries; a deed served after others is served by what they left. For `histories_are_legal_and_served` and `network_is_a_history`.
 use Rattle.std.proofs.Common.{◌≡◌, ℕ, List, [], ◌∷◌, ◌++◌, Option, Bool, true, ◌&&◌, refl, sym, ◌∙◌}
 use Rattle.ac_base.specs.declared.entry.Entry.{Entry}
 use Rattle.ac_base.specs.declared.entry.Payload.{Payload}

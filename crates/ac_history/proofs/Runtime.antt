@@ -1,4 +1,6 @@
--- From pairs of views that agree, and journals with their stamps, to the merged history.
+-- From pairs of views that agree, and journals with their stamps, to the merged history. For `network_is_legal` and `deeds_are_the_workers`.
+-- Of each link only two parties have entries (`parts_two`); whether the owner or the peer is the earlier decides which law of ac_links is used (`owner_first`, `peer_first`).
+-- What each party noted is what the links tell (`right`), each entry is made by one that may make it, and Whole puts links and journals together.
 use Rattle.std.proofs.Common.{◌≡◌, ◌≢◌, ℕ, zero, suc, ◌+◌, ◌-◌, ◌<◌, ◌≤◌, List, [], ◌∷◌, ◌++◌, Option, Bool, true, false, cond, refl, sym, ap, ◌∙◌, subst, inl, inr, ◌⊎◌, arith, length, get_or}
 use Rattle.std.specs.Prelude.{◌==◌, ◌&&◌, ◌||◌, not, nat_lt, nat_le}
 use Rattle.std.specs.List.{filter, AllByRecursion}

@@ -1,4 +1,5 @@
 -- Where what is left of a history by link and by party is right, each entry of it fits.
+-- By induction on the entries, with `Good` as the invariant: the first entry fits by its own link and party, and changes only what is kept of these two.
 use Rattle.std.proofs.Common.{◌≡◌, ℕ, ◌<◌, List, [], ◌∷◌, ◌++◌, Option, Bool, true, cond, ◌&&◌, refl, sym, ap, ◌∙◌, subst, inl, inr, arith, length, get_or, set}
 use Rattle.std.specs.Prelude.{◌==◌, nat_lt}
 use Rattle.std.specs.List.{filter, AllByRecursion}

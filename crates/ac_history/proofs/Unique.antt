@@ -1,4 +1,5 @@
--- The stable sort of the library, by an unsigned key, is `in_order`.
+-- The stable sort of the library, by an unsigned key, is `in_order`. For `merge`.
+-- Two lists that rise by a key and have the same elements of each key, in the same order, are equal, by induction. A stable sort keeps those of each key as they stood.
 use Rattle.std.proofs.Common.{◌≡◌, ℕ, suc, ◌<◌, ◌≤◌, List, [], ◌∷◌, Bool, true, false, cond, not, ◌&&◌, refl, sym, ap, ◌∙◌, subst, arith, inl, inr, length, get_or}
 use Rattle.std.specs.Prelude.{◌==◌}
 use Rattle.std.specs.List.{filter}

@@ -1,4 +1,5 @@
--- From the entries of each link and each journal to the merged history.
+-- From the entries of each link and each journal to the merged history. For `merged_is_legal`.
+-- Leaving out entries and sorting by stamps may be exchanged, so the merged list has of each link and party what the journals have. Then Steps goes through it.
 use Rattle.std.proofs.Common.{◌≡◌, ℕ, zero, suc, ◌+◌, ◌-◌, ◌<◌, ◌≤◌, List, [], ◌∷◌, ◌++◌, Option, Some, None, Bool, true, false, cond, refl, sym, ap, ◌∙◌, subst, arith, length, get_or}
 use Rattle.std.specs.Prelude.{replicate, ◌==◌, nat_lt, nat_le}
 use Rattle.std.specs.List.{filter, AllByRecursion}

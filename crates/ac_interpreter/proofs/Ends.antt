@@ -1,4 +1,6 @@
 -- A run that comes to an end has a least number of moves, and with each move less is left of it.
+-- The interpreter's loop ends since its core comes to an end: what is left of the run, by that number, falls with each move that does not
+-- stay. The least number is found by a search below one by which the run is over.
 use Rattle.std.proofs.Common.{◌≡◌, ℕ, zero, suc, ◌<◌, Bool, true, false, refl, sym, ap, subst, arith}
 use Rattle.core_state.specs.Moves.{Move, On, Over, and_then, moves, ComesTo}
 use Rattle.ac_interpreter.specs.Ends.{is_over, IsOverBy, HasCount, apart}

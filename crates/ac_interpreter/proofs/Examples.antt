@@ -1,4 +1,6 @@
 -- After how many moves small machines and cores are over, and a journal that does not fit a core.
+-- A machine that counts down has a number, and one that stays where it is has none; so it is with a core that ends and with one whose work
+-- has no meaning.
 use Rattle.std.proofs.Common.{◌≡◌, ℕ, zero, suc, ◌<◌, [], ◌∷◌, pos, true, false, Some, None, refl, sym, ap, ◌∙◌, arith}
 use Rattle.ac_base.specs.declared.entry.Entry.{Entry}
 use Rattle.ac_base.specs.declared.entry.Event.TheVariants.{Know}

@@ -1,4 +1,6 @@
--- What the proofs say of a move under a journal: that something is seen of an end, that the first entry comes in at most, and that those behind it are of no matter.
+-- What the proofs say of a move under a journal: that something is seen of an end, that the first entry comes in at most, and that those
+-- behind it are of no matter.
+-- Three properties of a move, which Journals shows of each move of a core and Prefixes carries along a run.
 use Rattle.std.proofs.Common.{◌≡◌, List, [], ◌∷◌, ◌++◌, ◌⊎◌}
 use Rattle.std.specs.Prelude.{Option, Some, None}
 use Rattle.ac_base.specs.declared.ends.CoreEnd.{CoreEnd}

@@ -1,4 +1,6 @@
 -- No statement concerns the journal: whatever is still to come, a core goes the same way, up to where the next entry comes in.
+-- By cases on the work and on the next step: entries that have come in and those to come are only handed on. A cancel (Trying) and a
+-- dispatch point alone look at the first one.
 use Rattle.std.proofs.Common.{◌≡◌, ℕ, ◌+◌, ◌^◌, ◌-◌, ℤ, List, [], ◌∷◌, ◌++◌, length, map, refl, sym, ap, ◌∙◌, subst, inl, inr}
 use Rattle.std.specs.Prelude.{Option, Some, None, Bool, true, false, Result, Ok, Err, slice_get, slice_index_or, reverse, nat_lt, nat_le, nat_eq, replicate, if◌then◌else◌}
 use Rattle.ac_base.specs.declared.ends.Trap.{Trap}
@@ -25,7 +27,7 @@ use Rattle.ac_commands.specs.declared.command.Command.{Command, out-Command}
 use Rattle.ac_commands.specs.declared.command.Command.TheOpen.{Command-F}
 use Rattle.ac_commands.specs.declared.program.Function.{Function}
 use Rattle.ac_commands.specs.declared.program.Resolved.{Resolved}
-use Rattle.ac_semantics.specs.Evaluation.{Acting, Ending, Outcome, Comes, Traps, Stops, row_goes, resumes}
+use Rattle.ac_semantics.specs.Evaluation.{Acting, Ending, Evaluated, Comes, Traps, Stops, row_goes, resumes}
 use Rattle.ac_semantics.specs.Held.{Held, with_shared, with_store, stepped, any_marked, turned, seen_of}
 use Rattle.ac_semantics.specs.Work as work
 use Rattle.ac_semantics.specs.Statements as s
@@ -118,7 +120,7 @@ module _ (past todo : List Entry) where
   requests_too (Ok asked) ws h = refl
   requests_too (Err trap) ws h = refl
 
-  settles_too : (program : Resolved) (command : Command) (frame : FrameId) (ws : List work.Work) (h : Held) (out : Outcome)
+  settles_too : (program : Resolved) (command : Command) (frame : FrameId) (ws : List work.Work) (h : Held) (out : Evaluated)
       → s.settles program command frame ws (held_under past todo h) out ≡ next_under past todo (s.settles program command frame ws h out)
   settles_too program command frame ws h (Comes value) = refl
   settles_too program command frame ws h (Traps trap) = refl

@@ -1,4 +1,7 @@
 -- The moves of a core under a journal, one after another, until it is over.
+-- For the loop of `run_through`, whose invariant is `Goes`: so many entries have come in, the run of the meaning leads to this move, and it
+-- is over by a number of moves that is known. A move that takes no entry, one that takes the next, and one that does not fit are the three
+-- ways on.
 use Rattle.std.proofs.Common.{◌≡◌, ℕ, ◌+◌, ◌<◌, List, [], ◌∷◌, ◌++◌, length, take, drop, true, false, ◌≢◌, sym, ap, ◌∙◌, subst, refl, suc, zero, arith, length-drop}
 use Rattle.std.specs.Prelude.{Option, Some, None, is_some, Bool, not, IsSome}
 use Rattle.std.proofs.Math.ListN.{drop_of_length-le}
@@ -9,8 +12,8 @@ use Rattle.core_state.proofs.Runs.{GoesOn-more, GoesOn-none}
 use Rattle.ac_commands.specs.declared.program.Function.{Function}
 use Rattle.ac_commands.specs.declared.program.Resolved.{Resolved}
 use Rattle.ac_semantics.specs.Threads.{CoreState, step, first_state}
-use Rattle.ac_interpreter.specs.declared.running.Halt.{Halt}
-use Rattle.ac_interpreter.specs.declared.running.Core.{Core}
+use Rattle.ac_interpreter.specs.declared.running.CoreStop.{CoreStop}
+use Rattle.ac_interpreter.specs.declared.running.InterpretedCore.{InterpretedCore}
 use Rattle.ac_interpreter.specs.declared.turns.Came.{Came}
 use Rattle.ac_interpreter.specs.Ends.{IsOverBy}
 use Rattle.ac_interpreter.specs.Unfit.{RunEnds, IsUnfit}
@@ -22,19 +25,19 @@ use Rattle.ac_interpreter.proofs.Growing.{Moved}
 use Rattle.ac_interpreter.proofs.Journals.{first_too}
 use Rattle.ac_interpreter.proofs.Prefixes.{is_unfit, is_unfit_first}
 
-pub none_of : (o : Option Halt) (test : Bool) → is_some o ≡ not test → test ≡ true → o ≡ None
+pub none_of : (o : Option CoreStop) (test : Bool) → is_some o ≡ not test → test ≡ true → o ≡ None
 none_of None test e t = refl
 none_of (Some halt) test e t = let no : true ≡ false = e ∙ ap not t in cc
 
-pub some_of : (o : Option Halt) (test : Bool) → is_some o ≡ not test → test ≡ false → o ≢ None
+pub some_of : (o : Option CoreStop) (test : Bool) → is_some o ≡ not test → test ≡ false → o ≢ None
 some_of None test e t = let no : false ≡ true = e ∙ ap not t in cc
 some_of (Some halt) test e t = λ h. let no : Some halt ≡ None = h in cc
 
-pub some_is : (o : Option Halt) → o ≢ None → IsSome o
+pub some_is : (o : Option CoreStop) → o ≢ None → IsSome o
 some_is None h = absurd (h refl)
 some_is (Some halt) h = refl
 
-pub going : (c : CoreState) (o : Option Halt) (test : Bool) → is_some o ≡ not test → test ≡ true → end_or c o ≡ On c
+pub going : (c : CoreState) (o : Option CoreStop) (test : Bool) → is_some o ≡ not test → test ≡ true → end_or c o ≡ On c
 going c o test e t = ap (end_or c) (none_of o test e t)
 
 -- one more entry of the journal has come in
@@ -105,15 +108,15 @@ module _ (p : Resolved) (b n core : ℕ) (function : Function) (journal : List E
     some_in end [] lt = absurd (omega (arith, lt))
     some_in end (x ∷ xs) lt = refl
 
-    pub is_over : (o : Option Halt) → o ≢ None → Goes k (end_or c o) → k ≡ length journal → GoesOn f first (end_or c o)
+    pub is_over : (o : Option CoreStop) → o ≢ None → Goes k (end_or c o) → k ≡ length journal → GoesOn f first (end_or c o)
     is_over None some known all = absurd (some refl)
     is_over (Some halt) some known all = subst (GoesOn f first) (all_in _ (drop k journal) (drop_of_length-le journal (omega (arith, all)))) known.goes
 
-    under_none : (o : Option Halt) → o ≢ None → k < length journal → under k (end_or c o) ≡ Over None
+    under_none : (o : Option CoreStop) → o ≢ None → k < length journal → under k (end_or c o) ≡ Over None
     under_none None some less = absurd (some refl)
     under_none (Some halt) some less = let n = length-drop k journal in some_in _ (drop k journal) (omega (arith, n, less))
 
-    pub is_stopped : (o : Option Halt) → o ≢ None → Goes k (end_or c o) → k < length journal → IsUnfit p core function b journal k × RunEnds p core function b journal None
+    pub is_stopped : (o : Option CoreStop) → o ≢ None → Goes k (end_or c o) → k < length journal → IsUnfit p core function b journal k × RunEnds p core function b journal None
     is_stopped o some known less =
         let over = under_none o some less in
         (known.stopped over, subst (GoesOn f first) over known.goes)
@@ -148,7 +151,7 @@ module _ (p : Resolved) (b n core : ℕ) (function : Function) (journal : List E
       }
 
     -- the move that the core has made
-    pub moved_here : (q : Resolved) (d : ℕ) (past todo : List Entry) (came now : Came) (after : Core) → q ≡ p → d ≡ b → past ≡ take k journal → todo ≡ drop k journal → came ≡ now
+    pub moved_here : (q : Resolved) (d : ℕ) (past todo : List Entry) (came now : Came) (after : InterpretedCore) → q ≡ p → d ≡ b → past ≡ take k journal → todo ≡ drop k journal → came ≡ now
         → IsMoved came past todo (step q d (core_under past todo c)) after → IsMoved now (take k journal) (drop k journal) (f (core_there k c)) after
     moved_here q d past todo came now after program bound before behind is h =
         subst (λ (x : Came). IsMoved x (take k journal) (drop k journal) (f (core_there k c)) after) is
@@ -175,9 +178,9 @@ module _ (p : Resolved) (b n core : ℕ) (function : Function) (journal : List E
       turned_less = next_less k next (sym h)
 
     -- the next entry came in
-    module _ (after : Core) (took : Took (take k journal) (drop k journal) (f (core_there k c)) after) where
+    module _ (after : InterpretedCore) (took : Took (take k journal) (drop k journal) (f (core_there k c)) after) where
       is_on : under (k + 1) (state_of after) ≡ On (core_under (take (k + 1) journal) (drop (k + 1) journal) (core_of after))
-      is_on = ap (λ (o : Option Halt). under (k + 1) (end_or (core_of after) o)) took.ended
+      is_on = ap (λ (o : Option CoreStop). under (k + 1) (end_or (core_of after) o)) took.ended
 
       comes_is : under (k + 1) (state_of after) ≡ f (core_there k c)
       comes_is =

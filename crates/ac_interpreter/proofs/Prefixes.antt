@@ -1,4 +1,6 @@
 -- A run under a journal is, up to where all entries of a prefix have come in, the run under that prefix.
+-- By induction on the number of moves, with Growing for each. So where the next entry is refused, the prefix through it comes to an end of
+-- which nothing is seen, and no lesser prefix does: that place is the least.
 use Rattle.std.proofs.Common.{◌≡◌, ℕ, zero, suc, ◌+◌, ◌≤◌, ◌<◌, List, [], ◌∷◌, ◌++◌, length, take, drop, replicate, refl, sym, ap, ◌∙◌, subst, inl, inr, ⊎_elim, arith, length-append, length-drop}
 use Rattle.std.specs.Prelude.{Option, Some, None, Result, Ok, Err, false}
 use Rattle.std.proofs.Math.ListN.{drop_of_length-le}

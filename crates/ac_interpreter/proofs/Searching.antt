@@ -1,4 +1,5 @@
 -- A search for the oldest operation for which a test holds: what it finds, and as far as it has come.
+-- For the loop of `oldest_to_try`: among the operations looked at the test holds for none, so the first for which it holds is the oldest.
 use Rattle.std.proofs.Common.{◌≡◌, ℕ, suc, ◌+◌, ◌<◌, ◌≤◌, List, ◌∷◌, [], length, get_or, drop, drop-cons, refl, sym, ap, ◌∙◌}
 use Rattle.std.specs.Prelude.{Option, Some, None, Bool, false, true, not, ◌&&◌, cond, find, position}
 use Rattle.std.specs.List.{position_from}

@@ -1,4 +1,6 @@
 -- What a cancel comes to under a journal: an offer that it tries is decided by the next entry.
+-- By the progress of the oldest operation within: one that waits never happens, and one that is offered takes the next entry, which is its
+-- outcome or does not fit. Where none is left to try, the thread goes on.
 use Rattle.std.proofs.Common.{◌≡◌, ℕ, ℤ, List, [], ◌∷◌, ◌++◌, get_or, refl, sym, ap, ◌∙◌, inl, inr}
 use Rattle.std.specs.List.{remove}
 use Rattle.std.specs.Prelude.{Option, Some, None, Bool, true, false, nat_eq, find, if◌then◌else◌}
@@ -18,7 +20,7 @@ use Rattle.ac_interpreter.proofs.Searching.{is_not_begun}
 use Rattle.core_state.specs.Moves.{On, Over}
 use Rattle.core_state.specs.Shared.{Shared, with_entry, core_end}
 use Rattle.core_state.specs.Arrivals.{Arrival, cancelled}
-use Rattle.core_state.specs.Cancelling.{Outcome, NeverHappens, by_outcome, outcome, goes_by, tried, tries, is_to_try}
+use Rattle.core_state.specs.Cancelling.{Fate, NeverHappens, by_outcome, outcome, goes_by, tried, tries, is_to_try}
 use Rattle.ac_semantics.specs.Held.{Held, with_mark, seen_of}
 use Rattle.ac_semantics.specs.Work.{Work}
 use Rattle.ac_semantics.specs.Threads.{CoreState, is_inside, goes_on, resumed, arrived, calls_off}
@@ -50,7 +52,7 @@ module _ (test : Operation → Bool) (o : Operation) (number : ℕ) (c : CoreSta
   none_left (x ∷ xs) h = let no : x ∷ xs ≡ [] = h in cc
 
   module _ (todo : List Entry) (e : Entry) (es : List Entry) (front : todo ≡ e ∷ es) where
-    abbrev by_fate : Option Outcome → Moved
+    abbrev by_fate : Option Fate → Moved
     by_fate it =
         goes_by (λ (end : Option CoreEnd). end) (λ it. On (after_outcome test o (core_under past todo c) (with_entry (held_under past todo c.held).shared e es) it)) it
 
@@ -70,7 +72,7 @@ module _ (test : Operation → Bool) (o : Operation) (number : ℕ) (c : CoreSta
     resumed_under x value None = refl
     resumed_under x value (Some t) = refl
 
-    pub comes_out : (it : Outcome) → nat_eq e.turn c.held.shared.turn ≡ true → outcome o.link number e.event ≡ Some it
+    pub comes_out : (it : Fate) → nat_eq e.turn c.held.shared.turn ≡ true → outcome o.link number e.event ≡ Some it
         → deciding test o number (core_under past todo c) todo ≡ On (core_under (past ++ e ∷ []) es (after_outcome test o c c.held.shared it))
     comes_out it is some =
         let x = by_outcome it c.held.store test c.held.operations o in
@@ -154,7 +156,7 @@ module _ (c : CoreState) (block : BlockId) (h : Held) (again ws : List Work) (pa
 
   module _ (e : Entry) where
     -- by the first entry, before these
-    abbrev by_entry : List Entry → Operation → Bool → Option Outcome → Moved
+    abbrev by_entry : List Entry → Operation → Bool → Option Fate → Moved
     by_entry xs o now it =
         if now then goes_by (λ (end : Option CoreEnd). end) (λ it. On (arrived (marked (e ∷ xs)) (with_entry (held_under past (e ∷ xs) h).shared e xs)
         (by_outcome it h.store tested h.operations o))) it
@@ -164,7 +166,7 @@ module _ (c : CoreState) (block : BlockId) (h : Held) (again ws : List Work) (pa
       arrived_follows : (x : Arrival) → Follows e es (On (arrived (marked (e ∷ es)) (with_entry (held_under past (e ∷ es) h).shared e es) x))
       arrived_follows x = inr (still_to_come (after (marked (e ∷ es)) (with_entry (held_under past (e ∷ es) h).shared e es) x) (cell.Int x.value) x.woken)
 
-      entry_follows : (o : Operation) (now : Bool) (it : Option Outcome) → Follows e es (by_entry es o now it)
+      entry_follows : (o : Operation) (now : Bool) (it : Option Fate) → Follows e es (by_entry es o now it)
       entry_follows o true None = refl
       entry_follows o true (Some it) = arrived_follows (by_outcome it h.store tested h.operations o)
       entry_follows o false it = refl
@@ -186,7 +188,7 @@ module _ (c : CoreState) (block : BlockId) (h : Held) (again ws : List Work) (pa
           (grown later (On (arrived (marked (e ∷ es)) (with_entry (held_under past (e ∷ es) h).shared e es) x)))
       arrived_grows x = resumed_grows later (after (marked (e ∷ es)) (with_entry (held_under past (e ∷ es) h).shared e es) x) (cell.Int x.value) x.woken
 
-      entry_grows : (o : Operation) (now : Bool) (it : Option Outcome) → by_entry (es ++ later) o now it ≡ grown later (by_entry es o now it)
+      entry_grows : (o : Operation) (now : Bool) (it : Option Fate) → by_entry (es ++ later) o now it ≡ grown later (by_entry es o now it)
       entry_grows o true None = refl
       entry_grows o true (Some it) = arrived_grows (by_outcome it h.store tested h.operations o)
       entry_grows o false it = refl

@@ -1,4 +1,6 @@
 -- What a move of the running thread comes to under a journal, by what its next step is.
+-- The interpreter makes the step without a journal and then moves its core; here that is the meaning's move, for a cancel, a step without a
+-- meaning, and any other.
 use Rattle.std.proofs.Common.{◌≡◌, ℕ, List, [], refl, sym, ap, ◌∙◌, subst}
 use Rattle.std.specs.Prelude.{Some, Bool, true, false, Result, Ok, Err, IfOk, OnOk, MatchBool}
 use Rattle.ac_base.specs.declared.entry.Entry.{Entry}
@@ -15,7 +17,7 @@ use Rattle.ac_semantics.specs.Threads.{CoreState, thread_at, none_within, path, 
 use Rattle.interpreter_steps.specs.declared.statements.Next.{Next}
 use Rattle.interpreter_steps.specs.declared.statements.Next.TheVariants as n
 use Rattle.ac_interpreter.specs.declared.turns.Came.{Came}
-use Rattle.ac_interpreter.specs.declared.running.Core.{Core}
+use Rattle.ac_interpreter.specs.declared.running.InterpretedCore.{InterpretedCore}
 use Rattle.interpreter_state.specs.Operations.{asked_of}
 use Rattle.interpreter_steps.specs.Works.{past_first}
 use Rattle.interpreter_steps.specs.Nexts.{next_with}
@@ -25,7 +27,7 @@ use Rattle.ac_interpreter.proofs.Growing.{Moved}
 use Rattle.ac_interpreter.proofs.Journals.{next_under, applied_too, runs_under}
 
 -- the same move, told in another way
-pub moved_as : (m m' : Moved) (past todo : List Entry) (after : Core) (r : Result Came NoMemory) → m' ≡ m → IfOk r (λ now. IsMoved now past todo m after)
+pub moved_as : (m m' : Moved) (past todo : List Entry) (after : InterpretedCore) (r : Result Came NoMemory) → m' ≡ m → IfOk r (λ now. IsMoved now past todo m after)
     → IfOk r (λ now. IsMoved now past todo m' after)
 moved_as m m' past todo after r e h = subst (λ (x : Moved). IfOk r (λ now. IsMoved now past todo x after)) (sym e) h
 

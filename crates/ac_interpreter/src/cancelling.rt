@@ -4,7 +4,7 @@ ghost use Rattle.std.specs.Prelude.{◌≡◌, Some, None, MatchOption};
 ghost use Rattle.core_state.specs.Cancelling.{outcome};
 ghost use Rattle.ac_interpreter.specs.inner.Outcomes.{outcome_of};
 
-use crate::running::{CANCELLED, Core};
+use crate::running::{CANCELLED, InterpretedCore};
 use crate::turns::{Came, next_entry};
 use ac_base::{EndWord, Entry, Event, NoMemory};
 use cancel_scope::Progress;
@@ -36,7 +36,7 @@ fn outcome(link: u32, number: u64, event: &Event) -> Option<Fate>
     }
 }
 
-impl<'a> Core<'a> {
+impl<'a> InterpretedCore<'a> {
     ghost use Rattle.std.specs.Prelude.{◌≡◌, ◌<◌, None, List, Bool, length, position, IfOk, OnOk};
     ghost use Rattle.ac_base.specs.declared.entry.Entry.{Entry};
     ghost use Rattle.cancel_scope.specs.declared.operation.Operation.{Operation};

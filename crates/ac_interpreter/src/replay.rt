@@ -9,7 +9,7 @@ ghost use Rattle.ac_interpreter.specs.inner.Runs.{IsOver, IsStopped};
 ghost use Rattle.ac_interpreter.specs.declared.replay.Run.TheVariants as r;
 
 use crate::ending::Ending;
-use crate::running::{Core, begin_core};
+use crate::running::{InterpretedCore, begin_core};
 use crate::turns::Came;
 use ac_base::{CoreEnd, Entry, NoMemory};
 use std::alloc::Global;
@@ -38,7 +38,7 @@ fn after(journal: &[Entry], taken: usize) -> &[Entry]
 }
 
 // Runs a core until it has ended or the next entry does not fit; how many have come in.
-fn run_through(core: &mut Core, ending: &Ending) -> Result<usize, NoMemory>
+fn run_through(core: &mut InterpretedCore, ending: &Ending) -> Result<usize, NoMemory>
     requires program { core.old.program.now ≡ ending.now.program.now }
     requires bound { core.old.bound ≡ ending.now.bound }
     requires first { state_of core.old ≡ first_state ending.now.program.now ending.now.core ending.now.function.now [] }

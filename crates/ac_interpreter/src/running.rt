@@ -23,14 +23,14 @@ pub const CANCELLED: i64 = -1;
 
 /// How a core has ended; it is idle where it only waits.
 #[derive(Clone, Copy)]
-pub struct Halt {
+pub struct CoreStop {
     pub word: EndWord,
     pub idle: bool,
 }
 
 /// A core of a program: what it holds, the running thread and its work, the ready list, all threads, and how it has ended.
 #[derive(Drop)]
-pub struct Core<'a> {
+pub struct InterpretedCore<'a> {
     pub program: &'a Resolved,
     pub bound: u64,
     pub held: Held,
@@ -38,11 +38,11 @@ pub struct Core<'a> {
     pub work: Agenda<'a>,
     pub ready: VecDeque<Item>,
     pub threads: Threads<'a>,
-    pub ended: Option<Halt>,
+    pub ended: Option<CoreStop>,
     pub alloc: Global,
 }
 
-impl<'a> Core<'a> {
+impl<'a> InterpretedCore<'a> {
     ghost use Rattle.std.specs.Prelude.{◌≡◌, None, Some, IsSome, OnOk, IfOk, []};
     ghost use Rattle.work_item.specs.Store.{released};
     ghost use Rattle.core_state.specs.Moves.{On, Over};
@@ -136,7 +136,7 @@ impl<'a> Core<'a> {
         ensures state { state_of self.new ≡ Over (seen_of word idle (held_of self.old.held)) }
         ensures same { IsSameCore self.old self.new }
     {
-        self.ended = Some(Halt { word, idle });
+        self.ended = Some(CoreStop { word, idle });
     }
 
     /// What a step of the running thread comes to that is no cancel.
@@ -198,7 +198,7 @@ impl<'a> Core<'a> {
         requires ended { IsSome self.ended }
         ensures { IfOk result (λ end. state_of self.entry ≡ Over (Some end)) }
     {
-        let Core {
+        let InterpretedCore {
             held,
             ended,
             alloc,
@@ -211,7 +211,7 @@ impl<'a> Core<'a> {
             operations,
             ..
         } = held;
-        let Some(Halt { word, idle }) = ended else {
+        let Some(CoreStop { word, idle }) = ended else {
             unreachable!()
         };
         let waiting = seen_operations(alloc, operations.as_slice())?;
@@ -248,13 +248,13 @@ fn set_starts(memory: &mut Memory, starts: &[Start])
 }
 
 // Where there is no room for its first frame, a core has ended.
-fn first_halt(has_room: bool) -> Option<Halt>
+fn first_halt(has_room: bool) -> Option<CoreStop>
     ensures { result ≡ (if has_room then None else Some (record { word = Trapped StackFull; idle = false })) }
 {
     if has_room {
         None
     } else {
-        Some(Halt {
+        Some(CoreStop {
             word: EndWord::Trapped(Trap::StackFull),
             idle: false,
         })
@@ -268,7 +268,7 @@ pub fn begin_core<'a>(
     core: u32,
     function: &'a Function,
     bound: u64,
-) -> Result<Core<'a>, NoMemory>
+) -> Result<InterpretedCore<'a>, NoMemory>
     requires link { request_link (length program.now.channels) core < 2 ^ 32 }
     ensures program { IfOk result (λ c. c.program.now ≡ program.now) }
     ensures bound { IfOk result (λ c. c.bound ≡ bound) }
@@ -288,7 +288,7 @@ pub fn begin_core<'a>(
         let first = threads.push(Vec::new(alloc), work)?;
         ready.push_back(first)?;
     }
-    Ok(Core {
+    Ok(InterpretedCore {
         program,
         bound,
         held: Held {

@@ -3,7 +3,7 @@
 ghost use Rattle.std.specs.Prelude.{◌≡◌, [], ◌∷◌, drop, nat_eq, true, MatchOption};
 ghost use Rattle.ac_interpreter.specs.inner.Under.{IsLater};
 
-use crate::running::Core;
+use crate::running::InterpretedCore;
 use ac_base::{Entry, Event, NoMemory};
 use interpreter_state::Woken;
 use interpreter_steps::{Next, next_step};
@@ -41,7 +41,7 @@ fn entry_now(todo: &[Entry], turn: u64) -> Option<&Entry>
     }
 }
 
-impl<'a> Core<'a> {
+impl<'a> InterpretedCore<'a> {
     ghost use Rattle.std.specs.Prelude.{◌≡◌, None, Some, List, IfOk, MatchBool};
     ghost use Rattle.ac_base.specs.declared.entry.Entry.{Entry};
     ghost use Rattle.ac_semantics.specs.Statements.{Stays, next_of};

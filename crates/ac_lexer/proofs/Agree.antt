@@ -1,4 +1,6 @@
--- What the definition has at a place is read there.
+-- What the definition has at a place is read there (`stands_read`, `gap_reads`), so that it has nothing else.
+-- Since what is read is of the definition too (Pieces), two fronts of the same bytes are compared (`Compared`): of the same length, they are of
+-- one kind (`spelled_one`); a longer one contradicts that a token is the longest. The first end of a block comment is found by comparing, too.
 use Rattle.std.proofs.Common.{◌≡◌, ℕ, ◌+◌, ◌<◌, Bool, true, false, List, [], ◌∷◌, ◌++◌, length, Option, Some, None, Result, Ok, refl, sym, ap, ◌∙◌, subst, append_assoc, length-append, arith}
 use Rattle.std.specs.Prelude.{◌==◌, ◌&&◌, nat_lt, pos}
 use Rattle.std.proofs.lemmas.List.{append-nil}

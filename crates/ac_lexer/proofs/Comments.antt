@@ -1,4 +1,5 @@
--- The end of a comment.
+-- The end of a comment: `block_end` finds the first star with a slash behind it, and nothing where there is none (`blocks`, `never`).
+-- By induction on the bytes. The byte before them, `p`, is part of the statement, since it may be the star whose slash comes first here.
 use Rattle.std.proofs.Common.{◌≡◌, ℕ, ◌+◌, Bool, true, false, List, [], ◌∷◌, ◌++◌, length, Option, Some, None, refl, ap, ◌∙◌, arith}
 use Rattle.std.specs.Prelude.{if◌then◌else◌, ◌==◌, ◌&&◌, option_map}
 use Rattle.std.proofs.lemmas.Bool.Decides.{nat_tests}

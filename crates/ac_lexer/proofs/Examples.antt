@@ -1,4 +1,5 @@
--- Small texts, and the tokens or the fault that the definition gives them.
+-- Small texts, and the tokens or the fault that the definition gives them; before them bytes, spellings, gaps and faults by their cases.
+-- A text is read by computing (Lexed), so the definition has what is read; that it has nothing else is shown by `lexes_only`.
 use Rattle.std.proofs.Common.{◌≡◌, ℕ, pos, true, false, List, [], ◌∷◌, ◌++◌, map, codes, Some, None, Result, Ok, Err, refl}
 use Rattle.ac_lexer.specs.declared.fault.LexFault.{LexFault}
 use Rattle.ac_lexer.specs.declared.fault.LexFault.TheVariants as l

@@ -1,4 +1,6 @@
--- A fault of the definition is read as that fault.
+-- A fault of the definition is read as that fault (`fault_read`): a case for each fault, by what `piece_at` comes to at the first byte.
+-- The hard case is a stray byte, of which the definition says only that no token begins with it: wherever a test of the reader held, some
+-- token would, so each test fails.
 use Rattle.std.proofs.Common.{◌≡◌, ℕ, ◌+◌, ◌^◌, ◌<◌, Bool, true, false, List, [], ◌∷◌, ◌++◌, length, Option, Some, None, Ok, Err, refl, sym, ap, ◌∙◌, subst, arith}
 use Rattle.std.specs.Prelude.{◌==◌, pos}
 use Rattle.std.proofs.lemmas.Bool.Decides.{nat_tests}

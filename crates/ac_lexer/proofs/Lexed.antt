@@ -1,4 +1,6 @@
--- A whole text, read in at most so many pieces, and that it has what is read and nothing else.
+-- A whole text, read in at most so many pieces, and that it has what is read and nothing else. For the examples: `lexed` computes.
+-- Both are inductions on the number of pieces: `lexes` by what stands at each place (`goes`), `lexes_only` by what any other answer begins
+-- with (`after`).
 use Rattle.std.proofs.Common.{◌≡◌, ℕ, zero, suc, ◌+◌, ◌<◌, List, [], ◌∷◌, length, drop, Option, Some, None, Result, Ok, Err, refl, sym, ap, ◌∙◌, subst, arith}
 use Rattle.std.specs.Prelude.{map}
 use Rattle.ac_lexer.specs.declared.fault.LexFault.{LexFault}

@@ -1,4 +1,6 @@
--- Numbers as the whole language reads them.
+-- Numbers as the whole language reads them: what `number_at` answers where it is too large, has a 0 in front, has a letter behind, or is good.
+-- The bytes are split into the run of digits and what follows (`Digits`), so value, length and next byte are known, and each test of
+-- `number_at` is decided by a hypothesis. A number that is read is as long as its run.
 use Rattle.std.proofs.Common.{◌≡◌, ℕ, ◌+◌, ◌^◌, ◌<◌, ◌≤◌, Bool, true, false, List, [], ◌∷◌, ◌++◌, length, drop, Result, Ok, Err, refl, sym, ap, ◌∙◌, arith}
 use Rattle.std.specs.Prelude.{if◌then◌else◌, ◌&&◌, nat_lt, pos}
 use Rattle.std.proofs.lemmas.Bool.Decides.{nat_tests}

@@ -1,4 +1,6 @@
--- What is read at a place is what the definition has there.
+-- What is read at a place is what the definition has there (`reads`): a gap, a token that stands there or a fault, for each class of first byte.
+-- That a token is the longest comes from one lemma (`least`): whatever is spelled at the front, reading takes at least as many bytes.
+-- The hard case is a text: its line is closed or ends open (`Quoted`), and is a body or has a first bad byte (`Sorted`).
 use Rattle.std.proofs.Common.{◌≡◌, ℕ, ◌+◌, ◌^◌, ◌<◌, ◌≤◌, Bool, true, false, List, [], ◌∷◌, ◌++◌, length, Option, Some}
 use Rattle.std.proofs.Common.{None, Result, Ok, Err, refl, sym, ap, ◌∙◌, subst, append_assoc, length-append, arith}
 use Rattle.std.specs.Prelude.{if◌then◌else◌, ◌==◌, ◌&&◌, nat_lt, pos}

@@ -1,4 +1,6 @@
--- Reading the bytes of a text after its opening quote.
+-- Reading the bytes of a text after its opening quote: how `text_from` goes over a body, over a bad byte and over the line behind it, and
+-- where it stops at an open end. Each is an induction on what the definition says of those bytes (`Body`, `Line`), by one byte (`step`) or by
+-- a backslash and its byte (`escaped`). What goes along: the place, the first bad byte and the value.
 use Rattle.std.proofs.Common.{◌≡◌, ℕ, ◌+◌, Bool, true, false, List, [], ◌∷◌, ◌++◌, length, Option, Some, None, Err, refl, sym, ap, ◌∙◌, append_assoc, arith}
 use Rattle.std.specs.Prelude.{◌==◌, ◌&&◌, not}
 use Rattle.std.proofs.lemmas.Bool.Decides.{nat_tests}

@@ -1,4 +1,5 @@
--- Lists of bytes, and runs of bytes that pass a test.
+-- Lists of bytes, and runs of bytes that pass a test: each list is a run and what follows it (`splits`), and `run` counts that run (`run_of`).
+-- By induction on the bytes. Then classes of bytes that exclude each other, and the rest of a text behind a place, as `tokens_of` cuts it.
 use Rattle.std.proofs.Common.{◌≡◌, ℕ, zero, suc, ◌+◌, ◌-◌, ◌*◌, ◌<◌, ◌≤◌, Bool, true, false, List, [], ◌∷◌, ◌++◌, length, take, drop, length-drop, refl, ap, arith}
 use Rattle.std.specs.Prelude.{◌==◌}
 use Rattle.std.proofs.lemmas.Bool.Decides.{nat_tests}

@@ -1,4 +1,5 @@
--- The table of marks.
+-- The table of marks: what the tables of one byte and of two find is the mark so spelled (`mark_one_is`, `mark_two_is`), and each mark stands
+-- in its table (`shape`). The first goes along a table all of whose marks have one form (`Formed`), the second has a case for each mark.
 use Rattle.std.proofs.Common.{◌≡◌, ℕ, ◌<◌, Bool, true, false, List, [], ◌∷◌, length, Option, Some, None, refl, sym, ap, ◌∙◌, arith}
 use Rattle.std.specs.Prelude.{if◌then◌else◌, ◌==◌}
 use Rattle.ac_lexer.specs.declared.token.Mark.{Mark}
@@ -37,6 +38,7 @@ among_is : (form : ℕ → List ℕ) (ms : List Mark) (b : ℕ) (v : Mark) → F
 among_is form [] b v f h = absurd (no_mark v h)
 among_is form (m ∷ ms) b v f h = among_case form m ms b v (starts (λ c. b == c) (sign m)) refl f.0.0 f.0.1 f.0.2 (among_is form ms b v f.1) h
 
+-- of each mark of one byte, in the order of the table: its byte, that it is spelled so, and that it begins so
 singles : Formed (λ b. b ∷ []) single_marks
 singles = (
   (43, refl, refl),
@@ -136,6 +138,7 @@ symbol : (b : ℕ) → is_symbol b ≡ true → Symbol b
 unfolding is_symbol
 symbol b h = symbol_case b (is_blank b) (is_letter b) (is_digit b) (b == 34) refl refl refl refl h
 
+-- by computing, mark for mark: its bytes, that its table finds it by them, and that the first of them begins nothing else
 pub shape : (m : Mark) → Shape m
 unfolding mark_of_one mark_of_two is_symbol
 shape m.OrOr = double 124 124 m.Bar refl refl refl (symbol 124 refl) refl

@@ -1,4 +1,5 @@
--- The value of digits only grows.
+-- The value of digits only grows, by induction on the bytes. So digits that are too large already stay so whatever follows (`too_large`),
+-- and the loop of `number` may stop there.
 use Rattle.std.proofs.Common.{◌≡◌, ℕ, ◌+◌, ◌-◌, ◌*◌, ◌≤◌, ◌^◌, Bool, true, false, List, [], ◌∷◌, arith}
 use Rattle.std.specs.Prelude.{if◌then◌else◌}
 use Rattle.ac_lexer.specs.Spelling.{is_digit, value_of}

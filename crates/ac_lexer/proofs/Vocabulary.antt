@@ -1,4 +1,6 @@
--- Names and the table of words.
+-- Names and the table of words: the letters of each word are found as that word (`word_reads`, a case for each), what is found has those
+-- letters (`word_is`, along the table), and what is read at the front is the whole run of bytes of names (`name_read`).
+-- `name_or_word_is` joins the two kinds: what holds of words, and of names that are no words, holds of every such run.
 use Rattle.std.proofs.Common.{◌≡◌, ℕ, ◌≤◌, ◌<◌, Bool, true, false, List, [], ◌∷◌, ◌++◌, length, take, Option, Some, None, refl, sym, ap, ◌∙◌, subst, arith}
 use Rattle.std.specs.Prelude.{if◌then◌else◌, ◌&&◌}
 use Rattle.std.specs.Str.{bytes_eq}
@@ -50,6 +52,7 @@ unfolding is_named
 named_if [] h = cc
 named_if (b ∷ bs) h = named b bs (and_left (is_letter b) (all_names bs) h) (each_name bs (and_right (is_letter b) (all_names bs) h))
 
+-- by computing, word for word: the letters of each word are a letter and then bytes of names
 word_is_named : (v : Word) → is_named (letters v) ≡ true
 unfolding is_named all_names
 word_is_named w.Int = refl
@@ -81,6 +84,7 @@ word_is_named w.Fault = refl
 pub word_named : (v : Word) → Named (letters v)
 word_named v = named_if (letters v) (word_is_named v)
 
+-- by computing, word for word: of the words of that length, the first with these letters is the word itself
 pub word_reads : (v : Word) → word_of (letters v) ≡ Some v
 unfolding word_of
 word_reads w.Int = refl

@@ -1,4 +1,6 @@
--- From piece to piece through the whole text.
+-- From piece to piece through the whole text: the invariant of `tokens_of` (`So`), that a piece keeps it, and what it gives at the end and at a
+-- fault: the answer is the text's, and the text has no other. Forwards, tokens and what follows are put together (by Pieces); backwards, the
+-- harder one, what the text has is taken apart, and begins with the piece that was read (`after`, by Agree).
 use Rattle.std.proofs.Common.{◌≡◌, ℕ, ◌+◌, ◌<◌, ◌≤◌, List, [], ◌∷◌, ◌++◌, length, drop, Option, Some, None, Result, Ok}
 use Rattle.std.proofs.Common.{Err, refl, sym, ap, ◌∙◌, subst, append_assoc, length-append, length-drop, drop-drop, arith}
 use Rattle.std.specs.Prelude.{IfOk}

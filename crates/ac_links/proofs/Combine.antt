@@ -1,4 +1,5 @@
--- How the link that two views make changes with them.
+-- How the link that two views make changes with them: one more offer, a change of one offer, one more decision.
+-- By induction on the two views. The front of that link is the number of decisions, and how far it is known is the owner's lead.
 use Rattle.std.proofs.Common.{◌≡◌, ℕ, zero, suc, ◌≤◌, List, [], ◌∷◌, ◌++◌, Option, Some, None, cond, refl, ap, ◌∙◌, subst, arith, length}
 use Rattle.std.specs.Prelude.{slice_get, is_some}
 use Rattle.ac_links.specs.declared.offer.LinkOffer.{LinkOffer}

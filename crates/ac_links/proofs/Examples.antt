@@ -1,4 +1,5 @@
 -- What the definitions of a link say of small ones: a channel for one message, and a link of requests.
+-- Those that hold do so by computing, entry by entry.
 use Rattle.std.proofs.Common.{◌≡◌, refl, ℕ, zero, suc, List, [], ◌∷◌, ◌++◌, Some, None, true, false, cond, sym, subst, arith}
 use Rattle.std.specs.Prelude.{pos, negsuc, ◌==◌}
 use Rattle.std.proofs.lemmas.Bool.Decides.{nat_tests}

@@ -1,4 +1,6 @@
--- The views of the two sides at a moment, against those at the end.
+-- The views of the two sides at a moment, against those at the end: what was there stays, and what is new is not before the moment (`Before`, `BeforeD`).
+-- By induction on the entries that are left, with one case for each entry that a side may make.
+-- The lemmas `*_at`, `*_new` and `agree_*` read one offer or decision out of this.
 use Rattle.std.proofs.Common.{◌≡◌, ℕ, zero, suc, ◌<◌, ◌≤◌, List, [], ◌∷◌, ◌++◌, Option, Some, None, Bool, true, false, refl, sym, ap, ◌∙◌, subst, inl, inr, ◌⊎◌, arith, length}
 use Rattle.std.specs.Prelude.{slice_get, is_some, is_none, ◌&&◌}
 use Rattle.std.specs.List.{AllByRecursion}

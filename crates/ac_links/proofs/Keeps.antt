@@ -1,4 +1,5 @@
--- Each change of one side keeps the two views in agreement.
+-- Each change of one side keeps the two views in agreement. For `views_go_on_agreeing`.
+-- By induction on the two views, down to the offer that changes; an owner learns only what was decided, and withdraws only what was not.
 use Rattle.std.proofs.Common.{◌≡◌, ℕ, zero, suc, ◌≤◌, List, [], ◌∷◌, ◌++◌, Some, None, sym, ap, ◌∙◌, subst, arith, length}
 use Rattle.std.specs.Prelude.{slice_get}
 use Rattle.ac_base.specs.declared.entry.Answer.{Answer}

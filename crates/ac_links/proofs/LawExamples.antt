@@ -1,4 +1,5 @@
--- What the laws of a link say of the small links of the other examples.
+-- What the laws of a link say of the small links of the other examples: one message, a second one, and two requests.
+-- Each takes a law as its hypothesis and gives it what the small link has.
 use Rattle.std.proofs.Common.{◌≡◌, refl, List, [], ◌∷◌, ◌++◌, Some, None, arith}
 use Rattle.std.specs.Prelude.{pos}
 use Rattle.ac_base.specs.declared.entry.Payload.TheVariants.{Int}

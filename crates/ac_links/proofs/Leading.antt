@@ -1,4 +1,5 @@
--- How many leading offers pass a test, after a change.
+-- How many leading offers pass a test, after a change: the front of a link and how far its owner knows are two such counts.
+-- By induction on the offers. A change at n leaves the count at least the lesser of what it was and n, so a search need not begin again at nought. For `Link`.
 use Rattle.std.proofs.Common.{◌≡◌, ℕ, zero, suc, ◌+◌, ◌<◌, ◌≤◌, List, [], ◌∷◌, ◌++◌, Option, Some, None, Bool, true, false, cond, refl, sym, ap, ◌∙◌, subst, arith, length, get_or, set}
 use Rattle.std.specs.Prelude.{slice_get, min}
 use Rattle.ac_base.specs.declared.entry.Event.{Event}

@@ -1,4 +1,5 @@
--- Two lists that rise, in one list that rises.
+-- Two lists that rise, sorted into one, are mixed: each entry of the sorted list is the next of the one or the other, and is not after what is left of either.
+-- By induction on the first list, whose head is put in its place among the rest. Pair goes through this mix entry by entry.
 use Rattle.std.proofs.Common.{◌≡◌, ℕ, ◌<◌, ◌≤◌, List, [], ◌∷◌, ◌++◌, Bool, true, false, cond, refl, sym, subst, inl, inr, ◌⊎◌, arith}
 use Rattle.std.specs.Prelude.{nat_le}
 use Rattle.std.proofs.lemmas.Bool.Decides.{nat_tests}

@@ -1,4 +1,7 @@
--- Where the two views of a link agree, the entries of its two sides, in order, fit the link.
+-- Where the two views of a link agree, the entries of its two sides, in order, fit the link, and lead to the link that the views make.
+-- By induction on the mix of the two sides (Mixing). `State` says of a moment that each side still leads from its view now to its view at the end.
+-- `Step` is one entry: it fits, answers and asks what the views say, and the link after it is again the one that the two views make.
+-- The hard case is a decision: the offer that it decides is there already since its stamp is earlier, and stands as it does at the end since what is new is later (Growth).
 use Rattle.std.proofs.Common.{◌≡◌, ℕ, zero, suc, ◌<◌, ◌≤◌, List, [], ◌∷◌, ◌++◌, Option, Some, None, Bool, true, not, refl, sym, ap, ◌∙◌, subst, inl, inr, arith, length}
 use Rattle.std.specs.Prelude.{slice_get, is_some, ◌&&◌, ◌==◌, IfSome, bytes_eq, ℤ}
 use Rattle.std.specs.List.{AllByRecursion}

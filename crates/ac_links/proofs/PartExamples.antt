@@ -1,4 +1,5 @@
 -- What the parts say of which the definitions of a link are made, for the small links of the other examples.
+-- Those that hold do so by computing.
 use Rattle.std.proofs.Common.{◌≡◌, refl, List, [], ◌∷◌, Some, None, true, false, arith}
 use Rattle.std.specs.Prelude.{pos, slice_get}
 use Rattle.ac_base.specs.declared.entry.Payload.TheVariants.{Int}

@@ -1,4 +1,5 @@
--- What holds of the entries of each link, and of those of all links.
+-- What holds of the entries of each link holds of those of all links; and the entries kept for a link are of it.
+-- By induction on the entries: each one is of its own link.
 use Rattle.std.proofs.Common.{◌≡◌, ℕ, List, [], ◌∷◌, Bool, true, false, cond, refl, ap, ◌∙◌, subst, arith}
 use Rattle.std.specs.Prelude.{◌==◌}
 use Rattle.std.specs.List.{filter, AllByRecursion}

@@ -1,4 +1,5 @@
--- One entry more of a party with many ends and one journal.
+-- One entry more of a party with many ends and one journal. For `a_party_goes_on`.
+-- At each link either the entry is of it, and its end goes on (Push), or neither entries nor end change there. Notes and stamps are then put together link by link (Parted).
 use Rattle.std.proofs.Common.{◌≡◌, ℕ, ◌<◌, List, [], ◌∷◌, ◌++◌, Bool, true, false, cond, refl, sym, ap, ◌∙◌, subst, inl, inr, arith}
 use Rattle.std.specs.Prelude.{◌==◌}
 use Rattle.std.specs.List.{filter, AllByRecursion}

@@ -1,4 +1,6 @@
 -- One entry more of one side: its end and its journal go on agreeing.
+-- A side's notes are read from its view at the end, so a longer view must note the same of each entry before: what it knew and had is kept (Growth).
+-- The runs themselves are lengthened by induction on the entries.
 use Rattle.std.proofs.Common.{◌≡◌, ℕ, zero, suc, ◌<◌, ◌≤◌, List, [], ◌∷◌, ◌++◌, Option, Some, true, not, refl, sym, ap, ◌∙◌, subst, arith, length}
 use Rattle.std.specs.Prelude.{slice_get, ◌==◌}
 use Rattle.std.proofs.lemmas.List.{length-append}

@@ -1,4 +1,5 @@
 -- What two views make of a small link, and when nothing on it waits for one of its sides.
+-- Those that hold do so by computing.
 use Rattle.std.proofs.Common.{◌≡◌, refl, List, [], ◌∷◌, ◌++◌, Some, None, true, false, arith}
 use Rattle.std.specs.Prelude.{pos}
 use Rattle.ac_base.specs.declared.entry.Payload.TheVariants.{Int}

@@ -1,4 +1,5 @@
--- Where both sides of a link rest by their views, the link that these make has nothing for either.
+-- Where both sides of a link rest by their views, the link that these make has nothing for either. For `sides_at_rest_have_nothing`.
+-- By induction on the two views, offer by offer: each decision is known and each reply was had.
 use Rattle.std.proofs.Common.{◌≡◌, ℕ, suc, ◌≤◌, List, [], ◌∷◌, ◌++◌, Option, Some, None, Bool, true, false, not, ◌&&◌, cond, refl, arith, length}
 use Rattle.std.specs.Prelude.{is_some, nat_lt}
 use Rattle.std.specs.List.{AllByRecursion}

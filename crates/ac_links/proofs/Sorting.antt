@@ -1,4 +1,5 @@
--- A stable sort by numbers: what it keeps under a filter.
+-- A stable sort by numbers: its result rises, a list that rises stays as it is, and leaving out entries before or after the sort is the same.
+-- By induction on the list, of which each element is put in its place.
 use Rattle.std.proofs.Common.{◌≡◌, ℕ, ◌≤◌, List, [], ◌∷◌, Bool, true, false, cond, refl, sym, ap, ◌∙◌, arith}
 use Rattle.std.specs.Prelude.{nat_le}
 use Rattle.std.specs.List.{filter}

@@ -1,4 +1,5 @@
--- What each side noted of an answered entry is what the other side has.
+-- What each side noted of an answered entry is what the other side has. For `two_views_make_a_link`.
+-- By induction on the entries of one side: what it noted at an entry still stands in its view at the end (Growth), and there the two views agree.
 use Rattle.std.proofs.Common.{◌≡◌, ℕ, List, [], ◌∷◌, ◌++◌, Option, Some, None, true, refl, sym, ap, ◌∙◌, subst, arith, length}
 use Rattle.std.specs.Prelude.{slice_get, ◌==◌, IfSome, not}
 use Rattle.std.specs.List.{AllByRecursion}

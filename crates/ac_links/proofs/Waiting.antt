@@ -1,4 +1,6 @@
--- What comes over the ring of the replies is the answer to the least request that waits for one.
+-- What comes over the ring of the replies is the answer to the least request that waits for one, and none is lost. For `replies_come_in_order` and `ring_goes_on`.
+-- By induction on the two views together: requests that were withdrawn or replied are passed over on both sides, and the first that waits is the least open one.
+-- Behind a request that waits none has had its reply (`AreInTurn`), so what was had and what waits are together what was done, in its order.
 use Rattle.std.proofs.Common.{◌≡◌, ℕ, zero, suc, ◌≤◌, List, [], ◌∷◌, ◌++◌, Option, Some, None, Bool, true, false, cond, ◌&&◌, refl, sym, ap, ◌∙◌, subst, arith, length, append_assoc}
 use Rattle.std.specs.Prelude.{slice_get, is_some, is_none, ◌||◌, IfSome}
 use Rattle.std.proofs.lemmas.List.{append-nil}

@@ -8,13 +8,14 @@ use Rattle.ac_tree.specs.declared.item.Item.{Item}
 use Rattle.ac_tree.specs.declared.item.Item.TheVariants as i
 use Rattle.ac_tree.specs.declared.item.Param.{Param}
 use Rattle.ac_tree.proofs.Folds.{stmt_folds}
-use Rattle.ac_names.specs.declared.kind.Kind.TheVariants as k
+use Rattle.ac_names.specs.declared.kind.NameKind.TheVariants as k
 use Rattle.ac_names.specs.declared.meaning.Meaning.{Meaning}
 use Rattle.ac_names.specs.declared.meaning.Meaning.TheVariants as m
 use Rattle.ac_names.specs.declared.names.Names.{Names}
 use Rattle.ac_names.specs.declared.past.Counts.{Counts}
 use Rattle.ac_names.specs.Table.{beside}
 use Rattle.ac_names.specs.Scopes.{Declaration, in_scope, added, or_else, visible, declared, closed, in_inner}
+use Rattle.ac_names.specs.Cut.{inner_len, cut}
 use Rattle.ac_names.specs.Kinds.{is_kind, is_other, is_undeclared, is_declared, either, both}
 use Rattle.ac_names.specs.Statements.{Named, array_len, meaning_at, declared_at, opened, shut, moved, declared_in, labelled, in_do, in_async, Part, part, part_names, part_words, part_gives}
 use Rattle.ac_names.specs.Statements.{listed, names_after, sum_words, some_words, some_listed, names_step, words_step, part_step, part_all, Shape, shape_step, shape}
@@ -69,6 +70,19 @@ no_such_name = refl
 
 pub behind_its_scope : visible x (closed two_scopes) ≡ Some (m.Global 1)
 behind_its_scope = refl
+
+-- the innermost scope has one declaration, and a second one is taken back
+pub so_many_are_innermost : inner_len two_scopes ∷ inner_len (declared y (m.Local 0 4) two_scopes) ∷ inner_len [] ∷ [] ≡ 1 ∷ 2 ∷ 0 ∷ []
+so_many_are_innermost = refl
+
+pub taken_back : cut 1 (declared y (m.Local 0 4) two_scopes) ≡ two_scopes
+taken_back = refl
+
+pub an_outer_one_stays : visible x (cut 0 two_scopes) ≡ Some (m.Global 1)
+an_outer_one_stays = refl
+
+pub nothing_to_take_back : cut 1 [] ≡ []
+nothing_to_take_back = refl
 
 pub it_hides_the_outer_one : visible y (declared y (m.Local 0 4) two_scopes) ≡ Some (m.Local 0 4)
 it_hides_the_outer_one = refl

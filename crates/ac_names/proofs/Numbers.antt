@@ -1,4 +1,5 @@
--- What stands in a tree by its number, and how much of it there is.
+-- What stands in a tree by its number, and how much of it there is. A search by number counts down over the items that are left,
+-- so it cannot run out of them; and each count of a past is the length of the list of those items, by recursion on the items.
 use Rattle.std.proofs.Common.{◌≡◌, ℕ, zero, suc, ◌+◌, ◌<◌, ◌≤◌, List, [], ◌∷◌, length, slice_get, drop, None, sym, ap, ◌∙◌, arith}
 use Rattle.std.proofs.lemmas.List.{drop_all}
 use Rattle.ac_tree.specs.declared.item.Item.{Item}

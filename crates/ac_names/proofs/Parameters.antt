@@ -1,4 +1,5 @@
--- The names after the parameters of a function.
+-- The names after the parameters of a function: only the innermost scope and the slot change, and there are as many slots as
+-- parameters. Each law is by recursion on the parameters. A program is small, so their slots have room in 32 bits.
 use Rattle.std.proofs.Common.{◌≡◌, ℕ, ◌+◌, ◌<◌, ◌≤◌, Bool, true, false, List, [], ◌∷◌, length, refl, ap, ◌∙◌, arith}
 use Rattle.ac_tree.specs.declared.item.Function.{Function}
 use Rattle.ac_tree.specs.declared.item.Param.{Param}

@@ -1,4 +1,5 @@
--- What statements take of slots, by what they weigh.
+-- What statements take of slots, by what they weigh: at most 683 for each unit of weight. An array takes at most 4,096 and weighs 6,
+-- and all else takes one or none. By induction on the statement, with one line for each form.
 use Rattle.std.proofs.Common.{◌≡◌, ℕ, ◌*◌, ◌≤◌, Bool, true, false, List, [], ◌∷◌, map, Some, None, refl, sym, ap, ◌∙◌, arith}
 use Rattle.std.specs.Prelude.{ℤ, pos, negsuc, nat_le, if◌then◌else◌}
 use Rattle.std.proofs.lemmas.Bool.Decides.{nat_tests}

@@ -1,4 +1,5 @@
--- The names after the statements of a list.
+-- The names after the statements of a list. A declaration changes the innermost scope alone, so closing that scope leaves only the
+-- slots that were taken; and what a statement declares is the same, whatever else is told of it, by its form.
 use Rattle.std.proofs.Common.{◌≡◌, ℕ, ◌+◌, List, [], ◌∷◌, Option, Some, None, refl, sym, ap, ◌∙◌, arith}
 use Rattle.ac_tree.specs.declared.stmt.Stmt.{Stmt}
 use Rattle.ac_tree.specs.declared.stmt.Stmt.TheFolds.{fold-roll-Stmt, ind-Stmt, map-Stmt}

@@ -1,5 +1,6 @@
--- Where a table finds a name.
-use Rattle.std.proofs.Common.{◌≡◌, ℕ, suc, ◌+◌, ◌≤◌, Bool, true, false, cond, not, List, [], ◌∷◌, ◌++◌, length, slice_get, Some, None, is_some, refl, sym, ap, ◌∙◌, arith}
+-- A table is a set of keys beside a list of meanings, of one length: where it finds a name, whether it has one, and what it is after one
+-- declaration more or after a cut. Each is by recursion on both lists; a search by a place is turned into the place by the laws of std.
+use Rattle.std.proofs.Common.{◌≡◌, ℕ, zero, suc, ◌+◌, ◌≤◌, Bool, true, false, cond, not, List, [], ◌∷◌, ◌++◌, length, take, slice_get, Some, None, is_some, refl, sym, ap, ◌∙◌, arith}
 use Rattle.std.specs.List.{list_any, position, position_or_len}
 use Rattle.std.specs.Cmp.Lexicographic.{pointwise}
 use Rattle.std.proofs.lemmas.Cmp.{nat_list_eq_equiv}
@@ -111,3 +112,16 @@ module _ (name : List ℕ) (k : Vec ℕ) (ks new : List (Vec ℕ)) (ms : List Me
   left m ms2 view same len was f keys kept =
       ap (beside new) kept ∙ put_known k m ks new ms len (turned_back b (list_any (is_key k.items) ks) was f) keys
       ∙ ap (λ (n : List ℕ). added n m (beside ks ms)) same ∙ ap (added name m) view
+
+-- ---- a table that is cut
+
+pub as_long : (ks : List (Vec ℕ)) (ms : List Meaning) → length ks ≡ length ms → length (beside ks ms) ≡ length ms
+as_long [] ms e = e
+as_long (k ∷ ks) [] e = absurd (omega (arith, e))
+as_long (k ∷ ks) (m ∷ ms) e = let h = as_long ks ms (omega (arith, e)) in omega (arith, h)
+
+pub beside_cut : (n : ℕ) (ks : List (Vec ℕ)) (ms : List Meaning) → length ks ≡ length ms → beside (take n ks) (take n ms) ≡ take n (beside ks ms)
+beside_cut zero ks ms e = refl
+beside_cut (suc n) [] ms e = refl
+beside_cut (suc n) (k ∷ ks) [] e = absurd (omega (arith, e))
+beside_cut (suc n) (k ∷ ks) (m ∷ ms) e = ap (λ (ds : List Declaration). record { name = k.items; meaning = m } ∷ ds) (beside_cut n ks ms (omega (arith, e)))

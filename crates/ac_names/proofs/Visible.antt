@@ -1,4 +1,5 @@
--- What a name means after one declaration more, and what all names of a scope mean.
+-- What a name means after one declaration more, and what all names of a scope mean. A name means what it meant before or what was
+-- declared, so whatever holds of all meanings of a scope and of the new one holds of all after it.
 use Rattle.std.proofs.Common.{◌≡◌, ◌⊎◌, inl, inr, ℕ, List, [], ◌∷◌, Option, None, Some, Bool, true, false, refl, sym, ap, ◌∙◌, subst}
 use Rattle.std.specs.Prelude.{is_some, ◌++◌, if◌then◌else◌}
 use Rattle.std.specs.Str.{bytes_eq}

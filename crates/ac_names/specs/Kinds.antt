@@ -1,11 +1,11 @@
 -- The kinds of what names mean.
 use Rattle.std.specs.Prelude.{Option, Some, None, Bool, true, false, not}
-use Rattle.ac_names.specs.declared.kind.Kind.{Kind}
-use Rattle.ac_names.specs.declared.kind.Kind.TheVariants as k
+use Rattle.ac_names.specs.declared.kind.NameKind.{NameKind}
+use Rattle.ac_names.specs.declared.kind.NameKind.TheVariants as k
 use Rattle.ac_names.specs.declared.meaning.Meaning.{Meaning}
 use Rattle.ac_names.specs.declared.meaning.Meaning.TheVariants as m
 
-abbrev pub is_kind : Kind → Meaning → Bool
+abbrev pub is_kind : NameKind → Meaning → Bool
 is_kind k.Int (m.Global slot) = true
 is_kind k.Int (m.Local depth slot) = true
 is_kind k.Array (m.GlobalArray slot len) = true
@@ -18,7 +18,7 @@ is_kind k.Core (m.Core number) = true
 is_kind _ _ = false
 
 -- a name that is not declared breaks no rule on its kind
-abbrev pub is_other : Kind → Option Meaning → Bool
+abbrev pub is_other : NameKind → Option Meaning → Bool
 is_other kind None = false
 is_other kind (Some meaning) = not (is_kind kind meaning)
 

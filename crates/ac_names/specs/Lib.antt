@@ -5,3 +5,4 @@ pub mod Statements
 pub mod Items
 pub mod Numbered
 pub mod Room
+pub mod Cut

@@ -7,7 +7,7 @@ use crate::meaning::Meaning;
 
 /// What a name must mean at its place.
 #[derive(Clone, Copy, Debug, PartialEq, Eq)]
-pub enum Kind {
+pub enum NameKind {
     Int,
     Array,
     Function,
@@ -17,34 +17,34 @@ pub enum Kind {
 }
 
 /// Whether a meaning is of that kind.
-pub fn is_kind(kind: Kind, meaning: Meaning) -> bool
+pub fn is_kind(kind: NameKind, meaning: Meaning) -> bool
     ensures { result ≡ is_kind kind meaning }
 {
     match kind {
-        Kind::Int => match meaning {
+        NameKind::Int => match meaning {
             Meaning::Global(_) => true,
             Meaning::Local { .. } => true,
             _ => false,
         },
-        Kind::Array => match meaning {
+        NameKind::Array => match meaning {
             Meaning::GlobalArray { .. } => true,
             Meaning::LocalArray { .. } => true,
             Meaning::ArrayParam(_) => true,
             _ => false,
         },
-        Kind::Function => match meaning {
+        NameKind::Function => match meaning {
             Meaning::Function(_) => true,
             _ => false,
         },
-        Kind::Channel => match meaning {
+        NameKind::Channel => match meaning {
             Meaning::Channel(_) => true,
             _ => false,
         },
-        Kind::File => match meaning {
+        NameKind::File => match meaning {
             Meaning::File(_) => true,
             _ => false,
         },
-        Kind::Core => match meaning {
+        NameKind::Core => match meaning {
             Meaning::Core(_) => true,
             _ => false,
         },
@@ -52,7 +52,7 @@ pub fn is_kind(kind: Kind, meaning: Meaning) -> bool
 }
 
 /// Whether a name means something, and that is of another kind.
-pub fn is_other(kind: Kind, meaning: Option<Meaning>) -> bool
+pub fn is_other(kind: NameKind, meaning: Option<Meaning>) -> bool
     ensures { result ≡ is_other kind meaning }
 {
     match meaning {

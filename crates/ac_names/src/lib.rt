@@ -10,7 +10,7 @@ mod past;
 mod scopes;
 mod table;
 
-pub use kind::{Kind, is_kind, is_other};
+pub use kind::{NameKind, is_kind, is_other};
 pub use meaning::Meaning;
 pub use names::{Names, array_len};
 pub use numbered::{capacity_size, find_capacity, find_core, find_path};

@@ -1,6 +1,6 @@
 //! The names at a place, and what statements and parameters do to them.
 
-ghost use Rattle.std.specs.Prelude.{◌≡◌, ◌+◌, ◌<◌, [], ◌∷◌, length, OnOk, IfOk};
+ghost use Rattle.std.specs.Prelude.{◌≡◌, ◌+◌, ◌<◌, [], ◌∷◌, length, OnOk, OnErr, IfOk};
 ghost use Rattle.ac_names.specs.Items.{param_named, params_named};
 ghost use Rattle.ac_names.specs.Statements.{array_len, declared_in, declares, in_do, moved};
 
@@ -55,23 +55,31 @@ impl Names {
         self.slot += slots;
     }
 
-    /// Goes into a `do`, which takes a slot: opens its scope of labels, and declares its label.
+    /// Goes into a `do`, which takes a slot: opens its scope of labels, and declares its label. After want of memory the names
+    /// are as before.
     pub fn enter_do(&mut self, label: &Option<Name>, depth: u32) -> Result<(), NoMemory>
         requires { self.old.slot + 1 < 4294967296 }
-        ensures { OnOk result (self.new ≡ in_do label.now depth self.old) }
+        ensures ok { OnOk result (self.new ≡ in_do label.now depth self.old) }
+        ensures err { OnErr result (self.new ≡ self.old) }
     {
         let slot = self.slot;
         self.labels.open()?;
         if let Some(name) = label {
-            let _ = self.labels.declare(name, Meaning::Label { depth, slot })?;
+            let declared = self.labels.declare(name, Meaning::Label { depth, slot });
+            if let Err(fault) = declared {
+                self.labels.close();
+                return Err(fault);
+            }
         }
         self.slot += 1;
         Ok(())
     }
 
-    /// Declares what a statement declares that took its slots from a slot on, in so many async bodies.
+    /// Declares what a statement declares that took its slots from a slot on, in so many async bodies. After want of memory
+    /// the names are as before.
     pub fn declare(&mut self, depth: u32, slot: u32, stmt: &Stmt) -> Result<(), NoMemory>
-        ensures { OnOk result (self.new ≡ declared_in (declares stmt.now) depth slot self.old) }
+        ensures ok { OnOk result (self.new ≡ declared_in (declares stmt.now) depth slot self.old) }
+        ensures err { OnErr result (self.new ≡ self.old) }
     {
         match stmt {
             Stmt::Int {
@@ -107,10 +115,11 @@ impl Names {
         }
     }
 
-    /// Declares a parameter, which takes a slot.
+    /// Declares a parameter, which takes a slot. After want of memory the names are as before.
     pub fn declare_param(&mut self, param: &Param) -> Result<(), NoMemory>
         requires { self.old.slot + 1 < 4294967296 }
-        ensures { OnOk result (self.new ≡ param_named param.now self.old) }
+        ensures ok { OnOk result (self.new ≡ param_named param.now self.old) }
+        ensures err { OnErr result (self.new ≡ self.old) }
     {
         let meaning = param_at(param.is_array, self.slot);
         let _ = self.scopes.declare(&param.name, meaning)?;
@@ -118,13 +127,21 @@ impl Names {
         Ok(())
     }
 
-    /// Declares parameters.
+    /// Declares parameters. After want of memory the names are as before.
     pub fn declare_params(&mut self, params: &[Param]) -> Result<(), NoMemory>
         requires { self.old.slot + length params.now < 4294967296 }
-        ensures { OnOk result (self.new ≡ params_named params.now self.old) }
+        ensures ok { OnOk result (self.new ≡ params_named params.now self.old) }
+        ensures err { OnErr result (self.new ≡ self.old) }
     {
+        let known = self.scopes.inner_len();
+        let slot = self.slot;
         for param in params {
-            self.declare_param(param)?;
+            if let Err(fault) = self.declare_param(param) {
+                // those before it are declared already
+                self.scopes.cut(known);
+                self.slot = slot;
+                return Err(fault);
+            }
         }
         Ok(())
     }

@@ -1,6 +1,6 @@
 //! The items before a place.
 
-ghost use Rattle.std.specs.Prelude.{◌≡◌, ◌≤◌, [], OnOk, IfOk};
+ghost use Rattle.std.specs.Prelude.{◌≡◌, ◌≤◌, [], OnOk, OnErr, IfOk};
 ghost use Rattle.ac_tree.specs.Weight.{item_weight, items_weight};
 ghost use Rattle.ac_names.specs.Items.{item_name, item_meaning, counted, global_slots, global_at, past_after, past_all, no_past};
 ghost use Rattle.ac_names.specs.Room.{HasCounts};
@@ -154,12 +154,14 @@ impl Past {
         }
     }
 
-    /// Goes past an item.
+    /// Goes past an item. After want of memory what is known of the items is as before.
     pub fn pass(&mut self, item: &Item) -> Result<(), NoMemory>
         requires { HasCounts self.old.counts (item_weight item.now) }
-        ensures { OnOk result (self.new ≡ past_after self.old item.now) }
+        ensures ok { OnOk result (self.new ≡ past_after self.old item.now) }
+        ensures err { OnErr result (self.new ≡ self.old) }
     {
         let counts = self.counts;
+        let known = self.paths.len();
         if let Item::File {
             at: _,
             name: _,
@@ -168,7 +170,10 @@ impl Past {
         {
             let _ = self.paths.declare(path, Meaning::File(counts.files))?;
         }
-        let _ = self.names.declare(name_of(item), counts.meaning(item))?;
+        if let Err(fault) = self.names.declare(name_of(item), counts.meaning(item)) {
+            self.paths.cut(known);
+            return Err(fault);
+        }
         self.counts = counts.counted(item);
         Ok(())
     }

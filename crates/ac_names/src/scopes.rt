@@ -2,6 +2,7 @@
 
 ghost use Rattle.std.specs.Prelude.{◌≡◌, [], ◌∷◌, ◌<◌, ◌^◌, length, OnOk, OnErr, IfOk, is_some, not};
 ghost use Rattle.ac_names.specs.Scopes.{visible, in_inner, declared, closed};
+ghost use Rattle.ac_names.specs.Cut.{inner_len, cut};
 
 use crate::meaning::Meaning;
 use crate::table::Table;
@@ -75,6 +76,27 @@ impl Scopes {
             return Ok(true);
         }
         self.tables[len - 1].declare(name, meaning)
+    }
+
+    /// The number of declarations in the innermost scope, or 0 where there is no scope.
+    pub(crate) fn inner_len(&self) -> usize
+        ensures { result ≡ inner_len self.now }
+    {
+        match self.tables.last() {
+            None => 0,
+            Some(table) => table.len(),
+        }
+    }
+
+    /// Takes back what the innermost scope declares after the first so many declarations.
+    pub(crate) fn cut(&mut self, len: usize)
+        ensures { self.new ≡ cut len self.old }
+    {
+        let count = self.tables.len();
+        if count == 0 {
+            return;
+        }
+        self.tables[count - 1].cut(len);
     }
 
     /// What a name means in the innermost scope.

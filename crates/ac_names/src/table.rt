@@ -1,6 +1,6 @@
 //! One scope: names with their meanings, found by hashing.
 
-ghost use Rattle.std.specs.Prelude.{◌≡◌, [], OnOk, OnErr, IfOk, is_some, not};
+ghost use Rattle.std.specs.Prelude.{◌≡◌, [], length, take, OnOk, OnErr, IfOk, is_some, not};
 ghost use Rattle.ac_names.specs.Scopes.{in_scope, added};
 
 use crate::meaning::Meaning;
@@ -54,6 +54,21 @@ impl Table {
             self.meanings.push_reserved(meaning);
         }
         Ok(is_new)
+    }
+
+    /// The number of declarations.
+    pub(crate) fn len(&self) -> usize
+        ensures { result ≡ length self.now }
+    {
+        self.meanings.len()
+    }
+
+    /// Takes back what is declared after the first so many declarations.
+    pub(crate) fn cut(&mut self, len: usize)
+        ensures { self.new ≡ take len self.old }
+    {
+        self.names.truncate(len);
+        self.meanings.truncate(len);
     }
 
     /// What a name means in this scope.

@@ -1,11 +1,12 @@
--- What the definitions of Texts, Told, Views and Causes say of small texts and counts.
-use Rattle.std.proofs.Common.{◌≡◌, refl, ℕ, List, [], ◌∷◌, codes, length, None, Some, true, false, arith}
-use Rattle.std.specs.Prelude.{Ok, Err}
+-- What the definitions of Texts, Told, Views and Causes say of small texts and counts. Each stands beside values of which it holds and
+-- values of which it does not; what is computed is compared with the value that it has.
+use Rattle.std.proofs.Common.{◌≡◌, refl, ap, ℕ, List, [], ◌∷◌, codes, length, replicate, slice_index, None, Some, true, false, arith}
+use Rattle.std.specs.Prelude.{Ok, Err, slice_index_or}
 use Rattle.std.specs.declared.result.Result.{Result}
 use Rattle.ac_outside.specs.declared.shelf.NamedBytes.{NamedBytes}
-use Rattle.ac_outside.specs.Texts.{text_of, rest_at, TakesFront}
-use Rattle.ac_outside.specs.Told.{one_more, CountsOne, AddsName, LibraryTold, OpenedJust, OpenedNone, GrewBy, WriteTook}
-use Rattle.ac_outside.specs.Views.{FailingTexts, told_by_failing}
+use Rattle.ac_outside.specs.Texts.{text_of, rest_at, TakesFront, with_name}
+use Rattle.ac_outside.specs.Told.{one_more, CountsOne, CountsAtMost, AddsName, AddsNames, LibraryTold, OpenedJust, OpenedNone, GrewBy, WriteTook}
+use Rattle.ac_outside.specs.Views.{FailingTexts, SafeTexts, told_by_failing, told_by_safe, told_by_roomy, told_by_kept}
 use Rattle.ac_outside.specs.Causes.{Rose, HasCause}
 
 -- ---- texts
@@ -73,6 +74,18 @@ a_count_that_is_no_longer_told h = h
 pub a_count_that_is_told_late : CountsOne None (Some 1) → ⊥
 a_count_that_is_told_late h = h
 
+pub two_more_at_most : CountsAtMost (Some 3) (Some 5) 2
+two_more_at_most = omega arith
+
+pub three_more_are_too_many : CountsAtMost (Some 3) (Some 6) 2 → ⊥
+three_more_are_too_many h = omega (arith, h)
+
+pub no_count_is_told : CountsAtMost None None 0
+no_count_is_told = tt
+
+pub the_count_is_no_longer_told : CountsAtMost (Some 3) None 2 → ⊥
+the_count_is_no_longer_told h = h
+
 -- ---- names
 
 pub a_name_more : AddsName (Some (codes "a" ∷ [])) (Some (codes "a" ∷ codes "b" ∷ [])) (codes "b")
@@ -87,9 +100,40 @@ a_name_that_is_no_longer_told = tt
 pub a_name_that_is_told_late : AddsName None (Some (codes "b" ∷ [])) (codes "b") → ⊥
 a_name_that_is_told_late h = h
 
+pub two_names_more : AddsNames (Some (codes "a" ∷ [])) (Some (codes "a" ∷ codes "b" ∷ codes "c" ∷ [])) (codes "b" ∷ codes "c" ∷ [])
+two_names_more = refl
+
+same_names : {a b : List (List ℕ)} → a ≡ b → length a ≡ length b
+same_names {a} {b} e = cc
+
+pub one_of_them_alone : AddsNames (Some []) (Some (codes "b" ∷ [])) (codes "b" ∷ codes "c" ∷ []) → ⊥
+one_of_them_alone e = let n : 1 ≡ 2 = same_names e in omega (arith, n)
+
+abbrev first_byte : List (List ℕ) → ℕ
+first_byte names = slice_index (slice_index_or names 0 []) 0
+
+pub not_in_another_order : AddsNames (Some []) (Some (codes "c" ∷ codes "b" ∷ [])) (codes "b" ∷ codes "c" ∷ []) → ⊥
+not_in_another_order e = let n : 99 ≡ 98 = ap first_byte e in omega (arith, n)
+
+pub they_are_told_late : AddsNames None (Some []) [] → ⊥
+they_are_told_late h = h
+
+pub a_name_goes_in : with_name (Some (codes "a" ∷ [])) (codes "b") ≡ Some (codes "a" ∷ codes "b" ∷ [])
+a_name_goes_in = refl
+
+pub a_seventeenth_does_not : with_name (Some (replicate 16 (codes "a"))) (codes "b") ≡ None
+a_seventeenth_does_not = refl
+
+pub one_of_4097_bytes_does_not : with_name (Some []) (replicate 4097 97) ≡ None
+one_of_4097_bytes_does_not = refl
+
+pub and_none_after_it : with_name None (codes "b") ≡ None
+and_none_after_it = refl
+
 -- a library that was asked for so many names and no other texts
 abbrev pub asked_for : ℕ → List (List ℕ) → LibraryTold
-asked_for opens names = record { text_at = λ name. None; is_open = false; left = None; opens = Some opens; names = Some names; faults = 0 }
+asked_for opens names =
+    record { text_at = λ name. None; is_open = false; left = None; opens = Some opens; reads = Some 0; names = Some names; faults = 0 }
 
 pub just_b_was_opened : OpenedJust (asked_for 0 []) (asked_for 1 (codes "b" ∷ [])) (codes "b")
 just_b_was_opened = record { once = refl; named = refl }
@@ -105,10 +149,10 @@ something_was_opened h = let e = h.names in cc
 
 -- the second call of three failed, an open; of the text that the third call read two bytes are left
 abbrev pub once_failed : FailingTexts
-once_failed = record { texts = texts; left = Some (codes "st"); fails = 1 ∷ []; calls = 3; opens = 2; names = Some (codes "ab" ∷ codes "b" ∷ []); faults = 1 }
+once_failed = record { texts = texts; left = Some (codes "st"); fails = 1 ∷ []; calls = 3; opens = 2; reads = 1; names = Some (codes "ab" ∷ codes "b" ∷ []); faults = 1 }
 
 pub it_tells_what_it_holds :
-    told_by_failing once_failed ≡ record { text_at = text_of texts; is_open = true; left = Some (codes "st"); opens = Some 2; names = Some (codes "ab" ∷ codes "b" ∷ []); faults = 1 }
+    told_by_failing once_failed ≡ record { text_at = text_of texts; is_open = true; left = Some (codes "st"); opens = Some 2; reads = Some 1; names = Some (codes "ab" ∷ codes "b" ∷ []); faults = 1 }
 it_tells_what_it_holds = refl
 
 pub a_text_that_it_does_not_hold : (told_by_failing once_failed).text_at (codes "b") ≡ None
@@ -117,7 +161,32 @@ a_text_that_it_does_not_hold = refl
 pub none_is_open : (told_by_failing (record once_failed { left = None })).is_open ≡ false
 none_is_open = refl
 
+-- one that does not fail holds every other name too, with the empty text
+abbrev pub never_fails : SafeTexts
+never_fails = record { texts = texts; left = None; opens = 1; reads = 2; names = None }
+
+pub it_counts_its_calls : (told_by_safe never_fails).opens ≡ Some 1
+it_counts_its_calls = refl
+
+pub and_its_reads : (told_by_safe never_fails).reads ≡ Some 2
+and_its_reads = refl
+
+pub a_text_that_it_holds : (told_by_safe never_fails).text_at (codes "a") ≡ Some (codes "second")
+a_text_that_it_holds = refl
+
+pub any_other_is_empty : (told_by_safe never_fails).text_at (codes "b") ≡ Some []
+any_other_is_empty = refl
+
 -- ---- writes
+
+pub a_sink_with_room_tells_its_bytes : told_by_roomy (record { taken = codes "ab"; room = 9; faults = 1 }) ≡ record { held = Some (codes "ab"); faults = 1 }
+a_sink_with_room_tells_its_bytes = refl
+
+pub one_that_keeps_a_front_tells_it : told_by_kept (record { taken = codes "ab"; is_over = false }) ≡ record { held = Some (codes "ab"); faults = 0 }
+one_that_keeps_a_front_tells_it = refl
+
+pub but_not_where_it_was_given_more : told_by_kept (record { taken = codes "ab"; is_over = true }) ≡ record { held = None; faults = 0 }
+but_not_where_it_was_given_more = refl
 
 abbrev pub wrote : ℕ → Result ℕ ℕ
 wrote n = Ok n

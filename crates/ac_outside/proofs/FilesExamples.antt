@@ -1,4 +1,5 @@
--- What the definitions of Files, Disks and Causes say of small files, and what the disks in memory tell.
+-- What the definitions of Files, Disks and Causes say of small files, and what the disks in memory tell: of what a bind leaves, each case by
+-- itself, and of the numbers of faults before and after a call.
 use Rattle.std.proofs.Common.{◌≡◌, refl, ℕ, List, [], ◌∷◌, codes, None, Some, true, false, arith, inl, inr}
 use Rattle.std.specs.Prelude.{Ok, Err, ⊤}
 use Rattle.std.specs.declared.result.Result.{Result}
@@ -10,7 +11,7 @@ use Rattle.ac_outside.specs.declared.shelf.NamedBytes.{NamedBytes}
 use Rattle.ac_outside.specs.Causes.{BindHasCause}
 use Rattle.ac_outside.specs.Disks.{Held, IsFresh, called, with_bound, with_made, with_written, BindLeaves, bound_by, stays_ready, BindsNone}
 use Rattle.ac_outside.specs.Files.{file_at, told_length, file_of, part, written, bytes_in}
-use Rattle.ac_outside.specs.Texts.{text_of}
+use Rattle.ac_outside.specs.Texts.{text_of, with_name}
 use Rattle.ac_outside.specs.Views.{StoredFiles, SafeFiles, FailingFiles, held_by, told_by_stored, told_by_safe_disk, told_by_failing_disk, stored_bind, stored_write, fail_at, torn_by}
 use Rattle.ac_outside.proofs.Examples.{named}
 
@@ -157,33 +158,40 @@ no_memory_is_no_fault e = omega (arith, e)
 abbrev pub stored : StoredFiles
 stored = record { files = two_files; given = named (codes "r") (codes "56789") ∷ []; is_ready = true }
 
+abbrev pub paths : List (List ℕ)
+paths = codes "p" ∷ codes "q" ∷ []
+
 abbrev pub failing : FailingFiles
-failing = record { stored = stored; calls = 2; fails = record { call = 4; taken = 1 } ∷ []; faults = 0 }
+failing = record { stored = stored; calls = 2; fails = record { call = 4; taken = 1 } ∷ []; binds = Some paths; faults = 0; earlier = 0 }
 
 abbrev pub safe : SafeFiles
-safe = record { stored = stored; calls = 2 }
+safe = record { stored = stored; calls = 2; binds = Some paths }
 
 pub what_it_holds : held_by stored 2 ≡ disk
 what_it_holds = refl
 
-pub what_is_told_of_it : told_by_stored stored 2 1 ≡ record { held = Some disk; bound = 2; is_ready = true; faults = 1 }
+pub what_is_told_of_it : told_by_stored stored 2 None 1 0 ≡ record { held = Some disk; bound = 2; is_ready = true; binds = None; faults = 1; earlier = 0 }
 what_is_told_of_it = refl
 
-pub the_safe_one_tells_them_too : told_by_safe_disk safe ≡ record { held = Some disk; bound = 2; is_ready = true; faults = 0 }
+pub the_safe_one_tells_them_too : told_by_safe_disk safe ≡ record { held = Some disk; bound = 2; is_ready = true; binds = Some paths; faults = 0; earlier = 0 }
 the_safe_one_tells_them_too = refl
 
-pub it_tells_its_files : told_by_failing_disk failing ≡ record { held = Some disk; bound = 2; is_ready = true; faults = 0 }
+pub it_tells_its_files : told_by_failing_disk failing ≡ record { held = Some disk; bound = 2; is_ready = true; binds = Some paths; faults = 0; earlier = 0 }
 it_tells_its_files = refl
 
 pub it_tells_them_no_more :
-    told_by_safe_disk (record safe { stored = record stored { is_ready = false } }) ≡ record { held = None; bound = 2; is_ready = false; faults = 0 }
+    told_by_safe_disk (record safe { stored = record stored { is_ready = false } }) ≡ record { held = None; bound = 2; is_ready = false; binds = Some paths; faults = 0; earlier = 0 }
 it_tells_them_no_more = refl
 
 pub none_is_bound_by_a_read : BindsNone (told_by_failing_disk failing) (told_by_failing_disk (record failing { calls = 3 }))
-none_is_bound_by_a_read = record { bound = refl; is_ready = refl }
+none_is_bound_by_a_read = record { bound = refl; is_ready = refl; binds = refl }
 
 pub one_is_bound : BindsNone (told_by_failing_disk failing) (told_by_failing_disk (record failing { stored = stored_bind stored (codes "r") (bound 5) })) → ⊥
 one_is_bound h = let e : 3 ≡ 2 = h.bound in omega (arith, e)
+
+pub one_was_to_be_bound :
+    BindsNone (told_by_failing_disk failing) (told_by_failing_disk (record failing { calls = 3; binds = with_name failing.binds (codes "s"); faults = 1 })) → ⊥
+one_was_to_be_bound h = let e = h.binds in cc
 
 pub bound_in_memory : (stored_bind stored (codes "s") (bound 0)).files ≡ named (codes "p") (codes "01") ∷ named (codes "q") (codes "23") ∷ named (codes "s") [] ∷ []
 bound_in_memory = refl

@@ -1,4 +1,5 @@
--- Where the first text with a name stands.
+-- Where the first text with a name stands: the code looks for its place, the definitions for the text. The first element that passes a test
+-- stands at the first place that does, and where no place does there is none.
 use Rattle.std.proofs.Common.{◌≡◌, ◌<◌, ℕ, Bool, true, false, List, length, slice_get, position, find, None, Some, refl, ◌∙◌, inl, inr, arith}
 use Rattle.std.specs.Prelude.{option_and_then, ltb}
 use Rattle.std.specs.List.{position_or_len}

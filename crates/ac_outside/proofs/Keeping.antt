@@ -1,4 +1,5 @@
--- The front that a sink keeps.
+-- The front that a sink keeps: what it had and as much of a piece as there is room for are together the first bytes of both. The piece is cut
+-- at the room that is left, and a list that is cut at the sum of two lengths is cut at one after the other.
 use Rattle.std.proofs.Common.{◌≡◌, ◌+◌, ◌-◌, ◌≤◌, ℕ, min, List, ◌++◌, length, take, sym, subst, arith}
 use Rattle.std.proofs.lemmas.List.{take_min}
 use Rattle.std.proofs.Math.Seq.{take-append-add}

@@ -26,8 +26,11 @@ pub record DiskTold : Type 0 where
   pub bound : ℕ
   -- whether memory was given at every bind, so that it may be called
   pub is_ready : Bool
-  -- how often a call has failed
+  -- the paths that `bind` was given, in order, also where it failed
+  pub binds : Option (List (List ℕ))
+  -- how often a call has failed, and how often one had as the latest call began
   pub faults : ℕ
+  pub earlier : ℕ
 
 -- no file is bound under this path
 abbrev pub IsFresh : Held → List ℕ → Type 0
@@ -69,7 +72,8 @@ stays_ready (Ok len) = true
 stays_ready (Err Failed) = true
 stays_ready (Err NoMemory) = false
 
--- The number of bound files stayed, and so did whether the disk may be called.
+-- No file was to be bound: the number of bound files stayed, and so did whether the disk may be called.
 pub record BindsNone (before after : DiskTold) : Type 0 where
   pub bound : after.bound ≡ before.bound
   pub is_ready : after.is_ready ≡ before.is_ready
+  pub binds : after.binds ≡ before.binds

@@ -1,5 +1,5 @@
 -- What an object outside tells at a time: `Some` of what it holds, or `None` where it does not tell.
-use Rattle.std.specs.Prelude.{◌≡◌, ℕ, Bool, ◌+◌, ◌-◌, ◌^◌, min, List, [], ◌∷◌, ◌++◌, take, ⊤, None, Some, MatchResult}
+use Rattle.std.specs.Prelude.{◌≡◌, ℕ, Bool, ◌+◌, ◌-◌, ◌^◌, ◌≤◌, min, List, [], ◌∷◌, ◌++◌, take, ⊤, None, Some, MatchResult}
 use Rattle.std.specs.declared.result.Result.{Result}
 use Rattle.std.specs.declared.option.Option.{Option}
 
@@ -12,8 +12,10 @@ pub record LibraryTold : Type 0 where
   -- whether a text is open, and what is left of it
   pub is_open : Bool
   pub left : Option (List ℕ)
-  -- the number of calls of `open_text`, and the names that they were given, in order
+  -- the number of calls of `open_text`, and of `read`
   pub opens : Option ℕ
+  pub reads : Option ℕ
+  -- the names that `open_text` was given, in order
   pub names : Option (List (List ℕ))
   -- how often a call has failed
   pub faults : ℕ
@@ -28,6 +30,19 @@ CountsOne None None = ⊤
 CountsOne None (Some after) = ⊥
 CountsOne (Some before) None = ⊥
 CountsOne (Some before) (Some after) = after ≡ one_more before
+
+-- A number of calls that is told rises by so many at most. One that is not told stays so.
+abbrev pub CountsAtMost : Option ℕ → Option ℕ → ℕ → Type 0
+CountsAtMost None None most = ⊤
+CountsAtMost None (Some after) most = ⊥
+CountsAtMost (Some before) None most = ⊥
+CountsAtMost (Some before) (Some after) most = after ≤ before + most
+
+-- The names that are told after some calls were told before them, and these came last, in order.
+abbrev pub AddsNames : Option (List (List ℕ)) → Option (List (List ℕ)) → List (List ℕ) → Type 0
+AddsNames before None names = ⊤
+AddsNames None (Some after) names = ⊥
+AddsNames (Some before) (Some after) names = after ≡ before ++ names
 
 -- The names that are told after a call were told before it, and this one came last.
 abbrev pub AddsName : Option (List (List ℕ)) → Option (List (List ℕ)) → List ℕ → Type 0

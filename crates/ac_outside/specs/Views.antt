@@ -25,6 +25,7 @@ pub record FailingTexts : Type 0 where
   pub fails : List ℕ
   pub calls : ℕ
   pub opens : ℕ
+  pub reads : ℕ
   pub names : Option (List (List ℕ))
   pub faults : ℕ
 
@@ -34,6 +35,7 @@ told_by_failing s = record {
   is_open = is_some s.left;
   left = s.left;
   opens = Some s.opens;
+  reads = Some s.reads;
   names = s.names;
   faults = s.faults;
 }
@@ -43,6 +45,7 @@ pub record SafeTexts : Type 0 where
   pub texts : List NamedBytes
   pub left : Option (List ℕ)
   pub opens : ℕ
+  pub reads : ℕ
   pub names : Option (List (List ℕ))
 
 -- the text of a name that it does not hold is empty
@@ -52,6 +55,7 @@ told_by_safe s = record {
   is_open = is_some s.left;
   left = s.left;
   opens = Some s.opens;
+  reads = Some s.reads;
   names = s.names;
   faults = 0;
 }
@@ -83,18 +87,21 @@ pub record StoredFiles : Type 0 where
 abbrev pub held_by : StoredFiles → ℕ → Held
 held_by s calls = record { files = s.files; found = text_of s.given; calls = calls }
 
-abbrev pub told_by_stored : StoredFiles → ℕ → ℕ → DiskTold
-told_by_stored s calls faults = record {
+-- with the number of its calls, the paths that were to be bound, and how often a call has failed and had before the latest one
+abbrev pub told_by_stored : StoredFiles → ℕ → Option (List (List ℕ)) → ℕ → ℕ → DiskTold
+told_by_stored s calls binds faults earlier = record {
   held = (if s.is_ready then Some (held_by s calls) else None);
   bound = length s.files;
   is_ready = s.is_ready;
+  binds = binds;
   faults = faults;
+  earlier = earlier;
 }
 
 -- a disk in memory that tells its files has as many bound as it tells
-pub bound-told : (s : StoredFiles) (calls faults : ℕ)
-    → IfSome (told_by_stored s calls faults).held (λ held. (told_by_stored s calls faults).bound ≡ length held.files)
-bound-told s calls faults =
+pub bound-told : (s : StoredFiles) (calls : ℕ)
+    → IfSome (if s.is_ready then Some (held_by s calls) else None) (λ held. length s.files ≡ length held.files)
+bound-told s calls =
     elim s.is_ready as (λ ready. IfSome (if ready then Some (held_by s calls) else None) (λ held. length s.files ≡ length held.files)) [
       | true ↦ refl
       | false ↦ tt
@@ -114,19 +121,22 @@ stored_write s file from bytes = record s { files = written s.files file from by
 pub record SafeFiles : Type 0 where
   pub stored : StoredFiles
   pub calls : ℕ
+  pub binds : Option (List (List ℕ))
 
 abbrev pub told_by_safe_disk : SafeFiles → DiskTold
-told_by_safe_disk s = told_by_stored s.stored s.calls 0
+told_by_safe_disk s = told_by_stored s.stored s.calls s.binds 0 0
 
 -- A disk that fails in the listed calls, which are numbered from 0, binds, reads and writes together.
 pub record FailingFiles : Type 0 where
   pub stored : StoredFiles
   pub calls : ℕ
   pub fails : List DiskFail
+  pub binds : Option (List (List ℕ))
   pub faults : ℕ
+  pub earlier : ℕ
 
 abbrev pub told_by_failing_disk : FailingFiles → DiskTold
-told_by_failing_disk s = told_by_stored s.stored s.calls s.faults
+told_by_failing_disk s = told_by_stored s.stored s.calls s.binds s.faults s.earlier
 
 -- how the call of this number fails, where it does
 abbrev pub fail_at : List DiskFail → ℕ → Option DiskFail

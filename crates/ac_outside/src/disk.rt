@@ -5,6 +5,7 @@ ghost use Rattle.std.specs.Io.{ReadsAtMost};
 ghost use Rattle.ac_outside.specs.Causes.{BindHasCause, HasCause};
 ghost use Rattle.ac_outside.specs.Disks.{BindLeaves, BindsNone, DiskTold, IsFresh, bound_by, called, stays_ready, with_written};
 ghost use Rattle.ac_outside.specs.Files.{bytes_in, file_of, part};
+ghost use Rattle.ac_outside.specs.Told.{AddsName};
 
 use crate::failed::{BindFault, Failed, Torn};
 
@@ -14,12 +15,12 @@ pub const FILE_BYTES: usize = 1_048_576;
 /// Files by path, of which at most sixteen are bound, to the numbers 0, 1, .. in order.
 ///
 /// What it tells is for clauses alone, and of its files it may tell nothing, and then goes on to
-/// tell nothing; where it does, it goes on to do so, unless a `bind` answers `NoMemory`. After that it is called no more. Its count of
-/// faults never falls. It rises, or stands at its last value, in each call that answers `Failed` or
-/// `Torn`, and in no other.
+/// tell nothing; where it does, it goes on to do so, unless a `bind` answers `NoMemory`. After that it
+/// is called no more. Its count of faults never falls. It rises, or stands at its last value, in each
+/// call that answers `Failed` or `Torn`, and in no other.
 pub trait Disk {
-    // its files and the number of its calls, the number of bound files, whether it may be called,
-    // and how often a call failed
+    // its files and the number of its calls, the number of bound files, whether it may be called, the
+    // paths that were to be bound, and how often a call failed, and had before the latest one
     ghost told: { Self → DiskTold };
 
     /// Binds the file of a path that is not bound, and gives its length, or the greatest number of
@@ -34,6 +35,8 @@ pub trait Disk {
         ensures ready { (told self.new).is_ready ≡ stays_ready result }
         ensures leaves { IfSome (told self.old).held (λ held. BindLeaves held (told self.new).held path.now result) }
         ensures silent { (told self.old).held ≡ None → (told self.new).held ≡ None }
+        ensures asked { AddsName (told self.old).binds (told self.new).binds path.now }
+        ensures earlier { (told self.new).earlier ≡ (told self.old).faults }
         ensures cause { BindHasCause (told self.old).faults (told self.new).faults result };
 
     /// The number of bound files.
@@ -52,6 +55,7 @@ pub trait Disk {
         ensures silent { (told self.old).held ≡ None → (told self.new).held ≡ None }
         ensures bytes { IfSome (told self.old).held (λ held. IfOk result (λ count.
             take count into.new ≡ part (file_of held.files file).bytes from (length into.old))) }
+        ensures earlier { (told self.new).earlier ≡ (told self.old).faults }
         ensures cause { HasCause (told self.old).faults (told self.new).faults result };
 
     /// Writes the bytes at a place of a bound file. Zeros fill a gap before them. `Torn` tells how
@@ -65,6 +69,7 @@ pub trait Disk {
         ensures bytes { IfSome (told self.old).held (λ held.
             (told self.new).held ≡ Some (with_written held file from (bytes_in result bytes.now))) }
         ensures silent { (told self.old).held ≡ None → (told self.new).held ≡ None }
+        ensures earlier { (told self.new).earlier ≡ (told self.old).faults }
         ensures cause { HasCause (told self.old).faults (told self.new).faults result };
 
     // a disk that tells its files has as many bound as it tells

@@ -5,10 +5,10 @@ ghost use Rattle.std.specs.Prelude.{IfOk, OnOk, OnErr, IfSome, Some, None, is_so
 ghost use Rattle.std.specs.Io.{ReadsAtMost, WritesAtMost};
 ghost use Rattle.std.specs.Io.KnownBytes.{ReadConsumes};
 ghost use Rattle.std.specs.Option.{option_copied};
-ghost use Rattle.ac_outside.specs.Told.{OpenedJust, OpenedNone, WriteTook, one_more};
+ghost use Rattle.ac_outside.specs.Told.{CountsOne, OpenedJust, OpenedNone, WriteTook, one_more};
 ghost use Rattle.ac_outside.specs.Views.{told_by_failing, told_by_roomy};
 ghost use Rattle.ac_outside.specs.Causes.{HasCause};
-ghost use Rattle.ac_outside.specs.Texts.{text_of, TakesFront};
+ghost use Rattle.ac_outside.specs.Texts.{text_of, TakesFront, with_name};
 
 use crate::failed::Failed;
 use crate::library::Library;
@@ -21,13 +21,14 @@ use std::marker::Model;
 
 /// A library in memory that fails exactly in the listed calls, and in each `open_text` of a name
 /// that it does not hold. Calls are numbered from 0, opens and reads together. It tells the names
-/// that it was asked for, unless memory to note one was refused.
+/// that it was asked for, up to sixteen, each of at most 4,096 bytes.
 #[derive(Debug, Drop)]
 pub struct MemoryLibrary {
     shelf: Shelf,
     fails: List<u64>,
     calls: u64,
     opens: u64,
+    reads: u64,
     names: Names,
     faults: u64,
 }
@@ -44,6 +45,7 @@ impl Model for MemoryLibrary {
           fails = s.fails;
           calls = s.calls;
           opens = s.opens;
+          reads = s.reads;
           names = s.names;
           faults = s.faults;
         } };
@@ -52,22 +54,24 @@ impl Model for MemoryLibrary {
 impl MemoryLibrary {
     /// A library of these texts, none of them open, that fails in the calls of these numbers.
     pub fn new(texts: List<NamedBytes>, fails: List<u64>) -> Result<MemoryLibrary, NoMemory>
-        ensures { result ≡
-            Ok (record { texts = texts; left = None; fails = fails; calls = 0; opens = 0; names = Some []; faults = 0 }) }
+        ensures { IfOk result (λ library. library ≡
+            record { texts = texts; left = None; fails = fails; calls = 0; opens = 0; reads = 0; names = Some []; faults = 0 }) }
     {
         let texts = texts.into_vec();
-        let names = Names::new(*texts.allocator());
+        let names = Names::new(*texts.allocator())?;
         Ok(MemoryLibrary {
             shelf: Shelf::new(List::from_vec(texts)),
             fails,
             calls: 0,
             opens: 0,
+            reads: 0,
             names,
             faults: 0,
         })
     }
 
-    /// The names that it was asked for, in order. None once memory to note one was refused.
+    /// The names that it was asked for, in order. None once one more than sixteen was asked for, or one
+    /// of more than 4,096 bytes.
     pub fn names(&self) -> Option<&[Bytes]>
         ensures { option_copied result ≡ self.now.names }
     {
@@ -79,6 +83,13 @@ impl MemoryLibrary {
         ensures { result ≡ self.now.opens }
     {
         self.opens
+    }
+
+    /// The number of calls of `read` so far.
+    pub fn reads(&self) -> u64
+        ensures { result ≡ self.now.reads }
+    {
+        self.reads
     }
 
     /// The number of calls so far that have failed.
@@ -111,6 +122,8 @@ impl Library for MemoryLibrary {
 
     ghost tells_opens = { λ _ _ _. refl };
 
+    ghost tells_reads = { λ _ _ _. refl };
+
     fn open_text(&mut self, name: &str) -> Result<(), Failed>
         ensures same { text_of self.new.texts ≡ text_of self.old.texts }
         ensures opened { OnOk result (IsTrue (is_some self.new.left)) }
@@ -127,13 +140,13 @@ impl Library for MemoryLibrary {
               left = text_of self.old.texts name.now;
               calls = one_more self.old.calls;
               opens = one_more self.old.opens;
-              names = self.new.names;
+              names = with_name self.old.names name.now;
             }) }
         ensures err { OnErr result (self.new ≡
             record self.old {
               calls = one_more self.old.calls;
               opens = one_more self.old.opens;
-              names = self.new.names;
+              names = with_name self.old.names name.now;
               faults = one_more self.old.faults;
             }) }
     {
@@ -154,19 +167,23 @@ impl Library for MemoryLibrary {
         ensures same { text_of self.new.texts ≡ text_of self.old.texts }
         ensures still_open { IsTrue (is_some self.new.left) }
         ensures none { OpenedNone (told_by_failing self.old) (told_by_failing self.new) }
+        ensures once { CountsOne (Some self.old.reads) (Some self.new.reads) }
         ensures bound { ReadsAtMost result into.new }
         ensures bytes { ReadConsumes self.old.left self.new.left result into.new }
         ensures cause { HasCause self.old.faults self.new.faults result }
 
         // It fails exactly in the listed calls.
         ensures exactly { IsTrue (is_err result) ↔ Contains self.old.fails self.old.calls }
-        ensures err { OnErr result (self.new ≡ record self.old { calls = one_more self.old.calls; faults = one_more self.old.faults }) }
+        ensures err { OnErr result (self.new ≡
+            record self.old { calls = one_more self.old.calls; reads = one_more self.old.reads; faults = one_more self.old.faults }) }
         ensures err_into { OnErr result (into.new ≡ into.old) }
 
         // It takes as much of what is left as fits.
-        ensures ok { OnOk result (self.new ≡ record self.old { left = self.new.left; calls = one_more self.old.calls }) }
+        ensures ok { OnOk result (self.new ≡
+            record self.old { left = self.new.left; calls = one_more self.old.calls; reads = one_more self.old.reads }) }
         ensures ok_front { IfOk result (λ n. TakesFront self.old.left self.new.left into.old into.new n) }
     {
+        self.reads = self.reads.saturating_add(1);
         if self.count_call() {
             return Err(Failed);
         }

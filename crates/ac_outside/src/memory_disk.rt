@@ -6,12 +6,13 @@ ghost use Rattle.std.specs.Io.{ReadsAtMost};
 ghost use Rattle.ac_outside.specs.Causes.{BindHasCause, HasCause};
 ghost use Rattle.ac_outside.specs.Disks.{BindLeaves, bound_by, stays_ready};
 ghost use Rattle.ac_outside.specs.Files.{bytes_in, file_at, file_of, part, told_length};
-ghost use Rattle.ac_outside.specs.Texts.{text_of};
+ghost use Rattle.ac_outside.specs.Texts.{text_of, with_name};
 ghost use Rattle.ac_outside.specs.Told.{one_more};
 ghost use Rattle.ac_outside.specs.Views.{bound-told, fail_at, stored_bind, stored_write, told_by_failing_disk, torn_by};
 
 use crate::disk::{Disk, FILE_BYTES};
 use crate::failed::{BindFault, Failed, Torn};
+use crate::names::Names;
 use crate::shelf::NamedBytes;
 use crate::store::Store;
 use ac_base::{List, NoMemory};
@@ -38,13 +39,16 @@ fn failure_at(fails: &[DiskFail], call: u64) -> Option<DiskFail>
 }
 
 /// A disk in memory that fails exactly in the listed calls. Calls are numbered from 0, binds, reads
-/// and writes together. A path that it does not hold is bound empty.
+/// and writes together. A path that it does not hold is bound empty. It tells the paths that it was
+/// to bind, up to sixteen, each of at most 4,096 bytes.
 #[derive(Debug, Drop)]
 pub struct MemoryDisk {
     store: Store,
     calls: u64,
     fails: List<DiskFail>,
+    binds: Names,
     faults: u64,
+    earlier: u64,
 }
 
 impl Model for MemoryDisk {
@@ -52,20 +56,39 @@ impl Model for MemoryDisk {
 
     ghost Value = { FailingFiles };
 
-    ghost view = { λ s. record { stored = s.store; calls = s.calls; fails = s.fails; faults = s.faults } };
+    ghost view = { λ s.
+        record {
+          stored = s.store;
+          calls = s.calls;
+          fails = s.fails;
+          binds = s.binds;
+          faults = s.faults;
+          earlier = s.earlier;
+        } };
 }
 
 impl MemoryDisk {
     /// A disk of these files, none of them bound, that fails in the calls of these numbers.
     pub fn new(files: List<NamedBytes>, fails: List<DiskFail>) -> Result<MemoryDisk, NoMemory>
-        ensures { result ≡
-            Ok (record { stored = record { files = []; given = files; is_ready = true }; calls = 0; fails = fails; faults = 0 }) }
+        ensures { IfOk result (λ disk. disk ≡
+            record {
+              stored = record { files = []; given = files; is_ready = true };
+              calls = 0;
+              fails = fails;
+              binds = Some [];
+              faults = 0;
+              earlier = 0;
+            }) }
     {
+        let files = files.into_vec();
+        let binds = Names::new(*files.allocator())?;
         Ok(MemoryDisk {
-            store: Store::new(files),
+            store: Store::new(List::from_vec(files)),
             calls: 0,
             fails,
+            binds,
             faults: 0,
+            earlier: 0,
         })
     }
 
@@ -97,11 +120,13 @@ impl MemoryDisk {
         ensures after { self.new ≡ record self.old {
           calls = one_more self.old.calls;
           faults = (if is_some result then one_more self.old.faults else self.old.faults);
+          earlier = self.old.faults;
         } }
         ensures later { self.old.faults ≤ self.new.faults }
     {
         let fail = failure_at(self.fails.as_slice(), self.calls);
         self.calls = self.calls.saturating_add(1);
+        self.earlier = self.faults;
         if fail.is_some() {
             self.faults = self.faults.saturating_add(1);
         }
@@ -112,7 +137,7 @@ impl MemoryDisk {
 impl Disk for MemoryDisk {
     ghost told = { told_by_failing_disk };
 
-    ghost tells_bound = { λ disk. bound-told disk.stored disk.calls disk.faults };
+    ghost tells_bound = { λ disk. bound-told disk.stored disk.calls };
 
     fn bind(&mut self, _file: u32, path: &str) -> Result<u32, BindFault>
         requires ready { IsTrue self.old.stored.is_ready }
@@ -128,10 +153,13 @@ impl Disk for MemoryDisk {
         ensures after { self.new ≡ record self.old {
           stored = stored_bind self.old.stored path.now result;
           calls = one_more self.old.calls;
+          binds = with_name self.old.binds path.now;
           faults = (if is_some (fail_at self.old.fails self.old.calls) then one_more self.old.faults else self.old.faults);
+          earlier = self.old.faults;
         } }
         ensures len { IfOk result (λ len. len ≡ told_length (file_at (text_of self.old.stored.given) path.now).bytes) }
     {
+        self.binds.note(path.as_bytes());
         if self.count_call().is_some() {
             return Err(BindFault::Failed);
         }
@@ -158,6 +186,7 @@ impl Disk for MemoryDisk {
         ensures after { self.new ≡ record self.old {
           calls = one_more self.old.calls;
           faults = (if is_err result then one_more self.old.faults else self.old.faults);
+          earlier = self.old.faults;
         } }
 
         // It gives as much of the file as fits, and leaves the rest of the slice as it was.
@@ -185,6 +214,7 @@ impl Disk for MemoryDisk {
           stored = stored_write self.old.stored file from (bytes_in result bytes.now);
           calls = one_more self.old.calls;
           faults = (if is_err result then one_more self.old.faults else self.old.faults);
+          earlier = self.old.faults;
         } }
     {
         match self.count_call() {

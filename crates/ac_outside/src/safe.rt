@@ -4,10 +4,10 @@ ghost use Rattle.std.specs.Prelude.{◌≡◌, ◌+◌, ◌<◌, [], ◌++◌, l
 ghost use Rattle.std.specs.Prelude.{None, is_some, ◌||◌, nat_lt, unwrap_or, if◌then◌else◌, refl, false};
 ghost use Rattle.std.specs.Io.{WritesAtMost};
 ghost use Rattle.std.specs.Option.{option_copied};
-ghost use Rattle.ac_outside.specs.Told.{AddsName, WriteTook, one_more};
+ghost use Rattle.ac_outside.specs.Told.{WriteTook, one_more};
 ghost use Rattle.ac_outside.specs.Views.{told_by_safe, told_by_kept};
 ghost use Rattle.ac_outside.specs.Causes.{HasCause};
-ghost use Rattle.ac_outside.specs.Texts.{text_of, TakesFront};
+ghost use Rattle.ac_outside.specs.Texts.{text_of, TakesFront, with_name};
 
 use crate::failed::Failed;
 use crate::library::Library;
@@ -19,11 +19,12 @@ use std::alloc::Global;
 use std::marker::Model;
 
 /// A library in memory that never fails. A name that it does not hold opens the empty text. It tells
-/// the names that it was asked for, unless memory to note one was refused.
+/// the names that it was asked for, up to sixteen, each of at most 4,096 bytes.
 #[derive(Debug, Drop)]
 pub struct SafeLibrary {
     shelf: Shelf,
     opens: u64,
+    reads: u64,
     names: Names,
 }
 
@@ -32,24 +33,26 @@ impl Model for SafeLibrary {
 
     ghost Value = { SafeTexts };
 
-    ghost view = { λ s. record { texts = s.shelf.texts; left = s.shelf.left; opens = s.opens; names = s.names } };
+    ghost view = { λ s. record { texts = s.shelf.texts; left = s.shelf.left; opens = s.opens; reads = s.reads; names = s.names } };
 }
 
 impl SafeLibrary {
     /// A library of these texts, none of them open.
     pub fn new(texts: List<NamedBytes>) -> Result<SafeLibrary, NoMemory>
-        ensures { result ≡ Ok (record { texts = texts; left = None; opens = 0; names = Some [] }) }
+        ensures { IfOk result (λ library. library ≡ record { texts = texts; left = None; opens = 0; reads = 0; names = Some [] }) }
     {
         let texts = texts.into_vec();
-        let names = Names::new(*texts.allocator());
+        let names = Names::new(*texts.allocator())?;
         Ok(SafeLibrary {
             shelf: Shelf::new(List::from_vec(texts)),
             opens: 0,
+            reads: 0,
             names,
         })
     }
 
-    /// The names that it was asked for, in order. None once memory to note one was refused.
+    /// The names that it was asked for, in order. None once one more than sixteen was asked for, or one
+    /// of more than 4,096 bytes.
     pub fn names(&self) -> Option<&[Bytes]>
         ensures { option_copied result ≡ self.now.names }
     {
@@ -69,15 +72,16 @@ impl Library for SafeLibrary {
 
     ghost tells_opens = { λ _ _ _. refl };
 
+    ghost tells_reads = { λ _ _ _. refl };
+
     fn open_text(&mut self, name: &str) -> Result<(), Failed>
         ensures well { result ≡ Ok tt }
         ensures after { self.new ≡
             record self.old {
               left = Some (unwrap_or (text_of self.old.texts name.now) []);
               opens = one_more self.old.opens;
-              names = self.new.names;
+              names = with_name self.old.names name.now;
             } }
-        ensures named { AddsName self.old.names self.new.names name.now }
     {
         self.opens = self.opens.saturating_add(1);
         self.names.note(name.as_bytes());
@@ -90,8 +94,9 @@ impl Library for SafeLibrary {
     fn read(&mut self, into: &mut [u8]) -> Result<usize, Failed>
         requires { IsTrue (is_some self.old.left) }
         ensures front { IsOkAnd result (TakesFront self.old.left self.new.left into.old into.new) }
-        ensures after { self.new ≡ record self.old { left = self.new.left } }
+        ensures after { self.new ≡ record self.old { left = self.new.left; reads = one_more self.old.reads } }
     {
+        self.reads = self.reads.saturating_add(1);
         Ok(self.shelf.read(into))
     }
 }

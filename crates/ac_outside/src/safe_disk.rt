@@ -1,25 +1,28 @@
 //! A disk in memory that never fails.
 
-ghost use Rattle.std.specs.Prelude.{◌≡◌, ◌+◌, ◌<◌, ◌≤◌, [], ◌++◌, length, take, drop, IsTrue, IfOk, IfSome, Ok, true};
+ghost use Rattle.std.specs.Prelude.{◌≡◌, ◌+◌, ◌<◌, ◌≤◌, [], ◌++◌, length, take, drop, IsTrue, IfOk, IfSome, Ok, Some, true};
 ghost use Rattle.ac_outside.specs.Causes.{BindHasCause};
 ghost use Rattle.ac_outside.specs.Disks.{BindLeaves, bound_by, stays_ready};
 ghost use Rattle.ac_outside.specs.Files.{file_at, file_of, part, told_length};
-ghost use Rattle.ac_outside.specs.Texts.{text_of};
+ghost use Rattle.ac_outside.specs.Texts.{text_of, with_name};
 ghost use Rattle.ac_outside.specs.Told.{one_more};
 ghost use Rattle.ac_outside.specs.Views.{bound-told, stored_bind, stored_write, told_by_safe_disk};
 
 use crate::disk::{Disk, FILE_BYTES};
 use crate::failed::{BindFault, Failed, Torn};
+use crate::names::Names;
 use crate::shelf::NamedBytes;
 use crate::store::Store;
 use ac_base::{List, NoMemory};
 use std::marker::Model;
 
-/// A disk in memory that never fails. A path that it does not hold is bound empty.
+/// A disk in memory that never fails. A path that it does not hold is bound empty. It tells the paths
+/// that it was to bind, up to sixteen, each of at most 4,096 bytes.
 #[derive(Debug, Drop)]
 pub struct SafeDisk {
     store: Store,
     calls: u64,
+    binds: Names,
 }
 
 impl Model for SafeDisk {
@@ -27,17 +30,21 @@ impl Model for SafeDisk {
 
     ghost Value = { SafeFiles };
 
-    ghost view = { λ s. record { stored = s.store; calls = s.calls } };
+    ghost view = { λ s. record { stored = s.store; calls = s.calls; binds = s.binds } };
 }
 
 impl SafeDisk {
     /// A disk of these files, none of them bound.
     pub fn new(files: List<NamedBytes>) -> Result<SafeDisk, NoMemory>
-        ensures { result ≡ Ok (record { stored = record { files = []; given = files; is_ready = true }; calls = 0 }) }
+        ensures { IfOk result (λ disk. disk ≡
+            record { stored = record { files = []; given = files; is_ready = true }; calls = 0; binds = Some [] }) }
     {
+        let files = files.into_vec();
+        let binds = Names::new(*files.allocator())?;
         Ok(SafeDisk {
-            store: Store::new(files),
+            store: Store::new(List::from_vec(files)),
             calls: 0,
+            binds,
         })
     }
 
@@ -60,7 +67,7 @@ impl SafeDisk {
 impl Disk for SafeDisk {
     ghost told = { told_by_safe_disk };
 
-    ghost tells_bound = { λ disk. bound-told disk.stored disk.calls 0 };
+    ghost tells_bound = { λ disk. bound-told disk.stored disk.calls };
 
     fn bind(&mut self, _file: u32, path: &str) -> Result<u32, BindFault>
         requires ready { IsTrue self.old.stored.is_ready }
@@ -75,10 +82,12 @@ impl Disk for SafeDisk {
         ensures after { self.new ≡ record self.old {
           stored = stored_bind self.old.stored path.now result;
           calls = one_more self.old.calls;
+          binds = with_name self.old.binds path.now;
         } }
         ensures len { IfOk result (λ len. len ≡ told_length (file_at (text_of self.old.stored.given) path.now).bytes) }
     {
         self.calls = self.calls.saturating_add(1);
+        self.binds.note(path.as_bytes());
         match self.store.bind(path.as_bytes()) {
             Ok(len) => Ok(len),
             Err(_) => Err(BindFault::NoMemory),

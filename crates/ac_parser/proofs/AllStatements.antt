@@ -1,4 +1,6 @@
 -- Statements by their first token, as one part each: what the parts read and what they spell.
+-- The part reads as `stmt_at` does, where only the reading of `if` has to be regrouped (`stmt_reads`), and spells what the grammar does, by form
+-- one way (`is_stmt`), by its cases the other (`stmt_is`). The second is harder: calls and assignments are split at the name that is read first.
 use Rattle.std.proofs.Common.{◌≡◌, ℕ, suc, List, [], ◌∷◌, ◌++◌, Option, Some, None, Ok, Err, refl, sym, ap, ◌∙◌, subst}
 use Rattle.std.specs.Prelude.{if◌then◌else◌}
 use Rattle.std.proofs.lemmas.List.{append-nil}

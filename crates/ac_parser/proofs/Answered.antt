@@ -1,4 +1,6 @@
--- What a parse answers.
+-- What a parse answers is so: the tree of the tokens (`parsed_ok`), or where they are no program (`parsed_unexpected`) or too deep
+-- (`parsed_too_deep`). By the law of items, with the end of the tokens behind them. The hard part is that no program begins so: the reader would
+-- answer its tree, but stops before all tokens that begin alike, since it looks no further than the next one (`again`).
 use Rattle.std.proofs.Common.{◌≡◌, ℕ, List, [], ◌∷◌, ◌++◌, Option, Some, None, Result, Ok, Err, refl, sym, ap, ◌∙◌, subst}
 use Rattle.std.proofs.lemmas.List.{append-nil, append_cancel_right}
 use Rattle.ac_tree.specs.declared.item.Item.{Item}

@@ -1,4 +1,6 @@
 -- The law of `if`, given that of statements one deeper, and that a statement that was read takes the `else` that comes next.
+-- In the grammar no body before an `else` ends open. So reading an `else` is good only behind a body that was read: where that one ends open, no
+-- `else` came next (`other_case`). `law_behind` is `law_bind` for a second part that is good only there.
 use Rattle.std.proofs.Common.{◌≡◌, ℕ, suc, ◌+◌, ◌≤◌, Bool, true, false, List, [], ◌∷◌, ◌++◌, Option, Some, None, Ok, refl, sym, ◌∙◌, subst, arith}
 use Rattle.std.proofs.lemmas.List.{append-nil}
 use Rattle.ac_tree.specs.declared.expr.Expr.{Expr}

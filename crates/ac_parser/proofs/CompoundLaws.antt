@@ -1,4 +1,6 @@
--- The laws of blocks, and of the statements with statements in them, given that of statements one deeper.
+-- The laws of blocks, and of the statements with statements in them, given that of statements one deeper: for each its part, what the part spells
+-- both ways, and the law. A statement that ends in an `if` without an `else` is not followed by `else` (`NoElse`); in a block it is followed by
+-- a brace or another entry, neither of which is one. A `for` is regrouped, since what its parentheses hold is one part (`moved`).
 use Rattle.std.proofs.Common.{◌≡◌, ℕ, suc, ◌+◌, ◌<◌, ◌≤◌, Bool, true, false, List, [], ◌∷◌, ◌++◌, length, Option, Some, None, refl, sym, ap, ◌∙◌, subst, append_assoc, arith}
 use Rattle.std.specs.Prelude.{not}
 use Rattle.ac_tree.specs.declared.expr.Expr.{Expr}

@@ -1,4 +1,6 @@
--- The laws of declarations, assignments and the parts of a `for`.
+-- The laws of declarations and of assignments, which stand without their semicolon in a `for`.
+-- The parser has read a name before it knows what it begins, so an assignment is split into its name and what is behind it (`split_simple`).
+-- Both may be too deep, so each token that can begin one is shown to begin one (`simple_opens`, `decl_opens`).
 use Rattle.std.proofs.Common.{◌≡◌, ℕ, suc, ◌+◌, ◌<◌, true, false, List, [], ◌∷◌, ◌++◌, Some, None, refl, sym, ap, subst, arith}
 use Rattle.ac_tree.specs.declared.expr.Expr.{Expr}
 use Rattle.ac_tree.specs.declared.expr.Expr.TheVariants as e

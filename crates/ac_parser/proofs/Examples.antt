@@ -1,4 +1,6 @@
--- Small programs and their trees, by the places of their bytes.
+-- Small programs and their trees, by the places of their bytes; texts that are no program, and one that is too deep.
+-- A text is read by computing, and what is answered is so by Answered; the parts of the grammar are shown by its cases. Where a tree has a chain or
+-- an operation, its place is a fold, which is rewritten.
 use Rattle.std.proofs.Common.{◌≡◌, refl, sym, ap, ◌∙◌, subst, ℕ, zero, suc, ℤ, pos, Bool, List, [], ◌∷◌, ◌++◌, ◌+◌, codes, Some, None, true, false, Ok, Err, arith}
 use Rattle.std.specs.Prelude.{negsuc}
 use Rattle.ac_tree.specs.declared.expr.Expr.TheVariants as e

@@ -1,4 +1,6 @@
--- The laws of optional expressions and of what stands between the parentheses of a `for`.
+-- The laws of optional expressions and of what stands between the parentheses of a `for`: three parts that may be missing, and two semicolons.
+-- The next token tells whether a part is there, since neither a semicolon nor `)` begins one. The hard case is the whole, which may be too deep:
+-- it begins with its first part, or with the semicolon, whose depth is one less (`head_opens`, `init_first`).
 use Rattle.std.proofs.Common.{◌≡◌, ℕ, suc, ◌+◌, Bool, true, false, List, [], ◌∷◌, ◌++◌, Option, Some, None, refl, ap, ◌∙◌, inl, inr, arith}
 use Rattle.std.specs.Prelude.{◌||◌}
 use Rattle.ac_tree.specs.declared.expr.Expr.{Expr}
@@ -327,6 +329,7 @@ or_right : (p q : Bool) → q ≡ true → (p || q) ≡ true
 or_right true q h = refl
 or_right false q h = h
 
+-- where the first part is missing, the first token is the semicolon; else it is that of the part
 init_first : (depth : ℕ) (x : Option Stmt) (a : List Marked) → InitSpells (suc depth) x a → (c : Token) (ms : List Marked) → c.kind ≡ k.Mark m.Semicolon
     → First depth begins_head (a ++ mark depth c ∷ ms)
 init_first depth _ _ (no_init _) c ms q = record {

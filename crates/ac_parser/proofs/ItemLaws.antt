@@ -1,4 +1,6 @@
--- The laws of the top level. Its tokens are never too deep; a function's body is read with the room that is left.
+-- The laws of the parts of items: the value of a global, parameters, and functions behind their names. The tokens of the top level are never too
+-- deep, and the body of a function is read with the room that is left. Put together from the laws of one token, of one of two by the next token,
+-- and of rows: parameters end before `)`, which is neither a comma nor a bracket.
 use Rattle.std.proofs.Common.{◌≡◌, ℕ, ℤ, ◌≤◌, Bool, true, false, List, [], ◌∷◌, ◌++◌, length, Some, None, refl, ap, ◌∙◌, arith}
 use Rattle.std.specs.Prelude.{pos}
 use Rattle.ac_tree.specs.declared.stmt.Stmt.{Stmt}

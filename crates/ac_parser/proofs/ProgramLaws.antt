@@ -1,4 +1,6 @@
--- The laws of items and programs.
+-- The law of an item: each form by its first token, all as one part (`item_part`), which reads as `item_at` does (`item_reads`).
+-- Behind `int` and a name, one token after the other is tried: `=`, `[`, `(`. So each test must fail where a later form is spelled, which is shown
+-- by what that form begins with there (`after_size`, `after_function`).
 use Rattle.std.proofs.Common.{◌≡◌, ℕ, Bool, true, false, List, ◌∷◌, ◌++◌, Some, None, Err, refl, arith}
 use Rattle.std.specs.Prelude.{pos, if◌then◌else◌}
 use Rattle.ac_tree.specs.declared.stmt.Stmt.{Stmt}

@@ -1,4 +1,5 @@
--- The law of programs.
+-- The law of a program's items: an item's part spells what the grammar does (`is_item` by form, `item_is` by its cases), so each item has that
+-- law, and so have all of them up to the end of the tokens (`items_law`, by the law of rows).
 use Rattle.std.proofs.Common.{◌≡◌, ℕ, ℤ, ◌≤◌, Bool, true, false, List, [], ◌∷◌, ◌++◌, length, Some, None, refl, ap, arith}
 use Rattle.std.specs.Prelude.{pos}
 use Rattle.ac_tree.specs.declared.item.Item.{Item}
@@ -101,6 +102,7 @@ value_is t n u name v _ (negative_value e c o k j d y) q r z = chosen b.Int _ _ 
     (seq t.span.at _ _ _ (signed t q) (seq (n.span.at, name) _ _ _ (named n name r) (first _ _ (seq e.span.at _ _ _ (signed e j)
     (seq _ _ (mark 0 c ∷ mark 0 o ∷ []) _ (first _ _ (seq c.span.at _ (mark 0 c ∷ []) (mark 0 o ∷ []) (signed c d) (negated o k y))) (last_is 0 (sign m.Semicolon) _ u z))))))
 
+-- a case for each form of the grammar: its tokens, in the order in which the parts read them
 item_is : (x : Item) (ms : List Marked) → ItemSpells x ms → item_part.spells x ms
 unfolding select bind made_of either sign_part name_part number_part text_part
 item_is _ _ (global t n u name v a q r g z) = value_is t n u name v a g q r z

@@ -1,4 +1,5 @@
--- A program that tokens spell has the shape of a program.
+-- A program that tokens spell has the shape of a program (`spelled_shape`).
+-- By induction on the spelling, expressions first, then statements and items: each case of the grammar is one of the shape.
 use Rattle.std.proofs.Common.{ℕ, suc, ◌+◌, List, [], ◌∷◌, Option, Some, None}
 use Rattle.ac_tree.specs.declared.expr.Expr.{Expr}
 use Rattle.ac_tree.specs.declared.expr.Link.{Link}

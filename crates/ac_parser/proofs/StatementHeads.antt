@@ -1,4 +1,6 @@
--- What a statement begins with, and whether it ends in an `if` without an `else`.
+-- What a statement begins with, by the cases of the grammar, and whether it ends in an `if` without an `else`, by the law of folds at each form.
+-- Then what holds of each value that is read and the tokens behind it (`Leaves`), for each way to put parts together: StatementTurns shows by it
+-- that a statement takes the `else` that comes next.
 use Rattle.std.proofs.Common.{◌≡◌, ℕ, suc, Bool, true, false, List, [], ◌∷◌, ◌++◌, Option, Some, None, Ok, refl, sym, ap, ◌∙◌, subst, arith}
 use Rattle.std.specs.Prelude.{if◌then◌else◌}
 use Rattle.ac_tree.specs.declared.expr.Expr.{Expr}
@@ -83,7 +85,7 @@ pub record StmtHeaded (depth : ℕ) (ms : List Marked) : Type 0 where
 same_first : {x y : Marked} {xs ys : List Marked} → x ∷ xs ≡ y ∷ ys → x ≡ y
 same_first h = cc
 
--- the first token of a call
+-- the first token of a call, a case for each form: it is the name or the word
 call_token : (depth : ℕ) (x : Expr) (ms : List Marked) → CallSpells depth x ms → StmtHeaded depth ms
 call_token _ _ _ (function_call depth t l r name xs a q i g j) = record { head = t; others = mark depth l ∷ (a ++ mark (suc depth) r ∷ []); is = refl; begins = rw q refl }
 call_token _ _ _ (send depth t l n c r name x a q i v f g j) = record {
@@ -122,6 +124,7 @@ simple_head depth x ms g = let z = split_simple depth 0 x ms g in record { head 
 block_head : (depth at : ℕ) (xs : List Stmt) (ms : List Marked) → BlockSpells depth at xs ms → StmtHeaded depth ms
 block_head _ _ _ _ (braces depth l r xs a q g j) = record { head = l; others = a ++ mark depth r ∷ []; is = refl; begins = rw q refl }
 
+-- a case for each form of statement: its own first token, or that of the part which it begins with
 pub stmt_head : (depth : ℕ) (x : Stmt) (ms : List Marked) → StmtSpells depth x ms → StmtHeaded depth ms
 stmt_head _ _ _ (block depth at xs ms g) = block_head depth at xs ms g
 stmt_head _ _ _ (empty depth t q) = record { head = t; others = []; is = refl; begins = rw q refl }

@@ -1,4 +1,6 @@
--- The law of statements.
+-- The law of statements (`stmt_law`), by induction on the room: at 0 the next token is too deep; else the first token selects the form
+-- (`law_select`), whose law asks for that of statements one deeper. For the first case, each token that can begin a statement is shown to begin
+-- one, made of smallest parts (`stmt_opens`).
 use Rattle.std.proofs.Common.{◌≡◌, ℕ, zero, suc, ◌+◌, true, false, List, [], ◌∷◌, ◌++◌, Some, None, refl, ap, ◌∙◌, arith}
 use Rattle.ac_tree.specs.declared.expr.Expr.{Expr}
 use Rattle.ac_tree.specs.declared.expr.Expr.TheVariants as e
@@ -71,6 +73,7 @@ by_simple depth t o = record {
   spells = assign depth o.value a_semicolon (mark o.own t ∷ o.others) o.spells refl;
 }
 
+-- for each word that begins a statement, the smallest statement that it begins; another word begins none
 open_word : (depth : ℕ) (t : Token) (a : Word) → IsWord a t → is_opening (opening_word a) ≡ true → Opens Stmt (StmtSpells depth) depth t
 open_word depth t w.Send q h = by_operation depth t (operation_opens depth t w.Send q refl)
 open_word depth t w.Recv q h = by_operation depth t (operation_opens depth t w.Recv q refl)

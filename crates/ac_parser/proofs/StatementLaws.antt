@@ -1,4 +1,5 @@
--- The laws of the statements with no statement in them.
+-- The laws of the statements with no statement in them: their parts, what they spell both ways, and the laws, put together from those of
+-- expressions. Of a call and an assignment the name is read first, and the token behind it tells which of the two it is (`assign_not`).
 use Rattle.std.proofs.Common.{◌≡◌, ℕ, suc, ◌-◌, ◌+◌, ◌<◌, false, List, [], ◌∷◌, ◌++◌, Option, refl, sym, ap, ◌∙◌, subst, arith}
 use Rattle.ac_tree.specs.declared.expr.Expr.{Expr}
 use Rattle.ac_tree.specs.declared.expr.Expr.TheVariants as e

@@ -1,4 +1,6 @@
--- The law of statements, by their depth.
+-- The first token of a statement tells its form (`opening_form`), and a statement that is read takes the `else` that comes next (`greedy`).
+-- The second by induction on the room: `if` reads an `else` where one comes, and takes it; a form that ends in a statement has it of that one;
+-- every other one does not end open.
 use Rattle.std.proofs.Common.{◌≡◌, ℕ, zero, suc, Bool, true, false, List, ◌++◌, Option, Some, None, Ok, Err, refl, sym, ap, ◌∙◌, subst}
 use Rattle.std.specs.Prelude.{if◌then◌else◌}
 use Rattle.ac_tree.specs.declared.expr.Expr.{Expr}

@@ -1,4 +1,5 @@
--- What a statement is read as, at each turn of the functions that read it.
+-- What a statement is read as, at each turn of the functions that read it: by the form of its first token, and what a `for` has in parentheses.
+-- The recursive reader of the definition is unfolded once, where there is room.
 use Rattle.std.proofs.Common.{◌≡◌, ◌≢◌, ℕ, suc, ◌-◌, ◌+◌, List, ap, ◌∙◌, arith}
 use Rattle.ac_lexer.specs.declared.token.Token.{Token}
 use Rattle.ac_parser.specs.declared.forms.Opening.{Opening}

@@ -1,4 +1,6 @@
--- A program weighs at most as many tokens as spell it.
+-- A program weighs at most as many tokens as spell it (`spelled_weight`), so few tokens make a small program (`is_small`).
+-- By induction on the spelling, expressions first, then statements and items: what the form weighs (WeightForms of ac_tree) is compared with the
+-- number of tokens that its case of the grammar writes.
 use Rattle.std.proofs.Common.{◌≡◌, ℕ, suc, ◌+◌, ◌≤◌, List, [], ◌∷◌, ◌++◌, length, Option, Some, None, ap, length-append, arith}
 use Rattle.ac_tree.specs.declared.expr.Expr.{Expr}
 use Rattle.ac_tree.specs.declared.expr.Link.{Link}
@@ -90,6 +92,7 @@ next_light _ _ _ (no_next depth) = omega arith
 next_light _ _ _ (simple_next depth x ms g) = simple_light depth x ms g
 
 mutual
+  -- each form: what it weighs, what its parts weigh by induction, and the lengths of the lists that its tokens are put together of
   stmt_light : (depth : ℕ) (x : Stmt) (ms : List Marked) → StmtSpells depth x ms → stmt_weight x ≤ length ms
   stmt_light _ _ _ (block depth at body ms g) = omega (arith, f.block_weighs at body, block_light depth at body ms g)
   stmt_light _ _ _ (empty depth t q) = omega (arith, f.empty_weighs t.span.at)

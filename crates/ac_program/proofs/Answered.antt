@@ -1,4 +1,6 @@
--- A list of tokens has one kind of answer: a tree, an unexpected token or one that is too deep.
+-- A list of tokens has one kind of answer: a tree, an unexpected token or one that is too deep. Two of them would cut the list at two
+-- places; where the first place comes before the second, the tree or the place of the second says that tokens go on where the first says
+-- that they cannot.
 use Rattle.std.proofs.Common.{◌≡◌, ℕ, ◌+◌, ◌≤◌, List, [], ◌∷◌, ◌++◌, length, Option, Some, None, refl, sym, ap, ◌∙◌, subst, append_assoc, length-append, arith}
 use Rattle.std.specs.Prelude.{Bool, true, false, ltb, if◌then◌else◌}
 use Rattle.std.proofs.lemmas.List.{append-nil}

@@ -1,4 +1,5 @@
--- When an audit says yes, as it follows from the clause `judged` of `ac_main`.
+-- When an audit says yes, as it follows from the clause `judged` of `ac_main`: exactly where the second text spells a trace that is a run
+-- of the program of the first. Status 0 is called for by `yes` alone, and two texts call for one status.
 use Rattle.std.proofs.Common.{◌≡◌, ℕ, ◌*◌, ◌≤◌, ◌↔◌, List, length, Some, refl, sym, subst, arith}
 use Rattle.ac_outside.specs.Told.{LibraryTold}
 use Rattle.ac_tree.specs.declared.item.Program.{Program}

@@ -1,38 +1,45 @@
--- The trace of two.ac, as it is written, read back and audited, and what each part of an audit comes to.
-use Rattle.std.proofs.Common.{◌≡◌, inl, inr, refl, sym, ap, ◌∙◌, subst, ℕ, List, [], ◌∷◌, ◌++◌, length, codes, Option, None, Some, Ok, false, arith}
+-- The trace of two.ac, as it is written, read back and audited, and what each part of an audit comes to. Its text is read by computing;
+-- beside each part stands what is not due, as a trace that is opened though its program is refused.
+use Rattle.std.proofs.Common.{◌≡◌, ◌-◌, ◌*◌, inl, inr, refl, sym, ap, ◌∙◌, subst, append-nil, ℕ, List, [], ◌∷◌, ◌++◌, length, codes, Option, None, Some, Ok, false, arith}
 use Rattle.std.proofs.lemmas.List.Elements.{All-nil}
 use Rattle.std.proofs.lemmas.Fmt.{decimal_digit}
 use Rattle.ac_base.specs.declared.entry.Stamped.{Stamped}
 use Rattle.ac_lexer.proofs.Examples.{two_text}
 use Rattle.ac_resolve.specs.Resolution.{resolved}
+use Rattle.ac_outside.specs.Disks.{DiskTold}
 use Rattle.ac_outside.specs.Told.{LibraryTold, CountsOne, one_more}
+use Rattle.program_run.specs.declared.ended.Ended.{Ended}
 use Rattle.trace_text.specs.Spelling.{IsTheTrace, IsFirstWrong}
 use Rattle.trace_text.specs.inner.Reading.{read_text, read_lines, after_line, entry_at, number_at, numbered_at, end_at, end_word_at, bytes_to_end}
 use Rattle.trace_text.proofs.Whole.{the_trace, read_stops}
 use Rattle.trace_audit.specs.declared.verdict.Verdict.TheVariants.{Yes, NoAt, NoAtEnd}
 use Rattle.trace_audit.specs.RunTrace.{IsRunTrace}
 use Rattle.trace_audit.specs.Laws.{trace_of}
+use Rattle.ac_words.specs.declared.task.Task.{Task}
 use Rattle.ac_words.specs.declared.task.Task.TheVariants as t
 use Rattle.ac_words.specs.declared.task.Telling.TheVariants as tell
-use Rattle.ac_words.specs.Words.{Audits, IsCall, no_more, operand}
+use Rattle.ac_words.specs.Words.{Does, Audits, StandsFor, IsCall, no_more, operand}
 use Rattle.ac_program.specs.declared.refusal.Refusal.TheVariants as r
 use Rattle.ac_program.specs.Source.{IsReady}
-use Rattle.ac_program.specs.Reading.{IsRead}
-use Rattle.ac_program.specs.Lines.{limit_trace_line, limit_steps_line, trace_fault_line, verdict_line, verdict_status}
+use Rattle.ac_program.specs.Reading.{IsRead, IsReadWhole}
+use Rattle.ac_program.specs.Lines.{library_line, limit_source_line, limit_trace_line, limit_steps_line, trace_fault_line, verdict_line, verdict_status}
 use Rattle.ac_program.specs.Making.{TellsTrace, Tells, whole, long_trace}
-use Rattle.ac_program.specs.Auditing.{IsDueOfRun, IsDueOfTraced, IsDueOfTrace, IsDueOfSource, IsDueOfAudit, AreRead, AuditCallsFor, IsJudged, first, both}
+use Rattle.ac_program.specs.Auditing.{IsDueOfRun, IsDueOfTraced, IsDueOfTrace, IsDueOfSource, IsDueOfAudit, AreRead, IsTraceRead, AuditCallsFor, IsJudged, first, both}
 use Rattle.ac_program.specs.Auditing.IsDueOfRun.{too_many, judged}
 use Rattle.ac_program.specs.Auditing.IsDueOfTraced.{wrong, spelled}
-use Rattle.ac_program.specs.Auditing.IsDueOfTrace.{read}
+use Rattle.ac_program.specs.Auditing.IsDueOfTrace.{library_fault as trace_fault, too_long as trace_too_long, read}
 use Rattle.ac_program.specs.Auditing.IsDueOfSource.{refused, ready}
-use Rattle.ac_program.specs.Auditing.IsDueOfAudit.{source}
-use Rattle.ac_program.specs.Auditing.AuditCallsFor.{over_long, told}
-use Rattle.ac_program.specs.Headline.{IsCutShort, IsDue, of_audit, audit, IsOfCores, ReadsBack}
+use Rattle.ac_program.specs.Auditing.IsDueOfAudit.{library_fault as file_fault, too_long as file_too_long, source}
+use Rattle.ac_program.specs.Auditing.AuditCallsFor.{over_long, refused as calls_refused, long_trace as calls_long, told}
+use Rattle.ac_program.specs.Headline.{IsCutShort, IsDue, of_task, of_audit, of_load, IsOfCores, ReadsBack}
+use Rattle.ac_program.specs.Headline.IsDue.{usage, call, audit, load}
 use Rattle.ac_program.proofs.AuditConsequences.{AreARun, only_yes}
 use Rattle.ac_program.proofs.Judging.{one_status}
+use Rattle.ac_program.proofs.Refusals.{refused_not, some_status}
 use Rattle.ac_program.proofs.Statuses.{not_above}
 use Rattle.ac_program.proofs.TwoRules.{two_tree, two_is_clean}
 use Rattle.ac_program.proofs.Examples.{no_disk, its_end, its_run, it_is_a_run, it_is_spelled, its_sink, sink_with, it_has_a_fault}
+use Rattle.ac_program.proofs.FileExamples.{a_disk, its_disk}
 
 -- ---- its trace
 
@@ -152,35 +159,91 @@ text_of (x ∷ name) = Some its_text
 
 -- the program under the empty name, the trace under every other
 abbrev pub before_it : LibraryTold
-before_it = record { text_at = text_of; is_open = false; left = Some []; opens = Some 0; names = Some []; faults = 0 }
+before_it = record { text_at = text_of; is_open = false; left = Some []; opens = Some 0; reads = Some 0; names = Some []; faults = 0 }
 
 abbrev pub between_them : LibraryTold
-between_them = record before_it { opens = Some 1; names = Some ([] ∷ []) }
+between_them = record before_it { opens = Some 1; reads = Some 2; names = Some ([] ∷ []) }
 
 abbrev pub behind_it : LibraryTold
-behind_it = record before_it { opens = Some 2; names = Some ([] ∷ codes "t" ∷ []) }
+behind_it = record before_it { opens = Some 2; reads = Some 4; names = Some ([] ∷ codes "t" ∷ []) }
 
 its_first_reading : IsRead before_it between_them []
-its_first_reading = record { just = record { once = refl; named = refl }; well = refl }
+its_first_reading = record {
+  just = record { once = refl; named = refl };
+  well = refl;
+  reads = record { taken = two_text; consumed = sym (append-nil two_text); few = omega arith };
+}
+
+its_program_is_read : IsReadWhole before_it between_them [] two_text
+its_program_is_read = record { read = its_first_reading; few = omega arith }
 
 its_second_reading : IsRead between_them behind_it (codes "t")
-its_second_reading = record { just = record { once = refl; named = refl }; well = refl }
+its_second_reading = record {
+  just = record { once = refl; named = refl };
+  well = refl;
+  reads = record { taken = its_text; consumed = sym (append-nil its_text); few = omega arith };
+}
+
+its_trace_is_read : IsReadWhole between_them behind_it (codes "t") its_text
+its_trace_is_read = record { read = its_second_reading; few = omega arith }
+
+-- the trace is not opened, or the program is not
+abbrev failing : ℕ → List (List ℕ) → LibraryTold
+failing opens names = record before_it { opens = Some opens; reads = Some (2 * (opens - 1)); names = Some names; faults = 1 }
+
+pub a_fault_at_the_trace_is_due : IsDueOfTrace two_tree (codes "t") between_them (failing 2 ([] ∷ codes "t" ∷ [])) 7 library_line
+a_fault_at_the_trace_is_due = trace_fault refl refl (record { just = record { once = refl; named = refl }; reads = inl refl }) (omega arith)
+
+pub a_fault_at_the_program_is_due : IsDueOfAudit [] (codes "t") before_it (failing 1 ([] ∷ [])) 7 library_line
+a_fault_at_the_program_is_due = file_fault refl refl (record { just = record { once = refl; named = refl }; reads = inl refl }) (omega arith)
+
+-- a trace has one byte too many
+abbrev long_before : List ℕ → LibraryTold
+long_before bytes = record between_them { text_at = λ name. Some bytes }
+
+abbrev long_after : List ℕ → LibraryTold
+long_after bytes = record behind_it { text_at = λ name. Some bytes }
+
+pub a_long_trace_is_due : (bytes : List ℕ) → length bytes ≡ 268435457 → IsDueOfTrace two_tree (codes "t") (long_before bytes) (long_after bytes) 10 limit_trace_line
+a_long_trace_is_due bytes e = trace_too_long refl refl
+    (record { just = record { once = refl; named = refl }; well = refl; reads = record { taken = bytes; consumed = sym (append-nil bytes); few = omega (arith, e) } })
+    (record { taken = bytes; count = omega (arith, e); consumed = sym (append-nil bytes) })
+
+its_check_is_ready : IsReady two_text t.Check two_tree
+its_check_is_ready = record { is_accepted = record { spelled = it_is_spelled; clean = two_is_clean }; within = omega arith }
+
+pub its_trace_is_opened : IsTraceRead two_text (codes "t") between_them behind_it
+its_trace_is_opened = record { program = two_tree; is_ready = its_check_is_ready; read = its_second_reading }
 
 pub both_are_read : AreRead [] (codes "t") before_it behind_it
-both_are_read = both between_them its_first_reading its_second_reading
+both_are_read = both two_text between_them its_program_is_read refl (omega arith) its_trace_is_opened
+
+-- or the program alone, where memory is refused before the trace is opened
+pub the_first_is_read : AreRead [] (codes "t") before_it between_them
+the_first_is_read = first its_first_reading
 
 pub none_is_not_both : AreRead [] (codes "t") before_it before_it → ⊥
 none_is_not_both (first h) = let e = h.just.once in omega (arith, e)
-none_is_not_both (both between h k) = two between.opens h.just.once k.just.once where
+none_is_not_both (both bytes between h g s k) = two between.opens h.read.just.once k.read.just.once where
   two : (opens : Option ℕ) → CountsOne (Some 0) opens → CountsOne opens (Some 0) → ⊥
   two None a b = a
   two (Some n) a b = let e : 0 ≡ one_more 1 = subst (λ m. 0 ≡ one_more m) a b in omega (arith, e)
 
-pub yes_is_due_of_its_trace : IsDueOfTrace two_tree (codes "t") between_them behind_it 0 (codes "yes\n")
-yes_is_due_of_its_trace = read its_text its_second_reading refl (omega arith) yes_is_due_of_its_text
+-- where the first has a bad byte, the second is not opened
+abbrev refused_text : List ℕ → Option (List ℕ)
+refused_text [] = Some (codes "007")
+refused_text (x ∷ name) = Some its_text
 
-its_check_is_ready : IsReady two_text t.Check two_tree
-its_check_is_ready = record { is_accepted = record { spelled = it_is_spelled; clean = two_is_clean }; within = omega arith }
+pub no_trace_is_opened : IsTraceRead (codes "007") (codes "t") between_them behind_it → ⊥
+no_trace_is_opened k = refused_not (codes "007") t.Check (omega arith) (r.BadByte 1) k.program it_has_a_fault k.is_ready
+
+pub nor_is_it_read : AreRead [] (codes "t") (record before_it { text_at = refused_text }) (record behind_it { text_at = refused_text }) → ⊥
+nor_is_it_read (first h) = let e = h.just.once in omega (arith, e)
+nor_is_it_read (both bytes between h g s k) =
+    refused_not (codes "007") t.Check (omega arith) (r.BadByte 1) k.program it_has_a_fault (subst (λ (it : List ℕ). IsReady it t.Check k.program) g k.is_ready)
+
+pub yes_is_due_of_its_trace : IsDueOfTrace two_tree (codes "t") between_them behind_it 0 (codes "yes\n")
+yes_is_due_of_its_trace = read its_text its_trace_is_read refl (omega arith) yes_is_due_of_its_text
 
 pub yes_is_due_of_its_source : IsDueOfSource two_text (codes "t") between_them behind_it 0 (codes "yes\n")
 yes_is_due_of_its_source = ready two_tree its_check_is_ready yes_is_due_of_its_trace
@@ -190,7 +253,44 @@ pub a_fault_is_due : IsDueOfSource (codes "007") (codes "t") between_them betwee
 a_fault_is_due = refused (r.BadByte 1) refl (sym (rw (decimal_digit 1 (omega arith)) refl)) it_has_a_fault refl
 
 pub yes_is_due_of_its_files : IsDueOfAudit [] (codes "t") before_it behind_it 0 (codes "yes\n")
-yes_is_due_of_its_files = source two_text between_them its_first_reading refl (omega arith) refl yes_is_due_of_its_source
+yes_is_due_of_its_files = source two_text between_them its_program_is_read refl (omega arith) refl yes_is_due_of_its_source
+
+-- a program has one byte too many
+pub a_long_program_is_due : (bytes : List ℕ) → length bytes ≡ 1048577
+    → IsDueOfAudit [] (codes "t") (record before_it { text_at = λ name. Some bytes }) (record between_them { text_at = λ name. Some bytes; reads = Some 257 }) 10 limit_source_line
+a_long_program_is_due bytes e = file_too_long refl refl
+    (record { just = record { once = refl; named = refl }; well = refl; reads = record { taken = bytes; consumed = sym (append-nil bytes); few = omega (arith, e) } })
+    (record { taken = bytes; count = omega (arith, e); consumed = sym (append-nil bytes) })
+
+-- no verdict is due where the trace was not opened
+pub no_verdict_without_the_trace : IsDueOfTrace two_tree (codes "t") between_them (failing 2 ([] ∷ codes "t" ∷ [])) 0 (codes "yes\n") → ⊥
+no_verdict_without_the_trace (trace_fault n x j e) = omega (arith, n)
+no_verdict_without_the_trace (trace_too_long n x w took) = omega (arith, n)
+no_verdict_without_the_trace (read traced w g s d) = let none : 1 ≡ 0 = w.read.well in omega (arith, none)
+
+-- nor on a source that a check refuses, whose trace is not opened
+pub no_verdict_on_a_fault : IsDueOfSource (codes "007") (codes "t") between_them behind_it 0 (codes "yes\n") → ⊥
+no_verdict_on_a_fault (refused refusal n x h a) = omega (arith, some_status refusal, n)
+no_verdict_on_a_fault (ready p k d) = refused_not (codes "007") t.Check (omega arith) (r.BadByte 1) p it_has_a_fault k
+
+abbrev count_of : Option ℕ → ℕ
+count_of None = 0
+count_of (Some n) = n
+
+pub its_trace_is_left_alone : (text : List ℕ) → IsDueOfSource (codes "007") (codes "t") between_them behind_it 2 text → ⊥
+its_trace_is_left_alone text (refused refusal n x h a) = let two : 2 ≡ 1 = ap (λ (told : LibraryTold). count_of told.opens) a in omega (arith, two)
+its_trace_is_left_alone text (ready p k d) = refused_not (codes "007") t.Check (omega arith) (r.BadByte 1) p it_has_a_fault k
+
+-- nor where the program was not opened
+pub no_verdict_without_the_program : IsDueOfAudit [] (codes "t") before_it (failing 1 ([] ∷ [])) 0 (codes "yes\n") → ⊥
+no_verdict_without_the_program (file_fault n x j e) = omega (arith, n)
+no_verdict_without_the_program (file_too_long n x w took) = omega (arith, n)
+no_verdict_without_the_program (source bytes between w g s same (refused refusal n x h a)) = omega (arith, some_status refusal, n)
+no_verdict_without_the_program (source bytes between w g s same (ready p k (trace_fault n x j e))) = omega (arith, n)
+no_verdict_without_the_program (source bytes between w g s same (ready p k (trace_too_long n x v took))) = omega (arith, n)
+no_verdict_without_the_program (source bytes between w g s same (ready p k (read traced v h l d))) =
+    let well : between.faults ≡ 0 = w.read.well in
+    let too : 1 ≡ between.faults = v.read.well in omega (arith, well, too)
 
 -- ---- what its texts call for
 
@@ -199,6 +299,15 @@ its_texts_call_for_0 = told two_tree (codes "yes\n") (omega arith) its_check_is_
 
 pub a_long_text_calls_for_10 : (bytes traced : List ℕ) → length bytes ≡ 1048577 → AuditCallsFor bytes traced 10
 a_long_text_calls_for_10 bytes traced e = over_long refl (omega (arith, e))
+
+pub a_fault_calls_for_2 : AuditCallsFor (codes "007") its_text 2
+a_fault_calls_for_2 = calls_refused (r.BadByte 1) refl (omega arith) it_has_a_fault
+
+pub a_long_trace_calls_for_10 : (traced : List ℕ) → length traced ≡ 268435457 → AuditCallsFor two_text traced 10
+a_long_trace_calls_for_10 traced e = calls_long two_tree refl (omega arith) its_check_is_ready (omega (arith, e))
+
+pub they_call_for_no_other : AuditCallsFor two_text its_text 13 → ⊥
+they_call_for_no_other h = let e : 13 ≡ 0 = one_status two_text its_text 0 13 its_texts_call_for_0 h in omega (arith, e)
 
 some_same : {a b : List ℕ} → Some a ≡ Some b → a ≡ b
 some_same e = cc
@@ -236,3 +345,33 @@ yes_is_due_of_its_words = audit [] (codes "t") its_call refl refl yes_is_due_of_
 -- where memory was refused, both were opened
 pub it_is_cut_short : IsCutShort its_words before_it behind_it no_disk no_disk
 it_is_cut_short = of_audit [] (codes "t") its_call both_are_read refl
+
+-- other words ask for a task of a file, or for a load
+abbrev first_of : List ℕ → ℕ
+first_of [] = 0
+first_of (x ∷ _) = x
+
+same_first : {v w : List ℕ} {vs rest : List (List ℕ)} → v ∷ vs ≡ w ∷ rest → v ≡ w
+same_first e = cc
+
+of_no_task : (name : List ℕ) (operands : List (List ℕ)) (given : Option ℕ) (task : Task) (file : List ℕ) → codes "audit" ≡ name → StandsFor name operands given (Does task file) → ⊥
+of_no_task name operands given (t.Run steps tell.Report) file e h = let n : 97 ≡ 114 = ap first_of (e ∙ h.1.0) in omega (arith, n)
+of_no_task name operands given (t.Run steps tell.Trace) file e h = let n : 97 ≡ 116 = ap first_of (e ∙ h.1.0) in omega (arith, n)
+of_no_task name operands given (t.Run steps (tell.Summary turns)) file e h = h.1
+of_no_task name operands given t.Check file e h = let n : 97 ≡ 99 = ap first_of (e ∙ h.1.0) in omega (arith, n)
+of_no_task name operands given t.Code file e h = let n : 97 ≡ 99 = ap first_of (e ∙ h.1.0) in omega (arith, n)
+
+bound_of : {a b : DiskTold} → a ≡ b → a.bound ≡ b.bound
+bound_of e = ap (λ (told : DiskTold). told.bound) e
+
+-- so of these words nothing is due, and nothing left, where a file was bound
+pub no_file_is_bound : (status : ℕ) (text : List ℕ) (run : Option Ended) → IsDue its_words before_it behind_it a_disk its_disk status text run → ⊥
+no_file_is_bound status text run (usage n x r none a e) = none (Audits [] (codes "t")) its_call
+no_file_is_bound status text run (call task file c due) = of_no_task c.name c.operands c.given task file (same_first c.command.form) c.stands
+no_file_is_bound status text run (audit file trace c r e due) = let one : 1 ≡ 0 = bound_of e in omega (arith, one)
+no_file_is_bound status text run (load turns steps c a due) = let n : 97 ≡ 108 = ap first_of (same_first c.command.form ∙ c.stands.0) in omega (arith, n)
+
+pub nor_is_one_left : IsCutShort its_words before_it behind_it a_disk its_disk → ⊥
+nor_is_one_left (of_task task file c r l) = of_no_task c.name c.operands c.given task file (same_first c.command.form) c.stands
+nor_is_one_left (of_audit file trace c r e) = let one : 1 ≡ 0 = bound_of e in omega (arith, one)
+nor_is_one_left (of_load turns steps c a l) = let n : 97 ≡ 108 = ap first_of (same_first c.command.form ∙ c.stands.0) in omega (arith, n)

@@ -1,4 +1,6 @@
--- A text calls for one status, or for several that are those of runs of its program, which has a channel or a file.
+-- A text calls for one status, or for several that are those of runs of its program, which has a channel or a file. Each way to a status
+-- is one of four (too long, refused, a long file, made); two ways of one text are the same way, since a text has one program and what
+-- refuses it does so once.
 use Rattle.std.proofs.Common.{◌≡◌, ℕ, ◌+◌, ◌<◌, ◌≤◌, ◌⊎◌, inl, inr, List, [], ◌∷◌, length, Option, None, Some, refl, sym, ap, ◌∙◌, subst, arith}
 use Rattle.ac_tree.specs.Shape.{HasShape}
 use Rattle.ac_parser.proofs.Shaped.{spelled_shape}

@@ -1,4 +1,5 @@
--- A program of two cores with a channel between them, from its text to a run.
+-- A program of two cores with a channel between them, from its text to a run: the text is read by computing, and so are its rules, its
+-- code and the replay of the journals.
 use Rattle.std.proofs.Common.{◌≡◌, refl, subst, ℕ, zero, suc, ◌<◌, ◌≤◌, pos, List, [], ◌∷◌, codes, Option, None, Some, Ok, true, false, arith}
 use Rattle.std.specs.Prelude.{slice_get}
 use Rattle.ac_base.specs.declared.ends.EndWord.TheVariants.{Finished}
@@ -28,9 +29,9 @@ use Rattle.ac_translation.specs.Translation.{code_of}
 use Rattle.ac_links.specs.AtRest.{has_front}
 use Rattle.ac_history.specs.History.{link_at}
 use Rattle.ac_history.specs.Quiet.{CoreIsQuiet}
-use Rattle.core_runner.specs.Network.{owner_of, peer_of}
-use Rattle.core_runner.specs.declared.ended.Ended.{Ended}
-use Rattle.core_runner.specs.Run.{nothing_yet, IsCoreRun, IsRunOf}
+use Rattle.program_run.specs.Parties.{owner_of, peer_of}
+use Rattle.program_run.specs.declared.ended.Ended.{Ended}
+use Rattle.program_run.specs.Run.{nothing_yet, IsCoreRun, IsRunOf}
 use Rattle.ac_words.specs.declared.task.Task.TheVariants as t
 use Rattle.ac_words.specs.declared.task.Telling.TheVariants as tell
 use Rattle.ac_program.specs.Source.{HasTokens, IsAccepted, IsReady}

@@ -1,11 +1,13 @@
--- What each status says on its own, as it follows from the clauses of `ac_main`.
+-- What each status says on its own, as it follows from the clauses of `ac_main` and from nothing else: what is due is gone through case by
+-- case, and a case with another status is absurd.
 use Rattle.std.proofs.Common.{◌≢◌, ◌≡◌, ℕ, ◌+◌, ◌<◌, ◌≤◌, ◌↔◌, ◌⊎◌, inl, inr, List, [], length, Option, None, Some, refl, sym, ◌∙◌, subst, arith}
 use Rattle.ac_tree.specs.declared.item.Program.{Program}
 use Rattle.ac_outside.specs.Told.{LibraryTold, SinkTold, CountsOne, GrewBy}
 use Rattle.ac_outside.specs.Disks.{DiskTold}
 use Rattle.starting_files.specs.declared.fault.StartFault.TheVariants as f
+use Rattle.starting_files.specs.Starting.{AreStopped}
 use Rattle.ac_program.specs.declared.refusal.Refusal.{Refusal}
-use Rattle.core_runner.specs.declared.ended.Ended.{Ended}
+use Rattle.program_run.specs.declared.ended.Ended.{Ended}
 use Rattle.ac_program.specs.declared.execute.Done.{Done}
 use Rattle.ac_words.specs.declared.task.Task.{Task}
 use Rattle.ac_words.specs.declared.task.Task.TheVariants as t
@@ -21,12 +23,12 @@ use Rattle.trace_text.specs.Text.{trace_text}
 use Rattle.trace_text.specs.Outcomes.{trace_limit}
 use Rattle.trace_audit.specs.Laws.{trace_of}
 use Rattle.ac_program.specs.Reading.{Gave, TookBytes, IsRead, IsShort}
-use Rattle.core_runner.specs.Run.{IsRunOf}
+use Rattle.program_run.specs.Run.{IsRunOf}
 use Rattle.ac_program.specs.Source.{IsAccepted, IsTooMany, IsReady, Refuses, needed}
 use Rattle.ac_program.proofs.OneStatus.{one_status}
 use Rattle.ac_program.specs.Headline.{IsCutShort, of_task, of_audit, of_load, IsOfCores, IsDue, IsDueOfFile, TookWhole, GaveUp, TellsUsage}
 use Rattle.ac_program.specs.Headline.{IsOfText, AreOfRuns, IsCalledFor, IsDecided, IsLoaded, summed, GivesStatus, CallsFor, KnowsFiles, AreShort}
-use Rattle.ac_program.specs.Making.{Makes, IsDueOf, AreStopped, Tells, TellsTrace, whole, long_trace}
+use Rattle.ac_program.specs.Making.{Makes, IsDueOf, Tells, TellsTrace, whole, long_trace}
 use Rattle.ac_program.specs.Making.IsDueOf.{refused, ready}
 use Rattle.ac_program.specs.Making.IsDueOfProgram.{disk_fault, long_file as is_over, made as is_done}
 use Rattle.ac_program.specs.Headline.IsDueOfFile.{library_fault, too_long, source}
@@ -228,22 +230,22 @@ module _ (words : List (List ℕ)) (before after : LibraryTold) (disk later : Di
     file_refused : (number : ℕ) → IsOfRefusal number → number ≢ 10 → IsDueOfFile file task before after disk later status text run → status ≡ number → IsRefused number words before after
     file_refused number k m (library_fault n x r j u a) e = absurd (seven number k (sym e ∙ n))
     file_refused number k m (too_long n x r w took a) e = absurd (m (sym e ∙ n))
-    file_refused number k m (source bytes w g l due) e = source_refused task bytes (of_file file is_call w g l) number k m due e
+    file_refused number k m (source bytes w g l due) e = source_refused task bytes (of_file file is_call w.read g l) number k m due e
 
     file_over : IsDueOfFile file task before after disk later status text run → status ≡ 10 → IsOver words before after disk later run
     file_over (library_fault n x r j u a) e = absurd (omega (arith, n, e))
     file_over (too_long n x r w took a) e = long_source (record { task = task; file = file; is_call = is_call; well = w; took = took })
-    file_over (source bytes w g l due) e = source_over task bytes (of_file file is_call w g l) due e
+    file_over (source bytes w g l due) e = source_over task bytes (of_file file is_call w.read g l) due e
 
     file_failed : IsDueOfFile file task before after disk later status text run → status ≡ 9 → IsFailedFile words before after disk later
     file_failed (library_fault n x r j u a) e = absurd (omega (arith, n, e))
     file_failed (too_long n x r w took a) e = absurd (omega (arith, n, e))
-    file_failed (source bytes w g l due) e = source_failed task bytes (of_file file is_call w g l) due e
+    file_failed (source bytes w g l due) e = source_failed task bytes (of_file file is_call w.read g l) due e
 
     file_made : IsDueOfFile file task before after disk later status text run → IsOfCores status → IsMade words before after status text run
     file_made (library_fault n x r j u a) h = absurd (not_above status 7 h n (omega arith))
     file_made (too_long n x r w took a) h = absurd (not_above status 10 h n (omega arith))
-    file_made (source bytes w g l due) h = source_made task bytes (of_file file is_call w g l) due h
+    file_made (source bytes w g l due) h = source_made task bytes (of_file file is_call w.read g l) due h
 
   due_refused : (number : ℕ) → IsOfRefusal number → number ≢ 10 → IsDue words before after disk later status text run → status ≡ number → IsRefused number words before after
   due_refused number k m (usage n x r w s a) e = absurd (one number k (sym e ∙ n))

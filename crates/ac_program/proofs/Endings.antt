@@ -1,8 +1,9 @@
--- What an answer to what is due gives.
+-- What an answer to what is due gives: the whole text is taken where no status says otherwise, and a front of it where the sink failed.
+-- What is due of a part of the work is so of the whole.
 use Rattle.std.proofs.Common.{◌≡◌, ◌≢◌, ℕ, List}
 use Rattle.std.specs.declared.option.Option.{Option}
 use Rattle.ac_outside.specs.Told.{SinkTold, GrewBy}
-use Rattle.core_runner.specs.declared.ended.Ended.{Ended}
+use Rattle.program_run.specs.declared.ended.Ended.{Ended}
 use Rattle.ac_program.specs.Writing.{TookFront}
 use Rattle.ac_program.specs.Headline.{TookWhole, TookPart}
 

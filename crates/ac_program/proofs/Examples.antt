@@ -1,6 +1,7 @@
--- Histories of small journals, lines, sources that are refused, and two.ac from its text to its report.
+-- Histories of small journals, lines, sources that are refused, and two.ac from its text to its report. Each definition of Headline,
+-- Source, Making and Reading stands beside a value that it refuses.
 use Rattle.std.proofs.Common.{◌≡◌, refl, ap, ◌∙◌, ℕ, zero, suc, ◌<◌, ◌≤◌, pos, ◌⊎◌, Bool, List, [], ◌∷◌, ◌++◌, length}
-use Rattle.std.proofs.Common.{map, codes, Option, None, Some, true, false, Result, Ok, Err, subst, sym, inl, inr, length-append, arith}
+use Rattle.std.proofs.Common.{map, codes, Option, None, Some, true, false, Result, Ok, Err, subst, sym, inl, inr, append-nil, length-append, arith}
 use Rattle.std.specs.Prelude.{slice_get}
 use Rattle.std.specs.Fmt.{signed_decimal}
 use Rattle.std.specs.Str.{bytes_eq}
@@ -60,28 +61,31 @@ use Rattle.ac_translation.specs.Translation.{code_of}
 use Rattle.ac_compile.proofs.Examples.{two, two_parts, two_is_compiled}
 use Rattle.ac_program.specs.declared.refusal.Refusal.TheVariants as r
 use Rattle.ac_program.specs.declared.execute.Done.{Done}
-use Rattle.core_runner.specs.declared.ended.Ended.{Ended}
+use Rattle.program_run.specs.declared.ended.Ended.{Ended}
 use Rattle.ac_words.specs.declared.task.Task.TheVariants as t
 use Rattle.ac_words.specs.declared.task.Telling.TheVariants as tell
-use Rattle.ac_words.specs.Words.{IsBound, no_more, operand, bound_joined, IsCall, Does}
+use Rattle.ac_words.specs.Words.{IsBound, no_more, operand, bound_joined, IsCall, Does, Audits, Loads}
 use Rattle.ac_words.proofs.Examples.{no_file, run_a_file}
 use Rattle.ac_history.specs.Files.{Deed}
 use Rattle.ac_history.specs.Quiet.{CoreIsQuiet}
 use Rattle.file_ops.specs.Counting.{raised, failures_among}
-use Rattle.core_runner.specs.Network.{owner_of, peer_of}
-use Rattle.core_runner.specs.Run.{history_of, nothing_yet, EndsQuiet, IsRunOf}
-use Rattle.core_runner.specs.DiskLeft.{deeds_of, LeavesDisk}
-use Rattle.core_runner.specs.Naming.{AreNamed}
+use Rattle.program_run.specs.Parties.{owner_of, peer_of}
+use Rattle.program_run.specs.Run.{history_of, nothing_yet, EndsQuiet, IsRunOf}
+use Rattle.program_run.specs.DiskLeft.{deeds_of, LeavesDisk}
+use Rattle.program_run.specs.Naming.{AreNamed}
 use Rattle.ac_program.specs.Source.{HasTokens, HasFault, IsUnexpected, IsTooDeep, IsAccepted, IsBroken, IsTooMany, Refuses}
 use Rattle.ac_program.specs.Source.{IsSpelled, IsReady, all_steps, most_steps, names_of, needed}
-use Rattle.ac_program.specs.Lines.{accepted_line, disk_line, library_line, limit_file_line, limit_source_line, refusal_line, refusal_status}
+use Rattle.ac_program.specs.Lines.{accepted_line, disk_line, library_line, limit_file_line, limit_source_line, refusal_line, refusal_status, usage_line}
 use Rattle.ac_outside.specs.Told.{LibraryTold, SinkTold}
-use Rattle.ac_program.specs.Reading.{Gave, TookBytes, IsRead, IsShort}
+use Rattle.ac_program.specs.Reading.{Gave, TookBytes, TookByReads, IsRead, IsReadWhole, IsTried, IsShort}
 use Rattle.ac_program.specs.Writing.{TookFront}
-use Rattle.ac_program.specs.Making.{AreStarted, IsReported, IsDueOf, made as is_made, ready}
-use Rattle.ac_program.specs.Headline.{IsNoCall, IsDue, IsDueOfFile, call, source, of_task, TookWhole, TookPart, GaveUp}
+use Rattle.starting_files.specs.Starting.{AreStarted}
+use Rattle.ac_program.specs.Making.{IsReported, IsDueOf, made as is_made, ready}
+use Rattle.ac_program.specs.Headline.{IsNoCall, IsCutShort, IsDue, IsDueOfFile, source, of_task, of_audit, of_load, TookWhole, TookPart, GaveUp}
+use Rattle.ac_program.specs.Headline.IsDue.{usage, call, audit, load}
+use Rattle.ac_program.specs.Headline.IsDueOfFile.{library_fault, too_long}
 use Rattle.ac_program.specs.Headline.{alone, AreServed, KnowsFiles}
-use Rattle.ac_program.specs.Headline.{TellsUsage, TellsLibrary, TellsSink, IsOfText, AreOfRuns, CallsFor, made, bad_token, unexpected, broken, over_long, too_many}
+use Rattle.ac_program.specs.Headline.{TellsUsage, TellsLibrary, TellsSink, IsOfText, AreOfRuns, CallsFor, made, bad_token, unexpected, broken, over_long, too_deep, too_many}
 use Rattle.ac_tree.specs.declared.stmt.Stmt.{Stmt}
 use Rattle.ac_tree.specs.declared.stmt.Stmt.TheVariants as s
 use Rattle.ac_resolve.specs.Resolution.{resolved}
@@ -289,7 +293,7 @@ nothing_is_spelled program h = it_has_no_tokens h.tokens h.lexed
 
 -- a disk that tells nothing
 abbrev pub no_disk : DiskTold
-no_disk = record { held = None; bound = 0; is_ready = true; faults = 0 }
+no_disk = record { held = None; bound = 0; is_ready = true; binds = None; faults = 0; earlier = 0 }
 
 pub a_fault_calls_for_2 : CallsFor (codes "007") (t.Run 100 tell.Report) no_disk 2
 a_fault_calls_for_2 = bad_token (l.BadByte 1) refl (omega arith) it_has_a_fault
@@ -430,6 +434,10 @@ it_is_not_short bytes e le = omega (arith, e, le)
 pub it_calls_for_10 : (bytes : List ℕ) → length bytes ≡ 1048577 → CallsFor bytes (t.Run 100 tell.Report) no_disk 10
 it_calls_for_10 bytes e = over_long refl (omega (arith, e))
 
+-- and one with a token that is too deep
+pub a_deep_token_calls_for_10 : (bytes : List ℕ) (at : ℕ) → IsShort bytes → IsTooDeep bytes at → CallsFor bytes (t.Run 100 tell.Report) no_disk 10
+a_deep_token_calls_for_10 bytes at short deep = too_deep at refl short deep
+
 -- ---- a report
 
 abbrev pub its_report : List ℕ
@@ -447,7 +455,7 @@ its_doing = record { run = Some its_run; text = its_report; status = record { nu
 
 -- it has no files, so none was bound
 no_files : AreStarted [] [] no_disk no_disk
-no_files = record { well = refl; bound = refl; is_ready = refl; count = refl; short = λ k d less. absurd (omega (arith, less)); told = tt }
+no_files = record { well = refl; bound = refl; is_ready = refl; asked = tt; count = refl; short = λ k d less. absurd (omega (arith, less)); told = tt }
 
 -- nor was anything done in its run
 nothing_done : deeds_of (resolved two_tree) its_run.journals ≡ []
@@ -486,10 +494,10 @@ told_at false = None
 
 -- before the call: nothing was opened; after it: just two.ac was, and all of it was read
 abbrev pub its_library : LibraryTold
-its_library = record { text_at = λ name. told_at (bytes_eq name (codes "two.ac")); is_open = false; left = Some []; opens = Some 0; names = Some []; faults = 0 }
+its_library = record { text_at = λ name. told_at (bytes_eq name (codes "two.ac")); is_open = false; left = Some []; opens = Some 0; reads = Some 0; names = Some []; faults = 0 }
 
 abbrev pub its_library_after : LibraryTold
-its_library_after = record its_library { is_open = true; opens = Some 1; names = Some (codes "two.ac" ∷ []) }
+its_library_after = record its_library { is_open = true; opens = Some 1; reads = Some 2; names = Some (codes "two.ac" ∷ []) }
 
 hundred : IsBound (codes "100") 100
 hundred = record {
@@ -508,10 +516,67 @@ its_call = record {
 }
 
 pub its_reading : IsRead its_library its_library_after (codes "two.ac")
-its_reading = record { just = record { once = refl; named = refl }; well = refl }
+its_reading = record {
+  just = record { once = refl; named = refl };
+  well = refl;
+  reads = record { taken = two_text; consumed = sym (append-nil two_text); few = omega arith };
+}
+
+pub its_whole_reading : IsReadWhole its_library its_library_after (codes "two.ac") two_text
+its_whole_reading = record { read = its_reading; few = omega arith }
+
+-- not with more reads than its bytes and one more
+pub it_is_read_too_often : IsRead its_library (record its_library_after { reads = Some 999 }) (codes "two.ac") → ⊥
+it_is_read_too_often h =
+    let all : length two_text ≡ length (h.reads.taken ++ []) = ap (λ (bytes : List ℕ). length bytes) h.reads.consumed in
+    let few = h.reads.few in omega (arith, all, few, length-append h.reads.taken [])
+
+pub nor_is_its_whole : IsReadWhole its_library (record its_library_after { reads = Some 999 }) (codes "two.ac") two_text → ⊥
+nor_is_its_whole h = let few = h.few in omega (arith, few)
+
+same_count : {n m : ℕ} → Some n ≡ Some m → n ≡ m
+same_count e = cc
+
+-- its opening failed; but no read does so behind its end
+abbrev pub not_opened : LibraryTold
+not_opened = record its_library { opens = Some 1; names = Some (codes "two.ac" ∷ []); faults = 1 }
+
+pub it_was_tried : IsTried its_library not_opened (codes "two.ac")
+it_was_tried = record { just = record { once = refl; named = refl }; reads = inl refl }
+
+pub it_was_not_read_behind_its_end : IsTried its_library (record not_opened { reads = Some 999 }) (codes "two.ac") → ⊥
+it_was_not_read_behind_its_end h = by h.reads where
+  by : ((record not_opened { reads = Some 999 }).reads ≡ its_library.reads) ⊎ TookByReads its_library (record not_opened { reads = Some 999 }) (codes "two.ac") → ⊥
+  by (inl e) = let n : 999 ≡ 0 = same_count e in omega (arith, n)
+  by (inr k) =
+      let all : length two_text ≡ length (k.taken ++ []) = ap (λ (bytes : List ℕ). length bytes) k.consumed in
+      let few = k.few in omega (arith, all, few, length-append k.taken [])
 
 pub it_is_due_of_its_file : IsDueOfFile (codes "two.ac") (t.Run 100 tell.Report) its_library its_library_after no_disk no_disk 0 its_report (Some its_run)
-it_is_due_of_its_file = source two_text its_reading refl (omega arith) it_is_done
+it_is_due_of_its_file = source two_text its_whole_reading refl (omega arith) it_is_done
+
+-- where it is not opened
+pub a_library_fault_is_due : IsDueOfFile (codes "two.ac") (t.Run 100 tell.Report) its_library not_opened no_disk no_disk 7 library_line None
+a_library_fault_is_due = library_fault refl refl refl it_was_tried (omega arith) refl
+
+-- and where it has one byte too many
+abbrev long_library : List ℕ → LibraryTold
+long_library bytes = record its_library { text_at = λ name. Some bytes }
+
+abbrev long_library_after : List ℕ → LibraryTold
+long_library_after bytes = record (long_library bytes) { is_open = true; opens = Some 1; reads = Some 257; names = Some (codes "x" ∷ []) }
+
+pub a_long_source_is_due : (bytes : List ℕ) → length bytes ≡ 1048577
+    → IsDueOfFile (codes "x") (t.Run 100 tell.Report) (long_library bytes) (long_library_after bytes) no_disk no_disk 10 limit_source_line None
+a_long_source_is_due bytes e = too_long refl refl refl
+    (record { just = record { once = refl; named = refl }; well = refl; reads = record { taken = bytes; consumed = sym (append-nil bytes); few = omega (arith, e) } })
+    (record { taken = bytes; count = omega (arith, e); consumed = sym (append-nil bytes) })
+    refl
+
+pub it_is_not_at_the_limit : (bytes : List ℕ) → length bytes ≡ 1048576 → TookBytes (Some bytes) (Some []) 1048577 → ⊥
+it_is_not_at_the_limit bytes e h =
+    let all : length bytes ≡ length (h.taken ++ []) = ap (λ (it : List ℕ). length it) h.consumed in
+    let count = h.count in omega (arith, e, all, count, length-append h.taken [])
 
 pub it_is_due : IsDue its_words its_library its_library_after no_disk no_disk 0 its_report (Some its_run)
 it_is_due = call (t.Run 100 tell.Report) (codes "two.ac") its_call it_is_due_of_its_file
@@ -547,6 +612,37 @@ a_fault_that_is_not_told h = let e = h.only (omega arith) in omega (arith, e)
 -- memory was refused: two.ac was opened, nothing is written
 pub memory_is_refused : GaveUp its_words its_library its_library_after no_disk no_disk None its_sink its_sink
 memory_is_refused = record { cut = of_task (t.Run 100 tell.Report) (codes "two.ac") its_call its_reading (alone refl); no_run = refl; nothing = refl }
+
+-- words that are no call are not cut short
+pub no_call_is_cut_short : IsCutShort (codes "run" ∷ []) its_library its_library_after no_disk no_disk → ⊥
+no_call_is_cut_short (of_task task file c r l) = no_file (Does task file) c
+no_call_is_cut_short (of_audit file trace c r a) = no_file (Audits file trace) c
+no_call_is_cut_short (of_load turns steps c a l) = no_file (Loads turns steps) c
+
+-- the usage line is due of them, and of no call
+pub usage_is_due : IsDue (codes "run" ∷ []) its_library its_library no_disk no_disk 1 usage_line None
+usage_is_due = usage refl refl refl no_file refl refl
+
+pub no_report_is_due : (run : Option Ended) → IsDue (codes "run" ∷ []) its_library its_library_after no_disk no_disk 0 its_report run → ⊥
+no_report_is_due run (usage n x r none s a) = omega (arith, n)
+no_report_is_due run (call task file c due) = no_file (Does task file) c
+no_report_is_due run (audit file trace c r a due) = no_file (Audits file trace) c
+no_report_is_due run (load turns steps c a due) = no_file (Loads turns steps) c
+
+-- where the text that is due has two bytes, one is not the whole of it, and both are not a part
+pub no_more_is_taken : (Due : ℕ → List ℕ → Option Ended → Type 0) → ((text : List ℕ) → Due 0 text None → length text ≡ 2)
+    → TookWhole Due 0 None its_sink (sink_with (codes "a") 0) → ⊥
+no_more_is_taken Due two h =
+    let long = two h.text h.due in
+    let taken : 1 ≡ length h.text = ap (λ (bytes : List ℕ). length bytes) h.taken in omega (arith, long, taken)
+
+pub no_whole_is_a_part : (Due : ℕ → List ℕ → Option Ended → Type 0) → ((status : ℕ) (text : List ℕ) → Due status text None → length text ≡ 2)
+    → TookPart Due None its_sink (sink_with (codes "ab") 1) → ⊥
+no_whole_is_a_part Due two h =
+    let long = two h.status h.text h.due in
+    let all : length h.text ≡ length (h.taken.front ++ h.taken.rest) = ap (λ (bytes : List ℕ). length bytes) h.taken.cut in
+    let taken : 2 ≡ length h.taken.front = ap (λ (bytes : List ℕ). length bytes) h.taken.taken in
+    let some = h.taken.short in omega (arith, long, all, taken, some, length-append h.taken.front h.taken.rest)
 
 -- and where another name was opened, no call has this meaning
 pub another_name_is_opened : IsRead its_library (record its_library_after { names = Some (codes "" ∷ []) }) (codes "two.ac") → ⊥

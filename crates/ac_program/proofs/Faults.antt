@@ -1,4 +1,5 @@
--- A lexical fault of a text is one of the four that have a place.
+-- A lexical fault of a text is one of the four that have a place, as TooLong and NoMemory are faults of no text: by going over the rules
+-- of faults. So a text with a fault is refused with status 2.
 use Rattle.std.proofs.Common.{◌≡◌, ℕ, ◌+◌, List, length, refl}
 use Rattle.std.specs.Prelude.{Result, Ok, Err}
 use Rattle.ac_lexer.specs.declared.token.Token.{Token}

@@ -1,6 +1,7 @@
--- A program with a file, one that reads it, and what is left of a disk.
+-- A program with a file, one that reads it, and what is left of a disk: files that are started, that stop a start and that are left by
+-- want of memory, each beside another file, another order or another length.
 use Rattle.std.proofs.Common.{◌≡◌, refl, sym, ap, ◌∙◌, subst, ℕ, ◌<◌, ◌≤◌, pos, List, [], ◌∷◌, length, codes, None, Some, true, false, Ok, inl, arith}
-use Rattle.std.specs.Prelude.{slice_index_or}
+use Rattle.std.specs.Prelude.{slice_index, slice_index_or}
 use Rattle.std.specs.declared.option.Option.{Option}
 use Rattle.std.proofs.lemmas.List.Elements.{All-from_recursion}
 use Rattle.ac_tree.specs.declared.expr.Expr.{Expr, fold-roll-Expr}
@@ -28,6 +29,7 @@ use Rattle.ac_base.specs.Log.{Log}
 use Rattle.ac_base.specs.declared.entry.Answer.TheVariants.{Bytes}
 use Rattle.ac_base.specs.declared.entry.Event.TheVariants.{Offer, Did}
 use Rattle.ac_base.specs.declared.entry.Payload.TheVariants.{Read}
+use Rattle.ac_outside.specs.Told.{AddsNames}
 use Rattle.ac_outside.specs.Files.{file_of}
 use Rattle.ac_outside.specs.Texts.{text_of}
 use Rattle.ac_outside.proofs.Examples.{named}
@@ -36,10 +38,11 @@ use Rattle.ac_words.specs.declared.task.Task.TheVariants as t
 use Rattle.ac_words.specs.declared.task.Telling.TheVariants as tell
 use Rattle.ac_program.specs.Source.{HasTokens, IsAccepted, IsReady, needed}
 use Rattle.ac_program.specs.Lines.{accepted_line, disk_line, limit_file_line}
-use Rattle.ac_program.specs.Making.{AreStarted, AreStopped, AreLeft, IsDueOfProgram, IsTold, begun, disk_fault, untouched}
+use Rattle.starting_files.specs.Starting.{AreStarted, AreStopped}
+use Rattle.ac_program.specs.Making.{AreLeft, IsDueOfProgram, IsTold, begun, disk_fault, untouched, stopped as halted}
 use Rattle.ac_program.specs.Making.IsDueOfProgram.{long_file as long_file_due}
 use Rattle.ac_program.specs.declared.execute.Done.{Done}
-use Rattle.ac_program.specs.Headline.{IsLeft, of_program, AreHeld, AreServed, AreShort, HasLong, KnowsFiles, TellsDisk, CallsFor, made, long_file}
+use Rattle.ac_program.specs.Headline.{IsLeft, alone, of_program, AreHeld, AreServed, AreShort, HasLong, HasRun, KnowsFiles, TellsDisk, CallsFor, made, long_file}
 use Rattle.ac_program.proofs.Examples.{its_run, no_disk, reached_in, journal}
 
 -- ---- programs with a file
@@ -77,7 +80,7 @@ what_is_needed = refl
 
 -- where the disk tells a longer file, a run of it is refused, and a check is not
 abbrev pub long_disk : List ℕ → DiskTold
-long_disk bytes = record { held = Some (record { files = []; found = λ path. Some bytes; calls = 0 }); bound = 0; is_ready = true; faults = 0 }
+long_disk bytes = record { held = Some (record { files = []; found = λ path. Some bytes; calls = 0 }); bound = 0; is_ready = true; binds = Some []; faults = 0; earlier = 0 }
 
 -- after its file was bound
 abbrev pub bound_in : List ℕ → Held
@@ -106,13 +109,13 @@ a_check_does_not program ready some = absurd (omega (arith, some))
 abbrev pub reading_text : List ℕ
 reading_text = codes "core a(f); file p(\"x\"); async void f() { int b[1]; Read(p, 0, 1, b); }"
 
-abbrev nought : Expr
+abbrev pub nought : Expr
 nought = expr.Number 59 (pos 0)
 
-abbrev one : Expr
+abbrev pub one : Expr
 one = expr.Number 62 (pos 1)
 
-abbrev a_read : Expr
+abbrev pub a_read : Expr
 a_read = expr.Read 51 (codes "p") nought one (codes "b")
 
 -- its statement stands at a place
@@ -176,17 +179,25 @@ there_is_a_listing_of_it = made reading_tree (omega arith) (record { is_accepted
 -- ---- a disk with the file x
 
 abbrev pub a_disk : DiskTold
-a_disk = record { held = Some (record { files = []; found = text_of (named (codes "x") (codes "ab") ∷ []); calls = 0 }); bound = 0; is_ready = true; faults = 0 }
+a_disk = record { held = Some (record { files = []; found = text_of (named (codes "x") (codes "ab") ∷ []); calls = 0 }); bound = 0; is_ready = true; binds = Some []; faults = 0; earlier = 0 }
 
 abbrev pub its_files : Held
 its_files = record { files = named (codes "x") (codes "ab") ∷ []; found = text_of (named (codes "x") (codes "ab") ∷ []); calls = 2 }
 
 -- after its file was bound and read, and after its bind failed
 abbrev pub its_disk : DiskTold
-its_disk = record { held = Some its_files; bound = 1; is_ready = true; faults = 0 }
+its_disk = record { held = Some its_files; bound = 1; is_ready = true; binds = Some (codes "x" ∷ []); faults = 0; earlier = 0 }
 
 abbrev pub a_failed_disk : DiskTold
-a_failed_disk = record { held = Some (record { files = []; found = text_of (named (codes "x") (codes "ab") ∷ []); calls = 1 }); bound = 0; is_ready = true; faults = 1 }
+a_failed_disk = record {
+  held = Some (record { files = []; found = text_of (named (codes "x") (codes "ab") ∷ []); calls = 1 });
+  bound = 0;
+  is_ready = true;
+  binds = Some
+      (codes "x" ∷ []);
+  faults = 1;
+  earlier = 0;
+}
 
 two_bytes : 2 ≤ 1048576
 two_bytes = omega arith
@@ -196,6 +207,7 @@ its_file_is_started = record {
   well = refl;
   bound = refl;
   is_ready = refl;
+  asked = refl;
   count = refl;
   short = All-from_recursion (λ (bytes : List ℕ). length bytes ≤ 1048576) (codes "ab" ∷ []) (two_bytes, tt);
   told = (refl, refl);
@@ -231,10 +243,13 @@ below_nought k less = omega (arith, less)
 
 pub its_file_stops_it : AreStopped (codes "x" ∷ []) fault.Failed a_disk a_failed_disk
 its_file_stops_it = record {
-  some = omega arith;
-  below = tt;
+  number = 0;
+  within = omega arith;
+  is_number = tt;
+  asked = refl;
   cause = (omega arith, omega arith);
-  told = record { number = 0; path = codes "x"; here = refl; short = λ k d less. absurd (below_nought k less); stops = inl (inl refl) };
+  latest = refl;
+  told = record { path = codes "x"; here = refl; short = λ k d less. absurd (below_nought k less); stops = inl (inl refl) };
 }
 
 -- no file stops it where no call failed, and no file that there is not
@@ -242,21 +257,24 @@ pub nothing_stops_it : AreStopped (codes "x" ∷ []) fault.Failed a_disk a_disk 
 nothing_stops_it h = let rose = h.cause.1 in omega (arith, rose)
 
 pub there_is_no_second_file : (later : DiskTold) → AreStopped (codes "x" ∷ []) (fault.TooLong 1) a_disk later → ⊥
-there_is_no_second_file later h = let less = h.below in omega (arith, less)
+there_is_no_second_file later h = let less = h.within in let same = h.is_number in omega (arith, less, same)
 
 pub a_disk_fault_is_due : IsDueOfProgram (t.Run 100 tell.Report) filing_tree a_disk a_failed_disk 9 disk_line None
 a_disk_fault_is_due = disk_fault refl refl refl its_file_stops_it
 
 -- a file that is too long is told by its number
 abbrev bound_disk : List ℕ → DiskTold
-bound_disk bytes = record (long_disk bytes) { held = Some (bound_in bytes); bound = 1 }
+bound_disk bytes = record (long_disk bytes) { held = Some (bound_in bytes); bound = 1; binds = Some (codes "x" ∷ []) }
 
 its_length_stops_it : (bytes : List ℕ) → length bytes ≡ 1048577 → AreStopped (codes "x" ∷ []) (fault.TooLong 0) (long_disk bytes) (bound_disk bytes)
 its_length_stops_it bytes e = record {
-  some = omega arith;
-  below = omega arith;
+  number = 0;
+  within = omega arith;
+  is_number = refl;
+  asked = refl;
   cause = refl;
-  told = record { number = 0; path = codes "x"; here = refl; short = λ k d less. absurd (below_nought k less); stops = (refl, omega (arith, e), refl) };
+  latest = tt;
+  told = record { path = codes "x"; here = refl; short = λ k d less. absurd (below_nought k less); stops = (refl, omega (arith, e), refl) };
 }
 
 pub a_long_file_is_due : (bytes : List ℕ) → length bytes ≡ 1048577
@@ -267,11 +285,41 @@ pub nothing_is_left_undone : AreLeft (codes "x" ∷ []) a_disk a_disk
 nothing_is_left_undone = untouched refl
 
 pub want_of_memory_leaves_it : IsLeft (Some filing_text) (t.Run 100 tell.Report) a_disk its_disk
-want_of_memory_leaves_it = of_program filing_text filing_tree refl a_file_is_ready (begun (codes "ab" ∷ []) its_disk its_file_is_started (record { bound = refl; is_ready = refl }))
+want_of_memory_leaves_it = of_program filing_text filing_tree refl a_file_is_ready (begun (codes "ab" ∷ []) its_disk its_file_is_started (record { bound = refl; is_ready = refl; binds = refl }))
 
 -- also where the run had written to its file, and a call had failed
 pub it_leaves_what_the_run_made : AreLeft (codes "x" ∷ []) a_disk (record its_disk { held = Some (record its_files { files = named (codes "x") (codes "aX") ∷ [] }); faults = 1 })
-it_leaves_what_the_run_made = begun (codes "ab" ∷ []) its_disk its_file_is_started (record { bound = refl; is_ready = refl })
+it_leaves_what_the_run_made = begun (codes "ab" ∷ []) its_disk its_file_is_started (record { bound = refl; is_ready = refl; binds = refl })
+
+abbrev first_of : List (List ℕ) → ℕ
+first_of names = slice_index (slice_index_or names 0 []) 0
+
+-- but no file under another path was to be bound, before the run or in it
+pub not_with_another_file : AreLeft (codes "x" ∷ []) a_disk (record its_disk { held = None; binds = Some (codes "y" ∷ []) }) → ⊥
+not_with_another_file (untouched e) = let n : 1 ≡ 0 = ap (λ (told : DiskTold). told.bound) e in omega (arith, n)
+not_with_another_file (halted h) = let n : 121 ≡ 120 = ap first_of h.asked in omega (arith, n)
+not_with_another_file (begun start between h none) =
+    let asked = subst (λ (names : Option (List (List ℕ))). AddsNames (Some []) names (codes "x" ∷ [])) (sym none.binds) h.asked in
+    let n : 121 ≡ 120 = ap first_of asked in omega (arith, n)
+
+-- nor did a check leave anything
+pub a_check_leaves_nothing : IsLeft (Some filing_text) t.Check a_disk its_disk → ⊥
+a_check_leaves_nothing (alone e) = let n : 1 ≡ 0 = ap (λ (told : DiskTold). told.bound) e in omega (arith, n)
+a_check_leaves_nothing (of_program text program g k left) = none left where
+  none : AreLeft [] a_disk its_disk → ⊥
+  none (untouched e) = let n : 1 ≡ 0 = ap (λ (told : DiskTold). told.bound) e in omega (arith, n)
+  none (halted h) = let less = h.within in omega (arith, less)
+  none (begun start between h keeps) = let n = h.bound in let m = keeps.bound in omega (arith, n, m)
+
+-- a file of 1,048,576 bytes is short, and one byte more is too long
+pub the_longest_file : (bytes : List ℕ) → length bytes ≡ 1048576 → AreShort (long_disk bytes) (codes "x" ∷ [])
+the_longest_file bytes e = All-from_recursion (λ (path : List ℕ). length bytes ≤ 1048576) (codes "x" ∷ []) (omega (arith, e), tt)
+
+pub one_byte_more : (bytes : List ℕ) → length bytes ≡ 1048577 → AreShort (long_disk bytes) (codes "x" ∷ []) → ⊥
+one_byte_more bytes e short = let few = short 0 [] (omega arith) in omega (arith, e, few)
+
+pub it_does_not_stop_it : (bytes : List ℕ) (later : DiskTold) → length bytes ≡ 1048576 → AreStopped (codes "x" ∷ []) (fault.TooLong 0) (long_disk bytes) later → ⊥
+it_does_not_stop_it bytes later e h = let over = h.told.stops.1 in omega (arith, e, over)
 
 -- a check leaves the disk alone
 pub no_check_binds_a_file : (done : Done) → IsTold accepted_line a_disk its_disk done → ⊥
@@ -289,6 +337,10 @@ a_fault_in_a_run = record { told = λ e. omega (arith, e); only = λ _ _ _ none.
 
 pub a_fault_that_is_not_told : TellsDisk a_disk a_failed_disk 10 None → ⊥
 a_fault_that_is_not_told h = let e = h.only (omega arith) (omega arith) (omega arith) refl in omega (arith, e)
+
+-- no run begins with other bytes than the disk holds
+pub no_run_begins_otherwise : (status : ℕ) (h : HasRun filing_tree 100 tell.Report a_disk status) → h.start ≡ codes "a" ∷ [] → ⊥
+no_run_begins_otherwise status h e = let n : 1 ≡ 2 = ap (λ start. length (slice_index_or start 0 [])) (sym e ∙ h.are_held) in omega (arith, n)
 
 -- ---- what a run reads
 

@@ -1,4 +1,5 @@
--- The texts of a program and of a trace call for one status of their audit.
+-- The texts of a program and of a trace call for one status of their audit: the program, the trace and the first entry that does not fit
+-- are each one. From what is due of two files follow texts that the library may have given, and whether the second was read.
 use Rattle.std.proofs.Common.{◌≡◌, ℕ, ◌+◌, ◌<◌, List, [], ◌∷◌, ◌++◌, length, Option, None, Some, refl, sym, ap, ◌∙◌, subst, append_assoc, length-append, arith}
 use Rattle.ac_base.specs.declared.entry.Stamped.{Stamped}
 use Rattle.ac_commands.specs.declared.program.Resolved.{Resolved}
@@ -15,7 +16,7 @@ use Rattle.ac_words.specs.declared.task.Task.TheVariants as t
 use Rattle.ac_words.specs.Words.{Audits}
 use Rattle.ac_program.specs.declared.outcome.Outcome.{Outcome}
 use Rattle.ac_program.specs.Source.{IsReady}
-use Rattle.ac_program.specs.Reading.{Gave, TookBytes, IsRead, IsShort}
+use Rattle.ac_program.specs.Reading.{Gave, TookBytes, IsRead, IsReadWhole, IsShort}
 use Rattle.ac_program.specs.Lines.{verdict_status}
 use Rattle.ac_program.specs.Headline.{IsOfText}
 use Rattle.ac_program.specs.Auditing.{IsDueOfRun, IsDueOfTraced, IsDueOfTrace, IsDueOfAudit, AreRead, AuditCallsFor, IsJudged}
@@ -138,14 +139,30 @@ gave_as : (was now : List ℕ → Option (List ℕ)) (name text : List ℕ) → 
 gave_as was now name text e g = subst (λ (f : List ℕ → Option (List ℕ)). Gave (f name) text) e g
 
 module _ (file trace : List ℕ) (before after : LibraryTold) (status : ℕ) (line : List ℕ) (o : IsOfText status) where
-  of_trace : (bytes : List ℕ) (p : Program) (between : LibraryTold) → IsRead before between file → Gave (before.text_at file) bytes → IsShort bytes → IsReady bytes t.Check p
+  of_trace : (bytes : List ℕ) (p : Program) (between : LibraryTold) → IsReadWhole before between file bytes → Gave (before.text_at file) bytes → IsShort bytes → IsReady bytes t.Check p
       → between.text_at ≡ before.text_at → IsDueOfTrace p trace between after status line → AreFound file trace before after status
   of_trace bytes p between h g s k same (trace_fault n x j r) = absurd (o.library n)
   of_trace bytes p between h g s k same (trace_too_long n x r took) =
       let l = long_text trace_limit (between.text_at trace) after.left took in
-      record { text = bytes; traced = l.text; are_read = both between h r; gave = g; gave_trace = gave_as before.text_at between.text_at trace l.text same l.gave; calls = long_trace p n s k l.long }
+      record {
+        text = bytes;
+        traced = l.text;
+        are_read = both bytes between h g s
+            (record { program = p; is_ready = k; read = r });
+        gave = g;
+        gave_trace = gave_as before.text_at between.text_at trace l.text same l.gave;
+        calls = long_trace p n s k l.long;
+      }
   of_trace bytes p between h g s k same (read traced r gt short d) =
-      record { text = bytes; traced = traced; are_read = both between h r; gave = g; gave_trace = gave_as before.text_at between.text_at trace traced same gt; calls = told p line s k short d }
+      record {
+        text = bytes;
+        traced = traced;
+        are_read = both bytes between h g s
+            (record { program = p; is_ready = k; read = r.read });
+        gave = g;
+        gave_trace = gave_as before.text_at between.text_at trace traced same gt;
+        calls = told p line s k short d;
+      }
 
   of_due : IsDueOfAudit file trace before after status line → AreFound file trace before after status
   of_due (library_fault n x j r) = absurd (o.library n)
@@ -155,7 +172,7 @@ module _ (file trace : List ℕ) (before after : LibraryTold) (status : ℕ) (li
   of_due (source bytes between h g s same (is_refused refusal n x r e)) = record {
     text = bytes;
     traced = some_text (before.text_at trace);
-    are_read = first (subst (λ (l : LibraryTold). IsRead before l file) (sym e) h);
+    are_read = first (subst (λ (l : LibraryTold). IsRead before l file) (sym e) h.read);
     gave = g;
     gave_trace = gave_some (before.text_at trace);
     calls = refused refusal n s r;

@@ -1,17 +1,18 @@
--- What want of memory leaves of the disk.
+-- What want of memory leaves of the disk, and what a status tells of its count of faults. A file that is too long was bound and not read,
+-- as one may be that stops for want of memory.
 use Rattle.std.proofs.Common.{◌≡◌, ◌≢◌, ℕ, List, Option, None, Some, ap, ◌∙◌, inr, arith}
 use Rattle.std.specs.Prelude.{IfSome}
 use Rattle.ac_outside.specs.Causes.{Rose}
 use Rattle.ac_outside.specs.Disks.{DiskTold, Held}
 use Rattle.starting_files.specs.declared.fault.StartFault.TheVariants as f
-use Rattle.starting_files.specs.Starting.{StopsAtFile}
+use Rattle.starting_files.specs.Starting.{AreStopped, StopsAtFile}
 use Rattle.ac_tree.specs.declared.item.Program.{Program}
 use Rattle.ac_program.specs.declared.execute.Done.{Done}
 use Rattle.ac_words.specs.declared.task.Task.{Task}
 use Rattle.ac_words.specs.declared.task.Task.TheVariants as t
-use Rattle.ac_program.specs.Making.{AreLeft, AreStopped, Makes, stopped}
+use Rattle.ac_program.specs.Making.{AreLeft, Makes, stopped}
 use Rattle.ac_program.specs.Reading.{Gave}
-use Rattle.core_runner.specs.declared.ended.Ended.{Ended}
+use Rattle.program_run.specs.declared.ended.Ended.{Ended}
 use Rattle.ac_program.specs.Headline.{IsLeft, TellsDisk, alone, of_program}
 
 given_as : (told : Option (List ℕ)) (source text : List ℕ) → Gave told source → text ≡ source → Gave told text
@@ -25,11 +26,10 @@ left_as told source task disk later g (alone e) = alone e
 left_as told source task disk later g (of_program text program h k left) = of_program text program (given_as told source text g h) k left
 
 -- a file that is too long is bound, and none of its reads was made
-long_held : (held after : Option Held) (paths : List (List ℕ)) (file : ℕ) → IfSome held (λ h. StopsAtFile h after paths (f.TooLong file))
-    → IfSome held (λ h. StopsAtFile h after paths f.NoMemory)
-long_held None after paths file told = tt
-long_held (Some h) after paths file told = record {
-  number = told.number;
+long_held : (held after : Option Held) (paths : List (List ℕ)) (number file : ℕ) → IfSome held (λ h. StopsAtFile h after paths number (f.TooLong file))
+    → IfSome held (λ h. StopsAtFile h after paths number f.NoMemory)
+long_held None after paths number file told = tt
+long_held (Some h) after paths number file told = record {
   path = told.path;
   here = told.here;
   short = told.short;
@@ -37,7 +37,15 @@ long_held (Some h) after paths file told = record {
 }
 
 pub long_left : (paths : List (List ℕ)) (file : ℕ) (disk later : DiskTold) → AreStopped paths (f.TooLong file) disk later → AreLeft paths disk later
-long_left paths file disk later h = stopped (record { some = h.some; below = tt; cause = h.cause; told = long_held disk.held later.held paths file h.told })
+long_left paths file disk later h = stopped (record {
+  number = h.number;
+  within = h.within;
+  is_number = tt;
+  asked = h.asked;
+  cause = h.cause;
+  latest = tt;
+  told = long_held disk.held later.held paths h.number file h.told;
+})
 
 -- ---- the count of its faults
 

@@ -1,4 +1,6 @@
--- What a run has left of a disk, in one: from what the disk told before the call to what it tells after it.
+-- What a run has left of a disk, in one: from what the disk told before the call to what it tells after it. The start has bound the
+-- program's files after none, the run has called the disk once for each request, and each request is of a file of the program; so the two
+-- counts of calls add up.
 use Rattle.std.proofs.Common.{◌≡◌, ℕ, suc, ◌≤◌, List, [], ◌∷◌, ◌++◌, length, map, Option, Some, Bool, true, false, refl, ap, ◌∙◌, subst, arith}
 use Rattle.std.specs.Prelude.{◌&&◌, if◌then◌else◌, sum_by, IfSome}
 use Rattle.std.specs.List.{filter}
@@ -14,11 +16,11 @@ use Rattle.ac_history.specs.Files.{Deed, padded, contents, IsServed}
 use Rattle.ac_outside.specs.declared.shelf.NamedBytes.{NamedBytes}
 use Rattle.ac_outside.specs.Disks.{DiskTold, Held}
 use Rattle.ac_outside.specs.Files.{file_at}
-use Rattle.starting_files.specs.Starting.{StartsFiles, bytes_at, calls_of, given, more_calls, with_started}
+use Rattle.starting_files.specs.Starting.{StartsFiles, bytes_at, calls_of, more_calls, with_started}
 use Rattle.file_ops.specs.Asked.{texts, is_of_bound, is_fault}
 use Rattle.file_ops.specs.Counting.{raised, calls_among, failures_among, is_call, is_failure}
-use Rattle.core_runner.specs.DiskLeft.{deeds_of, LeavesFiles}
-use Rattle.core_runner.specs.Naming.{IsNamed, AreNamed}
+use Rattle.program_run.specs.DiskLeft.{deeds_of, LeavesFiles}
+use Rattle.program_run.specs.Naming.{IsNamed, AreNamed}
 use Rattle.ac_program.specs.declared.execute.Done.{Done}
 use Rattle.ac_words.specs.declared.task.Telling.{Telling}
 use Rattle.ac_program.specs.Making.{IsReported}
@@ -94,7 +96,7 @@ module _ (program : Program) (bound : ℕ) (telling : Telling) (disk later : Dis
 
   pub left_by_run : (held : Held) → disk.held ≡ Some held → (left : Held) × (later.held ≡ Some left) × IsLeftByRun program h.start h.ended.journals held left
   left_by_run held tells =
-      let begins = subst (λ (x : Option Held). IfSome x (λ it. StartsFiles it h.between.held paths (given h.start))) tells h.files.told in
+      let begins = subst (λ (x : Option Held). IfSome x (λ it. StartsFiles it h.between.held paths h.start)) tells h.files.told in
       let l = subst (λ (x : Option Held). IfSome x (λ it. (left : Held) × (later.held ≡ Some left) × LeavesFiles (resolved program) h.start h.ended.journals it left)) begins.1 h.left.held in
       (l.0, l.1, left_from held (with_started held paths) l.0 refl begins.0 l.2 (told_calls h.between.held later.held (with_started held paths) l.0 begins.1 l.1 h.left.counted.calls))
 

@@ -16,6 +16,7 @@ pub mod OneRun
 pub mod OneStatus
 pub mod Paths
 pub mod ReadBack
+mod Readings
 pub mod Reasons
 pub mod Refusals
 pub mod RunHistories
@@ -29,6 +30,9 @@ pub mod Examples
 pub mod LineExamples
 pub mod AuditExamples
 pub mod LoadExamples
+pub mod DueExamples
 pub mod FileExamples
+pub mod FileRunExamples
+pub mod ReadRunExamples
 pub mod ChannelExamples
 pub mod TwoExamples

@@ -1,4 +1,5 @@
--- The lines that the program writes, at small values.
+-- The lines that the program writes, at small values: each is written out whole, as it is read.
+-- Both sides are computed; only the digits of a number are known by a law.
 use Rattle.std.proofs.Common.{◌≡◌, refl, codes, arith}
 use Rattle.std.proofs.lemmas.Fmt.{decimal_digit}
 use Rattle.ac_program.specs.Lines.{usage_line, place_line, rule_line}

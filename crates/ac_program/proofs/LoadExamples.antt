@@ -1,4 +1,5 @@
--- Summaries of loads, and what a load leaves alone.
+-- Summaries of loads, written out, and what a load leaves alone: the library is not called, and no other words have this meaning.
+-- The run of two.ac serves for that of a load, since a summary asks of a run no more than its status and what its cores have printed.
 use Rattle.std.proofs.Common.{◌≡◌, refl, sym, ap, ◌∙◌, ℕ, List, [], ◌∷◌, codes, Option, Some, false, arith}
 use Rattle.std.proofs.lemmas.Fmt.{decimal_digit}
 use Rattle.ac_base.specs.declared.ends.EndWord.TheVariants.{Finished}
@@ -6,7 +7,7 @@ use Rattle.ac_base.specs.declared.ends.MachineEnd.{MachineEnd}
 use Rattle.ac_outside.specs.Disks.{DiskTold}
 use Rattle.ac_outside.specs.Told.{LibraryTold}
 use Rattle.ac_file_server.specs.ServerText.{load_text}
-use Rattle.core_runner.specs.declared.ended.Ended.{Ended}
+use Rattle.program_run.specs.declared.ended.Ended.{Ended}
 use Rattle.ac_words.specs.declared.task.Task.{Task}
 use Rattle.ac_words.specs.declared.task.Task.TheVariants as t
 use Rattle.ac_words.specs.declared.task.Telling.TheVariants as w
@@ -14,8 +15,9 @@ use Rattle.ac_words.specs.Words.{Does, Loads, StandsFor}
 use Rattle.ac_words.proofs.Examples.{load_of_seven}
 use Rattle.ac_program.specs.Summary.{outputs_of, clients_of, summary_line, summary_of}
 use Rattle.ac_program.specs.Making.{Tells, IsDueOf}
-use Rattle.ac_program.specs.Headline.{IsDue, IsCutShort, IsLoaded, summed, of_load, alone}
+use Rattle.ac_program.specs.Headline.{CallsFor, IsDue, IsCutShort, IsLoaded, summed, of_load, alone}
 use Rattle.ac_program.specs.Headline.IsDue.{usage, call, audit, load}
+use Rattle.ac_program.proofs.Calls.{calls_both}
 use Rattle.ac_program.proofs.TwoRules.{two_tree}
 use Rattle.ac_program.proofs.Examples.{no_disk, its_run, its_report, its_library, its_library_after}
 
@@ -96,6 +98,14 @@ not_where_a_file_was_opened disk later status text run (load turns steps c a due
 
 pub nor_is_it_loaded_there : (status : ℕ) → IsLoaded 7 100000 its_library its_library_after no_disk status → ⊥
 nor_is_it_loaded_there status h = once_is_not_never refl refl h.untouched
+
+-- where its text calls for a status, that is the status of the load
+pub it_is_loaded : (status : ℕ) → CallsFor (load_text 7) (summed 7 100000) no_disk status → IsLoaded 7 100000 its_library its_library no_disk status
+it_is_loaded status calls = record {
+  untouched = refl;
+  calls = calls;
+  only = λ knows. record { calls = calls; only = λ number other. calls_both (load_text 7) (summed 7 100000) no_disk knows status number calls other };
+}
 
 -- where memory was refused, the library is left alone too
 pub it_is_cut_short : IsCutShort its_words its_library its_library no_disk no_disk

@@ -1,4 +1,5 @@
 -- The text of the file server is within the limit of sources.
+-- It has at most 2,131 bytes, which `ac_file_server` proves, so no text is computed here.
 use Rattle.std.proofs.Common.{ℕ, ◌≤◌, arith, length}
 use Rattle.ac_file_server.specs.ServerText.{load_text}
 use Rattle.ac_file_server.proofs.Length.{the_text_is_short}

@@ -1,4 +1,5 @@
--- The code of a program names its files alone.
+-- The code of a program names its files alone: a program that breaks no rule names files that are declared, and the translation keeps
+-- their numbers.
 use Rattle.std.proofs.Common.{◌≡◌, ℕ, ◌<◌, List, length, true, false, refl, arith}
 use Rattle.std.specs.Prelude.{nat_lt}
 use Rattle.std.proofs.lemmas.Bool.Decides.{nat_tests}
@@ -16,7 +17,7 @@ use Rattle.ac_resolve.proofs.ProgramInPlace.{all_in_place}
 use Rattle.ac_translation.specs.Translation.{action_code, no_exits, code_of}
 use Rattle.ac_compile.proofs.Instructions.{is_own}
 use Rattle.ac_compile.proofs.EachInPlace.{all_each, functions_hold}
-use Rattle.core_runner.specs.Naming.{names_below, NamesFilesBelow}
+use Rattle.program_run.specs.Naming.{names_below, NamesFilesBelow}
 
 module _ (program : Resolved) where
   abbrev P : Instr → Type 0

@@ -1,4 +1,5 @@
--- The names and the number of the cores, by the program and by its code.
+-- The names and the number of the cores, by the program and by its code: both are lists over the same declarations, so they are as long
+-- and have the same names.
 use Rattle.std.proofs.Common.{◌≡◌, ℕ, suc, List, [], ◌∷◌, length, refl, sym, ap, ◌∙◌}
 use Rattle.std.proofs.lemmas.List.{length-map}
 use Rattle.ac_tree.specs.declared.item.Item.{Item}
@@ -11,8 +12,8 @@ use Rattle.ac_commands.specs.declared.program.Core.{Core}
 use Rattle.ac_resolve.specs.Resolution.{cores_in, resolved}
 use Rattle.stack_code.specs.Parts.{Parts}
 use Rattle.ac_compile.specs.Compiled.{IsCodeOf}
-use Rattle.core_runner.specs.declared.ended.Ended.{Ended}
-use Rattle.core_runner.specs.Run.{IsRunOf}
+use Rattle.program_run.specs.declared.ended.Ended.{Ended}
+use Rattle.program_run.specs.Run.{IsRunOf}
 use Rattle.ac_program.specs.Source.{names_of}
 
 abbrev name_in : Core → List ℕ

@@ -1,4 +1,5 @@
--- Two runs of a program without channels and files, with the same bound, have the same status and the same trace.
+-- Two runs of a program without channels and files, with the same bound, have the same status and the same trace. Nothing can come to a
+-- core, so each journal is empty, and a core's run under the empty journal is one.
 use Rattle.std.proofs.Common.{◌≡◌, ℕ, suc, Bool, List, [], ◌∷◌, length, map, ap, Some, None, refl, sym, ◌∙◌, subst, arith}
 use Rattle.ac_base.specs.Log.{Log}
 use Rattle.ac_base.specs.Report.{any_ends, is_trapped, is_out_of_steps, is_stalled, status_of}
@@ -17,8 +18,8 @@ use Rattle.ac_translation.specs.Translation.{code_of}
 use Rattle.code_safety.proofs.NoEntries.{alone_takes_none}
 use Rattle.ac_compile.proofs.Alone.{code_alone}
 use Rattle.ac_compile.proofs.OnlyEnds.{source_only}
-use Rattle.core_runner.specs.declared.ended.Ended.{Ended}
-use Rattle.core_runner.specs.Run.{IsCoreRun, AreCoreRuns, IsRunOf, history_of}
+use Rattle.program_run.specs.declared.ended.Ended.{Ended}
+use Rattle.program_run.specs.Run.{IsCoreRun, AreCoreRuns, IsRunOf, history_of}
 use Rattle.ac_names.specs.Numbered.{file_paths}
 use Rattle.ac_words.specs.declared.task.Telling.{Telling}
 use Rattle.ac_words.specs.declared.task.Telling.TheVariants as w

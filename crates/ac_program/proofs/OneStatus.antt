@@ -1,4 +1,5 @@
--- A text whose program has no channel and no file calls for one status.
+-- A text whose program has no channel and no file calls for one status: of two that it calls for, both would be of runs, and such a
+-- program has one.
 use Rattle.std.proofs.Common.{◌≡◌, ◌⊎◌, ℕ, List, [], length, sym, ap, subst, inl, inr, arith}
 use Rattle.std.specs.Prelude.{◌↔◌}
 use Rattle.ac_tree.specs.declared.item.Program.{Program}

@@ -1,4 +1,5 @@
--- The paths of the files of an accepted program: at most 16 texts, which differ.
+-- The paths of the files of an accepted program: at most 16 texts, which differ. A path is a text of the source, whose bytes are below
+-- 128; a program that breaks no rule declares each path once and at most 16 files.
 use Rattle.std.proofs.Common.{◌≡◌, ◌≢◌, ℕ, zero, suc, ◌+◌, ◌<◌, ◌≤◌, Bool, true, false, List, [], ◌∷◌, ◌++◌}
 use Rattle.std.proofs.Common.{length, Option, None, Some, Ok, Err, refl, sym, ◌∙◌, subst, inl, inr, arith, if◌then◌else◌}
 use Rattle.std.specs.Prelude.{All, AllPairs, slice_index_or, nat_le, Result}

@@ -1,9 +1,10 @@
--- The trace that is written is read back.
+-- The trace that is written is read back: where the status is one of cores, what is due is the trace of the run that is kept, whole, and
+-- its text spells this trace alone.
 use Rattle.std.proofs.Common.{◌≡◌, ◌≢◌, ℕ, List, Option, None, Some, sym, ◌∙◌, subst, arith}
 use Rattle.std.specs.Prelude.{IfSome, IsTrue, is_some}
 use Rattle.ac_outside.specs.Told.{LibraryTold, SinkTold, GrewBy}
 use Rattle.ac_outside.specs.Disks.{DiskTold, Held}
-use Rattle.core_runner.specs.declared.ended.Ended.{Ended}
+use Rattle.program_run.specs.declared.ended.Ended.{Ended}
 use Rattle.ac_resolve.specs.Resolution.{resolved}
 use Rattle.trace_text.specs.Spelling.{IsTheTrace}
 use Rattle.trace_audit.specs.RunTrace.{IsRunTrace}

@@ -1,4 +1,5 @@
--- From what is due to the text that decides it.
+-- From what is due to the text that decides it: the text that was read, or, where one byte too many was taken, the one that the library
+-- tells, which is too long. The files that were read are those that the disk told.
 use Rattle.std.proofs.Common.{◌≢◌, ◌≡◌, ℕ, ◌+◌, ◌<◌, ◌≤◌, List, [], length, map}
 use Rattle.std.specs.Prelude.{All, Contains, IfSome, slice_index_or}
 use Rattle.std.proofs.lemmas.Option.{slice_get_within, get_or_from_slice_get}
@@ -6,15 +7,15 @@ use Rattle.std.proofs.lemmas.List.{get_or_default}
 use Rattle.ac_outside.specs.Disks.{DiskTold, Held}
 use Rattle.starting_files.specs.declared.fault.StartFault.TheVariants as f
 use Rattle.starting_files.proofs.Started.{are_short}
-use Rattle.starting_files.specs.Starting.{StartsFiles, StopsAtFile, bytes_at, most_bytes, given}
+use Rattle.starting_files.specs.Starting.{AreStopped, StartsFiles, StopsAtFile, bytes_at, most_bytes}
 use Rattle.std.proofs.Common.{Option, None, Some, refl, sym, ap, ◌∙◌, subst, arith, length-append}
 use Rattle.ac_base.specs.Log.{Log}
 use Rattle.ac_commands.specs.declared.program.Resolved.{Resolved}
 use Rattle.ac_resolve.specs.Resolution.{resolved}
 use Rattle.ac_history.specs.Files.{padded, IsServed}
 use Rattle.ac_outside.specs.Told.{LibraryTold, SinkTold}
-use Rattle.core_runner.specs.DiskLeft.{deeds_of, LeavesFiles}
-use Rattle.core_runner.specs.declared.ended.Ended.{Ended}
+use Rattle.program_run.specs.DiskLeft.{deeds_of, LeavesFiles}
+use Rattle.program_run.specs.declared.ended.Ended.{Ended}
 use Rattle.ac_words.specs.declared.task.Task.{Task}
 use Rattle.ac_words.specs.Words.{Does, Loads}
 use Rattle.ac_file_server.specs.ServerText.{load_text}
@@ -22,7 +23,7 @@ use Rattle.ac_tree.specs.declared.item.Program.{Program}
 use Rattle.ac_program.specs.declared.execute.Done.{Done}
 use Rattle.ac_words.specs.declared.task.Task.TheVariants as t
 use Rattle.ac_program.specs.Source.{needed}
-use Rattle.ac_program.specs.Making.{Makes, IsDueOf, AreStopped, Tells}
+use Rattle.ac_program.specs.Making.{Makes, IsDueOf, Tells}
 use Rattle.ac_program.specs.Reading.{Gave, TookBytes, IsRead, IsShort}
 use Rattle.ac_program.specs.Headline.{IsDueOfFile, TookWhole, GivesStatus, CallsFor, IsCalledFor, IsOfText, IsDecided, IsLoaded, summed, AreShort, HasLong, KnowsFiles}
 use Rattle.ac_program.specs.Making.IsDueOf.{refused, ready}
@@ -57,17 +58,17 @@ long_text (Some known) left k = record { text = known; gave = refl; long = over 
 
 -- ---- what the files are
 
-read_short : (held after : Option Held) (paths start : List (List ℕ)) → All (λ bytes. length bytes ≤ most_bytes) start → IfSome held (λ h. StartsFiles h after paths (given start))
+read_short : (held after : Option Held) (paths start : List (List ℕ)) → All (λ bytes. length bytes ≤ most_bytes) start → IfSome held (λ h. StartsFiles h after paths start)
     → IfSome held (λ h. All (λ path. length (bytes_at h path) ≤ most_bytes) paths)
 read_short None after paths start short told = tt
 read_short (Some h) after paths start short told = are_short h paths start told.0 short
 
-read_held : (held after : Option Held) (paths start : List (List ℕ)) → IfSome held (λ h. StartsFiles h after paths (given start)) → IfSome held (λ h. start ≡ map (bytes_at h) paths)
+read_held : (held after : Option Held) (paths start : List (List ℕ)) → IfSome held (λ h. StartsFiles h after paths start) → IfSome held (λ h. start ≡ map (bytes_at h) paths)
 read_held None after paths start told = tt
 read_held (Some h) after paths start told = told.0
 
 -- a disk that told its files before they were read has served the run
-served_after : (program : Resolved) (journals : List Log) (held between : Option Held) (later : DiskTold) (paths start : List (List ℕ)) → IfSome held (λ h. StartsFiles h between paths (given start))
+served_after : (program : Resolved) (journals : List Log) (held between : Option Held) (later : DiskTold) (paths start : List (List ℕ)) → IfSome held (λ h. StartsFiles h between paths start)
     → IfSome between (λ h. (left : Held) × (later.held ≡ Some left) × LeavesFiles program start journals h left) → IfSome held (λ h. IsServed (padded start) (deeds_of program journals))
 served_after program journals None between later paths start told left = tt
 served_after program journals (Some h) between later paths start told left =
@@ -83,16 +84,17 @@ record IsOver (held : Option Held) (paths : List (List ℕ)) : Type 0 where
   is_one : Contains paths path
   over : IfSome held (λ h. most_bytes < length (bytes_at h path))
 
-is_over : (held after : Option Held) (paths : List (List ℕ)) (file : ℕ) → file < length paths → IfSome held (λ h. StopsAtFile h after paths (f.TooLong file)) → IsOver held paths
-is_over None after paths file less told =
-    record { path = slice_index_or paths file []; is_one = (file, less, get_or_default paths file (slice_index_or paths file []) [] less); over = tt }
-is_over (Some h) after paths file less told =
-    let inside = slice_get_within paths told.number told.path told.here in
-    let here = get_or_from_slice_get paths told.number told.path told.path told.here in
-    record { path = told.path; is_one = (told.number, inside, here); over = told.stops.1 }
+is_over : (held after : Option Held) (paths : List (List ℕ)) (number file : ℕ) → number < length paths → IfSome held (λ h. StopsAtFile h after paths number (f.TooLong file))
+    → IsOver held paths
+is_over None after paths number file less told =
+    record { path = slice_index_or paths number []; is_one = (number, less, get_or_default paths number (slice_index_or paths number []) [] less); over = tt }
+is_over (Some h) after paths number file less told =
+    let inside = slice_get_within paths number told.path told.here in
+    let here = get_or_from_slice_get paths number told.path told.path told.here in
+    record { path = told.path; is_one = (number, inside, here); over = told.stops.1 }
 
 pub has_long : (paths : List (List ℕ)) (file : ℕ) (disk later : DiskTold) → AreStopped paths (f.TooLong file) disk later → HasLong disk paths
-has_long paths file disk later stopped = let o = is_over disk.held later.held paths file stopped.below stopped.told in record { path = o.path; is_one = o.is_one; over = o.over }
+has_long paths file disk later stopped = let o = is_over disk.held later.held paths stopped.number file stopped.within stopped.told in record { path = o.path; is_one = o.is_one; over = o.over }
 
 -- the status of what is made, and that no file is too long
 gives_of : (task : Task) (program : Program) (disk later : DiskTold) (status : ℕ) (done : Done) → status ≡ done.status.number → Makes task program disk later done
@@ -135,7 +137,7 @@ module _ (file : List ℕ) (task : Task) (before after : LibraryTold) (disk late
   found : IsOfText status → IsDueOfFile file task before after disk later status text run → IsFound file task before after disk status
   found o (library_fault n x r j e a) = absurd (o.library n)
   found o (too_long n x r w took a) = let l = long_text (before.text_at file) after.left took in record { text = l.text; read = w; gave = l.gave; calls = over_long n l.long }
-  found o (source bytes w g s due) = record { text = bytes; read = w; gave = g; calls = calls_for bytes task disk later status text run o s due }
+  found o (source bytes w g s due) = record { text = bytes; read = w.read; gave = g; calls = calls_for bytes task disk later status text run o s due }
 
 -- ---- what the text decides
 

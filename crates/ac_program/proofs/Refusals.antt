@@ -1,4 +1,5 @@
--- No source is refused with two statuses for one task, and for none that is refused is the task done.
+-- No source is refused with two statuses for one task, and for none that is refused is the task done. What a source comes to is told by
+-- its tokens, its tree, its least broken rule and its steps, in this order, and each of them is one.
 use Rattle.std.proofs.Common.{◌≡◌, ℕ, ◌<◌, ◌≤◌, List, length, Ok, refl, sym, ◌∙◌, subst, arith}
 use Rattle.ac_lexer.specs.declared.token.Token.{Token}
 use Rattle.ac_lexer.specs.declared.fault.LexFault.{LexFault}

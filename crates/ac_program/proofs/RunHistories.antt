@@ -1,4 +1,5 @@
--- The stamps of the history of a run, and that of a program without channels and files, which is empty.
+-- The stamps of the history of a run, and that of a program without channels and files, which is empty: a worker answers requests alone,
+-- and no core has made one. A stamp is at least 1, as an entry fits with the next stamp only, and small, as entries are few.
 use Rattle.std.proofs.Common.{◌≡◌, ℕ, zero, suc, ◌+◌, ◌*◌, ◌<◌, ◌≤◌, ◌^◌, Bool, true, false, List, [], ◌∷◌, ◌++◌, length, map, Some, refl, sym, ap, ◌∙◌, subst, arith}
 use Rattle.std.specs.Prelude.{All, ◌&&◌, ◌||◌, ◌==◌, nat_lt, nat_le, replicate, slice_get, slice_index_or, slice_index}
 use Rattle.std.specs.List.{AllByRecursion}
@@ -29,8 +30,8 @@ use Rattle.journal_bounds.specs.Actions.{most_actions}
 use Rattle.journal_bounds.specs.Laws.{AllReplay}
 use Rattle.journal_bounds.proofs.Sizes.{actions_few}
 use Rattle.journal_bounds.proofs.Stamps.{stamps_small}
-use Rattle.core_runner.specs.declared.ended.Ended.{Ended}
-use Rattle.core_runner.specs.Run.{IsCoreRun, AreCoreRuns, IsRunOf, history_of, nothing_yet}
+use Rattle.program_run.specs.declared.ended.Ended.{Ended}
+use Rattle.program_run.specs.Run.{IsCoreRun, AreCoreRuns, IsRunOf, history_of, nothing_yet}
 
 -- ---- the least stamp
 

@@ -1,4 +1,5 @@
--- Statuses of cores and of refusals.
+-- Statuses of cores and of refusals: those of ended cores are 0, 4, 5 and 6, those of refusals 2, 3 and 10, and none is both.
+-- So a status tells of which kind an answer is; each law goes through the few numbers that there are.
 use Rattle.std.proofs.Common.{◌≢◌, ◌≡◌, ℕ, ◌≤◌, ◌⊎◌, inl, inr, Bool, true, false, List, refl, sym, ◌∙◌, subst, arith, if◌then◌else◌}
 use Rattle.std.proofs.lemmas.Bool.{cases_lt}
 use Rattle.ac_base.specs.Report.{any_ends, is_trapped, is_out_of_steps, is_stalled, status_of}
@@ -13,7 +14,7 @@ use Rattle.ac_words.specs.declared.task.Task.TheVariants as t
 use Rattle.ac_outside.specs.Disks.{DiskTold}
 use Rattle.ac_words.specs.declared.task.Telling.{Telling}
 use Rattle.ac_words.specs.declared.task.Telling.TheVariants as w
-use Rattle.core_runner.specs.declared.ended.Ended.{Ended}
+use Rattle.program_run.specs.declared.ended.Ended.{Ended}
 use Rattle.ac_program.specs.Making.{Makes, Tells, whole, long_trace}
 use Rattle.ac_program.specs.Headline.{IsOfCores}
 

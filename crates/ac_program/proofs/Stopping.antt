@@ -1,4 +1,5 @@
--- Why work on a source stops, from what a part of the front promises of its fault.
+-- Why work on a source stops, from what a part of the front promises of its fault: case by case, the fault becomes the refusal with the
+-- same place.
 use Rattle.std.proofs.Common.{◌≡◌, refl, ℕ, ◌<◌, List, length, Result, Err}
 use Rattle.ac_lexer.specs.declared.token.Token.{Token}
 use Rattle.ac_lexer.specs.declared.fault.LexFault.{LexFault}

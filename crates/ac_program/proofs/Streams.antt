@@ -1,4 +1,5 @@
--- What several writes do to the bytes that a sink tells.
+-- What several writes do to the bytes that a sink tells: a front of a text and the next bytes of it are together a longer front.
+-- Where the sink tells nothing, nothing is claimed; where it does, the two pieces are joined.
 use Rattle.std.proofs.Common.{◌≡◌, ℕ, ◌+◌, List, ◌++◌, None, Some, sym, ap, ◌∙◌, append_assoc, subst, take, drop}
 use Rattle.std.specs.declared.option.Option.{Option}
 use Rattle.std.proofs.Math.Seq.{take-add}

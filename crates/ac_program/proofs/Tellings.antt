@@ -1,4 +1,5 @@
--- What is known of a run once it is told: that its trace can be, and that it is a run where the disk tells its files.
+-- What is known of a run once it is told: that its trace can be, as its steps, files, cores and stamps are few, and that it is a run where
+-- the disk tells its files, as what was read is then what stood there.
 use Rattle.std.proofs.Common.{◌≡◌, ℕ, ◌*◌, ◌<◌, ◌≤◌, ◌^◌, List, length, Option, None, Some, sym, ap, ◌∙◌, subst, arith}
 use Rattle.std.specs.Prelude.{All, IfSome}
 use Rattle.std.proofs.lemmas.List.{length-map}
@@ -12,10 +13,10 @@ use Rattle.stack_code.specs.Valid.{IsValid}
 use Rattle.stack_code.specs.Kept.{IsRanked}
 use Rattle.ac_translation.specs.Same.{IsSame}
 use Rattle.ac_compile.specs.Compiled.{IsCodeOf}
-use Rattle.core_runner.specs.declared.ended.Ended.{Ended}
-use Rattle.core_runner.specs.Run.{IsRunOf}
-use Rattle.core_runner.specs.DiskLeft.{LeavesDisk, LeavesFiles}
-use Rattle.starting_files.specs.Starting.{StartsFiles, given}
+use Rattle.program_run.specs.declared.ended.Ended.{Ended}
+use Rattle.program_run.specs.Run.{IsRunOf}
+use Rattle.program_run.specs.DiskLeft.{LeavesDisk, LeavesFiles}
+use Rattle.starting_files.specs.Starting.{AreStarted, StartsFiles}
 use Rattle.trace_audit.specs.RunTrace.{IsRunTrace}
 use Rattle.trace_audit.specs.Laws.{IsSound, trace_of}
 use Rattle.trace_audit.proofs.Sound.{is_sound}
@@ -24,7 +25,7 @@ use Rattle.ac_words.specs.declared.task.Telling.{Telling}
 use Rattle.ac_words.specs.declared.task.Telling.TheVariants as w
 use Rattle.ac_program.specs.declared.telling.Told.{Told}
 use Rattle.ac_program.specs.Source.{names_of}
-use Rattle.ac_program.specs.Making.{AreStarted, Tells}
+use Rattle.ac_program.specs.Making.{Tells}
 use Rattle.ac_program.specs.inner.Parts.{IsTellable, GivesTelling}
 use Rattle.ac_program.proofs.Names.{entries_are}
 use Rattle.ac_program.proofs.RunHistories.{as_many_journals, least_stamps, greatest_stamps}
@@ -62,7 +63,7 @@ module _ (p : Program) (code : Parts) (steps : ℕ) (start : List (List ℕ)) (e
     sound = is_sound (resolved p) code ranks valid ranked is same
 
     of_served : (held between : Option Held) (later : DiskTold) → length start ≡ length (file_paths p.items) → All (λ bytes. length bytes ≤ 1048576) start
-        → IfSome held (λ h. StartsFiles h between (file_paths p.items) (given start))
+        → IfSome held (λ h. StartsFiles h between (file_paths p.items) start)
         → IfSome between (λ h. (left : Held) × (later.held ≡ Some left) × LeavesFiles (resolved p) start ended.journals h left) → IfSome held (λ h. IsRunTrace (resolved p) (trace_of ended))
     of_served None between later count short told left = tt
     of_served (Some h) between later count short told left =

@@ -1,14 +1,15 @@
--- The trace of a run is one that a text tells.
+-- The trace of a run is one that a text tells, and no other trace has this text: the bounds on its steps, files, cores and stamps are those of
+-- the run, and that its other numbers fit their types is what the writer has found as it wrote them.
 use Rattle.std.proofs.Common.{◌≡◌, ℕ, ◌≤◌, List, length, ap, ◌∙◌, subst, arith}
 use Rattle.std.proofs.lemmas.List.{length-map}
 use Rattle.ac_base.specs.Report.{status_of}
-use Rattle.core_runner.specs.declared.ended.Ended.{Ended}
+use Rattle.program_run.specs.declared.ended.Ended.{Ended}
 use Rattle.trace_text.specs.declared.trace.Trace.{Trace}
 use Rattle.trace_text.specs.Text.{trace_text}
 use Rattle.trace_text.specs.Spelling.{IsTrace, SpellsTrace, IsTheTrace}
 use Rattle.trace_text.specs.Outcomes.{trace_limit}
 use Rattle.trace_text.proofs.Whole.{one_trace}
-use Rattle.trace_ranges.specs.Fitting.{NumbersFit}
+use Rattle.trace_text.specs.Fitting.{NumbersFit}
 use Rattle.trace_audit.specs.Laws.{told_of, trace_of}
 use Rattle.ac_program.specs.Making.{TellsTrace, whole}
 use Rattle.ac_program.specs.inner.Parts.{IsTellable}

@@ -1,4 +1,5 @@
--- What is decided of two.ac: by its text, by its code, and by its machine, before the first instruction and at its end.
+-- What is decided of two.ac: by its text, by its code, and by its machine, before the first instruction and at its end. All of it is
+-- computed, so the statuses that it does not have are refused by a comparison.
 use Rattle.std.proofs.Common.{◌≡◌, refl, ap, ◌∙◌, ℕ, zero, suc, pos, List, [], ◌∷◌, length}
 use Rattle.std.proofs.Common.{codes, Option, None, Some, true, false, subst, sym, arith}
 use Rattle.std.specs.Prelude.{slice_get}
@@ -39,14 +40,14 @@ use Rattle.ac_program.proofs.OneStatus.{one_status}
 use Rattle.ac_program.proofs.Reasons.{decided_for}
 use Rattle.ac_program.proofs.TwoRules.{two_tree, two_is_clean}
 use Rattle.ac_program.proofs.Examples.{code_prints_seven, e, it_is_a_run, it_is_done, it_is_reported, it_is_spelled, it_replays}
-use Rattle.ac_program.proofs.Examples.{its_end, its_library, its_only_program, its_library_after, its_reading}
+use Rattle.ac_program.proofs.Examples.{its_end, its_library, its_only_program, its_library_after, its_whole_reading}
 use Rattle.ac_program.proofs.Examples.{its_report, its_run, its_sink, its_status_is_called_for, its_files_are_known, no_disk, sink_with}
 
 -- ---- its text decides
 
 pub it_is_decided : IsDecided (t.Run 100 tell.Report) (codes "two.ac") its_library its_library_after no_disk 0
 it_is_decided = decided_for (t.Run 100 tell.Report) (codes "two.ac") its_library its_library_after no_disk no_disk 0 (Some its_run) its_sink (sink_with its_report 0)
-    (λ well kept. record { text = its_report; due = source two_text its_reading refl (omega arith) it_is_done; taken = refl })
+    (λ well kept. record { text = its_report; due = source two_text its_whole_reading refl (omega arith) it_is_done; taken = refl })
     (record { usage = omega arith; library = omega arith; sink = omega arith; disk = omega arith; memory = omega arith }) (t.Run 100 tell.Report) (codes "two.ac") refl
 
 pub it_is_called_for : IsCalledFor two_text (t.Run 100 tell.Report) no_disk 0
@@ -69,11 +70,13 @@ its_runs_do_not_differ r =
     omega (arith, some, many, files)
 
 -- no other status
-pub it_is_not_decided_otherwise : IsDecided (t.Run 100 tell.Report) (codes "two.ac") its_library its_library_after no_disk 4 → ⊥
-it_is_not_decided_otherwise h =
-    let called = h.only two_text refl its_files_are_known in
+pub it_is_not_called_for_otherwise : IsCalledFor two_text (t.Run 100 tell.Report) no_disk 4 → ⊥
+it_is_not_called_for_otherwise called =
     let e : 4 ≡ 0 = (one_status two_text (t.Run 100 tell.Report) no_disk 4 called it_has_none 0).1 its_status_is_called_for in
     omega (arith, e)
+
+pub it_is_not_decided_otherwise : IsDecided (t.Run 100 tell.Report) (codes "two.ac") its_library its_library_after no_disk 4 → ⊥
+it_is_not_decided_otherwise h = it_is_not_called_for_otherwise (h.only two_text refl its_files_are_known)
 
 -- ---- its code
 

@@ -1,4 +1,5 @@
 -- That the program of two.ac breaks no rule.
+-- Once it is known which functions its core reaches, the nodes are gone through by computing.
 use Rattle.std.proofs.Common.{◌≡◌, refl, subst, ℕ, zero, suc, pos, List, [], ◌∷◌, codes, Option, None, Some}
 use Rattle.std.specs.Prelude.{slice_get}
 use Rattle.ac_tree.specs.declared.expr.Expr.TheVariants as e

@@ -4,7 +4,7 @@ use Rattle.ac_tree.specs.declared.item.Program.{Program}
 use Rattle.ac_names.specs.Numbered.{core_names}
 use Rattle.ac_resolve.specs.Resolution.{resolved}
 use Rattle.ac_outside.specs.Causes.{Rose}
-use Rattle.ac_outside.specs.Told.{LibraryTold, OpenedJust}
+use Rattle.ac_outside.specs.Told.{LibraryTold}
 use Rattle.ac_words.specs.declared.task.Task.TheVariants as t
 use Rattle.trace_text.specs.declared.trace.Trace.{Trace}
 use Rattle.trace_text.specs.Spelling.{IsTheTrace, IsFirstWrong}
@@ -13,7 +13,7 @@ use Rattle.trace_audit.specs.declared.verdict.Verdict.{Verdict}
 use Rattle.trace_audit.specs.Judged.{Judges}
 use Rattle.ac_program.specs.declared.refusal.Refusal.{Refusal}
 use Rattle.ac_program.specs.Source.{IsReady, Refuses, most_steps}
-use Rattle.ac_program.specs.Reading.{Gave, TookBytes, IsRead, IsShort}
+use Rattle.ac_program.specs.Reading.{Gave, TookBytes, IsRead, IsReadWhole, IsTried, IsShort}
 use Rattle.ac_program.specs.Lines.{library_line, limit_source_line, limit_trace_line, limit_steps_line, refusal_line, refusal_status}
 use Rattle.ac_program.specs.Lines.{trace_fault_line, verdict_line, verdict_status}
 
@@ -34,11 +34,11 @@ pub data IsDueOfTraced (program : Program) (traced : List ℕ) (status : ℕ) (t
 
 -- Of a program and the file of a trace.
 pub data IsDueOfTrace (program : Program) (trace : List ℕ) (before after : LibraryTold) (status : ℕ) (text : List ℕ) : Type 0 where
-  library_fault : status ≡ 7 → text ≡ library_line → OpenedJust before after trace → Rose before.faults after.faults →
+  library_fault : status ≡ 7 → text ≡ library_line → IsTried before after trace → Rose before.faults after.faults →
       IsDueOfTrace program trace before after status text
   too_long : status ≡ 10 → text ≡ limit_trace_line → IsRead before after trace →
       TookBytes (before.text_at trace) after.left (trace_limit + 1) → IsDueOfTrace program trace before after status text
-  read : (traced : List ℕ) → IsRead before after trace → Gave (before.text_at trace) traced → length traced ≤ trace_limit →
+  read : (traced : List ℕ) → IsReadWhole before after trace traced → Gave (before.text_at trace) traced → length traced ≤ trace_limit →
       IsDueOfTraced program traced status text → IsDueOfTrace program trace before after status text
 
 -- Of a source and the file of a trace: what refuses a check of the source refuses the audit, and the trace is not opened.
@@ -50,20 +50,29 @@ pub data IsDueOfSource (source trace : List ℕ) (before after : LibraryTold) (s
 
 -- Of the two files.
 pub data IsDueOfAudit (file trace : List ℕ) (before after : LibraryTold) (status : ℕ) (text : List ℕ) : Type 0 where
-  library_fault : status ≡ 7 → text ≡ library_line → OpenedJust before after file → Rose before.faults after.faults →
+  library_fault : status ≡ 7 → text ≡ library_line → IsTried before after file → Rose before.faults after.faults →
       IsDueOfAudit file trace before after status text
   too_long : status ≡ 10 → text ≡ limit_source_line → IsRead before after file →
       TookBytes (before.text_at file) after.left (1048576 + 1) → IsDueOfAudit file trace before after status text
-  source : (bytes : List ℕ) (between : LibraryTold) → IsRead before between file → Gave (before.text_at file) bytes → IsShort bytes →
+  source : (bytes : List ℕ) (between : LibraryTold) → IsReadWhole before between file bytes → Gave (before.text_at file) bytes →
+      IsShort bytes →
       between.text_at ≡ before.text_at → IsDueOfSource bytes trace between after status text →
       IsDueOfAudit file trace before after status text
 
 -- ---- which files were opened
 
--- just the first of the files was opened, or the first and then the second, and no call of the library failed
+-- nothing refuses a check of the source, and just the file of the trace was opened
+pub record IsTraceRead (source trace : List ℕ) (before after : LibraryTold) : Type 0 where
+  pub program : Program
+  pub is_ready : IsReady source t.Check program
+  pub read : IsRead before after trace
+
+-- just the first of the files was opened; or it was read whole, nothing refuses a check of it, and then the second was; and no call of the
+-- library failed
 pub data AreRead (file trace : List ℕ) (before after : LibraryTold) : Type 0 where
   first : IsRead before after file → AreRead file trace before after
-  both : (between : LibraryTold) → IsRead before between file → IsRead between after trace → AreRead file trace before after
+  both : (bytes : List ℕ) (between : LibraryTold) → IsReadWhole before between file bytes → Gave (before.text_at file) bytes →
+      IsShort bytes → IsTraceRead bytes trace between after → AreRead file trace before after
 
 -- ---- what the texts decide
 

@@ -9,10 +9,10 @@ use Rattle.ac_names.specs.Numbered.{file_paths}
 use Rattle.ac_resolve.specs.Resolution.{resolved}
 use Rattle.ac_program.specs.declared.refusal.BrokenRule.{BrokenRule}
 use Rattle.ac_outside.specs.Causes.{Rose}
-use Rattle.ac_outside.specs.Told.{LibraryTold, SinkTold, OpenedJust, GrewBy}
+use Rattle.ac_outside.specs.Told.{LibraryTold, SinkTold, GrewBy}
 use Rattle.ac_outside.specs.Disks.{DiskTold}
 use Rattle.starting_files.specs.Starting.{bytes_at, most_bytes}
-use Rattle.core_runner.specs.declared.ended.Ended.{Ended}
+use Rattle.program_run.specs.declared.ended.Ended.{Ended}
 use Rattle.ac_words.specs.declared.task.Task.{Task}
 use Rattle.ac_words.specs.declared.task.Task.TheVariants as t
 use Rattle.ac_words.specs.declared.task.Telling.{Telling}
@@ -22,12 +22,12 @@ use Rattle.ac_file_server.specs.ServerText.{load_text}
 use Rattle.trace_text.specs.Spelling.{IsTheTrace}
 use Rattle.trace_audit.specs.RunTrace.{IsRunTrace}
 use Rattle.trace_audit.specs.Laws.{trace_of}
-use Rattle.ac_program.specs.Reading.{Gave, TookBytes, IsRead, IsShort}
+use Rattle.ac_program.specs.Reading.{Gave, TookBytes, IsRead, IsReadWhole, IsTried, IsShort}
 use Rattle.ac_program.specs.Writing.{TookFront}
 use Rattle.ac_program.specs.Source.{HasFault, IsUnexpected, IsTooDeep, IsBroken, IsTooMany, IsReady, needed}
 use Rattle.ac_history.specs.Files.{padded, IsServed}
-use Rattle.core_runner.specs.Run.{IsRunOf}
-use Rattle.core_runner.specs.DiskLeft.{deeds_of}
+use Rattle.program_run.specs.Run.{IsRunOf}
+use Rattle.program_run.specs.DiskLeft.{deeds_of}
 use Rattle.ac_program.specs.Making.{IsDueOf, AreLeft, Tells}
 use Rattle.ac_program.specs.Auditing.{IsDueOfAudit, AreRead}
 use Rattle.ac_program.specs.Lines.{usage_line, library_line, limit_source_line}
@@ -42,12 +42,12 @@ IsNoCall words = (asked : Asked) → IsCall words asked → ⊥
 -- for a task on this file: the library failed, or one byte too many was taken, or the text was read whole
 pub data IsDueOfFile (file : List ℕ) (task : Task) (before after : LibraryTold) (disk later : DiskTold)
     (status : ℕ) (text : List ℕ) (run : Option Ended) : Type 0 where
-  library_fault : status ≡ 7 → text ≡ library_line → run ≡ None → OpenedJust before after file → Rose before.faults after.faults →
+  library_fault : status ≡ 7 → text ≡ library_line → run ≡ None → IsTried before after file → Rose before.faults after.faults →
       later ≡ disk → IsDueOfFile file task before after disk later status text run
   too_long : status ≡ 10 → text ≡ limit_source_line → run ≡ None → IsRead before after file →
       TookBytes (before.text_at file) after.left (1048576 + 1) → later ≡ disk →
       IsDueOfFile file task before after disk later status text run
-  source : (bytes : List ℕ) → IsRead before after file → Gave (before.text_at file) bytes → IsShort bytes →
+  source : (bytes : List ℕ) → IsReadWhole before after file bytes → Gave (before.text_at file) bytes → IsShort bytes →
       IsDueOf bytes task disk later status text run → IsDueOfFile file task before after disk later status text run
 
 -- a run with this bound on steps that is told by the summary of a load of so many turns
@@ -120,7 +120,7 @@ pub record TellsSink (sink written : SinkTold) (status : ℕ) : Type 0 where
   pub only : status ≢ 8 → written.faults ≡ sink.faults
 
 -- 9 where a call of the disk failed, unless one of the sink did too, and at no other time but in a run: what failed there is answered to
--- its requests (`LeavesDisk` of core_runner)
+-- its requests (`LeavesDisk` of program_run)
 pub record TellsDisk (disk later : DiskTold) (status : ℕ) (run : Option Ended) : Type 0 where
   pub told : status ≡ 9 → Rose disk.faults later.faults
   pub only : status ≢ 9 → status ≢ 8 → status ≢ 11 → run ≡ None → later.faults ≡ disk.faults

@@ -1,5 +1,5 @@
 -- What is made of a source.
-use Rattle.std.specs.Prelude.{◌≡◌, ℕ, ◌<◌, ◌≤◌, List, length, All, IsTrue, None, Some, IfSome}
+use Rattle.std.specs.Prelude.{◌≡◌, ℕ, ◌<◌, ◌≤◌, List, length, None, Some, IfSome}
 use Rattle.std.specs.declared.option.Option.{Option}
 use Rattle.ac_base.specs.Report.{report_of, status_of}
 use Rattle.ac_tree.specs.declared.item.Program.{Program}
@@ -8,9 +8,8 @@ use Rattle.ac_resolve.specs.Resolution.{resolved}
 use Rattle.ac_translation.specs.Translation.{code_of}
 use Rattle.code_listing.specs.Listing.{listing}
 use Rattle.ac_outside.specs.Disks.{DiskTold, BindsNone}
-use Rattle.starting_files.specs.declared.fault.StartFault.{StartFault}
 use Rattle.starting_files.specs.declared.fault.StartFault.TheVariants as f
-use Rattle.starting_files.specs.Starting.{StartsFiles, StopsAtFile, StartHasCause, IsNumberBelow, given, not_given, most_bytes}
+use Rattle.starting_files.specs.Starting.{AreStarted, AreStopped}
 use Rattle.ac_words.specs.declared.task.Task.{Task}
 use Rattle.ac_words.specs.declared.task.Task.TheVariants as t
 use Rattle.ac_words.specs.declared.task.Telling.{Telling}
@@ -21,36 +20,19 @@ use Rattle.trace_text.specs.Outcomes.{trace_limit}
 use Rattle.trace_audit.specs.Laws.{trace_of}
 use Rattle.trace_audit.specs.RunTrace.{IsRunTrace}
 use Rattle.ac_program.specs.declared.execute.Done.{Done}
-use Rattle.core_runner.specs.declared.ended.Ended.{Ended}
+use Rattle.program_run.specs.declared.ended.Ended.{Ended}
 use Rattle.ac_program.specs.declared.refusal.Refusal.{Refusal}
 use Rattle.ac_program.specs.Source.{IsReady, Refuses, names_of, needed}
-use Rattle.core_runner.specs.Run.{IsRunOf}
-use Rattle.core_runner.specs.DiskLeft.{deeds_of, LeavesDisk}
-use Rattle.core_runner.specs.Naming.{AreNamed}
+use Rattle.program_run.specs.Run.{IsRunOf}
+use Rattle.program_run.specs.DiskLeft.{deeds_of, LeavesDisk}
+use Rattle.program_run.specs.Naming.{AreNamed}
 use Rattle.ac_program.specs.Summary.{summary_of}
 use Rattle.ac_program.specs.Lines.{accepted_line, disk_line, limit_file_line, limit_trace_line, refusal_line, refusal_status}
 
 -- ---- files: `disk` and `later` are what the disk tells before and after
 
--- The files of these paths were bound, in order, and read whole, no call failed, and the disk may be called again. Where it tells its
--- files, these are the bytes that they held, and it holds them still.
-pub record AreStarted (paths start : List (List ℕ)) (disk later : DiskTold) : Type 0 where
-  pub well : later.faults ≡ disk.faults
-  pub bound : later.bound ≡ length paths
-  pub is_ready : IsTrue later.is_ready
-  pub count : length start ≡ length paths
-  pub short : All (λ bytes. length bytes ≤ most_bytes) start
-  pub told : IfSome disk.held (λ held. StartsFiles held later.held paths (given start))
-
--- One of the files of these paths was not bound and read whole, and those before it were.
-pub record AreStopped (paths : List (List ℕ)) (fault : StartFault) (disk later : DiskTold) : Type 0 where
-  pub some : 1 ≤ length paths
-  pub below : IsNumberBelow (length paths) fault
-  pub cause : StartHasCause disk.faults later.faults (not_given fault)
-  pub told : IfSome disk.held (λ held. StopsAtFile held later.held paths fault)
-
 -- What want of memory leaves of the files of these paths: nothing was done with them, or some were bound; or all were bound and read, and
--- then, by `between`, a run has begun, of which it is said only that it bound no file more.
+-- then, by `between`, a run has begun, of which it is said only that no other file was to be bound.
 pub data AreLeft (paths : List (List ℕ)) (disk later : DiskTold) : Type 0 where
   untouched : later ≡ disk → AreLeft paths disk later
   stopped : AreStopped paths f.NoMemory disk later → AreLeft paths disk later

@@ -5,6 +5,7 @@ ghost use Rattle.std.specs.Str.{IsUtf8};
 ghost use Rattle.ac_names.specs.Numbered.{file_paths};
 ghost use Rattle.ac_outside.specs.Told.{OpenedJust, GrewBy};
 ghost use Rattle.ac_words.specs.Words.{IsBounded};
+ghost use Rattle.ac_program.specs.Reading.{TookByReads};
 ghost use Rattle.ac_program.specs.Writing.{TookFront};
 ghost use Rattle.ac_program.specs.Lines.{limit_file_line, refusal_line, refusal_status};
 ghost use Rattle.ac_program.specs.Headline.{IsDueOfFile, IsLeft, TookWhole, TookPart, TellsDisk, TellsLibrary, TellsSink};
@@ -195,6 +196,7 @@ pub fn do_file<L: Library, K: Sink, D: Disk>(
         TookPart (IsDueOfFile file.now task (L.told library.old) (L.told library.new) (D.told disk.old) (D.told disk.new))
         result.run (K.told sink.old) (K.told sink.new) }
     ensures just { OpenedJust (L.told library.old) (L.told library.new) file.now }
+    ensures took { result.status.number ≡ 11 → TookByReads (L.told library.old) (L.told library.new) file.now }
     ensures left { result.status.number ≡ 11 →
         IsLeft ((L.told library.old).text_at file.now) task (D.told disk.old) (D.told disk.new) }
     ensures memory { result.status.number ≡ 11 → GrewBy (K.told sink.old).held (K.told sink.new).held [] }

@@ -3,7 +3,7 @@
 ghost use Rattle.std.specs.Prelude.{◌≡◌, ◌≤◌, ◌⊎◌, length, IfOk, None};
 ghost use Rattle.ac_resolve.specs.Resolution.{resolved};
 ghost use Rattle.trace_audit.specs.Judged.{Judges};
-ghost use Rattle.ac_program.specs.Auditing.{AreRead, IsDueOfAudit, IsDueOfSource, IsDueOfTrace, IsDueOfTraced};
+ghost use Rattle.ac_program.specs.Auditing.{AreRead, IsDueOfAudit, IsDueOfSource, IsDueOfTrace, IsDueOfTraced, IsTraceRead};
 ghost use Rattle.ac_program.specs.Headline.{TellsLibrary, TellsSink};
 ghost use Rattle.ac_program.specs.Lines.{verdict_line, verdict_status};
 ghost use Rattle.ac_program.specs.Reading.{IsRead, IsShort};
@@ -139,7 +139,7 @@ fn audit_source<L: Library, K: Sink>(
     ensures answered { IsAnswered (IsDueOfSource source.now trace.now (L.told library.old) (L.told library.new))
         (K.told sink.old) (K.told sink.new) result }
     ensures read { result.status.number ≡ 11 →
-        (L.told library.new ≡ L.told library.old) ⊎ IsRead (L.told library.old) (L.told library.new) trace.now }
+        (L.told library.new ≡ L.told library.old) ⊎ IsTraceRead source.now trace.now (L.told library.old) (L.told library.new) }
     ensures library { TellsLibrary (L.told library.old) (L.told library.new) result.status.number }
 {
     match build(alloc, source, Task::Check) {

@@ -19,7 +19,8 @@ use ac_outside::Disk;
 use ac_types::Checked;
 use ac_words::{Task, Telling};
 use code_listing::listing;
-use core_runner::{Ended, run};
+use core_runner::run;
+use program_run::Ended;
 use starting_files::{StartFault, start_files};
 use std::alloc::Global;
 

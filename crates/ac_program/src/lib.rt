@@ -27,9 +27,9 @@ use ac_outside::{Disk, Library, Sink};
 use ac_words::{Call, read_words};
 use answering::{USAGE, do_file, refuse};
 use auditing::audit_files;
-pub use core_runner::Ended;
 use loading::load;
 pub use outcome::Outcome;
+pub use program_run::Ended;
 use std::alloc::Global;
 
 /// Does what the words of a command line ask for. With the text of a file, which it reads from the
@@ -90,9 +90,10 @@ pub fn ac_main<L: Library, K: Sink, D: Disk>(
         TookPart (IsDue (map string_bytes words.now) (L.told library.old) (L.told library.new) (D.told disk.old) (D.told disk.new))
         result.run (K.told sink.old) (K.told sink.new) }
 
-    // Where memory was refused, the words are a call, just its files were opened, none for a load,
-    // nothing is written and no run is kept. The files of a program are left as they were, unless a run had begun: of
-    // the disk of such a run no more is said than that it bound no further file.
+    // Where memory was refused, the words are a call, just its files were opened, none for a load, and
+    // the second of an audit only where nothing refuses a check of the first; nothing is written and no
+    // run is kept. The files of a program are left as they were, unless a run had begun: of the disk of
+    // such a run no more is said than that no other file was to be bound.
     ensures memory { result.status.number ≡ 11 →
         GaveUp (map string_bytes words.now) (L.told library.old) (L.told library.new) (D.told disk.old) (D.told disk.new)
         result.run (K.told sink.old) (K.told sink.new) }
@@ -116,7 +117,7 @@ pub fn ac_main<L: Library, K: Sink, D: Disk>(
         IsDecided task file (L.told library.old) (L.told library.new) (D.told disk.old) result.status.number }
 
     // In an audit the two texts call for it, and for no other, and no more than the two files were
-    // opened, in this order.
+    // opened, in this order, and the second only where nothing refuses a check of the first.
     ensures judged { IsOfText result.status.number → (file trace : List ℕ) → IsCall (map string_bytes words.now) (Audits file trace) →
         IsJudged file trace (L.told library.old) (L.told library.new) result.status.number }
 

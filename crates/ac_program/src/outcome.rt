@@ -1,7 +1,7 @@
 //! What a call of the program gives.
 
 use ac_base::Status;
-use core_runner::Ended;
+use program_run::Ended;
 
 /// The status of a call, and the run from whose journals and ends the report was made, where
 /// there was one.

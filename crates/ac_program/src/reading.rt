@@ -1,9 +1,9 @@
 //! Reading a text of a library whole.
 
-ghost use Rattle.std.specs.Prelude.{◌≡◌, ◌≢◌, ◌+◌, ◌≤◌, length, IfOk, IsErrOf, Err};
+ghost use Rattle.std.specs.Prelude.{◌≡◌, ◌≢◌, ◌⊎◌, ◌+◌, ◌≤◌, length, IfOk, IsErrOf, Err};
 ghost use Rattle.ac_outside.specs.Causes.{Rose};
-ghost use Rattle.ac_outside.specs.Told.{OpenedJust};
-ghost use Rattle.ac_program.specs.Reading.{Gave, TookBytes};
+ghost use Rattle.ac_outside.specs.Told.{CountsAtMost, OpenedJust};
+ghost use Rattle.ac_program.specs.Reading.{Gave, TookBytes, TookByReads};
 
 use ac_base::{Bytes, List};
 use ac_outside::{Failed, Library};
@@ -56,7 +56,7 @@ impl From<AllocError> for ReadFault {
 }
 
 /// Opens the text of a name and reads it to its end, or to one byte past the limit. Whatever the
-/// answer, just that text was opened, once.
+/// answer, just that text was opened, once, and read no more often than what was taken takes.
 pub fn read_text<L: Library>(
     alloc: Global,
     library: &mut L,
@@ -66,6 +66,11 @@ pub fn read_text<L: Library>(
     requires { limit ≤ TRACE_LIMIT }
     ensures same { (L.told library.new).text_at ≡ (L.told library.old).text_at }
     ensures just { OpenedJust (L.told library.old) (L.told library.new) name.now }
+
+    ensures tried { ((L.told library.new).reads ≡ (L.told library.old).reads)
+        ⊎ TookByReads (L.told library.old) (L.told library.new) name.now }
+    ensures took { result ≢ Err ReadFault.Failed → TookByReads (L.told library.old) (L.told library.new) name.now }
+    ensures few { IfOk result (λ text. CountsAtMost (L.told library.old).reads (L.told library.new).reads (length text + 1)) }
 
     ensures whole { IfOk result (λ text. Gave ((L.told library.old).text_at name.now) text) }
     ensures short { IfOk result (λ text. length text ≤ limit) }

@@ -1,19 +1,17 @@
 //! What is written of a run.
 
-ghost use Rattle.std.specs.Prelude.{◌≡◌, ◌≤◌, ◌^◌, length, map, IfOk};
+ghost use Rattle.std.specs.Prelude.{◌≡◌, length, IfOk};
 ghost use Rattle.ac_base.specs.Report.{status_of};
-ghost use Rattle.trace_audit.specs.Laws.{told_of, trace_of};
 ghost use Rattle.ac_program.specs.Lines.{limit_trace_line};
 ghost use Rattle.ac_program.specs.inner.Parts.{GivesTelling, GivesTraced, IsTellable};
 
 use crate::summary::summary;
-use ac_base::{Bytes, List, MachineEnd, NoMemory, Status, report, status};
-use ac_history::merge;
+use ac_base::{Bytes, List, NoMemory, Status, report, status};
 use ac_words::Telling;
-use core_runner::Ended;
+use program_run::Ended;
 use std::alloc::Global;
-use trace_ranges::numbers_fit;
-use trace_text::{Trace, TraceEnd, WriteFault, write_trace};
+use trace_audit::trace_of;
+use trace_text::{WriteFault, write_trace};
 
 /// The line of a trace whose text is too long.
 pub const LIMIT_TRACE: &str = "limit: trace\n";
@@ -23,51 +21,6 @@ pub const LIMIT_TRACE: &str = "limit: trace\n";
 pub struct Told {
     pub text: Bytes,
     pub status: Status,
-}
-
-fn copies(alloc: Global, texts: &[Bytes]) -> Result<List<Bytes>, NoMemory>
-    ensures { IfOk result (λ it. it ≡ texts.now) }
-{
-    let mut all = List::new(alloc);
-    for text in texts {
-        all.push(text.copy(alloc)?)?;
-    }
-    Ok(all)
-}
-
-fn trace_end(alloc: Global, end: &MachineEnd) -> Result<TraceEnd, NoMemory>
-    ensures { IfOk result (λ it. it ≡ told_of end.now) }
-{
-    Ok(TraceEnd {
-        word: end.core.word,
-        steps: end.core.steps,
-        output: end.core.output.copy(alloc)?,
-    })
-}
-
-fn trace_ends(alloc: Global, ends: &[MachineEnd]) -> Result<List<TraceEnd>, NoMemory>
-    ensures { IfOk result (λ it. it ≡ map told_of ends.now) }
-{
-    let mut all = List::new(alloc);
-    for end in ends {
-        all.push(trace_end(alloc, end)?)?;
-    }
-    Ok(all)
-}
-
-fn trace_of(alloc: Global, ended: &Ended) -> Result<Trace, NoMemory>
-    requires { length ended.now.journals ≤ 2 ^ 32 }
-    ensures { IfOk result (λ it. it ≡ trace_of ended.now) }
-{
-    let start = copies(alloc, ended.start.as_slice())?;
-    let entries = merge(alloc, &ended.journals)?;
-    let ends = trace_ends(alloc, ended.cores.as_slice())?;
-    Ok(Trace {
-        steps: ended.steps,
-        start,
-        entries,
-        ends,
-    })
 }
 
 fn too_long(alloc: Global) -> Result<Told, NoMemory>
@@ -87,8 +40,6 @@ fn traced(alloc: Global, ended: &Ended, status: Status) -> Result<Told, NoMemory
     ensures { IfOk result (GivesTraced ended.now) }
 {
     let trace = trace_of(alloc, ended)?;
-    // That the text is read back as this trace, for the proof.
-    numbers_fit(&trace);
     match write_trace(alloc, &trace) {
         Ok(text) => Ok(Told { text, status }),
         Err(WriteFault::TooLong) => too_long(alloc),

@@ -1,4 +1,6 @@
 -- Three functions, of which the first calls the second and the third the first, and three cores: what they reach.
+-- That something is reached is shown call by call; that a core reaches nothing else, by induction on how it is reached, with a bound that each
+-- call keeps (`first_two`).
 use Rattle.std.proofs.Common.{◌≡◌, refl, subst, ℕ, zero, suc, ◌<◌, ◌≤◌, true, false, List, [], ◌∷◌, Option, Some, None, arith}
 use Rattle.std.specs.Prelude.{slice_get}
 use Rattle.ac_reach.specs.declared.reached.Reached.{Reached}

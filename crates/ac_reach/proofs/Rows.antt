@@ -1,4 +1,6 @@
--- The rows of functions say which cores reach them.
+-- The rows of functions say which cores reach them (`rows_are`). A row is read over the cores: the invariant is what it says of those below a
+-- number (`Below`), and a core whose flag is set makes none one, and one several (`one_core`).
+-- There are such rows, since the search may be run to its end (`run`), and no others, since two that say so are equal case by case.
 use Rattle.std.proofs.Common.{◌≡◌, ℕ, zero, suc, ◌+◌, ◌<◌, ◌≤◌, ◌⊎◌, inl, inr, Bool, true, false, List, [], ◌∷◌, ◌++◌, length, slice_get, drop, Option, None, Some, refl, sym, ap, ◌∙◌, subst, arith}
 use Rattle.std.proofs.lemmas.List.{drop_all}
 use Rattle.ac_reach.specs.declared.reached.Reached.{Reached}

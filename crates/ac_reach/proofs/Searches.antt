@@ -1,4 +1,6 @@
--- A search finds what is reached, and all of it.
+-- A search finds what is reached, and all of it: the invariant of `reached_from` (`IsSearch`, `IsBegun`), that a function and its calls keep it, and
+-- that the flags are right at the end. All is found, by induction on how a function is reached: its caller is flagged, so it stands in the list,
+-- and those in the list have their calls flagged. There are as many in the list as flags that are set, so no more than functions.
 use Rattle.std.proofs.Common.{◌≡◌, ℕ, zero, suc, ◌+◌, ◌<◌, ◌≤◌, ◌⊎◌, inl, inr, Bool, true, false, List, [], ◌∷◌, ◌++◌, length}
 use Rattle.std.proofs.Common.{slice_get, slice_set, Option, None, Some, refl, sym, ap, ◌∙◌, subst, arith, length-append}
 use Rattle.ac_reach.specs.Reached.{IsCalled, ReachedFrom, is_entry, is_called, IsAmong, here_is, later_is, AreFlags}

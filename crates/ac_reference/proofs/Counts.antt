@@ -1,4 +1,5 @@
 -- A program has as many cores without its names as with them.
+-- By induction over the items: what is a core there has a name here, so a core's number is one in both.
 use Rattle.std.proofs.Common.{◌≡◌, ℕ, ◌<◌, List, [], ◌∷◌, length, refl, ap, subst}
 use Rattle.std.specs.Prelude.{suc}
 use Rattle.ac_tree.specs.declared.item.Item.{Item}

@@ -1,4 +1,6 @@
 -- A run under no entries, and a journal whose first entry does not fit.
+-- A core without statements ends by itself; with an entry to come nothing is seen of its end, so the first entry is the misfit and the
+-- second is not.
 use Rattle.std.proofs.Common.{◌≡◌, zero, suc, List, [], ◌∷◌, codes, pos, true, false, Option, Some, None, refl, ap, subst, arith}
 use Rattle.ac_base.specs.declared.ends.EndWord.TheVariants.{Finished}
 use Rattle.ac_base.specs.declared.ends.CoreEnd.{CoreEnd}

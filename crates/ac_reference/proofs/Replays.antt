@@ -1,4 +1,6 @@
 -- The end of a core by the function that it enters, and the journals that do not fit.
+-- `ac_interpreter` speaks of a core by its function, `replay` by its number; a core enters one function, so ends and misfits are the same.
+-- Then the same of an equal program, which was made on the way.
 use Rattle.std.proofs.Common.{◌≡◌, ℕ, ◌+◌, ◌<◌, List, [], length, take, Option, Some, None, refl, sym, ◌∙◌, subst}
 use Rattle.std.specs.Prelude.{slice_get, Result, Err, IfOk}
 use Rattle.std.proofs.lemmas.Option.{slice_get_within}

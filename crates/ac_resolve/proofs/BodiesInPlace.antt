@@ -1,4 +1,5 @@
--- Statements that break no rule name only what is there.
+-- Statements that break no rule name only what is there. By induction on the shape of the statement: a claim says what is round it (the
+-- slots of its frame, its labels, its texts), and each form gives its parts what is round them and takes their claims together.
 use Rattle.std.proofs.Common.{◌≡◌, ℕ, ◌+◌, ◌-◌, ◌<◌, ◌≤◌, List, [], ◌∷◌, ◌++◌, length, map, Option, Some, None, Bool, true, false, inl, inr, refl, sym, ap, ◌∙◌, subst, arith}
 use Rattle.std.specs.Prelude.{nat_lt}
 use Rattle.std.proofs.lemmas.Bool.Decides.{nat_tests}
@@ -198,6 +199,8 @@ module _ (program : Resolved) (t : Tables) where
   abbrev rest_nodes : Option Expr → Option Stmt → Stmt → Names → Around → List Node
   rest_nodes test next body n a = for_gives (List Node) one_node [] join_nodes test (some_nodes next) (stmt_nodes body) t n a
 
+  -- The slots are split in the order first part, third part, body, and so are the texts and the nodes. The names after the first part are
+  -- those of the test, of the third part and of the body, which are one command after that of the first part.
   for_does : (init : Option Stmt) (test : Option Expr) (next : Option Stmt) (body : Stmt) → SomeDoes init → shape.IsValue test → SomeDoes next → DoesIt body
       → (r : Round) (n : Names) (a : Around) (texts : Texts) →
       IsRound r n a (uses_some init ++ (uses_some next ++ uses_of body)) ((told body).texts (some_texts (some_told next) (some_texts (some_told init) texts))) →
@@ -317,6 +320,8 @@ module _ (program : Resolved) (t : Tables) where
       (declared_named r a.depth (part_names (told x).shape) (uses_of x) n.slot n.scopes i.some are.declares first i.names) i.labels (omega arith)
       (stands_later _ (uses_of x) (uses_in xs) n.slot (part_words (told x).shape) are.many i.slots) i.kept) clean)
 
+  -- One case for each form: what the node does not break says what the form needs (that it is in a loop, in a `do`, that its label is there),
+  -- and the parts are in place by what is round them. A list goes on after the declaration of its first statement.
   mutual
     pub statement_does : (x : Stmt) → IsStmt x → DoesIt x
     statement_does _ (shape.block at body g) = form_does _ (stmt.rolls-Block at body) (λ r n a texts i c.

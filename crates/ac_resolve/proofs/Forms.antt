@@ -1,4 +1,5 @@
--- What each form of expression and statement is without names, by what its parts are.
+-- What each form of expression and statement is without names, by what its parts are. A fold over a tree does not compute at a form by
+-- itself; these two laws say what it is there.
 use Rattle.std.proofs.Common.{◌≡◌}
 use Rattle.ac_tree.specs.declared.expr.Expr.{Expr, roll-Expr, map-Expr}
 use Rattle.ac_tree.specs.declared.expr.Expr.TheOpen.{Expr-F}

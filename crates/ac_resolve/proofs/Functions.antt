@@ -1,4 +1,5 @@
--- A walk after a function, and a whole program.
+-- A walk after a function, and a whole program. The states between the steps of the function are put for one another until the
+-- definition stands there; the names are as before, since its scope is closed and its frame is left.
 use Rattle.std.proofs.Common.{◌≡◌, ℕ, ◌+◌, ◌≤◌, Bool, List, [], ◌∷◌, ◌++◌, length, sym, ap, ◌∙◌, arith}
 use Rattle.ac_tree.specs.declared.stmt.Stmt.{Stmt}
 use Rattle.ac_tree.specs.declared.item.Function as tree

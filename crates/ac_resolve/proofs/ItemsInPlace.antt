@@ -1,4 +1,5 @@
--- What the items of a program mean is there, by its number.
+-- What the items of a program mean is there, by its number. The lists of a program are told from the front on: what is done, and what is
+-- still to come. The next item has the number of what is done, so what it means is the element at that place.
 use Rattle.std.proofs.Common.{◌≡◌, ℕ, ◌+◌, ◌<◌, ◌≤◌, List, [], ◌∷◌, ◌++◌, length, Some, None, refl, sym, ap, ◌∙◌, length-append, arith}
 use Rattle.std.specs.Prelude.{slice_get}
 use Rattle.ac_tree.specs.declared.item.Item.{Item}

@@ -1,4 +1,5 @@
--- A program that breaks no rule names only what is there, once it is without names.
+-- A program that breaks no rule names only what is there, once it is without names. Item by item, with what the nodes of the item do not
+-- break: functions by the laws on statements, cores and channels by what their names mean, starting values by the slots before them.
 use Rattle.std.proofs.Common.{◌≡◌, ℕ, zero, suc, ◌+◌, ◌<◌, ◌≤◌, List, [], ◌∷◌, ◌++◌, length, map, Option, Some, None, Bool, true, false, inl, inr, refl, sym, ap, ◌∙◌, subst, arith}
 use Rattle.std.specs.Prelude.{◌≢◌, ℤ, pos, negsuc, nat_eq, nat_lt, nat_le, not, if◌then◌else◌, slice_get}
 use Rattle.std.proofs.lemmas.Bool.Decides.{nat_tests}
@@ -12,7 +13,7 @@ use Rattle.ac_names.specs.declared.meaning.Meaning.{Meaning}
 use Rattle.ac_names.specs.declared.meaning.Meaning.TheVariants as m
 use Rattle.ac_names.specs.declared.names.Names.{Names}
 use Rattle.ac_names.specs.declared.past.Past.{Past}
-use Rattle.ac_names.specs.declared.kind.Kind.TheVariants as ki
+use Rattle.ac_names.specs.declared.kind.NameKind.TheVariants as ki
 use Rattle.ac_names.specs.Kinds.{is_other, is_undeclared, either, both}
 use Rattle.ac_names.specs.Scopes.{Declaration, in_scope, visible}
 use Rattle.ac_names.specs.Items.{kinds_in, param_at, param_named, params_named, function_names, past_after, past_all, no_past, whole, outermost}
@@ -26,6 +27,7 @@ use Rattle.ac_types.specs.Nodes.{Node}
 use Rattle.ac_types.specs.Expressions.{one_node, join_nodes}
 use Rattle.ac_types.specs.Statements.{stmt_nodes, body_gives}
 use Rattle.ac_types.specs.Items.{tables_of, core_tests, link_tests, is_no_entry, is_capacity, is_same_core, reached_in, around_of, params_give, function_nodes, item_gives, items_give, program_nodes}
+use Rattle.ac_types.specs.Judged.{lacks_one}
 use Rattle.ac_types.specs.Reached.{BreaksNone}
 use Rattle.ac_types.proofs.Cleans.{AllClean, clean_program, clean_sooner, clean_later, not_false}
 use Rattle.ac_commands.specs.declared.program.Function.{Function}
@@ -41,7 +43,7 @@ use Rattle.ac_resolve.specs.InPlace.{Use, AsInt, AsReference, use_of, FrameRound
 use Rattle.ac_resolve.proofs.Uses.{uses_in, body_uses, own_body}
 use Rattle.ac_resolve.proofs.Stretches.{Hold, Stands, whole_stands, stands_sooner, stands_later, hold_one}
 use Rattle.ac_resolve.proofs.Within.{IsWithin, AllWithin, within_declared, reached_here}
-use Rattle.ac_resolve.proofs.ValuesInPlace.{AreClean}
+use Rattle.ac_resolve.proofs.ValuesInPlace.{AreClean, asked_true}
 use Rattle.ac_resolve.proofs.BodiesInPlace.{entries_do}
 use Rattle.ac_resolve.proofs.ItemsInPlace.{told_first, names_mean, slots_more, AreTold, items_there}
 
@@ -148,6 +150,8 @@ module _ (program : Resolved) (t : Tables) where
 
     -- ---- functions
 
+    -- Its parameters have the first slots and its body those after them. So what is round the body is the scope of the parameters within
+    -- the top level, one frame, and no label and no loop; and the statements of the body are in place there.
     function_there : (f : tree.Function) (ts : Texts) (reached : Reached) → AreEntries f.body → AllClean (function_nodes f t s reached)
         → Kept (function_texts f ts) program.texts → IsFunction program (function_in f s ts)
     function_there f ts reached g c kept =
@@ -263,9 +267,12 @@ module _ (program : Resolved) (t : Tables) where
     channel_there : (before : Option Meaning) (from to : List ℕ) (cap : ℤ) (channels : ℕ) → AreClean (link_tests before (visible from s) (visible to s) cap channels)
         → IsChannel program (record { from = core_of (visible from s); to = core_of (visible to s); capacity = capacity_size cap })
     channel_there before from to cap channels c =
-        let one = end_there (visible from s) (all_there [] from) (λ e. c 2 (inr (inl (refl, first_true _ _ e)))) (λ e. c 4 (inr (inr (inl (refl, first_true _ _ e))))) in
-        let two = end_there (visible to s) (all_there [] to) (λ e. c 2 (inr (inl (refl, second_true (is_undeclared (visible from s)) _ e))))
-        (λ e. c 4 (inr (inr (inl (refl, second_true (is_other ki.Core (visible from s)) _ e))))) in
+        let known : lacks_one (visible from s) (visible to s) ≡ true → ⊥ = λ e. c 2 (inr (inl (refl, e))) in
+        let fitting : either (is_other ki.Core (visible from s)) (is_other ki.Core (visible to s)) ≡ true → ⊥ =
+        λ e. c 4 (inr (inr (inl (refl, asked_true (lacks_one (visible from s) (visible to s)) _ known e)))) in
+        let one = end_there (visible from s) (all_there [] from) (λ e. known (first_true _ _ e)) (λ e. fitting (first_true _ _ e)) in
+        let two = end_there (visible to s) (all_there [] to) (λ e. known (second_true (is_undeclared (visible from s)) _ e))
+        (λ e. fitting (second_true (is_other ki.Core (visible from s)) _ e)) in
         let fits = capacity_fits cap
         (not_false (is_capacity cap) (λ e. c 14 (inr (inr (inr (inl (refl, second_true (is_same_core (visible from s) (visible to s)) _ (first_true _ _ e)))))))) in
         record {

@@ -1,4 +1,5 @@
--- What statements take of slots and texts, by what they weigh.
+-- What statements take of slots and texts, by what they weigh: one text for a print, which weighs more than that, and slots as in the
+-- crate of names. A whole weighs more than its parts together, so what is left after one part is enough for the next.
 use Rattle.std.proofs.Common.{◌≡◌, ℕ, ◌+◌, ◌*◌, ◌<◌, ◌≤◌, List, [], ◌∷◌, ◌++◌, length, map, Option, Some, None, sym, ap, ◌∙◌, length-append, append_assoc, arith}
 use Rattle.ac_tree.specs.declared.stmt.Stmt.{Stmt}
 use Rattle.ac_tree.specs.declared.stmt.Stmt.TheFolds.{fold-roll-Stmt, ind-Stmt, map-Stmt}
@@ -39,6 +40,7 @@ weight_layer y = stmt_weigh (map-Stmt Stmt ℕ stmt_weight (map-Stmt Stmt_ Stmt 
 more : (m n : ℕ) → m ≤ m + n
 more m n = omega arith
 
+-- by the form: a print adds one text, which it outweighs, and the texts of parts that follow one another add up
 texts_layer : (y : Stmt-F Stmt_) (ts : Texts) → length ((told_layer y).texts ts) ≤ length ts + weight_layer y
 texts_layer (Stmt-F.Block at body) ts = let h = texts_few body ts in omega (arith, h)
 texts_layer (Stmt-F.Empty at) ts = more _ _

@@ -1,4 +1,5 @@
--- A walk after a scope, and after a statement of a list.
+-- A walk after a scope, and after a statement of a list. The states between opening, going through and closing are put for one another;
+-- a scope that is closed leaves only its slots and texts.
 use Rattle.std.proofs.Common.{◌≡◌, ℕ, List, [], ◌∷◌, sym, ap, ◌∙◌}
 use Rattle.ac_tree.specs.declared.stmt.Stmt.{Stmt}
 use Rattle.ac_names.specs.declared.names.Names.{Names}

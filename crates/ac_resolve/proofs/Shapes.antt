@@ -1,4 +1,5 @@
--- What a statement declares and the slots that it takes do not depend on what is told of it.
+-- What a statement declares and the slots that it takes do not depend on what is told of it: by induction on the statement, with one line
+-- for each form.
 use Rattle.std.proofs.Common.{◌≡◌, ℕ, ◌+◌, List, [], ◌∷◌, map, Some, None, refl, sym, ap, ◌∙◌}
 use Rattle.ac_tree.specs.declared.stmt.Stmt.{Stmt}
 use Rattle.ac_tree.specs.declared.stmt.Stmt.TheFolds.{fold-roll-Stmt, ind-Stmt, map-Stmt}

@@ -1,4 +1,5 @@
--- Stretches of the table of a frame, which says what each of its slots holds.
+-- Stretches of the table of a frame, which says what each of its slots holds. A table that goes on with two parts goes on with the first
+-- here and with the second after it, so each statement gets the stretch of its own slots.
 use Rattle.std.proofs.Common.{◌≡◌, ℕ, zero, suc, ◌+◌, ◌-◌, ◌<◌, ◌≤◌, List, [], ◌∷◌, ◌++◌, length, Some, refl, ap, ◌∙◌, length-append, arith}
 use Rattle.std.specs.Prelude.{slice_get}
 use Rattle.ac_resolve.specs.InPlace.{Use, AsInt}

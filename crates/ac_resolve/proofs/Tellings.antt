@@ -1,4 +1,5 @@
--- What a statement declares, takes and prints, by its commands and by the rules.
+-- What a statement declares, takes and prints, by its commands and by the rules: both tell the same of its names and slots, by induction on
+-- the statement. Texts are only added at the end, so a text keeps its number.
 use Rattle.std.proofs.Common.{◌≡◌, ℕ, zero, suc, ◌+◌, ◌≤◌, List, [], ◌∷◌, ◌++◌, length, map, Option, Some, None, refl, sym, ap, ◌∙◌, subst, arith}
 use Rattle.std.specs.Prelude.{slice_get}
 use Rattle.ac_tree.specs.declared.stmt.Stmt.{Stmt}

@@ -1,4 +1,5 @@
--- What the slots that a statement takes hold, in the order in which they are given.
+-- What the slots that a statement takes hold, in the order in which they are given: a list by the form of the statement. It is as long as
+-- the slots that are taken, and the slots of a declaration hold what it declares, by induction on the statement.
 use Rattle.std.proofs.Common.{◌≡◌, ℕ, zero, suc, ◌+◌, List, [], ◌∷◌, ◌++◌, length, map, Option, Some, None, refl, sym, ap, ◌∙◌, subst, length-append, arith}
 use Rattle.std.specs.Prelude.{option_map}
 use Rattle.ac_tree.specs.declared.stmt.Stmt.{Stmt}

@@ -1,7 +1,8 @@
--- Expressions that break no rule name only what is there.
+-- Expressions that break no rule name only what is there. What a visible name means is there; that the node breaks no rule says that it is
+-- declared and of the kind that is wanted; so it is what its place needs. Then by induction on the shape of the expression.
 use Rattle.std.proofs.Common.{◌≡◌, ℕ, ◌+◌, ◌-◌, ◌<◌, ◌≤◌, pos, List, [], ◌∷◌, ◌++◌, length, map, Option}
 use Rattle.std.proofs.Common.{Some, None, Bool, true, false, inl, inr, refl, sym, ap, ◌∙◌, subst, length-append, arith}
-use Rattle.std.specs.Prelude.{nat_eq, slice_get}
+use Rattle.std.specs.Prelude.{nat_eq, not, slice_get}
 use Rattle.std.proofs.lemmas.Bool.Decides.{nat_tests}
 use Rattle.std.proofs.lemmas.Option.{slice_get_within}
 use Rattle.ac_tree.specs.declared.expr.Expr.{Expr}
@@ -12,8 +13,8 @@ use Rattle.ac_tree.specs.Shape.{IsExpr, AreLinks as LinksShaped, IsPlace as Plac
 use Rattle.ac_tree.proofs.Folds.{link_folds}
 use Rattle.ac_names.specs.declared.meaning.Meaning.{Meaning}
 use Rattle.ac_names.specs.declared.meaning.Meaning.TheVariants as m
-use Rattle.ac_names.specs.declared.kind.Kind.TheVariants as ki
-use Rattle.ac_names.specs.Kinds.{is_other, is_undeclared, either}
+use Rattle.ac_names.specs.declared.kind.NameKind.TheVariants as ki
+use Rattle.ac_names.specs.Kinds.{is_other, is_undeclared, either, both}
 use Rattle.ac_names.specs.Scopes.{Declaration, visible}
 use Rattle.ac_types.specs.declared.around.Around.{Around}
 use Rattle.ac_types.specs.declared.around.Position.{Position}
@@ -23,7 +24,7 @@ use Rattle.ac_types.specs.declared.numbered.Tables.{Tables}
 use Rattle.ac_types.specs.Around.{is_array_position, position_of}
 use Rattle.ac_types.specs.Tables.{callee, callee_of, takes_array, is_array_in}
 use Rattle.ac_types.specs.Nodes.{Node}
-use Rattle.ac_types.specs.Judged.{Tests, is_misplaced, is_miscounted, name_tests, index_tests, call_tests, channel_tests, file_tests}
+use Rattle.ac_types.specs.Judged.{Tests, lacks_one, is_misplaced, is_miscounted, name_tests, index_tests, call_tests, channel_tests, file_tests}
 use Rattle.ac_types.specs.Expressions.{one_node, join_nodes, expr_nodes, links_step, args_step, values_all, value_all}
 use Rattle.ac_types.specs.Reached.{IsBrokenRule}
 use Rattle.ac_types.proofs.Cleans.{AllClean, clean_sooner, clean_later, not_false}
@@ -64,6 +65,11 @@ misplaced o po.Array h = cc
 second_true : (a b : Bool) → b ≡ true → either a b ≡ true
 second_true true b h = refl
 second_true false b h = h
+
+-- where nothing is missing, what is asked is answered
+pub asked_true : (b x : Bool) → (b ≡ true → ⊥) → x ≡ true → both (not b) x ≡ true
+asked_true true x h e = absurd (h refl)
+asked_true false x h e = e
 
 -- ---- what a name means where it stands
 
@@ -226,6 +232,11 @@ module _ (program : Resolved) (t : Tables) (r : Round) (a : Around) (scopes : Li
   array_place : {b : Bool} → b ≡ true → is_array_position (position_of b) ≡ true
   array_place e = ap (λ z. is_array_position (position_of z)) e
 
+  -- both names of an operation on a file are declared, and one is of another kind
+  abbrev unfit_file : List ℕ → List ℕ → Bool
+  unfit_file file array = both (not (lacks_one (visible file scopes) (visible array scopes)))
+      (either (is_other ki.File (visible file scopes)) (is_other ki.Array (visible array scopes)))
+
   call_argument : (b : Bool) (x : Expr) → IsCall x → AsValue x → AllClean (expr_nodes x t scopes a (position_of b)) → IsValue program r (want_of b) (argument_in x scopes a.depth)
   call_argument b _ (shape.function_call at name args gs) v c =
       plain_argument b _ v (expr_reads _ (expr.rolls-Call at name args)) refl
@@ -242,11 +253,11 @@ module _ (program : Resolved) (t : Tables) (r : Round) (a : Around) (scopes : Li
   call_argument b _ (shape.read at file from len array g h) v c =
       plain_argument b _ v (expr_reads _ (expr.rolls-Read at file from len array)) refl
       (λ e. (clean_as (position_of b) (expr_is _ (expr.rolls-Read at file from len array)) c).0 4
-      (inr (inl (refl, second_true (is_other ki.File (visible file scopes)) _ (second_true (is_other ki.Array (visible array scopes)) _ (array_place e)))))) c
+      (inr (inl (refl, second_true (unfit_file file array) _ (array_place e))))) c
   call_argument b _ (shape.write at file from len array g h) v c =
       plain_argument b _ v (expr_reads _ (expr.rolls-Write at file from len array)) refl
       (λ e. (clean_as (position_of b) (expr_is _ (expr.rolls-Write at file from len array)) c).0 4
-      (inr (inl (refl, second_true (is_other ki.File (visible file scopes)) _ (second_true (is_other ki.Array (visible array scopes)) _ (array_place e)))))) c
+      (inr (inl (refl, second_true (unfit_file file array) _ (array_place e))))) c
 
   argument_at : (b : Bool) (x : Expr) → IsExpr x → AsValue x → AllClean (expr_nodes x t scopes a (position_of b)) → IsValue program r (want_of b) (argument_in x scopes a.depth)
   argument_at b _ (shape.number at value) v c =
@@ -304,12 +315,14 @@ module _ (program : Resolved) (t : Tables) (r : Round) (a : Around) (scopes : Li
 
   file_used : (o array : Option Meaning) (w : Position) → AllOf program t r a.depth o → AreClean (file_tests o array a w) → file_of o < length program.files
   file_used o array w h c =
-      file_there program t r a.depth o h (λ e. c 4 (inr (inl (refl, first_true _ _ e)))) (λ e. c 2 (inl (refl, first_true _ _ (declared e))))
+      file_there program t r a.depth o h
+      (λ e. c 4 (inr (inl (refl, first_true _ _ (asked_true (lacks_one o array) _ (λ k. c 2 (inl (refl, k))) (first_true _ _ e))))))
+      (λ e. c 2 (inl (refl, first_true _ _ (declared e))))
 
   array_used : (file o : Option Meaning) (w : Position) → AllOf program t r a.depth o → AreClean (file_tests file o a w) → IsArray program r (array_of o a.depth)
   array_used file o w h c =
       array_there program t r a.depth o h
-      (λ e. c 4 (inr (inl (refl, second_true (is_other ki.File file) _ (first_true _ _ e)))))
+      (λ e. c 4 (inr (inl (refl, first_true _ _ (asked_true (lacks_one file o) _ (λ k. c 2 (inl (refl, k))) (second_true (is_other ki.File file) _ e))))))
       (λ e. c 2 (inl (refl, second_true (is_undeclared file) _ (declared e))))
 
   one : {want : Want} {x : Value} → IsValue program r want x → AreOperands program r (want ∷ []) (x ∷ [])
@@ -381,6 +394,7 @@ module _ (program : Resolved) (t : Tables) (r : Round) (a : Around) (scopes : Li
         (argument_at b x g (λ k. value_at po.Value refl x g k) (subst (λ z. AllClean (expr_nodes x t scopes a (position_of z))) s.0 (clean_sooner left right c)))
         (arguments_at function xs gs (n + 1) bs s.1 (omega (arith, e)) (clean_later left right c))
 
+    -- a call by the function that its name means and as many arguments; an operation by the channel or the file, and its operands one by one
     call_at : (w : Position) (x : Expr) → IsCall x → AllClean (expr_nodes x t scopes a w) → IsValue program r AnInt (value_in x scopes a.depth)
     call_at w _ (shape.function_call at name args gs) c =
         let k = clean_as w (expr_is _ (expr.rolls-Call at name args)) c in

@@ -1,4 +1,5 @@
--- What visible names mean is there.
+-- What visible names mean is there: a slot of a frame round the place or of the globals, an item of the program. It holds at the top level
+-- and after each declaration, and stays so in a block, and one level further out in an async body.
 use Rattle.std.proofs.Common.{◌≡◌, ℕ, zero, suc, ◌+◌, ◌-◌, ◌<◌, ◌≤◌, ◌⊎◌, inl, inr, Bool, true, false, List, [], ◌∷◌, length, Some, refl, subst, sym, arith}
 use Rattle.std.specs.Prelude.{nat_eq, slice_get, ◌||◌}
 use Rattle.std.proofs.lemmas.Bool.Decides.{nat_tests}

@@ -1,4 +1,7 @@
 -- A pending expression written from its open place outwards, and its meaning from there.
+-- The meaning keeps what is round an open place as a list, innermost first. Here the expression is written out again round that place
+-- (`filled`), and what goes on from inside is what the whole of it comes to: a law that checks the definition of `resumes`, by induction on
+-- what is round the place.
 use Rattle.std.proofs.Common.{◌≡◌, List, [], ◌∷◌, sym, ◌∙◌}
 use Rattle.work_item.specs.declared.ids.FrameId.{FrameId}
 use Rattle.work_item.specs.declared.cell.Cell.{Cell}

@@ -1,4 +1,6 @@
 -- Cancelled blocks: what a cancel tries and leaves, an operation that starts after it, and a program whose core cancels before it sends.
+-- The thread 0 cancels a block within which the thread 1 waits and the thread 2 does not: what only its core knows is cancelled at once, an
+-- offer takes the next entry as its outcome, and without one the run stops there.
 use Rattle.std.proofs.Common.{◌≡◌, refl, sym, ℕ, ℤ, pos, List, [], ◌∷◌, Option, None, Some, Bool, true, false}
 use Rattle.std.specs.Prelude.{negsuc}
 use Rattle.ac_base.specs.declared.ends.EndWord.TheVariants.{Finished, Stalled}

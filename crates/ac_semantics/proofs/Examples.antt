@@ -1,4 +1,5 @@
 -- Values of expressions and where they stop, and runs of small programs.
+-- Expressions are folds and do not compute, so their values go by the laws of Forms; runs are then followed move by move.
 use Rattle.std.proofs.Common.{◌≡◌, refl, sym, ap, ◌∙◌, ℕ, ℤ, pos, List, [], ◌∷◌, codes, Option, None, Some, true, false, arith}
 use Rattle.std.specs.Prelude.{negsuc}
 use Rattle.std.proofs.lemmas.Fmt.{decimal_digit}
@@ -28,7 +29,7 @@ use Rattle.ac_commands.specs.declared.command.Command.TheVariants as c
 use Rattle.ac_commands.specs.declared.command.Command.TheOpen.{Command-F}
 use Rattle.ac_commands.specs.declared.program.Function.{Function}
 use Rattle.ac_commands.specs.declared.program.Resolved.{Resolved}
-use Rattle.ac_semantics.specs.Evaluation.{Acting, Ending, Context, First, Right, Operands, Outcome, Comes, Traps, Stops, comes_int, goes, resumes}
+use Rattle.ac_semantics.specs.Evaluation.{Acting, Ending, Context, First, Right, Operands, Evaluated, Comes, Traps, Stops, comes_int, goes, resumes}
 use Rattle.ac_semantics.specs.Statements.{finish, finish_form}
 use Rattle.ac_semantics.specs.Held.{Held}
 use Rattle.ac_semantics.specs.Work.{Work}
@@ -47,7 +48,7 @@ joins x op y = v.Chain x (link op y ∷ [])
 
 -- ---- values, whatever is round them
 
-abbrev pub value : Store → Value → List Context → Outcome
+abbrev pub value : Store → Value → List Context → Evaluated
 value s x around = goes s first_frame x around
 
 -- 1+2*3

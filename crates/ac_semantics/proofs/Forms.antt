@@ -1,4 +1,6 @@
 -- What an expression comes to, by its form: a fold does not compute, and beside its meaning it gives the expression itself.
+-- The fold gives for each part both the part and its meaning; that the part which it gives is the part itself (`told_is`, by induction on
+-- the expression) turns the fold's step into one equation for each form.
 use Rattle.std.proofs.Common.{◌≡◌, refl, sym, ap, ◌∙◌, subst, List, [], ◌∷◌, map}
 use Rattle.std.specs.Prelude.{ℤ}
 use Rattle.work_item.specs.declared.ids.FrameId.{FrameId}
@@ -12,17 +14,17 @@ use Rattle.ac_commands.specs.declared.value.Value.{Value, roll-Value, map-Value,
 use Rattle.ac_commands.specs.declared.value.Value.TheVariants as v
 use Rattle.ac_commands.specs.declared.value.Value.TheOpen.{Value-F, ValueLink-F}
 use Rattle.ac_commands.specs.declared.value.ValueLink.{ValueLink, fold-roll-ValueLink}
-use Rattle.ac_semantics.specs.Evaluation.{variable, reference, array, Head, Acting, Context, ElementAt, PartAt, Operand, First, Right, Operands, Outcome, Comes, Traps, Stops, comes_int}
+use Rattle.ac_semantics.specs.Evaluation.{variable, reference, array, Head, Acting, Context, ElementAt, PartAt, Operand, First, Right, Operands, Evaluated, Comes, Traps, Stops, comes_int}
 use Rattle.ac_semantics.specs.Evaluation.{then_goes, Told, LinkTold, Goes, link_in, unless_decided, chained, told_step, link_step, told, link_told, goes, chain_goes, row_goes, gives}
 
 -- ---- outcomes
 
-pub then_then : (o : Outcome) (f g : Cell → Outcome) → then_goes (then_goes o f) g ≡ then_goes o (λ x. then_goes (f x) g)
+pub then_then : (o : Evaluated) (f g : Cell → Evaluated) → then_goes (then_goes o f) g ≡ then_goes o (λ x. then_goes (f x) g)
 then_then (Comes x) f g = refl
 then_then (Traps trap) f g = refl
 then_then (Stops head operands around) f g = refl
 
-pub then_itself : (o : Outcome) → then_goes o Comes ≡ o
+pub then_itself : (o : Evaluated) → then_goes o Comes ≡ o
 then_itself (Comes x) = refl
 then_itself (Traps trap) = refl
 then_itself (Stops head operands around) = refl

@@ -1,4 +1,6 @@
 -- Operations that start and end, and a short program that sends 5 on channel 0.
+-- A thread starts a send and stops; an entry of the journal ends it, and the thread goes on with its value. Without the entry the core
+-- waits.
 use Rattle.std.proofs.Common.{◌≡◌, refl, sym, ℕ, pos, List, [], ◌∷◌, codes, Option, None, Some, true, false}
 use Rattle.ac_base.specs.declared.ends.EndWord.TheVariants.{Finished, Stalled}
 use Rattle.ac_base.specs.declared.ends.CoreEnd.{CoreEnd}

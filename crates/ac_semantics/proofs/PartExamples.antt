@@ -1,4 +1,6 @@
 -- What expressions, statements and moves of a core are made of, at small values.
+-- Each definition of which the meaning is made stands here with its cases: values, what is held, statements, work, threads, and then the
+-- wholes of these.
 use Rattle.std.proofs.Common.{◌≡◌, refl, ap, ℕ, pos, List, [], ◌∷◌, None, Some, Bool, true, false, codes}
 use Rattle.std.specs.Prelude.{negsuc, Ok, Err}
 use Rattle.ac_base.specs.declared.ends.CoreEnd.{CoreEnd}
@@ -25,7 +27,7 @@ use Rattle.ac_commands.specs.declared.command.Target.TheVariants as t
 use Rattle.ac_commands.specs.declared.command.Command.{Command, out-Command}
 use Rattle.ac_commands.specs.declared.command.Command.TheVariants as c
 use Rattle.ac_commands.specs.declared.command.Command.TheOpen.{Command-F}
-use Rattle.ac_semantics.specs.Evaluation.{Acting, Ending, ElementAt, Outcome, Comes, Traps, Stops, operate, then_goes, then_int, then_part, comes_int}
+use Rattle.ac_semantics.specs.Evaluation.{Acting, Ending, ElementAt, Evaluated, Comes, Traps, Stops, operate, then_goes, then_int, then_part, comes_int}
 use Rattle.ac_semantics.specs.Evaluation.{Operand, unary, variable, reference, array, gives, told}
 use Rattle.ac_semantics.specs.Evaluation.{Told, LinkTold, link_in, unless_decided, chained, row, goes_step, told_step, link_step, link_told, chain_goes, row_goes}
 use Rattle.ac_semantics.specs.Held.{Held, with_shared, with_store, stepped, turned, seen_of, entered}
@@ -55,7 +57,7 @@ pub operators_on_numbers : operate b.Sub (pos 1) (pos 3) ∷ operate b.More (pos
 operators_on_numbers = refl
 
 -- only what comes goes on
-abbrev pub twice : Cell → Outcome
+abbrev pub twice : Cell → Evaluated
 twice x = Stops Ending (x ∷ x ∷ []) []
 
 pub what_comes_goes_on : then_goes (Comes (int 3)) twice ∷ then_goes (Traps Index) twice ∷ then_goes (Stops Ending [] []) twice ∷ []
@@ -70,7 +72,7 @@ pub what_is_computed_comes : then_int (Ok (pos 3)) comes_int ∷ then_int (Err I
 what_is_computed_comes = refl
 
 -- the left operand decides `||` where it is not 0, and `&&` where it is
-abbrev pub decided : List Outcome
+abbrev pub decided : List Evaluated
 decided = unless_decided b.Or (pos 2) comes_int (Traps Index) ∷ unless_decided b.Or (pos 0) comes_int (Traps Index) ∷ unless_decided b.And (pos 0) comes_int (Traps Index)
     ∷ unless_decided b.And (pos 2) comes_int (Traps Index) ∷ unless_decided b.Add (pos 0) comes_int (Traps Index) ∷ []
 

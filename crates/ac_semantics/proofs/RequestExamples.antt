@@ -1,4 +1,6 @@
 -- Reads and writes of files: they start on the core's own link, which is 2 here, and end by an answer.
+-- A statement with a right range asks for its bytes and one with a wrong range traps; a request begins, is answered, or is cancelled where
+-- it has not begun.
 use Rattle.std.proofs.Common.{◌≡◌, refl, ℕ, pos, negsuc, List, [], ◌∷◌, true, false}
 use Rattle.std.specs.Prelude.{Ok, Err}
 use Rattle.ac_base.specs.declared.ends.Trap.TheVariants.{FileRange}

@@ -88,30 +88,30 @@ pub data Context : Type 0 where
   Operands : Head → List Cell → List Value → Context
 
 -- what an expression comes to, or a row of operands: a stop is at a head, with its operands, of which the last is the first
-pub data Outcome : Type 0 where
-  Comes : Cell → Outcome
-  Traps : Trap → Outcome
-  Stops : Head → List Cell → List Context → Outcome
+pub data Evaluated : Type 0 where
+  Comes : Cell → Evaluated
+  Traps : Trap → Evaluated
+  Stops : Head → List Cell → List Context → Evaluated
 
-abbrev pub then_goes : Outcome → (Cell → Outcome) → Outcome
+abbrev pub then_goes : Evaluated → (Cell → Evaluated) → Evaluated
 then_goes (Comes x) f = f x
 then_goes (Traps trap) f = Traps trap
 then_goes (Stops head operands around) f = Stops head operands around
 
-abbrev pub then_int : Computed → (ℤ → Outcome) → Outcome
+abbrev pub then_int : Computed → (ℤ → Evaluated) → Evaluated
 then_int (Ok x) f = f x
 then_int (Err trap) f = Traps trap
 
-abbrev pub comes_int : ℤ → Outcome
+abbrev pub comes_int : ℤ → Evaluated
 comes_int x = Comes (c.Int x)
 
-abbrev pub then_part : Result cells.Place Trap → Outcome
+abbrev pub then_part : Result cells.Place Trap → Evaluated
 then_part (Ok place) = Comes (c.Array place)
 then_part (Err trap) = Traps trap
 
 -- an expression in a state, by what is round it
 abbrev pub Goes : Type 0
-Goes = List Context → Outcome
+Goes = List Context → Evaluated
 
 -- an expression or a right operand, beside what it comes to
 abbrev pub Told : Type 0
@@ -124,7 +124,7 @@ abbrev pub link_in : LinkTold → ValueLink
 link_in l = record { op = l.0; operand = l.1.0 }
 
 -- the left operand of `||` and `&&` may decide alone
-abbrev pub unless_decided : BinaryOp → ℤ → (ℤ → Outcome) → Outcome → Outcome
+abbrev pub unless_decided : BinaryOp → ℤ → (ℤ → Evaluated) → Evaluated → Evaluated
 unless_decided b.Or x decided right = at_zero x right (decided (pos 1))
 unless_decided b.And x decided right = at_zero x (decided (pos 0)) right
 unless_decided op x decided right = right
@@ -189,6 +189,6 @@ gives s frame (Right x op rest) y around = then_int (operate op x (int_in y)) (�
 gives s frame (Operands head operands rest) v around = row_goes s frame head (v ∷ operands) rest around
 
 -- what has stopped, with a cell in its open place, in the state of this moment
-abbrev pub resumes : Store → FrameId → List Context → Cell → Outcome
+abbrev pub resumes : Store → FrameId → List Context → Cell → Evaluated
 resumes s frame [] v = Comes v
 resumes s frame (x ∷ around) v = then_goes (gives s frame x v around) (λ w. resumes s frame around w)

@@ -26,7 +26,7 @@ use Rattle.ac_commands.specs.declared.command.Command.{Command, out-Command}
 use Rattle.ac_commands.specs.declared.command.Command.TheOpen.{Command-F}
 use Rattle.ac_commands.specs.declared.program.Function.{Function}
 use Rattle.ac_commands.specs.declared.program.Resolved.{Resolved}
-use Rattle.ac_semantics.specs.Evaluation.{Acting, Ending, Context, Outcome, Comes, Traps, Stops, row_goes, resumes}
+use Rattle.ac_semantics.specs.Evaluation.{Acting, Ending, Context, Evaluated, Comes, Traps, Stops, row_goes, resumes}
 use Rattle.ac_semantics.specs.Held.{Held, with_shared, with_store, stepped, next_block, entered}
 use Rattle.ac_semantics.specs.Work.{Work, Do, Pend, Given, CallOff, Turn, Close, Back, Leave, End}
 use Rattle.ac_semantics.specs.Work.{before, ahead, past_loop, at_turn, given}
@@ -175,7 +175,7 @@ length_operand operands = int_in (last_of (before_last operands))
 -- ---- statements
 
 -- a statement goes on with what its operands come to
-abbrev pub settles : Resolved → Command → FrameId → List Work → Held → Outcome → Next
+abbrev pub settles : Resolved → Command → FrameId → List Work → Held → Evaluated → Next
 settles program command frame ws s (Comes value) = Stays
 settles program command frame ws s (Traps trap) = Ends (word.Trapped trap) s
 settles program command frame ws s (Stops Ending operands around) = finish program command operands frame ws s

@@ -1,4 +1,7 @@
 -- The code of a program has the same runs as the program.
+-- The theorem of the crate. Both begin alike: globals, the request link, and the function of the core, which stands in the code
+-- (Functions). From there the machine follows the core (Cores), so that by the simulation theorem of `core_state` they come to the same
+-- ends.
 use Rattle.std.proofs.Common.{◌≡◌, ℕ, zero, suc, ◌+◌, List, [], ◌∷◌, map, replicate, Option, Some, None, true, refl, sym, ap, ◌∙◌, subst, ◌↔◌}
 use Rattle.std.specs.Prelude.{slice_get, slice_set, ℤ, pos}
 use Rattle.std.proofs.lemmas.List.{length-map}

@@ -1,4 +1,6 @@
 -- An entry that comes in, and what it leaves of a core and of its machine.
+-- Both hold the same operations, so the same entry comes in and makes the same of them. What is left to show is who waits: an operation
+-- that ends is taken from those for which its thread is counted, and the thread comes to the ready ones in both.
 use Rattle.std.proofs.Common.{◌≡◌, ℕ, ◌+◌, ◌<◌, List, [], ◌∷◌, ◌++◌, length, set, Option, Some, None, Bool, true, false, inl, inr, refl, sym, ap, ◌∙◌, subst, arith}
 use Rattle.std.specs.Prelude.{ℤ, find, nat_eq, if◌then◌else◌}
 use Rattle.std.proofs.lemmas.List.{length-set}

@@ -1,4 +1,8 @@
--- What holds of threads and blocks, and that a block's count of the threads started directly in it is 0 just where no thread within it lives.
+-- What holds of threads and blocks, and that a block's count of the threads started directly in it is 0 just where no thread within it
+-- lives.
+-- The source asks whether any thread within the block lives, the machine reads a count. `Good` joins them: each living thread was started
+-- where a living thread stands, a block is entered once, and blocks lie in older ones. The hard part is `direct_lives`: from a living
+-- thread within the block one climbs, owner by owner, to one started directly in it.
 use Rattle.std.proofs.Common.{◌≡◌, ◌≢◌, ℕ, zero, suc, ◌+◌, ◌<◌, ◌≤◌, List, [], ◌∷◌, ◌++◌, length, get_or, set, Bool, true}
 use Rattle.std.proofs.Common.{false, inl, inr, refl, sym, ap, ◌∙◌, subst, arith, length-append, nat_eq, if◌then◌else◌}
 use Rattle.std.specs.Prelude.{not, ◌&&◌}

@@ -1,4 +1,6 @@
 -- Calls, operations, and what calls give back.
+-- The operands stand on the machine's stack in their order. A call makes the same frame in both, and the machine's callers are the waiting
+-- statements of the source; a return drops what is left of the call.
 use Rattle.std.proofs.Common.{◌≡◌, ℕ, ◌+◌, ◌≤◌, List, [], ◌∷◌, ◌++◌, length, Option, Some, None, true, false, refl, sym, ap, ◌∙◌, subst, arith, length-append}
 use Rattle.std.specs.Prelude.{slice_get, nat_le, reverse, Result, Ok, Err}
 use Rattle.std.proofs.Math.Seq.{take-append_seam, drop-append_seam}
@@ -69,6 +71,8 @@ module _ (code : Parts) (program : Resolved) (same : IsCodeOf code program) (fin
   lands_in s place ws scope b d = lands s place [] ws b (works scope d)
 
   -- the new frame is made, and the function is entered
+  -- There is room for the frame in both or in neither; then the body stands at the function's first address, with the caller on top of its
+  -- callers.
   enters_follow : (f : Function) (e : Entered) (number count : ℕ) (x : Command) (around : List Context) (ws : List Work) (s : Held) (place : ℕ) (values below : List Cell) → Born s →
       EntersAt code.instrs f e → are_well_formed f.body in_function ≡ true → slice_get code.instrs place ≡ Some (i.Call number count) → slice_get code.functions number ≡ Some e →
       count ≡ length values → Sleeps code.instrs a.activation (place + 1) below (Pend a.activation.frame x around ∷ ws) →

@@ -1,4 +1,6 @@
 -- A thread cancels a block: in the source and in the machine the same operation is tried, and with the same outcome.
+-- Who is inside is told by the blocks round a thread, which both tell alike (Paths), so the first operation to try is the same. It ends in
+-- both by the same entry, or waits on, and the cancel is looked at again.
 use Rattle.std.proofs.Common.{◌≡◌, ◌≢◌, ℕ, zero, suc, ◌+◌, ◌<◌, ◌≤◌, List, [], ◌∷◌, ◌++◌, set, Option, Some, None, Bool, true, false, refl, sym, ap, ◌∙◌, subst, arith}
 use Rattle.std.specs.Prelude.{find, slice_get, nat_eq, not, ◌&&◌, if◌then◌else◌}
 use Rattle.std.specs.List.{list_any}
@@ -17,7 +19,7 @@ use Rattle.core_state.specs.Moves.{On}
 use Rattle.core_state.specs.Frames.{block_in}
 use Rattle.core_state.specs.Shared.{Shared, with_entry}
 use Rattle.core_state.specs.Arrivals.{Arrival, goes_on_waiting, has_ended, has_ended_as, cancelled}
-use Rattle.core_state.specs.Cancelling.{Outcome, NeverHappens, IsTaken, by_outcome, outcome, is_to_try}
+use Rattle.core_state.specs.Cancelling.{Fate, NeverHappens, IsTaken, by_outcome, outcome, is_to_try}
 use Rattle.ac_semantics.specs.Held.{Held, with_mark, seen_of}
 use Rattle.ac_semantics.specs.Work.{Work, closes, given}
 use Rattle.ac_semantics.specs.Statements.{Cancels}
@@ -188,7 +190,7 @@ module _ (code : Parts) (bound : ℕ) (s0 : Held) (t : Item) (ws : List Work) (r
     change_same k = change_agrees s.operations (tests_there k) tests (tried_alike k) as_begun s.operations (λ u. omega arith)
 
     -- both make the same of the operation that is tried
-    outcome_same : (o : Operation) (it : Outcome) (k : ℕ) → by_outcome it s.store (tests_there k) s.operations o ≡ by_outcome it s.store tests s.operations o
+    outcome_same : (o : Operation) (it : Fate) (k : ℕ) → by_outcome it s.store (tests_there k) s.operations o ≡ by_outcome it s.store tests s.operations o
     outcome_same o NeverHappens k = ap (λ os. has_ended_as cancelled s.store os o) (without_same k)
     outcome_same o IsTaken k = go (is_request o.asked)
       where
@@ -266,14 +268,14 @@ module _ (code : Parts) (bound : ℕ) (s0 : Held) (t : Item) (ws : List Work) (r
       stands (Some other) e k = wakes other e k
 
     module _ (o : Operation) (found : find tests s.operations ≡ Some o) where
-      abbrev made : Outcome → Arrival
+      abbrev made : Fate → Arrival
       made it = by_outcome it s.store tests s.operations o
 
-      balance : (it : Outcome) → Balances s.operations (made it)
+      balance : (it : Fate) → Balances s.operations (made it)
       balance NeverHappens = ended_balance cancelled s.store s.operations tests o found
       balance IsTaken = taken_balance s.store s.operations tests o found
 
-      made_follows : (shared : Shared) (it : Outcome) → applied c t (Cancels block s again work) ≡ On (arrived (goes_on c (with_mark s block) again) shared (made it))
+      made_follows : (shared : Shared) (it : Fate) → applied c t (Cancels block s again work) ≡ On (arrived (goes_on c (with_mark s block) again) shared (made it))
           → ((k : ℕ) → begin code bound (m k) t (Some (i.Cancel level slot)) ≡ On (arrives_there (marked (m k) block) shared (by_outcome it s.store (tests_there k) s.operations o)))
           → At
       made_follows shared it here there =
@@ -282,7 +284,7 @@ module _ (code : Parts) (bound : ℕ) (s0 : Held) (t : Item) (ws : List Work) (r
           (λ k. there k ∙ ap (λ y. On (arrives_there (marked (m k) block) shared y)) (outcome_same o it k)) (stands shared (made it) (balance it) (made it).woken refl)
 
       entry_follows : (number : ℕ) → o.progress ≡ Offered number → (y : Entry) (ys : List Entry) → s.shared.todo ≡ y ∷ ys → nat_eq y.turn s.shared.turn ≡ true
-          → (r : Option Outcome) → outcome o.link number y.event ≡ r → At
+          → (r : Option Fate) → outcome o.link number y.event ≡ r → At
       entry_follows number p y ys e now None r =
           ends_follows code bound R a c (i.Cancel level slot) None counted is (rw (found, p, e, now, r) refl) (λ k. rw (find_same k, found, p, e, now, r) refl)
       entry_follows number p y ys e now (Some it) r =

@@ -1,4 +1,6 @@
 -- How what holds of threads and blocks is kept where one thread changes.
+-- `Good` (Blocks) under each kind of change: a thread goes on, enters a block, leaves one in which nobody lives, ends, or is started. Each
+-- is a law on one table that differs from another in one place (Tables).
 use Rattle.std.proofs.Common.{◌≡◌, ◌≢◌, ℕ, ◌+◌, ◌≤◌, List, [], ◌∷◌, ◌++◌, true, false, inl, inr, refl, sym, ap, ◌∙◌, subst, arith}
 use Rattle.std.specs.List.{sum_by}
 use Rattle.std.proofs.lemmas.Bool.{cases_eq}

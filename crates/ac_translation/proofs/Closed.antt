@@ -1,4 +1,6 @@
 -- What each way to make a piece keeps holds of every code.
+-- One induction over values, statements and functions, so that a property of all code (its size, the jumps that it leaves open) is shown by
+-- its seven ways to make a piece.
 use Rattle.std.proofs.Common.{ℕ, ◌+◌, List, [], ◌∷◌, map, Option, Some, None, sym, subst}
 use Rattle.std.specs.Prelude.{pos}
 use Rattle.ac_tree.specs.declared.expr.BinaryOp.{BinaryOp}

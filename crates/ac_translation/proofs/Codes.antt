@@ -1,4 +1,5 @@
 -- The code of an expression, by its form.
+-- A fold does not compute on a whole expression; these equations say what its code is, form by form.
 use Rattle.std.proofs.Common.{◌≡◌, ℤ, List, length, map, sym, ap, ◌∙◌}
 use Rattle.ac_tree.specs.declared.expr.BinaryOp.{BinaryOp}
 use Rattle.ac_commands.specs.declared.value.Array.{Array}

@@ -1,4 +1,6 @@
 -- Where the code stands that does what is round an open place.
+-- What the source keeps as a list of contexts is a place in the code with operands on the stack. `Waits` says by induction on the list
+-- which operands lie below the value, and where the code goes on with it.
 use Rattle.std.proofs.Common.{◌≡◌, ℕ, ◌+◌, ◌≤◌, List, [], ◌∷◌, ◌++◌, length, map, Some, true}
 use Rattle.std.specs.Prelude.{slice_get, ℤ, pos}
 use Rattle.ac_tree.specs.declared.expr.BinaryOp.{BinaryOp}

@@ -1,4 +1,6 @@
 -- A core and the machine that follows it, from their beginning on.
+-- One move of the core by its kind: the running thread's next step (Steps, with `Turns` given by the files on blocks, threads and
+-- operations), a dispatch, or an entry that comes in. Where the source stays where it is for ever, so does the machine (`stuck`).
 use Rattle.std.proofs.Common.{◌≡◌, ◌≢◌, ℕ, zero, suc, ◌-◌, ◌^◌, List, [], ◌∷◌, ◌++◌, set, Option, Some, None, Bool, true, false, refl, sym, ap, ◌∙◌, subst, arith}
 use Rattle.std.specs.Prelude.{ℤ, nat_lt, nat_eq, Result, Ok, Err, if◌then◌else◌}
 use Rattle.std.specs.List.{sum_by}

@@ -1,4 +1,5 @@
 -- The counts of blocks where a thread is started in the innermost one or has ended in it.
+-- One number in one block of the table changes by one; for every block this is the number of threads that were started directly in it.
 use Rattle.std.proofs.Common.{◌≡◌, ◌≢◌, ℕ, ◌+◌, ◌-◌, ◌<◌, List, [], ◌∷◌, length, Option, Some, None, inl, inr, refl, sym, ap, ◌∙◌, subst, arith}
 use Rattle.std.proofs.lemmas.Bool.{cases_eq}
 use Rattle.std.proofs.lemmas.List.{get_or-set_other, length-set}

@@ -1,4 +1,6 @@
 -- A thread ends, and may wake the owner of its block.
+-- In both its frame is given back and it is counted out. The source looks for a finish that may pass, the machine at the count of one
+-- block; that these tell the same is Ends.
 use Rattle.std.proofs.Common.{◌≡◌, ℕ, ◌+◌, ◌-◌, ◌<◌, List, [], ◌∷◌, ◌++◌, length, set, Option, Some, None, Bool, true, false, inl, inr, refl, sym, ap, ◌∙◌, subst, arith, nat_eq}
 use Rattle.std.specs.Prelude.{slice_get, ◌&&◌}
 use Rattle.std.specs.List.{sum_by}

@@ -1,4 +1,6 @@
 -- What the end of a thread leads to.
+-- Only the owner of the block in which it was started may be woken, since no other count has changed: it is woken where it waits and the
+-- count is 0, and else nobody is.
 use Rattle.std.proofs.Common.{◌≡◌, ◌≢◌, ℕ, ◌+◌, ◌<◌, List, [], ◌∷◌, ◌++◌, Some, None, Bool, true, false, inl, inr, refl, sym, ap, ◌∙◌, subst, arith}
 use Rattle.std.specs.List.{sum_by}
 use Rattle.std.proofs.lemmas.Bool.{cases_lt, eqb-true, eq-eqb}

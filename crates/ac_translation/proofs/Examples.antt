@@ -1,4 +1,6 @@
 -- Pieces of code where they stand, and the code of small forms.
+-- Each way to make a piece at an address, with its size and its jumps; then the code of values, statements and functions, instruction by
+-- instruction.
 use Rattle.std.proofs.Common.{◌≡◌, refl, sym, ap, ◌∙◌, ℕ, pos, List, [], ◌∷◌, Some, None, true, false}
 use Rattle.ac_tree.specs.declared.expr.BinaryOp.TheVariants as b
 use Rattle.ac_tree.specs.declared.expr.UnaryOp.TheVariants as u

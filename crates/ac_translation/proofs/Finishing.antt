@@ -1,4 +1,5 @@
 -- A thread arrives at the finish of a block.
+-- It passes in both or waits in both, since the count in the table is 0 just where no thread within the block lives (Tracks).
 use Rattle.std.proofs.Common.{◌≡◌, ℕ, ◌+◌, ◌<◌, List, [], ◌∷◌, ◌++◌, length, set, Option, Some, None, Bool, true, false, refl, sym, ap, ◌∙◌, subst, nat_eq}
 use Rattle.std.specs.Prelude.{slice_get, ◌&&◌}
 use Rattle.std.specs.List.{sum_by}

@@ -1,4 +1,5 @@
 -- Each function of a program stands in its code.
+-- By induction over the functions: each begins where the one before it ended. So numbers mean the same function in both, or none.
 use Rattle.std.proofs.Common.{◌≡◌, ℕ, zero, suc, ◌+◌, List, [], ◌∷◌, Option, Some, None, refl, subst}
 use Rattle.std.specs.Prelude.{slice_get}
 use Rattle.ac_commands.specs.declared.program.Function.{Function}

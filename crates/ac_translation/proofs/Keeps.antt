@@ -1,4 +1,6 @@
 -- What a move of the source wants of the machine, and one instruction of it.
+-- `FollowsAt` and `KeepsAt` say that the machine, wherever the code of some work stands, comes to what the source comes to; the second also
+-- where it need not move. Then one law for each way in which an instruction takes part: it computes, traps, jumps, or changes the machine.
 use Rattle.std.proofs.Common.{◌≡◌, ℕ, ◌+◌, List, [], ◌++◌, Option, Some, refl, sym, ap, ◌∙◌, subst}
 use Rattle.std.specs.Prelude.{slice_get, Result, Ok, Err}
 use Rattle.ac_base.specs.declared.ends.Trap.{Trap}

@@ -1,4 +1,6 @@
 -- A thread starts an operation, and waits for its end.
+-- The operation is the same in both. In a cancelled block, which both tell alike (Paths), it has its value at once; else its thread is
+-- parked where the value will come.
 use Rattle.std.proofs.Common.{◌≡◌, ℕ, ◌+◌, List, [], ◌∷◌, ◌++◌, set, Option, Some, None, Bool, true, false, refl, sym, ap, ◌∙◌, subst, arith}
 use Rattle.std.specs.Prelude.{slice_get}
 use Rattle.std.proofs.lemmas.List.{length-set}
@@ -51,6 +53,7 @@ module _ (code : Parts) (bound : ℕ) (s0 : Held) (t : Item) (ws : List Work) (r
       (here ∙ ap (any_marked s.marks) (stood ∙ sym stands))
 
   -- it stands in none, and waits
+  -- The thread is put away in both, with one operation more of which it is counted as the one that waits.
   waits_there : (link : ℕ) (asked : Asked) (instr : Instr) (s : Held) (place : ℕ) (operands below : List Cell) (work : List Work) → SameBirths s0 s →
       slice_get code.instrs place ≡ Some instr → any_marked s.marks (path work (thread_at ts t)) ≡ false →
       ((k : ℕ) → begin code bound (flat a s place operands k) t (Some instr) ≡ On (operates (flat a s place operands k) t link asked below)) →

@@ -1,4 +1,6 @@
 -- The blocks in which a thread stands, as the machine's table tells them: each with the one round it, and with its mark.
+-- The machine goes from block to parent as often as there are blocks; by induction on the path this comes through all blocks in which the
+-- source says that the thread stands.
 use Rattle.std.proofs.Common.{◌≡◌, ℕ, zero, suc, ◌≤◌, List, [], ◌∷◌, ◌++◌, length, Option, Bool, true, false, refl, sym, ap, ◌∙◌, subst, arith, append_assoc}
 use Rattle.std.specs.Prelude.{nat_eq, ◌||◌, if◌then◌else◌}
 use Rattle.std.specs.List.{list_any}

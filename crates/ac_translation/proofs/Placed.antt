@@ -1,4 +1,6 @@
 -- Code that stands at an address.
+-- A piece is placed where its instructions stand in the code; of two in a row each is placed, and of a loop all parts. `Jumps` lets a place
+-- be reached by jumps alone.
 use Rattle.std.proofs.Common.{◌≡◌, ℕ, ◌+◌, ◌<◌, List, [], ◌∷◌, ◌++◌, length, Some, refl, sym, ap, ◌∙◌, subst, arith, append_assoc, length-append}
 use Rattle.std.specs.Prelude.{slice_get}
 use Rattle.std.proofs.Math.Seq.{get_or-append_seam}

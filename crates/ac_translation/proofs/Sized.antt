@@ -1,4 +1,5 @@
 -- A piece has as many instructions as its size says, in each loop and at each address.
+-- One use of Closed: each of the ways to make a piece keeps it.
 use Rattle.std.proofs.Common.{◌≡◌, ℕ, ◌+◌, ◌∷◌, ◌++◌, [], List, length, Option, refl, arith, length-append}
 use Rattle.ac_tree.specs.declared.expr.BinaryOp.{BinaryOp}
 use Rattle.ac_commands.specs.declared.value.Value.{Value}

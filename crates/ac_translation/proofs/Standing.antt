@@ -1,4 +1,6 @@
 -- Where the machine stands that follows a core: its running thread, those that wait, and what holds of all of them.
+-- `Stands` is the relation of the simulation. Threads have the same numbers in both, and each that does not run is parked where code stands
+-- for its work; `Together` has what holds of all threads, blocks and operations. Then how it is kept where one thread changes.
 use Rattle.std.proofs.Common.{◌≡◌, ◌≢◌, ℕ, zero, suc, ◌<◌, List, [], length, get_or, set, Option, Some, None, Bool, inl, inr, refl, sym, ap, ◌∙◌, subst, arith}
 use Rattle.std.proofs.lemmas.List.{length-set}
 use Rattle.work_item.specs.declared.ids.Item.{Item}

@@ -1,4 +1,5 @@
 -- A thread enters a block, starts another thread, or yields.
+-- One instruction each, in whose state `Together` is put together again from Changes, Tracks and Wakes.
 use Rattle.std.proofs.Common.{◌≡◌, ℕ, ◌+◌, List, [], ◌∷◌, ◌++◌, length, set, replicate, Option, Some, None, false, refl, sym, ap, ◌∙◌, subst, arith, length-append}
 use Rattle.std.specs.Prelude.{slice_get}
 use Rattle.std.specs.List.{sum_by}
@@ -46,6 +47,7 @@ module _ (code : Parts) (bound : ℕ) (s0 : Held) (t : Item) (ws : List Work) (r
   old = at all t.number
 
   -- the new block has the next number of its table in the machine, and the same in the source
+  -- The thread stands in one block more, which was not born before: `Good` by `open_good`, the table by `tracks_open`.
   pub enters_follow : (slot : ℕ) (s : Held) (place : ℕ) (work : List Work) → SameBirths s0 s → slice_get code.instrs place ≡ Some (i.Enter slot) →
       Works code.instrs (within activation (next_block s ∷ activation.entered)) (place + 1) [] work →
       FollowsAt code bound R a c s place [] (Goes (enters s activation.frame slot) work)

@@ -1,4 +1,6 @@
 -- What a statement does with its operands, and the instructions after them.
+-- By cases on the statement. Each leads, by instructions of its own, to a place where code for the work that is left stands (Works); loops
+-- and branches need that their parts are placed and where their jumps lead.
 use Rattle.std.proofs.Common.{◌≡◌, ℕ, ◌+◌, List, [], ◌∷◌, length, map, replicate, Option, Some, None, Bool, true, false, refl, sym, ap, ◌∙◌, subst, arith, append-nil}
 use Rattle.std.specs.Prelude.{slice_index_or, reverse, not, ◌&&◌, pos}
 use Rattle.work_item.specs.declared.cell.Cell.{Cell}
@@ -150,6 +152,8 @@ module _ (code : Parts) (program : Resolved) (same : IsCodeOf code program) (fin
 
   -- ---- assignments and output
 
+  -- A variable is one instruction. An element has its reference and its index on the stack above the value, and both trap alike where the
+  -- index is out of range.
   set_finishes : (target : Target) (value : Value) (values : List Cell) {exits : Exits} {at to : ℕ} (s : Held) (ws : List Work) (scope : Scope) → Born s →
       Placed code.instrs (one i.Step ⨾ value_code value ⨾ target_code target) exits at to → length values ≡ length (value ∷ target_operands target) → DoesAt scope to ws →
       FinishesAt s (at + 1 + size_of (value ∷ target_operands target)) values (or_trap s (put_in target values a.activation.frame s.store) (λ store. Goes (with_store s store) ws))
@@ -233,6 +237,7 @@ module _ (code : Parts) (program : Resolved) (same : IsCodeOf code program) (fin
 
   -- ---- loops
 
+  -- Where the test is not 0 the body follows, with the end of its turn behind it; where it is, a jump leads past the loop.
   loop_finishes : (self : Command) (ws : List Work) (scope : Scope) (turns : ℕ → ℕ → ℕ) (test : Option Value) (body : List Command) (next : Piece) (values : List Cell) {at to : ℕ} (s : Held) →
       Born s → IsSized next → length values ≡ length (some_operand test) →
       Placed code.instrs (command_code self) scope.exits at to → is_well_formed self (round_of scope) ≡ true → DoesAt scope to ws →
@@ -267,6 +272,7 @@ module _ (code : Parts) (program : Resolved) (same : IsCodeOf code program) (fin
 
   -- ---- statements in statements
 
+  -- By the value of the test: the body, and a jump past the `else`, or a jump to the `else` or past the statement.
   if_finishes : (test : Value) (body : List Command) (other : Option (List Command)) (values : List Cell) (ws : List Work) (scope : Scope) {at to : ℕ} (s : Held) → Born s →
       Placed code.instrs (command_step (pieces_of (Command-F.If test body other))) scope.exits at to → length values ≡ 1 →
       are_well_formed body (round_of scope) ≡ true → are_well_formed (some_body other) (round_of scope) ≡ true → DoesAt scope to ws →
@@ -333,6 +339,7 @@ module _ (code : Parts) (program : Resolved) (same : IsCodeOf code program) (fin
         rest = d;
       }))))
 
+  -- The instruction leads two ways: the new thread to the body, whose code ends with `End`, and its creator past it.
   async_keeps : (slots : ℕ) (body : List Command) (ws : List Work) (scope : Scope) {at to : ℕ} (s : Held) → Born s →
       Placed code.instrs (command_step (pieces_of (Command-F.Async slots body))) scope.exits at to → scope.block && are_well_formed body in_block ≡ true →
       DoesAt scope to ws → At s (at + 1) []
@@ -375,6 +382,7 @@ module _ (code : Parts) (program : Resolved) (same : IsCodeOf code program) (fin
       let near : at + 1 ≡ at + 1 + 0 = omega arith in
       no_finish s (at + 1 + 0) values (λ vs. next) e (subst (λ n. At s n [] next) near f)
 
+  -- Each form hands its parts to the law of its own above.
   pub form_finishes : (self : Command) (ws : List Work) (scope : Scope) {at to : ℕ} (s : Held) → Born s → Placed code.instrs (command_code self) scope.exits at to →
       is_well_formed self (round_of scope) ≡ true → DoesAt scope to ws →
       (x : Command-F Command) → out-Command self ≡ x → Placed code.instrs (command_step (pieces_of x)) scope.exits at to → placed_step (tests_of x) (round_of scope) ≡ true →

@@ -1,4 +1,6 @@
 -- A step of a thread, and the instructions that do it.
+-- The step of a statement, the values of its operands (Values), and its effect (Statements) are put together, in whichever activation the
+-- work stands. Where an operand stops, the work waits with its contexts, and goes on from there when the value comes.
 use Rattle.std.proofs.Common.{◌≡◌, ℕ, ◌+◌, ◌≤◌, List, [], ◌∷◌, ◌++◌, length, Some, None, Bool, true, false, refl, sym, ◌∙◌, subst, arith, append-nil}
 use Rattle.std.specs.Prelude.{slice_get, pos, nat_lt, if◌then◌else◌}
 use Rattle.ac_base.specs.declared.ends.EndWord.TheVariants.{OutOfSteps}
@@ -9,7 +11,7 @@ use Rattle.ac_commands.specs.declared.value.Value.{Value}
 use Rattle.ac_commands.specs.declared.command.Command.{Command, out-Command}
 use Rattle.ac_commands.specs.declared.command.Command.TheOpen.{Command-F}
 use Rattle.ac_commands.specs.declared.program.Resolved.{Resolved}
-use Rattle.ac_semantics.specs.Evaluation.{Head, Acting, Ending, Context, Outcome, Stops, row_goes}
+use Rattle.ac_semantics.specs.Evaluation.{Head, Acting, Ending, Context, Evaluated, Stops, row_goes}
 use Rattle.ac_semantics.specs.Held.{Held, stepped, seen_of}
 use Rattle.ac_semantics.specs.Work.{Work, Do, Pend, Given, CallOff, Turn, Close, Back, Leave, End, before, next_part}
 use Rattle.ac_semantics.specs.Statements.{Next, Ends, Dies, operands_of, returns, finish, settles, does, if_step, next_at, next_of}
@@ -68,7 +70,7 @@ module _ (code : Parts) (program : Resolved) (same : IsCodeOf code program) (fin
     abbrev Last : ℕ → ℕ → Type 0
     Last place count = TailAt code.instrs scope x place count (λ past. DoesAt scope past ws)
 
-    abbrev settle : Outcome → Next
+    abbrev settle : Evaluated → Next
     settle = settles program x a.activation.frame ws s
 
     tail_finishes : (values : List Cell) (place count : ℕ) → count ≡ length values → Last place count →
@@ -141,6 +143,7 @@ module _ (code : Parts) (program : Resolved) (same : IsCodeOf code program) (fin
       let ends = keeps code bound R a c (returns_follow code program same fine bound R a c stands ws scope place last.no_block d s (last.at + 1) (cell.Int (pos 0)) b ret_at.has.0) in
       jumps_follow code bound R a c last.jumps (one_follows code bound R a c (i.Push (pos 0)) last.stands.has.0 ends (λ k. refl))
 
+  -- By what the thread has first: a statement, a turn of a loop, the end of a block, a body or a function.
   does_follows : (ws : List Work) (scope : Scope) (place : ℕ) (s : Held) → Born s → DoesAt scope place ws → FollowsAt code bound R a c s place [] (next_of program bound ws s)
   does_follows [] scope place s b d = absurd d
   does_follows (Do own x ∷ ws) scope place s b d = do_follows own x ws scope place s b d

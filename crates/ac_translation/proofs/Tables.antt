@@ -1,4 +1,6 @@
 -- Tables by number that differ in one place, sums over them, and how often a number stands in a list.
+-- `Changed` says what is there, what stays, and what a sum over the table gains and loses: all that the proofs on threads and blocks ask of
+-- a change.
 use Rattle.std.proofs.Common.{◌≡◌, ◌≢◌, ℕ, zero, suc, ◌+◌, ◌<◌, ◌≤◌, List, [], ◌∷◌, ◌++◌, length, get_or, set, Option, Some, None, Bool}
 use Rattle.std.proofs.Common.{true, false, ◌⊎◌, inl, inr, refl, sym, ap, ◌∙◌, subst, arith, nat_eq, if◌then◌else◌, length-append}
 use Rattle.std.specs.List.{sum_by}

@@ -1,4 +1,6 @@
 -- The machine's table of blocks tells of each block that a living thread has entered.
+-- `Tracks`: the block round it, its owner, the number of living threads started directly in it, whether the owner waits, and its mark. It
+-- is kept under each kind of change of a thread, with the table that the machine then has.
 use Rattle.std.proofs.Common.{◌≡◌, ◌≢◌, ℕ, zero, suc, ◌+◌, ◌<◌, ◌≤◌, List, [], ◌∷◌, ◌++◌, length, get_or, set, Option, Some, None, Bool, true, false, inl, inr, refl, sym, ap, ◌∙◌, subst}
 use Rattle.std.proofs.Common.{arith, nat_eq}
 use Rattle.std.specs.List.{sum_by}
@@ -155,6 +157,7 @@ module _ (ts ts' : List Thread) (t : ℕ) (new : Thread) (change : Changed nobod
         (λ o b inside outside ne l h. other_told d o b inside outside l h (ap (λ z. block_at z b) is))
 
     -- the thread enters a new block
+    -- The new block is told as it was made; each other one as before, since it is not the new one.
     pub tracks_open : (nb : BlockId) → nb.number ≡ blocks → mark_of marks nb ≡ false → Changed None bs bs' nb.number (Some (entry (first (entered old ++ old.around)) t 0 false false)) →
         old.phase ≡ Active → new.phase ≡ Active
         → new.around ≡ old.around → entered new ≡ nb ∷ entered old → Tracks marks ts' bs'
@@ -199,6 +202,7 @@ module _ (ts ts' : List Thread) (t : ℕ) (new : Thread) (change : Changed nobod
         (λ o c inside outside ne l h. other_told d o c inside outside l h (same c (apart ts blocks good t o b c [] below inside outside ne lo was l h)))
 
     -- the thread waits at the finish of b
+    -- Of the block b it is now told that its owner waits; of each other one all is as it was.
     pub tracks_wait : (b : BlockId) (below : List BlockId) (x : Block) → block_at bs b ≡ Some x → Changed None bs bs' b.number (Some (record x { waits = true })) → old.phase ≡ Active
         → new.phase ≡ AtFinish b → new.around ≡ old.around → entered old ≡ b ∷ below → entered new ≡ entered old → Tracks marks ts' bs'
     tracks_wait b below x stood made po pn a was is =

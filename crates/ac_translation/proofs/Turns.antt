@@ -1,4 +1,5 @@
 -- What a thread asks of its core: blocks, other threads, operations, and its own end.
+-- A list of what Cores has to give Steps, so that statements can be shown to follow without knowing how threads and blocks are kept.
 use Rattle.std.proofs.Common.{◌≡◌, ℕ, ◌+◌, List, [], ◌∷◌, replicate, Some}
 use Rattle.std.specs.Prelude.{slice_get}
 use Rattle.work_item.specs.declared.ids.BlockId.{BlockId}

@@ -1,4 +1,7 @@
 -- The code of an expression follows what the expression comes to, whatever is round it.
+-- By induction on the expression, with what is round it left open: the machine goes on with the value on top wherever code stands for the
+-- rest (Contexts). Where the source stops at an action, the machine is at its instruction with the same operands. The hard cases are `&&`
+-- and `||`, which jump over their right sides.
 use Rattle.std.proofs.Common.{◌≡◌, ℕ, zero, suc, ◌+◌, List, [], ◌∷◌, ◌++◌, length, map, Some, Bool, true, refl, sym, ap, ◌∙◌, subst, arith}
 use Rattle.std.specs.Prelude.{slice_get, ℤ, pos, negsuc, Result, Ok, Err}
 use Rattle.std.proofs.lemmas.List.{length-map}
@@ -21,7 +24,7 @@ use Rattle.ac_commands.specs.declared.value.Value.{Value, map-Value, ind-Value, 
 use Rattle.ac_commands.specs.declared.value.ValueLink.{ValueLink}
 use Rattle.ac_commands.specs.declared.value.Value.TheOpen.{Value-F, ValueLink-F}
 use Rattle.ac_semantics.specs.Evaluation.{unary, operate, variable, reference, Head, Acting, Ending, Context, ElementAt, PartAt, Operand, First, Right, Operands}
-use Rattle.ac_semantics.specs.Evaluation.{Outcome, Comes, Traps, Stops, then_goes, then_int, then_part, comes_int, Goes, unless_decided, goes, chain_goes, row_goes, gives, resumes}
+use Rattle.ac_semantics.specs.Evaluation.{Evaluated, Comes, Traps, Stops, then_goes, then_int, then_part, comes_int, Goes, unless_decided, goes, chain_goes, row_goes, gives, resumes}
 use Rattle.ac_semantics.specs.Held.{Held}
 use Rattle.ac_semantics.specs.Statements.{Next, Ends, or_trap}
 use Rattle.ac_semantics.specs.Threads.{CoreState}
@@ -41,7 +44,7 @@ use Rattle.ac_translation.proofs.Contexts.{lazy_end, HeadAt, Waits}
 
 -- ---- outcomes
 
-then_zero : (v : ℤ) (x y : Outcome) (f : Cell → Outcome) (settle : Outcome → Next) → settle (then_goes (at_zero v x y) f) ≡ at_zero v (settle (then_goes x f)) (settle (then_goes y f))
+then_zero : (v : ℤ) (x y : Evaluated) (f : Cell → Evaluated) (settle : Evaluated → Next) → settle (then_goes (at_zero v x y) f) ≡ at_zero v (settle (then_goes x f)) (settle (then_goes y f))
 then_zero (pos zero) x y f settle = refl
 then_zero (pos (suc n)) x y f settle = refl
 then_zero (negsuc n) x y f settle = refl
@@ -111,23 +114,23 @@ module _ (code : Parts) (bound : ℕ) (R : CoreState → Flat → Type 0) (a : A
 
   -- A statement settles what its operands come to. A trap ends the core, and where an action or the statement takes its operands the machine
   -- follows.
-  module _ (settle : Outcome → Next) (Last : ℕ → ℕ → Type 0) (traps : (trap : Trap) → settle (Traps trap) ≡ Ends (word.Trapped trap) s)
+  module _ (settle : Evaluated → Next) (Last : ℕ → ℕ → Type 0) (traps : (trap : Trap) → settle (Traps trap) ≡ Ends (word.Trapped trap) s)
       (stops : (head : Head) (values : List Cell) (around : List Context) (place count : ℕ) (below : List Cell) → count ≡ length values →
       HeadAt code.instrs head place count below (λ to under. Waits code.instrs around to under Last) Last →
       FollowsAt code bound R a c s place (values ++ below) (settle (Stops head values around))) where
-    abbrev FollowsTo : ℕ → List Cell → Outcome → Type 0
+    abbrev FollowsTo : ℕ → List Cell → Evaluated → Type 0
     FollowsTo place operands o = FollowsAt code bound R a c s place operands (settle o)
 
     abbrev Open : List Context → ℕ → List Cell → Type 0
     Open around place operands = Waits code.instrs around place operands Last
 
     -- wherever the code stands for what is round the open place, it goes on with any cell in it
-    abbrev pub GoesOn : List Context → (Cell → Outcome) → Type 0
+    abbrev pub GoesOn : List Context → (Cell → Evaluated) → Type 0
     GoesOn around f = (place : ℕ) (operands : List Cell) → Open around place operands → (v : Cell) → FollowsTo place (v ∷ operands) (f v)
 
     -- the piece comes to what the expression comes to, and goes on from there
     pub record Evaluates (p : Piece) (g : Goes) : Type 0 where
-      pub by : {exits : Exits} {place to : ℕ} {operands : List Cell} (around : List Context) (f : Cell → Outcome) → Placed code.instrs p exits place to → Open around to operands → GoesOn around f
+      pub by : {exits : Exits} {place to : ℕ} {operands : List Cell} (around : List Context) (f : Cell → Evaluated) → Placed code.instrs p exits place to → Open around to operands → GoesOn around f
           → FollowsTo place operands (then_goes (g around) f)
 
     abbrev means : Value → Goes
@@ -144,17 +147,17 @@ module _ (code : Parts) (bound : ℕ) (R : CoreState → Flat → Type 0) (a : A
     LinksFollow [] = Unit {0}
     LinksFollow (l ∷ links) = IsFollowed l.operand × LinksFollow links
 
-    int_settles : (r : Computed) (h : ℤ → Outcome) (f : Cell → Outcome) → settle (then_goes (then_int r h) f) ≡ or_trap s r (λ v. settle (then_goes (h v) f))
+    int_settles : (r : Computed) (h : ℤ → Evaluated) (f : Cell → Evaluated) → settle (then_goes (then_int r h) f) ≡ or_trap s r (λ v. settle (then_goes (h v) f))
     int_settles (Ok v) h f = refl
     int_settles (Err trap) h f = traps trap
 
-    part_settles : (r : Result cells.Place Trap) (f : Cell → Outcome) → settle (then_goes (then_part r) f) ≡ or_trap s r (λ p. settle (f (cell.Array p)))
+    part_settles : (r : Result cells.Place Trap) (f : Cell → Evaluated) → settle (then_goes (then_part r) f) ≡ or_trap s r (λ p. settle (f (cell.Array p)))
     part_settles (Ok p) f = refl
     part_settles (Err trap) f = traps trap
 
     -- ---- one cell in each kind of open place
 
-    module _ (around : List Context) (f : Cell → Outcome) (g : GoesOn around f) where
+    module _ (around : List Context) (f : Cell → Evaluated) (g : GoesOn around f) where
       element_on : (whole : cells.Place) → GoesOn (ElementAt whole ∷ around) (λ y. then_goes (gives s.store a.activation.frame (ElementAt whole) y around) f)
       element_on whole place operands w y =
           let o = w.lies.0 in
@@ -222,11 +225,11 @@ module _ (code : Parts) (bound : ℕ) (R : CoreState → Flat → Type 0) (a : A
 
     -- ---- chains
 
-    module _ (around : List Context) (f : Cell → Outcome) (g : GoesOn around f) where
-      abbrev after_right : ℤ → BinaryOp → List ValueLink → Cell → Outcome
+    module _ (around : List Context) (f : Cell → Evaluated) (g : GoesOn around f) where
+      abbrev after_right : ℤ → BinaryOp → List ValueLink → Cell → Evaluated
       after_right x op links v = gives s.store a.activation.frame (Right x op links) v around
 
-      abbrev right_goes : ℤ → BinaryOp → Value → List ValueLink → Outcome
+      abbrev right_goes : ℤ → BinaryOp → Value → List ValueLink → Evaluated
       right_goes x op y links = then_goes (means y (Right x op links ∷ around)) (after_right x op links)
 
       -- a right operand, and what is done with it
@@ -238,6 +241,7 @@ module _ (code : Parts) (bound : ℕ) (R : CoreState → Flat → Type 0) (a : A
           (e.by (Right x op links ∷ around) (λ v. then_goes (after_right x op links v) f) h w (right_on around f g x op links more))
 
       -- an operator and its right operand, before the rest of a chain
+      -- By the operator: the plain ones compute with both operands; the two others decide by the left one whether the right side is looked at.
       joined_on : (op : BinaryOp) (y : Value) (links : List ValueLink) → Evaluates (value_code y) (means y) → links_fit links ≡ true → ChainOn around f g links →
           (x : Cell) {exits : Exits} {place to : ℕ} {operands : List Cell} →
           Placed code.instrs (joined_code op (value_code y) ⨾ chained_code (map link_code links)) exits place to → Open around to operands →
@@ -305,6 +309,7 @@ module _ (code : Parts) (bound : ℕ) (R : CoreState → Flat → Type 0) (a : A
 
       -- ---- operands
 
+      -- By induction over the operands that are left; each comes on top of those before it, and behind the last is what takes them.
       row_on : (head : Head) (values : List Cell) (xs : List Value) → AllFollow xs → all_fit xs ≡ true → RowOn around f g head values xs
       row_on head values [] all fit = record {
         by = λ {exits} {place} {to} {count} below e h w.
@@ -358,6 +363,7 @@ module _ (code : Parts) (bound : ℕ) (R : CoreState → Flat → Type 0) (a : A
     Layer x = fits_step (map-Value Value ValueLink Bool Bool fits link_fits x) ≡ true → Evaluates (value_step (map-Value Value ValueLink Piece (BinaryOp × Piece) value_code link_code x))
         (form_goes s.store a.activation.frame x)
 
+    -- Each form by the law for its kind of open place above.
     layer : (y : Value-F Value_ Link_) → Layer (map-Value Value_ Link_ Value ValueLink (λ x. x.0) (λ l. l.0) y)
     layer (Value-F.Number n) fit = record {
       by = λ {exits} {place} {to} {operands} around f h w g. piece_follows code bound R a c {exits = exits} (i.Push n) h (keeps code bound R a c (g to operands w (cell.Int n))) (λ k. refl);
@@ -473,7 +479,7 @@ module _ (code : Parts) (bound : ℕ) (R : CoreState → Flat → Type 0) (a : A
 
     -- ---- going on
 
-    gives_on : (x : Context) (around : List Context) (f : Cell → Outcome) (g : GoesOn around f) → GoesOn (x ∷ around) (λ v. then_goes (gives s.store a.activation.frame x v around) f)
+    gives_on : (x : Context) (around : List Context) (f : Cell → Evaluated) (g : GoesOn around f) → GoesOn (x ∷ around) (λ v. then_goes (gives s.store a.activation.frame x v around) f)
     gives_on (ElementAt whole) around f g place operands w v = element_on around f g whole place operands w v
     gives_on (PartAt whole) around f g place operands w v = part_on around f g whole place operands w v
     gives_on (Operand op) around f g place operands w v = operand_on around f g op place operands w v

@@ -1,4 +1,6 @@
 -- Who runs, is ready or waits, and whom the end of a thread wakes.
+-- The source finds the woken thread by a search over all threads; here it is shown that the search finds none, or this one. `Listed` says
+-- that just the active threads are listed, each once, and how the lists change with them.
 use Rattle.std.proofs.Common.{◌≡◌, ◌≢◌, ℕ, zero, suc, ◌+◌, ◌<◌, ◌≤◌, List, [], ◌∷◌, Option, Some, None, Bool, true, false, inl, inr, refl, sym, ap, ◌∙◌, subst, arith}
 use Rattle.std.specs.List.{sum_by}
 use Rattle.work_item.specs.declared.ids.Item.{Item}

@@ -1,4 +1,5 @@
 -- Programs that are well formed: each statement stands within what it needs round it, and each operation has as many operands as it takes.
+-- What the simulation asks of a program, and no more; that each program that breaks no rule is so is shown in `ac_compile` (Formed).
 use Rattle.std.proofs.Common.{refl}
 use Rattle.std.specs.Prelude.{◌≡◌, ℕ, List, [], ◌∷◌, length, map, Option, Some, None, Bool, true, false, not, ◌&&◌, nat_eq, slice_get}
 use Rattle.ac_commands.specs.declared.value.Action.{Action}

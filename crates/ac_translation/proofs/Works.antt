@@ -1,4 +1,6 @@
 -- Where the code stands that does what a thread has still to do.
+-- `Does` and `Works` read a list of work as a place in the code, item by item: the code there does the first, and where it goes on the code
+-- does the rest. Then what leaving a loop, going on with it, or coming to the end of a body makes of that place.
 use Rattle.std.proofs.Common.{◌≡◌, ℕ, zero, suc, ◌+◌, List, [], ◌∷◌, ◌++◌, length, Some, Bool, true, false, refl, sym, ap, ◌∙◌, subst, arith}
 use Rattle.std.specs.Prelude.{slice_get, ℤ, pos, negsuc}
 use Rattle.work_item.specs.declared.ids.FrameId.{FrameId}
@@ -230,6 +232,7 @@ module _ (code : List Instr) where
     last_later : (scope : Scope) {place to : ℕ} → Jumps code place to → LastAt scope to → LastAt scope place
     last_later scope j d = record { at = d.at; to = d.to; jumps = jumps_on code j d.jumps; stands = d.stands; no_loop = d.no_loop; no_block = d.no_block }
 
+    -- By cases on the work; each form of it already allows jumps before its code, so one more comes in front of them.
     pub jumps_do : (scope : Scope) {place to : ℕ} (ws : List Work) → Jumps code place to → Does scope activation to ws → Does scope activation place ws
     jumps_do scope [] j d = d
     jumps_do scope (Do own c ∷ ws) j d = record { at = d.at; to = d.to; jumps = jumps_on code j d.jumps; stands = d.stands; form = d.form; own_is = d.own_is; rest = d.rest }

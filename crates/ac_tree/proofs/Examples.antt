@@ -1,4 +1,6 @@
--- What small programs weigh: the tokens that each text of them has, but for those that the weight leaves out.
+-- What small programs weigh, and which shape they have. A weight is that of the tokens of the text that stands above it, but for those that
+-- it leaves out, and is had by rewriting with WeightForms. That a tree has no shape is shown by a test that each shape passes, which is
+-- itself a fold: `1 = 1;` fails it, since what it puts a value into is no place.
 use Rattle.std.proofs.Common.{◌≡◌, refl, ◌∙◌, ℕ, zero, suc, ◌<◌, ◌≤◌, pos, List, [], ◌∷◌, map, codes, None, Some, Bool, true, false, arith}
 use Rattle.std.specs.Prelude.{replicate}
 use Rattle.ac_tree.specs.declared.expr.Expr.{Expr, fold-Expr}

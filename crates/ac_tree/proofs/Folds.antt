@@ -1,5 +1,6 @@
 -- What a fold gives at each form of expression and statement, by what it gives of the parts: at a form it does not compute by itself.
--- A form is named by its law in `TheVariants`, as `expr_folds step link _ (e.rolls-Number at value)`.
+-- So the form is taken for what it is rolled from, by its law in `TheVariants`, and there the fold's own law holds. The law names the
+-- form, as in `expr_folds step link _ (e.rolls-Number at value)`. Only `if` and `for`, whose parts may be left out, need cases.
 use Rattle.std.proofs.Common.{◌≡◌, ℕ, Option, Some, None, sym, ap, ◌∙◌}
 use Rattle.std.specs.Prelude.{option_map}
 use Rattle.ac_tree.specs.declared.expr.Expr.{Expr, roll-Expr, map-Expr, fold-Expr, fold-roll-Expr}

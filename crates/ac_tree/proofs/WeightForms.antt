@@ -1,4 +1,6 @@
--- What each form of a program weighs.
+-- What each form of a program weighs: one equation for each form of expression and of statement, by which other proofs rewrite a weight.
+-- Each is the law of folds at that form, where the step of the weight computes. A chain needs an induction on its links besides, and `if`
+-- and `for` a case for each part that may be left out.
 use Rattle.std.proofs.Common.{◌≡◌, ℕ, ◌+◌, List, [], ◌∷◌, Option, Some, None, refl, ap, ◌∙◌}
 use Rattle.std.specs.Prelude.{ℤ, map}
 use Rattle.ac_tree.specs.declared.expr.Expr.{Expr}

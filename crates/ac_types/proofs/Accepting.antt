@@ -1,4 +1,5 @@
--- What a check says of the program that it accepts.
+-- What a check says of the program that it accepts: the verdict is clean, so no rule is broken, and its counts and flags are those of
+-- the program. Only equal things are put for one another.
 use Rattle.std.proofs.Common.{◌≡◌, List, Bool, subst}
 use Rattle.ac_tree.specs.declared.item.Item.{Item}
 use Rattle.ac_types.specs.declared.verdict.Verdict.{Verdict}

@@ -1,4 +1,6 @@
--- What a walk has seen is what the nodes in preorder say.
+-- What a walk has seen is what the nodes in preorder say, for expressions. One definition by the forms is read twice, with lists of
+-- nodes and with what is seen so far; that both agree is by induction on the tree, where parts that follow one another are joined by
+-- one law on lists. Then what is first and what is called are read off the list.
 use Rattle.std.proofs.Common.{◌≡◌, ℕ, ◌+◌, List, [], ◌∷◌, ◌++◌, length, map, Option, Some, None, refl, sym, ap, ◌∙◌, append_assoc, arith}
 use Rattle.ac_tree.specs.declared.expr.Expr.{Expr, ind-Expr, fold-roll-Expr, map-Expr}
 use Rattle.ac_tree.specs.declared.expr.Link.{Link, fold-roll-Link}

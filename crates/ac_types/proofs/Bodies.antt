@@ -1,4 +1,5 @@
--- A walk after compound statements.
+-- A walk after compound statements. The function goes through the parts one after the other, and the definition tells them at once;
+-- each law puts the states between the parts for one another and adds up the slots. In a scope that is closed only slots are left.
 use Rattle.std.proofs.Common.{◌≡◌, ℕ, ◌+◌, List, [], ◌∷◌, Option, Some, None, refl, sym, ap, ◌∙◌, arith}
 use Rattle.ac_tree.specs.declared.expr.Expr.{Expr}
 use Rattle.ac_tree.specs.declared.stmt.Stmt.{Stmt}

@@ -1,4 +1,5 @@
--- What a walk says of the functions that a function calls.
+-- What a walk says of the functions that a function calls: it began with none seen, so it has seen the calls of the nodes of that
+-- function, in order.
 use Rattle.std.proofs.Common.{◌≡◌, ℕ, List, [], ◌++◌, ap, ◌∙◌}
 use Rattle.ac_tree.specs.declared.item.Function.{Function}
 use Rattle.ac_reach.specs.declared.reached.Reached.{Reached}

@@ -1,4 +1,5 @@
--- Nodes that break no rule.
+-- Nodes that break no rule. That no pair is broken is turned into one fact for each node, which is then taken apart as the list of
+-- nodes is: what stands sooner and what stands later in it.
 use Rattle.std.proofs.Common.{◌≡◌, ℕ, suc, Bool, true, false, List, [], ◌∷◌, ◌++◌, refl}
 use Rattle.std.specs.Prelude.{not}
 use Rattle.ac_tree.specs.declared.item.Item.{Item}

@@ -1,10 +1,12 @@
--- Small programs and the rules that they break.
+-- Small programs and the rules that they break, and the rules on single forms. Each law computes what the definitions say of one program and
+-- compares it with what was worked out by hand; beside each that breaks a rule stands one that keeps it.
 use Rattle.std.proofs.Common.{◌≡◌, refl, sym, ap, subst, ℕ, ℤ, pos, List, [], ◌∷◌, ◌++◌, map, codes, Bool, true, false, Option, Some, None, inl, inr, arith}
 use Rattle.std.specs.Prelude.{negsuc, if◌then◌else◌}
 use Rattle.ac_tree.specs.declared.expr.Expr.{Expr}
 use Rattle.ac_tree.specs.declared.expr.Expr.TheVariants as e
 use Rattle.ac_tree.specs.declared.expr.Expr.TheOpen.{Expr-F}
 use Rattle.ac_tree.specs.declared.expr.BinaryOp.TheVariants as b
+use Rattle.ac_tree.specs.declared.expr.Constant.TheVariants as c
 use Rattle.ac_tree.specs.declared.expr.UnaryOp.TheVariants as u
 use Rattle.ac_tree.specs.declared.stmt.Stmt.{Stmt}
 use Rattle.ac_tree.specs.declared.stmt.Stmt.TheVariants as s
@@ -37,10 +39,10 @@ use Rattle.ac_types.specs.Tables.{callee_of, callee, is_array_in, takes_array, e
 use Rattle.ac_types.specs.Nodes.{Node, calls_of}
 use Rattle.ac_types.specs.Around.{is_array_position, is_used, is_partial, position_of, inside_do, inside_async, inside_loop, is_closed, is_reached_by_another}
 use Rattle.ac_types.specs.Formats.{HasHoles, no_more, a_byte, a_percent_sign, a_number, a_letter}
-use Rattle.ac_types.specs.Judged.{Tests, value_tests, name_tests, index_tests, call_tests, sends_away, takes_away, channel_tests, file_tests, array_tests, holes}
+use Rattle.ac_types.specs.Judged.{Tests, lacks_one, value_tests, name_tests, index_tests, call_tests, sends_away, takes_away, channel_tests, file_tests, array_tests, holes}
 use Rattle.ac_types.specs.Judged.{is_misplaced, is_miscounted, calls_async, uses_void, once_tests, is_size, is_misprinted, print_tests, leave_tests, return_tests, async_tests}
 use Rattle.ac_types.specs.Judged.{body_tests, cancel_tests}
-use Rattle.ac_types.specs.Expressions.{plain, number_of, call_node, ExprPart, links_step, args_step, expr_step, link_step, expr_all, values_all, value_all, one_node, join_nodes}
+use Rattle.ac_types.specs.Expressions.{plain, number_of, call_node, ExprPart, expr_nodes, links_step, args_step, expr_step, link_step, expr_all, values_all, value_all, one_node, join_nodes}
 use Rattle.ac_types.specs.Statements.{Gives, StmtPart, body_gives, some_gives, used, valued, for_gives, gives_step, stmt_all}
 use Rattle.ac_types.specs.Items.{signature_of, channel_ends, all_ends, global_tests, is_capacity, is_same_core, is_no_entry, around_of, params_give, function_gives, item_gives}
 use Rattle.ac_types.specs.Items.{items_give, program_gives}
@@ -198,6 +200,18 @@ pub a_file_that_is_none : map (λ (o : Option Meaning). broken (file_tests o an_
     ≡ (2 ∷ 6 ∷ 18 ∷ []) ∷ (4 ∷ 6 ∷ 18 ∷ []) ∷ (6 ∷ 18 ∷ []) ∷ []
 a_file_that_is_none = refl
 
+-- where one of two names is not declared, the other may be anything; what stands where an array is wanted is asked of no name
+pub one_of_two_names : lacks_one None None ∷ lacks_one None an_int ∷ lacks_one an_int None ∷ lacks_one an_int an_array ∷ [] ≡ true ∷ true ∷ true ∷ false ∷ []
+one_of_two_names = refl
+
+pub a_file_beside_no_array : broken (file_tests None an_int in_loop p.Whole) ∷ broken (file_tests an_int None in_loop p.Whole) ∷ broken (file_tests an_int an_int in_loop p.Whole)
+    ∷ broken (file_tests None an_int in_loop p.Array) ∷ [] ≡ (2 ∷ []) ∷ (2 ∷ []) ∷ (4 ∷ []) ∷ (2 ∷ 4 ∷ 18 ∷ []) ∷ []
+a_file_beside_no_array = refl
+
+pub a_channel_beside_no_core : broken (link_tests None None (Some (m.Function 0)) (pos 1) 0) ∷ broken (link_tests None (Some (m.Function 0)) None (pos 0) 0)
+    ∷ broken (link_tests None (Some (m.Core 0)) (Some (m.Function 0)) (pos 1) 0) ∷ [] ≡ (2 ∷ []) ∷ (2 ∷ 14 ∷ []) ∷ (4 ∷ []) ∷ []
+a_channel_beside_no_core = refl
+
 pub sizes_of_arrays : map (λ (size : ℤ). broken (array_tests None size)) (negsuc 0 ∷ pos 0 ∷ pos 1 ∷ pos 4096 ∷ pos 4097 ∷ []) ≡ (13 ∷ []) ∷ (13 ∷ []) ∷ [] ∷ [] ∷ (13 ∷ []) ∷ []
 sizes_of_arrays = refl
 
@@ -290,7 +304,7 @@ cancels = refl
 abbrev firsts : List Node → List ℕ
 firsts nodes = map (λ (n : Node). n.at) nodes
 
-abbrev no_tables : Tables
+abbrev pub no_tables : Tables
 no_tables = record { functions = []; channels = []; reached = [] }
 
 abbrev from_slot : ℕ → Names
@@ -377,11 +391,11 @@ abbrev faults : List Node → List (ℕ × List ℕ)
 faults [] = []
 faults (n ∷ ns) = with_fault n.at (broken n.tests) (faults ns)
 
-abbrev a_function : ℕ → Bool → Bool → List ℕ → List Param → List Stmt → Item
+abbrev pub a_function : ℕ → Bool → Bool → List ℕ → List Param → List Stmt → Item
 a_function at is_async gives_int name params body = i.Function (record { at = at; is_async = is_async; gives_int = gives_int; name = name; params = params; body = body })
 
 -- core a(f); async void f() { .. }
-abbrev one_core : List Stmt → List Item
+abbrev pub one_core : List Stmt → List Item
 one_core body = i.Core 0 (codes "a") (codes "f") ∷ a_function 11 true false (codes "f") [] body ∷ []
 
 abbrev in_one_core : List Stmt → List (ℕ × List ℕ)
@@ -486,6 +500,53 @@ in_a_do = rw (
 pub in_no_loop : in_one_core (s.While 28 (a_number_at 35) (s.Break 38) ∷ s.Break 45 ∷ []) ≡ (45, 9 ∷ []) ∷ []
 in_no_loop = rw (stmt_is _ (s.rolls-While 28 (a_number_at 35) (s.Break 38)), expr_is _ (e.rolls-Number 35 (pos 1)), stmt_is _ (s.rolls-Break 38), stmt_is _ (s.rolls-Break 45)) refl
 
+-- while (1) continue; continue;
+pub continued_in_no_loop : in_one_core (s.While 28 (a_number_at 35) (s.Continue 38) ∷ s.Continue 48 ∷ []) ≡ (48, 9 ∷ []) ∷ []
+continued_in_no_loop = rw (stmt_is _ (s.rolls-While 28 (a_number_at 35) (s.Continue 38)), expr_is _ (e.rolls-Number 35 (pos 1)), stmt_is _ (s.rolls-Continue 38), stmt_is _ (s.rolls-Continue 48)) refl
+
+-- while (1) do { continue; break; } finish; where the `do` is between them and the loop
+abbrev out_of_a_do : List Stmt
+out_of_a_do = s.Continue 43 ∷ s.Break 53 ∷ []
+
+pub a_do_between : in_one_core (s.While 28 (a_number_at 35) (s.Do 38 None out_of_a_do) ∷ []) ≡ (43, 9 ∷ []) ∷ (53, 9 ∷ []) ∷ []
+a_do_between = rw (
+  stmt_is _ (s.rolls-While 28 (a_number_at 35) (s.Do 38 None out_of_a_do)),
+  expr_is _ (e.rolls-Number 35 (pos 1)),
+  stmt_is _ (s.rolls-Do 38 None out_of_a_do),
+  stmt_is _ (s.rolls-Continue 43),
+  stmt_is _ (s.rolls-Break 53),
+) refl
+
+-- a constant and a group for an int, and for an array
+pub constants : faults (expr_nodes (e.Const 5 c.Ok) no_tables [] in_plain p.Value) ∷ faults (expr_nodes (e.Const 5 c.Ok) no_tables [] in_plain p.Array) ∷ [] ≡ [] ∷ ((5, 4 ∷ []) ∷ []) ∷ []
+constants = rw (expr_is _ (e.rolls-Const 5 c.Ok)) refl
+
+abbrev a_group : Expr
+a_group = e.Group 5 (a_number_at 6)
+
+pub groups : faults (expr_nodes a_group no_tables [] in_plain p.Value) ∷ faults (expr_nodes a_group no_tables [] in_plain p.Array) ∷ [] ≡ [] ∷ ((5, 4 ∷ []) ∷ []) ∷ []
+groups = rw (expr_is _ (e.rolls-Group 5 (a_number_at 6)), expr_is _ (e.rolls-Number 6 (pos 1))) refl
+
+-- core a(f); async int f() { return (CANCELLED); } and with `return (f());`, where the group makes the call a part
+abbrev gives_group : Expr → List Item
+gives_group inner = i.Core 0 (codes "a") (codes "f") ∷ a_function 11 true true (codes "f") [] (s.Return 27 (Some (e.Group 34 inner)) ∷ []) ∷ []
+
+pub a_group_of_a_constant : faults (program_nodes (gives_group (e.Const 35 c.Cancelled)) (r.ByOne 0 ∷ [])) ≡ []
+a_group_of_a_constant = rw (
+  stmt_is _ (s.rolls-Return 27 (Some (e.Group 34 (e.Const 35 c.Cancelled)))),
+  expr_is _ (e.rolls-Group 34 (e.Const 35 c.Cancelled)),
+  expr_is _
+      (e.rolls-Const 35 c.Cancelled),
+) refl
+
+pub a_group_of_a_call : faults (program_nodes (gives_group (e.Call 35 (codes "f") [])) (r.ByOne 0 ∷ [])) ≡ (35, 18 ∷ []) ∷ []
+a_group_of_a_call = rw (
+  stmt_is _ (s.rolls-Return 27 (Some (e.Group 34 (e.Call 35 (codes "f") [])))),
+  expr_is _ (e.rolls-Group 34 (e.Call 35 (codes "f") [])),
+  expr_is _ (e.rolls-Call 35
+      (codes "f") []),
+) refl
+
 -- for (int i; i; i = 1) i = 1; i = 1; where the first part has a scope of its own
 abbrev set_i : ℕ → ℕ → Stmt
 set_i at right = s.Assign at (e.Name at (codes "i")) (a_number_at right)
@@ -528,7 +589,7 @@ items_again = refl
 abbrev array_at : ℕ → Expr
 array_at at = e.Name at (codes "h")
 
-abbrev with_arrays : List Item
+abbrev pub with_arrays : List Item
 with_arrays = one_core (s.Array 28 (codes "h") (pos 3) ∷ s.Call 38 (e.Call 38 (codes "g") (array_at 40 ∷ array_at 43 ∷ [])) ∷ [])
     ++ a_function 49 false false (codes "g") (record { at = 56; name = codes "x"; is_array = true } ∷ record { at = 65; name = codes "y"; is_array = false } ∷ []) [] ∷ []
 
@@ -557,7 +618,7 @@ pub a_parameter_again : faults (program_nodes (i.Core 0 (codes "a") (codes "f") 
 a_parameter_again = refl
 
 -- core a(f); core b(f); channel c(a, b, 1); async void f() { Send(c, 1); }
-abbrev with_a_channel : List Item
+abbrev pub with_a_channel : List Item
 with_a_channel = i.Core 0 (codes "a") (codes "f") ∷ i.Core 11 (codes "b") (codes "f") ∷ i.Channel 22 (codes "c") (codes "a") (codes "b") (pos 1)
     ∷ a_function 42 true false (codes "f") [] (s.Call 59 (e.Send 59 (codes "c") (a_number_at 67)) ∷ []) ∷ []
 
@@ -566,6 +627,71 @@ another_core_sends = rw (stmt_is _ (s.rolls-Call 59 (e.Send 59 (codes "c") (a_nu
 
 pub its_core_sends : faults (program_nodes with_a_channel (r.ByOne 0 ∷ [])) ≡ []
 its_core_sends = rw (stmt_is _ (s.rolls-Call 59 (e.Send 59 (codes "c") (a_number_at 67))), expr_is _ (e.rolls-Send 59 (codes "c") (a_number_at 67)), expr_is _ (e.rolls-Number 67 (pos 1))) refl
+
+-- core a(f); core b(f); channel c(a, b, 1); async void f() { int x; Recv(c, &x); }
+abbrev a_recv : Stmt
+a_recv = s.Call 66 (e.Recv 66 (codes "c") (e.Name 75 (codes "x")))
+
+abbrev with_a_recv : List Item
+with_a_recv = i.Core 0 (codes "a") (codes "f") ∷ i.Core 11 (codes "b") (codes "f") ∷ i.Channel 22 (codes "c") (codes "a") (codes "b") (pos 1)
+    ∷ a_function 42 true false (codes "f") [] (s.Int 59 (codes "x") None ∷ a_recv ∷ []) ∷ []
+
+pub its_core_receives : faults (program_nodes with_a_recv (r.ByOne 1 ∷ [])) ≡ []
+its_core_receives = rw (
+  stmt_is _ (s.rolls-Int 59 (codes "x") None),
+  stmt_is _ (s.rolls-Call 66 (e.Recv 66 (codes "c") (e.Name 75 (codes "x")))),
+  expr_is _ (e.rolls-Recv 66 (codes "c") (e.Name 75 (codes "x"))),
+  expr_is _ (e.rolls-Name 75 (codes "x")),
+) refl
+
+pub the_sending_core_receives : faults (program_nodes with_a_recv (r.ByOne 0 ∷ [])) ≡ (66, 11 ∷ []) ∷ []
+the_sending_core_receives = rw (
+  stmt_is _ (s.rolls-Int 59 (codes "x") None),
+  stmt_is _ (s.rolls-Call 66 (e.Recv 66 (codes "c") (e.Name 75 (codes "x")))),
+  expr_is _ (e.rolls-Recv 66 (codes "c") (e.Name 75 (codes "x"))),
+  expr_is _ (e.rolls-Name 75 (codes "x")),
+) refl
+
+-- core a(f); channel c(zz, f, 1); async void f() {} where zz is not declared and f is no core
+abbrev with_ends : List ℕ → List ℕ → List Item
+with_ends from to = i.Core 0 (codes "a") (codes "f") ∷ i.Channel 11 (codes "c") from to (pos 1) ∷ a_function 32 true false (codes "f") [] [] ∷ []
+
+pub one_end_is_not_declared : faults (program_nodes (with_ends (codes "zz") (codes "f")) (r.ByOne 0 ∷ [])) ≡ (11, 2 ∷ []) ∷ []
+one_end_is_not_declared = refl
+
+pub one_end_is_no_core : faults (program_nodes (with_ends (codes "a") (codes "f")) (r.ByOne 0 ∷ [])) ≡ (11, 4 ∷ []) ∷ []
+one_end_is_no_core = refl
+
+-- core a(f); async void f() { int h[3]; Write(g, 1, 1, h); } file g("d"); and with other names for the file and the array
+abbrev a_write : List ℕ → List ℕ → List Item
+a_write file array = one_core (s.Array 28 (codes "h") (pos 3) ∷ s.Call 38 (e.Write 38 file (a_number_at 47) (a_number_at 50) array) ∷ []) ++ i.File 59 (codes "g") (codes "d") ∷ []
+
+pub an_array_is_written : faults (program_nodes (a_write (codes "g") (codes "h")) (r.ByOne 0 ∷ [])) ≡ []
+an_array_is_written = rw (
+  stmt_is _ (s.rolls-Array 28 (codes "h") (pos 3)),
+  stmt_is _ (s.rolls-Call 38 (e.Write 38 (codes "g") (a_number_at 47) (a_number_at 50) (codes "h"))),
+  expr_is _ (e.rolls-Write 38 (codes "g") (a_number_at 47) (a_number_at 50) (codes "h")),
+  expr_is _ (e.rolls-Number 47 (pos 1)),
+  expr_is _ (e.rolls-Number 50 (pos 1)),
+) refl
+
+pub a_write_to_an_array : faults (program_nodes (a_write (codes "h") (codes "h")) (r.ByOne 0 ∷ [])) ≡ (38, 4 ∷ []) ∷ []
+a_write_to_an_array = rw (
+  stmt_is _ (s.rolls-Array 28 (codes "h") (pos 3)),
+  stmt_is _ (s.rolls-Call 38 (e.Write 38 (codes "h") (a_number_at 47) (a_number_at 50) (codes "h"))),
+  expr_is _ (e.rolls-Write 38 (codes "h") (a_number_at 47) (a_number_at 50) (codes "h")),
+  expr_is _ (e.rolls-Number 47 (pos 1)),
+  expr_is _ (e.rolls-Number 50 (pos 1)),
+) refl
+
+pub a_write_to_what_is_not_declared : faults (program_nodes (a_write (codes "zz") (codes "f")) (r.ByOne 0 ∷ [])) ≡ (38, 2 ∷ []) ∷ []
+a_write_to_what_is_not_declared = rw (
+  stmt_is _ (s.rolls-Array 28 (codes "h") (pos 3)),
+  stmt_is _ (s.rolls-Call 38 (e.Write 38 (codes "zz") (a_number_at 47) (a_number_at 50) (codes "f"))),
+  expr_is _ (e.rolls-Write 38 (codes "zz") (a_number_at 47) (a_number_at 50) (codes "f")),
+  expr_is _ (e.rolls-Number 47 (pos 1)),
+  expr_is _ (e.rolls-Number 50 (pos 1)),
+) refl
 
 -- core a(f); async int f() { if (1+f()) h[1] = f(); else h[-f()] = 1; return Read(g, 1, 1, h); } int h[3]; file g("d");
 abbrev call_at : ℕ → Expr
@@ -605,90 +731,6 @@ calls_in_values = rw (
   expr_is _ (e.rolls-Number 83 (pos 1)),
   expr_is _ (e.rolls-Number 86 (pos 1)),
 ) refl
-
--- ---- tables
-
-pub tables_of_two_cores : tables_of with_a_channel (r.BySeveral ∷ [])
-    ≡ record { functions = record { is_async = true; gives_int = false; params = [] } ∷ []; channels = record { from = Some 0; to = Some 1 } ∷ []; reached = r.BySeveral ∷ [] }
-tables_of_two_cores = refl
-
-pub kinds_of_parameters : signatures with_arrays ≡ record { is_async = true; gives_int = false; params = [] } ∷ record { is_async = false; gives_int = false; params = true ∷ false ∷ [] } ∷ []
-kinds_of_parameters = refl
-
-abbrev a_signature : Signature
-a_signature = record { is_async = true; gives_int = false; params = true ∷ false ∷ [] }
-
-pub by_its_signature : callee_of 3 (Some a_signature) ∷ callee_of 3 None ∷ [] ≡ Some (record { number = 3; is_async = true; gives_int = false; params = 2 }) ∷ None ∷ []
-by_its_signature = refl
-
-pub arrays_of_a_signature : is_array_in 0 (Some a_signature) ∷ is_array_in 1 (Some a_signature) ∷ is_array_in 2 (Some a_signature) ∷ is_array_in 0 None ∷ [] ≡ true ∷ false ∷ false ∷ false ∷ []
-arrays_of_a_signature = refl
-
--- of which the second name is no core
-pub two_ends : channel_ends (outermost with_a_channel) (codes "b") (codes "f") ≡ record { from = Some 1; to = None }
-two_ends = refl
-
-pub ends_of_all_channels : all_ends (outermost with_a_channel) with_a_channel ≡ record { from = Some 0; to = Some 1 } ∷ []
-ends_of_all_channels = refl
-
-pub numbers_of_functions_meant : map function_number (Some (m.Function 2) ∷ Some (m.Core 2) ∷ None ∷ []) ≡ Some 2 ∷ None ∷ None ∷ []
-numbers_of_functions_meant = refl
-
-pub it_calls_nothing : calls_in no_tables [] (one_core []) ≡ [] ∷ []
-it_calls_nothing = refl
-
-pub a_callee : callee (tables_of with_arrays []) (Some (m.Function 1)) ≡ Some (record { number = 1; is_async = false; gives_int = false; params = 2 })
-a_callee = refl
-
-pub no_callee : map (callee (tables_of with_arrays [])) (None ∷ Some (m.Core 0) ∷ Some (m.Function 2) ∷ []) ≡ None ∷ None ∷ None ∷ []
-no_callee = refl
-
-pub array_parameters : map (takes_array (tables_of with_arrays []) (Some (m.Function 1))) (0 ∷ 1 ∷ 2 ∷ []) ≡ true ∷ false ∷ false ∷ []
-array_parameters = refl
-
-pub ends_of_a_channel : map (ends_named (tables_of with_a_channel [])) (Some (m.Channel 0) ∷ Some (m.Channel 1) ∷ Some (m.File 0) ∷ [])
-    ≡ Some (record { from = Some 0; to = Some 1 }) ∷ None ∷ None ∷ []
-ends_of_a_channel = refl
-
-pub numbers_of_cores_meant : map core_number (Some (m.Core 2) ∷ Some (m.File 2) ∷ None ∷ []) ≡ Some 2 ∷ None ∷ None ∷ []
-numbers_of_cores_meant = refl
-
--- the second enters what is no function
-pub the_second_enters_none : entries_of (i.Core 0 (codes "a") (codes "f") ∷ i.Core 11 (codes "b") (codes "a") ∷ a_function 22 true false (codes "f") [] [] ∷ []) ≡ Some 0 ∷ None ∷ []
-the_second_enters_none = refl
-
-pub called_in_order : calls_of (record { at = 0; tests = []; calls = Some 3 } ∷ plain 4 [] ∷ record { at = 6; tests = []; calls = Some 1 } ∷ []) ≡ 3 ∷ 1 ∷ []
-called_in_order = refl
-
-pub without_a_row : map reached_in (None ∷ Some (r.ByOne 1) ∷ []) ≡ r.ByNone ∷ r.ByOne 1 ∷ []
-without_a_row = refl
-
--- ---- what is reached in `core a(f); async void f() {}`
-
-pub reached_by_its_core : AreReached (one_core []) (r.ByOne 0 ∷ [])
-reached_by_its_core = one_row
-
-pub not_reached_by_none : AreReached (one_core []) (r.ByNone ∷ []) → ⊥
-not_reached_by_none h = h.each 0 r.ByNone refl 0 (is_entry 0 refl)
-
-pub a_core_reaches_its_entry : Reaches (one_core []) 0 0
-a_core_reaches_its_entry = is_entry 0 refl
-
-pub no_other_core_does : Reaches (one_core []) 1 0 → ⊥
-no_other_core_does h = none_reached ([] ∷ []) _ 0 refl h
-
-pub a_core_reaches_what_its_entry_calls : Reaches with_arrays 0 1
-a_core_reaches_what_its_entry_calls =
-    subst (λ calls. reach.Reaches calls (Some 0 ∷ []) 0 1) (sym the_first_calls_the_second) (is_called 0 1 (is_entry 0 refl) (record { row = 1 ∷ []; stands = refl; among = here_is [] }))
-
-some_core : (core : ℕ) → Some core ≡ None → ⊥
-some_core core e = cc
-
-pub another_than_none : IsReachedByAnother (one_core []) 0 None
-another_than_none = record { other = 0; reaches = is_entry 0 refl; differs = some_core 0 }
-
-pub no_other_than_its_core : IsReachedByAnother (one_core []) 0 (Some 0) → ⊥
-no_other_than_its_core h = h.differs (ap (λ (k : ℕ). Some k) (only_core h.other h.reaches))
 
 -- ---- broken rules
 

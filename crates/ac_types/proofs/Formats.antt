@@ -1,4 +1,5 @@
--- The rule on formats holds exactly where the text is a format with as many holes as there are arguments.
+-- The rule on formats holds exactly where the text is a format with as many holes as there are arguments. One way is by recursion on
+-- the text, with whether a `%` is before; the other by recursion on the format as a row of bytes and holes.
 use Rattle.std.proofs.Common.{◌≡◌, ℕ, suc, ◌+◌, Bool, true, false, List, [], ◌∷◌, Option, None, Some, refl, ap, ◌∙◌, subst, arith}
 use Rattle.std.specs.Prelude.{nat_eq, if◌then◌else◌}
 use Rattle.std.proofs.lemmas.Bool.Decides.{nat_tests}

@@ -1,4 +1,5 @@
--- The nodes of each form of expression and statement, by those of its parts.
+-- The nodes of each form of expression and statement, by those of its parts. A fold over a tree does not compute at a form by itself;
+-- these two laws say what it is there, and examples and proofs above rewrite with them.
 use Rattle.std.proofs.Common.{◌≡◌, List, [], Option}
 use Rattle.std.specs.Prelude.{option_map}
 use Rattle.ac_tree.specs.declared.expr.Expr.{Expr, roll-Expr, map-Expr}

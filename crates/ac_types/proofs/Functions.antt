@@ -1,4 +1,5 @@
--- A walk after a function.
+-- A walk after a function. The function opens a scope, declares its parameters, sees its body and closes the scope with an empty
+-- frame; so the names are as before and what is seen has grown by the nodes of the function.
 use Rattle.std.proofs.Common.{◌≡◌, List, [], ◌∷◌, sym, ap, ◌∙◌}
 use Rattle.ac_tree.specs.declared.stmt.Stmt.{Stmt}
 use Rattle.ac_tree.specs.declared.item.Function.{Function}

@@ -1,4 +1,5 @@
--- The tables of a program, and the first rule of its items.
+-- The tables of a program, and the first rule of its items. The tables are made one after the other, the row of what is reached last;
+-- the calls do not depend on that row, so they can be told before it is known.
 use Rattle.std.proofs.Common.{◌≡◌, ℕ, suc, ◌≤◌, Bool, true, false, List, [], ◌∷◌, length, Option, None, refl, ap, ◌∙◌, subst, arith}
 use Rattle.std.specs.Prelude.{nat_eq, nat_lt}
 use Rattle.std.proofs.lemmas.Bool.Decides.{nat_tests}

@@ -1,4 +1,5 @@
--- The first rule of a program is that of its least pair.
+-- The first rule of a program is that of its least pair. There is one table of what is reached, so what is broken by some table is
+-- broken by the one at hand; the rest is the law on lists of nodes.
 use Rattle.std.proofs.Common.{◌≡◌, ℕ, List, Option, None, Some, sym, ap, ◌∙◌, subst}
 use Rattle.ac_tree.specs.declared.item.Item.{Item}
 use Rattle.ac_types.specs.declared.rule.BrokenRule.{BrokenRule}

@@ -14,3 +14,4 @@ pub mod Formats
 pub mod Others
 pub mod Forms
 mod Examples
+mod TableExamples

@@ -1,4 +1,5 @@
--- The first broken rule of a list of nodes is that of the least pair.
+-- The first broken rule of a list of nodes is that of the least pair. First the least rule of one node, by recursion on its tests;
+-- then the first node that breaks one, by recursion on the list, where the numbers of all later nodes are one higher.
 use Rattle.std.proofs.Common.{◌≡◌, ℕ, zero, suc, ◌<◌, ◌≤◌, ◌⊎◌, Bool, true, false, List, [], ◌∷◌, Option, None, Some, refl, inl, inr, arith, ap, subst}
 use Rattle.std.specs.Prelude.{nat_lt, if◌then◌else◌}
 use Rattle.std.proofs.lemmas.Bool.Decides.{nat_tests}

@@ -1,4 +1,5 @@
--- What stands in a checked tree by its number.
+-- What stands in a checked tree by its number. The counts are the lengths of the lists of items of each kind; what a core reaches is
+-- read off its row of flags; and a capacity is 1 to 64, since the channel of that number breaks no rule.
 use Rattle.std.proofs.Common.{◌≡◌, ℕ, zero, suc, ◌+◌, ◌<◌, ◌≤◌, inl, inr, Bool, true, false, List, [], ◌∷◌, length, slice_get, Some, refl, sym, ap, ◌∙◌, subst, arith}
 use Rattle.std.specs.Prelude.{ℤ, pos, negsuc, not, nat_le, if◌then◌else◌}
 use Rattle.std.proofs.lemmas.Bool.Decides.{nat_tests}

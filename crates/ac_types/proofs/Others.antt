@@ -1,4 +1,5 @@
--- The rule on the ends of a channel by what the cores reach.
+-- The rule on the ends of a channel by what the cores reach. The row of a function says none, one or several: by cases on the row and on
+-- the channel's core, the test is true just where some core reaches the function and is not that one.
 use Rattle.std.proofs.Common.{◌≡◌, ℕ, Bool, true, false, List, slice_get, Option, None, Some, refl, arith}
 use Rattle.std.specs.Prelude.{nat_eq, not}
 use Rattle.std.proofs.lemmas.Bool.Decides.{nat_tests}

@@ -1,4 +1,5 @@
--- What statements and items take of what is counted, by what they weigh.
+-- What statements and items take of what is counted, by what they weigh. A whole weighs more than its parts together, and a part takes at
+-- most 683 for each unit, so the room that is left after one part is enough for the next. Each law is a sum for one form.
 use Rattle.std.proofs.Common.{◌≡◌, ℕ, ◌+◌, ◌*◌, ◌<◌, ◌≤◌, List, ◌∷◌, length, Option, Some, None, refl, ap, ◌∙◌, arith}
 use Rattle.ac_tree.specs.declared.expr.Expr.{Expr}
 use Rattle.ac_tree.specs.declared.stmt.Stmt.{Stmt}

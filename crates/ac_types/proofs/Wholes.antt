@@ -1,4 +1,5 @@
--- What a walk has seen is what the nodes in preorder say: statements and items.
+-- What a walk has seen is what the nodes in preorder say, for statements, functions and items. As for expressions: one definition is
+-- read twice, and both agree by induction on the tree; a statement also declares the same and takes as many slots in both.
 use Rattle.std.proofs.Common.{◌≡◌, ℕ, ◌+◌, List, [], ◌∷◌, ◌++◌, length, map, slice_get, is_some, Option, Some, None, refl, sym, ap, ◌∙◌}
 use Rattle.ac_tree.specs.declared.expr.Expr.{Expr}
 use Rattle.ac_tree.specs.declared.stmt.Stmt.{Stmt}

@@ -7,7 +7,7 @@ use Rattle.ac_tree.specs.declared.item.Function.{Function}
 use Rattle.ac_tree.specs.declared.item.Param.{Param}
 use Rattle.ac_types.specs.declared.around.Around.{Around}
 use Rattle.ac_types.specs.declared.rule.Rule.TheVariants as rule
-use Rattle.ac_names.specs.declared.kind.Kind.TheVariants as k
+use Rattle.ac_names.specs.declared.kind.NameKind.TheVariants as k
 use Rattle.ac_names.specs.declared.meaning.Meaning.{Meaning}
 use Rattle.ac_names.specs.declared.meaning.Meaning.TheVariants as m
 use Rattle.ac_types.specs.declared.numbered.Callee.{Callee}
@@ -22,7 +22,7 @@ use Rattle.ac_names.specs.Scopes.{Declaration, in_scope, visible, in_inner}
 use Rattle.ac_names.specs.Kinds.{is_other, is_undeclared, is_declared, either, both}
 use Rattle.ac_types.specs.Tables.{callee}
 use Rattle.ac_types.specs.Nodes.{Node}
-use Rattle.ac_types.specs.Judged.{Tests, once_tests, array_tests}
+use Rattle.ac_types.specs.Judged.{Tests, lacks_one, once_tests, array_tests}
 use Rattle.ac_types.specs.Expressions.{plain, one_node, join_nodes}
 use Rattle.ac_names.specs.Items.{no_past, past_after, whole, outermost, kinds_in, param_named, params_named, function_names}
 use Rattle.ac_types.specs.Statements.{body_gives, stmt_all}
@@ -75,8 +75,8 @@ is_same_core _ _ = false
 abbrev pub link_tests : Option Meaning → Option Meaning → Option Meaning → ℤ → ℕ → Tests
 link_tests before from to cap channels =
     (rule.DeclaredOnce, is_declared before)
-    ∷ (rule.NameIsDeclared, either (is_undeclared from) (is_undeclared to))
-    ∷ (rule.NameFitsItsPlace, either (is_other k.Core from) (is_other k.Core to))
+    ∷ (rule.NameIsDeclared, lacks_one from to)
+    ∷ (rule.NameFitsItsPlace, both (not (lacks_one from to)) (either (is_other k.Core from) (is_other k.Core to)))
     ∷ (rule.ChannelIsAllowed, either (is_same_core from to) (either (not (is_capacity cap)) (nat_le 64 channels))) ∷ []
 
 -- a file with so many before it, by whether one of them has its path

@@ -6,7 +6,7 @@ use Rattle.ac_types.specs.declared.around.Position.{Position}
 use Rattle.ac_types.specs.declared.around.Position.TheVariants as p
 use Rattle.ac_types.specs.declared.rule.Rule.{Rule}
 use Rattle.ac_types.specs.declared.rule.Rule.TheVariants as rule
-use Rattle.ac_names.specs.declared.kind.Kind.TheVariants as k
+use Rattle.ac_names.specs.declared.kind.NameKind.TheVariants as k
 use Rattle.ac_names.specs.declared.meaning.Meaning.{Meaning}
 use Rattle.ac_types.specs.declared.numbered.Callee.{Callee}
 use Rattle.ac_types.specs.declared.numbered.Ends.{Ends}
@@ -16,6 +16,11 @@ use Rattle.ac_types.specs.Around.{is_array_position, is_used, is_partial, is_clo
 
 abbrev pub Tests : Type 0
 Tests = List (Rule × Bool)
+
+-- Of two names of one node one is not declared. That node breaks the rule on undeclared names and none that asks what its
+-- names are.
+abbrev pub lacks_one : Option Meaning → Option Meaning → Bool
+lacks_one one other = either (is_undeclared one) (is_undeclared other)
 
 -- ---- expressions
 
@@ -78,8 +83,12 @@ channel_tests meaning away a position =
 -- a Read or a Write
 abbrev pub file_tests : Option Meaning → Option Meaning → Around → Position → Tests
 file_tests file array a position =
-    (rule.NameIsDeclared, either (is_undeclared file) (is_undeclared array))
-    ∷ (rule.NameFitsItsPlace, either (is_other k.File file) (either (is_other k.Array array) (is_array_position position)))
+    (rule.NameIsDeclared, lacks_one file array)
+    ∷ (
+      rule.NameFitsItsPlace,
+      either (both (not (lacks_one file array)) (either (is_other k.File file) (is_other k.Array array)))
+          (is_array_position position),
+    )
     ∷ (rule.StandsInAsyncFunction, not a.is_async)
     ∷ (rule.CallStandsAlone, is_partial position) ∷ []
 

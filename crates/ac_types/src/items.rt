@@ -9,13 +9,13 @@ ghost use Rattle.ac_types.specs.inner.Seen.{least_broken};
 ghost use Rattle.ac_types.specs.inner.Items.{after_param, after_params, after_function, after_item, after_items};
 
 use crate::around::Around;
-use crate::judged::{is_declared, is_undeclared, judge_array, judge_once};
+use crate::judged::{is_declared, is_undeclared, judge_array, judge_once, lacks_one};
 use crate::numbered::{Callee, Tables};
 use crate::rule::Rule;
 use crate::seen::least;
 use crate::statements::{Walk, see_body};
 use ac_base::NoMemory;
-use ac_names::{Kind, Meaning, Past, is_other};
+use ac_names::{Meaning, NameKind, Past, is_other};
 use ac_reach::Reached;
 use ac_tree::{Function, Item, Param};
 use std::alloc::Global;
@@ -56,8 +56,9 @@ fn judge_link(
 ) -> Option<Rule>
     ensures { result ≡ least_broken (link_tests before from to cap channels) }
 {
-    let is_unknown = is_undeclared(from) || is_undeclared(to);
-    let is_no_core = is_other(Kind::Core, from) || is_other(Kind::Core, to);
+    let is_unknown = lacks_one(from, to);
+    let is_unfit = is_other(NameKind::Core, from) || is_other(NameKind::Core, to);
+    let is_no_core = !is_unknown && is_unfit;
     let is_too_much = !is_capacity(cap) || channels >= 64;
     let is_wrong = is_same_core(from, to) || is_too_much;
     let rest = least(Rule::ChannelIsAllowed, is_wrong, None);
@@ -92,7 +93,7 @@ fn judge_core(
 {
     let is_wrong = is_no_entry(callee);
     let rest = least(Rule::EntryIsAsyncWithoutParameters, is_wrong, None);
-    let is_no_function = is_other(Kind::Function, entry);
+    let is_no_function = is_other(NameKind::Function, entry);
     let rest = least(Rule::NameFitsItsPlace, is_no_function, rest);
     let rest = least(Rule::NameIsDeclared, is_undeclared(entry), rest);
     least(Rule::DeclaredOnce, is_declared(before), rest)

@@ -2,7 +2,7 @@
 
 ghost use Rattle.std.specs.Prelude.{◌≡◌, false};
 ghost use Rattle.ac_types.specs.Around.{is_array_position, is_used, is_partial, is_closed, is_reached_by_another};
-ghost use Rattle.ac_types.specs.Judged.{value_tests, is_misplaced, name_tests, index_tests, is_miscounted};
+ghost use Rattle.ac_types.specs.Judged.{lacks_one, value_tests, is_misplaced, name_tests, index_tests, is_miscounted};
 ghost use Rattle.ac_types.specs.Judged.{calls_async, uses_void, call_tests, sends_away, takes_away, channel_tests};
 ghost use Rattle.ac_types.specs.Judged.{file_tests, once_tests, is_size, array_tests, holes, is_misprinted};
 ghost use Rattle.ac_types.specs.Judged.{print_tests, leave_tests, return_tests, async_tests, body_tests, cancel_tests};
@@ -13,7 +13,7 @@ use crate::around::{Around, Position};
 use crate::numbered::{Callee, Ends};
 use crate::rule::Rule;
 use crate::seen::least;
-use ac_names::{Kind, Meaning, is_other};
+use ac_names::{Meaning, NameKind, is_other};
 use ac_reach::Reached;
 
 fn is_array(position: Position) -> bool
@@ -58,6 +58,13 @@ pub fn is_declared(meaning: Option<Meaning>) -> bool
     meaning.is_some()
 }
 
+/// Whether one of two names means nothing.
+pub fn lacks_one(one: Option<Meaning>, other: Option<Meaning>) -> bool
+    ensures { result ≡ lacks_one one other }
+{
+    is_undeclared(one) || is_undeclared(other)
+}
+
 /// What is no name.
 pub fn judge_value(position: Position) -> Option<Rule>
     ensures { result ≡ least_broken (value_tests position) }
@@ -69,8 +76,8 @@ fn is_misplaced(meaning: Option<Meaning>, position: Position) -> bool
     ensures { result ≡ is_misplaced meaning position }
 {
     match position {
-        Position::Array => is_other(Kind::Array, meaning),
-        _ => is_other(Kind::Int, meaning),
+        Position::Array => is_other(NameKind::Array, meaning),
+        _ => is_other(NameKind::Int, meaning),
     }
 }
 
@@ -87,7 +94,7 @@ pub fn judge_name(meaning: Option<Meaning>, position: Position) -> Option<Rule>
 pub fn judge_index(meaning: Option<Meaning>, position: Position) -> Option<Rule>
     ensures { result ≡ least_broken (index_tests meaning position) }
 {
-    let is_wrong = is_other(Kind::Array, meaning) || is_array(position);
+    let is_wrong = is_other(NameKind::Array, meaning) || is_array(position);
     let rest = least(Rule::NameFitsItsPlace, is_wrong, None);
     least(Rule::NameIsDeclared, is_undeclared(meaning), rest)
 }
@@ -129,7 +136,7 @@ pub fn judge_call(
 ) -> Option<Rule>
     ensures { result ≡ least_broken (call_tests meaning callee args around position) }
 {
-    let is_wrong = is_other(Kind::Function, meaning) || is_array(position);
+    let is_wrong = is_other(NameKind::Function, meaning) || is_array(position);
     let rest = least(Rule::CallStandsAlone, is_partial(position), None);
     let rest = least(Rule::ValueFitsFunction, uses_void(callee, position), rest);
     let rest = least(
@@ -185,7 +192,7 @@ fn judge_channel(
 ) -> Option<Rule>
     ensures { result ≡ least_broken (channel_tests meaning is_away around position) }
 {
-    let is_wrong = is_other(Kind::Channel, meaning) || is_array(position);
+    let is_wrong = is_other(NameKind::Channel, meaning) || is_array(position);
     let rest = least(Rule::CallStandsAlone, is_partial(position), None);
     let rest = least(Rule::OnlyItsEndUsesChannel, is_away, rest);
     let rest = least(Rule::StandsInAsyncFunction, !around.is_async, rest);
@@ -226,9 +233,9 @@ pub fn judge_file(
 ) -> Option<Rule>
     ensures { result ≡ least_broken (file_tests file array around position) }
 {
-    let is_unknown = is_undeclared(file) || is_undeclared(array);
-    let is_no_array = is_other(Kind::Array, array) || is_array(position);
-    let is_wrong = is_other(Kind::File, file) || is_no_array;
+    let is_unknown = lacks_one(file, array);
+    let is_unfit = is_other(NameKind::File, file) || is_other(NameKind::Array, array);
+    let is_wrong = (!is_unknown && is_unfit) || is_array(position);
     let rest = least(Rule::CallStandsAlone, is_partial(position), None);
     let rest = least(Rule::StandsInAsyncFunction, !around.is_async, rest);
     let rest = least(Rule::NameFitsItsPlace, is_wrong, rest);

@@ -1,4 +1,5 @@
--- A call that runs has a bound on steps within its limits, and a load its turns.
+-- A call that runs has a bound on steps within its limits, and a load its turns: for who has read the words and knows only that they are such
+-- a call (`ac_main`). A bound that is given is within them, by induction on the arguments (`given_within`), and so is the usual one.
 use Rattle.std.proofs.Common.{◌≡◌, ℕ, ◌≤◌, List, Option, None, Some, sym, subst, arith}
 use Rattle.std.specs.Prelude.{unwrap_or}
 use Rattle.ac_words.specs.declared.task.Task.{Task}

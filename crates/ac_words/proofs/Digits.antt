@@ -1,4 +1,5 @@
--- Digits of a bound on steps.
+-- Digits of a number, as the loop of `read_within` takes them: one more digit is ten times the value and the digit (`value_more`), and less than
+-- seven digits write less than a million (`value_small`), so that the next step stays within the machine's numbers.
 use Rattle.std.proofs.Common.{◌≡◌, ℕ, ◌+◌, ◌*◌, ◌^◌, ◌<◌, List, [], ◌∷◌, length, get_or, take, zero, suc, arith, subst, refl}
 use Rattle.std.specs.Char.{digit_value}
 use Rattle.std.specs.Str.Parse.{AllDigits, digits_value}

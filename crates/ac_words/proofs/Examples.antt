@@ -1,4 +1,6 @@
--- Words of a call, and what they ask for.
+-- Words of a call, and what they ask for: calls of each command by the cases of the grammar, and words that are no call.
+-- The latter are shown for each thing that a call may ask: its command would have another byte, or the words want an operand, or have one of
+-- another form.
 use Rattle.std.proofs.Common.{◌≡◌, refl, sym, ap, ◌∙◌, subst, ℕ, List, [], ◌∷◌, length, codes, Option, None, Some, arith}
 use Rattle.std.proofs.lemmas.List.Elements.{All-from_recursion}
 use Rattle.ac_words.specs.declared.task.Task.{Task}

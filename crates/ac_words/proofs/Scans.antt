@@ -1,4 +1,6 @@
--- What one more word does to the calls that are complete.
+-- What one more word does to the calls that are complete: the invariant of `read_arguments` says that what is read so far and the words that are
+-- left give the same calls as all the words, and each kind of word keeps it (`at_plain` and those behind it), both ways.
+-- The hard direction: a call in which the word stands is one of four (`Step`), and the word itself excludes three of them.
 use Rattle.std.proofs.Common.{◌≡◌, ℕ, List, [], ◌∷◌, ◌++◌, None, Some, codes, refl, sym, ap, ◌∙◌, subst, ◌<◌, ◌≤◌, ◌+◌, length, get_or, drop, map, add-one, drop-cons, arith}
 use Rattle.std.proofs.Common.{append-nil, append_assoc, length-append}
 use Rattle.std.proofs.lemmas.List.{drop_all}

@@ -32,7 +32,7 @@ pub struct Arguments<'a> {
 
 /// What a word is where options may stand.
 #[derive(Clone, Copy)]
-pub enum Kind<'a> {
+pub enum WordKind<'a> {
     /// It does not start with `-`.
     Plain,
     /// `--`, after which every word is an operand.
@@ -150,16 +150,16 @@ fn take_any<'a>(scan: Scan<'a>, word: &'a str) -> Option<Scan<'a>>
         ↔ Completes after words operands given) }
 {
     match kind_of(word) {
-        Kind::Plain => take_plain(scan, word),
-        Kind::OnlyOperands => Some(Scan {
+        WordKind::Plain => take_plain(scan, word),
+        WordKind::OnlyOperands => Some(Scan {
             next: Next::Operand,
             ..scan
         }),
-        Kind::Steps if scan.steps.is_none() => Some(Scan {
+        WordKind::Steps if scan.steps.is_none() => Some(Scan {
             next: Next::Value,
             ..scan
         }),
-        Kind::StepsAre(value) if scan.steps.is_none() => {
+        WordKind::StepsAre(value) if scan.steps.is_none() => {
             let number = read_bound(value)?;
             Some(Scan {
                 next: Next::Any,
@@ -171,20 +171,20 @@ fn take_any<'a>(scan: Scan<'a>, word: &'a str) -> Option<Scan<'a>>
     }
 }
 
-fn kind_of(word: &str) -> Kind<'_>
+fn kind_of(word: &str) -> WordKind<'_>
     ensures { IsKind word.now result }
 {
     let bytes = word.as_bytes();
     if word == "--" {
-        Kind::OnlyOperands
+        WordKind::OnlyOperands
     } else if word == "--steps" {
-        Kind::Steps
+        WordKind::Steps
     } else if let Some(value) = bytes.strip_prefix(b"--steps=") {
-        Kind::StepsAre(value)
+        WordKind::StepsAre(value)
     } else if bytes.first() == Some(&b'-') {
-        Kind::Other
+        WordKind::Other
     } else {
-        Kind::Plain
+        WordKind::Plain
     }
 }
 

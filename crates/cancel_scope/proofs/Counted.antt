@@ -1,4 +1,6 @@
 -- Counts of requests.
+-- `Outstanding` keeps how many of its operations are requests beside their list. By induction over the list: a change keeps the count,
+-- taking one away lowers it by what that one counts, and it is 0 just where none is a request.
 use Rattle.std.proofs.Common.{◌≡◌, ℕ, zero, suc, ◌+◌, ◌≤◌, ◌<◌, List, [], ◌∷◌, length, get_or, refl, sym, ap, ◌∙◌, arith}
 use Rattle.std.proofs.lemmas.Option.{slice_get_read}
 use Rattle.std.specs.Prelude.{Some, None, Bool, true, false, not, nat_eq, cond, slice_get, slice_set, ◌||◌}

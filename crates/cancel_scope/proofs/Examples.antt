@@ -1,4 +1,5 @@
 -- What the definitions of Outstanding say of a send, of a receive, and of a read and a write of a file.
+-- Each test of an operation stands with one of which it holds and one of which it does not; all of them compute.
 use Rattle.std.proofs.Common.{◌≡◌, refl, ℕ, pos, [], ◌∷◌, None}
 use Rattle.std.specs.Prelude.{true, false}
 use Rattle.ac_base.specs.declared.entry.Payload.TheVariants as payload

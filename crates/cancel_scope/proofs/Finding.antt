@@ -1,4 +1,6 @@
 -- The first of a list for which a test holds, and its place.
+-- The calls of `Outstanding` find a place and change or take away what is there; the definitions go by `find`, `change_first` and
+-- `without_first`. By induction over the list, with the place at which it begins, for no place found and for one that was.
 use Rattle.std.proofs.Common.{◌≡◌, ℕ, suc, ◌+◌, ◌<◌, List, [], ◌∷◌, length, set, refl, sym, ap, ◌∙◌, subst, arith}
 use Rattle.std.specs.Prelude.{Option, Some, None, Bool, true, false, cond, find, position, is_some, slice_get, if◌then◌else◌}
 use Rattle.std.specs.List.{remove, position_from}

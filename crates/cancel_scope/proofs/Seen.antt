@@ -1,4 +1,6 @@
 -- What is seen of a list of operations: a test of it, and one more of the list.
+-- For `waits`, which asks the operations and not what is seen of them, and for the loop of `seen`, whose invariant is that what was seen
+-- and what is left to see are the whole.
 use Rattle.std.proofs.Common.{◌≡◌, ℕ, zero, suc, ◌+◌, List, [], ◌∷◌, ◌++◌, drop, refl, sym, ap, ◌∙◌, append_assoc, arith}
 use Rattle.std.specs.Prelude.{Some, None, Bool, map, slice_get, ◌||◌}
 use Rattle.std.specs.List.{list_any}

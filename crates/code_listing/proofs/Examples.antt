@@ -1,4 +1,5 @@
--- What the listing of a code and its lines say, worked out by hand.
+-- What the listing of a code and its lines say, worked out by hand: a line for each number and kind of operands, each part, and a whole listing.
+-- All of it computes but the decimal numbers, which are rewritten by a lemma each.
 use Rattle.std.proofs.Common.{◌≡◌, refl, pos, [], ◌∷◌, codes, true, arith}
 use Rattle.std.specs.Prelude.{negsuc}
 use Rattle.std.proofs.lemmas.Fmt.{decimal_digit}

@@ -1,4 +1,5 @@
--- What the lines of a listing are made of, worked out by hand.
+-- What the lines of a listing are made of, worked out by hand: names, operands, heads of the parts, digits, and where a function ends.
+-- As in Examples, by computing and by the lemma of the one decimal.
 use Rattle.std.proofs.Common.{◌≡◌, refl, pos, [], ◌∷◌, codes, arith}
 use Rattle.std.specs.Prelude.{negsuc}
 use Rattle.std.specs.Fmt.{decimal}

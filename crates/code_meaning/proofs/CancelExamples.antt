@@ -1,4 +1,6 @@
 -- Cancelled blocks in the machine: a thread that cancels, operations that end by it, and one that starts after it.
+-- Threads and blocks stand as in the examples of the source's cancel; here a block is marked in the table, and a mark is looked for from a
+-- block outwards.
 use Rattle.std.proofs.Common.{◌≡◌, refl, ℕ, pos, List, [], ◌∷◌, Option, Some, None, Bool, true, false}
 use Rattle.std.specs.Prelude.{negsuc}
 use Rattle.ac_base.specs.declared.ends.EndWord.TheVariants.{Stalled}

@@ -1,4 +1,5 @@
 -- The run of short codes, and code whose instructions all have a meaning.
+-- A run computes move by move to its end. That a code comes to no other end is shown by going through the number of moves.
 use Rattle.std.proofs.Common.{◌≡◌, refl, sym, ap, ℕ, zero, suc, ℤ, pos, List, [], ◌∷◌, codes, Option, Some, true, false, arith}
 use Rattle.std.specs.Prelude.{negsuc, slice_get}
 use Rattle.std.proofs.lemmas.List.Elements.{All-from_recursion, recursion_from_All}

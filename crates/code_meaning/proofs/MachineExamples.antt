@@ -1,4 +1,6 @@
 -- What a move of the machine is made of, in small states.
+-- Each definition that `exec` is made of, with operands that are there and with some that lack; then one move of each kind, from an
+-- instruction to a thread that waits.
 use Rattle.std.proofs.Common.{◌≡◌, refl, ℕ, pos, List, [], ◌∷◌, Option, Some, None, Bool, true, false, codes}
 use Rattle.std.specs.Prelude.{negsuc, Ok, Err, ◌++◌}
 use Rattle.ac_base.specs.declared.ends.Trap.TheVariants.{Index}

@@ -1,4 +1,6 @@
 -- Reads and writes of files in the machine: they start on the core's own link, which is 2 here, and end by an answer.
+-- A request is taken off the operands with its range tested, waits, begins and is answered; a cancel withdraws it or is too late, where it
+-- has begun.
 use Rattle.std.proofs.Common.{◌≡◌, refl, ℕ, pos, List, [], ◌∷◌, Some, None, true, false}
 use Rattle.std.specs.Prelude.{negsuc, Ok, Err}
 use Rattle.ac_base.specs.declared.ends.Trap.TheVariants.{FileRange}

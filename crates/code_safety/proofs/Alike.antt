@@ -1,5 +1,6 @@
 -- No instruction but a cancel concerns the journal: with one entry more still to come it leads on too, and where it ends the core, nothing
 -- is seen of the end.
+-- By cases on the instruction, of two states that differ in the entries to come alone. Journal and the laws of replays use it.
 use Rattle.std.proofs.Common.{◌≡◌, ℕ, ◌+◌, List, [], ◌∷◌, ◌++◌, length, map, Option, Some, None, Result, Ok, Err, Bool, true, false, refl}
 use Rattle.std.specs.Prelude.{ℤ, reverse, take, drop, replicate, nat_le, nat_lt, nat_eq, slice_get, ◌&&◌, if◌then◌else◌}
 use Rattle.ac_base.specs.declared.ends.Trap.{Trap}
@@ -174,6 +175,7 @@ module _ (e : Entry) (m : Flat) where
         by true x y h = (refl, record { past = refl; todo = refl; turn = refl })
         by false x y h = h
 
+    -- Most instructions do the same in both by computation; those that share a way to take operands or to trap go by the laws above.
     pub begin_alike : (o : Option Instr) → is_cancel o ≡ false → T (begin code bound m t o) (begin code bound m' t o)
     begin_alike None p = (refl, kept)
     begin_alike (Some i.Step) p = step_alike

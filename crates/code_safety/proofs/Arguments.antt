@@ -1,4 +1,6 @@
 -- What the slots of a new frame hold.
+-- The operands of a call are as its parameters ask, a slot behind them holds 0, and a slot of a body without parameters too; so each slot
+-- is as its uses ask. By induction over parameters and operands together.
 use Rattle.std.proofs.Common.{◌≡◌, ◌⊎◌, ℕ, zero, suc, ◌+◌, ◌-◌, ◌≤◌, List, [], ◌∷◌, ◌++◌, length, take, length-append, Some, None, Bool, true, false, refl, sym, ap, ◌∙◌, subst, inl, inr}
 use Rattle.std.proofs.Common.{arith}
 use Rattle.std.specs.Prelude.{map, reverse, replicate, slice_get, unwrap_or, pos}
@@ -8,7 +10,7 @@ use Rattle.work_item.specs.declared.cell.Cell.{Cell}
 use Rattle.work_item.specs.declared.cell.Cell.TheVariants as cell
 use Rattle.work_item.specs.Store.{no_int}
 use Rattle.core_state.specs.Frames.{argument, arguments, first_cells}
-use Rattle.stack_code.specs.declared.shape.Kind.TheVariants as kind
+use Rattle.stack_code.specs.declared.shape.CellKind.TheVariants as kind
 use Rattle.stack_code.specs.declared.shape.Home.{Home}
 use Rattle.stack_code.specs.declared.shape.Want.{Want}
 use Rattle.stack_code.specs.Parts.{Parts}

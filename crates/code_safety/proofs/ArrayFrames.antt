@@ -1,4 +1,6 @@
 -- Each array that a thread which lives can name lies in its frame, where that lives, or in the globals.
+-- Of each operand, caller and operation of a fit state: its kind says that it is an array of a frame's slots from its birth on, and a frame
+-- keeps its length.
 use Rattle.std.proofs.Common.{◌≡◌, ℕ, ◌+◌, ◌≤◌, List, [], ◌∷◌, length, Option, Some, None, Bool, true, false, sym, ap, ◌∙◌, subst, arith}
 use Rattle.std.specs.Prelude.{All, nat_eq, slice_index_or, if◌then◌else◌}
 use Rattle.std.proofs.lemmas.List.Elements.{All-nil, All-cons, All-tail}
@@ -11,8 +13,8 @@ use Rattle.work_item.specs.Store.{Store, no_int, no_cells, cells_of}
 use Rattle.cancel_scope.specs.declared.operation.Asked.{Asked}
 use Rattle.cancel_scope.specs.declared.operation.Asked.TheVariants as asked
 use Rattle.cancel_scope.specs.declared.operation.Operation.{Operation}
-use Rattle.stack_code.specs.declared.shape.Kind.{Kind}
-use Rattle.stack_code.specs.declared.shape.Kind.TheVariants as kind
+use Rattle.stack_code.specs.declared.shape.CellKind.{CellKind}
+use Rattle.stack_code.specs.declared.shape.CellKind.TheVariants as kind
 use Rattle.stack_code.specs.declared.shape.Shape.{Shape}
 use Rattle.stack_code.specs.Parts.{Parts}
 use Rattle.code_meaning.specs.Machine.{Caller, Thread, Flat, thread_at, given}
@@ -34,7 +36,7 @@ module _ (code : Parts) (births : List Birth) (s : Store) (st : IsStore code bir
       let inside = h.inside in
       omega (arith, long, inside)
 
-  pub kind_lies : (k : Kind) (x : Cell) → HasKind code births k x → ArrayLiesThere s x
+  pub kind_lies : (k : CellKind) (x : Cell) → HasKind code births k x → ArrayLiesThere s x
   kind_lies kind.Int (cell.Int value) h = tt
   kind_lies kind.Int (cell.Array place) h = absurd h
   kind_lies kind.Int (cell.Block b) h = absurd h
@@ -42,7 +44,7 @@ module _ (code : Parts) (births : List Birth) (s : Store) (st : IsStore code bir
   kind_lies (kind.Reference one) (cell.Array place) h = ints_lie place.home place.start place.len h.ints
   kind_lies (kind.Reference one) (cell.Block b) h = absurd h
 
-  kinds_lie : (kinds : List Kind) (operands : List Cell) → HaveKinds code births kinds operands → All (ArrayLiesThere s) operands
+  kinds_lie : (kinds : List CellKind) (operands : List Cell) → HaveKinds code births kinds operands → All (ArrayLiesThere s) operands
   kinds_lie [] [] h = All-nil (ArrayLiesThere s)
   kinds_lie [] (x ∷ operands) h = absurd h
   kinds_lie (k ∷ kinds) [] h = absurd h

@@ -1,4 +1,6 @@
 -- No reference dangles where an entry comes in: ints are set, and the thread whose operation has ended goes on with one more.
+-- By the cases of `Comes` (Arriving). Frames, origins and blocks stay; the thread moves from those that wait to those that are ready, with
+-- an int on top, which names nothing.
 use Rattle.std.proofs.Common.{◌≡◌, ◌⊎◌, ◌+◌, ◌<◌, List, [], ◌∷◌, ◌++◌, length, Option, Some, None, Bool, true, false, refl, sym, ap, ◌∙◌, subst, inl, inr, arith}
 use Rattle.std.specs.Prelude.{ℤ, All, nat_eq, if◌then◌else◌}
 use Rattle.std.proofs.lemmas.List.{get_or-set_same, get_or-set_other}

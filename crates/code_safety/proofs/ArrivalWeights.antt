@@ -1,4 +1,6 @@
 -- An entry that comes in leaves no more to do.
+-- By the cases of `Comes`: an operation that is offered or has begun has one entry less before it, and one that has ended makes way for its
+-- thread, which weighs the same.
 use Rattle.std.proofs.Common.{◌≡◌, ℕ, ◌+◌, ◌-◌, ◌*◌, ◌<◌, ◌≤◌, List, [], ◌∷◌, ◌++◌, true, refl, sym, ap, ◌∙◌, subst, inl, inr, arith}
 use Rattle.std.specs.Prelude.{ℤ, sum, slice_set, ◌&&◌}
 use Rattle.std.proofs.lemmas.Bool.{cases_eq}

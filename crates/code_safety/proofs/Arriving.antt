@@ -1,4 +1,6 @@
 -- What an entry that comes in makes of a state, and that the state stays fit.
+-- `Comes` has the ways in which an entry can change the operations; whatever it is about, the state stays fit. The hard case is an
+-- operation that ends: its thread comes to the ready ones, and is fit there just because it was fit as it would go on (`going_on`).
 use Rattle.std.proofs.Common.{◌≡◌, ℕ, ◌+◌, ◌<◌, List, [], ◌∷◌, ◌++◌, length, Option, Some, None, Bool, true, false, refl, sym, ap, ◌∙◌, subst, inl, inr, arith}
 use Rattle.std.specs.Prelude.{All, ℤ, pos, find, nat_eq, slice_set, if◌then◌else◌, not, ◌&&◌}
 use Rattle.std.proofs.lemmas.Bool.{and_parts, eqb-true}
@@ -24,8 +26,8 @@ use Rattle.core_state.specs.Arrivals as arrivals
 use Rattle.core_state.specs.Arrivals.{Arrival, ends_received, goes_on_waiting, has_ended, has_ended_as, is_answered, is_known, keeps_room, offers, offers_on, passes_over, gives_room, with_message}
 use Rattle.core_state.specs.Requests.{value_of, with_answer}
 use Rattle.core_state.specs.Shared.{Shared}
-use Rattle.stack_code.specs.declared.shape.Kind.{Kind}
-use Rattle.stack_code.specs.declared.shape.Kind.TheVariants as kind
+use Rattle.stack_code.specs.declared.shape.CellKind.{CellKind}
+use Rattle.stack_code.specs.declared.shape.CellKind.TheVariants as kind
 use Rattle.stack_code.specs.Parts.{Parts}
 use Rattle.stack_code.specs.Valid.{HasOneUse}
 use Rattle.code_meaning.specs.Machine.{Block, Flat, Thread, arrived, given, nobody, thread_at}
@@ -132,11 +134,11 @@ module _ (store : Store) (os : List Operation) (x : Arrival) where
 
 -- ---- another int in the place of the one that is awaited
 
-int_kind_of : (code : Parts) (births : List Birth) (k : Kind) (v w : ℤ) → HasKind code births k (cell.Int v) → HasKind code births k (cell.Int w)
+int_kind_of : (code : Parts) (births : List Birth) (k : CellKind) (v w : ℤ) → HasKind code births k (cell.Int v) → HasKind code births k (cell.Int w)
 int_kind_of code births kind.Int v w h = tt
 int_kind_of code births (kind.Reference one) v w h = absurd h
 
-int_kinds_of : (code : Parts) (births : List Birth) (kinds : List Kind) (v w : ℤ) (below : List Cell) → HaveKinds code births kinds (cell.Int v ∷ below)
+int_kinds_of : (code : Parts) (births : List Birth) (kinds : List CellKind) (v w : ℤ) (below : List Cell) → HaveKinds code births kinds (cell.Int v ∷ below)
     → HaveKinds code births kinds (cell.Int w ∷ below)
 int_kinds_of code births [] v w below h = absurd h
 int_kinds_of code births (k ∷ kinds) v w below h = (int_kind_of code births k v w h.0, h.1)
@@ -284,6 +286,7 @@ module _ (code : Parts) (m : Flat) (fit : IsFit code m) (shared : Shared) (front
               waiting = λ b w. absurd (let no : Going ≡ AtFinish b = sym goes ∙ w in cc);
             }
 
+    -- Its thread alone changes place: it waited for one operation, so it waits for none now, and each other thread goes on as before.
     pub ended_fit : IsFit code
         (record m {
           shared = shared;

@@ -1,4 +1,6 @@
 -- The first state of valid code is fit, and from a fit state on a core comes to one end and to no other.
+-- The end comes by induction on a bound of what is left to do and to come: each move leads to a fit state with less of it (Moving). Where
+-- there is no room for the first frame, the core is over at once.
 use Rattle.std.proofs.Common.{◌≡◌, ℕ, zero, suc, ◌+◌, ◌≤◌, ◌<◌, List, [], ◌∷◌, length, Some, None, Bool, true, false, refl, sym, ap, ◌∙◌, subst, arith}
 use Rattle.std.specs.Prelude.{ℤ, pos, slice_index_or, slice_set, replicate, nat_le}
 use Rattle.std.proofs.lemmas.Bool.Decides.{nat_tests}

@@ -1,4 +1,6 @@
 -- No reference dangles where a block is entered, and where its owner arrives at its finish.
+-- A block that is entered has its site in the innermost frame. An owner that passes gives back its innermost block, in which no thread
+-- lives, so that no stack stands on it; one that waits stands in the frame in which it entered the block.
 use Rattle.std.proofs.Common.{◌≡◌, ℕ, ◌+◌, List, [], ◌∷◌, ◌++◌, length, length-append, Option, Some, None, Bool, true, false, refl, sym, ap, ◌∙◌, subst, inl, inr, arith}
 use Rattle.std.specs.Prelude.{slice_get, nat_eq, if◌then◌else◌}
 use Rattle.std.proofs.lemmas.Bool.{eqb-true}

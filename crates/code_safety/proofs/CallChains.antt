@@ -1,4 +1,6 @@
 -- No reference dangles where a function is called, and where one returns.
+-- A call makes one frame more, whose link is the caller's. A return gives the frame back; that nobody names it any more is Releasing, that
+-- no body lives in it Childless.
 use Rattle.std.proofs.Common.{◌≡◌, ℕ, suc, ◌+◌, ◌<◌, List, [], ◌∷◌, ◌++◌, length, take, drop, Some, None, true, refl, sym, ap, ◌∙◌, subst, inl, inr, arith}
 use Rattle.std.specs.Prelude.{ℤ, slice_get, nat_eq, ◌&&◌, replicate, reverse, ◌-◌}
 use Rattle.std.proofs.lemmas.Bool.{and_parts}
@@ -13,8 +15,8 @@ use Rattle.core_state.specs.Moves.{On}
 use Rattle.core_state.specs.Frames.{arguments, begun, first_cells}
 use Rattle.stack_code.specs.declared.instr.Instr.TheVariants as i
 use Rattle.stack_code.specs.declared.parts.Entered.{Entered}
-use Rattle.stack_code.specs.declared.shape.Kind.{Kind}
-use Rattle.stack_code.specs.declared.shape.Kind.TheVariants as kind
+use Rattle.stack_code.specs.declared.shape.CellKind.{CellKind}
+use Rattle.stack_code.specs.declared.shape.CellKind.TheVariants as kind
 use Rattle.stack_code.specs.declared.shape.OpenBlock.{OpenBlock}
 use Rattle.stack_code.specs.declared.shape.Shape.{Shape}
 use Rattle.stack_code.specs.declared.shape.Leads.{Leads}
@@ -62,7 +64,7 @@ module _ (code : Parts) (bound : ℕ) (m : Flat) (v : IsValid code) (fit : IsFit
 
   -- ---- a call
 
-  module _ (number count : ℕ) (here : slice_get code.instrs place ≡ Some (i.Call number count)) (function : Entered) (kinds : List Kind)
+  module _ (number count : ℕ) (here : slice_get code.instrs place ≡ Some (i.Call number count)) (function : Entered) (kinds : List CellKind)
       (ways : effect code place (i.Call number count) s ≡ Some (Two (place + 1) (pushed kind.Int (with_operands s kinds)) function.at (first number function))) (args below : List Cell)
       (args_name : AllName chained.origins top args) (below_name : AllName chained.origins top below) where
     abbrev cells : List Cell

@@ -1,4 +1,6 @@
 -- A state stays fit at a call and at a return.
+-- A call puts a caller on the stack that waits for one int, and a new frame of the function that is called; a return takes both off. What
+-- other threads have is kept by Lasting.
 use Rattle.std.proofs.Common.{◌≡◌, ℕ, suc, ◌+◌, ◌≤◌, ◌<◌, ◌^◌, List, [], ◌∷◌, ◌++◌, length, take, drop, Option, Some, None, Result, Ok, Err, Bool, true, false, refl, sym, ap, ◌∙◌, subst}
 use Rattle.std.proofs.Common.{inl, inr, arith}
 use Rattle.std.specs.Prelude.{slice_get, reverse, map, nat_eq, ◌&&◌, if◌then◌else◌}
@@ -17,8 +19,8 @@ use Rattle.core_state.specs.Moves.{Move, On}
 use Rattle.core_state.specs.Frames.{begun, has_words, first_cells, arguments}
 use Rattle.stack_code.specs.declared.instr.Instr.TheVariants as i
 use Rattle.stack_code.specs.declared.parts.Entered.{Entered}
-use Rattle.stack_code.specs.declared.shape.Kind.{Kind}
-use Rattle.stack_code.specs.declared.shape.Kind.TheVariants as kind
+use Rattle.stack_code.specs.declared.shape.CellKind.{CellKind}
+use Rattle.stack_code.specs.declared.shape.CellKind.TheVariants as kind
 use Rattle.stack_code.specs.declared.shape.Home.TheVariants as home
 use Rattle.stack_code.specs.declared.shape.Shape.{Shape}
 use Rattle.stack_code.specs.declared.shape.OpenBlock.{OpenBlock}
@@ -76,7 +78,7 @@ module _ (code : Parts) (bound : ℕ) (m : Flat) (fit : IsFit code m) (t : Item)
 
   -- ---- a call
 
-  module _ (number count : ℕ) (here : slice_get code.instrs place ≡ Some (i.Call number count)) (function : Entered) (is : slice_get code.functions number ≡ Some function) (kinds : List Kind)
+  module _ (number count : ℕ) (here : slice_get code.instrs place ≡ Some (i.Call number count)) (function : Entered) (is : slice_get code.functions number ≡ Some function) (kinds : List CellKind)
       (ways : effect code place (i.Call number count) s ≡ Some (Two (place + 1) (pushed kind.Int (with_operands s kinds)) function.at (first number function))) (args below : List Cell) where
     abbrev birth : Birth
     birth = record { home = home.Function number; slots = function.words; item = t }
@@ -218,7 +220,7 @@ module _ (code : Parts) (bound : ℕ) (m : Flat) (fit : IsFit code m) (t : Item)
 
   -- ---- a return
 
-  some_top : (kinds : List Kind) (operands : List Cell) → is_int_alone kinds ≡ true → HaveKinds code fit.births kinds operands → (x : Cell) × ((below : List Cell) × (operands ≡ x ∷ below))
+  some_top : (kinds : List CellKind) (operands : List Cell) → is_int_alone kinds ≡ true → HaveKinds code fit.births kinds operands → (x : Cell) × ((below : List Cell) × (operands ≡ x ∷ below))
   some_top [] operands e k = let no : false ≡ true = e in cc
   some_top (kind ∷ kinds) [] e k = absurd k
   some_top (kind ∷ kinds) (x ∷ below) e k = (x, (below, refl))

@@ -1,4 +1,6 @@
 -- Each move of a cancel leads from a fit state to a fit state in which less is left to do, and no reference dangles there.
+-- A cancel tries one operation after another, so any property that a mark, a tried operation and its end keep holds where it leads; fitness
+-- with what is left, and chains, are two such properties. A tried operation ends as by an entry (Arriving).
 use Rattle.std.proofs.Common.{◌≡◌, ℕ, ◌+◌, ◌<◌, ◌≤◌, List, [], ◌∷◌, length, Option, Some, None, Bool, true, false, refl, sym, ap, ◌∙◌, subst, arith}
 use Rattle.std.specs.Prelude.{ℤ, find, slice_get, nat_eq, if◌then◌else◌}
 use Rattle.ac_base.specs.declared.entry.Entry.{Entry}
@@ -11,7 +13,7 @@ use Rattle.cancel_scope.specs.Outstanding.{as_begun, change_first, is_request, w
 use Rattle.core_state.specs.Moves.{On, Over}
 use Rattle.core_state.specs.Shared.{Shared, with_entry}
 use Rattle.core_state.specs.Arrivals.{Arrival, goes_on_waiting, has_ended_as, ok, cancelled}
-use Rattle.core_state.specs.Cancelling.{Outcome, NeverHappens, IsTaken, by_outcome, outcome, goes_by, decided, tried, tries, is_to_try}
+use Rattle.core_state.specs.Cancelling.{Fate, NeverHappens, IsTaken, by_outcome, outcome, goes_by, decided, tried, tries, is_to_try}
 use Rattle.stack_code.specs.declared.instr.Instr.TheVariants as i
 use Rattle.stack_code.specs.declared.shape.Shape.{Shape}
 use Rattle.stack_code.specs.declared.shape.Leads.TheVariants.{One}
@@ -43,7 +45,7 @@ use Rattle.code_safety.proofs.Waiting.{IsFound, found_at}
 -- ---- what holds of each state to which such a move leads
 
 -- only what stands under an offer is taken
-abbrev pub CanBe : Progress → Outcome → Type 0
+abbrev pub CanBe : Progress → Fate → Type 0
 CanBe p NeverHappens = Unit {0}
 CanBe p IsTaken = (number : ℕ) × (p ≡ Offered number)
 
@@ -51,12 +53,12 @@ module _ (P : Flat → Type 0) (m : Flat) (block : BlockId) where
   abbrev pub to_try : Operation → Bool
   to_try = is_to_try (is_inside m block)
 
-  abbrev pub made : Outcome → Operation → Arrival
+  abbrev pub made : Fate → Operation → Arrival
   made it o = by_outcome it m.store to_try m.operations o
 
   -- it holds where an operation has been tried, after so many entries, and where none was left to try
   module _ (on : (o : Operation) → find to_try m.operations ≡ Some o → (shared : Shared) → shared.steps ≡ m.shared.steps → length shared.todo ≤ length m.shared.todo
-      → (it : Outcome) → CanBe o.progress it → P (arrived (marked m block) shared (made it o)))
+      → (it : Fate) → CanBe o.progress it → P (arrived (marked m block) shared (made it o)))
       (past : P (record (marked m block) { current = record m.current { place = m.current.place + 1; operands = m.current.operands }; count = counted m.count })) where
     by_entry : (o : Operation) → find to_try m.operations ≡ Some o → (number : ℕ) → o.progress ≡ Offered number → (todo : List Entry) → m.shared.todo ≡ todo → Onward P
         (decided (told (counted m.count)) m.shared m.store.globals m.operations o.link number (λ shared it. On (arrived (marked m block) shared (made it o))) todo)
@@ -66,15 +68,15 @@ module _ (P : Flat → Type 0) (m : Flat) (block : BlockId) where
         fewer : length ys ≤ length m.shared.todo
         fewer = let k = ap length t in omega (arith, k)
 
-        can : (it : Outcome) → CanBe o.progress it
+        can : (it : Fate) → CanBe o.progress it
         can NeverHappens = tt
         can IsTaken = (number, under)
 
-        by : (r : Option Outcome) → Onward P (goes_by (told (counted m.count)) (λ it. On (arrived (marked m block) (with_entry m.shared y ys) (made it o))) r)
+        by : (r : Option Fate) → Onward P (goes_by (told (counted m.count)) (λ it. On (arrived (marked m block) (with_entry m.shared y ys) (made it o))) r)
         by None = tt
         by (Some it) = on o e (with_entry m.shared y ys) refl fewer it (can it)
 
-        go : (b : Bool) (r : Option Outcome) → Onward P
+        go : (b : Bool) (r : Option Fate) → Onward P
             (if b then goes_by (told (counted m.count)) (λ it. On (arrived (marked m block) (with_entry m.shared y ys) (made it o))) r else Over (told (counted m.count) None))
         go true r = by r
         go false r = tt
@@ -167,7 +169,7 @@ module _ (code : Parts) (bound : ℕ) (v : IsValid code) (m : Flat) (fit : IsFit
           (changed_fit code now fit_now shared f.front f.back o f.is (as_begun o) refl refl, omega (arith, falls, same, fewer))
       taken number under false r = ended ok
 
-      pub tried_better : (it : Outcome) → CanBe o.progress it → Better (arrived now shared (made Better m block it o))
+      pub tried_better : (it : Fate) → CanBe o.progress it → Better (arrived now shared (made Better m block it o))
       tried_better NeverHappens can = ended cancelled
       tried_better IsTaken can = taken can.0 can.1 (is_request o.asked) refl
 
@@ -201,7 +203,7 @@ module _ (code : Parts) (bound : ℕ) (v : IsValid code) (m : Flat) (fit : IsFit
           (changed_chained code now fit_now chained_now shared its.front its.back o its.is (as_begun o) refl refl)
       taken_safe false = ended_safe ok
 
-      pub tried_safe : (it : Outcome) → AreChained code (arrived now shared (made (AreChained code) m block it o))
+      pub tried_safe : (it : Fate) → AreChained code (arrived now shared (made (AreChained code) m block it o))
       tried_safe NeverHappens = ended_safe cancelled
       tried_safe IsTaken = taken_safe (is_request o.asked)
 

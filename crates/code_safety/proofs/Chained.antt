@@ -1,4 +1,6 @@
 -- What stays on a chain: frames only come to be further in.
+-- Chains grow at their inner end, so what was on a chain stays so when an origin is added; the end of a chain lives as long as its
+-- beginning; and what cells name is carried through all that is done with lists of cells.
 use Rattle.std.proofs.Common.{◌≡◌, ◌⊎◌, ℕ, zero, suc, List, [], ◌∷◌, ◌++◌, length, take, drop, Option, Some, None, Bool, true, false, refl, sym, ap, ◌∙◌, subst, inl, inr}
 use Rattle.std.specs.Prelude.{slice_get, slice_index_or, slice_set, replicate, reverse}
 use Rattle.std.proofs.lemmas.List.{reverse-append}

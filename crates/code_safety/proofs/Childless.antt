@@ -1,4 +1,7 @@
 -- No body lives in the frame of a function that returns: each that lived would be of a thread started in a block that is entered there.
+-- By induction on the number of the thread: a body there is the bottom of its thread, which was started in a block further out; that block
+-- was entered in this frame, where none is left, or in a body that lies in it too, whose owner is an older thread. A body whose end has
+-- come lives on for a younger one.
 use Rattle.std.proofs.Common.{◌≡◌, ◌⊎◌, ℕ, zero, suc, ◌+◌, ◌≤◌, ◌<◌, List, length, Option, Some, None, Bool, true, false, refl, sym, ap, ◌∙◌, subst, inl, inr, arith}
 use Rattle.std.specs.Prelude.{slice_get}
 use Rattle.work_item.specs.declared.ids.Item.{Item}

@@ -1,4 +1,6 @@
 -- A state stays fit where its thread ends, which may wake the owner of its block.
+-- The thread counts in the block in which it was started, and that alone has one less. If that was the last and the owner waits, the block
+-- is given back and the owner comes to the front of the ready ones; the two cases are shown one after the other.
 use Rattle.std.proofs.Common.{◌≡◌, ◌⊎◌, ℕ, ◌+◌, ◌-◌, ◌≤◌, ◌<◌, List, [], ◌∷◌, length, Option, Some, None, IsSome, Bool, true, false, refl, sym, ap, ◌∙◌, subst, inl, inr, arith}
 use Rattle.std.specs.Prelude.{slice_get, slice_set, nat_eq, nat_lt, not, ◌&&◌, ◌||◌, if◌then◌else◌}
 use Rattle.std.specs.List.{list_any}
@@ -180,6 +182,7 @@ module _ (code : Parts) (bound : ℕ) (m : Flat) (fit : IsFit code m) (t : Item)
           more_than_one : x.waits ≡ true → 0 < x.count → 0 < x.count - 1
           more_than_one w lt = elim (cases_eq x.count 1) as (λ _. 0 < x.count - 1) [ inl one ↦ absurd (some one w) | inr ne ↦ omega (arith, lt, ne) ]
 
+      -- The block of the thread counts one less; of any other block nothing has changed, since the thread was started in no other and owns none.
       all_blocks : (c : BlockId) (y : Block) → block_at blocks c ≡ Some y → IsBlock left blocks c y
       all_blocks c y e =
           let z = still_of c y e in
@@ -348,6 +351,7 @@ module _ (code : Parts) (bound : ℕ) (m : Flat) (fit : IsFit code m) (t : Item)
       before_parent None e = subst (IsBefore b.number) (sym e) tt
       before_parent (Some p) e = let lt = rooted_of code m fit b x p here (sym round ∙ e) in subst (IsBefore b.number) (sym e) lt
 
+      -- The woken owner goes on where it stood; each other thread keeps its blocks, as the one that is given back is the innermost of its owner.
       alive_now : (u : Item) → is_living (life_at lives u).phase ≡ true → IsAlive code fit.births store table u (life_at lives u)
       alive_now u e = elim (same_or_other t u) as (λ _. IsAlive code fit.births store table u (life_at lives u)) [
         | inl same ↦ absurd (let k : is_living (life_at lives t).phase ≡ true = ap (λ z. is_living (life_at lives z).phase) same ∙ e in
@@ -394,6 +398,7 @@ module _ (code : Parts) (bound : ℕ) (m : Flat) (fit : IsFit code m) (t : Item)
         | inr away ↦ ap f (lives_other zeroth not_first away)
       ]
 
+      -- The parts of a fit state, each from the laws above: the thread is out, the owner is listed once, and the block is gone.
       wakes_fit : IsFit code (stops (with_store m store) t nobody (x.owner ∷ m.ready) table)
       wakes_fit = stops_fit code m fit t run fit.births lives m.shared store (left_store code fit.births m.store gone fit.store) m.operations nobody (x.owner ∷ m.ready) table
           (counted m.count) alive_now table_blocks

@@ -1,4 +1,6 @@
 -- No reference dangles where a thread ends: no block is left that was entered in its frame.
+-- A body has no callers, so its frame is the only one of its thread; it is given back, or lives on for a body in it. Then the block in
+-- which the thread was started counts one less, and its owner may wake, out of that block.
 use Rattle.std.proofs.Common.{◌≡◌, ◌⊎◌, ℕ, ◌+◌, ◌-◌, ◌≤◌, ◌<◌, List, [], ◌∷◌, length, Option, Some, None, Bool, true, false, refl, sym, ap, ◌∙◌, subst, inl, inr, arith}
 use Rattle.std.specs.Prelude.{slice_set, nat_eq, nat_lt, not, ◌&&◌}
 use Rattle.std.proofs.lemmas.Bool.{and_parts, eqb-true}

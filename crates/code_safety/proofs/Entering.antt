@@ -1,4 +1,6 @@
 -- A state stays fit where its thread enters a block.
+-- The new block is the newest of the table and lies in the innermost one of its thread, and a slot of the innermost body keeps its number.
+-- No thread was started in it.
 use Rattle.std.proofs.Common.{◌≡◌, ◌⊎◌, ℕ, ◌+◌, ◌≤◌, ◌<◌, List, [], ◌∷◌, ◌++◌, length, Option, Some, None, true, false, refl, sym, ap, ◌∙◌, subst, inl, inr, arith}
 use Rattle.std.specs.Prelude.{slice_get, slice_set, nat_eq, if◌then◌else◌}
 use Rattle.std.proofs.lemmas.List.{length-set}

@@ -1,4 +1,6 @@
 -- What a core can still do becomes less with each move of its code.
+-- `left` weighs the address of each activation by its rank. An address leads to lower ranks, save at a `Step`, which uses one of the steps;
+-- so each kind of move is one inequation of weights (Weights), in which what the other threads weigh stays the same.
 use Rattle.std.proofs.Common.{◌≡◌, ℕ, ◌+◌, ◌-◌, ◌*◌, ◌<◌, List, [], ◌∷◌, ◌++◌, length, take, drop, Option, Some, None, Bool, true, false, refl, sym, ap, ◌∙◌, subst, inl}
 use Rattle.std.proofs.Common.{inr, arith}
 use Rattle.std.specs.Prelude.{sum, slice_get, slice_index, slice_index_or, slice_set, nat_eq, reverse, replicate, ◌&&◌, if◌then◌else◌}
@@ -18,7 +20,7 @@ use Rattle.core_state.specs.Requests.{bytes_at, first_of}
 use Rattle.stack_code.specs.declared.instr.Instr.{Instr}
 use Rattle.stack_code.specs.declared.instr.Instr.TheVariants as i
 use Rattle.stack_code.specs.declared.parts.Entered.{Entered}
-use Rattle.stack_code.specs.declared.shape.Kind.TheVariants as kind
+use Rattle.stack_code.specs.declared.shape.CellKind.TheVariants as kind
 use Rattle.stack_code.specs.declared.shape.Shape.{Shape}
 use Rattle.stack_code.specs.declared.shape.Want.TheVariants as want
 use Rattle.stack_code.specs.declared.shape.Leads.{Leads}
@@ -160,6 +162,8 @@ module _ (code : Parts) (bound : ℕ) (m : Flat) (fit : IsFit code m) (v : IsVal
 
     -- ---- a call
 
+    -- One activation becomes two, that of the caller and that of the function, both at addresses of lower rank: `grown` of the rank is more
+    -- than both.
     pub call_falls : (number count : ℕ) (leads : Leads) → slice_get code.instrs place ≡ Some (i.Call number count) → effect code place (i.Call number count) s ≡ Some leads
         → Onward Less (begin code bound m t (Some (i.Call number count)))
     call_falls number count leads here finds =
@@ -332,6 +336,7 @@ module _ (code : Parts) (bound : ℕ) (m : Flat) (fit : IsFit code m) (v : IsVal
 
     -- ---- an arrival
 
+    -- The thread goes on behind it, at a lower rank, or waits there as the owner of its block, with a dispatch before it.
     pub finish_falls : (slot : ℕ) (leads : Leads) → slice_get code.instrs place ≡ Some (i.Finish slot) → effect code place (i.Finish slot) s ≡ Some leads
         → Onward Less (begin code bound m t (Some (i.Finish slot)))
     finish_falls slot leads here finds =
@@ -365,6 +370,8 @@ module _ (code : Parts) (bound : ℕ) (m : Flat) (fit : IsFit code m) (v : IsVal
 
     -- ---- a thread is started
 
+    -- One thread becomes two: the body runs at its address and its creator is ready behind the `Async`, with a dispatch before it. Both are of
+    -- lower rank; the weights of the other threads, in a table with one more, are the same.
     pub async_falls : (slots to : ℕ) (leads : Leads) → slice_get code.instrs place ≡ Some (i.Async slots to) → effect code place (i.Async slots to) s ≡ Some leads
         → Onward Less (begin code bound m t (Some (i.Async slots to)))
     async_falls slots to leads here finds =

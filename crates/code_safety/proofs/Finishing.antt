@@ -1,4 +1,6 @@
 -- A state stays fit where its thread arrives at the finish of its innermost block.
+-- The shape of the address says that a block of the own body is open, and `HasEntered` that the innermost one is it. With a count of 0 it
+-- passes and the block is given back (Removing); else the thread waits, and its life says at which finish.
 use Rattle.std.proofs.Common.{◌≡◌, ◌⊎◌, ℕ, ◌+◌, ◌<◌, List, [], ◌∷◌, length, Option, Some, None, Bool, true, false, refl, sym, ap, ◌∙◌, subst, inl, inr, arith}
 use Rattle.std.specs.Prelude.{slice_get, slice_set, nat_eq}
 use Rattle.std.proofs.lemmas.Bool.{and_parts, eqb-true}
@@ -303,6 +305,7 @@ module _ (code : Parts) (bound : ℕ) (m : Flat) (fit : IsFit code m) (t : Item)
         | inr ne ↦ (y, (set_aside m.blocks b (Some waiting) c ne ∙ e, (refl, refl)))
       ]
 
+      -- The block of the finish has its owner waiting now; of each other block all is as it was.
       later_block : (c : BlockId) (y : Block) → block_at table c ≡ Some y → IsBlock later table c y
       later_block c y e =
           let z = still_of c y e in
@@ -344,6 +347,7 @@ module _ (code : Parts) (bound : ℕ) (m : Flat) (fit : IsFit code m) (t : Item)
       at_finish_is : (c : BlockId) → AtFinish b ≡ AtFinish c → b ≡ c
       at_finish_is c e = cc
 
+      -- The thread itself is kept as it will go on behind the finish; each other thread is as it was.
       later_alive : (k : Item) → is_living (life_at later k).phase ≡ true → IsAlive code fit.births m.store table k (life_at later k)
       later_alive k e = elim (life_cases fit.lives t k asleep within) as (λ _. IsAlive code fit.births m.store table k (life_at later k)) [
         | inl p ↦ subst (λ l. IsAlive code fit.births m.store table k l) (sym p.1) (subst (λ z. IsAlive code fit.births m.store table z asleep) p.0 mine)

@@ -1,4 +1,6 @@
 -- A run goes the same way where one more entry is still to come, and that entry is the next to come in.
+-- By induction on the number of moves, with Alike for each of them. At the end of the run the entry comes in at a dispatch point, or is the
+-- outcome of the offer that a cancel tries. `core_machine` goes by it from the journal that it has to the one with an entry more.
 use Rattle.std.proofs.Common.{◌≡◌, ℕ, zero, suc, ◌+◌, ◌≤◌, List, [], ◌∷◌, ◌++◌, Option, Some, None, Result, Ok, Err, Bool, true, false, refl, sym, ap, ◌∙◌, subst, arith}
 use Rattle.std.specs.Prelude.{find, replicate, nat_lt, nat_eq, slice_get, ◌^◌, ◌-◌, if◌then◌else◌, slice_set}
 use Rattle.std.proofs.lemmas.Bool.{eqb-true, eq-eqb}
@@ -16,7 +18,7 @@ use Rattle.cancel_scope.specs.declared.operation.Operation.{Operation}
 use Rattle.cancel_scope.specs.declared.operation.Progress.{Progress}
 use Rattle.cancel_scope.specs.declared.operation.Progress.TheVariants.{Waiting, Offered, Started}
 use Rattle.core_state.specs.Arrivals.{Arrival, at_point, comes_in}
-use Rattle.core_state.specs.Cancelling.{Outcome, NeverHappens, by_outcome, outcome, goes_by, decided, tried, tries, is_to_try}
+use Rattle.core_state.specs.Cancelling.{Fate, NeverHappens, by_outcome, outcome, goes_by, decided, tried, tries, is_to_try}
 use Rattle.core_state.specs.Shared.{Shared, begins_with, with_entry, with_turn, seen}
 use Rattle.core_state.proofs.Runs.{GoesOn-more}
 use Rattle.stack_code.specs.declared.instr.Instr.{Instr}
@@ -136,7 +138,7 @@ module _ (code : Parts) (bound : ℕ) (e : Entry) where
     abbrev inside : Operation → Bool
     inside = is_to_try (flat.is_inside m block)
 
-    abbrev pub made : Outcome → Operation → Arrival
+    abbrev pub made : Fate → Operation → Arrival
     made it o = by_outcome it m.store inside m.operations o
 
     -- an operation has been tried, after so many entries
@@ -150,7 +152,7 @@ module _ (code : Parts) (bound : ℕ) (e : Entry) where
         by None = (omega (arith, same), λ le. refl)
         by (Some t) = (omega (arith, same), λ le. refl)
 
-    outcome_follows : (o : Operation) (first : Entry) (rest : List Entry) (r : Option Outcome) → Follows e m.shared.turn
+    outcome_follows : (o : Operation) (first : Entry) (rest : List Entry) (r : Option Fate) → Follows e m.shared.turn
         (goes_by (told (flat.counted m.count)) (λ it. On (arrived (flat.marked m block) (with_entry m.shared first rest) (made it o))) r)
         (goes_by (told (flat.counted m.count)) (λ it. On (arrived (flat.marked after block) (with_entry (more_shared e m.shared) first (rest ++ e ∷ [])) (made it o))) r)
     outcome_follows o first rest None = tt
@@ -251,7 +253,7 @@ module _ (code : Parts) (bound : ℕ) (e : Entry) where
     pub offered : o.progress ≡ Offered number
 
   -- at such a cancel with no entry to come, one of its turn that is the outcome is the next that comes in
-  pub decides_next : (m : Flat) (t : Item) (block : BlockId) (o : Operation) (number : ℕ) (it : Outcome) → TriesNext m t block o number → m.shared.todo ≡ [] → e.turn ≡ m.shared.turn
+  pub decides_next : (m : Flat) (t : Item) (block : BlockId) (o : Operation) (number : ℕ) (it : Fate) → TriesNext m t block o number → m.shared.todo ≡ [] → e.turn ≡ m.shared.turn
       → outcome o.link number e.event ≡ Some it
       → exec code bound (more_to_come e m) ≡ On (arrived (flat.marked m block) (with_entry m.shared e []) (made m block it o))
   decides_next m t block o number it next none now is =
@@ -283,7 +285,7 @@ module _ (code : Parts) (bound : ℕ) (e : Entry) where
         subst (GoesOn (exec code bound) longer) (comes_next m x idle none now fits) (GoesOn-more (exec code bound) longer (more_to_come e m) (run_more (omega (arith, now))))
 
     -- and where it is the outcome of an offer that a cancel tries
-    pub run_decides : (t : Item) (block : BlockId) (o : Operation) (number : ℕ) (it : Outcome) → TriesNext m t block o number → m.shared.todo ≡ [] → e.turn ≡ m.shared.turn
+    pub run_decides : (t : Item) (block : BlockId) (o : Operation) (number : ℕ) (it : Fate) → TriesNext m t block o number → m.shared.todo ≡ [] → e.turn ≡ m.shared.turn
         → outcome o.link number e.event ≡ Some it
         → GoesOn (exec code bound) longer (On (arrived (flat.marked m block) (with_entry m.shared e []) (made m block it o)))
     run_decides t block o number it next none now is =

@@ -1,4 +1,6 @@
 -- What a thread keeps when births, frames and blocks change that are not its own.
+-- `Carries` says which frames go on, `KeepsBlocks` which blocks; a thread of which all frames and blocks are among those stays as it was.
+-- By induction over its bodies, its callers and its blocks.
 use Rattle.std.proofs.Common.{◌≡◌, ℕ, ◌+◌, ◌≤◌, ◌<◌, List, [], ◌∷◌, length, Option, Some, None, true, false, refl, sym, ap, ◌∙◌, subst, arith}
 use Rattle.std.specs.Prelude.{slice_get}
 use Rattle.work_item.specs.declared.ids.FrameId.{FrameId}
@@ -9,8 +11,8 @@ use Rattle.work_item.specs.declared.cell.Cell.TheVariants as cell
 use Rattle.work_item.specs.Store.{Store, Frame, frame_at}
 use Rattle.cancel_scope.specs.declared.operation.Asked.{Asked}
 use Rattle.cancel_scope.specs.declared.operation.Asked.TheVariants as asked
-use Rattle.stack_code.specs.declared.shape.Kind.{Kind}
-use Rattle.stack_code.specs.declared.shape.Kind.TheVariants as kind
+use Rattle.stack_code.specs.declared.shape.CellKind.{CellKind}
+use Rattle.stack_code.specs.declared.shape.CellKind.TheVariants as kind
 use Rattle.stack_code.specs.declared.shape.Home.{Home}
 use Rattle.stack_code.specs.declared.shape.Body.{Body}
 use Rattle.stack_code.specs.declared.shape.Shape.{Shape}
@@ -30,7 +32,7 @@ module _ (code : Parts) (old new : List Birth) (grown : Grown old new) where
   ints_grown None start len h = h
   ints_grown (Some f) start len h = record { birth = h.birth; born = grown f.number h.birth h.born; inside = h.inside; plain = h.plain }
 
-  pub kind_grown : (k : Kind) (x : Cell) → HasKind code old k x → HasKind code new k x
+  pub kind_grown : (k : CellKind) (x : Cell) → HasKind code old k x → HasKind code new k x
   kind_grown kind.Int (cell.Int v) h = tt
   kind_grown kind.Int (cell.Array place) h = absurd h
   kind_grown kind.Int (cell.Block b) h = absurd h
@@ -38,7 +40,7 @@ module _ (code : Parts) (old new : List Birth) (grown : Grown old new) where
   kind_grown (kind.Reference one) (cell.Array place) h = record { short = h.short; ints = ints_grown place.home place.start place.len h.ints; single = h.single }
   kind_grown (kind.Reference one) (cell.Block b) h = absurd h
 
-  pub kinds_grown : (kinds : List Kind) (operands : List Cell) → HaveKinds code old kinds operands → HaveKinds code new kinds operands
+  pub kinds_grown : (kinds : List CellKind) (operands : List Cell) → HaveKinds code old kinds operands → HaveKinds code new kinds operands
   kinds_grown [] [] h = tt
   kinds_grown [] (x ∷ operands) h = absurd h
   kinds_grown (k ∷ kinds) [] h = absurd h
@@ -112,7 +114,7 @@ module _ (old new : List Birth) (grown : Grown old new) (s t : Store) (P : Frame
 -- ---- activations
 
 module _ (code : Parts) (old new : List Birth) (grown : Grown old new) (s t : Store) (P : FrameId → Type 0) (carries : Carries s t P) (item : Item) where
-  pub activation_carried : (place : ℕ) (f : FrameId) (operands : List Cell) (kinds : List Kind) (shape : Shape) → P f → IsActivation code old s item place f operands kinds shape
+  pub activation_carried : (place : ℕ) (f : FrameId) (operands : List Cell) (kinds : List CellKind) (shape : Shape) → P f → IsActivation code old s item place f operands kinds shape
       → IsActivation code new t item place f operands kinds shape
   activation_carried place f operands kinds shape p h = record {
     reached = h.reached;

@@ -1,4 +1,6 @@
 -- The links of the frames stay, whatever is set in them, and where one more is made.
+-- `SameFrames`: the same frames with the same parents, in whose cells no frame is named that is not on the chain. Each way to set a cell
+-- gives it; a new frame is linked to that which made it.
 use Rattle.std.proofs.Common.{◌≡◌, ◌⊎◌, ℕ, ◌+◌, ◌<◌, List, [], ◌∷◌, ◌++◌, length, length-append, Option, Some, None, IsSome, Result, Ok, Err, true, false, refl, sym, ap, ◌∙◌, subst, inl, inr, arith}
 use Rattle.std.specs.Prelude.{ℤ, slice_get, slice_set}
 use Rattle.std.proofs.lemmas.Bool.{cases_eq}

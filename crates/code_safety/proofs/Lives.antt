@@ -1,4 +1,6 @@
 -- The lives of the threads at their numbers, and sums over them.
+-- A block's count is the sum of `starts_in` over all lives, so each law says what one life that is set or added changes of a sum; a sum
+-- above 0 has a thread that gives it.
 use Rattle.std.proofs.Common.{◌≡◌, ◌⊎◌, ℕ, zero, suc, ◌+◌, ◌≤◌, ◌<◌, List, [], ◌∷◌, ◌++◌, length, Option, Some, None, Bool, true, false, refl, sym, ap, ◌∙◌, subst, inl, inr, arith}
 use Rattle.std.specs.Prelude.{slice_index_or, slice_set, nat_eq, if◌then◌else◌}
 use Rattle.std.proofs.lemmas.Bool.{cases_eq, cases_lt, eqb-true, eq-eqb}

@@ -1,4 +1,6 @@
 -- States in which no reference dangles, states in which one does, and chains of frames.
+-- A function is called with an array of its caller: where the caller's frame lives nothing dangles, and where it is gone the reference
+-- does.
 use Rattle.std.proofs.Common.{◌≡◌, ℕ, zero, suc, ◌<◌, ◌≤◌, List, [], ◌∷◌, pos, Option, Some, None, true, false, inl, inr, refl, sym, ap, ◌∙◌, subst, arith}
 use Rattle.std.specs.Prelude.{slice_get, slice_index_or}
 use Rattle.work_item.specs.declared.ids.FrameId.{FrameId}

@@ -1,4 +1,6 @@
 -- The threads that live are those that a fit state says live; and where their blocks were entered.
+-- `LivesAs` goes by what is seen of a machine, `Life` by what a fit state has; they agree thread by thread, and none is in two places. From
+-- a block one comes to its owner, as it stands, and to the frame in which it entered the block.
 use Rattle.std.proofs.Common.{◌≡◌, ◌⊎◌, ℕ, zero, suc, ◌+◌, ◌≤◌, ◌<◌, List, [], ◌∷◌, length, Option, Some, None, Bool, true, false, refl, sym, ap, ◌∙◌, subst, inl, inr, arith}
 use Rattle.std.specs.Prelude.{slice_get, slice_index_or, nat_eq, if◌then◌else◌}
 use Rattle.std.proofs.lemmas.Bool.{cases_eq}
@@ -365,6 +367,7 @@ module _ (code : Parts) (m : Flat) (fit : IsFit code m) where
             has = elim f.has as (λ _. HasFrame own.thread f.site) [ inl k ↦ inl k.1 | inr k ↦ inr k ];
           }
 
+      -- By the phase of its owner: one that waits at this block stands in the frame, and else the block is on its stack.
       pub block_site : Site
       block_site = go (life_at fit.lives x.owner).phase refl
         where

@@ -1,4 +1,6 @@
 -- New frames, and what of the others is kept when one is given back.
+-- A new frame has the next number and changes no other. Where one is given back its end is noted, and those whose end has come go if
+-- nothing lies in them; of each that is left cells and parent are as they were.
 use Rattle.std.proofs.Common.{◌≡◌, ◌⊎◌, ℕ, zero, suc, ◌+◌, ◌-◌, ◌<◌, ◌^◌, List, [], ◌∷◌, ◌++◌, length, length-append, drop, Option, Some, None, Bool, true, false, refl, sym, ap, ◌∙◌, subst, inl}
 use Rattle.std.proofs.Common.{inr, arith}
 use Rattle.std.specs.Prelude.{slice_get, slice_index_or, slice_set, not, ◌&&◌, ◌||◌, if◌then◌else◌}

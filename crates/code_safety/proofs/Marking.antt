@@ -1,4 +1,6 @@
 -- That a block is marked as cancelled changes nothing of what holds of a state.
+-- Neither fitness, nor what is left to do, nor chains speak of marks: each is carried over from a table of blocks to one that is alike but
+-- for them.
 use Rattle.std.proofs.Common.{◌≡◌, ◌⊎◌, ℕ, List, length, Option, Some, None, true, refl, sym, ap, ◌∙◌, subst, inl, inr, arith}
 use Rattle.std.proofs.lemmas.Bool.{cases_lt}
 use Rattle.std.proofs.lemmas.List.{length-set, get_or-set_same, set_past}
@@ -79,6 +81,7 @@ module _ (code : Parts) (m : Flat) (fit : IsFit code m) (b : BlockId) where
       let some = w.some in
       record { block = z.0; here = z.1.0; owner = z.1.1.owner ∙ w.owner; waits = z.1.1.waits ∙ w.waits; some = omega (arith, count, some); round = w.round ∙ sym z.1.1.parent }
 
+  -- What a block is asked for goes by parent, owner, count and whether its owner waits, and these four stay.
   still_block : (c : BlockId) (y : Block) → block_at new c ≡ Some y → IsBlock fit.lives new c y
   still_block c y e =
       let z = back m.blocks b c y e in

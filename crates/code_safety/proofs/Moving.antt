@@ -1,4 +1,6 @@
 -- Each move of valid code leads from a fit state to a fit state in which less is left to do or to come, or to an end.
+-- Here the cases of the files beside it come together: an instruction of the running thread, by its kind; a dispatch; an entry that comes
+-- in; and a cancel, which alone takes entries in the middle of an instruction.
 use Rattle.std.proofs.Common.{◌≡◌, ℕ, suc, ◌<◌, List, [], ◌∷◌, length, Option, Some, None, Bool, true, false, refl, sym, ap, subst, arith}
 use Rattle.std.specs.Prelude.{slice_get, slice_set, nat_eq, nat_lt, ◌^◌, ◌-◌, if◌then◌else◌}
 use Rattle.ac_base.specs.declared.entry.Event.TheVariants as event

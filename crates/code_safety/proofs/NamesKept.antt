@@ -1,4 +1,5 @@
 -- What an instruction that concerns its own thread alone leaves among the operands, and sets in the frames, names frames of its chain.
+-- By cases on the instruction: an int names nothing, an array of a slot is in a frame round the thread, and what is loaded stands in one.
 use Rattle.std.proofs.Common.{◌≡◌, ℕ, ◌+◌, List, [], ◌∷◌, length, take, drop, map, Option, Some, None, Result, Ok, Err, Bool, true, false, refl}
 use Rattle.std.specs.Prelude.{if◌then◌else◌, ℤ, slice_index_or, nat_le, nat_lt, reverse}
 use Rattle.ac_base.specs.declared.ends.Trap.{Trap}
@@ -120,6 +121,7 @@ module _ (origins : List Origin) (m : Flat) (a : AllName origins m.current.frame
   steps true = puts (with_step m.shared) ops a
   steps false = tt
 
+  -- Each instruction is one of the ways above to take operands and push; the hard one is a load, whose slot may hold an array.
   pub keeps_names : (code : Parts) (bound : ℕ) (t : Item) (instr : Instr) → is_plain instr ≡ true → Goal (begin code bound m t (Some instr))
   keeps_names code bound t i.Step p = steps (nat_lt m.shared.steps bound)
   keeps_names code bound t (i.Push value) p = puts m.shared (cell.Int value ∷ ops) (tt, a)

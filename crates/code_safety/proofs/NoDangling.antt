@@ -1,4 +1,6 @@
 -- No reference dangles: not in the first state, and after no move; so whatever is named is in a frame that lives.
+-- The theorem to which the files on chains lead. Its invariant is `AreChained`, which each kind of move keeps by a file of its own. From
+-- it: what is named is on the chain of a frame that lives, and a chain lives as long as its beginning.
 use Rattle.std.proofs.Common.{◌≡◌, ◌⊎◌, ℕ, zero, suc, ◌+◌, List, [], ◌∷◌, Option, Some, None, Bool, true, false, refl, sym, ap, ◌∙◌, subst, inl, inr, arith}
 use Rattle.std.specs.Prelude.{All, slice_get, slice_index_or, slice_set, replicate, nat_lt, ◌^◌, ◌-◌, if◌then◌else◌}
 use Rattle.ac_base.specs.declared.ends.EndWord.TheVariants as word

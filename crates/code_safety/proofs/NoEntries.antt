@@ -1,4 +1,6 @@
 -- Code that starts no operation takes no entry of a journal.
+-- By induction on the moves: without an operation nothing that comes in fits (`nothing_comes`), and no instruction of such code starts one.
+-- So an entry that is still to come stays so, and nothing is seen of an end.
 use Rattle.std.proofs.Common.{◌≡◌, ℕ, zero, suc, ◌+◌, List, [], ◌∷◌, ◌++◌, length, map, Option, Some, None, Result, Ok, Err, Bool, true, false, refl, sym, ap, ◌∙◌, subst}
 use Rattle.std.specs.Prelude.{ℤ, reverse, take, drop, replicate, find, nat_le, nat_lt, nat_eq, slice_get, slice_set, ◌&&◌, ◌^◌, ◌-◌, if◌then◌else◌}
 use Rattle.std.proofs.lemmas.Option.{slice_get_within, get_or_from_slice_get}
@@ -131,6 +133,7 @@ module _ (m : Flat) where
         by true = same
         by false = unseen word.OutOfSteps false
 
+    -- By cases on the instruction; those that start an operation or cancel are excluded by `is_alone`.
     pub begin_leaves : (instr : Instr) → is_alone instr ≡ true → L (begin code bound m t (Some instr))
     begin_leaves i.Step a = step_leaves
     begin_leaves (i.Push v) a = same

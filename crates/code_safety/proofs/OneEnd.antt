@@ -1,4 +1,5 @@
 -- The core of a valid code each of whose instructions has a meaning comes to one end and to no other, for every journal.
+-- That there is an end is Beginnings; that there is no other holds of every machine (`one_end` of Simulation, in `core_state`).
 use Rattle.std.proofs.Common.{◌≡◌, ℕ, ◌<◌, List, length, Some, sym, ap, ◌∙◌, subst}
 use Rattle.std.specs.Prelude.{slice_get, slice_index_or}
 use Rattle.std.proofs.lemmas.Option.{slice_get-get_or}

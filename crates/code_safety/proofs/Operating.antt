@@ -1,4 +1,6 @@
 -- A state stays fit where its thread starts an operation, and waits for its end.
+-- The operands are taken as they are wanted, and the thread is kept with a place for the value. In a cancelled block the value is there at
+-- once, and the thread goes on as after any instruction of its own.
 use Rattle.std.proofs.Common.{◌≡◌, ℕ, ◌+◌, ◌≤◌, List, [], ◌∷◌, ◌++◌, Some, None, refl, sym, ap, ◌∙◌, subst, arith}
 use Rattle.std.specs.Prelude.{nat_lt, slice_get, if◌then◌else◌}
 use Rattle.std.proofs.lemmas.List.{append-nil}
@@ -16,8 +18,8 @@ use Rattle.core_state.specs.Arrivals.{cancelled}
 use Rattle.core_state.specs.Requests.{bytes_at, first_of, if_in_range}
 use Rattle.stack_code.specs.declared.instr.Instr.{Instr}
 use Rattle.stack_code.specs.declared.instr.Instr.TheVariants as i
-use Rattle.stack_code.specs.declared.shape.Kind.{Kind}
-use Rattle.stack_code.specs.declared.shape.Kind.TheVariants as kind
+use Rattle.stack_code.specs.declared.shape.CellKind.{CellKind}
+use Rattle.stack_code.specs.declared.shape.CellKind.TheVariants as kind
 use Rattle.stack_code.specs.declared.shape.Shape.{Shape}
 use Rattle.stack_code.specs.declared.shape.Want.{Want}
 use Rattle.stack_code.specs.declared.shape.Want.TheVariants as want
@@ -53,7 +55,7 @@ module _ (code : Parts) (bound : ℕ) (m : Flat) (fit : IsFit code m) (t : Item)
   -- an instruction that starts an operation has taken its operands, in whose place the value comes
   pub record Operates (instr : Instr) : Type 0 where
     pub below : List Cell
-    pub kinds : List Kind
+    pub kinds : List CellKind
     pub have : HaveKinds code fit.births kinds below
     pub goes : Goes code place s (place + 1) (pushed kind.Int (with_operands s kinds))
 

@@ -1,4 +1,5 @@
 -- No reference dangles where a thread starts an operation: what it receives into was among the operands.
+-- So it is on the chain of the thread's frame, and lives as long as the thread waits (StopChains).
 use Rattle.std.proofs.Common.{◌≡◌, ℕ, ◌+◌, ◌<◌, List, [], ◌∷◌, ◌++◌, Some, refl, sym, ap, ◌∙◌, subst, inl, arith}
 use Rattle.std.specs.Prelude.{All, slice_get}
 use Rattle.std.proofs.lemmas.List.{append-nil}
@@ -14,8 +15,8 @@ use Rattle.cancel_scope.specs.Outstanding.{started}
 use Rattle.core_state.specs.Requests.{bytes_at, first_of}
 use Rattle.stack_code.specs.declared.instr.Instr.{Instr}
 use Rattle.stack_code.specs.declared.instr.Instr.TheVariants as i
-use Rattle.stack_code.specs.declared.shape.Kind.{Kind}
-use Rattle.stack_code.specs.declared.shape.Kind.TheVariants as kind
+use Rattle.stack_code.specs.declared.shape.CellKind.{CellKind}
+use Rattle.stack_code.specs.declared.shape.CellKind.TheVariants as kind
 use Rattle.stack_code.specs.declared.shape.Shape.{Shape}
 use Rattle.stack_code.specs.declared.shape.Want.TheVariants as want
 use Rattle.stack_code.specs.declared.shape.Leads.{Leads}
@@ -59,7 +60,7 @@ module _ (code : Parts) (bound : ℕ) (m : Flat) (v : IsValid code) (fit : IsFit
   names_here : AllName chained.origins top m.current.operands
   names_here = top_names code chained.origins m.blocks chained.sites t mine.start place top m.current.operands m.current.callers m.current.block mine.stack
 
-  module _ (link : ℕ) (what : Asked) (asks : AskedOnChain chained.origins top what) (below : List Cell) (names : AllName chained.origins top below) (kinds : List Kind)
+  module _ (link : ℕ) (what : Asked) (asks : AskedOnChain chained.origins top what) (below : List Cell) (names : AllName chained.origins top below) (kinds : List CellKind)
       (reached : Reaches code (place + 1) (pushed kind.Int (with_operands s kinds))) where
     abbrev new : Operation
     new = started link what t

@@ -1,4 +1,6 @@
 -- A state stays fit where only the running thread's activation changes, with what it sets and the frames that are its own.
+-- Most kinds of move are of this form: the life of one thread is set, with its phase, start and innermost block as they were, so no block
+-- and no other thread sees a change.
 use Rattle.std.proofs.Common.{◌≡◌, ◌⊎◌, ℕ, suc, ◌≤◌, ◌<◌, List, length, Option, Some, None, Bool, true, false, refl, sym, ap, ◌∙◌, subst, inl, inr, arith}
 use Rattle.std.specs.Prelude.{slice_set}
 use Rattle.std.proofs.lemmas.List.{length-set}

@@ -1,4 +1,6 @@
 -- No reference dangles where the running thread goes on.
+-- The same form as Own for chains: the other threads that live are the same, the running one is given a new stack, and origins and sites
+-- are only added.
 use Rattle.std.proofs.Common.{◌≡◌, ◌⊎◌, ℕ, ◌<◌, List, length, Option, Some, true, refl, sym, ap, ◌∙◌, subst, inl, inr}
 use Rattle.std.specs.Prelude.{slice_get}
 use Rattle.std.proofs.lemmas.List.Elements.{All-weaker}
@@ -62,6 +64,7 @@ module _ (code : Parts) (m : Flat) (fit : IsFit code m) (chained : AreChained co
     | inr l ↦ record { item = a.item; thread = a.thread; living = l; has = a.has }
   ]
 
+  -- What such a move has to give: origins and sites that only grow, the running thread's stack, and blocks that wait just as before.
   module _ (origins : List Origin) (sites : List FrameId) (grown : Extends chained.origins origins) (wider : Extends chained.sites sites) (long : length origins ≡ length store.frames)
       (many : length sites ≡ length blocks) (older : (f g : FrameId) (o : Origin) → Came origins f o → link_of o ≡ Some g → g.number < f.number)
       (frames : (f : FrameId) (x : Frame) → frame_at store f ≡ Some x → IsLinked origins next f x) (stack : HasStack code origins blocks sites t current)

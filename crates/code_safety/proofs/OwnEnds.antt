@@ -1,4 +1,6 @@
 -- The code of a core that keeps its ends starts operations at the core's own ends alone, and each that has not ended is at one of them.
+-- By induction on the moves of a run: what is started is named by an instruction that the core reaches (EachAs), on a channel whose end it
+-- has or on its own link of requests; what comes in only changes or ends operations that are there.
 use Rattle.std.proofs.Common.{◌≡◌, ℕ, zero, suc, ◌<◌, List, [], ◌∷◌, ◌++◌, length, Option, Some, None, Bool, true, false, refl, sym, ◌∙◌, subst}
 use Rattle.std.specs.Prelude.{◌^◌, ◌-◌, ℤ, All, find, slice_get, slice_set, nat_eq, nat_lt, replicate, if◌then◌else◌}
 use Rattle.std.proofs.lemmas.List.Elements.{All-nil, All-push}
@@ -20,7 +22,7 @@ use Rattle.cancel_scope.specs.Outstanding.{started, is_request, as_begun, change
 use Rattle.core_state.specs.Moves.{Move, On, Over, and_then, moves, GoesOn}
 use Rattle.core_state.specs.Arrivals as arrivals
 use Rattle.core_state.specs.Arrivals.{Arrival, at_point, comes_in}
-use Rattle.core_state.specs.Cancelling.{Outcome, NeverHappens, IsTaken, by_outcome, outcome, goes_by, decided, tried, tries, is_to_try}
+use Rattle.core_state.specs.Cancelling.{Fate, NeverHappens, IsTaken, by_outcome, outcome, goes_by, decided, tried, tries, is_to_try}
 use Rattle.core_state.specs.Frames.{first_store, has_words, block_in}
 use Rattle.core_state.specs.Shared.{Shared, with_entry, with_turn, seen}
 use Rattle.core_state.specs.Requests.{bytes_at, first_of, if_in_range}
@@ -104,10 +106,10 @@ module _ (code : Parts) (keeps : KeepsEnds code) (core bound : ℕ) (lt : core <
     abbrev inside : Operation → Bool
     inside = is_to_try (is_inside m block)
 
-    abbrev made : Outcome → Operation → Arrival
+    abbrev made : Fate → Operation → Arrival
     made it o = by_outcome it m.store inside m.operations o
 
-    made_at : (o : Operation) → find inside m.operations ≡ Some o → (it : Outcome) → AreAtEnds code core (made it o).operations
+    made_at : (o : Operation) → find inside m.operations ≡ Some o → (it : Fate) → AreAtEnds code core (made it o).operations
     made_at o e it = by it
       where
         f : IsFound inside m.operations o
@@ -124,11 +126,11 @@ module _ (code : Parts) (keeps : KeepsEnds code) (core bound : ℕ) (lt : core <
         taken true = subst (AreAtEnds code core) (sym (f.changed as_begun)) (all_between At f.back (as_begun o) f.front others (one_of_all At f.back o f.front all))
         taken false = subst (AreAtEnds code core) (sym f.without) others
 
-        by : (it : Outcome) → AreAtEnds code core (made it o).operations
+        by : (it : Fate) → AreAtEnds code core (made it o).operations
         by NeverHappens = subst (AreAtEnds code core) (sym f.without) others
         by IsTaken = taken (is_request o.asked)
 
-    tried_so : (o : Operation) → find inside m.operations ≡ Some o → (shared : Shared) (it : Outcome) → IsOwnLink code core shared.requests
+    tried_so : (o : Operation) → find inside m.operations ≡ Some o → (shared : Shared) (it : Fate) → IsOwnLink code core shared.requests
         → Ended (arrived (marked m block) shared (made it o))
     tried_so o e shared it own =
         let x = made it o in
@@ -139,11 +141,11 @@ module _ (code : Parts) (keeps : KeepsEnds code) (core bound : ℕ) (lt : core <
     decided_at o e number [] = tt
     decided_at o e number (y ∷ ys) = go (nat_eq y.turn m.shared.turn) (outcome o.link number y.event)
       where
-        by : (r : Option Outcome) → Onward Ended (goes_by (told (counted m.count)) (λ it. On (arrived (marked m block) (with_entry m.shared y ys) (made it o))) r)
+        by : (r : Option Fate) → Onward Ended (goes_by (told (counted m.count)) (λ it. On (arrived (marked m block) (with_entry m.shared y ys) (made it o))) r)
         by None = tt
         by (Some it) = tried_so o e (with_entry m.shared y ys) it s.requests
 
-        go : (b : Bool) (r : Option Outcome) → Onward Ended
+        go : (b : Bool) (r : Option Fate) → Onward Ended
             (if b then goes_by (told (counted m.count)) (λ it. On (arrived (marked m block) (with_entry m.shared y ys) (made it o))) r else Over (told (counted m.count) None))
         go true r = by r
         go false r = tt

@@ -1,5 +1,7 @@
 -- An instruction leads on in its own function, or to the first address of one that it calls; so what a core comes to lies in a function
 -- that it reaches.
+-- In a code without functions `effect` leaves the bodies as they are or goes one in; only a call looks at the functions, and it alone leads
+-- to another one.
 use Rattle.std.proofs.Common.{◌≡◌, ℕ, ◌+◌, List, [], ◌∷◌, length, Option, Some, None, inl, inr, refl, sym, ap, subst}
 use Rattle.std.specs.Prelude.{slice_get, nat_eq}
 use Rattle.stack_code.specs.declared.instr.Instr.{Instr}
@@ -8,7 +10,7 @@ use Rattle.stack_code.specs.declared.parts.Entered.{Entered}
 use Rattle.stack_code.specs.declared.shape.Home.{Home}
 use Rattle.stack_code.specs.declared.shape.Home.TheVariants as home
 use Rattle.stack_code.specs.declared.shape.Body.{Body}
-use Rattle.stack_code.specs.declared.shape.Kind.TheVariants as kind
+use Rattle.stack_code.specs.declared.shape.CellKind.TheVariants as kind
 use Rattle.stack_code.specs.declared.shape.Shape.{Shape}
 use Rattle.stack_code.specs.declared.shape.Leads.{Leads}
 use Rattle.stack_code.specs.declared.shape.Leads.TheVariants.{One, Two}

@@ -1,4 +1,7 @@
--- Where an instruction that concerns its own thread alone leads: to one of the ways of its address, with operands of the kinds that are left.
+-- Where an instruction that concerns its own thread alone leads: to one of the ways of its address, with operands of the kinds that are
+-- left.
+-- `Next` says it once for all such instructions: what changed of the state, that it is as the shape of the way asks, and whether a step was
+-- used. Fitness, falling weights and chains are then each one proof from `Next`.
 use Rattle.std.proofs.Common.{◌≡◌, ℕ, zero, suc, ◌+◌, ◌≤◌, ◌<◌, ◌^◌, List, [], ◌∷◌, ◌++◌, length, take, drop, map, Option}
 use Rattle.std.proofs.Common.{Some, None, Result, Ok, Err, Bool, true, false, refl, sym, ap, ◌∙◌, subst, inl, inr, arith}
 use Rattle.std.specs.Prelude.{if◌then◌else◌, ℤ, pos, negsuc, slice_get, slice_index_or, nat_le, nat_lt, nat_eq, replicate, reverse, option_map}
@@ -25,8 +28,8 @@ use Rattle.core_state.specs.Frames.{within, element, set_element, one_place, par
 use Rattle.core_state.specs.Shared.{Shared, with_step, printed, formatted, output_limit}
 use Rattle.stack_code.specs.declared.instr.Instr.{Instr}
 use Rattle.stack_code.specs.declared.instr.Instr.TheVariants as i
-use Rattle.stack_code.specs.declared.shape.Kind.{Kind}
-use Rattle.stack_code.specs.declared.shape.Kind.TheVariants as kind
+use Rattle.stack_code.specs.declared.shape.CellKind.{CellKind}
+use Rattle.stack_code.specs.declared.shape.CellKind.TheVariants as kind
 use Rattle.stack_code.specs.declared.shape.Home.{Home}
 use Rattle.stack_code.specs.declared.shape.Body.{Body}
 use Rattle.stack_code.specs.declared.shape.Shape.{Shape}
@@ -197,19 +200,19 @@ module _ (code : Parts) (bound : ℕ) (m : Flat) (births : List Birth) (t : Item
     same_steps : Spends bound instr m.shared.steps m.shared.steps
     same_steps = none quiet refl
 
-    pushed_on : (k : Kind) (x : Cell) → effect code place instr s ≡ pushes place k s → HasKind code births k x → Goal (flat.goes m (x ∷ ops))
+    pushed_on : (k : CellKind) (x : Cell) → effect code place instr s ≡ pushes place k s → HasKind code births k x → Goal (flat.goes m (x ∷ ops))
     pushed_on k x e h = went instr (One (place + 1) (pushed k s)) (pushed k s) (place + 1) m.shared store (x ∷ ops) here e (refl, refl) refl refl (h, fit.have)
         (same_store code births store st) same_steps
 
     -- what remains when the operands are taken
-    left_on : (left : List Kind) (shared : Shared) (kept : Store) (operands : List Cell) → effect code place instr s ≡ goes place (with_operands s left) → HaveKinds code births left operands →
+    left_on : (left : List CellKind) (shared : Shared) (kept : Store) (operands : List Cell) → effect code place instr s ≡ goes place (with_operands s left) → HaveKinds code births left operands →
         KeepsStore code births store kept →
         shared.steps ≡ m.shared.steps → Goal (flat.goes (with_store (with_shared m shared) kept) operands)
     left_on left shared kept operands e have keeps steps =
         went instr (One (place + 1) (with_operands s left)) (with_operands s left) (place + 1) shared kept operands here e (refl, refl) refl refl have keeps
         (none quiet steps)
 
-    put_on : (left : List Kind) (k : Kind) (x : Cell) (operands : List Cell) → effect code place instr s ≡ pushes place k (with_operands s left) → HaveKinds code births left operands
+    put_on : (left : List CellKind) (k : CellKind) (x : Cell) (operands : List Cell) → effect code place instr s ≡ pushes place k (with_operands s left) → HaveKinds code births left operands
         → HasKind code births k x →
         Goal (flat.goes m (x ∷ operands))
     put_on left k x operands e have h =
@@ -453,6 +456,8 @@ module _ (code : Parts) (bound : ℕ) (m : Flat) (births : List Birth) (t : Item
   in_globals true o leads e = (refl, (refl, e))
   in_globals false o leads e = let no : None ≡ Some leads = e in cc
 
+  -- By cases on the instruction; each takes its operands by one of the laws above, and what they are wanted as excludes that one lacks or is
+  -- of another kind.
   pub onward : (item : Item) (instr : Instr) (leads : Leads) → slice_get code.instrs place ≡ Some instr → effect code place instr s ≡ Some leads → is_plain instr ≡ true
       → Onward (Next code bound m births s instr) (begin code bound m item (Some instr))
   onward item i.Step leads here e q = step_on here

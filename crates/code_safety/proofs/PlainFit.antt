@@ -1,4 +1,5 @@
 -- A state stays fit where its thread goes on in the same activation.
+-- `Next` (Plain) gives the activation at its next address and what it has set; that the rest stays is Own.
 use Rattle.std.proofs.Common.{◌≡◌, ℕ, ◌+◌, length, Some, refl, sym, ap, ◌∙◌, subst, arith}
 use Rattle.work_item.specs.declared.ids.Item.{Item}
 use Rattle.stack_code.specs.declared.instr.Instr.{Instr}

@@ -1,4 +1,6 @@
 -- The links of the frames that are left where one is given back.
+-- A frame that is left has its cells and its parent. That to which it is linked lives: a caller's goes on since its activation does, and
+-- one in which a body lies is left as long as the body is.
 use Rattle.std.proofs.Common.{◌≡◌, ◌⊎◌, ℕ, suc, ◌+◌, List, [], ◌∷◌, length, drop, Option, Some, None, Bool, true, false, refl, sym, ap, ◌∙◌, subst, inl, inr, arith}
 use Rattle.std.specs.Prelude.{slice_get, slice_index_or, not, ◌&&◌, ◌||◌, if◌then◌else◌}
 use Rattle.std.proofs.lemmas.Bool.{cases_eq, eqb-true}

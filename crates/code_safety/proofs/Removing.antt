@@ -1,4 +1,6 @@
 -- What holds of the other blocks where one is given back in which no thread lives.
+-- It is the innermost block of its owner and no thread was started in it, so no other block lies in it and each thread keeps the blocks
+-- round it.
 use Rattle.std.proofs.Common.{◌≡◌, ◌⊎◌, ℕ, ◌≤◌, ◌<◌, List, Option, Some, None, true, refl, sym, ap, ◌∙◌, subst, inl, inr, arith}
 use Rattle.std.proofs.lemmas.Bool.{cases_eq}
 use Rattle.std.proofs.lemmas.List.{get_or-set_same, get_or-set_other}
@@ -88,6 +90,8 @@ module _ (lives after : List Life) (blocks : List (Option Block)) (b : BlockId) 
           | inr start ↦ alone c y e start
         ]
 
+    -- The lives afterwards: the owner is out of the block, and each other thread is where it was. Then each other block has its owner, its
+    -- parent and its count.
     module _ (inner_after : innermost (life_at after x.owner) ≡ x.parent)
         (inner_other : (c : BlockId) (y : Block) → block_at blocks c ≡ Some y → (y.owner ≡ x.owner → ⊥) → innermost (life_at after y.owner) ≡ innermost (life_at lives y.owner))
         (starts : (c : BlockId) (y : Block) → block_at blocks c ≡ Some y → (life_at after y.owner).start ≡ (life_at lives y.owner).start)

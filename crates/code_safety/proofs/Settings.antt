@@ -1,9 +1,11 @@
 -- What a thread sets keeps the frames as long as they are, and each slot as its uses ask.
+-- A code names each slot in one use (`HasOneUse`), so an int is set only where no array parameter and no block number is kept; each way to
+-- set a cell is shown from that.
 use Rattle.std.proofs.Common.{◌≡◌, ◌⊎◌, ℕ, zero, suc, ◌+◌, ◌≤◌, ◌<◌, ◌^◌, List, [], ◌∷◌, length, Option, Some, None, Bool, true, false, refl, sym, ap, ◌∙◌, subst, inl, inr, arith}
 use Rattle.std.specs.Prelude.{ℤ, slice_get, slice_index_or, slice_set, unwrap_or}
 use Rattle.std.proofs.lemmas.Bool.{cases_eq}
 use Rattle.std.proofs.lemmas.List.{length-set, get_or-set_other}
-use Rattle.way_order.proofs.Places.{set_cases}
+use Rattle.graph_ranks.proofs.Places.{set_cases}
 use Rattle.work_item.specs.declared.ids.FrameId.{FrameId}
 use Rattle.work_item.specs.declared.ids.BlockId.{BlockId}
 use Rattle.work_item.specs.declared.cell.Cell.{Cell}

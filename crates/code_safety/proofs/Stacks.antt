@@ -1,4 +1,6 @@
 -- What the stack of a thread keeps where frames and blocks come and go that are not its own.
+-- By induction over the activations, and over the blocks within each. Then the changes of its own: another address or other operands, a
+-- block more, a block less, a caller more or less, and what stands at its bottom.
 use Rattle.std.proofs.Common.{◌≡◌, ℕ, ◌+◌, ◌<◌, List, [], ◌∷◌, ◌⊎◌, Option, Some, None, refl, sym, ap, ◌∙◌, subst, inl, inr, arith}
 use Rattle.std.specs.Prelude.{slice_get}
 use Rattle.work_item.specs.declared.ids.Item.{Item}

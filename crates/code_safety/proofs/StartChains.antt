@@ -1,4 +1,6 @@
 -- No reference dangles where a thread is started: the body lies in the frame of its creator, and in that which entered its block.
+-- A body's frame is linked to the frame round it. That the block in which it starts was entered there or further out is read off the stack
+-- of its creator, which has no callers where it is in a body itself.
 use Rattle.std.proofs.Common.{◌≡◌, ◌⊎◌, ℕ, ◌+◌, ◌<◌, List, [], ◌∷◌, ◌++◌, length, Option, Some, true, refl, sym, ap, ◌∙◌, subst, inl, inr, arith}
 use Rattle.std.specs.Prelude.{slice_get, slice_index_or, slice_set, nat_eq, nat_lt, replicate}
 use Rattle.std.proofs.lemmas.Bool.{and_parts}
@@ -265,6 +267,7 @@ module _ (code : Parts) (bound : ℕ) (m : Flat) (v : IsValid code) (fit : IsFit
     top_lives : (g : FrameId) → link_of origin ≡ Some g → Lives m.store g
     top_lives g e = let same : top ≡ g = cc in subst (Lives m.store) same (there_lives m.store top own.top.goes.frame own.top.goes.here)
 
+    -- Each part for the new thread, for its creator, which is ready now, and for all others, which are as they were.
     started_chained : AreChained code next
     started_chained = record {
       origins = origins;

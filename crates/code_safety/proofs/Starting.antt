@@ -1,4 +1,6 @@
 -- A state stays fit where its thread starts another one.
+-- There is one life, one birth and one frame more; the innermost block counts one more, and its new thread is younger than its owner. The
+-- creator is ready, at the front.
 use Rattle.std.proofs.Common.{◌≡◌, ◌⊎◌, ℕ, zero, suc, ◌+◌, ◌≤◌, ◌<◌, ◌^◌, List, [], ◌∷◌, ◌++◌, length, length-append, Option, Some, None, IsSome, true, false, refl, sym, ap, ◌∙◌}
 use Rattle.std.proofs.Common.{subst, inl, inr, arith}
 use Rattle.std.specs.Prelude.{slice_get, slice_index_or, slice_set, nat_eq, nat_lt, replicate}
@@ -14,7 +16,7 @@ use Rattle.core_state.specs.Moves.{On}
 use Rattle.core_state.specs.Frames.{begun}
 use Rattle.stack_code.specs.declared.instr.Instr.TheVariants as i
 use Rattle.stack_code.specs.declared.shape.Home.TheVariants as home
-use Rattle.stack_code.specs.declared.shape.Kind.{Kind}
+use Rattle.stack_code.specs.declared.shape.CellKind.{CellKind}
 use Rattle.stack_code.specs.declared.shape.OpenBlock.{OpenBlock}
 use Rattle.stack_code.specs.declared.shape.Shape.{Shape}
 use Rattle.stack_code.specs.declared.shape.Leads.{Leads}
@@ -63,7 +65,7 @@ two_bodies n (b ∷ blocks) some h e =
       | inr ne ↦ let a = h.0.0 in let le = h.0.1 in omega (arith, a, le, ne)
     ]
 
-no_kinds : (code : Parts) (births : List Birth) (kinds : List Kind) → nat_eq (length kinds) 0 ≡ true → HaveKinds code births kinds []
+no_kinds : (code : Parts) (births : List Birth) (kinds : List CellKind) → nat_eq (length kinds) 0 ≡ true → HaveKinds code births kinds []
 no_kinds code births [] e = tt
 no_kinds code births (k ∷ kinds) e = let no : suc (length kinds) ≡ 0 = grind (arith, nat_tests) in absurd (omega (arith, no))
 
@@ -245,6 +247,7 @@ module _ (code : Parts) (bound : ℕ) (m : Flat) (fit : IsFit code m) (t : Item)
     keeps : (u : Item) (k : ℕ) → KeepsBlocks m.blocks blocks u k
     keeps u k c y e owner lt = let z = there_still c y e in (z.0, (z.1.0, z.1.1.0))
 
+    -- The block in which it starts counts the new thread; each other block counts what it counted, in lives with one more.
     all_blocks : (c : BlockId) (y : Block) → block_at blocks c ≡ Some y → IsBlock lives blocks c y
     all_blocks c y e =
         let z = still_of c y e in
@@ -406,6 +409,7 @@ module _ (code : Parts) (bound : ℕ) (m : Flat) (fit : IsFit code m) (t : Item)
               omega (arith, l, none, same)
         ]
 
+    -- The parts of a fit state for the creator, which rests behind the `Async`, for the new thread, which runs, and for all others.
     pub started_fit : IsFit code
         (record {
           shared = m.shared;

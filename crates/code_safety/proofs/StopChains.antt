@@ -1,4 +1,6 @@
 -- No reference dangles where the running thread stops.
+-- `KeepsLiving` says that each other thread lives just as before; then frames, stacks, waiting owners and operations are as they were, and
+-- the thread itself may have gone to rest, to wait, or to its end.
 use Rattle.std.proofs.Common.{◌≡◌, ◌⊎◌, ℕ, ◌<◌, List, length, Option, Some, None, true, refl, sym, ap, ◌∙◌, subst, inl, inr, arith}
 use Rattle.std.specs.Prelude.{All, slice_get, slice_index_or, slice_set}
 use Rattle.std.proofs.lemmas.List.{get_or-set_same, get_or-set_other}
@@ -113,6 +115,8 @@ module _ (code : Parts) (m : Flat) (fit : IsFit code m) (chained : AreChained co
       | inr l ↦ record { item = a.item; thread = a.thread; living = l; has = a.has }
     ]
 
+    -- What is left to give for such a stop: the frames that are left with their links, the blocks that were entered in them, and the stack of
+    -- the thread if it lives on.
     module _ (long : length chained.origins ≡ length store.frames) (many : length chained.sites ≡ length blocks)
         (frames : (f : FrameId) (x : Frame) → frame_at store f ≡ Some x → IsLinked chained.origins next f x) (own : LivesAs next t kept → HasStack code chained.origins blocks chained.sites t kept)
         (asks : All (λ (o : Operation). AskedOnChain chained.origins (thread_at next.threads o.item).frame o.asked) operations)

@@ -1,10 +1,12 @@
 -- Operands of the kinds that an instruction asks for.
+-- Where `effect` finds something the wanted kinds lie on top; then the operands that have these kinds are as wanted, and those below have
+-- the kinds that are left.
 use Rattle.std.proofs.Common.{◌≡◌, ◌≤◌, List, [], ◌∷◌, length, drop, Option, Some, None, Bool, true, false, refl, ap, subst, arith}
 use Rattle.std.specs.Prelude.{if◌then◌else◌}
 use Rattle.work_item.specs.declared.cell.Cell.{Cell}
 use Rattle.work_item.specs.declared.cell.Cell.TheVariants as cell
-use Rattle.stack_code.specs.declared.shape.Kind.{Kind}
-use Rattle.stack_code.specs.declared.shape.Kind.TheVariants as kind
+use Rattle.stack_code.specs.declared.shape.CellKind.{CellKind}
+use Rattle.stack_code.specs.declared.shape.CellKind.TheVariants as kind
 use Rattle.stack_code.specs.declared.shape.Shape.{Shape}
 use Rattle.stack_code.specs.declared.shape.Want.{Want}
 use Rattle.stack_code.specs.declared.shape.Want.TheVariants as want
@@ -28,11 +30,11 @@ if_not_is true o y e = let no : None ≡ Some y = e in cc
 if_not_is false o y e = (refl, e)
 
 pub after_is : (wants : List Want) (s : Shape) (go : Shape → Option Leads) (leads : Leads) → after wants s go ≡ Some leads
-    → (kinds : List Kind) × ((taken wants s.operands ≡ Some kinds) × (go (with_operands s kinds) ≡ Some leads))
+    → (kinds : List CellKind) × ((taken wants s.operands ≡ Some kinds) × (go (with_operands s kinds) ≡ Some leads))
 after_is wants s go leads e = on_some_is (taken wants s.operands) (λ kinds. go (with_operands s kinds)) leads e
 
 -- and what it leads to, with the operands that are left
-pub after_leads : (wants : List Want) (s : Shape) (kinds : List Kind) (go : Shape → Option Leads) → taken wants s.operands ≡ Some kinds → after wants s go ≡ go (with_operands s kinds)
+pub after_leads : (wants : List Want) (s : Shape) (kinds : List CellKind) (go : Shape → Option Leads) → taken wants s.operands ≡ Some kinds → after wants s go ≡ go (with_operands s kinds)
 after_leads wants s kinds go e = ap (λ o. on_some o (λ kinds. go (with_operands s kinds))) e
 
 -- ---- operands
@@ -54,7 +56,7 @@ module _ (code : Parts) (births : List Birth) where
   int_is (cell.Array place) h = absurd h
   int_is (cell.Block b) h = absurd h
 
-  wanted_is : (w : Want) (k : Kind) (x : Cell) → takes w k ≡ true → HasKind code births k x → IsWanted w x
+  wanted_is : (w : Want) (k : CellKind) (x : Cell) → takes w k ≡ true → HasKind code births k x → IsWanted w x
   wanted_is want.Int kind.Int x t h = int_is x h
   wanted_is want.Int (kind.Reference one) x t h = let no : false ≡ true = t in cc
   wanted_is want.Reference kind.Int x t h = let no : false ≡ true = t in cc
@@ -64,23 +66,24 @@ module _ (code : Parts) (births : List Birth) where
   wanted_is want.Any k x t h = tt
 
   -- the topmost operand is as wanted, and those below it have the kinds that are left
-  pub record Top (w : Want) (wants : List Want) (left : List Kind) (operands : List Cell) : Type 0 where
+  pub record Top (w : Want) (wants : List Want) (left : List CellKind) (operands : List Cell) : Type 0 where
     pub top : Cell
     pub below : List Cell
     pub is : operands ≡ top ∷ below
     pub wanted : IsWanted w top
-    pub kinds : List Kind
+    pub kinds : List CellKind
     pub taken : taken wants kinds ≡ Some left
     pub have : HaveKinds code births kinds below
 
-  pub top_of : (w : Want) (wants : List Want) (kinds left : List Kind) (operands : List Cell) → taken (w ∷ wants) kinds ≡ Some left → HaveKinds code births kinds operands → Top w wants left operands
+  pub top_of : (w : Want) (wants : List Want) (kinds left : List CellKind) (operands : List Cell) → taken (w ∷ wants) kinds ≡ Some left → HaveKinds code births kinds operands
+      → Top w wants left operands
   top_of w wants [] left operands t h = let no : None ≡ Some left = t in cc
   top_of w wants (k ∷ kinds) left [] t h = absurd h
   top_of w wants (k ∷ kinds) left (x ∷ below) t h =
       let b = if_is (takes w k) (taken wants kinds) left t in
       record { top = x; below = below; is = refl; wanted = wanted_is w k x b.0 h.0; kinds = kinds; taken = b.1; have = h.1 }
 
-  pub none_wanted : (kinds left : List Kind) (operands : List Cell) → taken [] kinds ≡ Some left → HaveKinds code births kinds operands → HaveKinds code births left operands
+  pub none_wanted : (kinds left : List CellKind) (operands : List Cell) → taken [] kinds ≡ Some left → HaveKinds code births kinds operands → HaveKinds code births left operands
   none_wanted kinds left operands t h = let e : kinds ≡ left = cc in subst (λ ks. HaveKinds code births ks operands) e h
 
   -- so many operands from the top are as wanted
@@ -89,12 +92,12 @@ module _ (code : Parts) (births : List Birth) where
   AreWanted (w ∷ wants) [] = ⊥
   AreWanted (w ∷ wants) (x ∷ operands) = IsWanted w x × AreWanted wants operands
 
-  pub record Many (wants : List Want) (left : List Kind) (operands : List Cell) : Type 0 where
+  pub record Many (wants : List Want) (left : List CellKind) (operands : List Cell) : Type 0 where
     pub enough : length wants ≤ length operands
     pub wanted : AreWanted wants operands
     pub rest : HaveKinds code births left (drop (length wants) operands)
 
-  pub many_of : (wants : List Want) (kinds left : List Kind) (operands : List Cell) → taken wants kinds ≡ Some left → HaveKinds code births kinds operands → Many wants left operands
+  pub many_of : (wants : List Want) (kinds left : List CellKind) (operands : List Cell) → taken wants kinds ≡ Some left → HaveKinds code births kinds operands → Many wants left operands
   many_of [] kinds left operands t h = record { enough = omega arith; wanted = tt; rest = none_wanted kinds left operands t h }
   many_of (w ∷ wants) [] left operands t h = let no : None ≡ Some left = t in cc
   many_of (w ∷ wants) (k ∷ kinds) left [] t h = absurd h

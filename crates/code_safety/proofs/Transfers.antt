@@ -1,4 +1,6 @@
 -- What a read and a write of a file ask for, and what an answer sets: the bytes that were read come into ints of the array.
+-- A range that is right is within the array, so the first elements of it are ints too; by induction over the bytes each is set in one of
+-- them.
 use Rattle.std.proofs.Common.{◌≡◌, ℕ, ◌+◌, ◌≤◌, ◌<◌, ◌^◌, List, [], ◌∷◌, length, Option, Some, None, Result, Ok, Err, Bool, true, false, refl, sym, subst, arith}
 use Rattle.std.specs.Prelude.{ℤ, pos, negsuc, nat_le, ◌&&◌, if◌then◌else◌}
 use Rattle.std.proofs.lemmas.Bool.{and_parts}

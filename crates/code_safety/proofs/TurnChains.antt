@@ -1,4 +1,5 @@
 -- No reference dangles where a thread yields, and where another one runs.
+-- Nothing but the place of a thread changes: among those that live it is running, or ready, and it stands as it stood.
 use Rattle.std.proofs.Common.{◌≡◌, ℕ, ◌+◌, ◌<◌, List, [], ◌∷◌, ◌++◌, Some, None, true, refl, sym, ap, ◌∙◌, subst, inl, inr, arith}
 use Rattle.std.specs.Prelude.{slice_get, slice_index_or, slice_set}
 use Rattle.std.proofs.lemmas.List.{get_or-set_other}

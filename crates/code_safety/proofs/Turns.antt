@@ -1,4 +1,6 @@
 -- A state stays fit where its thread yields, and where another one runs.
+-- A thread that goes is running, ready or waiting for an operation, once in all (`listed`); where it stops or is dispatched, this count
+-- stays, and `stops_fit` says for each way to stop what else has to be given.
 use Rattle.std.proofs.Common.{◌≡◌, ◌⊎◌, ℕ, ◌+◌, ◌<◌, List, [], ◌∷◌, ◌++◌, length, Option, Some, None, true, refl, sym, ap, ◌∙◌, subst, inl, inr, arith}
 use Rattle.std.specs.Prelude.{All, slice_get, slice_set}
 use Rattle.std.proofs.lemmas.Bool.{cases_eq}
@@ -91,6 +93,7 @@ module _ (code : Parts) (m : Flat) (fit : IsFit code m) (t : Item) (run : m.runn
   pub listed_other : (u : ℕ) → one_at u t + resting m u ≡ one_if (is_going (life_at fit.lives (record { number = u })).phase)
   listed_other u = ap (λ o. runs u o + resting m u) (sym run) ∙ fit.listed u
 
+  -- A state in which the running thread has stopped: what is asked of births, lives, store and blocks for it to be fit.
   module _ (births : List Birth) (lives : List Life) (shared : Shared) (store : Store) (is_store : IsStore code births store) (operations : List Operation) (kept : Thread) (ready : List Item)
       (blocks : List (Option Block)) (count : ℕ)
       (alive : (u : Item) → is_living (life_at lives u).phase ≡ true → IsAlive code births store blocks u (life_at lives u))

@@ -1,4 +1,6 @@
 -- The operations of a core as a list: what is found in it, which threads wait for their ends, and with what these will go on.
+-- What is found stands between those before it and those behind it; from this form, counts, sums and `going_on` are each one law, by
+-- induction over those before it.
 use Rattle.std.proofs.Common.{◌≡◌, ℕ, ◌+◌, List, [], ◌∷◌, ◌++◌, Some, None, Bool, true, false, refl, sym, ap, ◌∙◌, subst, arith}
 use Rattle.std.specs.Prelude.{All, cond, find, nat_eq, if◌then◌else◌}
 use Rattle.std.proofs.lemmas.Bool.{eqb-true, eq-eqb}

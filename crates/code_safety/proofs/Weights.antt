@@ -1,4 +1,6 @@
 -- How the bound on what a core can still do changes with its threads.
+-- `grown` of a rank is more than two of lower ranks together with a dispatch, or one with three entries and a dispatch; and what threads
+-- weigh that stay the same stays the same, in a list, among the operations and in the table of blocks.
 use Rattle.std.proofs.Common.{◌≡◌, ℕ, zero, suc, ◌+◌, ◌-◌, ◌*◌, ◌≤◌, ◌<◌, List, [], ◌∷◌, ◌++◌, length, Option, Some, None, Bool, true, false, refl, ap, ◌∙◌, inl, inr, arith}
 use Rattle.std.specs.Prelude.{◌&&◌, not, sum, slice_index, slice_index_or, if◌then◌else◌}
 use Rattle.std.proofs.lemmas.Bool.{cases_lt}

@@ -13,8 +13,8 @@ use Rattle.work_item.specs.Store.{Store, Frame, frame_at, no_int}
 use Rattle.cancel_scope.specs.declared.operation.Asked.{Asked}
 use Rattle.cancel_scope.specs.declared.operation.Asked.TheVariants as asked
 use Rattle.cancel_scope.specs.declared.operation.Operation.{Operation}
-use Rattle.stack_code.specs.declared.shape.Kind.{Kind}
-use Rattle.stack_code.specs.declared.shape.Kind.TheVariants as kind
+use Rattle.stack_code.specs.declared.shape.CellKind.{CellKind}
+use Rattle.stack_code.specs.declared.shape.CellKind.TheVariants as kind
 use Rattle.stack_code.specs.declared.shape.Home.{Home}
 use Rattle.stack_code.specs.declared.shape.Body.{Body}
 use Rattle.stack_code.specs.declared.shape.OpenBlock.{OpenBlock}
@@ -58,12 +58,12 @@ pub record IsIntArray (code : Parts) (births : List Birth) (one : Bool) (place :
   pub single : one ≡ true → place.len ≡ 1
 
 -- an operand of that kind
-abbrev pub HasKind : Parts → List Birth → Kind → Cell → Type 0
+abbrev pub HasKind : Parts → List Birth → CellKind → Cell → Type 0
 HasKind code births kind.Int (cell.Int value) = Unit {0}
 HasKind code births (kind.Reference one) (cell.Array place) = IsIntArray code births one place
 HasKind code births _ _ = ⊥
 
-abbrev pub HaveKinds : Parts → List Birth → List Kind → List Cell → Type 0
+abbrev pub HaveKinds : Parts → List Birth → List CellKind → List Cell → Type 0
 HaveKinds code births [] [] = Unit {0}
 HaveKinds code births (k ∷ kinds) (x ∷ operands) = HasKind code births k x × HaveKinds code births kinds operands
 HaveKinds code births _ _ = ⊥
@@ -134,7 +134,7 @@ own_blocks s = own_in (length s.bodies) s.blocks
 
 -- an activation at that address, with operands of these kinds
 pub record IsActivation (code : Parts) (births : List Birth) (s : Store) (t : Item) (place : ℕ) (f : FrameId) (operands : List Cell)
-    (kinds : List Kind)
+    (kinds : List CellKind)
     (shape : Shape) : Type 0 where
   pub reached : Reaches code place shape
   pub have : HaveKinds code births kinds operands
@@ -144,7 +144,7 @@ pub record IsActivation (code : Parts) (births : List Birth) (s : Store) (t : It
 
 -- one that waits for one int more
 pub record IsCaller (code : Parts) (births : List Birth) (s : Store) (t : Item) (c : Caller) (shape : Shape) : Type 0 where
-  pub kinds : List Kind
+  pub kinds : List CellKind
   pub one : shape.operands ≡ kind.Int ∷ kinds
   pub activation : IsActivation code births s t c.place c.frame c.operands kinds shape
 

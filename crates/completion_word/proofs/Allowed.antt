@@ -1,4 +1,6 @@
 -- Each step on a word keeps the word rule, whatever state that meets it the words are in, and tells its seat what its call says.
+-- The seat's own view says which offer the word belongs to; by the rule the number found there can only be one of two or three, and for each
+-- of them `Keeps` has the words and the views, and `Moves` the seats.
 use Rattle.std.proofs.Common.{◌≡◌, ℕ, ◌+◌, ◌%◌, ◌^◌, ◌<◌, ◌≤◌, List, [], length, get_or, set, Option, Some, None, true, false, eqb, sym, refl, ap, ◌∙◌, subst, ⊎_elim, arith, le_refl, eq-eqb, ne_eqb}
 use Rattle.std.proofs.lemmas.List.{set-get_or}
 use Rattle.std.proofs.lemmas.Bool.{cases_lt}
@@ -11,8 +13,8 @@ use Rattle.completion_word.specs.declared.answers.Taking.TheVariants as taking
 use Rattle.completion_word.specs.declared.answers.Withdrawal.TheVariants as withdrawal
 use Rattle.completion_word.specs.declared.standing.Standing.TheVariants.{Offered, Withdrawn, Taken, Passed}
 use Rattle.completion_word.specs.declared.views.Offer.{Offer}
-use Rattle.completion_word.specs.declared.views.Outcome.{Outcome}
-use Rattle.completion_word.specs.declared.views.Outcome.TheVariants as outcome
+use Rattle.completion_word.specs.declared.views.DecisionKind.{DecisionKind}
+use Rattle.completion_word.specs.declared.views.DecisionKind.TheVariants as outcome
 use Rattle.completion_word.specs.declared.views.Decision.{Decision}
 use Rattle.completion_word.specs.declared.views.Owner.{Owner}
 use Rattle.completion_word.specs.declared.views.Peer.{Peer}
@@ -81,7 +83,7 @@ finds places ws x p k words h low high open_ =
     (λ (l : k < length p.decisions).
     let taken = subst (λ (w : Option ℕ). Answered z.stamp w d) open_ (h.answered k l) in
     let how = ap (λ (e : Decision). e.outcome) taken.2 in
-    gone taken.0 l how (words.decided k l (omega arith) ∙ ap (λ (o : Outcome). code (decided_by o)) how))
+    gone taken.0 l how (words.decided k l (omega arith) ∙ ap (λ (o : DecisionKind). code (decided_by o)) how))
     (λ (l : length p.decisions ≤ k). still l (words.undecided k high l ∙ ap (λ (w : Option ℕ). code (open_by z.stamp w)) open_))
     (cases_lt k (length p.decisions))
 

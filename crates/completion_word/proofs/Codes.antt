@@ -1,11 +1,12 @@
--- What a word says is what was written into it.
+-- What a word says is what was written into it: a number below 8 beside 8 times a stamp gives both back. So what a load tells and what a look
+-- shows is read off the standing that the word rule says the word has.
 use Rattle.std.proofs.Common.{◌≡◌, ◌≢◌, ℕ, ◌+◌, ◌*◌, ◌/◌, ◌%◌, List, [], ◌∷◌, ◌++◌, Option, Some, None, refl, sym, ap, ◌∙◌, subst, arith}
 use Rattle.completion_word.specs.declared.answers.Learnt.TheVariants as learnt
 use Rattle.completion_word.specs.declared.answers.Look.TheVariants as look
 use Rattle.completion_word.specs.declared.standing.Standing.{Standing}
 use Rattle.completion_word.specs.declared.standing.Standing.TheVariants.{Unused, Offered, Withdrawn, Taken, Passed}
-use Rattle.completion_word.specs.declared.views.Outcome.{Outcome}
-use Rattle.completion_word.specs.declared.views.Outcome.TheVariants as outcome
+use Rattle.completion_word.specs.declared.views.DecisionKind.{DecisionKind}
+use Rattle.completion_word.specs.declared.views.DecisionKind.TheVariants as outcome
 use Rattle.completion_word.specs.declared.views.Decision.{Decision}
 use Rattle.completion_word.specs.Link.{code, standing_by, standing_of, stamp_in, open_by, decided_by, decided_standing, Answered}
 use Rattle.completion_word.specs.Steps.{learnt_of, look_of, with_learnt, Shows}
@@ -44,7 +45,7 @@ pub learnt-open : (stamp : ℕ) (w : Option ℕ) → learnt_of (open_by stamp w)
 learnt-open stamp None = refl
 learnt-open stamp (Some w) = refl
 
-pub with_learnt-decided : (how : Outcome) (learned : List Outcome) → with_learnt (learnt_of (decided_by how)) learned ≡ learned ++ how ∷ []
+pub with_learnt-decided : (how : DecisionKind) (learned : List DecisionKind) → with_learnt (learnt_of (decided_by how)) learned ≡ learned ++ how ∷ []
 with_learnt-decided (outcome.Taken t) learned = refl
 with_learnt-decided (outcome.Passed t) learned = refl
 
@@ -59,7 +60,7 @@ shows-decided stamp None d h = subst (λ (e : Decision). Shows stamp None (decid
 shows-decided stamp (Some w) d h = subst (λ (e : Decision). Shows stamp (Some w) (decided_standing e)) (sym h.2) (w, refl, h.1)
 
 -- a look shows an offer that is not decided, and no decision
-pub look-decided : (how : Outcome) → look_of (decided_by how) ≡ look.Nothing
+pub look-decided : (how : DecisionKind) → look_of (decided_by how) ≡ look.Nothing
 look-decided (outcome.Taken t) = refl
 look-decided (outcome.Passed t) = refl
 

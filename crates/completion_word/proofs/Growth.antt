@@ -1,4 +1,5 @@
--- What stays true of looks, of notes and of what was told, as offers and decisions come.
+-- What stays true of looks, of notes and of what was told, as offers and decisions come. Offers only come or are withdrawn, decisions only
+-- come; so what was true of a side at some moment is true of it ever after, and each fact goes along these two.
 use Rattle.std.proofs.Common.{◌≡◌, ℕ, ◌<◌, ◌≤◌, List, [], ◌∷◌, ◌++◌, length, set, Option, Some, sym, refl, ap, ◌∙◌, arith, length-append, length-set, le_refl, append_assoc}
 use Rattle.std.specs.Option.{ForSome}
 use Rattle.std.proofs.lemmas.List.{append-nil, get_or_append_left}
@@ -7,7 +8,7 @@ use Rattle.completion_word.specs.declared.answers.Look.TheVariants as look
 use Rattle.completion_word.specs.declared.views.Offer.{Offer}
 use Rattle.completion_word.specs.declared.views.Decision.{Decision}
 use Rattle.completion_word.specs.declared.views.Sighting.{Sighting}
-use Rattle.completion_word.specs.declared.views.Outcome.TheVariants as outcome
+use Rattle.completion_word.specs.declared.views.DecisionKind.TheVariants as outcome
 use Rattle.completion_word.specs.Link.{offer, decision, offer_at, decision_at, IsTrueLook, StartsWith, IsPast, IsTold}
 use Rattle.completion_word.proofs.Lists.{set_all}
 

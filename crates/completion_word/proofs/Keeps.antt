@@ -1,4 +1,5 @@
--- Each step on a word keeps what is said of the words and of the parts of the two views that they rest on.
+-- Each step on a word keeps what is said of the words and of the parts of the two views that they rest on. For each kind of step there is a
+-- lemma on the words and one on the views, over plain lists, without seats: what changes is one item, and `Lists` does the others.
 use Rattle.std.proofs.Common.{◌≡◌, ℕ, ◌+◌, ◌-◌, ◌%◌, ◌^◌, ◌<◌, ◌≤◌, List, [], ◌∷◌, ◌++◌, length, get_or, set, Option, Some, None, sym}
 use Rattle.std.proofs.Common.{refl, ap, ◌∙◌, subst, ⊎_elim, arith, length-append, length-set, get_or-set_other, get_or-set_same, le_refl}
 use Rattle.std.specs.Option.{ForSome}
@@ -11,8 +12,8 @@ use Rattle.completion_word.specs.declared.answers.Look.TheVariants as look
 use Rattle.completion_word.specs.declared.standing.Standing.{Standing}
 use Rattle.completion_word.specs.declared.standing.Standing.TheVariants.{Offered, Withdrawn}
 use Rattle.completion_word.specs.declared.views.Offer.{Offer}
-use Rattle.completion_word.specs.declared.views.Outcome.{Outcome}
-use Rattle.completion_word.specs.declared.views.Outcome.TheVariants as outcome
+use Rattle.completion_word.specs.declared.views.DecisionKind.{DecisionKind}
+use Rattle.completion_word.specs.declared.views.DecisionKind.TheVariants as outcome
 use Rattle.completion_word.specs.declared.views.Decision.{Decision}
 use Rattle.completion_word.specs.Link.{offer, decision, offer_at, decision_at, code, standing_of, open_by, open_standing, decided_standing, AreWords, Answers, IsTrueLook, Agree}
 use Rattle.completion_word.specs.Steps.{learnt_of, with_learnt, look_of}
@@ -40,7 +41,7 @@ words_post places ws offers ds t h some_place decided room =
       unused = λ k sk l. get_or-set_other ws (s % places) k v 0 (λ same. let low : s % places ≡ s = mod-eq_of_lt (omega arith) in omega arith) ∙ h.unused k (omega arith) l;
     }
 
-pub agree_post : (places : ℕ) (offers : List Offer) (learned : List Outcome) (last : ℕ) (ds : List Decision) (seen : Option Look) (t : ℕ) → Agree places offers learned last ds seen
+pub agree_post : (places : ℕ) (offers : List Offer) (learned : List DecisionKind) (last : ℕ) (ds : List Decision) (seen : Option Look) (t : ℕ) → Agree places offers learned last ds seen
     → length offers < length learned + places → last < t → t < 2 ^ 60
     → Agree places (offers ++ offer t ∷ []) learned t ds seen
 agree_post places offers learned last ds seen t h room later small =
@@ -83,7 +84,7 @@ words_withdraw places ws offers ds k u y h some_place near undecided inside is =
       unused = λ j sj l. get_or-set_other ws (k % places) j v 0 (λ at. let low : k % places ≡ k = mod-eq_of_lt (omega arith) in omega arith) ∙ h.unused j (omega arith) l;
     }
 
-pub agree_withdraw : (places : ℕ) (offers : List Offer) (learned : List Outcome) (last : ℕ) (ds : List Decision) (seen : Option Look) (k u : ℕ) → Agree places offers learned last ds seen
+pub agree_withdraw : (places : ℕ) (offers : List Offer) (learned : List DecisionKind) (last : ℕ) (ds : List Decision) (seen : Option Look) (k u : ℕ) → Agree places offers learned last ds seen
     → length ds ≤ k → k < length offers → (offer_at offers k).withdrawn ≡ None → last < u → u < 2 ^ 60
     → Agree places (set offers k (record (offer_at offers k) { withdrawn = Some u })) learned u ds seen
 agree_withdraw places offers learned last ds seen k u h undecided inside open_ later small =
@@ -120,7 +121,8 @@ words_find places ws offers ds k found h =
       unused = λ j sj l. h.unused j (omega arith) l;
     }
 
-pub agree_find : (places : ℕ) (offers : List Offer) (learned : List Outcome) (last : ℕ) (ds : List Decision) (seen : Option Look) (k t : ℕ) → Agree places offers learned last ds seen → k < length ds
+pub agree_find : (places : ℕ) (offers : List Offer) (learned : List DecisionKind) (last : ℕ) (ds : List Decision) (seen : Option Look) (k t : ℕ) → Agree places offers learned last ds seen
+    → k < length ds
     → (decision_at ds k).outcome ≡ outcome.Taken t
     → Agree places (set offers k (record (offer_at offers k) { found_taken = Some t })) learned last ds seen
 agree_find places offers learned last ds seen k t h decided taken =
@@ -147,7 +149,8 @@ agree_find places offers learned last ds seen k t h decided taken =
 
 -- ---- learn
 
-agree_learnt : (places : ℕ) (offers : List Offer) (learned : List Outcome) (last : ℕ) (ds : List Decision) (seen : Option Look) → Agree places offers learned last ds seen → length learned < length ds
+agree_learnt : (places : ℕ) (offers : List Offer) (learned : List DecisionKind) (last : ℕ) (ds : List Decision) (seen : Option Look) → Agree places offers learned last ds seen
+    → length learned < length ds
     → Agree places offers (learned ++ (decision_at ds (length learned)).outcome ∷ []) last ds seen
 agree_learnt places offers learned last ds seen h more =
     let d = (decision_at ds (length learned)).outcome in
@@ -165,7 +168,7 @@ agree_learnt places offers learned last ds seen h more =
       look_true = h.look_true;
     }
 
-pub agree_learn : (places : ℕ) (ws : List ℕ) (offers : List Offer) (learned : List Outcome) (last : ℕ) (ds : List Decision) (seen : Option Look) → AreWords places ws offers ds
+pub agree_learn : (places : ℕ) (ws : List ℕ) (offers : List Offer) (learned : List DecisionKind) (last : ℕ) (ds : List Decision) (seen : Option Look) → AreWords places ws offers ds
     → Agree places offers learned last ds seen → length learned < length offers
     → Agree places offers (with_learnt (learnt_of (standing_of (get_or ws (length learned % places) 0))) learned) last ds seen
 agree_learn places ws offers learned last ds seen words h some_left =
@@ -173,7 +176,7 @@ agree_learn places ws offers learned last ds seen words h some_left =
     let n = get_or ws (l % places) 0 in
     let x = offer_at offers l in
     let d = decision_at ds l in
-    let After : List Outcome → Type 0 = λ xs. Agree places offers xs last ds seen in
+    let After : List DecisionKind → Type 0 = λ xs. Agree places offers xs last ds seen in
     ⊎_elim
     (λ (decided : l < length ds).
     let saw = standing_is n (decided_standing d) (words.decided l decided h.offered_within) in
@@ -185,7 +188,7 @@ agree_learn places ws offers learned last ds seen words h some_left =
 
 -- ---- look
 
-pub agree_seen : (places : ℕ) (offers : List Offer) (learned : List Outcome) (last : ℕ) (ds : List Decision) (seen seen' : Option Look) → Agree places offers learned last ds seen
+pub agree_seen : (places : ℕ) (offers : List Offer) (learned : List DecisionKind) (last : ℕ) (ds : List Decision) (seen seen' : Option Look) → Agree places offers learned last ds seen
     → ForSome seen' (IsTrueLook offers (length ds)) → Agree places offers learned last ds seen'
 agree_seen places offers learned last ds seen seen' h true_ = record {
   learned_decided = h.learned_decided;
@@ -221,7 +224,7 @@ shown_true : (offers : List Offer) (r : ℕ) (w : Option ℕ) → r < length off
 shown_true offers r None inside is = (inside, refl)
 shown_true offers r (Some w) inside is = (inside, is)
 
-pub agree_look : (places : ℕ) (ws : List ℕ) (offers : List Offer) (learned : List Outcome) (last : ℕ) (ds : List Decision) (seen : Option Look) → AreWords places ws offers ds → 0 < places
+pub agree_look : (places : ℕ) (ws : List ℕ) (offers : List Offer) (learned : List DecisionKind) (last : ℕ) (ds : List Decision) (seen : Option Look) → AreWords places ws offers ds → 0 < places
     → Agree places offers learned last ds seen
     → Agree places offers learned last ds (Some (look_of (standing_of (get_or ws (length ds % places) 0))))
 agree_look places ws offers learned last ds seen words some_place h =
@@ -257,7 +260,7 @@ words_decide places ws offers ds d h some_place open_ near =
       unused = λ k sk l. get_or-set_other ws (r % places) k v 0 (λ at. let low : r % places ≡ r = mod-eq_of_lt (omega arith) in omega arith) ∙ h.unused k sk l;
     }
 
-pub agree_decide : (places : ℕ) (offers : List Offer) (learned : List Outcome) (last : ℕ) (ds : List Decision) (seen : Option Look) (d : Decision) → Agree places offers learned last ds seen
+pub agree_decide : (places : ℕ) (offers : List Offer) (learned : List DecisionKind) (last : ℕ) (ds : List Decision) (seen : Option Look) (d : Decision) → Agree places offers learned last ds seen
     → length ds < length offers → Answers (offer_at offers (length ds)) d
     → Agree places offers learned last (ds ++ d ∷ []) None
 agree_decide places offers learned last ds seen d h open_ answer =

@@ -1,9 +1,10 @@
--- What the word rule means for an offer and for a word.
+-- What the word rule means for an offer and for a word. All of it lies in one line of the rule: a decision answers its offer where that stands,
+-- and its withdrawal where there is one.
 use Rattle.std.proofs.Common.{◌≡◌, ℕ, ◌+◌, ◌-◌, ◌<◌, ◌≤◌, length, Option, Some, None, refl, sym, ap, arith}
 use Rattle.completion_word.specs.declared.views.Decision.{Decision}
 use Rattle.completion_word.specs.declared.views.Owner.{Owner}
 use Rattle.completion_word.specs.declared.views.Peer.{Peer}
-use Rattle.completion_word.specs.declared.views.Outcome.TheVariants as outcome
+use Rattle.completion_word.specs.declared.views.DecisionKind.TheVariants as outcome
 use Rattle.completion_word.specs.Link.{offer_at, decision_at, Answered, Agreed}
 
 taken-open : (stamp : ℕ) (w : Option ℕ) (d : Decision) (t : ℕ) → Answered stamp w d → d.outcome ≡ outcome.Taken t → w ≡ None

@@ -1,4 +1,5 @@
--- Lists read by an index, and the places of two numbers.
+-- Lists read by an index, where an item comes or is changed: what holds of each is shown of the old ones and of the new one alone. And the
+-- places of two numbers that are less than a turn apart, so that a write in the word of one offer leaves those of the others.
 use Rattle.std.proofs.Common.{◌≡◌, ◌≢◌, ℕ, zero, suc, ◌+◌, ◌%◌, ◌<◌, ◌≤◌, ◌⊎◌, List, [], ◌∷◌, ◌++◌, length, get_or, inl, inr, ⊎_elim}
 use Rattle.std.proofs.Common.{sym, refl, ap, subst, arith, length-append, length-set, get_or-set_other, get_or-set_same, set}
 use Rattle.std.proofs.lemmas.List.{get_or_append_left, get_or_push}

@@ -1,4 +1,5 @@
--- After a step of one seat, all that any seat knows is true.
+-- After a step of one seat, all that any seat knows is true. What the seat knows itself is shown where the step is; what the others know
+-- was true before, and stays so by `Growth`. So the whole rule follows from the part that the step is about.
 use Rattle.std.proofs.Common.{◌≡◌, ◌≢◌, ℕ, List, [], ◌∷◌, ◌++◌, length, set, Some, sym, refl, ◌∙◌, subst, ⊎_elim, arith}
 use mathlib.Core.Option.{some}
 use lib.ListN.{get_elem?}

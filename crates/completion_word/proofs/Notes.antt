@@ -1,4 +1,5 @@
--- How each side is told what the other knows, and what follows once both were told.
+-- How each side is told what the other knows, and what follows once both were told. A note is true as its seat's view is true, and stays so by
+-- `Growth`. The peer is told first that all which the owner knew of is decided; so the list that the owner is told then is the whole one.
 use Rattle.std.proofs.Common.{◌≡◌, ℕ, ◌+◌, ◌-◌, ◌<◌, ◌≤◌, List, [], ◌∷◌, length, get_or, set, Option, Some, None, zero, suc, true, false, cond, leb, le-leb, sym, refl, ap, ◌∙◌, subst, arith, le_refl}
 use Rattle.std.specs.Option.{ForSome}
 use mathlib.Core.Option.{some, none}

@@ -1,4 +1,5 @@
--- How the two sides of a link part, tell each other what they know, and meet.
+-- How the two sides of a link part, tell each other what they know, and meet. No word changes, and neither do the two views: only which seat
+-- has them. At the end the views that are in hand are those of the rule, so what it says of them is told.
 use Rattle.std.proofs.Common.{◌≡◌, ◌≢◌, ℕ, ◌<◌, List, [], ◌∷◌, length, get_or, set, replicate, Some, zero, suc, sym, refl, ap, ◌∙◌, subst, ⊎_elim, arith}
 use Rattle.std.proofs.lemmas.List.{get_or-replicate, length-replicate}
 use mathlib.Core.Option.{some, some-injective, some-ne-none}

@@ -1,5 +1,5 @@
 -- What steps on a link are made of, what they tell a seat, and what the laws of the word rule say, by small numbers.
-use Rattle.std.proofs.Common.{◌≡◌, refl, sym, ap, ◌∙◌, ℕ, ◌+◌, ◌-◌, ◌<◌, ◌≤◌, [], ◌∷◌, length, None, Some, true, false, arith}
+use Rattle.std.proofs.Common.{◌≡◌, refl, sym, ap, ◌∙◌, subst, List, ℕ, ◌+◌, ◌-◌, ◌<◌, ◌≤◌, [], ◌∷◌, length, None, Some, true, false, arith}
 use Rattle.std.specs.Prelude.{slice_index}
 use mathlib.Core.Option as maybe
 use Rattle.atomic_table.specs.Table.{State, Me, Step, step, opening, Splits, Joins}
@@ -10,7 +10,7 @@ use Rattle.completion_word.specs.declared.answers.Taking.TheVariants as taking
 use Rattle.completion_word.specs.declared.seats.OwnerSeat.{OwnerSeat}
 use Rattle.completion_word.specs.declared.seats.PeerSeat.{PeerSeat}
 use Rattle.completion_word.specs.declared.standing.Standing.TheVariants.{Unused, Offered, Withdrawn, Taken, Passed}
-use Rattle.completion_word.specs.declared.views.Outcome.TheVariants as outcome
+use Rattle.completion_word.specs.declared.views.DecisionKind.TheVariants as outcome
 use Rattle.completion_word.specs.declared.views.Decision.{Decision}
 use Rattle.completion_word.specs.declared.views.OwnerNote.{OwnerNote}
 use Rattle.completion_word.specs.declared.views.View.{View}
@@ -25,6 +25,8 @@ use Rattle.completion_word.specs.Steps.{after_post, after_learn, after_pass, Pos
 use Rattle.completion_word.specs.Laws.{NeverBoth, PassedIsWithdrawn, UsedAgain, ShownByItsWord}
 use Rattle.completion_word.specs.Kept.{Holds, Telling, KeptByLoad, KeptByStore, KeptByExchange, Begins, SplitKeeps, PostKeeps, WithdrawKeeps, LearnKeeps, LookKeeps, TakeKeeps}
 use Rattle.completion_word.specs.Kept.{PassKeeps, JoinKeeps, NoteKeeps, NoteJoinKeeps, ToldPeerKeeps, ToldOwnerKeeps, CheckKeeps}
+use Rattle.completion_word.specs.InForce.{key_of, IsWordRule, IsInForce, TellsJust}
+use Rattle.completion_word.proofs.Sides.{opens, splits}
 use Rattle.completion_word.proofs.Examples.{two_posted, one_withdrawn, found_offer, one_looked, one_taken, one_late, taken_7, two_words, the_rule_holds, stray_word, the_rule_does_not_hold}
 
 -- ---- words: 59 is 8 times 7 and 3
@@ -287,3 +289,34 @@ a_check law = law 2 0 0 two_posted
 -- what a step tells is a relation between the seat before it and after it, as that it stays as it was
 abbrev pub stays : Telling
 stays st m n after = after ≡ m
+
+-- ---- the rule in force
+
+-- over words of which there are two, or one
+pub it_is_in_force : (w : Words) → places_of w ≡ 2 → key_of w.table.shared ≡ 2 → IsInForce (λ k. WordRule k) w
+it_is_in_force w two key s = let same = two ∙ sym key in (λ r. subst (λ (k : ℕ). WordRule k s) (sym same) r, λ r. subst (λ (k : ℕ). WordRule k s) same r)
+
+-- the words of two new seats, before any is used
+unused_words : WordRule 1 (record stray_word { words = 0 ∷ [] })
+unused_words = splits 1 0 (both_views new_owner new_peer) new_owner new_peer refl (opening (0 ∷ []) [] (both_views new_owner new_peer)) (opens 1 (0 ∷ []) (omega arith) refl) refl
+
+-- a rule that forgets what the words say, and speaks of the views of the seats alone
+abbrev pub forgetful : ℕ → State ℕ View → Type 0
+forgetful places s = (words : List ℕ) × WordRule places (record { words = words; homes = s.homes; views = s.views })
+
+pub the_word_rule_is_itself : IsWordRule 2 (WordRule 2)
+the_word_rule_is_itself s = (λ r. r, λ r. r)
+
+pub a_part_is_forgotten : IsWordRule 1 (forgetful 1) → ⊥
+a_part_is_forgotten law = the_rule_does_not_hold ((law stray_word).0 (0 ∷ [], unused_words))
+
+pub a_forgetful_one_is_not : (w : Words) → places_of w ≡ 1 → key_of w.table.shared ≡ 1 → IsInForce forgetful w → ⊥
+a_forgetful_one_is_not w one key law =
+    the_rule_does_not_hold (subst (λ (k : ℕ). WordRule k stray_word) one ((law stray_word).0 (subst (λ (k : ℕ). forgetful k stray_word) (sym key) (0 ∷ [], unused_words))))
+
+pub it_tells_just_that : TellsJust Posts Posts
+it_tells_just_that st m n after = (λ h. h, λ h. h)
+
+-- to tell nothing is not to tell that a post is kept
+pub it_tells_too_little : TellsJust (λ st m n after. Unit {0}) Posts → ⊥
+it_tells_too_little law = a_post_is_kept ((law (stores 41) (seat (owner_view new_owner)) 41 (seat (owner_view new_owner))).0 tt)

@@ -2,7 +2,7 @@
 use Rattle.std.specs.Prelude.{◌≡◌, ℕ, ◌+◌, ◌-◌, ◌%◌, ◌<◌, ◌≤◌, length, slice_index, Some, None}
 use Rattle.atomic_table.specs.Table.{State}
 use Rattle.completion_word.specs.declared.views.View.{View}
-use Rattle.completion_word.specs.declared.views.Outcome.TheVariants as outcome
+use Rattle.completion_word.specs.declared.views.DecisionKind.TheVariants as outcome
 use Rattle.completion_word.specs.Link.{offer_at, decision_at, standing_of}
 use Rattle.completion_word.specs.Steps.{ShowsOffer}
 use Rattle.completion_word.specs.Rule.{WordRule}

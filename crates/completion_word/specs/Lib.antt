@@ -4,4 +4,5 @@ pub mod Steps
 pub mod Seats
 pub mod Laws
 pub mod Kept
+pub mod InForce
 pub mod inner

@@ -10,8 +10,8 @@ use Rattle.completion_word.specs.declared.answers.Look.TheVariants as look
 use Rattle.completion_word.specs.declared.standing.Standing.{Standing}
 use Rattle.completion_word.specs.declared.standing.Standing.TheVariants.{Unused, Offered, Withdrawn, Taken, Passed}
 use Rattle.completion_word.specs.declared.views.Offer.{Offer}
-use Rattle.completion_word.specs.declared.views.Outcome.{Outcome}
-use Rattle.completion_word.specs.declared.views.Outcome.TheVariants as outcome
+use Rattle.completion_word.specs.declared.views.DecisionKind.{DecisionKind}
+use Rattle.completion_word.specs.declared.views.DecisionKind.TheVariants as outcome
 use Rattle.completion_word.specs.declared.views.Decision.{Decision}
 use Rattle.completion_word.specs.declared.views.Sighting.{Sighting}
 use Rattle.completion_word.specs.declared.views.Owner.{Owner}
@@ -23,7 +23,7 @@ abbrev pub offer : ℕ → Offer
 offer stamp = record { stamp = stamp; withdrawn = None; found_taken = None }
 
 -- a decision, and the stamp that it answers
-abbrev pub decision : Outcome → ℕ → Decision
+abbrev pub decision : DecisionKind → ℕ → Decision
 decision how answered = record { outcome = how; answers = answered }
 
 -- a look at the offer of a number
@@ -37,7 +37,7 @@ offer_at offers k = slice_index_or offers k (offer 0)
 abbrev pub decision_at : List Decision → ℕ → Decision
 decision_at decisions k = slice_index_or decisions k (decision (outcome.Taken 0) 0)
 
-abbrev pub outcome_at : List Outcome → ℕ → Outcome
+abbrev pub outcome_at : List DecisionKind → ℕ → DecisionKind
 outcome_at outcomes k = slice_index_or outcomes k (outcome.Taken 0)
 
 -- ---- the words
@@ -73,7 +73,7 @@ abbrev pub open_standing : Offer → Standing
 open_standing x = open_by x.stamp x.withdrawn
 
 -- how an offer stands that is decided
-abbrev pub decided_by : Outcome → Standing
+abbrev pub decided_by : DecisionKind → Standing
 decided_by (outcome.Taken t) = Taken t
 decided_by (outcome.Passed t) = Passed t
 
@@ -111,7 +111,7 @@ IsTrueLook offers k (look.Withdrawn w) = (k < length offers) × ((offer_at offer
 IsTrueLook offers k look.Nothing = Unit {0}
 
 -- What the rule says of the offers, the withdrawals, the outcomes learned, the decisions, their stamps and the last look
-pub record Agree (places : ℕ) (offers : List Offer) (learned : List Outcome) (last : ℕ) (decisions : List Decision)
+pub record Agree (places : ℕ) (offers : List Offer) (learned : List DecisionKind) (last : ℕ) (decisions : List Decision)
     (seen : Option Look) : Type 0 where
   -- l ≤ r ≤ s ≤ l + places: what is learned is decided, what is decided was offered, and each offer that is not learned has a place of its
   -- own

@@ -17,8 +17,8 @@ use Rattle.completion_word.specs.declared.answers.Withdrawal.TheVariants as with
 use Rattle.completion_word.specs.declared.standing.Standing.{Standing}
 use Rattle.completion_word.specs.declared.standing.Standing.TheVariants.{Unused, Offered, Withdrawn, Taken, Passed}
 use Rattle.completion_word.specs.declared.views.Offer.{Offer}
-use Rattle.completion_word.specs.declared.views.Outcome.{Outcome}
-use Rattle.completion_word.specs.declared.views.Outcome.TheVariants as outcome
+use Rattle.completion_word.specs.declared.views.DecisionKind.{DecisionKind}
+use Rattle.completion_word.specs.declared.views.DecisionKind.TheVariants as outcome
 use Rattle.completion_word.specs.declared.views.Decision.{Decision}
 use Rattle.completion_word.specs.declared.views.Sighting.{Sighting}
 use Rattle.completion_word.specs.declared.views.Owner.{Owner}
@@ -78,7 +78,7 @@ learnt_of (Taken t) = learnt.Taken t
 learnt_of (Passed t) = learnt.Passed t
 
 -- what is learned then
-abbrev pub with_learnt : Learnt → List Outcome → List Outcome
+abbrev pub with_learnt : Learnt → List DecisionKind → List DecisionKind
 with_learnt (learnt.Taken t) learned = learned ++ outcome.Taken t ∷ []
 with_learnt (learnt.Passed t) learned = learned ++ outcome.Passed t ∷ []
 with_learnt learnt.Undecided learned = learned
@@ -162,7 +162,7 @@ stamp_seen None = 0
 stamp_seen (Some shown) = stamp_shown shown
 
 -- one decision more, which answers what the last look showed; no look at the next offer was made
-abbrev pub after_decision : Outcome → Peer → Peer
+abbrev pub after_decision : DecisionKind → Peer → Peer
 after_decision how p = record p { decisions = p.decisions ++ decision how (stamp_seen p.look) ∷ []; look = None }
 
 -- the offer is taken, or the taking came too late and the last look is the withdrawal that it found

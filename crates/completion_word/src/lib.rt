@@ -10,8 +10,8 @@ mod views;
 mod words;
 
 pub use answers::{Closed, Learnt, Look, Taking, Withdrawal};
-pub use law::{rule_is_kept, rule_means};
+pub use law::{rule_in_force, rule_is_kept, rule_means, steps_tell};
 pub use seats::{OwnerSeat, PeerSeat};
 pub use standing::Standing;
-pub use views::{Decision, Offer, Outcome, Owner, OwnerNote, Peer, PeerNote, Sighting, View};
+pub use views::{Decision, DecisionKind, Offer, Owner, OwnerNote, Peer, PeerNote, Sighting, View};
 pub use words::Words;

@@ -15,7 +15,7 @@ pub struct Offer {
 }
 
 /// How an offer was decided, with the stamp of the decision.
-pub enum Outcome {
+pub enum DecisionKind {
     /// The peer took it.
     Taken { stamp: u64 },
     /// The peer passed it by, after its owner had withdrawn it.
@@ -25,7 +25,7 @@ pub enum Outcome {
 /// A decision of the peer.
 pub struct Decision {
     /// How the offer was decided.
-    pub outcome: Outcome,
+    pub outcome: DecisionKind,
     /// The stamp that it answers: that of the offer which it takes, or of the withdrawal of the
     /// offer which it passes by.
     pub answers: u64,
@@ -44,7 +44,7 @@ pub struct Owner {
     /// The offers posted, by their numbers, which count from 0.
     pub offers: LinkedList<Offer>,
     /// How the leading offers were decided, as far as it has learned.
-    pub learned: LinkedList<Outcome>,
+    pub learned: LinkedList<DecisionKind>,
     /// The stamp of its last post or of its last withdrawal that was not lost, whichever came
     /// later, and 0 at first.
     pub last: u64,

@@ -1,4 +1,5 @@
--- What a call reads in a link determines its answer.
+-- What a call reads in a link determines its answer. For `take`, `withdraw` and `front`.
+-- What was read in the fields stands in the link as contracts see it, and the offer at the number of decisions is the one that is received.
 use Rattle.std.proofs.Common.{◌≡◌, ℕ, ◌<◌, List, Some, sym, ap, subst, length, get_or, refl}
 use Rattle.std.specs.Prelude.{slice_get}
 use Rattle.std.proofs.lemmas.Option.{slice_get_read}

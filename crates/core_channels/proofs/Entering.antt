@@ -1,4 +1,6 @@
 -- What a call on a link answers is an entry that its party may make, at an end that is then what the call has left.
+-- For each answer three things are shown: the event fits the end, the stamp is the next, and the end notes the stamp that the entry answers.
+-- The laws of the crate are these lemmas, one for each call; `owner_enters` and `peer_enters` are what they have in common.
 use Rattle.std.proofs.Common.{◌≡◌, ℕ, zero, suc, List, [], ◌∷◌, ◌++◌, Option, Some, None, Bool, true, false, cond, not, ◌&&◌, ℤ, is_some, is_none, refl, sym, ap, ◌∙◌, subst, arith, length, nat_lt}
 use Rattle.std.specs.Prelude.{slice_get, ◌==◌}
 use Rattle.std.proofs.lemmas.Bool.Decides.{nat_tests}

@@ -1,4 +1,5 @@
 -- What the definitions say of a channel for one message, on which 5 is offered, taken and known, or withdrawn and passed.
+-- Those that hold do so by computing.
 use Rattle.std.proofs.Common.{◌≡◌, refl, ℕ, zero, suc, ◌<◌, [], ◌∷◌, Some, None, true, false, ap, arith, length}
 use Rattle.std.specs.Prelude.{pos}
 use Rattle.std.proofs.lemmas.List.Elements.{All-nil, All-cons}

@@ -1,4 +1,5 @@
--- What the front of a link of requests tells of its next offer.
+-- What the front of a link of requests tells of its next offer: that it waits, or that it was withdrawn; and there is a stamp to decide it.
+-- By the cases in which a front is told: whether there is a next offer, whether it was withdrawn, whether the clock has a stamp. For `done` and `pass_request`.
 use Rattle.std.proofs.Common.{◌≡◌, ℕ, ◌<◌, ◌^◌, Option, Some, None, Bool, true, false, cond, refl, sym, ap, ◌∙◌, subst, arith, length, nat_lt}
 use Rattle.std.specs.Prelude.{slice_get, is_some}
 use Rattle.std.proofs.lemmas.Bool.Decides.{nat_tests}

@@ -1,4 +1,6 @@
--- What the calls make of the two views of a link are the views of a link again.
+-- What the calls make of the two views of a link are the views of a link again (`AreViews`). This is the invariant of `KeptLink`.
+-- That the views agree is taken over from ac_links; new here is that each offer is one of the link's kind, kept by the element that changes.
+-- The hard case is a reply: the first that waits is that of the least open request.
 use Rattle.std.proofs.Common.{◌≡◌, ℕ, zero, suc, ◌<◌, ◌≤◌, List, [], ◌∷◌, ◌++◌, Option, Some, None, Bool, true, false, IfSome, refl, sym, ap, ◌∙◌, subst, arith, length, get_or, set, ℤ}
 use Rattle.std.specs.Prelude.{slice_get}
 use Rattle.std.specs.List.{All}

@@ -1,4 +1,5 @@
--- How many leading offers are known, after a change.
+-- How many leading offers are known, after a change. For `KeptLink`, which keeps this number beside its offers.
+-- By induction on the offers: to learn may only raise it, a new offer, a withdrawal and a reply leave it. The last three lemmas are the steps of the search for it.
 use Rattle.std.proofs.Common.{◌≡◌, ℕ, zero, suc, ◌+◌, ◌<◌, ◌≤◌, List, [], ◌∷◌, ◌++◌, Bool, true, false, cond, refl, ap, arith, length, get_or, is_some}
 use Rattle.ac_base.specs.declared.entry.Answer.{Answer}
 use Rattle.ac_links.specs.Views.{OwnerOffer, owner_lead, altered, known_at, withdrawn_at, replied_with}

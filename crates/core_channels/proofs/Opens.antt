@@ -1,4 +1,5 @@
--- How many leading offers are withdrawn or replied, after a change.
+-- How many leading offers are withdrawn or replied, after a change. For `KeptLink`, which searches for its least open request from a number that it keeps.
+-- By induction on the offers: no change makes this number less. The last three lemmas are the steps of the search.
 use Rattle.std.proofs.Common.{◌≡◌, ℕ, zero, suc, ◌+◌, ◌<◌, ◌≤◌, List, [], ◌∷◌, ◌++◌, Bool, true, false, cond, refl, sym, ap, subst, arith, length, get_or, is_some}
 use Rattle.std.specs.Prelude.{◌||◌}
 use Rattle.ac_base.specs.declared.entry.Answer.{Answer}

@@ -1,4 +1,5 @@
 -- What the parts say of which the answers of a channel are made, and what the laws say of its two parties.
+-- The parts hold by computing; the laws are taken as hypotheses.
 use Rattle.std.proofs.Common.{◌≡◌, refl, [], ◌∷◌, Some, None, true, false}
 use Rattle.std.specs.Prelude.{pos}
 use Rattle.ac_base.specs.declared.entry.Payload.TheVariants.{Int}

@@ -1,4 +1,5 @@
 -- What the definitions say of a link of requests, on which two bytes are asked for, had and replied, or the request is withdrawn and passed.
+-- Those that hold do so by computing.
 use Rattle.std.proofs.Common.{◌≡◌, ℕ, refl, ap, [], ◌∷◌, Option, Some, None, true, false, arith}
 use Rattle.std.proofs.lemmas.List.Elements.{All-nil, All-cons}
 use Rattle.ac_base.specs.declared.entry.Payload.TheVariants.{Read, Write}

@@ -1,4 +1,5 @@
--- What a stamp is that the clock gave.
+-- What a stamp is that the clock gave: the next one, which is later than the clock and than what it answers.
+-- By the test of the clock, whether the next stamp is within its range.
 use Rattle.std.proofs.Common.{◌≡◌, ℕ, ◌<◌, ◌^◌, Bool, true, false, cond, Some, None, arith, nat_lt}
 use Rattle.ac_base.specs.Stamps.{next_stamp, stamp_after}
 

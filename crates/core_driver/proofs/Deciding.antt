@@ -1,4 +1,5 @@
--- The offer that a cancel tries stands at its link, so it may be withdrawn; and the core goes on by what its link answers.
+-- The offer that a cancel tries stands at its link, so it may be withdrawn; and the core goes on by what its link answers. That it stands is
+-- read off the journal: each operation that was offered has one open offer there, and the end of the link has the same offers.
 use Rattle.std.proofs.Common.{◌≡◌, ℕ, ◌+◌, ◌<◌, ◌≤◌, List, [], ◌∷◌, Option, Some, None, Bool, true, false, refl, sym, ap, ◌∙◌, subst, arith}
 use Rattle.std.specs.Prelude.{IfNone, find, nat_eq, is_none, ◌&&◌, if◌then◌else◌}
 use Rattle.std.proofs.lemmas.Bool.{eq-eqb}
@@ -12,7 +13,7 @@ use Rattle.cancel_scope.specs.Outstanding.{is_offered, is_under}
 use Rattle.core_channels.specs.Laws.{Told}
 use Rattle.core_ports.specs.Ends.{offer_at}
 use Rattle.core_ports.specs.Tells.{Tells}
-use Rattle.core_state.specs.Cancelling.{Outcome, is_to_try}
+use Rattle.core_state.specs.Cancelling.{Fate, is_to_try}
 use Rattle.core_state.specs.Moves.{Move, On, Over}
 use Rattle.stack_code.specs.Parts.{Parts}
 use Rattle.code_meaning.specs.Machine.{Flat, FlatEnd, is_inside}
@@ -111,7 +112,7 @@ module _ (m b : Machine) (o : Outside) (h : InStep m o) (same : IsSameCore m b) 
     may_be_withdrawn = stands_open b o (with_room m b o h same state run) (all asks_on) tried.link tried.number stands
 
     -- the outcome was told, and is recorded
-    module _ (p : Outside) (t : Told) (call : Called o p (Some t)) (n : Machine) (it : Outcome) (done : HasDecided b tried it t.event t.stamp n)
+    module _ (p : Outside) (t : Told) (call : Called o p (Some t)) (n : Machine) (it : Fate) (done : HasDecided b tried it t.event t.stamp n)
         (less : (ranks : List ℕ) → work_left ranks n < work_left ranks b) (goes : IsOnItsWay n) where
       pub decided_holds : Holds m o n p
       decided_holds = recorded_holds m b o h same state run p t call n done.flat.shared.turn (record { journal = done.journal; code = done.code; core = done.core; bound = done.bound }) goes

@@ -6,4 +6,7 @@ pub mod Deciding
 pub mod Resting
 pub mod Awaiting
 pub mod Examples
+pub mod PollExamples
 pub mod Driving
+pub mod Turning
+pub mod Polling

@@ -1,4 +1,5 @@
--- Which links have been looked at.
+-- Which links have been looked at. A look at one link leaves nothing at hand there, unless the clock has moved, and counts its polls and
+-- tries; it stays so while others are looked at, because as long as the clock stays nothing but counts changes, and these only rise.
 use Rattle.std.proofs.Common.{◌≡◌, ℕ, ◌+◌, ◌-◌, ◌^◌, ◌<◌, ◌≤◌, List, length, Option, Some, None, Bool, true, false, refl, sym, ap, ◌∙◌, subst, arith}
 use Rattle.std.specs.Prelude.{IfNone, nat_eq, nat_le, nat_lt, slice_get, ◌==◌, ◌||◌, if◌then◌else◌}
 use Rattle.std.proofs.lemmas.Bool.{eq-eqb, eqb-true, lt-ltb, ltb-false, ltb-true}

@@ -1,4 +1,6 @@
--- What dispatch points that bring nothing add up to, and what is left to do after each part of a run.
+-- What dispatch points that bring nothing add up to, and what is left to do after each part of a run. So many in a row have looked so
+-- often and leave nothing at hand; and the measure of the loop falls, since a move or an entry takes from what is left to do, and a point
+-- that brings nothing takes from the points that may still bring nothing.
 use Rattle.std.proofs.Common.{◌≡◌, ℕ, ◌+◌, ◌-◌, ◌*◌, ◌^◌, ◌<◌, ◌≤◌, List, length, Option, Some, None, Bool, true, false, refl, sym, ap, ◌∙◌, subst, arith}
 use Rattle.std.specs.Prelude.{nat_lt, slice_get, ◌==◌, ◌&&◌, if◌then◌else◌}
 use Rattle.std.proofs.lemmas.Bool.{eqb-true, ltb-false}
@@ -52,10 +54,10 @@ peer_not_neither s a b = let no : Peer ≡ Neither = sym a ∙ b in cc
 
 -- ---- counts
 
-rose_none : (a b : ℕ) → a ≤ b → RoseBy 0 a b
+pub rose_none : (a b : ℕ) → a ≤ b → RoseBy 0 a b
 rose_none a b h = omega (arith, h)
 
-rose_more : (k a b c : ℕ) → RoseBy k a b → counted b ≤ c → RoseBy (k + 1) a c
+pub rose_more : (k a b c : ℕ) → RoseBy k a b → counted b ≤ c → RoseBy (k + 1) a c
 rose_more k a b c h q = by (nat_lt b (2 ^ 64 - 1)) refl q
   where
     by : (t : Bool) → nat_lt b (2 ^ 64 - 1) ≡ t → (if t then b + 1 else b) ≤ c → RoseBy (k + 1) a c

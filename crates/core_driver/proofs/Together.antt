@@ -1,4 +1,6 @@
--- A core that records what its ports tell goes on in step with them.
+-- A core that records what its ports tell goes on in step with them: `Holds` after each part of a run, and `Looks` after a part of a
+-- dispatch point. First, what an end tells of the journal gives the machine's own conditions; then a part is shown by the call of ports in
+-- it, which told an entry that was recorded or told none; and parts add up, since each says how things stand after it.
 use Rattle.std.proofs.Common.{◌≡◌, ℕ, ◌<◌, ◌≤◌, List, [], ◌∷◌, ◌++◌, length, Option, Some, None, IsSome, Bool, true, false, refl, sym, ap, ◌∙◌, subst, arith}
 use Rattle.std.specs.Prelude.{ℤ, find, slice_get, IfNone, is_none}
 use Rattle.std.specs.List.{filter}
@@ -22,17 +24,18 @@ use Rattle.core_ports.proofs.GoingOn.{core_goes_on}
 use Rattle.core_ports.proofs.UpTo.{up_to_all}
 use Rattle.core_state.specs.Moves.{Move, On, Over}
 use Rattle.core_state.specs.Arrivals.{Arrival, keeps_room, offers_on}
-use Rattle.core_state.specs.Shared.{Shared}
+use Rattle.core_state.specs.Shared.{Shared, with_entry}
 use Rattle.code_meaning.specs.Machine.{Flat, FlatEnd, arrived}
 use Rattle.stack_code.specs.Parts.{Parts}
 use Rattle.code_safety.specs.Fit.{one_if}
 use Rattle.core_machine.specs.Machine.{Machine, IsOnItsWay, IsSameCore, has_ended}
-use Rattle.core_machine.specs.Points.{HasCome, HasTracks, is_at_point, left_at, operations_of, requests_of, work_left}
+use Rattle.core_machine.specs.Points.{HasCome, HasTracks, entry_of, is_at_point, left_at, operations_of, requests_of, work_left}
 use Rattle.core_machine.specs.Tracks.{Tracks, offers_of, standing_of}
 use Rattle.core_driver.specs.Idle.{IsLater}
 use Rattle.core_driver.specs.Sides.{ArePortsOf}
-use Rattle.core_driver.specs.inner.InStep.{Holds, InStep, Looks}
+use Rattle.core_driver.specs.inner.InStep.{Holds, InStep, Looks, turn_at}
 use Rattle.core_driver.specs.inner.Outside.{Later, Outside}
+use Rattle.core_driver.proofs.Turning.{arrived_turn}
 use Rattle.core_driver.proofs.Opened.{absent_offers, open_at, found_one, next_by, peer_offers, runs_free, runs_length, runs_open}
 
 is_one : (b : Bool) → 1 ≤ one_if b → b ≡ true
@@ -183,6 +186,7 @@ pub looks_then : (m n q : Machine) (o p r : Outside) → Looks m o n p → Looks
 looks_then m n q o p r k l = record {
   holds = holds_then m n q o p r k.holds l.holds;
   point = l.point;
+  turn = l.turn ∙ k.turn;
   less = λ ranks. let x = k.less ranks in let y = l.less ranks in omega (arith, x, y);
   state = λ e.
       let a = k.holds.ports.clock in
@@ -205,7 +209,7 @@ pub holds_still : (m : Machine) (o : Outside) → InStep m o → Holds m o m o
 holds_still m o h = record { in_step = h; machine = core_later m m (record { code = refl; core = refl; bound = refl; journal = refl }); ports = same_later o }
 
 pub looks_still : (m : Machine) (o : Outside) → InStep m o → is_at_point m.state ≡ true → Looks m o m o
-looks_still m o h point = record { holds = holds_still m o h; point = point; less = λ ranks. omega arith; state = λ e. refl }
+looks_still m o h point = record { holds = holds_still m o h; point = point; turn = refl; less = λ ranks. omega arith; state = λ e. refl }
 
 -- the machine goes on by itself
 core_on : (m n : Machine) (o : Outside) → InStep m o → IsSameCore m n → IsOnItsWay n → InStep n o
@@ -359,6 +363,7 @@ module _ (m b : Machine) (o : Outside) (h : InStep m o) (point : is_at_point m.s
   roomed_looks = record {
     holds = roomed_holds m b o h same state run;
     point = roomed_point;
+    turn = ap turn_at state;
     less = λ ranks. let e = roomed_less m b o h same state run ranks in omega (arith, e);
     state = λ e. state;
   }
@@ -381,6 +386,7 @@ module _ (m b : Machine) (o : Outside) (h : InStep m o) (point : is_at_point m.s
   nothing_looks p call = record {
     holds = nothing_holds m b o h same state run p call;
     point = roomed_point;
+    turn = ap turn_at state;
     less = λ ranks. let e = roomed_less m b o h same state run ranks in omega (arith, e);
     state = λ e. state;
   }
@@ -395,6 +401,7 @@ module _ (m b : Machine) (o : Outside) (h : InStep m o) (point : is_at_point m.s
     entered_looks = record {
       holds = recorded_holds m b o h same state run p t call n come.flat.shared.turn (record { journal = come.journal; code = come.code; core = come.core; bound = come.bound }) goes;
       point = come_point;
+      turn = ap turn_at come.state ∙ arrived_turn come.flat (with_entry come.flat.shared (entry_of come.flat t.event t.stamp) []) come.arrival ∙ sym (ap turn_at come.stood) ∙ ap turn_at state;
       less = λ ranks. let e = roomed_less m b o h same state run ranks in let f = less ranks in omega (arith, e, f);
       state = λ e. absurd (told_moves o p t call e);
     }

@@ -18,8 +18,8 @@ pub record IsLater (before after : Machine) : Type 0 where
   pub entries : List Entry
   pub journal : after.journal ≡ before.journal ++ entries
 
--- nothing that is at hand is left: no decision where the core sends, no front where an operation waits for a message, no slot where there
--- is room and an operation is to be offered, and no reply where the first request that waits for one was taken
+-- as the core comes back nothing is at hand for it: no decision where it sends, no front where an operation waits for a message, no slot
+-- where there is room and an operation is to be offered, and no reply where the first request that waits for one was taken
 pub record LeavesNothing (m : Machine) (terms : ℕ → Terms) (ends : ℕ → LinkEnd) (hand : ℕ → AtHand) : Type 0 where
   pub decision : (l : ℕ) → side_of m.code.ends m.core l ≡ Owner → (hand l).decision ≡ false
   pub front : (l : ℕ) → side_of m.code.ends m.core l ≡ Peer → receives_from (operations_of m.state) l ≡ true → (hand l).front ≡ false

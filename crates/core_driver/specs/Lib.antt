@@ -1,5 +1,6 @@
 pub mod Sides
 pub mod Pauses
 pub mod Idle
+pub mod Polled
 pub mod Driven
 pub mod inner

@@ -37,6 +37,7 @@ impl<'a> Driver<'a> {
     ghost use Rattle.core_driver.specs.Sides.{ArePortsOf};
     ghost use Rattle.core_driver.specs.Pauses.{IsPaused, is_clock_full};
     ghost use Rattle.core_driver.specs.Idle.{IsLater, LeavesNothing, HasLooked};
+    ghost use Rattle.core_driver.specs.Polled.{ArePolled};
 
     /// The driver of a core that has made no entry yet.
     pub fn new(machine: CoreMachine<'a>) -> Driver<'a>
@@ -85,36 +86,41 @@ impl<'a> Driver<'a> {
     }
 
     /// Runs the core until it has ended, or so many dispatch points in a row have brought nothing while
-    /// no thread is ready, or a port has answered that all stamps are used; from then on it answers the
-    /// same at once. At each dispatch point it polls each link of the core, and tries an offer on each
-    /// with an operation that is to be offered, that of its requests among them. After want of memory
-    /// it can be called again, and goes on where it stopped.
+    /// no thread is ready, or a port has answered that all stamps are used; after that last answer it
+    /// gives it again at once. Meanwhile it polls each link of the core at least as often as the core's
+    /// turn rises, also where it has ended or memory gave out. Where it comes back idle it has polled each
+    /// at least `polls` times, and tried as many offers on each with an operation that is to be offered,
+    /// that of its requests among them; and nothing of use to the core is at hand as the call ends. After
+    /// want of memory it can be called again, and goes on where it stopped.
     ///
     /// Conditions: the ports are those of the core, and they agree with its journal; and it is to look
     /// once at least.
     pub fn advance<P: Ports>(&mut self, ports: &mut P, polls: u32) -> Result<Pause, NoMemory>
         requires some { 1 ≤ polls }
-        requires ports { ArePortsOf self.old.machine.code self.old.machine.core (P.terms ports.old) (P.ends ports.old) }
-        requires agrees { PartyAgrees (P.terms ports.old) self.old.machine.core (P.ends ports.old) self.old.machine.journal }
+        requires ports { ArePortsOf self.old.machine.code self.old.machine.core (P.told ports.old).terms (P.told ports.old).ends }
+        requires agrees { PartyAgrees (P.told ports.old).terms self.old.machine.core (P.told ports.old).ends self.old.machine.journal }
         ensures later { IsLater self.old.machine self.new.machine }
         ensures run { IsOnItsWay self.new.machine }
-        ensures terms { P.terms ports.new ≡ P.terms ports.old }
-        ensures ports { ArePortsOf self.new.machine.code self.new.machine.core (P.terms ports.new) (P.ends ports.new) }
-        ensures agrees { PartyAgrees (P.terms ports.new) self.new.machine.core (P.ends ports.new) self.new.machine.journal }
+        ensures terms { (P.told ports.new).terms ≡ (P.told ports.old).terms }
+        ensures ports { ArePortsOf self.new.machine.code self.new.machine.core (P.told ports.new).terms (P.told ports.new).ends }
+        ensures agrees { PartyAgrees (P.told ports.new).terms self.new.machine.core (P.told ports.new).ends self.new.machine.journal }
+        ensures polled { ArePolled self.old.machine self.new.machine (P.told ports.old).polls (P.told ports.new).polls }
         ensures stays { P.stays ports.old ports.new }
         ensures quiet { self.new.machine.journal ≡ self.old.machine.journal
-            → (P.ends ports.new ≡ P.ends ports.old) × (P.at_hand ports.new ≡ P.at_hand ports.old) }
+            → ((P.told ports.new).ends ≡ (P.told ports.old).ends) × ((P.told ports.new).at_hand ≡ (P.told ports.old).at_hand) }
         ensures pause { IfOk result (λ pause. IsPaused self.new.machine.state pause) }
         ensures full { MatchResult result (λ pause. self.new.full ≡ (self.old.full || is_clock_full pause))
             (λ _. self.new.full ≡ self.old.full) }
-        ensures calls { self.old.full ≡ false → MatchResult result (λ pause. P.full ports.new ≡ (P.full ports.old || is_clock_full pause))
-            (λ _. P.full ports.new ≡ P.full ports.old) }
+        ensures calls { self.old.full ≡ false → MatchResult result
+            (λ pause. (P.told ports.new).full ≡ ((P.told ports.old).full || is_clock_full pause))
+            (λ _. (P.told ports.new).full ≡ (P.told ports.old).full) }
         ensures heard { self.old.full ≡ false → IfOk result (λ pause. pause ≡ Pause.ClockFull
-            → (link : ℕ) × (stamp_after (last_of 0 self.new.machine.journal) (P.heard ports.new link) ≡ None)) }
+            → (link : ℕ) × (stamp_after (last_of 0 self.new.machine.journal) ((P.told ports.new).heard link) ≡ None)) }
         ensures idle { IfOk result (λ pause. pause ≡ Pause.Idle
-            → LeavesNothing self.new.machine (P.terms ports.new) (P.ends ports.new) (P.at_hand ports.new)) }
+            → LeavesNothing self.new.machine (P.told ports.new).terms (P.told ports.new).ends (P.told ports.new).at_hand) }
         ensures looked { IfOk result (λ pause. pause ≡ Pause.Idle
-            → HasLooked polls self.new.machine (P.polls ports.old) (P.polls ports.new) (P.tries ports.old) (P.tries ports.new)) }
+            → HasLooked polls self.new.machine (P.told ports.old).polls (P.told ports.new).polls
+            (P.told ports.old).tries (P.told ports.new).tries) }
         ensures for_good { self.old.full ≡ true → (result ≡ Ok Pause.ClockFull) × (self.new ≡ self.old) × (ports.new ≡ ports.old) }
     {
         if self.full {

@@ -1,6 +1,6 @@
 //! Looks at the links of a core, at a dispatch point. Each tells whether all stamps are used.
 
-ghost use Rattle.std.specs.Prelude.{◌≡◌, ◌≢◌, ℕ, ◌<◌, ◌≤◌, ◌||◌, true, false, IfOk, MatchResult};
+ghost use Rattle.std.specs.Prelude.{◌≡◌, ℕ, ◌<◌, ◌≤◌, ◌||◌, true, false, IfOk, MatchResult};
 ghost use Rattle.core_channels.specs.Counts.{counted};
 ghost use Rattle.core_ports.specs.Ends.{awaits_reply, has_room};
 ghost use Rattle.core_machine.specs.Points.{is_at_point, operations_of, has_to_offer};
@@ -8,7 +8,7 @@ ghost use Rattle.core_ports.specs.declared.side.Side.{Side};
 ghost use Rattle.core_ports.specs.Sides.{side_of};
 ghost use Rattle.core_driver.specs.Sides.{links_of};
 ghost use Rattle.core_driver.specs.inner.Outside.{outside, IsFull};
-ghost use Rattle.core_driver.specs.inner.InStep.{InStep, Looks, IsTried, IsLookedAt};
+ghost use Rattle.core_driver.specs.inner.InStep.{InStep, Looks, IsLookedAt};
 
 use crate::links::links_of;
 use ac_base::{Clock, NoMemory};
@@ -23,25 +23,18 @@ fn poll_own<P: Ports>(
     clock: &mut Clock,
     link: u32,
 ) -> Result<bool, NoMemory>
-    requires in_step { InStep machine.old
-        (outside (P.terms ports.old) (P.ends ports.old) (P.at_hand ports.old) (P.heard ports.old)
-        (P.polls ports.old) (P.tries ports.old) clock.old) }
+    requires in_step { InStep machine.old (outside (P.told ports.old) clock.old) }
     requires point { is_at_point machine.old.state ≡ true }
     requires side { side_of machine.old.code.ends machine.old.core link ≡ Side.Owner }
-    ensures looks { Looks machine.old
-        (outside (P.terms ports.old) (P.ends ports.old) (P.at_hand ports.old) (P.heard ports.old)
-        (P.polls ports.old) (P.tries ports.old) clock.old)
-        machine.new
-        (outside (P.terms ports.new) (P.ends ports.new) (P.at_hand ports.new) (P.heard ports.new)
-        (P.polls ports.new) (P.tries ports.new) clock.new) }
-    ensures full { MatchResult result (λ full. P.full ports.new ≡ (P.full ports.old || full)) (λ _. P.full ports.new ≡ P.full ports.old) }
-    ensures heard { IfOk result (λ full. full ≡ true → IsFull
-        (outside (P.terms ports.new) (P.ends ports.new) (P.at_hand ports.new) (P.heard ports.new)
-        (P.polls ports.new) (P.tries ports.new) clock.new)) }
-    ensures polled { IfOk result (λ full. counted (P.polls ports.old link) ≤ P.polls ports.new link) }
-    ensures decision { IfOk result (λ full. full ≡ false → clock.new ≡ clock.old → (P.at_hand ports.new link).decision ≡ false) }
-    ensures reply { IfOk result (λ full. full ≡ false → clock.new ≡ clock.old → (P.terms ports.new link).requests ≡ true
-        → awaits_reply (P.ends ports.new link) ≡ true → (P.at_hand ports.new link).reply ≡ false) }
+    ensures looks { Looks machine.old (outside (P.told ports.old) clock.old) machine.new (outside (P.told ports.new) clock.new) }
+    ensures full { MatchResult result (λ full. (P.told ports.new).full ≡ ((P.told ports.old).full || full))
+        (λ _. (P.told ports.new).full ≡ (P.told ports.old).full) }
+    ensures heard { IfOk result (λ full. full ≡ true → IsFull (outside (P.told ports.new) clock.new)) }
+    ensures polled { IfOk result (λ full. counted ((P.told ports.old).polls link) ≤ (P.told ports.new).polls link) }
+    ensures decision { IfOk result (λ full. full ≡ false → clock.new ≡ clock.old
+        → ((P.told ports.new).at_hand link).decision ≡ false) }
+    ensures reply { IfOk result (λ full. full ≡ false → clock.new ≡ clock.old → ((P.told ports.new).terms link).requests ≡ true
+        → awaits_reply ((P.told ports.new).ends link) ≡ true → ((P.told ports.new).at_hand link).reply ≡ false) }
     ensures stays { P.stays ports.old ports.new }
 {
     machine.make_room()?;
@@ -78,26 +71,20 @@ fn try_offer<P: Ports>(
     clock: &mut Clock,
     link: u32,
 ) -> Result<bool, NoMemory>
-    requires in_step { InStep machine.old
-        (outside (P.terms ports.old) (P.ends ports.old) (P.at_hand ports.old) (P.heard ports.old)
-        (P.polls ports.old) (P.tries ports.old) clock.old) }
+    requires in_step { InStep machine.old (outside (P.told ports.old) clock.old) }
     requires point { is_at_point machine.old.state ≡ true }
     requires side { side_of machine.old.code.ends machine.old.core link ≡ Side.Owner }
-    ensures looks { Looks machine.old
-        (outside (P.terms ports.old) (P.ends ports.old) (P.at_hand ports.old) (P.heard ports.old)
-        (P.polls ports.old) (P.tries ports.old) clock.old)
-        machine.new
-        (outside (P.terms ports.new) (P.ends ports.new) (P.at_hand ports.new) (P.heard ports.new)
-        (P.polls ports.new) (P.tries ports.new) clock.new) }
-    ensures full { MatchResult result (λ full. P.full ports.new ≡ (P.full ports.old || full)) (λ _. P.full ports.new ≡ P.full ports.old) }
-    ensures heard { IfOk result (λ full. full ≡ true → IsFull
-        (outside (P.terms ports.new) (P.ends ports.new) (P.at_hand ports.new) (P.heard ports.new)
-        (P.polls ports.new) (P.tries ports.new) clock.new)) }
-    ensures polls { P.polls ports.new ≡ P.polls ports.old }
+    ensures looks { Looks machine.old (outside (P.told ports.old) clock.old) machine.new (outside (P.told ports.new) clock.new) }
+    ensures full { MatchResult result (λ full. (P.told ports.new).full ≡ ((P.told ports.old).full || full))
+        (λ _. (P.told ports.new).full ≡ (P.told ports.old).full) }
+    ensures heard { IfOk result (λ full. full ≡ true → IsFull (outside (P.told ports.new) clock.new)) }
+    ensures polls { (P.told ports.new).polls ≡ (P.told ports.old).polls }
     ensures tried { IfOk result (λ full. has_to_offer (operations_of machine.old.state) link ≡ true
-        → counted (P.tries ports.old link) ≤ P.tries ports.new link) }
-    ensures slot { IfOk result (λ full. full ≡ false → clock.new ≡ clock.old → has_to_offer (operations_of machine.old.state) link ≡ true
-        → has_room (P.terms ports.new link) (P.ends ports.new link) ≡ true → (P.at_hand ports.new link).slot ≡ false) }
+        → counted ((P.told ports.old).tries link) ≤ (P.told ports.new).tries link) }
+    ensures slot { IfOk result (λ full. full ≡ false → clock.new ≡ clock.old
+        → has_to_offer (operations_of machine.old.state) link ≡ true
+        → has_room ((P.told ports.new).terms link) ((P.told ports.new).ends link) ≡ true
+        → ((P.told ports.new).at_hand link).slot ≡ false) }
     ensures stays { P.stays ports.old ports.new }
 {
     if !machine.has_to_offer(link) {
@@ -124,27 +111,15 @@ fn look_own<P: Ports>(
     clock: &mut Clock,
     link: u32,
 ) -> Result<bool, NoMemory>
-    requires in_step { InStep machine.old
-        (outside (P.terms ports.old) (P.ends ports.old) (P.at_hand ports.old) (P.heard ports.old)
-        (P.polls ports.old) (P.tries ports.old) clock.old) }
+    requires in_step { InStep machine.old (outside (P.told ports.old) clock.old) }
     requires point { is_at_point machine.old.state ≡ true }
     requires side { side_of machine.old.code.ends machine.old.core link ≡ Side.Owner }
-    ensures looks { Looks machine.old
-        (outside (P.terms ports.old) (P.ends ports.old) (P.at_hand ports.old) (P.heard ports.old)
-        (P.polls ports.old) (P.tries ports.old) clock.old)
-        machine.new
-        (outside (P.terms ports.new) (P.ends ports.new) (P.at_hand ports.new) (P.heard ports.new)
-        (P.polls ports.new) (P.tries ports.new) clock.new) }
-    ensures full { MatchResult result (λ full. P.full ports.new ≡ (P.full ports.old || full)) (λ _. P.full ports.new ≡ P.full ports.old) }
-    ensures heard { IfOk result (λ full. full ≡ true → IsFull
-        (outside (P.terms ports.new) (P.ends ports.new) (P.at_hand ports.new) (P.heard ports.new)
-        (P.polls ports.new) (P.tries ports.new) clock.new)) }
-    ensures looked { IfOk result (λ full. full ≡ false → IsLookedAt
-        (outside (P.terms ports.old) (P.ends ports.old) (P.at_hand ports.old) (P.heard ports.old)
-        (P.polls ports.old) (P.tries ports.old) clock.old)
-        machine.new
-        (outside (P.terms ports.new) (P.ends ports.new) (P.at_hand ports.new) (P.heard ports.new)
-        (P.polls ports.new) (P.tries ports.new) clock.new) link) }
+    ensures looks { Looks machine.old (outside (P.told ports.old) clock.old) machine.new (outside (P.told ports.new) clock.new) }
+    ensures full { MatchResult result (λ full. (P.told ports.new).full ≡ ((P.told ports.old).full || full))
+        (λ _. (P.told ports.new).full ≡ (P.told ports.old).full) }
+    ensures heard { IfOk result (λ full. full ≡ true → IsFull (outside (P.told ports.new) clock.new)) }
+    ensures looked { IfOk result (λ full. full ≡ false
+        → IsLookedAt (outside (P.told ports.old) clock.old) machine.new (outside (P.told ports.new) clock.new) link) }
     ensures stays { P.stays ports.old ports.new }
 {
     let full = poll_own(machine, ports, clock, link)?;
@@ -162,27 +137,15 @@ fn look_peer<P: Ports>(
     clock: &mut Clock,
     link: u32,
 ) -> Result<bool, NoMemory>
-    requires in_step { InStep machine.old
-        (outside (P.terms ports.old) (P.ends ports.old) (P.at_hand ports.old) (P.heard ports.old)
-        (P.polls ports.old) (P.tries ports.old) clock.old) }
+    requires in_step { InStep machine.old (outside (P.told ports.old) clock.old) }
     requires point { is_at_point machine.old.state ≡ true }
     requires side { side_of machine.old.code.ends machine.old.core link ≡ Side.Peer }
-    ensures looks { Looks machine.old
-        (outside (P.terms ports.old) (P.ends ports.old) (P.at_hand ports.old) (P.heard ports.old)
-        (P.polls ports.old) (P.tries ports.old) clock.old)
-        machine.new
-        (outside (P.terms ports.new) (P.ends ports.new) (P.at_hand ports.new) (P.heard ports.new)
-        (P.polls ports.new) (P.tries ports.new) clock.new) }
-    ensures full { MatchResult result (λ full. P.full ports.new ≡ (P.full ports.old || full)) (λ _. P.full ports.new ≡ P.full ports.old) }
-    ensures heard { IfOk result (λ full. full ≡ true → IsFull
-        (outside (P.terms ports.new) (P.ends ports.new) (P.at_hand ports.new) (P.heard ports.new)
-        (P.polls ports.new) (P.tries ports.new) clock.new)) }
-    ensures looked { IfOk result (λ full. full ≡ false → IsLookedAt
-        (outside (P.terms ports.old) (P.ends ports.old) (P.at_hand ports.old) (P.heard ports.old)
-        (P.polls ports.old) (P.tries ports.old) clock.old)
-        machine.new
-        (outside (P.terms ports.new) (P.ends ports.new) (P.at_hand ports.new) (P.heard ports.new)
-        (P.polls ports.new) (P.tries ports.new) clock.new) link) }
+    ensures looks { Looks machine.old (outside (P.told ports.old) clock.old) machine.new (outside (P.told ports.new) clock.new) }
+    ensures full { MatchResult result (λ full. (P.told ports.new).full ≡ ((P.told ports.old).full || full))
+        (λ _. (P.told ports.new).full ≡ (P.told ports.old).full) }
+    ensures heard { IfOk result (λ full. full ≡ true → IsFull (outside (P.told ports.new) clock.new)) }
+    ensures looked { IfOk result (λ full. full ≡ false
+        → IsLookedAt (outside (P.told ports.old) clock.old) machine.new (outside (P.told ports.new) clock.new) link) }
     ensures stays { P.stays ports.old ports.new }
 {
     machine.make_room()?;
@@ -216,26 +179,14 @@ fn look<P: Ports>(
     clock: &mut Clock,
     link: u32,
 ) -> Result<bool, NoMemory>
-    requires in_step { InStep machine.old
-        (outside (P.terms ports.old) (P.ends ports.old) (P.at_hand ports.old) (P.heard ports.old)
-        (P.polls ports.old) (P.tries ports.old) clock.old) }
+    requires in_step { InStep machine.old (outside (P.told ports.old) clock.old) }
     requires point { is_at_point machine.old.state ≡ true }
-    ensures looks { Looks machine.old
-        (outside (P.terms ports.old) (P.ends ports.old) (P.at_hand ports.old) (P.heard ports.old)
-        (P.polls ports.old) (P.tries ports.old) clock.old)
-        machine.new
-        (outside (P.terms ports.new) (P.ends ports.new) (P.at_hand ports.new) (P.heard ports.new)
-        (P.polls ports.new) (P.tries ports.new) clock.new) }
-    ensures full { MatchResult result (λ full. P.full ports.new ≡ (P.full ports.old || full)) (λ _. P.full ports.new ≡ P.full ports.old) }
-    ensures heard { IfOk result (λ full. full ≡ true → IsFull
-        (outside (P.terms ports.new) (P.ends ports.new) (P.at_hand ports.new) (P.heard ports.new)
-        (P.polls ports.new) (P.tries ports.new) clock.new)) }
-    ensures looked { IfOk result (λ full. full ≡ false → IsLookedAt
-        (outside (P.terms ports.old) (P.ends ports.old) (P.at_hand ports.old) (P.heard ports.old)
-        (P.polls ports.old) (P.tries ports.old) clock.old)
-        machine.new
-        (outside (P.terms ports.new) (P.ends ports.new) (P.at_hand ports.new) (P.heard ports.new)
-        (P.polls ports.new) (P.tries ports.new) clock.new) link) }
+    ensures looks { Looks machine.old (outside (P.told ports.old) clock.old) machine.new (outside (P.told ports.new) clock.new) }
+    ensures full { MatchResult result (λ full. (P.told ports.new).full ≡ ((P.told ports.old).full || full))
+        (λ _. (P.told ports.new).full ≡ (P.told ports.old).full) }
+    ensures heard { IfOk result (λ full. full ≡ true → IsFull (outside (P.told ports.new) clock.new)) }
+    ensures looked { IfOk result (λ full. full ≡ false
+        → IsLookedAt (outside (P.told ports.old) clock.old) machine.new (outside (P.told ports.new) clock.new) link) }
     ensures stays { P.stays ports.old ports.new }
 {
     match side_of(machine.code().ends(), machine.core(), link) {
@@ -251,26 +202,14 @@ pub fn look_round<P: Ports>(
     ports: &mut P,
     clock: &mut Clock,
 ) -> Result<bool, NoMemory>
-    requires in_step { InStep machine.old
-        (outside (P.terms ports.old) (P.ends ports.old) (P.at_hand ports.old) (P.heard ports.old)
-        (P.polls ports.old) (P.tries ports.old) clock.old) }
+    requires in_step { InStep machine.old (outside (P.told ports.old) clock.old) }
     requires point { is_at_point machine.old.state ≡ true }
-    ensures looks { Looks machine.old
-        (outside (P.terms ports.old) (P.ends ports.old) (P.at_hand ports.old) (P.heard ports.old)
-        (P.polls ports.old) (P.tries ports.old) clock.old)
-        machine.new
-        (outside (P.terms ports.new) (P.ends ports.new) (P.at_hand ports.new) (P.heard ports.new)
-        (P.polls ports.new) (P.tries ports.new) clock.new) }
-    ensures full { MatchResult result (λ full. P.full ports.new ≡ (P.full ports.old || full)) (λ _. P.full ports.new ≡ P.full ports.old) }
-    ensures heard { IfOk result (λ full. full ≡ true → IsFull
-        (outside (P.terms ports.new) (P.ends ports.new) (P.at_hand ports.new) (P.heard ports.new)
-        (P.polls ports.new) (P.tries ports.new) clock.new)) }
-    ensures looked { IfOk result (λ full. full ≡ false → (link : ℕ) → link < links_of machine.new.code → IsLookedAt
-        (outside (P.terms ports.old) (P.ends ports.old) (P.at_hand ports.old) (P.heard ports.old)
-        (P.polls ports.old) (P.tries ports.old) clock.old)
-        machine.new
-        (outside (P.terms ports.new) (P.ends ports.new) (P.at_hand ports.new) (P.heard ports.new)
-        (P.polls ports.new) (P.tries ports.new) clock.new) link) }
+    ensures looks { Looks machine.old (outside (P.told ports.old) clock.old) machine.new (outside (P.told ports.new) clock.new) }
+    ensures full { MatchResult result (λ full. (P.told ports.new).full ≡ ((P.told ports.old).full || full))
+        (λ _. (P.told ports.new).full ≡ (P.told ports.old).full) }
+    ensures heard { IfOk result (λ full. full ≡ true → IsFull (outside (P.told ports.new) clock.new)) }
+    ensures looked { IfOk result (λ full. full ≡ false → (link : ℕ) → link < links_of machine.new.code
+        → IsLookedAt (outside (P.told ports.old) clock.old) machine.new (outside (P.told ports.new) clock.new) link) }
     ensures stays { P.stays ports.old ports.new }
 {
     for link in 0..links_of(machine.code()) {

@@ -8,6 +8,7 @@ ghost use Rattle.core_machine.specs.Tried.{tried_of};
 ghost use Rattle.core_driver.specs.declared.pause.Pause.{Pause};
 ghost use Rattle.core_driver.specs.Pauses.{IsPaused, is_clock_full};
 ghost use Rattle.core_driver.specs.Idle.{LeavesNothing, HasLooked};
+ghost use Rattle.core_driver.specs.Polled.{ArePolled};
 ghost use Rattle.core_driver.specs.inner.Outside.{outside, IsFull};
 ghost use Rattle.core_driver.specs.inner.InStep.{InStep, Holds};
 ghost use Rattle.core_driver.specs.inner.Rounds.{Came, is_seen_full};
@@ -27,25 +28,15 @@ fn pass_point<P: Ports>(
     clock: &mut Clock,
     _ranks: &[u64],
 ) -> Result<Seen, NoMemory>
-    requires in_step { InStep machine.old
-        (outside (P.terms ports.old) (P.ends ports.old) (P.at_hand ports.old) (P.heard ports.old)
-        (P.polls ports.old) (P.tries ports.old) clock.old) }
+    requires in_step { InStep machine.old (outside (P.told ports.old) clock.old) }
     requires point { is_at_point machine.old.state ≡ true }
     requires ranked { IsRanked machine.old.code _ranks.now }
-    ensures holds { Holds machine.old
-        (outside (P.terms ports.old) (P.ends ports.old) (P.at_hand ports.old) (P.heard ports.old)
-        (P.polls ports.old) (P.tries ports.old) clock.old)
-        machine.new
-        (outside (P.terms ports.new) (P.ends ports.new) (P.at_hand ports.new) (P.heard ports.new)
-        (P.polls ports.new) (P.tries ports.new) clock.new) }
-    ensures came { IfOk result (λ seen. Came _ranks.now seen machine.old
-        (outside (P.terms ports.old) (P.ends ports.old) (P.at_hand ports.old) (P.heard ports.old)
-        (P.polls ports.old) (P.tries ports.old) clock.old)
-        machine.new
-        (outside (P.terms ports.new) (P.ends ports.new) (P.at_hand ports.new) (P.heard ports.new)
-        (P.polls ports.new) (P.tries ports.new) clock.new)) }
-    ensures full { MatchResult result (λ seen. P.full ports.new ≡ (P.full ports.old || is_seen_full seen))
-        (λ _. P.full ports.new ≡ P.full ports.old) }
+    ensures holds { Holds machine.old (outside (P.told ports.old) clock.old) machine.new (outside (P.told ports.new) clock.new) }
+    ensures polled { ArePolled machine.old machine.new (P.told ports.old).polls (P.told ports.new).polls }
+    ensures came { IfOk result (λ seen. Came _ranks.now seen machine.old (outside (P.told ports.old) clock.old)
+        machine.new (outside (P.told ports.new) clock.new)) }
+    ensures full { MatchResult result (λ seen. (P.told ports.new).full ≡ ((P.told ports.old).full || is_seen_full seen))
+        (λ _. (P.told ports.new).full ≡ (P.told ports.old).full) }
     ensures stays { P.stays ports.old ports.new }
 {
     let before = clock.last();
@@ -73,24 +64,14 @@ fn decide<P: Ports>(
     tried: Tried,
     _ranks: &[u64],
 ) -> Result<Seen, NoMemory>
-    requires in_step { InStep machine.old
-        (outside (P.terms ports.old) (P.ends ports.old) (P.at_hand ports.old) (P.heard ports.old)
-        (P.polls ports.old) (P.tries ports.old) clock.old) }
+    requires in_step { InStep machine.old (outside (P.told ports.old) clock.old) }
     requires asks { tried_of machine.old.code machine.old.state ≡ Some tried }
-    ensures holds { Holds machine.old
-        (outside (P.terms ports.old) (P.ends ports.old) (P.at_hand ports.old) (P.heard ports.old)
-        (P.polls ports.old) (P.tries ports.old) clock.old)
-        machine.new
-        (outside (P.terms ports.new) (P.ends ports.new) (P.at_hand ports.new) (P.heard ports.new)
-        (P.polls ports.new) (P.tries ports.new) clock.new) }
-    ensures came { IfOk result (λ seen. Came _ranks.now seen machine.old
-        (outside (P.terms ports.old) (P.ends ports.old) (P.at_hand ports.old) (P.heard ports.old)
-        (P.polls ports.old) (P.tries ports.old) clock.old)
-        machine.new
-        (outside (P.terms ports.new) (P.ends ports.new) (P.at_hand ports.new) (P.heard ports.new)
-        (P.polls ports.new) (P.tries ports.new) clock.new)) }
-    ensures full { MatchResult result (λ seen. P.full ports.new ≡ (P.full ports.old || is_seen_full seen))
-        (λ _. P.full ports.new ≡ P.full ports.old) }
+    ensures holds { Holds machine.old (outside (P.told ports.old) clock.old) machine.new (outside (P.told ports.new) clock.new) }
+    ensures polled { ArePolled machine.old machine.new (P.told ports.old).polls (P.told ports.new).polls }
+    ensures came { IfOk result (λ seen. Came _ranks.now seen machine.old (outside (P.told ports.old) clock.old)
+        machine.new (outside (P.told ports.new) clock.new)) }
+    ensures full { MatchResult result (λ seen. (P.told ports.new).full ≡ ((P.told ports.old).full || is_seen_full seen))
+        (λ _. (P.told ports.new).full ≡ (P.told ports.old).full) }
     ensures stays { P.stays ports.old ports.new }
 {
     machine.make_room()?;
@@ -114,25 +95,15 @@ fn next_stretch<P: Ports>(
     clock: &mut Clock,
     _ranks: &[u64],
 ) -> Result<Seen, NoMemory>
-    requires in_step { InStep machine.old
-        (outside (P.terms ports.old) (P.ends ports.old) (P.at_hand ports.old) (P.heard ports.old)
-        (P.polls ports.old) (P.tries ports.old) clock.old) }
+    requires in_step { InStep machine.old (outside (P.told ports.old) clock.old) }
     requires going { has_ended machine.old.state ≡ false }
     requires ranked { IsRanked machine.old.code _ranks.now }
-    ensures holds { Holds machine.old
-        (outside (P.terms ports.old) (P.ends ports.old) (P.at_hand ports.old) (P.heard ports.old)
-        (P.polls ports.old) (P.tries ports.old) clock.old)
-        machine.new
-        (outside (P.terms ports.new) (P.ends ports.new) (P.at_hand ports.new) (P.heard ports.new)
-        (P.polls ports.new) (P.tries ports.new) clock.new) }
-    ensures came { IfOk result (λ seen. Came _ranks.now seen machine.old
-        (outside (P.terms ports.old) (P.ends ports.old) (P.at_hand ports.old) (P.heard ports.old)
-        (P.polls ports.old) (P.tries ports.old) clock.old)
-        machine.new
-        (outside (P.terms ports.new) (P.ends ports.new) (P.at_hand ports.new) (P.heard ports.new)
-        (P.polls ports.new) (P.tries ports.new) clock.new)) }
-    ensures full { MatchResult result (λ seen. P.full ports.new ≡ (P.full ports.old || is_seen_full seen))
-        (λ _. P.full ports.new ≡ P.full ports.old) }
+    ensures holds { Holds machine.old (outside (P.told ports.old) clock.old) machine.new (outside (P.told ports.new) clock.new) }
+    ensures polled { ArePolled machine.old machine.new (P.told ports.old).polls (P.told ports.new).polls }
+    ensures came { IfOk result (λ seen. Came _ranks.now seen machine.old (outside (P.told ports.old) clock.old)
+        machine.new (outside (P.told ports.new) clock.new)) }
+    ensures full { MatchResult result (λ seen. (P.told ports.new).full ≡ ((P.told ports.old).full || is_seen_full seen))
+        (λ _. (P.told ports.new).full ≡ (P.told ports.old).full) }
     ensures stays { P.stays ports.old ports.new }
 {
     if machine.is_at_point() {
@@ -154,27 +125,19 @@ pub fn advance_by<P: Ports>(
     polls: u32,
     _ranks: &[u64],
 ) -> Result<Pause, NoMemory>
-    requires in_step { InStep machine.old
-        (outside (P.terms ports.old) (P.ends ports.old) (P.at_hand ports.old) (P.heard ports.old)
-        (P.polls ports.old) (P.tries ports.old) clock.old) }
+    requires in_step { InStep machine.old (outside (P.told ports.old) clock.old) }
     requires some { 1 ≤ polls }
     requires ranked { IsRanked machine.old.code _ranks.now }
-    ensures holds { Holds machine.old
-        (outside (P.terms ports.old) (P.ends ports.old) (P.at_hand ports.old) (P.heard ports.old)
-        (P.polls ports.old) (P.tries ports.old) clock.old)
-        machine.new
-        (outside (P.terms ports.new) (P.ends ports.new) (P.at_hand ports.new) (P.heard ports.new)
-        (P.polls ports.new) (P.tries ports.new) clock.new) }
+    ensures holds { Holds machine.old (outside (P.told ports.old) clock.old) machine.new (outside (P.told ports.new) clock.new) }
+    ensures polled { ArePolled machine.old machine.new (P.told ports.old).polls (P.told ports.new).polls }
     ensures pause { IfOk result (λ pause. IsPaused machine.new.state pause) }
-    ensures full { MatchResult result (λ pause. P.full ports.new ≡ (P.full ports.old || is_clock_full pause))
-        (λ _. P.full ports.new ≡ P.full ports.old) }
-    ensures heard { IfOk result (λ pause. pause ≡ Pause.ClockFull → IsFull
-        (outside (P.terms ports.new) (P.ends ports.new) (P.at_hand ports.new) (P.heard ports.new)
-        (P.polls ports.new) (P.tries ports.new) clock.new)) }
-    ensures idle { IfOk result (λ pause. pause ≡ Pause.Idle → LeavesNothing machine.new (P.terms ports.new) (P.ends ports.new)
-        (P.at_hand ports.new)) }
-    ensures looked { IfOk result (λ pause. pause ≡ Pause.Idle → HasLooked polls machine.new (P.polls ports.old) (P.polls ports.new)
-        (P.tries ports.old) (P.tries ports.new)) }
+    ensures full { MatchResult result (λ pause. (P.told ports.new).full ≡ ((P.told ports.old).full || is_clock_full pause))
+        (λ _. (P.told ports.new).full ≡ (P.told ports.old).full) }
+    ensures heard { IfOk result (λ pause. pause ≡ Pause.ClockFull → IsFull (outside (P.told ports.new) clock.new)) }
+    ensures idle { IfOk result (λ pause. pause ≡ Pause.Idle
+        → LeavesNothing machine.new (P.told ports.new).terms (P.told ports.new).ends (P.told ports.new).at_hand) }
+    ensures looked { IfOk result (λ pause. pause ≡ Pause.Idle
+        → HasLooked polls machine.new (P.told ports.old).polls (P.told ports.new).polls (P.told ports.old).tries (P.told ports.new).tries) }
     ensures stays { P.stays ports.old ports.new }
 {
     let mut quiet = 0;

@@ -1,4 +1,5 @@
--- A request that has its answer: what it has read goes into a frame that lives.
+-- A request that has its answer: what it has read goes into a frame that lives. For `replied`.
+-- In a sound core each operation that has not ended refers to living frames alone (`names_living` of code_safety); the one found is among them.
 use Rattle.std.proofs.Common.{◌≡◌, ℕ, Some, None, subst}
 use Rattle.std.specs.Prelude.{All, find}
 use Rattle.work_item.specs.Store.{Store}
@@ -6,7 +7,7 @@ use Rattle.cancel_scope.specs.declared.operation.Asked.{Asked}
 use Rattle.cancel_scope.specs.declared.operation.Asked.TheVariants as asked
 use Rattle.cancel_scope.specs.declared.operation.Operation.{Operation}
 use Rattle.cancel_scope.specs.Outstanding.{is_begun}
-use Rattle.core_values.specs.Answers.{ReadsIntoLiving}
+use Rattle.core_operators.specs.Answers.{ReadsIntoLiving}
 use Rattle.code_safety.specs.Living.{AskedLives}
 use Rattle.code_safety.proofs.NoDangling.{names_living}
 use Rattle.code_safety.proofs.Waiting.{found_at, one_of_all}

@@ -1,4 +1,5 @@
--- A core that begins stands at the first address of its function, in the frame that was made for it.
+-- A core that begins stands at the first address of its function, in the frame that was made for it. For `new`.
+-- By whether there is room for that frame: with it the state is the one with which the meaning begins, without it both end at once.
 use Rattle.std.proofs.Common.{◌≡◌, ℕ, List, [], ◌∷◌, length, Option, Some, None, Ok, Err, Bool, true, false, refl, sym, ap, ◌∙◌, subst}
 use Rattle.std.specs.Prelude.{ℤ, pos, replicate, if◌then◌else◌}
 use Rattle.std.proofs.lemmas.List.{length-replicate}

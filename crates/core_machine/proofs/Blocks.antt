@@ -1,4 +1,5 @@
 -- The blocks of a core as the code's meaning sees them, where one of them changes.
+-- The meaning keeps the same fields under other types; each change that finish_block makes to a block that lives is read as a change of the meaning's list.
 use Rattle.std.proofs.Common.{◌≡◌, ℕ, zero, suc, ◌+◌, ◌-◌, List, [], ◌∷◌, Option, Some, None, Bool, true, false, refl, sym, ap, ◌∙◌}
 use Rattle.std.specs.Prelude.{slice_index_or, slice_set, nat_eq, ◌&&◌, if◌then◌else◌}
 use Rattle.std.proofs.lemmas.List.{map-set}

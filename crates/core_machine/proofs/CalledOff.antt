@@ -1,4 +1,5 @@
--- What a cancel makes of a running core, and what a send or receive in a cancelled block does.
+-- What a cancel makes of a running core, and what a send or receive in a cancelled block does. For `cancel`, `send` and `receive`.
+-- The table and the code's meaning agree on whether a block is cancelled (Rounds), so both take the same branch; in each the fields are compared one by one.
 use Rattle.std.proofs.Common.{◌≡◌, ℕ, ◌+◌, List, [], ◌∷◌, ◌++◌, Option, Some, None, IsSome, Bool, true, false, refl, sym, ap, ◌∙◌, subst}
 use Rattle.std.specs.Prelude.{find, drop, not, ◌||◌}
 use Rattle.std.proofs.lemmas.Bool.{and_parts}

@@ -1,4 +1,6 @@
--- What a core makes of the outcome of an offer that a cancel tries.
+-- What a core makes of the outcome of an offer that a cancel tries: it ends as cancelled, it is done, or its request has begun.
+-- First where the core stands and which operation it tries; then what the calls make of the fields is what the code's meaning makes of the state (`Makes`, `Decides`);
+-- last, that a core which was sound is so afterwards, and has less left to do. Fitness and chains are taken over from code_safety, the count of offers from Standing.
 use Rattle.std.proofs.Common.{◌≡◌, ℕ, suc, ◌<◌, List, [], ◌∷◌, ◌++◌, Option, Some, None, IsSome, Bool, true, false, refl, sym, ap, ◌∙◌, subst, arith}
 use Rattle.std.specs.Prelude.{ℤ, find, is_some, position, slice_get, slice_set, if◌then◌else◌}
 use Rattle.std.specs.List.{remove}
@@ -16,7 +18,7 @@ use Rattle.cancel_scope.specs.Outstanding.{as_begun, change_first, is_request, w
 use Rattle.cancel_scope.specs.Roomy.{Roomy}
 use Rattle.core_state.specs.Moves.{On, GoesOn}
 use Rattle.core_state.specs.Arrivals.{Arrival, cancelled, goes_on_waiting, has_ended, has_ended_as, ok}
-use Rattle.core_state.specs.Cancelling.{Outcome, NeverHappens, IsTaken, is_to_try, outcome}
+use Rattle.core_state.specs.Cancelling.{Fate, NeverHappens, IsTaken, is_to_try, outcome}
 use Rattle.core_state.specs.Frames.{block_in}
 use Rattle.core_state.specs.Shared.{Shared, with_entry}
 use Rattle.finish_block.specs.Table as table
@@ -184,7 +186,7 @@ module _ (m after : Running) (block : BlockId) (cancels : cancelled_in m.code.no
   abbrev sought : Operation → Bool
   sought = is_to_try (is_inside (flat_of m) block)
 
-  decides : (it : Outcome) → Makes m block event stamp (decided_within (flat_of m) block it o) after → Decides m it event stamp after
+  decides : (it : Fate) → Makes m block event stamp (decided_within (flat_of m) block it o) after → Decides m it event stamp after
   decides it makes = record { block = block; cancels = cancels; operation = o; found = oldest_found sought m.outstanding.operations n o first there; makes = makes }
 
   gone : (value : ℤ) → has_ended_as value m.frames (remove m.outstanding.operations n) o ≡ has_ended_as value m.frames (without_first sought m.outstanding.operations) o
@@ -207,7 +209,7 @@ module _ (m after : Running) (block : BlockId) (cancels : cancelled_in m.code.no
 
 -- ---- what holds after it
 
-module _ (before after : Running) (tried : Tried) (it : Outcome) (event : Event) (stamp : ℕ) (still : before.ended ≡ None) (sound : IsSound before) (h : Decides before it event stamp after)
+module _ (before after : Running) (tried : Tried) (it : Fate) (event : Event) (stamp : ℕ) (still : before.ended ≡ None) (sound : IsSound before) (h : Decides before it event stamp after)
     (offered : tried_in (Some h.operation) ≡ Some tried) (is : outcome tried.link tried.number event ≡ Some it) where
   abbrev entry : Entry
   entry = entry_now before event stamp
@@ -254,7 +256,7 @@ module _ (before after : Running) (tried : Tried) (it : Outcome) (event : Event)
       by_asked true r = subst (λ os. P (goes_on_waiting m.store os)) (sym (place.changed as_begun)) (begins r)
       by_asked false r = subst (λ os. P (has_ended m.store os o)) (sym place.without) (ended ok)
 
-      by : (z : Outcome) → P (decided_within m h.block z o)
+      by : (z : Fate) → P (decided_within m h.block z o)
       by NeverHappens = subst (λ os. P (has_ended_as cancelled m.store os o)) (sym place.without) (ended cancelled)
       by IsTaken = by_asked (is_request o.asked) refl
 

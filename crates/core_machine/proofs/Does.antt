@@ -1,4 +1,5 @@
--- What the instructions on blocks and threads make of a running core.
+-- What the instructions on blocks and threads make of a running core. For `finish`, `start` and `end_thread`.
+-- What the calls leave in the fields is compared with what the code's meaning makes of the state, by the count of the block and whether its owner waits (Blocks).
 use Rattle.std.proofs.Common.{◌≡◌, ℕ, ◌+◌, ◌<◌, ◌^◌, List, [], ◌∷◌, ◌++◌, length, Option, Some, None, Bool, true, false, refl, sym, ap, ◌∙◌, subst, arith}
 use Rattle.std.specs.Prelude.{slice_set, replicate, nat_eq, ◌&&◌, if◌then◌else◌, IfSome, IsSomeAnd, Result, Ok, Err}
 use Rattle.std.proofs.lemmas.List.{length-replicate, set-append_left}

@@ -1,4 +1,5 @@
 -- The end to which a core comes, and its operations at its own ends, by example.
+-- Most hold by computing; that a code has no send or receive is seen address by address.
 use Rattle.std.proofs.Common.{◌≡◌, ℕ, zero, suc, refl, codes, pos, true, false, [], ◌∷◌, Some, None}
 use Rattle.std.specs.Prelude.{slice_get}
 use Rattle.std.proofs.lemmas.List.Elements.{All-nil, All-head}

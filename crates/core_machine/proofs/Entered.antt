@@ -1,4 +1,5 @@
--- What a core makes of an event that comes in.
+-- What a core makes of an event that comes in, one lemma for each kind: for `offered`, `know`, `got`, `replied`, `passed` and `roomed`.
+-- Each finds the operation by the test that the event names, and compares the fields after the call with the arrival that the code's meaning makes of it.
 use Rattle.std.proofs.Common.{◌≡◌, ℕ, List, [], ◌∷◌, ◌++◌, Option, Some, None, IsSome, Bool, true, false, refl, sym, ap, ◌∙◌, subst}
 use Rattle.std.specs.Prelude.{find, IfSome, if◌then◌else◌, ℤ}
 use Rattle.std.proofs.lemmas.Bool.{eq-eqb}

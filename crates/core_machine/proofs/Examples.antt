@@ -1,4 +1,5 @@
 -- What callers see of a core, and the activations, blocks and threads that stand for those of its code.
+-- Those that hold do so by computing.
 use Rattle.std.proofs.Common.{◌≡◌, ℕ, ◌+◌, length, refl, pos, Bool, true, false, List, [], ◌∷◌, Some, None, arith}
 use Rattle.std.proofs.lemmas.List.Elements.{All-nil}
 use Rattle.ac_base.specs.declared.entry.Entry.{Entry}

@@ -1,4 +1,5 @@
--- What is known of an instruction, by how the stretch goes on after it.
+-- What is known of an instruction, by how the stretch goes on after it: done, asking for an outcome, or refused memory.
+-- By the cases of its result; each lemma takes one fact out of a clause that holds under that result.
 use Rattle.std.proofs.Common.{◌≡◌, ◌≢◌, refl}
 use Rattle.std.specs.Prelude.{Result, Ok, Err, IfOk, OnErr}
 use Rattle.ac_base.specs.declared.memory.NoMemory.{NoMemory}

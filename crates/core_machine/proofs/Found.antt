@@ -1,4 +1,6 @@
--- What valid code finds where it stands.
+-- What valid code finds where it stands: operands of the kinds that its instruction takes, and slots, frames and blocks that live.
+-- From the invariant of code_safety (`IsFit`) each `*_there` lemma reads one such fact; `finds` goes through the instructions and gives each what it needs.
+-- Functions that execute an instruction ask for these facts in their contracts.
 use Rattle.std.proofs.Common.{◌≡◌, ℕ, zero, suc, ◌+◌, ◌≤◌, ◌<◌, ◌^◌, List, [], ◌∷◌, length, take, Bool, Option, Some, None, true, false, refl, sym, ap, ◌∙◌, subst, arith}
 use Rattle.std.specs.Prelude.{if◌then◌else◌, slice_get, nat_le, nat_lt, nat_eq, replicate, reverse}
 use Rattle.std.proofs.lemmas.Bool.Decides.{nat_tests}
@@ -14,8 +16,8 @@ use Rattle.work_item.specs.Conditions.{HomeLives, HasParent, HasLevel, IsGoing}
 use Rattle.core_state.specs.Frames.{argument, arguments}
 use Rattle.stack_code.specs.declared.instr.Instr.{Instr}
 use Rattle.stack_code.specs.declared.instr.Instr.TheVariants as i
-use Rattle.stack_code.specs.declared.shape.Kind.{Kind}
-use Rattle.stack_code.specs.declared.shape.Kind.TheVariants as kind
+use Rattle.stack_code.specs.declared.shape.CellKind.{CellKind}
+use Rattle.stack_code.specs.declared.shape.CellKind.TheVariants as kind
 use Rattle.stack_code.specs.declared.shape.Body.{Body}
 use Rattle.stack_code.specs.declared.shape.Shape.{Shape}
 use Rattle.stack_code.specs.declared.shape.Want.{Want}
@@ -112,7 +114,7 @@ module _ (code : Parts) (bound : ℕ) (m : Flat) (fit : IsFit code m) (t : Item)
   cell_there : (level slot : ℕ) (body : Body) → body_with s level slot 1 ≡ Some body → HasCell m level slot
   cell_there level slot body e = let room = slots_there level slot 1 body e in (level_there level slot 1 body e, omega (arith, room))
 
-  top_there : (w : Want) (wants : List Want) (go : Shape → Option Leads) (leads : Leads) → after (w ∷ wants) s go ≡ Some leads → (left : List Kind) × Top code fit.births w wants left ops
+  top_there : (w : Want) (wants : List Want) (go : Shape → Option Leads) (leads : Leads) → after (w ∷ wants) s go ≡ Some leads → (left : List CellKind) × Top code fit.births w wants left ops
   top_there w wants go leads e =
       let a = after_is (w ∷ wants) s go leads e in
       (a.0, top_of code fit.births w wants s.operands a.0 ops a.1.0 own.top.have)
@@ -183,7 +185,7 @@ module _ (code : Parts) (bound : ℕ) (m : Flat) (fit : IsFit code m) (t : Item)
         listed = is_listed code m fit t run;
       }
 
-  last_there : (kinds : List Kind) (operands : List Cell) → is_int_alone kinds ≡ true → HaveKinds code fit.births kinds operands → on_top is_int operands ≡ true
+  last_there : (kinds : List CellKind) (operands : List Cell) → is_int_alone kinds ≡ true → HaveKinds code fit.births kinds operands → on_top is_int operands ≡ true
   last_there [] operands e h = let no : false ≡ true = e in cc
   last_there (kind.Int ∷ kinds) [] e h = absurd h
   last_there (kind.Int ∷ kinds) (cell.Int v ∷ below) e h = refl
@@ -244,6 +246,7 @@ module _ (code : Parts) (bound : ℕ) (m : Flat) (fit : IsFit code m) (t : Item)
       let lt : slot < code.globals = grind (arith, nat_tests) in
       omega (arith, lt, fit.store.globals)
 
+  -- One case for each instruction: its effect on the shape says which operands and slots are there, and `IsFit` says that the state has this shape.
   pub finds : (instr : Instr) (leads : Leads) → slice_get code.instrs m.current.place ≡ Some instr → effect code m.current.place instr s ≡ Some leads → Finds code m instr
   finds i.Step leads here e = tt
   finds (i.Push value) leads here e = tt

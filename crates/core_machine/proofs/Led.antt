@@ -1,4 +1,5 @@
--- One instruction after another of a running core.
+-- One instruction after another of a running core, before none of which an entry could come in (`IsLed`).
+-- An instruction that was done is one move, one that asks or was refused is none; and what leads from a to b and from b to c leads from a to c.
 use Rattle.std.proofs.Common.{◌≡◌, ◌≢◌, ℕ, zero, suc, None, Some, IsSome, refl, sym, ◌∙◌, subst}
 use Rattle.std.specs.Prelude.{Result, IfOk, slice_get}
 use Rattle.ac_base.specs.declared.memory.NoMemory.{NoMemory}

@@ -1,4 +1,5 @@
--- What a running thread finds of its block and of the table of threads.
+-- What a running thread finds of its block and of the table of threads: for `finish`, `start`, `end_thread` and a turn.
+-- By counting over all threads: each block has as many threads as its count says, and each living one runs, is ready or waits, once.
 use Rattle.std.proofs.Common.{◌≡◌, ◌⊎◌, ℕ, ◌+◌, ◌≤◌, ◌<◌, List, [], ◌∷◌, length, Option, Some, None, IsSome, Bool, true, false, refl, sym, ap, ◌∙◌, subst, inl, inr, arith}
 use Rattle.std.specs.Prelude.{slice_get, slice_index_or, slice_set, IfSome, is_none, ◌&&◌}
 use Rattle.std.proofs.lemmas.Bool.{cases_eq}

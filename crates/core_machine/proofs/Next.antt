@@ -1,4 +1,5 @@
--- A turn: what was given to a thread goes onto its operands, and then the core runs.
+-- A turn: what was given to a thread goes onto its operands, and then the core runs. For `start_next` and `stretch`.
+-- What is left to do is less after a stretch: its last instruction lowers it, or, where it ends at a cancel that asks, the moves before that have.
 use Rattle.std.proofs.Common.{◌≡◌, ◌≢◌, ℕ, ◌<◌, ◌≤◌, List, None, IsSome, false, refl, sym, ◌∙◌, arith}
 use Rattle.core_machine.specs.declared.running.Running.{Running}
 use Rattle.core_machine.specs.declared.went.Follows.{Follows}

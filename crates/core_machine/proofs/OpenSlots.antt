@@ -1,4 +1,5 @@
--- The slot that keeps a block which is entered lies in the frame of the body in which the block was entered.
+-- The slot that keeps a block which is entered lies in the frame of the body in which the block was entered. Used by Found for cancels.
+-- An invariant of the shapes that code reaches (`Lie`), by induction on how they are reached; a body or a block more leaves the blocks before it where they lie.
 use Rattle.std.proofs.Common.{◌≡◌, ℕ, zero, suc, ◌+◌, ◌-◌, ◌<◌, ◌≤◌, List, [], ◌∷◌, Some, None, Bool, true, false, refl, sym, ap, ◌∙◌, subst, arith}
 use Rattle.std.specs.Prelude.{slice_get, length, nat_eq, nat_le, ◌||◌, if◌then◌else◌}
 use Rattle.std.specs.List.{list_any}

@@ -1,4 +1,5 @@
--- The moves of a turn of a core, at none of which but the first an entry could come in.
+-- The moves of a turn of a core, before none of which but the first an entry could come in. For `turn` and `start_next`.
+-- While a thread runs, an entry comes in only at a cancel that asks for it; with none to come, such a core is stalled. So where an instruction was done, none was asked for.
 use Rattle.std.proofs.Common.{◌≡◌, ℕ, zero, suc, [], Option, Some, None, IsSome, Bool, true, false, refl, sym, ap, ◌∙◌, subst}
 use Rattle.std.specs.Prelude.{List, find, is_none, is_some, nat_eq, not, slice_get, if◌then◌else◌}
 use Rattle.ac_base.specs.declared.ends.CoreEnd.{CoreEnd}
@@ -12,7 +13,7 @@ use Rattle.cancel_scope.specs.declared.operation.Progress.{Progress}
 use Rattle.cancel_scope.specs.declared.operation.Progress.TheVariants.{Waiting, Offered, Started}
 use Rattle.cancel_scope.specs.declared.operation.Operation.{Operation}
 use Rattle.core_state.specs.Moves.{Move, On, Over}
-use Rattle.core_state.specs.Cancelling.{Outcome, by_outcome, decided, is_to_try, tried, tries}
+use Rattle.core_state.specs.Cancelling.{Fate, by_outcome, decided, is_to_try, tried, tries}
 use Rattle.core_state.specs.Frames.{block_in}
 use Rattle.core_state.specs.Shared.{Shared, core_end, seen_left}
 use Rattle.stack_code.specs.declared.instr.Instr.{Instr}
@@ -62,7 +63,7 @@ module _ (code : Parts) (bound : ℕ) (m : Flat) (last : m.shared.todo ≡ []) w
   abbrev stalls : Move Flat FlatEnd → Type 0
   stalls a = a ≡ Over (stalled_asking m)
 
-  tried_stalls : (o : Operation) (p : Progress) (go : Shared → Outcome → Move Flat FlatEnd) → is_on_offer p ≡ true
+  tried_stalls : (o : Operation) (p : Progress) (go : Shared → Fate → Move Flat FlatEnd) → is_on_offer p ≡ true
       → stalls (tried (told (counted m.count)) m.shared m.store.globals m.operations o.link p go)
   tried_stalls o (Offered number) go h =
       ap (λ (todo : List Entry). decided (told (counted m.count)) m.shared m.store.globals m.operations o.link number go todo) last

@@ -1,4 +1,5 @@
--- Which operations of a running core wait.
+-- Which operations of a running core wait, as callers see them. For `waits`.
+-- By whether the core has ended: a state that goes on and an end both show the operations that the core keeps.
 use Rattle.std.proofs.Common.{◌≡◌, Option, Some, None, ap}
 use Rattle.std.specs.Prelude.{map}
 use Rattle.cancel_scope.specs.Outstanding.{waiting_as}

@@ -1,4 +1,5 @@
 -- What callers see of cores at their dispatch points, by example.
+-- Those that hold do so by computing.
 use Rattle.std.proofs.Common.{◌≡◌, ℕ, ◌+◌, length, refl, pos, true, false, List, arith, [], ◌∷◌, Some, None}
 use Rattle.ac_base.specs.declared.entry.Event.TheVariants as event
 use Rattle.ac_base.specs.declared.entry.Payload.TheVariants as payload

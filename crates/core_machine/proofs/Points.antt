@@ -1,4 +1,5 @@
--- What callers see of a running core at its dispatch points, and of the entries that come in there.
+-- What callers see of a running core at its dispatch points, and of the entries that come in there. For the public calls of `CoreMachine`.
+-- Callers see a machine (`machine_of`), whose state is computed from the fields; each lemma carries one fact over that equality, from `Running` to what is seen.
 use Rattle.std.proofs.Common.{◌≡◌, ℕ, ◌<◌, ◌≤◌, List, Option, Some, None, IsSome, Ok, Err, Bool, true, false, refl, sym, ap, ◌∙◌, subst, arith}
 use Rattle.std.specs.Prelude.{is_none, is_some, find, nat_eq, nat_lt, not, if◌then◌else◌, ◌&&◌, IfSome, OnOk, Result}
 use Rattle.std.proofs.lemmas.Bool.{and_parts, eq-eqb, ltb-true}
@@ -12,7 +13,7 @@ use Rattle.work_item.specs.declared.ids.Item.{Item}
 use Rattle.cancel_scope.specs.declared.operation.Operation.{Operation}
 use Rattle.cancel_scope.specs.Outstanding.{is_outgoing, is_waiting, is_to_offer, carries}
 use Rattle.core_state.specs.Moves.{GoesOn, On}
-use Rattle.core_state.specs.Cancelling.{Outcome, NeverHappens, IsTaken, outcome}
+use Rattle.core_state.specs.Cancelling.{Fate, NeverHappens, IsTaken, outcome}
 use Rattle.stack_code.specs.Kept.{IsRanked}
 use Rattle.code_meaning.specs.Machine.{Flat, exec}
 use Rattle.code_safety.specs.Left.{left}
@@ -168,7 +169,7 @@ module _ (m : Running) (old : Machine) (is : machine_of m ≡ old) where
   pub asks_none : tried_of old.code old.state ≡ None → tried_of m.code.now (state_of m) ≡ None
   asks_none h = subst (λ (n : Machine). tried_of n.code n.state ≡ None) (sym is) h
 
-module _ (before after : Running) (tried : Tried) (it : Outcome) (v : Event) (stamp : ℕ) (old : Machine) (is : machine_of before ≡ old) (sound : IsSound before)
+module _ (before after : Running) (tried : Tried) (it : Fate) (v : Event) (stamp : ℕ) (old : Machine) (is : machine_of before ≡ old) (sound : IsSound before)
     (asks : tried_of old.code old.state ≡ Some tried) (outcome_is : outcome tried.link tried.number v ≡ Some it) (decides : Decides before it v stamp after) where
   on : before.ended ≡ None
   on = asks_on before (asks_some before old is tried asks)

@@ -1,4 +1,5 @@
--- A push of an int, and an operator on two ints after it.
+-- A push of an int, and an operator on two ints after it, which `two_at_once` does as one.
+-- The push is a move and leaves the core sound, so what the operator finds there is known beforehand (`AtPush`): its address, and two ints on top.
 use Rattle.std.proofs.Common.{◌≡◌, ℕ, ℤ, ◌+◌, ◌<◌, ◌^◌, List, length, None, Some, IsSome, true, false, refl, sym, ap, ◌∙◌, subst, arith, slice_get, slice_index_or}
 use Rattle.std.proofs.lemmas.Option.{slice_get-get_or}
 use Rattle.work_item.specs.declared.ids.Item.{Item}

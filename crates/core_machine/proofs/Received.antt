@@ -1,4 +1,5 @@
--- Where an operation puts what it receives: into one int, in a frame that lives or in the globals.
+-- Where an operation puts what it receives: into one int, in a frame that lives or in the globals. For `got`.
+-- The invariant says this of each operation that receives; the one that a test finds is one of them.
 use Rattle.std.proofs.Common.{◌≡◌, ℕ, ◌<◌, Some, None, true, false, refl, subst, arith}
 use Rattle.std.specs.Prelude.{All, find, nat_eq, not}
 use Rattle.std.proofs.lemmas.Bool.{and_parts}

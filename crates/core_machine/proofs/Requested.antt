@@ -1,4 +1,5 @@
--- What a read or a write of a file makes of a running core.
+-- What a read or a write of a file makes of a running core. For `request`, `read` and `write`.
+-- What the instruction comes to is computed from its three operands; then either the block is cancelled and the value is there at once, or the thread waits (CalledOff).
 use Rattle.std.proofs.Common.{◌≡◌, ℕ, ◌+◌, ◌≤◌, List, [], ◌∷◌, ◌++◌, length, Some, None, Ok, Err, Result, Bool, true, false, drop, refl, sym, ap, ◌∙◌, arith}
 use Rattle.std.specs.Prelude.{◌-◌, ◌^◌, min}
 use Rattle.ac_base.specs.declared.ends.Trap.{Trap}

@@ -1,4 +1,5 @@
 -- The blocks round a block, and its mark, in the table and in the code's meaning; and the oldest operation within a block, by its place.
+-- Both make the same list of blocks, by induction on its length. The search is the invariant `Seeks`: no operation before this place passes the test. For `oldest_within`.
 use Rattle.std.proofs.Common.{◌≡◌, ℕ, zero, suc, ◌+◌, ◌<◌, List, ◌∷◌, length, drop, set, Option, Some, None, Bool, true, false, refl, sym, ap, ◌∙◌, inl, inr, arith}
 use Rattle.std.specs.Prelude.{cond, find, position, slice_get, slice_set, nat_eq}
 use Rattle.std.specs.List.{remove, position_from, list_any}

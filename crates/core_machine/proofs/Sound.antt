@@ -1,4 +1,6 @@
--- A core stays where its code can stand, and comes to its end.
+-- A core stays where its code can stand, and comes to its end. `IsSound` is the invariant of a machine.
+-- After a move its parts hold again: fitness and chains by code_safety, the link of its requests since nothing changes it, and offers by Started and Standing.
+-- After an entry likewise. What is left to do falls with each move and does not rise with an entry, so a core that is given turns comes to its end.
 use Rattle.std.proofs.Common.{◌≡◌, ◌≢◌, ℕ, suc, ◌-◌, ◌<◌, ◌≤◌, ◌^◌, List, [], ◌∷◌, ◌++◌, length, Option, Some, None, IsSome, Bool, true, false, refl, sym, ap, ◌∙◌, subst, arith}
 use Rattle.std.specs.Prelude.{slice_get, is_some, nat_eq, nat_lt, not}
 use Rattle.std.proofs.lemmas.Bool.{ltb-true}

@@ -1,4 +1,6 @@
--- Which operations stand under which offers, and which have begun: what entries make of that.
+-- Which operations stand under which offers, and which have begun: what entries make of that. This is the part `Tracks` of `IsSound`.
+-- The journal's offers less its ends are, for each link and number, the operations that stand there. Each entry changes one operation, found by a test;
+-- so the counts before and after it differ at that one place alone. One lemma for each kind of entry.
 use Rattle.std.proofs.Common.{◌≡◌, ℕ, ◌+◌, List, [], ◌∷◌, ◌++◌, Option, Some, None, Bool, true, false, refl, sym, ap, ◌∙◌, subst, arith}
 use Rattle.std.specs.Prelude.{ℤ, All, find, nat_eq, not, ◌&&◌, if◌then◌else◌}
 use Rattle.std.proofs.lemmas.Bool.{and_parts, eq-eqb, eqb-true}
@@ -16,7 +18,7 @@ use Rattle.cancel_scope.specs.Outstanding.{is_to_receive, carries, change_first,
 use Rattle.core_state.specs.Arrivals as arrivals
 use Rattle.core_state.specs.Arrivals.{Arrival, goes_on_waiting, has_ended, has_ended_as, offers, offers_on, is_taken, is_known, is_answered, ends_received, passes_over, gives_room, keeps_room}
 use Rattle.core_state.specs.Arrivals.{with_message}
-use Rattle.core_state.specs.Cancelling.{Outcome, NeverHappens, IsTaken, by_outcome, outcome}
+use Rattle.core_state.specs.Cancelling.{Fate, NeverHappens, IsTaken, by_outcome, outcome}
 use Rattle.core_state.specs.Requests.{value_of, with_answer}
 use Rattle.code_safety.specs.Fit.{one_if, total}
 use Rattle.code_safety.proofs.Lives.{total_append}
@@ -195,6 +197,7 @@ module _ (requests : ℕ) (past : List Entry) (os : List Operation) (h : Tracks 
       placed = all_between (IsPlaced requests) f.back (change o) f.front (left (IsPlaced requests) h.placed) placed;
     })
 
+  -- The operation waited and stood nowhere; now it stands under the new number. So the offers on that link and number are one more, and ends and begun requests the same.
   tracks_offered : (link k : ℕ) (payload : Payload) (o : Operation) → e.event ≡ event.Offer link k payload → IsFound (is_to_offer link) os o
       → Tracked (change_first (is_to_offer link) (offered_as k) os)
   tracks_offered link k payload o is f = changed (is_to_offer link) o f (offered_as k)
@@ -399,14 +402,14 @@ module _ (requests : ℕ) (past : List Entry) (os : List Operation) (h : Tracks 
     tracks_entered v is fits = let no : None ≡ Some x = fits in absurd (cc)
 
   -- what the outcome of an offer makes of its operation
-  pub tracks_decided : (store : Store) (test : Operation → Bool) (o : Operation) (link k : ℕ) (it : Outcome) → find test os ≡ Some o → o.link ≡ link → o.progress ≡ progress.Offered k
+  pub tracks_decided : (store : Store) (test : Operation → Bool) (o : Operation) (link k : ℕ) (it : Fate) → find test os ≡ Some o → o.link ≡ link → o.progress ≡ progress.Offered k
       → outcome link k e.event ≡ Some it → Tracked (by_outcome it store test os o).operations
   tracks_decided store test o link k it found on under is = go e.event refl is
     where
       stands : is_offered link k o ≡ true
       stands = ap (λ p. nat_eq o.link link && is_under k p) under ∙ ap (λ b. b && nat_eq k k) (eq-eqb o.link link on) ∙ eq-eqb k k refl
 
-      same : (l n : ℕ) (v : Outcome) (b : Bool) → (nat_eq l link && nat_eq n k) ≡ b → (if b then Some v else None) ≡ Some it → ((l ≡ link) × (n ≡ k)) × (v ≡ it)
+      same : (l n : ℕ) (v : Fate) (b : Bool) → (nat_eq l link && nat_eq n k) ≡ b → (if b then Some v else None) ≡ Some it → ((l ≡ link) × (n ≡ k)) × (v ≡ it)
       same l n v true e q =
           let both = and_parts (nat_eq l link) (nat_eq n k) e in
           let its : v ≡ it = cc in

@@ -1,4 +1,5 @@
 -- Which operations an instruction starts or ends, with no entry to come: what stands under an offer stays.
+-- By the cases of an instruction (`StartsTo`). The hard cases are the limits of a request, for which its range was asked, and a cancel, which ends one that was not offered.
 use Rattle.std.proofs.Common.{◌≡◌, ℕ, zero, suc, ◌+◌, List, [], ◌∷◌, ◌++◌, Option, Some, None, Bool, true, false, refl, sym, ap, ◌∙◌, subst, arith}
 use Rattle.std.specs.Prelude.{ℤ, pos, negsuc, All, Result, Ok, Err, length, find, nat_eq, nat_le, nat_lt, ◌&&◌, ◌^◌, ◌-◌, slice_get, slice_set, if◌then◌else◌}
 use Rattle.std.proofs.lemmas.Bool.{and_parts, eq-eqb}
@@ -22,7 +23,7 @@ use Rattle.cancel_scope.specs.declared.operation.Operation.{Operation}
 use Rattle.cancel_scope.specs.Outstanding.{started, is_request, is_waiting, is_begun, is_offered, without_first}
 use Rattle.core_state.specs.Moves.{Move, On, Over}
 use Rattle.core_state.specs.Arrivals.{at_point}
-use Rattle.core_state.specs.Cancelling.{Outcome, by_outcome, decided, is_to_try, tried, tries}
+use Rattle.core_state.specs.Cancelling.{Fate, by_outcome, decided, is_to_try, tried, tries}
 use Rattle.core_state.specs.Frames.{block_in}
 use Rattle.core_state.specs.Shared.{Shared, with_turn, seen}
 use Rattle.core_state.specs.Requests.{bytes_at, bytes_from, file_limit, first_of, if_in_range, is_in_range, request_limit}
@@ -127,7 +128,7 @@ module _ (m : Flat) where
       test : Operation → Bool
       test = is_to_try (is_inside m block)
 
-      ended : Operation → Shared → Outcome → Move Flat FlatEnd
+      ended : Operation → Shared → Fate → Move Flat FlatEnd
       ended o shared it = On (arrived (marked m block) shared (by_outcome it m.store test m.operations o))
 
       by : (o : Operation) → find test m.operations ≡ Some o → (p : Progress) → o.progress ≡ p

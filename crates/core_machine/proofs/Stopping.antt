@@ -1,5 +1,7 @@
 -- A running core comes to an end under its journal, of which something is seen, since no entry is still to come; and where it has ended
--- or is idle, that is its end.
+-- or is idle, that is its end. For `ending`.
+-- That a move with nothing to come shows its end goes by the cases of an instruction, of which all but a cancel lead on as with one entry more (`Alike`).
+-- That the end is reached is code_safety's; an idle core is one move from it.
 use Rattle.std.proofs.Common.{◌≡◌, ℕ, zero, suc, List, [], ◌∷◌, Option, Some, None, IsSome, Bool, true, false, refl, sym, ap, ◌∙◌, subst, arith}
 use Rattle.std.specs.Prelude.{find, nat_lt, slice_get, slice_set, is_none, is_some, not, ◌^◌, ◌-◌, if◌then◌else◌}
 use Rattle.std.proofs.lemmas.Bool.{and_parts}
@@ -20,7 +22,7 @@ use Rattle.cancel_scope.specs.Outstanding.{has_begun}
 use Rattle.core_state.specs.Moves.{Move, On, Over, GoesOn, moves, and_then}
 use Rattle.core_state.specs.Frames.{block_in}
 use Rattle.core_state.specs.Arrivals.{at_point}
-use Rattle.core_state.specs.Cancelling.{Outcome, by_outcome, decided, is_to_try, tried, tries}
+use Rattle.core_state.specs.Cancelling.{Fate, by_outcome, decided, is_to_try, tried, tries}
 use Rattle.core_state.specs.Shared.{Shared, core_end, with_turn, seen, seen_left}
 use Rattle.core_state.proofs.Runs.{GoesOn-more}
 use Rattle.stack_code.specs.declared.instr.Instr.{Instr}
@@ -76,6 +78,7 @@ module _ (m : Flat) where
   none_shown e es is (Over x) = λ none. let no : e ∷ es ≡ [] = sym is ∙ none in absurd (cc)
 
   -- a cancel that asks for an outcome is stalled
+  -- By what the cancel tries: nothing, an operation that was not offered, or an offer. Only the last asks for an entry, and there is none: the core is stalled, and that is seen.
   calls_off_shows : (block : BlockId) → L (calls_off m block)
   calls_off_shows block = go (find test m.operations) refl
     where
@@ -85,7 +88,7 @@ module _ (m : Flat) where
       test : Operation → Bool
       test = is_to_try (is_inside m block)
 
-      ended : Operation → Shared → Outcome → Move Flat FlatEnd
+      ended : Operation → Shared → Fate → Move Flat FlatEnd
       ended o shared it = On (arrived (marked m block) shared (by_outcome it m.store test m.operations o))
 
       -- what is tried has not begun

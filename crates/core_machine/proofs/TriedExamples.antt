@@ -1,4 +1,5 @@
--- For which offers cores ask for outcomes, and what comes of them, by example.
+-- For which offers cores ask for outcomes, and what comes of them, by example: one thread stands at a cancel, and two others wait.
+-- Those that hold do so by computing.
 use Rattle.std.proofs.Common.{◌≡◌, refl, pos, true, false, List, [], ◌∷◌, Some, None, sym, ap, subst}
 use Rattle.std.specs.Prelude.{negsuc, find, slice_index_or, slice_set}
 use Rattle.ac_base.specs.declared.entry.Entry.{Entry}

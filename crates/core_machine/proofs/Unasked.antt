@@ -1,4 +1,5 @@
--- Where no operation is a request, none stands on the link of the core's requests.
+-- Where no operation is a request, none stands on the link of the core's requests. For `has_to_offer`, which then need not search.
+-- Each operation stands at its place (`Tracks`), by which one on that link is a request; by induction on the operations.
 use Rattle.std.proofs.Common.{◌≡◌, ℕ, List, [], ◌∷◌, None, Some, Bool, true, false, refl, sym, ap, ◌∙◌, subst}
 use Rattle.std.specs.Prelude.{All, find, cond, nat_eq, is_some, ◌&&◌, ◌||◌}
 use Rattle.std.specs.List.{list_any}

@@ -8,7 +8,7 @@ use Rattle.cancel_scope.specs.declared.operation.Progress.{Progress}
 use Rattle.cancel_scope.specs.declared.operation.Progress.TheVariants as progress
 use Rattle.cancel_scope.specs.declared.operation.Operation.{Operation}
 use Rattle.core_state.specs.Moves.{Move, On, Over}
-use Rattle.core_state.specs.Cancelling.{Outcome, by_outcome, is_to_try}
+use Rattle.core_state.specs.Cancelling.{Fate, by_outcome, is_to_try}
 use Rattle.core_state.specs.Frames.{block_in}
 use Rattle.core_state.specs.Shared.{with_entry}
 use Rattle.stack_code.specs.declared.instr.Instr.{Instr}
@@ -59,7 +59,7 @@ tried_of code (On m) = tried_within m (cancelled_in code m)
 
 -- the running thread stands at a cancel of a block, and of the oldest operation within it that its peer has not begun this has become, by
 -- an entry of this stamp
-pub record HasDecided (before : Machine) (tried : Tried) (it : Outcome) (event : Event) (stamp : ℕ) (after : Machine) : Type 0 where
+pub record HasDecided (before : Machine) (tried : Tried) (it : Fate) (event : Event) (stamp : ℕ) (after : Machine) : Type 0 where
   pub flat : Flat
   pub stood : before.state ≡ On flat
   pub block : BlockId

@@ -2,7 +2,7 @@
 
 use crate::running::Running;
 use ac_base::{Answer, Event};
-use core_values::take_answer;
+use core_operators::take_answer;
 
 impl Running<'_> {
     ghost use Rattle.std.specs.Prelude.{◌≡◌, ◌<◌, None, false, find, IsSome};

@@ -2,7 +2,7 @@
 
 use crate::ending::Ending;
 use crate::running::Running;
-use core_values::within;
+use core_operators::within;
 use work_item::{Cell, Place};
 
 impl Running<'_> {

@@ -3,7 +3,7 @@
 use crate::ending::Ending;
 use crate::running::Running;
 use ac_base::Trap;
-use core_values::{
+use core_operators::{
     both_bits, difference, differing_bits, either_bits, is_at_most, is_equal, is_less,
     is_not_equal, product, shifted_left, shifted_right, sum,
 };

@@ -10,7 +10,7 @@ use crate::ending::Ending;
 use crate::running::Running;
 use ac_base::{NoMemory, Trap};
 use cancel_scope::Asked;
-use core_values::{Range, bytes_at, int_in, place_in, range_of};
+use core_operators::{Range, bytes_at, int_in, place_in, range_of};
 use thread_table::Operands;
 use work_item::Cell;
 

@@ -7,12 +7,12 @@ use crate::ending::Ending;
 use crate::went::{Follows, Went, done, how_on};
 use ac_base::{Journal, NoMemory, Trap};
 use cancel_scope::Outstanding;
-use core_scheduler::Scheduler;
-use core_values::{
+use core_operators::{
     add_formatted, both_bits, difference, differing_bits, either_bits, flipped, is_at_most,
     is_equal, is_less, is_not_equal, negated, not_true, product, quotient, remainder, shifted_left,
     shifted_right, sum, truth,
 };
+use core_scheduler::Scheduler;
 use finish_block::Blocks;
 use stack_code::{Code, Instr};
 use std::alloc::Global;

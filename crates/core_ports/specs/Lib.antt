@@ -3,5 +3,6 @@ pub mod AtHand
 pub mod Counts
 pub mod Ends
 pub mod Laws
+pub mod PortsTold
 pub mod Sides
 pub mod Tells

@@ -1,4 +1,5 @@
--- An entry that comes in: what the machine has taken then, and where it stands.
+-- An entry that comes in: what the machine has taken then, and where it stands. The table of offers and the numbers of the journal are kept for
+-- each kind of event, and then what has come in is one entry more of a journal that has a run, and what has not is one with which none has.
 use Rattle.std.proofs.Common.{◌≡◌, ◌⊎◌, inl, inr, ℕ, List, [], ◌∷◌, ◌++◌, Option, Some, None, Bool, true, false, refl, sym, ap, ◌∙◌, subst}
 use Rattle.std.specs.Prelude.{ℤ, Err, IfOk, Ok, OnErr, Result, is_none, not, slice_index}
 use Rattle.std.specs.List.{filter}
@@ -20,8 +21,8 @@ use Rattle.core_machine.specs.Machine.{Machine, IsOnItsWay, IsSameCore}
 use Rattle.core_machine.specs.Points.{HasCome, IsInTurn, IsOfTurn, entry_of, is_at_point}
 use Rattle.core_machine.specs.Tracks.{is_offer_of}
 use Rattle.core_machine.proofs.Sound.{resumed_shared}
-use Rattle.own_offers.specs.Offering.{Offers, AreOffersOf, counted, is_of}
-use Rattle.own_offers.proofs.Entries.{offer_counts, others_stay, room_gives}
+use Rattle.core_replay.specs.Offering.{Offers, AreOffersOf, counted, is_of}
+use Rattle.core_replay.proofs.OfferEntries.{offer_counts, others_stay, room_gives}
 use Rattle.replay_laws.specs.Given.{HasRun, last_turn}
 use Rattle.replay_laws.proofs.Refusals.{misfit_at_point}
 use Rattle.core_replay.specs.Standing.{IsNumbered, IsPlayed, StandsAt}

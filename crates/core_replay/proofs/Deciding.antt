@@ -1,4 +1,5 @@
--- An entry for a core that asks for the outcome of an offer.
+-- An entry for a core that asks for the outcome of an offer. Its next move takes the entry if it is that outcome in this turn, and otherwise sees
+-- that it does not fit; so an entry that is refused has no run.
 use Rattle.std.proofs.Common.{◌≡◌, ◌≢◌, ℕ, List, [], ◌∷◌, ◌++◌, Option, Some, None, Bool, true, false, refl, sym, ap, ◌∙◌, subst}
 use Rattle.std.specs.Prelude.{◌&&◌, find, nat_eq, slice_get, if◌then◌else◌}
 use Rattle.std.proofs.lemmas.Bool.{and_parts, eqb-true}
@@ -13,7 +14,7 @@ use Rattle.cancel_scope.specs.declared.operation.Progress.TheVariants.{Waiting, 
 use Rattle.cancel_scope.specs.declared.operation.Operation.{Operation}
 use Rattle.core_state.specs.Moves.{Move, On}
 use Rattle.core_state.specs.Arrivals.{is_withdrawal}
-use Rattle.core_state.specs.Cancelling.{Outcome, NeverHappens, IsTaken, by_outcome, is_to_try, outcome}
+use Rattle.core_state.specs.Cancelling.{Fate, NeverHappens, IsTaken, by_outcome, is_to_try, outcome}
 use Rattle.core_state.specs.Frames.{block_in}
 use Rattle.core_state.specs.Shared.{with_entry}
 use Rattle.stack_code.specs.declared.instr.Instr.{Instr}
@@ -26,8 +27,8 @@ use Rattle.core_machine.specs.Machine.{Machine, IsOnItsWay, IsSameCore, has_ende
 use Rattle.core_machine.specs.Points.{HasTracks, IsOfTurn, entry_of, operations_of, requests_of}
 use Rattle.core_machine.specs.Tracks.{Tracks, is_know_of}
 use Rattle.core_machine.specs.Tried.{HasDecided, cancelled_at, cancelled_by, tried_as, tried_in, tried_of, tried_within}
-use Rattle.own_offers.specs.Offering.{Offers, AreOffersOf}
-use Rattle.own_offers.proofs.Entries.{others_stay, withdrawal_keeps}
+use Rattle.core_replay.specs.Offering.{Offers, AreOffersOf}
+use Rattle.core_replay.proofs.OfferEntries.{others_stay, withdrawal_keeps}
 use Rattle.replay_laws.specs.Given.{HasRun}
 use Rattle.replay_laws.proofs.Refusals.{misfit_at_cancel}
 use Rattle.core_replay.specs.Standing.{IsNumbered, IsPlayed}
@@ -137,7 +138,7 @@ is_the_know link number v h = let no : false ≡ true = h in absurd (cc)
 
 -- the machine, once room was made, and what has become of it
 pub decided_takes : (before roomed : Machine) → IsSameCore before roomed → roomed.state ≡ before.state → (e : Entry) (turn : ℕ) → IsOfTurn before turn → e.turn ≡ turn
-    → (after : Machine) (tried : Tried) (it : Outcome) (v : Event) → e.event ≡ v → HasDecided roomed tried it v e.stamp after → Takes before e true after
+    → (after : Machine) (tried : Tried) (it : Fate) (v : Event) → e.event ≡ v → HasDecided roomed tried it v e.stamp after → Takes before e true after
 decided_takes before roomed same state e turn now is_now after tried it v is d =
     let s = with_entry d.flat.shared (entry_of d.flat v e.stamp) [] in
     let x = by_outcome it d.flat.store (is_to_try (is_inside d.flat d.block)) d.flat.operations d.operation in

@@ -1,4 +1,5 @@
--- How a core ends that goes no further where no entry is to come.
+-- How a core ends that goes no further where no entry is to come. One that has stopped ends as the machine tells; one that asks for an outcome
+-- stalls at its next move, since its whole journal has come in.
 use Rattle.std.proofs.Common.{◌≡◌, ℕ, List, Option, Some, None, Bool, true, false, refl, sym, ap, ◌∙◌, subst}
 use Rattle.std.specs.Prelude.{◌&&◌, ◌||◌, is_none, is_some}
 use Rattle.ac_base.specs.declared.ends.CoreEnd.{CoreEnd}

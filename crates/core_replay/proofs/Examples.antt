@@ -1,4 +1,5 @@
--- Cores under journals, by example.
+-- Cores under journals, by example: an entry of a turn that a core never reaches is in no run, and two offers of one number are in no
+-- journal.
 use Rattle.std.proofs.Common.{◌≡◌, ◌≤◌, suc, [], ◌∷◌, ◌++◌, None, Bool, pos, true, refl, sym, ap, ◌∙◌, subst, arith}
 use Rattle.ac_base.specs.declared.entry.Entry.{Entry}
 use Rattle.ac_base.specs.declared.entry.Event.TheVariants as event
@@ -8,7 +9,7 @@ use Rattle.stack_code.proofs.Examples.{begins_so, code_of, entered}
 use Rattle.code_meaning.specs.Machine.{Flat, told}
 use Rattle.code_meaning.proofs.Examples.{it_is_an_end, prints_seven, returns}
 use Rattle.core_machine.specs.Machine.{Machine}
-use Rattle.own_offers.specs.Offering.{Offers}
+use Rattle.core_replay.specs.Offering.{Offers}
 use Rattle.replay_laws.specs.Given.{HasRun, last_turn}
 use Rattle.replay_laws.proofs.Refusals.{no_run}
 use Rattle.core_replay.specs.Replayed.{IsSameCore, Replayed}

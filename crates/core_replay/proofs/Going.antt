@@ -1,4 +1,5 @@
--- A core goes on to where an entry may come in; and where it comes to no such place, no run goes on with the entry.
+-- A core goes on to where an entry may come in; and where it comes to no such place, no run goes on with the entry. While the core passes the
+-- turn by, the run under its journal is also the run under the journal with this entry, so the two part only where the entry would come in.
 use Rattle.std.proofs.Common.{◌≡◌, ℕ, zero, suc, ◌≤◌, ◌<◌, List, [], ◌∷◌, ◌++◌, Option, Some, None, Result, Ok, Err, Bool, true, false, refl, sym, ap, ◌∙◌, subst, arith}
 use Rattle.std.specs.Prelude.{is_none, replicate}
 use Rattle.std.proofs.lemmas.Bool.{and_parts}

@@ -4,3 +4,5 @@ pub mod Deciding
 pub mod Going
 pub mod Ends
 pub mod Examples
+pub mod OfferEntries
+pub mod OfferExamples

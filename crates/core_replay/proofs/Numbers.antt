@@ -1,4 +1,5 @@
--- The numbers of the offers of a journal, and the rooms of those that were withdrawn.
+-- The numbers of the offers of a journal, and the rooms of those that were withdrawn. Each is a count over entries, so one entry more adds what
+-- that entry counts; the offers that stand under a number are those made less those ended, which tells that no room of one was given back.
 use Rattle.std.proofs.Common.{◌≡◌, ℕ, suc, ◌+◌, ◌≤◌, List, [], ◌∷◌, ◌++◌, length, Some, Bool, true, false, refl, sym, ap, ◌∙◌, subst, arith}
 use Rattle.std.specs.Prelude.{◌<◌, find, nat_eq, nat_lt, not, ◌&&◌, ◌||◌, if◌then◌else◌}
 use Rattle.std.specs.List.{list_any}

@@ -1,3 +1,4 @@
 pub mod inner
+pub mod Offering
 pub mod Replayed
 pub mod Standing

@@ -7,7 +7,7 @@ use Rattle.core_state.specs.Moves.{Move, On, Over}
 use Rattle.code_meaning.specs.Machine.{Flat, FlatEnd}
 use Rattle.core_machine.specs.Machine.{Machine, IsFirst, IsOnItsWay}
 use Rattle.core_machine.specs.Tracks.{offers_of}
-use Rattle.own_offers.specs.Offering.{Offers, AreOffersOf}
+use Rattle.core_replay.specs.Offering.{Offers, AreOffersOf}
 use Rattle.replay_laws.specs.Given.{last_turn}
 
 -- each offer has the number of those before it on its link, and a room was given back only of an offer that was withdrawn

@@ -5,13 +5,13 @@ ghost use Rattle.ac_base.specs.declared.entry.Event.{Event};
 ghost use Rattle.core_state.specs.Arrivals.{offers_on};
 ghost use Rattle.core_machine.specs.Machine.{IsOnItsWay};
 ghost use Rattle.core_machine.specs.Points.{IsOfTurn, is_at_point};
-ghost use Rattle.own_offers.specs.Offering.{AreOffersOf};
+ghost use Rattle.core_replay.specs.Offering.{AreOffersOf};
 ghost use Rattle.core_replay.specs.Standing.{IsPlayed};
 ghost use Rattle.core_replay.specs.inner.Replaying.{Awaits, ComesIn, IsSameOne, Takes};
 
+use crate::own_offers::OwnOffers;
 use ac_base::{Answer, Entry, Event, Message, NoMemory, Payload};
 use core_machine::CoreMachine;
-use own_offers::OwnOffers;
 
 // Whether this is the number of the next offer on a link.
 fn is_next(machine: &CoreMachine<'_>, offers: &OwnOffers, link: u32, number: u64) -> bool

@@ -3,6 +3,7 @@
 
 mod arrivals;
 mod outcomes;
+mod own_offers;
 mod prospects;
 mod replay;
 mod search;

@@ -8,9 +8,9 @@ ghost use Rattle.core_machine.specs.Tried.{tried_of};
 ghost use Rattle.core_replay.specs.Standing.{IsPlayed};
 ghost use Rattle.core_replay.specs.inner.Replaying.{Awaits, IsSameOne, Takes};
 
+use crate::own_offers::OwnOffers;
 use ac_base::{Entry, Event, NoMemory};
 use core_machine::{CoreMachine, Tried};
-use own_offers::OwnOffers;
 
 // Whether it withdraws that offer.
 fn withdraws(event: &Event, tried: Tried) -> bool

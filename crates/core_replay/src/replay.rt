@@ -1,9 +1,9 @@
 //! A core that takes the entries of a journal, one after the other.
 
+use crate::own_offers::OwnOffers;
 use crate::search::{run_on, take_next};
 use ac_base::{CoreEnd, Entry, NoMemory};
 use core_machine::CoreMachine;
-use own_offers::OwnOffers;
 use stack_code::Code;
 use std::alloc::Global;
 use std::marker::Model;

@@ -7,10 +7,10 @@ ghost use Rattle.core_replay.specs.inner.Replaying.{IsSameOne, Takes, has_rested
 
 use crate::arrivals::arrive;
 use crate::outcomes::decide;
+use crate::own_offers::OwnOffers;
 use crate::prospects::{Prospect, prospect_of};
 use ac_base::{Entry, NoMemory};
 use core_machine::CoreMachine;
-use own_offers::OwnOffers;
 
 /// A core goes on to where the entry comes in, and no further. It says whether it has come in: it has
 /// where a run goes on with it.

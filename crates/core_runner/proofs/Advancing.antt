@@ -13,14 +13,14 @@ use Rattle.ac_links.specs.Journals.{last_of}
 use Rattle.ac_links.specs.Noted.{offer_payload}
 use Rattle.ac_links.specs.Party.{PartyAgrees}
 use Rattle.core_channels.specs.LinkViews.{LinkViews, IsLink, no_link, link_at, SameButSpares}
-use Rattle.in_turn.specs.Parties.{nobody}
+use Rattle.round_robin.specs.Parties.{nobody}
 use Rattle.core_ports.specs.declared.side.Side.TheVariants.{Owner}
 use Rattle.core_ports.specs.Sides.{side_of}
 use Rattle.core_driver.specs.Sides.{ArePortsOf}
-use Rattle.list_ports.specs.declared.ports.ListPorts.{ListPorts}
-use Rattle.list_ports.specs.Hands.{hand_at}
-use Rattle.list_ports.specs.Wired.{Wired, AreWired}
-use Rattle.list_ports.specs.Lent.{wired_of, links_of, channels_of, core_of, terms_of, ends_of, hands_of, heard_of, KeepsPayloads, OthersStay, Stays}
+use Rattle.link_ports.specs.declared.ports.ListPorts.{ListPorts}
+use Rattle.link_ports.specs.Hands.{hand_at}
+use Rattle.link_ports.specs.Wired.{Wired, AreWired}
+use Rattle.link_ports.specs.Lent.{wired_of, links_of, channels_of, core_of, terms_of, ends_of, hands_of, heard_of, KeepsPayloads, OthersStay, Stays}
 use Rattle.file_ops.specs.Agreement.{worker_ends}
 use Rattle.core_runner.specs.Network.{terms_in, ends_in, heard_in, AreLinksOf}
 use Rattle.core_runner.specs.Cores.{CoreView, HasNoStamp, IsDone}

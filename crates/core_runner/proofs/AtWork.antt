@@ -10,7 +10,7 @@ use Rattle.stack_code.specs.declared.parts.ChannelEnds.{ChannelEnds}
 use Rattle.ac_links.specs.Journals.{last_of}
 use Rattle.ac_links.specs.Party.{PartyAgrees}
 use Rattle.core_channels.specs.LinkViews.{LinkViews, IsLink, link_at, SameTerms}
-use Rattle.in_turn.specs.Parties.{nobody}
+use Rattle.round_robin.specs.Parties.{nobody}
 use Rattle.file_ops.specs.declared.worker.Round.{Round}
 use Rattle.file_ops.specs.Agreement.{WorkerAgrees, OnlyDecides, terms_in, worker_ends}
 use Rattle.file_ops.specs.Rounds.{Seen, Stays, Went, WentInPart, round_of}
@@ -18,9 +18,10 @@ use Rattle.file_ops.specs.Resting.{AllDecided}
 use Rattle.file_ops.proofs.Leaving.{went_only}
 use Rattle.file_ops.proofs.Resting.{went_rests}
 use Rattle.file_ops.proofs.Turning.{went_agrees, stays_agree}
-use Rattle.list_ports.specs.Wired.{Wired, AreWired}
-use Rattle.list_ports.proofs.Rounds.{worker_agrees}
-use Rattle.core_runner.specs.Network.{peer_at, peer_of, offers_in, decisions_in}
+use Rattle.link_ports.specs.Wired.{Wired, AreWired}
+use Rattle.link_ports.proofs.Rounds.{worker_agrees}
+use Rattle.program_run.specs.Parties.{peer_at, peer_of}
+use Rattle.core_runner.specs.Network.{offers_in, decisions_in}
 use Rattle.core_runner.specs.Workers.{WorkerAgreesWith, WorkerIsDone}
 use Rattle.core_runner.specs.inner.Boards.{Board, seen_on}
 use Rattle.core_runner.specs.inner.Changes.{BoardChanged}

@@ -21,9 +21,10 @@ use Rattle.core_ports.specs.Ends.{IsOfferUpTo, IsDecisionUpTo, IsUpTo}
 use Rattle.core_ports.proofs.UpTo.{up_to_all}
 use Rattle.core_ports.specs.declared.side.Side.{Side}
 use Rattle.core_ports.specs.declared.side.Side.TheVariants.{Owner, Peer, Neither}
-use Rattle.list_ports.specs.Hands.{greatest, last_stamp_of, heard_at}
+use Rattle.link_ports.specs.Hands.{greatest, last_stamp_of, heard_at}
 use Rattle.core_ports.specs.Sides.{side_of}
-use Rattle.core_runner.specs.Network.{owner_of, peer_of, offers_in, decisions_in}
+use Rattle.program_run.specs.Parties.{owner_of, peer_of}
+use Rattle.core_runner.specs.Network.{offers_in, decisions_in}
 use Rattle.core_runner.specs.Cores.{CoreView, AreCoresOf, HasFullClock, journals_of}
 use Rattle.core_runner.proofs.Parties.{party_ends, owner_has, peer_has}
 use Rattle.core_runner.specs.Workers.{WorkerAgreesWith, WorkerHasNoStamp}

@@ -34,11 +34,12 @@ use Rattle.ac_history.specs.Quiet.{waits_on}
 use Rattle.core_ports.specs.Ends.{has_room, awaits_reply}
 use Rattle.core_ports.specs.declared.side.Side.{Side}
 use Rattle.core_ports.specs.declared.side.Side.TheVariants.{Owner, Peer, Neither}
-use Rattle.list_ports.specs.Hands.{hand_at, heard_at}
+use Rattle.link_ports.specs.Hands.{hand_at, heard_at}
 use Rattle.core_ports.specs.Sides.{side_of}
 use Rattle.file_ops.specs.Agreement.{is_own, worker_ends}
 use Rattle.core_runner.specs.Workers.{WorkerAgreesWith, WorkerRests, WorkerHasNoStamp, WorkerIsDone}
-use Rattle.core_runner.specs.Network.{owner_at, owner_of, peer_at, peer_of, terms_in, offers_in, decisions_in, request_in, ends_in, heard_in, AreLinksOf}
+use Rattle.program_run.specs.Parties.{owner_at, owner_of, peer_at, peer_of}
+use Rattle.core_runner.specs.Network.{terms_in, offers_in, decisions_in, request_in, ends_in, heard_in, AreLinksOf}
 use Rattle.core_runner.specs.Cores.{CoreView, EndsAs, AgreesWith, IsAtRest, HasNoStamp, HasFullClock, IsDone, IsCoreOf, AreCoresOf, journals_of, ends_of}
 use Rattle.core_runner.specs.GoingOn.{IsLater, LeavesNothing, HasStopped}
 

@@ -7,9 +7,9 @@ use Rattle.stack_code.specs.declared.instr.Instr.{Instr}
 use Rattle.stack_code.specs.declared.instr.Instr.TheVariants as i
 use Rattle.ac_outside.specs.Disks.{Held, DiskTold}
 use Rattle.ac_semantics.proofs.OperationExamples.{two_cores}
-use Rattle.core_runner.specs.DiskLeft.{deeds_of, LeavesFiles, LeavesDisk}
-use Rattle.core_runner.specs.Naming.{names_below, IsNamed, AreNamed, NamesFilesBelow, RunsNameFiles}
-use Rattle.core_runner.specs.Run.{IsRunOf}
+use Rattle.program_run.specs.DiskLeft.{deeds_of, LeavesFiles, LeavesDisk}
+use Rattle.program_run.specs.Naming.{names_below, IsNamed, AreNamed, NamesFilesBelow, RunsNameFiles}
+use Rattle.program_run.specs.Run.{IsRunOf}
 use Rattle.ac_commands.specs.declared.program.Resolved.{Resolved}
 use Rattle.ac_translation.specs.Translation.{code_of}
 use Rattle.core_runner.proofs.CoreExamples.{crossing}
@@ -19,7 +19,7 @@ abbrev empty : Held
 empty = record { files = []; found = λ path. None; calls = 0 }
 
 abbrev told : Held → DiskTold
-told held = record { held = Some held; bound = 0; is_ready = true; faults = 0 }
+told held = record { held = Some held; bound = 0; is_ready = true; binds = None; faults = 0; earlier = 0 }
 
 pub nothing_was_done : deeds_of two_cores their_run.journals ≡ []
 nothing_was_done = refl

@@ -25,14 +25,14 @@ use Rattle.file_ops.specs.Agreement.{TellsRequests, DiskServes, files_of, terms_
 use Rattle.file_ops.specs.Asked.{texts}
 use Rattle.file_ops.specs.Counting.{AreCounted}
 use Rattle.file_ops.proofs.Counting.{counted_none}
-use Rattle.core_runner.specs.declared.ended.Ended.{Ended}
+use Rattle.program_run.specs.declared.ended.Ended.{Ended}
 use Rattle.core_runner.specs.declared.seat.Seat.{Seat}
 use Rattle.core_runner.specs.declared.seat.Seat.TheVariants.{AtCore, AtWorker}
 use Rattle.core_runner.specs.Network.{request_in}
 use Rattle.core_runner.specs.Cores.{CoreView, journals_of}
 use Rattle.core_runner.specs.Laws.{IsRunOfCores}
-use Rattle.core_runner.specs.Run.{IsRunOf, history_of}
-use Rattle.core_runner.specs.DiskLeft.{deeds_of, LeavesFiles, LeavesDisk}
+use Rattle.program_run.specs.Run.{IsRunOf, history_of}
+use Rattle.program_run.specs.DiskLeft.{deeds_of, LeavesFiles, LeavesDisk}
 use Rattle.core_runner.specs.inner.Boards.{Board, seen_on}
 use Rattle.core_runner.specs.inner.Changes.{BoardChanged}
 use Rattle.core_runner.specs.inner.Seats.{IsAtWork, number_of, Sits, RestsAt, cores_at}

@@ -15,7 +15,7 @@ use Rattle.core_channels.specs.LinkViews.{LinkViews, link_at}
 use Rattle.file_ops.specs.Agreement.{TellsRequests, terms_in, worker_ends}
 use Rattle.file_ops.specs.Counting.{AreCounted}
 use Rattle.file_ops.specs.Rounds.{Seen}
-use Rattle.list_ports.specs.Lent.{KeepsPayloads}
+use Rattle.link_ports.specs.Lent.{KeepsPayloads}
 use Rattle.core_runner.specs.inner.Working.{GoesOn}
 
 -- who knows what stands on the later links knows what stood on the earlier ones
@@ -39,6 +39,7 @@ module _ (first cores : ℕ) (s t : Seen) (entries : t.entries ≡ s.entries) (t
     tells = λ got h. tells_before got s.links t.links keeps h;
     bound = ap (λ (d : DiskTold). d.bound) told;
     is_ready = ap (λ (d : DiskTold). d.is_ready) told;
+    binds = ap (λ (d : DiskTold). d.binds) told;
     counted = λ got h since same c.
         subst (λ d. AreCounted since d (deeds_by got (of_party cores t.entries))) (sym told)
         (subst (λ es. AreCounted since s.told (deeds_by got (of_party cores es))) (sym entries) c);

@@ -7,12 +7,7 @@ pub mod DiskExamples
 pub mod DrivenExamples
 pub mod HaveRun
 pub mod Idling
-pub mod NamedDeeds
-pub mod NamedRuns
-pub mod Naming
 pub mod Ordered
-pub mod Outcomes
-pub mod OutcomesExamples
 pub mod Parties
 pub mod Rested
 pub mod Rising

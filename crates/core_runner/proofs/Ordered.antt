@@ -14,7 +14,7 @@ use Rattle.stack_code.specs.Parts.{Parts}
 use Rattle.core_channels.specs.LinkViews.{LinkViews}
 use Rattle.core_runner.specs.Cores.{CoreView, AreCoresOf, journals_of}
 use Rattle.core_runner.specs.Workers.{WorkerAgreesWith}
-use Rattle.core_runner.specs.Run.{AreInOrder}
+use Rattle.program_run.specs.Run.{AreInOrder}
 
 abbrev its_stamp : Entry → ℕ
 its_stamp e = e.stamp

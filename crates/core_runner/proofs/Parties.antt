@@ -18,8 +18,9 @@ use Rattle.core_ports.specs.declared.side.Side.{Side}
 use Rattle.core_ports.specs.declared.side.Side.TheVariants.{Owner, Peer, Neither}
 use Rattle.core_ports.specs.Sides.{side_at, side_of}
 use Rattle.file_ops.specs.Agreement.{is_own, worker_ends}
-use Rattle.list_ports.specs.Ends.{end_of}
-use Rattle.core_runner.specs.Network.{owner_at, owner_of, peer_at, peer_of, offers_in, decisions_in, ends_in, AreLinksOf}
+use Rattle.link_ports.specs.Ends.{end_of}
+use Rattle.program_run.specs.Parties.{owner_at, owner_of, peer_at, peer_of}
+use Rattle.core_runner.specs.Network.{offers_in, decisions_in, ends_in, AreLinksOf}
 
 -- ---- the side of a core is that of the party
 

@@ -12,7 +12,8 @@ use Rattle.ac_history.specs.History.{start}
 use Rattle.ac_history.specs.Quiet.{after_all_of, CoreRests, IsQuiet}
 use Rattle.ac_history.proofs.Quietness.{parties_at_rest}
 use Rattle.core_channels.specs.LinkViews.{LinkViews}
-use Rattle.core_runner.specs.Network.{owner_of, peer_at, peer_of, offers_in, decisions_in}
+use Rattle.program_run.specs.Parties.{owner_of, peer_at, peer_of}
+use Rattle.core_runner.specs.Network.{offers_in, decisions_in}
 use Rattle.core_runner.specs.Cores.{CoreView, IsAtRest, AreCoresOf, journals_of, ends_of}
 use Rattle.core_runner.specs.Workers.{WorkerAgreesWith, WorkerRests}
 use Rattle.core_runner.proofs.Parties.{request_or_channel}

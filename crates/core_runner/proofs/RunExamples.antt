@@ -20,10 +20,10 @@ use Rattle.ac_links.specs.AtRest.{has_front}
 use Rattle.ac_history.specs.Files.{deeds}
 use Rattle.ac_history.specs.History.{IsLegal, link_at, start}
 use Rattle.ac_history.specs.Quiet.{after_all_of, CoreIsQuiet, IsQuiet}
-use Rattle.core_runner.specs.declared.ended.Ended.{Ended}
-use Rattle.core_runner.specs.Network.{owner_of, peer_of}
+use Rattle.program_run.specs.declared.ended.Ended.{Ended}
+use Rattle.program_run.specs.Parties.{owner_of, peer_of}
 use Rattle.core_runner.specs.Cores.{CoreView, IsAtRest, IsDone, HasFullClock}
-use Rattle.core_runner.specs.Run.{IsCoreRun, AreCoreRuns, AreInOrder, IsRunOf, EndsQuiet, history_of, nothing_yet}
+use Rattle.program_run.specs.Run.{IsCoreRun, AreCoreRuns, AreInOrder, IsRunOf, EndsQuiet, history_of, nothing_yet}
 use Rattle.core_runner.specs.Laws.{CoresAreLegal, NoClockIsFull, CoresAreQuiet, CoresAreServed, IsRunOfCores, CoresMakeARun}
 use Rattle.core_runner.specs.Workers.{WorkerHasNoStamp}
 use Rattle.core_runner.proofs.CoreExamples.{crossing, links_with, crossed, entry, sender, receiver, stop, both_cores, it_agrees_too}

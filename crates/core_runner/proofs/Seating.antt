@@ -16,14 +16,15 @@ use Rattle.ac_links.specs.Views.{PeerDecision}
 use Rattle.ac_links.specs.Noted.{offer_payload}
 use Rattle.ac_links.specs.Party.LinkEnd.{Owns, Decides, Absent}
 use Rattle.core_channels.specs.LinkViews.{LinkViews, IsLink, no_link, link_at, SameTerms, SameButSpares}
-use Rattle.in_turn.specs.Parties.{nobody}
+use Rattle.round_robin.specs.Parties.{nobody}
 use Rattle.core_ports.specs.declared.side.Side.{Side}
 use Rattle.core_ports.specs.declared.side.Side.TheVariants.{Owner, Peer, Neither}
 use Rattle.core_ports.specs.Sides.{side_of}
-use Rattle.list_ports.specs.Ends.{end_at, end_of}
+use Rattle.link_ports.specs.Ends.{end_at, end_of}
 use Rattle.file_ops.specs.Agreement.{is_own}
-use Rattle.list_ports.specs.Lent.{KeepsPayloads, SideStays, OthersStay}
-use Rattle.core_runner.specs.Network.{owner_of, peer_at, peer_of, offers_in, decisions_in, ends_in, AreLinksOf}
+use Rattle.link_ports.specs.Lent.{KeepsPayloads, SideStays, OthersStay}
+use Rattle.program_run.specs.Parties.{owner_of, peer_at, peer_of}
+use Rattle.core_runner.specs.Network.{offers_in, decisions_in, ends_in, AreLinksOf}
 use Rattle.core_runner.specs.inner.Changes.{Changed}
 use Rattle.core_runner.proofs.Parties.{owner_is, peer_is, carries_messages, peer_of_channel}
 

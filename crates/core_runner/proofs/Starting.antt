@@ -23,8 +23,8 @@ use Rattle.core_ports.specs.Sides.{side_of}
 use Rattle.core_driver.specs.Driven.{Driven}
 use Rattle.core_machine.specs.Machine.{Machine}
 use Rattle.file_ops.specs.Agreement.{is_own}
-use Rattle.list_ports.specs.Ends.{end_of}
-use Rattle.list_ports.specs.Wired.{AreWired}
+use Rattle.link_ports.specs.Ends.{end_of}
+use Rattle.link_ports.specs.Wired.{AreWired}
 use Rattle.core_runner.specs.declared.seat.Seat.{Seat}
 use Rattle.core_runner.specs.declared.seat.Seat.TheVariants.{AtCore, AtWorker}
 use Rattle.core_runner.specs.Network.{terms_in, offers_in, decisions_in, ends_in, AreLinksOf}

@@ -19,11 +19,12 @@ use Rattle.core_channels.proofs.Keeping.{no_messages}
 use Rattle.core_ports.specs.AtHand.{AtHand}
 use Rattle.core_ports.specs.Ends.{has_room, is_known, awaits_reply}
 use Rattle.core_ports.specs.declared.side.Side.TheVariants.{Owner}
-use Rattle.list_ports.specs.Hands.{next_reply, has_reply, hand_at}
-use Rattle.list_ports.proofs.Wiring.{carries_requests}
+use Rattle.link_ports.specs.Hands.{next_reply, has_reply, hand_at}
+use Rattle.link_ports.proofs.Wiring.{carries_requests}
 use Rattle.core_ports.specs.Sides.{side_of}
-use Rattle.list_ports.specs.Ends.{end_of}
-use Rattle.core_runner.specs.Network.{owner_of, peer_of, terms_in, offers_in, decisions_in, ends_in, AreLinksOf}
+use Rattle.link_ports.specs.Ends.{end_of}
+use Rattle.program_run.specs.Parties.{owner_of, peer_of}
+use Rattle.core_runner.specs.Network.{terms_in, offers_in, decisions_in, ends_in, AreLinksOf}
 use Rattle.core_runner.specs.Cores.{CoreView, IsAtRest}
 use Rattle.core_runner.specs.GoingOn.{LeavesNothing, HasStopped}
 use Rattle.core_runner.proofs.Parties.{owner_side, peer_side}

@@ -29,7 +29,8 @@ use Rattle.ac_history.proofs.Runtime.{legal_network, deeds_network}
 use Rattle.ac_links.specs.Party.{party_noted}
 use Rattle.core_channels.specs.LinkViews.{LinkViews, no_link, IsLink}
 use Rattle.file_ops.specs.Agreement.{worker_ends}
-use Rattle.core_runner.specs.Network.{owner_of, peer_of, terms_in, offers_in, decisions_in, request_in, ends_in}
+use Rattle.program_run.specs.Parties.{owner_of, peer_of}
+use Rattle.core_runner.specs.Network.{terms_in, offers_in, decisions_in, request_in, ends_in}
 use Rattle.core_runner.specs.Cores.{CoreView, AreCoresOf, journals_of}
 use Rattle.core_runner.specs.Workers.{WorkerAgreesWith}
 use Rattle.core_runner.proofs.Parties.{party_ends, core_ends, owner_has, peer_has, other_has, none_has, worker_has, nobody_has, apart, owner_is_core, kind}

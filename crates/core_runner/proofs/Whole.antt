@@ -27,11 +27,11 @@ use Rattle.journal_bounds.specs.Laws.{AllReplay}
 use Rattle.journal_bounds.proofs.Sizes.{actions_few}
 use Rattle.journal_bounds.proofs.Stamps.{stamps_small}
 use Rattle.core_channels.specs.LinkViews.{LinkViews}
-use Rattle.core_runner.specs.declared.ended.Ended.{Ended}
-use Rattle.core_runner.specs.Network.{owner_of, peer_of}
+use Rattle.program_run.specs.declared.ended.Ended.{Ended}
+use Rattle.program_run.specs.Parties.{owner_of, peer_of}
 use Rattle.core_runner.specs.Cores.{CoreView, EndsAs, IsAtRest, IsDone, AreCoresOf, journals_of, ends_of}
 use Rattle.core_runner.specs.Workers.{WorkerAgreesWith, WorkerRests, WorkerIsDone}
-use Rattle.core_runner.specs.Run.{IsCoreRun, AreCoreRuns, IsRunOf}
+use Rattle.program_run.specs.Run.{IsCoreRun, AreCoreRuns, IsRunOf}
 use Rattle.core_runner.specs.Laws.{IsRunOfCores}
 use Rattle.core_runner.proofs.Together.{how_many, journal_at, legal}
 use Rattle.core_runner.proofs.Clocks.{none_full, worker_not_full}

@@ -31,8 +31,8 @@ use Rattle.file_ops.specs.Rounds.{Seen, own_link, last, Stays, TurnBy, Turn, Wen
 use Rattle.file_ops.proofs.Counting.{went_counts}
 use Rattle.file_ops.proofs.Leaving.{went_only, disk_goes_on}
 use Rattle.file_ops.proofs.Serving.{went_served}
-use Rattle.list_ports.specs.Hands.{last_stamp_of, heard_at}
-use Rattle.list_ports.proofs.Answering.{none_above, among}
+use Rattle.link_ports.specs.Hands.{last_stamp_of, heard_at}
+use Rattle.link_ports.proofs.Answering.{none_above, among}
 use Rattle.core_runner.specs.inner.Working.{GoesOn}
 use Rattle.core_runner.proofs.Idling.{idle_goes_on}
 
@@ -218,6 +218,7 @@ module _ (first cores : ℕ) (s t : Seen) where
       tells = tells;
       bound = on.bound;
       is_ready = on.is_ready;
+      binds = on.binds;
       counted = λ got k since same c.
           let w = went_counts cores first cores got n s t h agrees.links' (tells got k) x in
           subst (λ es. AreCounted since t.told (deeds_by got (of_party cores es))) (sym w.1)

@@ -10,7 +10,8 @@ use Rattle.ac_links.specs.Journals.{last_of}
 use Rattle.ac_links.specs.Party.{PartyAgrees}
 use Rattle.ac_history.specs.Quiet.{CoreRests}
 use Rattle.core_channels.specs.LinkViews.{LinkViews}
-use Rattle.core_runner.specs.Network.{owner_of, peer_of, terms_in, offers_in, decisions_in, ends_in, heard_in, AreLinksOf}
+use Rattle.program_run.specs.Parties.{owner_of, peer_of}
+use Rattle.core_runner.specs.Network.{terms_in, offers_in, decisions_in, ends_in, heard_in, AreLinksOf}
 
 -- a core of this code with this bound on its steps: its journal, and what is seen of it
 pub record CoreView : Type 0 where

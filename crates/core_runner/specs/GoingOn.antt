@@ -18,7 +18,7 @@ pub record IsLater (before after : CoreView) : Type 0 where
   pub entries : List Entry
   pub journal : after.journal ≡ before.journal ++ entries
 
--- nothing that is at hand is left for it
+-- as it stops nothing is at hand for it
 pub record LeavesNothing (c : CoreView) (terms : ℕ → Terms) (ends : ℕ → LinkEnd) (hands : ℕ → AtHand) : Type 0 where
   pub decision : (l : ℕ) → side_of c.code.ends c.core l ≡ Owner → (hands l).decision ≡ false
   pub front : (l : ℕ) → side_of c.code.ends c.core l ≡ Peer → waits_on l c.end.core ≡ true → (hands l).front ≡ false

@@ -15,9 +15,10 @@ use Rattle.ac_history.specs.Working.{WorkerDisk}
 use Rattle.ac_links.specs.Order.{of_party}
 use Rattle.core_channels.specs.LinkViews.{LinkViews}
 use Rattle.file_ops.specs.Agreement.{worker_ends}
-use Rattle.core_runner.specs.Network.{owner_of, peer_of, terms_in, request_in}
-use Rattle.core_runner.specs.declared.ended.Ended.{Ended}
-use Rattle.core_runner.specs.Run.{IsRunOf}
+use Rattle.program_run.specs.Parties.{owner_of, peer_of}
+use Rattle.core_runner.specs.Network.{terms_in, request_in}
+use Rattle.program_run.specs.declared.ended.Ended.{Ended}
+use Rattle.program_run.specs.Run.{IsRunOf}
 use Rattle.core_runner.specs.Cores.{CoreView, IsAtRest, HasFullClock, IsDone, AreCoresOf, journals_of, ends_of}
 use Rattle.core_runner.specs.Workers.{WorkerAgreesWith, WorkerRests, WorkerHasNoStamp, WorkerIsDone}
 

@@ -1,11 +1,7 @@
 pub mod Cores
-pub mod DiskLeft
 pub mod GoingOn
 pub mod Laws
-pub mod Naming
 pub mod Network
-pub mod Outcomes
-pub mod Run
 pub mod Seen
 pub mod Workers
 pub mod inner

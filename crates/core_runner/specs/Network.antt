@@ -1,5 +1,5 @@
--- The links of a run as its cores share them: the two parties of each, and what a core has of them.
-use Rattle.std.specs.Prelude.{◌≡◌, ℕ, ◌-◌, ◌<◌, List, length, Option, Some, None, slice_get}
+-- The links of a run as its cores share them, and what a core has of each.
+use Rattle.std.specs.Prelude.{◌≡◌, ℕ, ◌<◌, List, length, Option, slice_get}
 use Rattle.std.specs.List.{All}
 use Rattle.stack_code.specs.declared.parts.ChannelEnds.{ChannelEnds}
 use Rattle.stack_code.specs.Parts.{Parts}
@@ -11,27 +11,9 @@ use Rattle.ac_links.specs.Views.{OwnerOffer, PeerDecision}
 use Rattle.ac_links.specs.Noted.{request_of}
 use Rattle.ac_links.specs.Party.{LinkEnd}
 use Rattle.core_channels.specs.LinkViews.{LinkViews, IsLink, link_at, terms_at}
-use Rattle.list_ports.specs.Hands.{heard_at}
+use Rattle.link_ports.specs.Hands.{heard_at}
 use Rattle.core_ports.specs.Sides.{side_of}
-use Rattle.list_ports.specs.Ends.{end_of}
-
--- ---- the two parties of a link
-
-abbrev pub owner_at : ℕ → ℕ → Option ChannelEnds → ℕ
-owner_at channels l None = l - channels
-owner_at channels l (Some ends) = ends.from
-
--- the core that sends on link l: that of a channel, and after the channels each core in turn
-abbrev pub owner_of : List ChannelEnds → ℕ → ℕ
-owner_of channels l = owner_at (length channels) l (slice_get channels l)
-
-abbrev pub peer_at : ℕ → Option ChannelEnds → ℕ
-peer_at cores None = cores
-peer_at cores (Some ends) = ends.to
-
--- the core that receives on link l, or the worker, whose number is that of the cores
-abbrev pub peer_of : List ChannelEnds → ℕ → ℕ → ℕ
-peer_of channels cores l = peer_at cores (slice_get channels l)
+use Rattle.link_ports.specs.Ends.{end_of}
 
 -- ---- what is seen of the links
 

@@ -9,7 +9,7 @@ use Rattle.ac_links.specs.Party.{PartyAgrees}
 use Rattle.core_channels.specs.LinkViews.{LinkViews, link_at}
 use Rattle.core_ports.specs.declared.side.Side.TheVariants.{Peer}
 use Rattle.file_ops.specs.Agreement.{worker_ends}
-use Rattle.list_ports.specs.Hands.{heard_at}
+use Rattle.link_ports.specs.Hands.{heard_at}
 use Rattle.core_runner.specs.Network.{terms_in, offers_in, decisions_in}
 
 -- the worker is the party after the cores, and its journal has what was done at its end of each link of requests, in turn 0

@@ -7,17 +7,17 @@ ghost use Rattle.ac_links.specs.Party.{PartyAgrees};
 ghost use Rattle.core_channels.specs.LinkViews.{IsLink};
 ghost use Rattle.code_safety.specs.KeptEnds.{KeepsEnds};
 ghost use Rattle.core_driver.specs.Sides.{ArePortsOf};
-ghost use Rattle.list_ports.specs.Lent.{links_of, wired_of, channels_of, core_of, terms_of, ends_of, hands_of, heard_of, is_full, Stays};
-ghost use Rattle.list_ports.specs.Wired.{AreWired};
+ghost use Rattle.link_ports.specs.Lent.{links_of, wired_of, channels_of, core_of, terms_of, ends_of, hands_of, heard_of, is_full, Stays};
+ghost use Rattle.link_ports.specs.Wired.{AreWired};
 ghost use Rattle.core_runner.specs.Cores.{CoreView, HasNoStamp};
 ghost use Rattle.core_runner.specs.GoingOn.{IsLater, HasStopped};
 
 use ac_base::{Journal, MachineEnd, NoMemory};
-use list_ports::ListPorts;
+use link_ports::ListPorts;
 use std::alloc::Global;
 
 /// A core of a code, with a bound on its steps.
-pub trait Core {
+pub trait BoundedCore {
     /// What is seen of it.
     ghost seen: { Self → CoreView };
 

@@ -2,13 +2,13 @@
 
 ghost use Rattle.core_runner.specs.Seen.{view_of};
 
-use crate::cores::Core;
+use crate::cores::BoundedCore;
 use ac_base::{Journal, MachineEnd, NoMemory};
 use core_driver::Driver;
-use list_ports::ListPorts;
+use link_ports::ListPorts;
 use std::alloc::Global;
 
-impl<'a> Core for Driver<'a> {
+impl<'a> BoundedCore for Driver<'a> {
     ghost seen = { view_of };
 
     fn go_on(&mut self, ports: &mut ListPorts<'_>) -> Result<(), NoMemory> {

@@ -1,8 +1,6 @@
 //! The cores of a code and the worker on links that they share, and the one history that they make.
 
 ghost use Rattle.core_runner.specs.Laws.{CoresAreLegal, NoClockIsFull, CoresAreQuiet, CoresAreServed, CoresMakeARun};
-ghost use Rattle.core_runner.specs.Naming.{RunsNameFiles};
-ghost use Rattle.core_runner.specs.Outcomes.{TriedIsDoneOrNeverHappens};
 
 /// Cores and a worker that agree with their links make a legal history.
 pub fn cores_are_legal()
@@ -28,15 +26,4 @@ pub fn cores_are_served()
 /// Where each of them is done, they have made a run of every program whose code theirs is.
 pub fn cores_make_a_run()
     ensures { CoresMakeARun }
-{}
-
-/// In a run of a program, an operation that a cancel tries is taken, or it never happens: where it
-/// never happens nothing of it is taken in the whole run, and where it is taken that is once.
-pub fn tried_is_done_or_never_happens()
-    ensures { TriedIsDoneOrNeverHappens }
-{}
-
-/// In a run of a program each request that is done is of a file that its code names.
-pub fn runs_name_files()
-    ensures { RunsNameFiles }
 {}

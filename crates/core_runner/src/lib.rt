@@ -3,7 +3,6 @@
 
 mod cores;
 mod driven;
-mod ended;
 mod law;
 mod network;
 mod running;
@@ -11,10 +10,8 @@ mod seat;
 mod turns;
 mod working;
 
-pub use cores::Core;
-pub use ended::Ended;
+pub use cores::BoundedCore;
 pub use law::{
     cores_are_legal, cores_are_quiet, cores_are_served, cores_make_a_run, no_clock_is_full,
-    runs_name_files, tried_is_done_or_never_happens,
 };
 pub use running::run;

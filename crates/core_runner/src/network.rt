@@ -1,7 +1,7 @@
 //! What the parties of a run share.
 
 use file_ops::ListWorker;
-use list_ports::Wires;
+use link_ports::Wires;
 use stack_code::Code;
 use std::alloc::Global;
 

@@ -3,24 +3,23 @@
 ghost use Rattle.std.specs.Prelude.{◌≡◌, ◌*◌, ◌≤◌, [], ◌∷◌, ◌++◌, suc, length, map, IfOk, IfSome, IsTrue, OnOk};
 ghost use Rattle.std.specs.List.{AllByRecursion, range_with_len};
 ghost use Rattle.ac_history.specs.Merged.{entries_of};
-ghost use Rattle.in_turn.specs.Parties.{is_one_of};
+ghost use Rattle.round_robin.specs.Parties.{is_one_of};
 ghost use Rattle.ac_commands.specs.declared.program.Resolved.{Resolved};
 ghost use Rattle.stack_code.specs.Valid.{IsValid};
 ghost use Rattle.code_safety.specs.KeptEnds.{KeepsEnds};
 ghost use Rattle.ac_translation.specs.Translation.{code_of};
 ghost use Rattle.ac_translation.specs.Same.{IsSame};
 ghost use Rattle.file_ops.specs.Asked.{texts};
-ghost use Rattle.core_runner.specs.DiskLeft.{LeavesDisk};
+ghost use Rattle.program_run.specs.DiskLeft.{LeavesDisk};
 ghost use Rattle.core_runner.specs.Laws.{IsRunOfCores};
-ghost use Rattle.core_runner.specs.Run.{IsRunOf};
+ghost use Rattle.program_run.specs.Run.{IsRunOf};
 ghost use Rattle.core_runner.specs.Seen.{view_of};
 ghost use Rattle.core_runner.specs.inner.Boards.{board_of};
 ghost use Rattle.core_runner.specs.inner.Changes.{BoardChanged};
 ghost use Rattle.core_runner.specs.inner.Seats.{number_of, Sits, RestsAt, cores_at};
 ghost use Rattle.core_runner.specs.inner.Starting.{AreNewSeats};
 
-use crate::cores::Core;
-use crate::ended::Ended;
+use crate::cores::BoundedCore;
 use crate::network::Network;
 use crate::seat::Seat;
 use ac_base::{Bytes, Journal, List, MachineEnd, NoMemory};
@@ -28,8 +27,9 @@ use ac_outside::Disk;
 use core_driver::Driver;
 use core_machine::CoreMachine;
 use file_ops::ListWorker;
-use in_turn::run_in_turn;
-use list_ports::Wires;
+use link_ports::Wires;
+use program_run::Ended;
+use round_robin::run_in_turn;
 use stack_code::Code;
 use std::alloc::Global;
 
@@ -54,7 +54,7 @@ fn seats_of<'a>(
 }
 
 // Lets the parties at their seats go on in turn until each is done.
-fn go_on_all<'a, C: Core, D: Disk>(
+fn go_on_all<'a, C: BoundedCore, D: Disk>(
     seats: &mut Vec<Seat<C>>,
     network: &mut Network<'a, D>,
 ) -> Result<(), NoMemory>
@@ -72,7 +72,7 @@ fn go_on_all<'a, C: Core, D: Disk>(
 }
 
 // Keeps the journal of a core, and how it has ended. The worker has its journal elsewhere.
-fn keep<C: Core + Drop>(
+fn keep<C: BoundedCore + Drop>(
     alloc: Global,
     seat: Seat<C>,
     journals: &mut List<Journal>,
@@ -93,7 +93,7 @@ fn keep<C: Core + Drop>(
 }
 
 // The journals of the cores and of the worker, and how the cores have ended.
-fn ended_of<C: Core + Drop>(
+fn ended_of<C: BoundedCore + Drop>(
     alloc: Global,
     steps: u64,
     files: List<Bytes>,
@@ -144,6 +144,7 @@ pub fn run<D: Disk>(
         → LeavesDisk program start ended.journals (D.told disk.old) (D.told disk.new)) }
     ensures bound { (D.told disk.new).bound ≡ (D.told disk.old).bound }
     ensures ready { (D.told disk.new).is_ready ≡ (D.told disk.old).is_ready }
+    ensures binds { (D.told disk.new).binds ≡ (D.told disk.old).binds }
 {
     // What holds of a code at any time is asked for, for the proof.
     let _instrs = code.instrs();

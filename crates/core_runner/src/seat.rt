@@ -1,12 +1,12 @@
 //! The parties of a run at their places, which go on in turn.
 
-use crate::cores::Core;
+use crate::cores::BoundedCore;
 use crate::network::Network;
 use crate::turns::take_turn;
 use crate::working::work;
 use ac_base::NoMemory;
 use ac_outside::Disk;
-use in_turn::Party;
+use round_robin::Party;
 
 /// A core with its number; or the worker, whose number is that of the cores, with the stamp of its last
 /// entry.
@@ -16,7 +16,7 @@ pub enum Seat<C> {
     AtWorker(u64, u32),
 }
 
-impl<'a, C: Core, D: Disk> Party<Network<'a, D>> for Seat<C> {
+impl<'a, C: BoundedCore, D: Disk> Party<Network<'a, D>> for Seat<C> {
     ghost use Rattle.core_runner.specs.inner.Boards.{board_of};
     ghost use Rattle.core_runner.specs.inner.Changes.{BoardChanged};
     ghost use Rattle.core_runner.specs.inner.Keeping.{board_unchanged, board_in_a_row, board_with_more, sits_still, rests_still};

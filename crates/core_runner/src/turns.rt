@@ -2,21 +2,21 @@
 
 ghost use Rattle.std.specs.Prelude.{◌≡◌, ◌<◌, ◌≤◌, ◌^◌, false, IfOk, nat_eq, nat_lt};
 ghost use Rattle.ac_links.specs.Journals.{last_of};
-ghost use Rattle.in_turn.specs.Parties.{nobody};
+ghost use Rattle.round_robin.specs.Parties.{nobody};
 ghost use Rattle.core_runner.specs.Cores.{IsDone};
 ghost use Rattle.core_runner.specs.inner.Boards.{board_of};
 ghost use Rattle.core_runner.specs.inner.Changes.{BoardChanged};
 ghost use Rattle.core_runner.specs.inner.Seats.{IsSeated};
 
-use crate::cores::Core;
+use crate::cores::BoundedCore;
 use crate::network::Network;
 use ac_base::NoMemory;
 use ac_outside::Disk;
-use list_ports::ListPorts;
+use link_ports::ListPorts;
 
 /// Lets the core of this number go on until it has ended, or waits and nothing on its links is for it,
 /// or no stamp is left to it, and says whether it made an entry.
-pub fn take_turn<'a, C: Core, D: Disk>(
+pub fn take_turn<'a, C: BoundedCore, D: Disk>(
     core: &mut C,
     number: u32,
     network: &mut Network<'a, D>,

@@ -2,7 +2,7 @@
 
 ghost use Rattle.std.specs.Prelude.{◌≡◌, ◌<◌, ◌≤◌, ◌^◌, false, true, IfOk, nat_eq, nat_lt};
 ghost use Rattle.ac_links.specs.Journals.{last_of};
-ghost use Rattle.in_turn.specs.Parties.{nobody};
+ghost use Rattle.round_robin.specs.Parties.{nobody};
 ghost use Rattle.core_runner.specs.Workers.{WorkerIsDone};
 ghost use Rattle.core_runner.specs.inner.Boards.{board_of};
 ghost use Rattle.core_runner.specs.inner.Changes.{BoardChanged};

@@ -1,4 +1,5 @@
--- What the definitions of Schedule say of a core with few threads.
+-- What the definitions of Schedule say of a core with few threads: who runs, who is ready, and for how many more there is room.
+-- All of them hold by computing; the calls of the scheduler need no lemma of their own.
 use Rattle.std.proofs.Common.{◌≡◌, refl, ℕ, List, [], ◌∷◌, Option, None, Some}
 use Rattle.work_item.specs.declared.ids.Item.{Item}
 use Rattle.core_scheduler.specs.Schedule.{Schedule, at_back, at_front, suspended, yielded, yielded_to, dispatched, yielded_by, left_by, dispatched_from, front}

@@ -1,4 +1,6 @@
 -- What the definitions of Arrivals say of a core that sends on channel 0, receives from channel 1, and has its requests on link 2.
+-- For each event an entry that comes in and what it leaves, and entries that do not: of another number, value or link, or with nothing that
+-- waits.
 use Rattle.std.proofs.Common.{◌≡◌, refl, ℕ, ℤ, pos, negsuc, List, [], ◌∷◌, length, None, Some}
 use Rattle.std.specs.Prelude.{Option, true, false}
 use Rattle.ac_base.specs.declared.ends.CoreEnd.{CoreEnd}

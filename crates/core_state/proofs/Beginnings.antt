@@ -1,4 +1,6 @@
 -- Two machines of which the one follows the other, each from what it begins with: a state, or an end at once.
+-- Where both begin with related states the theorem of Simulation says it; where both are over at once, their ends are the same by what is
+-- given.
 use Rattle.std.proofs.Common.{◌≡◌, refl, sym, ap, ◌∙◌, ◌↔◌}
 use Rattle.core_state.specs.Moves.{Move, On, Over, ComesTo}
 use Rattle.core_state.proofs.Simulation.{Follows, same_ends}

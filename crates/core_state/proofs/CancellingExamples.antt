@@ -1,4 +1,5 @@
 -- What the definitions of Cancelling say of a core that sends on channel 0, receives from channel 1, and has its requests on link 2.
+-- The outcomes of an offer, and a cancel under a journal: which operation it tries, which entry decides, and how it stops without one.
 use Rattle.std.proofs.Common.{◌≡◌, refl, pos, negsuc, List, [], ◌∷◌, None, Some}
 use Rattle.std.specs.Prelude.{Bool, Option, true, false, not, nat_eq}
 use Rattle.ac_base.specs.declared.ends.EndWord.TheVariants.{Stalled}
@@ -12,7 +13,7 @@ use Rattle.cancel_scope.specs.Outstanding.{offered_as, as_begun}
 use Rattle.core_state.specs.Moves.{Move, On, Over}
 use Rattle.core_state.specs.Shared.{Shared, with_entry}
 use Rattle.core_state.specs.Arrivals.{Arrival, has_ended_as, goes_on_waiting}
-use Rattle.core_state.specs.Cancelling.{Outcome, NeverHappens, IsTaken, by_outcome, outcome, goes_by, decided, tried, tries, is_to_try, cancels}
+use Rattle.core_state.specs.Cancelling.{Fate, NeverHappens, IsTaken, by_outcome, outcome, goes_by, decided, tried, tries, is_to_try, cancels}
 use Rattle.core_state.proofs.ArrivalExamples.{store, five, six, hears, reads, writes, begun_reads, at_turn, shared}
 
 -- ---- the outcome of an offer
@@ -93,7 +94,7 @@ pub its_parts : (e : Entry) → (tried (λ seen. seen) (shared []) [] [] 0 Waiti
     × (tried (λ seen. seen) (shared []) [] [] 0 (Offered 3) (λ s it. On it) ≡ decided (λ seen. seen) (shared []) [] [] 0 3 (λ s it. On it) [])
     × (tried (λ seen. seen) (shared []) [] [] 0 (Started 3) (λ s it. On it) ≡ Over None)
     × (decided (λ seen. seen) (shared []) [] [] 0 3 (λ s it. On it) (at_turn 4 (Know 0 3) ∷ e ∷ []) ≡ On IsTaken)
-    × (goes_by {S = Outcome} {E = Option CoreEnd} (λ seen. seen) (λ it. On it) None ≡ Over None)
+    × (goes_by {S = Fate} {E = Option CoreEnd} (λ seen. seen) (λ it. On it) None ≡ Over None)
     × (tries (λ seen. seen) (shared []) store (five ∷ []) inside kept over (Some five) ≡ kept (shared []) (has_ended_as (negsuc 0) store [] five))
     × (by_outcome NeverHappens store inside (six ∷ five ∷ []) five ≡ has_ended_as (negsuc 0) store (six ∷ []) five)
     × (by_outcome IsTaken store inside (six ∷ offered_as 0 reads ∷ []) (offered_as 0 reads) ≡ goes_on_waiting store (six ∷ as_begun (offered_as 0 reads) ∷ []))

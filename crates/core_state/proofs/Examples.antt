@@ -1,4 +1,6 @@
 -- What the definitions of Shared, Arithmetic and Moves say of small values.
+-- Values compute. Of moves, a machine that counts down shows what it comes to, and by induction on the number of moves that it comes to
+-- nothing else.
 use Rattle.std.proofs.Common.{◌≡◌, refl, sym, ℕ, zero, suc, ◌≤◌, ℤ, pos, List, [], ◌∷◌, ◌++◌, ◌*◌, codes, length, arith, None, Some}
 use Rattle.std.specs.Prelude.{negsuc, Ok, Err, true, false, Result, Option}
 use Rattle.std.specs.Fmt.{decimal, signed_decimal}

@@ -1,4 +1,5 @@
 -- What the definitions of Requests say of an array of three ints in the globals.
+-- Ranges that are right and ranges that are not, one off at each bound; and what each kind of answer stores and gives.
 use Rattle.std.proofs.Common.{◌≡◌, refl, pos, negsuc, [], ◌∷◌, None}
 use Rattle.std.specs.Prelude.{true, false, Ok, Err}
 use Rattle.ac_base.specs.declared.ends.Trap.TheVariants.{FileRange}

@@ -1,4 +1,5 @@
 -- Runs that go on by one move more.
+-- By induction on the number of moves: `moves` takes the first move off, and here one comes behind the last.
 use Rattle.std.proofs.Common.{◌≡◌, ℕ, zero, suc, refl, sym, ap, ◌∙◌}
 use Rattle.core_state.specs.Moves.{Move, On, Over, and_then, moves, GoesOn}
 

@@ -1,4 +1,7 @@
 -- Two machines of which the one follows the other come to the same ends.
+-- `Follows`: for one move of the first, the second takes one move or more to a related state, or comes to the same end. By induction on the
+-- moves of the first. The way back needs that each move takes at least one of the second, so that a run of the second which ends bounds
+-- that of the first (`Kept`).
 use Rattle.std.proofs.Common.{◌≡◌, ℕ, zero, suc, ◌<◌, ◌≤◌, refl, sym, ap, ◌∙◌, subst, ⊎_elim, arith, ◌↔◌}
 use Rattle.std.proofs.lemmas.Bool.{cases_lt}
 use Rattle.core_state.specs.Moves.{Move, On, Over, and_then, moves, EndsAs}

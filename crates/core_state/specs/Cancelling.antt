@@ -17,30 +17,30 @@ use Rattle.core_state.specs.Arrivals.{Arrival, has_ended_as, is_taken, cancelled
 
 -- ---- the outcome of an operation that is tried
 
-pub data Outcome : Type 0 where
-  NeverHappens : Outcome
+pub data Fate : Type 0 where
+  NeverHappens : Fate
   -- its peer was first
-  IsTaken : Outcome
+  IsTaken : Fate
 
 -- what it makes of the first operation for which the test holds
-abbrev pub by_outcome : Outcome → Store → (Operation → Bool) → List Operation → Operation → Arrival
+abbrev pub by_outcome : Fate → Store → (Operation → Bool) → List Operation → Operation → Arrival
 by_outcome NeverHappens store test os o = has_ended_as cancelled store (without_first test os) o
 by_outcome IsTaken store test os o = is_taken store test os o
 
 -- of what stands under that number on that link: it is withdrawn, or its peer has taken it; none where the event decides nothing of it
-abbrev pub outcome : ℕ → ℕ → Event → Option Outcome
+abbrev pub outcome : ℕ → ℕ → Event → Option Fate
 outcome link number (event.Withdraw l n) = if nat_eq l link && nat_eq n number then Some NeverHappens else None
 outcome link number (event.Know l n) = if nat_eq l link && nat_eq n number then Some IsTaken else None
 outcome link number _ = None
 
 -- an entry that decides nothing of the offer leaves the core without an end
-abbrev pub goes_by : {S E : Type 0} → (Option CoreEnd → E) → (Outcome → Move S E) → Option Outcome → Move S E
+abbrev pub goes_by : {S E : Type 0} → (Option CoreEnd → E) → (Fate → Move S E) → Option Fate → Move S E
 goes_by tell go None = Over (tell None)
 goes_by tell go (Some it) = go it
 
 -- The next entry is the outcome, and it is of this turn. Where there is none the run stops, in the middle of the cancel, and the core is
 -- not idle.
-abbrev pub decided : {S E : Type 0} → (Option CoreEnd → E) → Shared → List ℤ → List Operation → ℕ → ℕ → (Shared → Outcome → Move S E)
+abbrev pub decided : {S E : Type 0} → (Option CoreEnd → E) → Shared → List ℤ → List Operation → ℕ → ℕ → (Shared → Fate → Move S E)
     → List Entry → Move S E
 decided tell s globals os link number go [] = Over (tell (seen word.Stalled false globals os s))
 decided tell s globals os link number go (e ∷ es) =
@@ -49,7 +49,7 @@ decided tell s globals os link number go (e ∷ es) =
 -- ---- an operation is tried
 
 -- one of which only its own core knows never happens; an offer is decided by an entry; what its peer has begun is not tried
-abbrev pub tried : {S E : Type 0} → (Option CoreEnd → E) → Shared → List ℤ → List Operation → ℕ → Progress → (Shared → Outcome → Move S E)
+abbrev pub tried : {S E : Type 0} → (Option CoreEnd → E) → Shared → List ℤ → List Operation → ℕ → Progress → (Shared → Fate → Move S E)
     → Move S E
 tried tell s globals os link progress.Waiting go = go s NeverHappens
 tried tell s globals os link (progress.Offered number) go = decided tell s globals os link number go s.todo

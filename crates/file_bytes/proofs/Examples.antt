@@ -1,4 +1,4 @@
--- Bytes that are written within a file, over its end and past it.
+-- Bytes that are written within a file, over its end and past it: what `overwritten` says of each, by computing.
 use Rattle.std.proofs.Common.{◌≡◌, [], ◌∷◌, refl}
 use Rattle.file_bytes.specs.Overwritten.{overwritten}
 

@@ -1,4 +1,5 @@
--- Bytes that are written into a file, to whose end zeros have gone where it was too short for them.
+-- Bytes that are written into a file, to whose end zeros have gone where it was too short for them (`put_back`, for `overwrite`).
+-- What stands before the place and what stands behind the bytes is that of the file or zeros, by whether the file reached so far: two cases each.
 use Rattle.std.proofs.Common.{◌≡◌, ◌≢◌, ℕ, ◌+◌, ◌-◌, ◌≤◌, ◌⊎◌, List, [], ◌∷◌, ◌++◌, refl, sym, ap, ◌∙◌, arith, length, take, drop, inl, inr, append-nil}
 use Rattle.std.specs.Prelude.{replicate}
 use Rattle.std.proofs.Math.Seq.{take-append-add}

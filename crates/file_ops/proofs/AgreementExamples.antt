@@ -1,4 +1,5 @@
--- What agrees of a worker for two cores and of its disk, before its first round and after it.
+-- What agrees of a worker for two cores and of its disk, before its first round and after it, beside journals, links and disks that do not
+-- agree.
 use Rattle.std.proofs.Common.{◌≡◌, ℕ, zero, suc, ◌+◌, ◌<◌, List, [], ◌∷◌, ◌++◌, Option, true, false, cond, refl, sym, ap, subst, arith}
 use Rattle.std.specs.List.{All, filter}
 use Rattle.std.proofs.lemmas.Bool.Decides.{nat_tests}

@@ -1,4 +1,5 @@
--- What is seen of the links, and what ends a worker holds, once one of its links is changed.
+-- What is seen of the links, and what ends a worker holds, once one of its links is changed: the changed place has the new link, and every
+-- other place what it had.
 use Rattle.std.proofs.Common.{◌≡◌, ℕ, ◌+◌, ◌<◌, List, true, false, cond, sym, ap, ◌∙◌, subst, inl, inr, arith, length}
 use Rattle.std.specs.Prelude.{◌≢◌, ◌==◌}
 use Rattle.std.proofs.Math.Path.{fun_ext}

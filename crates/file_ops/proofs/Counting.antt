@@ -1,4 +1,5 @@
--- The disk is called once for each request of a bound file that is done, and fails where FAULT is answered.
+-- The disk is called once for each request of a bound file that is done, and fails where FAULT is answered. One deed more is one call more
+-- or none; a round's deeds are those of its turns, one behind another.
 use Rattle.std.proofs.Common.{◌≡◌, ℕ, zero, suc, ◌+◌, ◌≤◌, List, [], ◌∷◌, ◌++◌, Option, Some, None, Bool, true, false, cond, refl, sym, ap, ◌∙◌, subst, arith, length, append_assoc}
 use Rattle.std.specs.Prelude.{IfSome, ◌&&◌, slice_get}
 use Rattle.std.specs.List.{filter}

@@ -1,4 +1,5 @@
--- What was asked and put where makes a request that is done.
+-- What was asked and put where makes a request that is done: the answer fits the request, and the decision, the reply and the entry have
+-- the same stamp.
 use Rattle.std.proofs.Common.{◌≡◌, ℕ, ◌+◌, ◌<◌, List, [], ◌∷◌, ◌++◌, Bool, true, false, refl, sym, ap, ◌∙◌, subst, arith, length}
 use Rattle.std.proofs.lemmas.Bool.Decides.{nat_tests}
 use Rattle.std.specs.Prelude.{Result, Ok, Err, OnErr}

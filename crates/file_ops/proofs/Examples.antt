@@ -1,4 +1,5 @@
--- What the definitions say of a worker for two cores, whose disk holds one file of three bytes.
+-- What the definitions say of a worker for two cores, whose disk holds one file of three bytes: its requests, its answers, one turn, one
+-- round and what they are counted as.
 use Rattle.std.proofs.Common.{◌≡◌, ℕ, zero, suc, ◌<◌, ◌≤◌, refl, [], ◌∷◌, Option, Some, None, true, false, ap, arith, length}
 use Rattle.std.specs.Prelude.{◌≢◌}
 use Rattle.ac_base.specs.declared.entry.Payload.TheVariants.{Read, Write}
@@ -75,7 +76,7 @@ abbrev pub three : Held
 three = record { files = record { name = 112 ∷ []; bytes = 1 ∷ 2 ∷ 3 ∷ [] } ∷ []; found = λ path. None; calls = 1 }
 
 abbrev pub told : DiskTold
-told = record { held = Some three; bound = 1; is_ready = true; faults = 0 }
+told = record { held = Some three; bound = 1; is_ready = true; binds = None; faults = 0; earlier = 0 }
 
 abbrev pub calls_of : Option Held → ℕ
 calls_of None = 0
@@ -104,7 +105,7 @@ pub one_byte_went_in : texts (held_after three (Write 0 0 (8 ∷ 9 ∷ [])) (Fau
 one_byte_went_in = refl
 
 pub it_is_read : Called told (record told { held = Some (record three { calls = 2 }) }) (Read 0 1 2) (Bytes (2 ∷ 3 ∷ []))
-it_is_read = record { fits = refl; none = record { bound = refl; is_ready = refl }; held = refl; silent = λ h. cc; serves' = refl; later = omega arith; cause = refl }
+it_is_read = record { fits = refl; none = record { bound = refl; is_ready = refl; binds = refl }; held = refl; silent = λ h. cc; serves' = refl; later = omega arith; cause = refl }
 
 pub of_a_bound_file_it_is_a_call : AskedBy true told (record told { held = Some (record three { calls = 2 }) }) (Read 0 1 2) (Bytes (2 ∷ 3 ∷ []))
 of_a_bound_file_it_is_a_call = it_is_read
@@ -178,7 +179,7 @@ core_0_is_served = (
   Bytes [],
   record {
     fits = refl;
-    asked = record { fits = refl; none = record { bound = refl; is_ready = refl }; held = refl; silent = λ h. cc; serves' = refl; later = omega arith; cause = refl };
+    asked = record { fits = refl; none = record { bound = refl; is_ready = refl; binds = refl }; held = refl; silent = λ h. cc; serves' = refl; later = omega arith; cause = refl };
     links = refl;
     rings = record { count = refl; here = refl; others = at };
     entries = refl;
@@ -243,7 +244,7 @@ only_the_worker_has_decided = record { count = refl; terms = terms; offers = off
     beyond (suc (suc l)) h = refl
 
 pub the_disk_goes_on : DiskGoesOn before.told after_both.told
-the_disk_goes_on = record { bound = refl; is_ready = refl; silent = λ h. cc; later = omega arith }
+the_disk_goes_on = record { bound = refl; is_ready = refl; binds = refl; silent = λ h. cc; later = omega arith }
 
 -- ---- counts
 

@@ -1,4 +1,5 @@
--- What the bound files of a disk are to the files of a history.
+-- What the bound files of a disk are to the files of a history: the history has sixteen, and those that are not bound are empty there. A
+-- request of a bound file does the same to both.
 use Rattle.std.proofs.Common.{◌≡◌, ℕ, zero, suc, ◌-◌, ◌<◌, List, [], ◌∷◌, ◌++◌, true, refl, sym, ap, ◌∙◌, subst, arith, length}
 use Rattle.std.specs.Prelude.{map, replicate, slice_index_or, slice_set}
 use Rattle.std.proofs.lemmas.List.{length-set}

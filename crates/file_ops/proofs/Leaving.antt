@@ -1,4 +1,5 @@
--- What rounds leave as it was.
+-- What rounds leave as it was: other links, the terms and offers of all, the bound files and the paths that were to be bound, and the
+-- number of rings. Each holds of a turn, and so of the turns of a round one after another.
 use Rattle.std.proofs.Common.{◌≡◌, ℕ, zero, suc, ◌+◌, ◌<◌, ◌≤◌, Bool, true, false, List, refl, sym, ap, ◌∙◌, subst, arith, length}
 use Rattle.std.specs.Prelude.{◌≢◌}
 use Rattle.std.proofs.lemmas.List.{length-set, get_or-set_other}
@@ -88,18 +89,19 @@ went_only first cores (suc n) s t h a x =
 -- ---- the disk
 
 disk_same : (d : DiskTold) → DiskGoesOn d d
-disk_same d = record { bound = refl; is_ready = refl; silent = λ h. h; later = omega arith }
+disk_same d = record { bound = refl; is_ready = refl; binds = refl; silent = λ h. h; later = omega arith }
 
 disk_both : (a b c : DiskTold) → DiskGoesOn a b → DiskGoesOn b c → DiskGoesOn a c
 disk_both a b c x y = record {
   bound = y.bound ∙ x.bound;
   is_ready = y.is_ready ∙ x.is_ready;
+  binds = y.binds ∙ x.binds;
   silent = λ h. y.silent (x.silent h);
   later = let l = x.later in let m = y.later in omega arith;
 }
 
 asked_goes_on : (b : Bool) (before after : DiskTold) (payload : Payload) (answer : Answer) → AskedBy b before after payload answer → DiskGoesOn before after
-asked_goes_on true before after payload answer x = record { bound = x.none.bound; is_ready = x.none.is_ready; silent = x.silent; later = x.later }
+asked_goes_on true before after payload answer x = record { bound = x.none.bound; is_ready = x.none.is_ready; binds = x.none.binds; silent = x.silent; later = x.later }
 asked_goes_on false before after payload answer x = subst (DiskGoesOn before) (sym x.0) (disk_same before)
 
 pub disk_turn : (first core : ℕ) (s t : Seen) → Turn first core s t → DiskGoesOn s.told t.told

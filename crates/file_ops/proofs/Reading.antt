@@ -1,4 +1,5 @@
--- What the answers of the disk's calls show.
+-- What the answers of the disk's calls show: a read gives what stands there, and with the length that was asked for it is a whole answer;
+-- a call that fails is FAULT and has its cause in the disk's count.
 use Rattle.std.proofs.Common.{◌≡◌, ℕ, zero, suc, ◌≤◌, List, [], ◌∷◌, ◌++◌, Option, Some, None, true, refl, ap, ◌∙◌, subst, arith, length, take}
 use Rattle.std.specs.Prelude.{IfSome, drop, nat_le}
 use Rattle.std.proofs.lemmas.Bool.Decides.{nat_tests}

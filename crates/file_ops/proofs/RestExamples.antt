@@ -1,4 +1,4 @@
--- What a worker for two cores has left to decide, and when it rests.
+-- What a worker for two cores has left to decide, and when it rests: before and after its first round, beside counts that are too low.
 use Rattle.std.proofs.Common.{◌≡◌, ◌+◌, ◌≤◌, refl, [], ◌∷◌, inl, inr, arith, length}
 use Rattle.core_channels.proofs.Examples.{last_stamp}
 use Rattle.core_channels.proofs.RequestExamples.{none_asked, asked, had, withdrawn, passed}

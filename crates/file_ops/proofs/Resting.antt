@@ -1,4 +1,5 @@
--- Each entry lowers what a worker has left to decide, and where it makes none, there is nothing that it could.
+-- Each entry lowers what a worker has left to decide, and where it makes none, there is nothing that it could. A turn without an entry has
+-- found nothing, or a full clock; stamps climb, so a clock that is full stays full.
 use Rattle.std.proofs.Common.{◌≡◌, ℕ, zero, suc, ◌+◌, ◌<◌, ◌≤◌, ◌^◌, List, [], ◌∷◌, ◌++◌, Some, Bool, true, false, refl, sym, ap, ◌∙◌, subst, inl, inr, arith, length, length-append}
 use Rattle.std.specs.Prelude.{◌≢◌, ◌||◌, is_some, slice_get}
 use Rattle.std.proofs.lemmas.Bool.Decides.{eqb_tells}

@@ -1,4 +1,5 @@
--- How the turns of a round follow one another.
+-- How the turns of a round follow one another: until its turn comes the link of a core is as it was before the round, so what a round has
+-- seen is told by the links at its start.
 use Rattle.std.proofs.Common.{◌≡◌, ℕ, zero, suc, ◌+◌, ◌<◌, ◌≤◌, List, Bool, true, false, refl, sym, ap, ◌∙◌, subst, arith, length, nat_lt}
 use Rattle.std.specs.Prelude.{is_some, ◌||◌, IsTrue}
 use Rattle.std.proofs.lemmas.Bool.Decides.{nat_tests}

@@ -1,4 +1,5 @@
--- A disk that tells its files has served the worker's journal.
+-- A disk that tells its files has served the worker's journal: the files after the deeds of the journal are those that it holds, turn by
+-- turn, since the disk does to its bound files what the history does.
 use Rattle.std.proofs.Common.{◌≡◌, ℕ, zero, suc, ◌+◌, ◌<◌, ◌≤◌, List, [], ◌∷◌, ◌++◌, Option, Some, None, Bool, true, false, refl, sym, ap, ◌∙◌, subst, arith, length}
 use Rattle.std.specs.Prelude.{IfSome, slice_get}
 use Rattle.std.proofs.lemmas.Bool.Decides.{nat_tests}

@@ -1,4 +1,5 @@
--- In a round the worker's journal goes on agreeing with its ends, and the rings with the links.
+-- In a round the worker's journal goes on agreeing with its ends, and the rings with the links. A turn changes one link by one decision at
+-- most, with the entry that goes with it; what a turn keeps a round keeps.
 use Rattle.std.proofs.Common.{◌≡◌, ℕ, zero, suc, ◌+◌, ◌<◌, ◌≤◌, List, [], ◌∷◌, ◌++◌, Some, None, true, refl, sym, ap, ◌∙◌, subst, inl, inr, arith, length}
 use Rattle.std.specs.Prelude.{◌≢◌}
 use Rattle.std.specs.List.{All}

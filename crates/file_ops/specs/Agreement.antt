@@ -68,9 +68,10 @@ pub record OnlyDecides (first cores : ℕ) (old new : List LinkViews) : Type 0 w
   pub others : (l : ℕ) → l < first → link_at new l ≡ link_at old l
   pub beyond : (l : ℕ) → first + cores ≤ l → link_at new l ≡ link_at old l
 
--- the bound files are as many, the disk may still be called, and if it told nothing it still tells nothing
+-- the bound files are as many, no other was to be bound, the disk may still be called, and if it told nothing it still tells nothing
 pub record DiskGoesOn (old new : DiskTold) : Type 0 where
   pub bound : new.bound ≡ old.bound
   pub is_ready : new.is_ready ≡ old.is_ready
+  pub binds : new.binds ≡ old.binds
   pub silent : old.held ≡ None → new.held ≡ None
   pub later : old.faults ≤ new.faults

@@ -19,13 +19,13 @@ pub struct Replied {
 
 // A reply on its ring, whose two answers are equal.
 #[derive(Drop)]
-struct Waiting {
+struct WaitingReply {
     answer: Answer,
     copy: Answer,
     of: u64,
 }
 
-impl Model for Waiting {
+impl Model for WaitingReply {
     ghost use Rattle.std.specs.Prelude.{◌≡◌};
     ghost use Rattle.ac_links.specs.Views.{Response};
 
@@ -36,13 +36,13 @@ impl Model for Waiting {
     ghost invariant = { λ it. it.copy ≡ it.answer };
 }
 
-impl Waiting {
+impl WaitingReply {
     fn into_replied(self) -> Replied
         ensures answer { result.answer ≡ self.answer }
         ensures copy { result.copy ≡ self.answer }
         ensures stamp { result.of ≡ self.of }
     {
-        let Waiting { answer, copy, of } = self;
+        let WaitingReply { answer, copy, of } = self;
         Replied { answer, copy, of }
     }
 }
@@ -50,7 +50,7 @@ impl Waiting {
 // The ring of one core.
 #[derive(Drop)]
 struct CoreRing {
-    waiting: VecDeque<Waiting>,
+    waiting: VecDeque<WaitingReply>,
 }
 
 impl Model for CoreRing {
@@ -86,7 +86,7 @@ impl CoreRing {
         ensures { self.new ≡ after_put self.old answer of }
     {
         self.waiting
-            .push_back_reserved(Waiting { answer, copy, of });
+            .push_back_reserved(WaitingReply { answer, copy, of });
     }
 
     fn first(&self) -> Option<u64>

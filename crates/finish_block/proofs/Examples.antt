@@ -1,4 +1,5 @@
--- What the definitions of Table, Conditions and Ancestors say of three small blocks.
+-- What the definitions of Table, Conditions and Ancestors say of three small blocks, one of which was given back.
+-- Most hold by computing. That a block is not round another goes by the parents that the relation names.
 use Rattle.std.specs.Prelude.{IsSomeAnd}
 use Rattle.std.proofs.Common.{◌≡◌, refl, sym, ap, ◌∙◌, subst, ℕ, zero, suc, List, [], ◌∷◌, Option, None, Some, Bool, true, false, arith}
 use Rattle.work_item.specs.declared.ids.Item.{Item}

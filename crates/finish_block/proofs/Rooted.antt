@@ -1,4 +1,6 @@
--- The parents of live blocks live and are older, after each change too.
+-- Each change of the blocks keeps them rooted: the parent of a live block lives and is older. This is the invariant of `Blocks`.
+-- Each lemma splits on whether a block is the one that was changed or another. The hard case is a block given back: nothing may lie in it, so it is nobody's parent.
+-- `seen_same`, `seen_gone` and `seen_made` say the same of a table that is known as contracts see it, for the proofs of single calls.
 use Rattle.std.proofs.Common.{◌≡◌, ℕ, ◌<◌, List, [], ◌∷◌, ◌++◌, length, Option, Some, None, IsSome, IfSome, inl, inr, sym, ap, ◌∙◌, subst, arith, get_or-set_same, set}
 use Rattle.std.proofs.lemmas.Bool.{cases_eq}
 use Rattle.std.proofs.Math.ListN.{get_or-append}

@@ -1,4 +1,6 @@
--- The blocks round a block: those of a live block live, and the list of them, walked step by step, has just those of the relation.
+-- The blocks round a block: those of a live block live, and the list of them, walked step by step, has just those of the relation. For `is_within` and `is_cancelled`.
+-- From the relation to the list by induction on the relation: parents are older, so a list of more blocks than the number of the innermost is long enough.
+-- From the list to the relation by induction on its length. `cancelled_means` and `within_means` are the two tests made of both.
 use Rattle.std.proofs.Common.{◌≡◌, ℕ, zero, suc, ◌+◌, ◌-◌, ◌<◌, List, length, Option, Some, None, IsSomeAnd, IfSome, Bool}
 use Rattle.std.proofs.Common.{true, false, IsTrue, ◌↔◌, inl, inr, refl, sym, ap, ◌∙◌, subst, arith, ◌≤◌, nat_eq}
 use Rattle.std.specs.Prelude.{◌||◌}

@@ -1,4 +1,6 @@
 -- Clearing cells one by one, where they are there.
+-- For the loop of `clear_cells`: one cell more is set to 0, by induction on the first slot and the count. One past the end is not there,
+-- and setting it changes nothing.
 use Rattle.std.proofs.Common.{◌≡◌, ℕ, zero, suc, ◌+◌, List, [], ◌∷◌, refl, ap, ◌∙◌, arith, set}
 use Rattle.work_item.specs.declared.cell.Cell.{Cell}
 use Rattle.work_item.specs.Store.{no_int, cleared_front, cleared}

@@ -1,4 +1,6 @@
 -- Counting the words of all frames.
+-- For the loop of `words`, whose sum stops at the greatest number of 64 bits: at the end all frames are counted, and the two minima are the
+-- same.
 use Rattle.std.proofs.Common.{◌≡◌, ℕ, ◌+◌, ◌-◌, ◌^◌, ◌≤◌, ◌<◌, List, length, drop, min, ap, arith, subst, Option}
 use Rattle.std.proofs.Math.ListN.{drop_of_length-le}
 use Rattle.work_item.specs.Store.{Store, Frame, all_words, live_words}

@@ -1,4 +1,6 @@
 -- What the interpreter holds as the meaning holds it, and the oldest operation for which a test holds.
+-- Each definition at a value of each kind; the oldest of three operations is the second, and neither a later one nor one of another link
+-- is.
 use Rattle.std.proofs.Common.{◌≡◌, ℕ, pos, List, [], ◌∷◌, true, false, Option, Some, None, refl}
 use Rattle.work_item.specs.Store.{Store}
 use Rattle.work_item.specs.declared.cell.Cell.TheVariants as c
@@ -10,7 +12,7 @@ use Rattle.cancel_scope.specs.Outstanding.{started, is_to_receive}
 use Rattle.core_state.specs.Arrivals.{ok}
 use Rattle.interpreter_state.specs.declared.held.Held.{Held}
 use Rattle.interpreter_state.specs.declared.operation.Asked.TheVariants as k
-use Rattle.interpreter_state.specs.declared.datum.Kind.TheVariants as d
+use Rattle.interpreter_state.specs.declared.datum.DatumKind.TheVariants as d
 use Rattle.interpreter_state.specs.Data.{cell_of}
 use Rattle.interpreter_state.specs.Operations.{asked_of, IsOldest}
 use Rattle.interpreter_state.specs.State.{shared_of, held_of}

@@ -1,4 +1,6 @@
 -- The oldest operation for which a test holds, by its place in equal lists.
+-- The interpreter finds a place in its own list, which stands for the meaning's. The laws of `cancel_scope` (Finding) say what is at the
+-- first place; here they are carried over to the equal list, for what is found, changed and taken away.
 use Rattle.std.proofs.Common.{◌≡◌, ℕ, pos, ◌<◌, List, length, get_or, set, refl, sym, ap, ◌∙◌}
 use Rattle.std.specs.Prelude.{Option, Some, None, Bool, false, true, find, position, is_some, slice_get}
 use Rattle.std.specs.List.{remove}

@@ -1,4 +1,5 @@
 -- Going up from frame to frame.
+-- For the loop of `above`: one step up leaves one level less, and the same frame at the top.
 use Rattle.std.proofs.Common.{◌≡◌, ℕ, suc, ◌+◌, ◌-◌, ◌<◌, sym, ap, ◌∙◌, arith}
 use Rattle.work_item.specs.declared.ids.FrameId.{FrameId}
 use Rattle.work_item.specs.Store.{Store, frame_at, parent_or, above}

@@ -1,4 +1,6 @@
 -- Taking frames away, from the youngest on.
+-- For the loop of `release`, which goes from the last frame to the first: the invariant is that the frames from this place on are those
+-- that are kept. A frame lies in an older one, so the younger ones have been looked at when it is its turn.
 use Rattle.std.proofs.Common.{◌≡◌, ℕ, zero, suc, ◌+◌, ◌-◌, ◌<◌, ◌≤◌, List, [], ◌∷◌, length, drop, set, Option, Some, None, Bool, true, false, not, ◌&&◌, refl, ap, ◌∙◌, arith}
 use Rattle.std.specs.Prelude.{if◌then◌else◌, slice_index_or, slice_set}
 use Rattle.work_item.specs.declared.ids.FrameId.{FrameId}

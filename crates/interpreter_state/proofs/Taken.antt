@@ -1,4 +1,6 @@
 -- An operation whose peer has taken it: a request has begun, and anything else has ended.
+-- For `be_taken`, by that case: the operation at the place that was found is the oldest (Finding), so it is the one of which the meaning
+-- speaks.
 use Rattle.std.proofs.Common.{◌≡◌, ℕ, List, get_or, set, Bool, true, false, refl, sym, ap, ◌∙◌}
 use Rattle.std.specs.Prelude.{Some, None, if◌then◌else◌}
 use Rattle.std.specs.List.{remove}

@@ -114,7 +114,7 @@ impl Span {
 }
 
 #[derive(Clone, Copy)]
-enum Kind {
+enum DatumKind {
     Int(i64),
     Array(Span),
     Block(BlockId),
@@ -123,7 +123,7 @@ enum Kind {
 /// What a slot of a frame holds, or an operand: an int, a reference to an array or the block of a `do`.
 #[derive(Clone, Copy)]
 pub struct Datum {
-    kind: Kind,
+    kind: DatumKind,
 }
 
 impl Model for Datum {
@@ -148,7 +148,7 @@ impl Datum {
         ensures { result ≡ c.Int value }
     {
         Datum {
-            kind: Kind::Int(value),
+            kind: DatumKind::Int(value),
         }
     }
 
@@ -157,7 +157,7 @@ impl Datum {
         ensures { result ≡ c.Array span }
     {
         Datum {
-            kind: Kind::Array(span),
+            kind: DatumKind::Array(span),
         }
     }
 
@@ -166,7 +166,7 @@ impl Datum {
         ensures { result ≡ c.Block block }
     {
         Datum {
-            kind: Kind::Block(block),
+            kind: DatumKind::Block(block),
         }
     }
 
@@ -175,7 +175,7 @@ impl Datum {
         ensures { result ≡ int_in self }
     {
         match self.kind {
-            Kind::Int(value) => value,
+            DatumKind::Int(value) => value,
             _ => 0,
         }
     }
@@ -186,7 +186,7 @@ impl Datum {
     {
         let kind = self.kind;
         match kind {
-            Kind::Array(span) => span,
+            DatumKind::Array(span) => span,
             _ => Span::new(None, 0, 0),
         }
     }
@@ -196,7 +196,7 @@ impl Datum {
         ensures { result ≡ block_in self }
     {
         match self.kind {
-            Kind::Block(block) => block,
+            DatumKind::Block(block) => block,
             _ => BlockId { number: 0 },
         }
     }

@@ -9,7 +9,7 @@ use crate::datum::Datum;
 use crate::memory::Memory;
 use crate::operation::{Asked, Operation};
 use ac_base::NoMemory;
-use core_values::add_formatted;
+use core_operators::add_formatted;
 use std::alloc::Global;
 use std::marker::Model;
 use work_item::{BlockId, Cell, FrameId, Item};

@@ -10,7 +10,7 @@ ghost use Rattle.core_state.specs.Requests.{bytes_at, bytes_for, with_bytes_at};
 
 use crate::datum::{Datum, Span};
 use ac_base::{Bytes, List, NoMemory};
-use core_values::low_byte;
+use core_operators::low_byte;
 use std::alloc::Global;
 use std::marker::Model;
 use work_item::FrameId;

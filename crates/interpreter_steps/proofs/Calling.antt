@@ -1,4 +1,6 @@
 -- The cells of a call.
+-- For the loop of `cells_of_call`: the cells so far and the arguments of the parameters that are left are all arguments; where parameters
+-- or operands have come to their end none is left, and 0 fills the other slots.
 use Rattle.std.proofs.Common.{◌≡◌, ℕ, zero, suc, ◌-◌, ◌≤◌, List, [], ◌∷◌, ◌++◌, length, take, drop, min, max, replicate, Bool, refl, sym, ap, ◌∙◌, arith, length-append, append-nil}
 use Rattle.std.proofs.lemmas.List.{length-replicate, take_all}
 use Rattle.work_item.specs.declared.cell.Cell.{Cell}

@@ -1,4 +1,6 @@
 -- Copies that are told alike, and parts of lists.
+-- For loops that copy item by item: what was copied and what is left stand for the whole, so at the end the copy stands for the same as the
+-- list.
 use Rattle.std.proofs.Common.{◌≡◌, ℕ, ◌≤◌, List, [], ◌∷◌, ◌++◌, map, take, drop, length, refl, sym, ap, ◌∙◌, append-nil, length-drop, ◌-◌, subst}
 use Rattle.std.specs.Prelude.{reverse}
 use Rattle.std.proofs.Math.ListN.{drop_of_length-le}

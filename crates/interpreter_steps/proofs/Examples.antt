@@ -1,4 +1,5 @@
 -- What the interpreter keeps of the work of threads and answers to a step, as the meaning has it.
+-- Three items of work and what stands behind the first; then answers to a step in a core whose thread stands at a cancel.
 use Rattle.std.proofs.Common.{◌≡◌, List, [], ◌∷◌, refl}
 use Rattle.ac_base.specs.declared.ends.EndWord.TheVariants.{Finished}
 use Rattle.work_item.specs.declared.ids.BlockId.{BlockId}

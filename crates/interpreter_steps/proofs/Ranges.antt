@@ -1,4 +1,6 @@
 -- Whether a range of a file is right depends on how long an array is, and on nothing else of it.
+-- For `elements_of`, which tests a range by a length alone, for reads and writes alike; the meaning tests it with the array and with what
+-- asks. By the cases of a place and a length below 0 or not.
 use Rattle.std.proofs.Common.{◌≡◌, ℕ, ℤ, pos, negsuc, ◌+◌, ◌≤◌, Bool, true, false, Ok, Err, refl, sym, ap, ◌∙◌, arith}
 use Rattle.std.specs.Prelude.{◌&&◌, nat_le, Result, if◌then◌else◌}
 use Rattle.std.proofs.lemmas.Bool.{leb-true}

@@ -1,4 +1,6 @@
 -- What the innermost call comes to, by what the thread has first.
+-- For the loop of `return_value`, which passes over the rest of the call: behind it is a caller that waits, the entry of the core, or
+-- nothing, each as `returns` has it.
 use Rattle.std.proofs.Common.{◌≡◌, List, [], ◌∷◌, sym, ap, ◌∙◌}
 use Rattle.std.specs.Prelude.{Result, Ok, Err, IfOk}
 use Rattle.ac_base.specs.declared.memory.NoMemory.{NoMemory}

@@ -8,7 +8,7 @@ ghost use Rattle.interpreter_steps.specs.inner.Pending.{IsOutcome, context_of, h
 ghost use Rattle.interpreter_steps.specs.inner.Chains.{decided, joined};
 
 use crate::operators::{array, element, operate, reference, unary, variable};
-use crate::pending::{Around, Context, Head, Outcome, Rest};
+use crate::pending::{Around, Context, Evaluated, Head, Rest};
 use ac_base::{NoMemory, Trap};
 use ac_commands::{Value, ValueLink};
 use ac_tree::BinaryOp;
@@ -17,22 +17,22 @@ use std::alloc::Global;
 use work_item::FrameId;
 
 /// An int that has come, or a trap.
-pub fn then_int(computed: Result<i64, Trap>) -> Outcome
+pub fn then_int(computed: Result<i64, Trap>) -> Evaluated
     ensures { (around : List s.Context) → IsOutcome result around around (s.then_int computed s.comes_int) }
 {
     match computed {
-        Ok(value) => Outcome::Comes(Datum::int(value)),
-        Err(trap) => Outcome::Traps(trap),
+        Ok(value) => Evaluated::Comes(Datum::int(value)),
+        Err(trap) => Evaluated::Traps(trap),
     }
 }
 
 /// The reference to one element that has come, or a trap.
-pub fn then_part(place: Span, index: Datum) -> Outcome
+pub fn then_part(place: Span, index: Datum) -> Evaluated
     ensures { (around : List s.Context) → IsOutcome result around around (s.then_part (part_at place (int_in index))) }
 {
     match place.part_at(index.as_int()) {
-        Ok(part) => Outcome::Comes(Datum::array(part)),
-        Err(trap) => Outcome::Traps(trap),
+        Ok(part) => Evaluated::Comes(Datum::array(part)),
+        Err(trap) => Evaluated::Traps(trap),
     }
 }
 
@@ -44,13 +44,13 @@ pub fn evaluate<'a>(
     frame: FrameId,
     value: &'a Value,
     around: &mut Around<'a>,
-) -> Result<Outcome, NoMemory>
+) -> Result<Evaluated, NoMemory>
     ensures { IfOk result (λ o. IsOutcome o around.old around.new (s.goes memory.now frame value.now around.old)) }
 {
     match value {
-        Value::Number(number) => Ok(Outcome::Comes(Datum::int(*number))),
-        Value::Variable(place) => Ok(Outcome::Comes(variable(memory, frame, *place))),
-        Value::Reference(whole) => Ok(Outcome::Comes(reference(memory, frame, *whole))),
+        Value::Number(number) => Ok(Evaluated::Comes(Datum::int(*number))),
+        Value::Variable(place) => Ok(Evaluated::Comes(variable(memory, frame, *place))),
+        Value::Reference(whole) => Ok(Evaluated::Comes(reference(memory, frame, *whole))),
         Value::Element {
             array: whole,
             index,
@@ -64,7 +64,7 @@ pub fn evaluate<'a>(
                 index.get(),
                 around,
             )? {
-                Outcome::Comes(y) => Ok(then_int(element(memory, place, y.as_int()))),
+                Evaluated::Comes(y) => Ok(then_int(element(memory, place, y.as_int()))),
                 other => Ok(other),
             }
         }
@@ -81,7 +81,7 @@ pub fn evaluate<'a>(
                 index.get(),
                 around,
             )? {
-                Outcome::Comes(y) => Ok(then_part(place, y)),
+                Evaluated::Comes(y) => Ok(then_part(place, y)),
                 other => Ok(other),
             }
         }
@@ -94,7 +94,7 @@ pub fn evaluate<'a>(
                 operand.get(),
                 around,
             )? {
-                Outcome::Comes(x) => Ok(Outcome::Comes(Datum::int(unary(*op, x.as_int())))),
+                Evaluated::Comes(x) => Ok(Evaluated::Comes(Datum::int(unary(*op, x.as_int())))),
                 other => Ok(other),
             }
         }
@@ -108,7 +108,7 @@ pub fn evaluate<'a>(
                 first.get(),
                 around,
             )? {
-                Outcome::Comes(x) => chain(alloc, memory, frame, x, links, around),
+                Evaluated::Comes(x) => chain(alloc, memory, frame, x, links, around),
                 other => Ok(other),
             }
         }
@@ -133,13 +133,13 @@ pub fn within<'a>(
     context: Context<'a>,
     value: &'a Value,
     around: &mut Around<'a>,
-) -> Result<Outcome, NoMemory>
+) -> Result<Evaluated, NoMemory>
     ensures { IfOk result (λ o. IsOutcome o around.old around.new
         (s.goes memory.now frame value.now (context_of context.entry ∷ around.old))) }
 {
     around.push(context)?;
     let outcome = evaluate(alloc, memory, frame, value, around)?;
-    if matches!(&outcome, Outcome::Comes(_)) {
+    if matches!(&outcome, Evaluated::Comes(_)) {
         let _ = around.pop();
     }
     Ok(outcome)
@@ -154,18 +154,18 @@ pub fn chain<'a>(
     first: Datum,
     links: &'a [ValueLink],
     around: &mut Around<'a>,
-) -> Result<Outcome, NoMemory>
+) -> Result<Evaluated, NoMemory>
     ensures { IfOk result (λ o. IsOutcome o around.old around.new (s.chain_goes memory.now frame first links.now around.old)) }
 {
     let mut x = first;
     'links: for (index, link) in links.iter().enumerate() {
         let others = &links[index + 1..];
         match joined(alloc, memory, frame, x, link, others, around)? {
-            Outcome::Comes(value) => x = value,
+            Evaluated::Comes(value) => x = value,
             other => return Ok(other),
         }
     }
-    Ok(Outcome::Comes(x))
+    Ok(Evaluated::Comes(x))
 }
 
 // The left operand of `||` and `&&` may decide alone.
@@ -189,16 +189,16 @@ fn joined<'a>(
     link: &'a ValueLink,
     others: &'a [ValueLink],
     around: &mut Around<'a>,
-) -> Result<Outcome, NoMemory>
+) -> Result<Evaluated, NoMemory>
     ensures { IfOk result (λ o. IsOutcome o around.old around.new (joined memory.now frame (int_in left) link.now others.now around.old)) }
 {
     let x = left.as_int();
     if let Some(value) = decided(link.op, x) {
-        return Ok(Outcome::Comes(Datum::int(value)));
+        return Ok(Evaluated::Comes(Datum::int(value)));
     }
     let context = Context::Right(x, link.op, others);
     match within(alloc, memory, frame, context, &link.operand, around)? {
-        Outcome::Comes(y) => Ok(then_int(operate(link.op, x, y.as_int()))),
+        Evaluated::Comes(y) => Ok(then_int(operate(link.op, x, y.as_int()))),
         other => Ok(other),
     }
 }
@@ -213,7 +213,7 @@ pub fn row<'a>(
     done: Vec<Datum>,
     values: &'a [Value],
     around: &mut Around<'a>,
-) -> Result<Outcome, NoMemory>
+) -> Result<Evaluated, NoMemory>
     ensures { IfOk result (λ o. IsOutcome o around.old around.new
         (s.row_goes memory.now frame (head_of head) (reverse done.items) values.now around.old)) }
 {
@@ -226,9 +226,9 @@ pub fn row<'a>(
             Rest::Values(others),
         );
         match within(alloc, memory, frame, context, value, around)? {
-            Outcome::Comes(cell) => done.push(cell)?,
+            Evaluated::Comes(cell) => done.push(cell)?,
             other => return Ok(other),
         }
     }
-    Ok(Outcome::Stops(head, done))
+    Ok(Evaluated::Stops(head, done))
 }

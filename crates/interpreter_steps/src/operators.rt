@@ -15,9 +15,9 @@ pub fn unary(op: UnaryOp, x: i64) -> i64
     ensures { result ≡ unary op x }
 {
     match op {
-        UnaryOp::Neg => core_values::negated(x),
-        UnaryOp::Not => core_values::not_true(x),
-        UnaryOp::Flip => core_values::flipped(x),
+        UnaryOp::Neg => core_operators::negated(x),
+        UnaryOp::Not => core_operators::not_true(x),
+        UnaryOp::Flip => core_operators::flipped(x),
     }
 }
 
@@ -26,23 +26,23 @@ pub fn operate(op: BinaryOp, x: i64, y: i64) -> Result<i64, Trap>
     ensures { result ≡ operate op x y }
 {
     Ok(match op {
-        BinaryOp::Or | BinaryOp::And => core_values::truth(y),
-        BinaryOp::BitOr => core_values::either_bits(x, y),
-        BinaryOp::BitXor => core_values::differing_bits(x, y),
-        BinaryOp::BitAnd => core_values::both_bits(x, y),
-        BinaryOp::Eq => core_values::is_equal(x, y),
-        BinaryOp::Ne => core_values::is_not_equal(x, y),
-        BinaryOp::Less => core_values::is_less(x, y),
-        BinaryOp::LessEq => core_values::is_at_most(x, y),
-        BinaryOp::More => core_values::is_less(y, x),
-        BinaryOp::MoreEq => core_values::is_at_most(y, x),
-        BinaryOp::Shl => core_values::shifted_left(x, y),
-        BinaryOp::Shr => core_values::shifted_right(x, y),
-        BinaryOp::Add => core_values::sum(x, y),
-        BinaryOp::Sub => core_values::difference(x, y),
-        BinaryOp::Mul => core_values::product(x, y),
-        BinaryOp::Div => return core_values::quotient(x, y),
-        BinaryOp::Rem => return core_values::remainder(x, y),
+        BinaryOp::Or | BinaryOp::And => core_operators::truth(y),
+        BinaryOp::BitOr => core_operators::either_bits(x, y),
+        BinaryOp::BitXor => core_operators::differing_bits(x, y),
+        BinaryOp::BitAnd => core_operators::both_bits(x, y),
+        BinaryOp::Eq => core_operators::is_equal(x, y),
+        BinaryOp::Ne => core_operators::is_not_equal(x, y),
+        BinaryOp::Less => core_operators::is_less(x, y),
+        BinaryOp::LessEq => core_operators::is_at_most(x, y),
+        BinaryOp::More => core_operators::is_less(y, x),
+        BinaryOp::MoreEq => core_operators::is_at_most(y, x),
+        BinaryOp::Shl => core_operators::shifted_left(x, y),
+        BinaryOp::Shr => core_operators::shifted_right(x, y),
+        BinaryOp::Add => core_operators::sum(x, y),
+        BinaryOp::Sub => core_operators::difference(x, y),
+        BinaryOp::Mul => core_operators::product(x, y),
+        BinaryOp::Div => return core_operators::quotient(x, y),
+        BinaryOp::Rem => return core_operators::remainder(x, y),
     })
 }
 

@@ -119,7 +119,7 @@ impl<'a> Around<'a> {
 
 /// What an expression comes to, or a row of operands: a stop is at a head, with its operands in their order.
 #[derive(Drop)]
-pub enum Outcome {
+pub enum Evaluated {
     Comes(Datum),
     Traps(Trap),
     Stops(Head, Vec<Datum>),

@@ -10,7 +10,7 @@ ghost use Rattle.interpreter_steps.specs.inner.Requests.{somewhere, asked_or_tra
 
 use crate::statements::operand;
 use ac_base::{NoMemory, Trap};
-use core_values::range_of;
+use core_operators::range_of;
 use interpreter_state::{Asked, Datum, Memory, Span};
 use std::alloc::Global;
 use work_item::Place;

@@ -8,7 +8,7 @@ ghost use Rattle.interpreter_steps.specs.inner.Pending.{IsOutcome, context_of, h
 
 use crate::evaluation::{chain, row, then_int, then_part, within};
 use crate::operators::{element, operate, reference, unary};
-use crate::pending::{Around, Context, Head, Outcome, Rest};
+use crate::pending::{Around, Context, Evaluated, Head, Rest};
 use ac_base::NoMemory;
 use ac_commands::{Command, Target, Value};
 use interpreter_state::{Datum, Memory};
@@ -24,7 +24,7 @@ fn row_one<'a>(
     mut done: Vec<Datum>,
     value: &'a Value,
     around: &mut Around<'a>,
-) -> Result<Outcome, NoMemory>
+) -> Result<Evaluated, NoMemory>
     ensures { IfOk result (λ o. IsOutcome o around.old around.new
         (s.row_goes memory.now frame (head_of head) (reverse done.items) (value.now ∷ []) around.old)) }
 {
@@ -34,9 +34,9 @@ fn row_one<'a>(
         Rest::Nothing,
     );
     match within(alloc, memory, frame, context, value, around)? {
-        Outcome::Comes(cell) => {
+        Evaluated::Comes(cell) => {
             done.push(cell)?;
-            Ok(Outcome::Stops(head, done))
+            Ok(Evaluated::Stops(head, done))
         }
         other => Ok(other),
     }
@@ -51,12 +51,12 @@ fn row_target<'a>(
     mut done: Vec<Datum>,
     target: &'a Target,
     around: &mut Around<'a>,
-) -> Result<Outcome, NoMemory>
+) -> Result<Evaluated, NoMemory>
     ensures { IfOk result (λ o. IsOutcome o around.old around.new
         (s.row_goes memory.now frame (head_of head) (reverse done.items) (target_operands target.now) around.old)) }
 {
     match target {
-        Target::Variable(_) => Ok(Outcome::Stops(head, done)),
+        Target::Variable(_) => Ok(Evaluated::Stops(head, done)),
         Target::Element { array, index } => {
             done.push(reference(memory, frame, *array))?;
             row_one(alloc, memory, frame, head, done, index, around)
@@ -74,7 +74,7 @@ fn row_into<'a>(
     value: &'a Value,
     target: &'a Target,
     around: &mut Around<'a>,
-) -> Result<Outcome, NoMemory>
+) -> Result<Evaluated, NoMemory>
     ensures { IfOk result (λ o. IsOutcome o around.old around.new
         (s.row_goes memory.now frame (head_of head) (reverse done.items) (value.now ∷ target_operands target.now) around.old)) }
 {
@@ -84,7 +84,7 @@ fn row_into<'a>(
         Rest::Target(target),
     );
     match within(alloc, memory, frame, context, value, around)? {
-        Outcome::Comes(cell) => {
+        Evaluated::Comes(cell) => {
             done.push(cell)?;
             row_target(alloc, memory, frame, head, done, target, around)
         }
@@ -101,12 +101,12 @@ fn row_rest<'a>(
     done: Vec<Datum>,
     rest: Rest<'a>,
     around: &mut Around<'a>,
-) -> Result<Outcome, NoMemory>
+) -> Result<Evaluated, NoMemory>
     ensures { IfOk result (λ o. IsOutcome o around.old around.new
         (s.row_goes memory.now frame (head_of head) (reverse done.items) (rest_of rest.entry) around.old)) }
 {
     match rest {
-        Rest::Nothing => Ok(Outcome::Stops(head, done)),
+        Rest::Nothing => Ok(Evaluated::Stops(head, done)),
         Rest::Values(values) => row(alloc, memory, frame, head, done, values, around),
         Rest::One(value) => row_one(alloc, memory, frame, head, done, value, around),
         Rest::Target(target) => row_target(alloc, memory, frame, head, done, target, around),
@@ -142,7 +142,7 @@ pub fn begin<'a>(
     frame: FrameId,
     command: &'a Command,
     around: &mut Around<'a>,
-) -> Result<Outcome, NoMemory>
+) -> Result<Evaluated, NoMemory>
     ensures { IfOk result (λ o. IsOutcome o around.old around.new
         (s.row_goes memory.now frame s.Ending [] (operands_of (out-Command command.now)) around.old)) }
 {
@@ -165,17 +165,17 @@ fn give<'a>(
     context: Context<'a>,
     cell: Datum,
     around: &mut Around<'a>,
-) -> Result<Outcome, NoMemory>
+) -> Result<Evaluated, NoMemory>
     ensures { IfOk result (λ o. IsOutcome o around.old around.new (s.gives memory.now frame (context_of context.entry) cell around.old)) }
 {
     match context {
         Context::ElementAt(place) => Ok(then_int(element(memory, place, cell.as_int()))),
         Context::PartAt(place) => Ok(then_part(place, cell)),
-        Context::Operand(op) => Ok(Outcome::Comes(Datum::int(unary(op, cell.as_int())))),
+        Context::Operand(op) => Ok(Evaluated::Comes(Datum::int(unary(op, cell.as_int())))),
         Context::First(links) => chain(alloc, memory, frame, cell, links, around),
         Context::Right(x, op, links) => match operate(op, x, cell.as_int()) {
             Ok(value) => chain(alloc, memory, frame, Datum::int(value), links, around),
-            Err(trap) => Ok(Outcome::Traps(trap)),
+            Err(trap) => Ok(Evaluated::Traps(trap)),
         },
         Context::Operands(head, mut done, rest) => {
             done.push(cell)?;
@@ -191,15 +191,15 @@ pub fn resume<'a>(
     frame: FrameId,
     cell: Datum,
     around: &mut Around<'a>,
-) -> Result<Outcome, NoMemory>
+) -> Result<Evaluated, NoMemory>
     ensures { IfOk result (λ o. IsOutcome o [] around.new (s.resumes memory.now frame around.old cell)) }
 {
     let mut cell = cell;
     'contexts: while let Some(context) = around.pop() {
         match give(alloc, memory, frame, context, cell, around)? {
-            Outcome::Comes(value) => cell = value,
+            Evaluated::Comes(value) => cell = value,
             other => return Ok(other),
         }
     }
-    Ok(Outcome::Comes(cell))
+    Ok(Evaluated::Comes(cell))
 }

@@ -15,7 +15,7 @@ ghost use Rattle.interpreter_steps.specs.inner.Pending.{outcome_of};
 ghost use Rattle.interpreter_state.specs.State.{held_of, shared_of};
 ghost use Rattle.interpreter_steps.specs.Nexts.{next_with};
 
-use crate::pending::{Around, Head, Outcome};
+use crate::pending::{Around, Evaluated, Head};
 use crate::requests::{read_of, write_of};
 use crate::resuming::{begin, resume};
 use crate::work::{Agenda, Work};
@@ -425,7 +425,7 @@ fn settle<'a>(
     program: &'a Resolved,
     command: &'a Command,
     frame: FrameId,
-    outcome: Outcome,
+    outcome: Evaluated,
     around: Around<'a>,
     work: &mut Agenda<'a>,
     held: &mut Held,
@@ -434,9 +434,9 @@ fn settle<'a>(
         ≡ s.settles program.now command.now frame work.old (held_of held.old) (outcome_of outcome around.entry)) }
 {
     match outcome {
-        Outcome::Comes(_) => Ok(Next::Stays),
-        Outcome::Traps(trap) => Ok(Next::Ends(EndWord::Trapped(trap))),
-        Outcome::Stops(Head::Ending, operands) => finish(
+        Evaluated::Comes(_) => Ok(Next::Stays),
+        Evaluated::Traps(trap) => Ok(Next::Ends(EndWord::Trapped(trap))),
+        Evaluated::Stops(Head::Ending, operands) => finish(
             alloc,
             program,
             command,
@@ -445,28 +445,28 @@ fn settle<'a>(
             work,
             held,
         ),
-        Outcome::Stops(Head::Acting(Action::Call { function }), operands) => {
+        Evaluated::Stops(Head::Acting(Action::Call { function }), operands) => {
             work.push(Work::Pend(frame, command, around))?;
             match function_at(program, function) {
                 Some(entered) => call(alloc, entered, operands.as_slice(), work, held),
                 None => Ok(Next::Stays),
             }
         }
-        Outcome::Stops(Head::Acting(Action::Send { channel }), operands) => {
+        Evaluated::Stops(Head::Acting(Action::Send { channel }), operands) => {
             work.push(Work::Pend(frame, command, around))?;
             let message = last_int(operands.as_slice());
             Ok(Next::Operates(channel, Asked::Send(message)))
         }
-        Outcome::Stops(Head::Acting(Action::Recv { channel }), operands) => {
+        Evaluated::Stops(Head::Acting(Action::Recv { channel }), operands) => {
             work.push(Work::Pend(frame, command, around))?;
             let place = last_array(operands.as_slice());
             Ok(Next::Operates(channel, Asked::Recv(place)))
         }
-        Outcome::Stops(Head::Acting(Action::Read { file }), operands) => {
+        Evaluated::Stops(Head::Acting(Action::Read { file }), operands) => {
             work.push(Work::Pend(frame, command, around))?;
             Ok(request(read_of(file, operands.as_slice()), held))
         }
-        Outcome::Stops(Head::Acting(Action::Write { file }), operands) => {
+        Evaluated::Stops(Head::Acting(Action::Write { file }), operands) => {
             work.push(Work::Pend(frame, command, around))?;
             let asked = write_of(alloc, &held.memory, file, operands.as_slice())?;
             Ok(request(asked, held))

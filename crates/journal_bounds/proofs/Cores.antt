@@ -1,5 +1,7 @@
 -- What every state of a core keeps: the entries that came in, and those that its operations and begun statements may still bring, are paid
 -- for by its steps.
+-- The invariant `Counted` is kept by each step: a step pays for the most calls and operations of one statement, each of these for three entries (`Paid`).
+-- The table of threads still has what the running thread had to come when it was dispatched, which is taken off again (`stale`).
 use Rattle.std.proofs.Common.{◌≡◌, ℕ, zero, suc, ◌+◌, ◌-◌, ◌*◌, ◌^◌, ◌<◌, ◌≤◌, List, [], ◌∷◌, ◌++◌, length, get_or}
 use Rattle.std.proofs.Common.{set, Option, Some, None, Bool, true, false, refl, sym, ap, ◌∙◌, subst, inl, inr, arith, append_assoc, append-nil}
 use Rattle.std.specs.Prelude.{ℤ, nat_eq, nat_lt, find, if◌then◌else◌}
@@ -23,7 +25,7 @@ use Rattle.cancel_scope.specs.Outstanding.{started, without_first}
 use Rattle.core_state.specs.Moves.{Move, On, Over}
 use Rattle.core_state.specs.Shared.{Shared, with_entry, seen_left}
 use Rattle.core_state.specs.Arrivals.{Arrival, arrives, comes_in, at_point, cancelled}
-use Rattle.core_state.specs.Cancelling.{Outcome, NeverHappens, by_outcome, outcome, goes_by, decided, tried, tries, is_to_try}
+use Rattle.core_state.specs.Cancelling.{Fate, NeverHappens, by_outcome, outcome, goes_by, decided, tried, tries, is_to_try}
 use Rattle.ac_commands.specs.declared.program.Resolved.{Resolved}
 use Rattle.ac_semantics.specs.Held.{Held, with_store, with_mark, any_marked, turned, stepped, with_started, seen_of}
 use Rattle.ac_semantics.specs.Work.{Work, given, closes}
@@ -296,7 +298,7 @@ module _ (program : Resolved) (bound : ℕ) (journal : List Entry) where
         resumed_counted (goes_on c held again) (cell.Int x.value) x.woken (goes_counted c n held again threads few_again to_come_again q)
 
     by_its_outcome : (o : Operation) (number : ℕ) (e : Entry) (todo : List Entry) → find tests s.operations ≡ Some o → o.progress ≡ progress.Offered number → s.shared.todo ≡ e ∷ todo
-        → (q : Option Outcome) → outcome o.link number e.event ≡ q
+        → (q : Option Fate) → outcome o.link number e.event ≡ q
         → Fine (goes_by (λ x. x) (λ it. goes (with_entry s.shared e todo) (by_outcome it s.store tests s.operations o)) q)
     by_its_outcome o number e todo found under is None decides = tt
     by_its_outcome o number e todo found under is (Some it) decides =
@@ -340,6 +342,7 @@ module _ (program : Resolved) (bound : ℕ) (journal : List Entry) where
 
   -- ---- a move of the running thread, of whose work k were to come; what is held may have been charged with a step
 
+  -- One case for each way in which a thread's step leads on. In each what is to come is no more than before, and the thread's place in the table is filled anew where it stops.
   applied_fine : (c : CoreState) (t : Item) (k n : ℕ) (s : Held) (next : Next) → c.running ≡ Some t → Counted c → k + table_actions c.threads ≤ n + stale c.threads c.running → Paid n s
       → Leads most k s next → Fine (applied c t next)
   applied_fine c t k n s (Goes x ws) running h le p l = let a = l.actions in goes_counted c n x ws h.threads l.few (omega arith) (kept n s x l.keeps p)

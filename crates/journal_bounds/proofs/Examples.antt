@@ -1,4 +1,5 @@
 -- How many calls and operations small programs have, and how few entries and how small stamps their runs.
+-- The counts hold by computing; the bounds take the laws as hypotheses.
 use Rattle.std.proofs.Common.{◌≡◌, refl, sym, ap, ◌∙◌, ℕ, zero, suc, ◌+◌, ◌*◌, ◌≤◌, max, List, [], ◌∷◌, length, Some, None, true, pos, codes, subst, arith}
 use Rattle.std.specs.Prelude.{ℤ}
 use Rattle.std.specs.List.{AllByRecursion}

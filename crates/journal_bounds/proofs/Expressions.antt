@@ -1,4 +1,5 @@
 -- What an expression stops at, and what is round it then, has no more calls and operations than the expression and what was round it.
+-- By induction on the expression, with any context round it; an operand is evaluated in a context that holds what is left of the whole.
 use Rattle.std.proofs.Common.{◌≡◌, ℕ, zero, suc, ◌+◌, ◌≤◌, List, [], ◌∷◌, map, Result, Ok, Err, sym, subst, arith}
 use Rattle.std.specs.Prelude.{ℤ, pos, negsuc}
 use Rattle.std.specs.List.{AllByRecursion}
@@ -15,7 +16,7 @@ use Rattle.core_state.specs.Frames.{element, part_at}
 use Rattle.ac_commands.specs.declared.value.Value.{Value, roll-Value, map-Value, ind-Value, fold-roll-Value}
 use Rattle.ac_commands.specs.declared.value.Value.TheOpen.{Value-F, ValueLink-F}
 use Rattle.ac_commands.specs.declared.value.ValueLink.{ValueLink, fold-ValueLink, fold-roll-ValueLink}
-use Rattle.ac_semantics.specs.Evaluation.{array, Head, Acting, Ending, Context, ElementAt, PartAt, Operand, First, Right, Operands, Outcome, Comes, Traps, Stops, comes_int}
+use Rattle.ac_semantics.specs.Evaluation.{array, Head, Acting, Ending, Context, ElementAt, PartAt, Operand, First, Right, Operands, Evaluated, Comes, Traps, Stops, comes_int}
 use Rattle.ac_semantics.specs.Evaluation.{then_goes, then_int, then_part, unless_decided, operate, goes, chain_goes, row_goes, gives, resumes}
 use Rattle.ac_semantics.proofs.Forms.{form_goes, goes_form, link_goes, operand_goes}
 use Rattle.journal_bounds.specs.Actions.{total, value_step, link_step, actions_in, actions_of}
@@ -46,22 +47,22 @@ around_actions [] = 0
 around_actions (x ∷ around) = context_actions x + around_actions around
 
 -- where it stops, no more than n are to come
-abbrev pub Within : ℕ → Outcome → Type 0
+abbrev pub Within : ℕ → Evaluated → Type 0
 Within n (Comes x) = Unit {0}
 Within n (Traps trap) = Unit {0}
 Within n (Stops head operands around) = head_actions head + around_actions around ≤ n
 
-pub within_more : (m n : ℕ) → m ≤ n → (o : Outcome) → Within m o → Within n o
+pub within_more : (m n : ℕ) → m ≤ n → (o : Evaluated) → Within m o → Within n o
 within_more m n le (Comes x) w = tt
 within_more m n le (Traps trap) w = tt
 within_more m n le (Stops head operands around) w = omega arith
 
-then_within : (n : ℕ) (o : Outcome) (f : Cell → Outcome) → Within n o → ((v : Cell) → Within n (f v)) → Within n (then_goes o f)
+then_within : (n : ℕ) (o : Evaluated) (f : Cell → Evaluated) → Within n o → ((v : Cell) → Within n (f v)) → Within n (then_goes o f)
 then_within n (Comes x) f w k = k x
 then_within n (Traps trap) f w k = tt
 then_within n (Stops head operands around) f w k = w
 
-int_within : (n : ℕ) (r : Computed) (f : ℤ → Outcome) → ((v : ℤ) → Within n (f v)) → Within n (then_int r f)
+int_within : (n : ℕ) (r : Computed) (f : ℤ → Evaluated) → ((v : ℤ) → Within n (f v)) → Within n (then_int r f)
 int_within n (Ok x) f k = k x
 int_within n (Err trap) f k = tt
 
@@ -69,12 +70,12 @@ part_within : (n : ℕ) (r : Result cells.Place Trap) → Within n (then_part r)
 part_within n (Ok place) = tt
 part_within n (Err trap) = tt
 
-zero_within : (n : ℕ) (x : ℤ) (a c : Outcome) → Within n a → Within n c → Within n (at_zero x a c)
+zero_within : (n : ℕ) (x : ℤ) (a c : Evaluated) → Within n a → Within n c → Within n (at_zero x a c)
 zero_within n (pos zero) a c p q = p
 zero_within n (pos (suc k)) a c p q = q
 zero_within n (negsuc k) a c p q = q
 
-unless_within : (n : ℕ) (op : BinaryOp) (x : ℤ) (decided : ℤ → Outcome) (right : Outcome) → ((v : ℤ) → Within n (decided v)) → Within n right → Within n (unless_decided op x decided right)
+unless_within : (n : ℕ) (op : BinaryOp) (x : ℤ) (decided : ℤ → Evaluated) (right : Evaluated) → ((v : ℤ) → Within n (decided v)) → Within n right → Within n (unless_decided op x decided right)
 unless_within n b.Or x decided right k w = zero_within n x right (decided (pos 1)) w (k (pos 1))
 unless_within n b.And x decided right k w = zero_within n x (decided (pos 0)) right (k (pos 0)) w
 unless_within n op x decided right k w = w
@@ -138,6 +139,7 @@ module _ (s : Store) (frame : FrameId) where
   abbrev counts_of : Value-F Value ValueLink → Value-F ℕ ℕ
   counts_of x = map-Value Value ValueLink ℕ ℕ actions_in actions_in_link x
 
+  -- One form of expression at a time, from the same of its operands: the first operand has the others round it, so nothing is counted twice.
   layer : (y : Value-F Value_ Link_) (around : List Context) → Within (value_step (counts_of (form_of y)) + around_actions around) (form_goes s frame (form_of y) around)
   layer (Value-F.Number value) around = tt
   layer (Value-F.Variable place) around = tt

@@ -1,4 +1,7 @@
 -- How many entries the operations of a core may still make, and that one that comes in and passes over no offer leaves one less.
+-- A receive has its end before it, and what goes to its peer its offer, and then two more at most: a send the end that is known, a request
+-- that it is taken and its answer, and a withdrawn one its withdrawal and its room, which comes back later.
+-- By the cases of an event: it ends or changes the first operation for which its test holds, which has less to come then; room that comes back lowers the count of Rooms.
 use Rattle.std.proofs.Common.{◌∙◌, ◌≡◌, ℕ, ◌+◌, ◌≤◌, List, [], ◌∷◌, ◌++◌, find, Option, Some, None, Bool, true, false, cond, refl, sym, ap, subst, arith}
 use Rattle.std.specs.Prelude.{ℤ, nat_eq, ◌&&◌, if◌then◌else◌}
 use Rattle.ac_base.specs.declared.entry.Entry.{Entry}
@@ -13,7 +16,7 @@ use Rattle.cancel_scope.specs.declared.operation.Operation.{Operation}
 use Rattle.cancel_scope.specs.Outstanding.{is_outgoing, is_request, is_waiting, is_under, past_offer, is_to_offer, is_offered}
 use Rattle.cancel_scope.specs.Outstanding.{is_begun, is_to_receive, carries, offered_as, as_begun, change_first, without_first}
 use Rattle.core_state.specs.Arrivals.{Arrival, offers, offers_on, is_taken, is_known, is_answered, ends_received, passes_over, gives_room, keeps_room, arrives, goes_on_waiting, has_ended}
-use Rattle.core_state.specs.Cancelling.{Outcome, NeverHappens, IsTaken, by_outcome, outcome}
+use Rattle.core_state.specs.Cancelling.{Fate, NeverHappens, IsTaken, by_outcome, outcome}
 use Rattle.journal_bounds.specs.Passes.{pass_of}
 use Rattle.journal_bounds.proofs.Counting.{withdrawal_of, offer_of}
 use Rattle.journal_bounds.proofs.Rooms.{keeping_in, keeping_push, room_less}
@@ -266,13 +269,13 @@ no_withdrawal link number (event.Withdraw l n) e = at (nat_eq l link && nat_eq n
 no_withdrawal link number other e = refl
 
 -- what decides of an offer makes none
-no_offer : (link number : ℕ) (v : Event) (it : Outcome) → outcome link number v ≡ Some it → offer_of v ≡ 0
+no_offer : (link number : ℕ) (v : Event) (it : Fate) → outcome link number v ≡ Some it → offer_of v ≡ 0
 no_offer link number (event.Offer l n payload) it e = let no : None ≡ Some it = e in absurd (cc)
 no_offer link number other it e = refl
 
 -- whatever the outcome of an offer is
 pub decided_less : (past : List Entry) (e : Entry) (store : Store) (test : Operation → Bool) (os : List Operation) (o : Operation) (number : ℕ) → find test os ≡ Some o
-    → o.progress ≡ progress.Offered number → (it : Outcome) → outcome o.link number e.event ≡ Some it → Less past e os (by_outcome it store test os o).operations
+    → o.progress ≡ progress.Offered number → (it : Fate) → outcome o.link number e.event ≡ Some it → Less past e os (by_outcome it store test os o).operations
 decided_less past e store test os o number found under NeverHappens is =
     let h = without_less test os o found in
     let fewer = h.0 in

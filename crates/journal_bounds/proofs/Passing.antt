@@ -1,4 +1,5 @@
 -- In a legal history no more offers are passed over, and done by the worker, than cores have made; and the worker does nothing else.
+-- By induction on the entries, with the offers of all links that are not settled: one that is made adds 1, one that is passed over or done takes 1 away.
 use Rattle.std.proofs.Common.{◌≡◌, ℕ, zero, suc, ◌+◌, ◌-◌, ◌≤◌, List, [], ◌∷◌, ◌++◌, length, get_or, set, Option, Some, None, Bool, true, false, refl, ap, arith}
 use Rattle.std.specs.Prelude.{◌==◌, ◌&&◌, ◌||◌, nat_eq, nat_le, nat_lt, if◌then◌else◌, slice_get, replicate}
 use Rattle.std.proofs.lemmas.Bool.Decides.{nat_tests}

@@ -1,4 +1,5 @@
 -- Withdrawn offers whose room has not come back: a withdrawal makes one more of them, and room that comes back one less.
+-- They are counted by going through the journal with all of it at hand. By induction on what is left; the hard case is room, which lowers the count at its own withdrawal.
 use Rattle.std.proofs.Common.{◌≡◌, ℕ, ◌+◌, ◌≤◌, List, [], ◌∷◌, ◌++◌, Bool, true, false, refl, sym, subst, arith}
 use Rattle.std.specs.Prelude.{not, ◌&&◌, ◌||◌, nat_eq, if◌then◌else◌}
 use Rattle.std.specs.List.{list_any}
@@ -69,6 +70,7 @@ module _ (past : List Entry) (stamp turn link number : ℕ) where
   room = record { stamp = stamp; turn = turn; event = event.Room link number }
 
   -- of one that is withdrawn under this number
+  -- The shorter journal has no such room and the longer one has, so the withdrawal of this link and number counted 1 and now counts 0. No other event is that withdrawal.
   given_back : has_room link number past ≡ false → (v : Event) → is_withdrawal link number v ≡ true → keeping_one (past ++ room ∷ []) v + 1 ≤ keeping_one past v
   given_back none (event.Withdraw l n) h = at (nat_eq l link) (nat_eq n number) refl refl h
     where

@@ -1,4 +1,5 @@
--- A run of a core has few entries.
+-- A run of a core has few entries. For `entries_are_few`.
+-- `Counted` (Cores) holds of the first state and is kept by each step, so by induction on the steps it holds of the last; there nothing is to come.
 use Rattle.std.proofs.Common.{ℕ, zero, suc, ◌≤◌, List, [], ◌∷◌, Option, Some, None, Result, Ok, Err, false, refl, sym, subst, arith}
 use Rattle.std.specs.Prelude.{ℤ, replicate}
 use Rattle.ac_base.specs.declared.ends.CoreEnd.{CoreEnd}

@@ -1,4 +1,5 @@
--- No statement of a program has more calls and operations than the code of the program has instructions.
+-- No statement of a program has more calls and operations than the code of the program has instructions. For `actions_are_few`.
+-- By induction on expressions and statements: the code of each has at least an instruction for each of its calls and operations, and the parts stand in it one behind another.
 use Rattle.std.proofs.Common.{◌≡◌, ℕ, ◌+◌, ◌≤◌, max, List, [], ◌∷◌, map, Option, Some, None, length, sym, ap, ◌∙◌, subst, arith}
 use Rattle.std.proofs.lemmas.Bool.Decides.{nat_tests}
 use Rattle.ac_tree.specs.declared.expr.BinaryOp.{BinaryOp}
@@ -121,6 +122,7 @@ counted_in z = command_step (map-Command Command ℕ most_in z)
 abbrev coded_in : Command-F Command → Piece
 coded_in z = code.command_step (map-Command Command Piece command_code z)
 
+-- One form of statement at a time: what it has itself is in the code of its operands, what it has within in that of its bodies, and the greater of both is in the whole.
 command_layer : (y : Command-F Command_) → counted_in (map-Command Command_ Command (λ c. c.0) y) ≤ (coded_in (map-Command Command_ Command (λ c. c.0) y)).size
 command_layer Command-F.Nothing = omega arith
 command_layer (Command-F.Set target value) = let h = value_few value in let k = target_few target in both_few (actions_of (value ∷ target_operands target)) 0 _ (omega arith) (omega arith)

@@ -1,4 +1,5 @@
--- The merged history has as many entries as its journals, and so its stamps are small.
+-- The merged history has as many entries as its journals, and so its stamps are small. For `stamps_are_small`.
+-- No stamp is above the number of entries (ac_history), each core has few (Runs), and the worker and the passes as many as cores made offers (Passing).
 use Rattle.std.proofs.Common.{◌≡◌, ℕ, suc, ◌*◌, ◌≤◌, List, [], ◌∷◌, length, get_or, Bool, true, false, refl, ap, ◌∙◌, arith}
 use Rattle.std.specs.Prelude.{nat_le, if◌then◌else◌}
 use Rattle.std.specs.List.{AllByRecursion}

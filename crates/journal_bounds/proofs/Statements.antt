@@ -1,4 +1,5 @@
 -- What a step of a thread leaves to come, and that it starts one operation at most.
+-- By the cases of what the step does. A statement that begins brings as much as it has and takes the step that pays for it (`next_takes`); others bring nothing new.
 use Rattle.std.proofs.Common.{◌≡◌, ℕ, zero, suc, ◌+◌, ◌<◌, ◌≤◌, List, [], ◌∷◌, ◌++◌, length, Option, Some, None, Result, Ok, Err, Bool, true, false, refl, inl, inr, ◌⊎◌, subst, arith}
 use Rattle.std.specs.Prelude.{ℤ, pos, negsuc, nat_lt, nat_le, replicate, slice_get, slice_index_or, map, reverse, if◌then◌else◌}
 use Rattle.std.proofs.lemmas.Bool.Decides.{nat_tests}
@@ -20,7 +21,7 @@ use Rattle.ac_commands.specs.declared.command.Command.{Command, out-Command}
 use Rattle.ac_commands.specs.declared.command.Command.TheOpen.{Command-F}
 use Rattle.ac_commands.specs.declared.program.Function.{Function}
 use Rattle.ac_commands.specs.declared.program.Resolved.{Resolved}
-use Rattle.ac_semantics.specs.Evaluation.{Acting, Ending, Outcome, Comes, Traps, Stops, row_goes, resumes}
+use Rattle.ac_semantics.specs.Evaluation.{Acting, Ending, Evaluated, Comes, Traps, Stops, row_goes, resumes}
 use Rattle.ac_semantics.specs.Held.{Held, with_shared, with_store, stepped, next_block}
 use Rattle.ac_semantics.specs.Work.{Work, Do, Pend, Given, CallOff, Turn, Close, Back, Leave, End, before, ahead, past_loop, at_turn}
 use Rattle.ac_semantics.specs.Statements.{Next, Goes, Ends, Starts, Yields, Arrives, Cancels, Operates, Dies, Stays}
@@ -96,6 +97,7 @@ module _ (w n : ℕ) (s : Held) where
 
   -- ---- a statement whose operands are there
 
+  -- One form of statement at a time, its operands evaluated. Bodies that it enters have not begun, so nothing is to come of them yet; they are no greater than the most.
   finish_leads : (program : Resolved) (self : Command) (x : Command-F Command) (operands : List Cell) (frame : FrameId) (ws : List Work)
       → most_in self ≤ w → most_within (counts_in x) ≤ w → AreFew w ws → works_actions ws ≤ n → Leads w n s (finish_form program self x operands frame ws s)
   finish_leads program self Command-F.Nothing operands frame ws l m a h = goes_on s ws (same s) a h
@@ -155,7 +157,7 @@ module _ (program : Resolved) where
   abbrev most : ℕ
   most = most_actions program
 
-  settles_lead : (n k : ℕ) (s : Held) (command : Command) (frame : FrameId) (ws : List Work) (o : Outcome) → Within k o → most_in command ≤ most → AreFew most ws → k + works_actions ws ≤ n
+  settles_lead : (n k : ℕ) (s : Held) (command : Command) (frame : FrameId) (ws : List Work) (o : Evaluated) → Within k o → most_in command ≤ most → AreFew most ws → k + works_actions ws ≤ n
       → Leads most n s (settles program command frame ws s o)
   settles_lead n k s command frame ws (Comes value) i l a h = tt
   settles_lead n k s command frame ws (Traps trap) i l a h = same s

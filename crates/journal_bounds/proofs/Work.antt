@@ -1,4 +1,5 @@
 -- What a thread has still to do: how many calls and operations of statements that have begun, and that no other statement has too many.
+-- By induction on the work: statements put before it have not begun and count nothing; what is left out only lowers the count.
 use Rattle.std.proofs.Common.{◌≡◌, ℕ, zero, suc, ◌+◌, ◌≤◌, max, List, [], ◌∷◌, map, Option, Some, None, refl, sym, ap, subst, arith}
 use Rattle.std.specs.Prelude.{slice_get}
 use Rattle.std.specs.List.{AllByRecursion}

@@ -2,14 +2,8 @@
 #![tactic(auto)]
 
 #[cfg(test)]
-mod disk_calls;
-#[cfg(test)]
-mod load_calls;
+mod failing;
 #[cfg(test)]
 mod main_calls;
 #[cfg(test)]
 mod reference;
-#[cfg(test)]
-mod requests;
-#[cfg(test)]
-mod rules;

@@ -1,4 +1,5 @@
--- A few tokens: their depths, and what is read of them.
+-- A few tokens: their depths, and what is read of them, one token or several, with room and without.
+-- Everything is computed; what does not hold is refused at the token or the depth that is another.
 use Rattle.std.proofs.Common.{◌≡◌, refl, ℕ, ◌≤◌, ℤ, pos, negsuc, Bool, true, false, List, [], ◌∷◌, map, codes, Option, Some, None, Result, Ok, Err, arith}
 use Rattle.std.specs.Prelude.{if◌then◌else◌}
 use Rattle.ac_lexer.specs.declared.token.Token.{Token}

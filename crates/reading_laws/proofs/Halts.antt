@@ -1,4 +1,5 @@
--- Values and stops.
+-- Values and stops: equal results have equal values or stop alike, and a reader with another behind it stops where one of the two does.
+-- By the two cases of a result.
 use Rattle.std.proofs.Common.{◌≡◌, List, Result, Ok, Err, refl, ap, ◌⊎◌, inl, inr}
 use Rattle.reading_laws.specs.Readers.{◌>>=◌, Fault, Cause, halt}
 use Rattle.ac_lexer.specs.declared.token.Token.{Token}

@@ -1,4 +1,6 @@
--- A reader looks no further than the token at which it stops.
+-- A reader looks no further than the token at which it stops (`Local`): where it stops before r, it stops alike before all that begins as r does.
+-- Shown for each way to put readers together. The hard one is a reader behind another (`local_bind`): the first one stops before what the
+-- second used, and that is followed by r, or by what begins as r does; so both begin the same there, too (`before`).
 use Rattle.std.proofs.Common.{◌≡◌, List, [], ◌∷◌, ◌++◌, Option, Some, None, Result, Ok, Err, refl, sym, ap, ◌∙◌, append_assoc}
 use Rattle.std.specs.Prelude.{Bool, true, false, if◌then◌else◌}
 use Rattle.ac_lexer.specs.declared.token.Token.{Token}

@@ -1,4 +1,5 @@
--- Parts that are one token.
+-- Parts that are one token: a word or a mark, a name, a number, a number negated, a text. Each has its spelling and its law (`law_token`), given
+-- that the tokens which are picked are those that are so spelled: `.._sound` one way, by the kinds of tokens, and `.._complete` the other.
 use Rattle.std.proofs.Common.{◌≡◌, ℕ, ℤ, ◌≤◌, Bool, true, false, List, [], ◌∷◌, Option, Some, None, refl, sym, ap, subst}
 use Rattle.std.specs.Prelude.{pos, negsuc, neg_ℤ, if◌then◌else◌, not}
 use denote.Enum.Bare.{same_true, true_same}

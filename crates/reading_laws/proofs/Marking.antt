@@ -1,4 +1,5 @@
--- Lists of tokens with their depths.
+-- Lists of tokens with their depths: what the tokens of two lists together are, that they keep a limit of depth, and which token is the first
+-- over it (`cut`). By induction on the first list.
 use Rattle.std.proofs.Common.{◌≡◌, ℕ, suc, ◌<◌, ◌≤◌, List, [], ◌∷◌, ◌++◌, length, Option, Some, None, refl, ap, ◌∙◌, append_assoc, arith}
 use Rattle.std.specs.Prelude.{Bool, true, false, ltb, if◌then◌else◌}
 use Rattle.std.proofs.lemmas.Bool.Decides.{nat_tests}

@@ -1,4 +1,6 @@
--- What a part begins with, and parts that may be too deep.
+-- What a part begins with, and parts that may be too deep: a part that begins with a word or a mark has it as its next token, and no other.
+-- A part without room is not read; the next token tells whether it would have begun. `law_within` has both cases: without room that of
+-- `law_look`, with room the law that the part is shown to have then. So names, numbers and texts have their law at each depth.
 use Rattle.std.proofs.Common.{◌≡◌, ℕ, ℤ, zero, suc, ◌+◌, ◌<◌, ◌≤◌, Bool, true, false, List, [], ◌∷◌, ◌++◌, Ok, refl, ap, ◌∙◌, ◌⊎◌, inl, inr, arith}
 use Rattle.std.specs.Prelude.{◌||◌}
 use Rattle.ac_lexer.specs.declared.token.Kind.{Kind}

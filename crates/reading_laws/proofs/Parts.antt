@@ -1,5 +1,7 @@
 -- Parts of a grammar: what reads them, what spells them, and a smallest one. The laws say that what is read is spelled so, that where reading
 -- stops a spelling goes on from what was used, that what is spelled is read, and that the next token alone decides.
+-- Each way to make a part has a lemma that gives its law by those of its parts, so the law of a grammar is put together as its reader is. The
+-- hard law is where reading stops: the spelling from there on is that of the part that stopped, and then smallest parts (`filled`).
 use Rattle.std.proofs.Common.{◌≡◌, ℕ, ◌<◌, ◌≤◌, List, [], ◌∷◌, ◌++◌, Option, Some, None, Ok, Err, refl, sym, ap, ◌∙◌, subst, append_assoc, inl, inr, arith}
 use Rattle.std.specs.Prelude.{Bool, true, false, if◌then◌else◌}
 use Rattle.ac_lexer.specs.declared.token.Token.{Token}
@@ -178,6 +180,8 @@ why_more : (L : ℕ) (c : Cause) (closing more : List Marked) (r : List Token) �
 why_more L unexpected closing more r w = tt
 why_more L too_deep closing more r w = record { head = w.head; others = w.others ++ more; behind = w.behind; is = ap (λ (c : List Marked). c ++ more) w.is; over = w.over; rest = w.rest }
 
+-- What is read is one spelling behind the other. Where the first part stops, a smallest second one follows what closes the first; where the
+-- second one stops, what the first used stands before it.
 pub bind_good : (L : ℕ) (X Y : Type 0) (f : List Token → Reads X) (k : X → List Token → Reads Y) (P : X → List Marked → Type 0) (Q : X → Y → List Marked → Type 0)
     → (a : List Token) → GoodAt L X f P a → ((x : X) (m : List Token) → f a ≡ Ok (x, m) → GoodAt L Y (k x) (Q x) m) → ((x : X) → Filled Y (Q x))
     → GoodAt L Y (λ a. f a >>= λ z. k z.0 z.1) (Seq X Y P Q) a
@@ -317,6 +321,7 @@ either {X} test p q = record {
   filled = record { value = q.filled.value; marks = q.filled.marks; spells = second q.filled.value q.filled.marks q.filled.spells };
 }
 
+-- the one that the test takes is good, and its spelling is one of the first or of the second
 pub either_good : (L : ℕ) (X : Type 0) (t : Bool) (f g : List Token → Reads X) (P Q : X → List Marked → Type 0) (a : List Token) → GoodAt L X f P a → GoodAt L X g Q a
     → GoodAt L X (λ a. if t then f a else g a) (Either_of X P Q) a
 either_good L X true f g P Q a u v = record {

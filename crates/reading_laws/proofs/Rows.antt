@@ -1,4 +1,6 @@
--- Parts that are read one after the other, as long as one comes.
+-- Parts that are read one after the other, as long as one comes: their law (`law_many`), by induction on how many `many_at` may read.
+-- It may read as many as there are tokens, and more would change nothing, since each part takes a token (`fuel`). The hard law is that the next
+-- token alone decides: two lists that begin the same may differ in length, so both are read with the lengths of both together (`local_many`).
 use Rattle.std.proofs.Common.{◌≡◌, ℕ, zero, suc, ◌+◌, ◌<◌, ◌≤◌, List, [], ◌∷◌, ◌++◌, length, Option, Some, None, Ok, Err, refl, sym, ap, ◌∙◌, subst, length-append, arith}
 use Rattle.std.specs.Prelude.{Bool, true, false, if◌then◌else◌}
 use Rattle.ac_lexer.specs.declared.token.Token.{Token}

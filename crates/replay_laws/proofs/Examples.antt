@@ -1,4 +1,5 @@
--- Turns of a journal, worked out by hand.
+-- Turns of a journal, worked out by hand: some that rise, some that do not, and the last of them.
+-- Each holds by comparing numbers.
 use Rattle.std.proofs.Common.{◌≡◌, ℕ, ◌≤◌, List, [], ◌∷◌, refl, arith}
 use Rattle.ac_base.specs.declared.entry.Entry.{Entry}
 use Rattle.ac_base.specs.declared.entry.Event.TheVariants as e

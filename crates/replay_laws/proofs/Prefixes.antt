@@ -1,4 +1,6 @@
--- Where a journal has a run, so has each front of it.
+-- Where a journal has a run, so has each front of it: one entry is taken off the end.
+-- While other entries are to come, the core with one entry more goes the same way (`Together`). Once none is to come, each end of the shorter journal is seen.
+-- By induction on the moves of the shorter one, which ends since valid code comes to an end. If its end were not seen, the longer one would end unseen too, and has no run.
 use Rattle.std.proofs.Common.{◌≡◌, ℕ, zero, suc, List, [], ◌∷◌, ◌++◌, Option, Some, None}
 use Rattle.std.proofs.Common.{Result, Ok, Err, Bool, true, false, refl, sym, ap, ◌∙◌, subst}
 use Rattle.std.specs.Prelude.{find, not, nat_eq, nat_lt, slice_get, slice_set, replicate, ◌^◌, ◌-◌, if◌then◌else◌}
@@ -20,7 +22,7 @@ use Rattle.core_state.specs.Moves.{Move, On, Over, moves, and_then, GoesOn, Come
 use Rattle.core_state.specs.Frames.{block_in, begun, first_store}
 use Rattle.core_state.specs.Arrivals as arrivals
 use Rattle.core_state.specs.Arrivals.{Arrival, at_point, comes_in}
-use Rattle.core_state.specs.Cancelling.{Outcome, NeverHappens, by_outcome, tried, tries, is_to_try, goes_by, decided, outcome}
+use Rattle.core_state.specs.Cancelling.{Fate, NeverHappens, by_outcome, tried, tries, is_to_try, goes_by, decided, outcome}
 use Rattle.core_state.specs.Shared.{Shared, with_turn, with_entry, seen, seen_left, begins_with}
 use Rattle.core_state.proofs.Runs.{GoesOn-none, GoesOn-more}
 use Rattle.stack_code.specs.declared.instr.Instr.{Instr}
@@ -115,7 +117,7 @@ module _ (code : Parts) (bound : ℕ) (e : Entry) (m : Flat) (first : Entry) (re
     abbrev inside : Operation → Bool
     inside = is_to_try (flat.is_inside m block)
 
-    abbrev made : Outcome → Operation → Arrival
+    abbrev made : Fate → Operation → Arrival
     made it o = by_outcome it m.store inside m.operations o
 
     never_together : (x : Arrival) → Together e (On (arrived (flat.marked m block) m.shared x)) (On (arrived (flat.marked more block) more.shared x))
@@ -137,7 +139,7 @@ module _ (code : Parts) (bound : ℕ) (e : Entry) (m : Flat) (first : Entry) (re
         ap (λ (todo : List Entry). decides more more.shared o number (todo ++ e ∷ [])) is in
         rw (plain, other) (by (nat_eq first.turn m.shared.turn))
       where
-        outcomes : (r : Option Outcome) → Together e
+        outcomes : (r : Option Fate) → Together e
             (goes_by (told (flat.counted m.count)) (λ it. On (arrived (flat.marked m block) (with_entry m.shared first rest) (made it o))) r)
             (goes_by (told (flat.counted m.count)) (λ it. On (arrived (flat.marked more block) (with_entry more.shared first (rest ++ e ∷ [])) (made it o))) r)
         outcomes None = (told (flat.counted m.count) None, refl, refl)
@@ -212,7 +214,7 @@ module _ (code : Parts) (bound : ℕ) (m : Flat) (none : m.shared.todo ≡ []) w
     abbrev within : Operation → Bool
     within = is_to_try (flat.is_inside m block)
 
-    abbrev ended : Operation → Shared → Outcome → Move Flat FlatEnd
+    abbrev ended : Operation → Shared → Fate → Move Flat FlatEnd
     ended o s it = On (arrived (flat.marked m block) s (by_outcome it m.store within m.operations o))
 
     not_begun : (o : Operation) → find within m.operations ≡ Some o → not (has_begun o.progress) ≡ true
@@ -298,6 +300,8 @@ module _ (code : Parts) (bound : ℕ) (e : Entry) where
       split (first ∷ rest) is again = by (exec code bound m) (exec_together code bound e m first rest is) h again
 
 -- where a journal has a run, so has that without its last entry
+-- The shorter journal comes to some end (`comes_to`). The longer one has a run, so no end of it is unseen (`refuses`); so by `front_ends` the end of the shorter one is seen.
+-- Where the first call cannot begin, both end at once and unseen, which `refuses` excludes.
 pub front_has_run : (code : Parts) (core bound : ℕ) (ranks : List ℕ) → IsValid code → IsRanked code ranks → (journal : List Entry) (e : Entry)
     → HasRun code core bound (journal ++ e ∷ []) → HasRun code core bound journal
 front_has_run code core bound ranks valid ranked journal e r =

@@ -1,4 +1,6 @@
 -- Where an entry does not come in, the core comes to no end that is seen; and where it cannot come in yet, the core goes on as without it.
+-- A core comes to one end (moves are a function), so a journal that leads to an end of which nothing is seen has no run.
+-- A move at which the entry cannot come in is the move as without it (`Beside`), by the cases of a move; several moves by induction. The hard case is rest, where the turn rises.
 use Rattle.std.proofs.Common.{◌≡◌, ℕ, zero, suc, ◌+◌, ◌≤◌, List, [], ◌∷◌, ◌++◌, Option, Some, None, Bool, true, false, refl, sym, ap, ◌∙◌, subst, arith}
 use Rattle.std.specs.Prelude.{find, not, nat_eq, nat_lt, slice_get, slice_set, ◌^◌, ◌-◌, is_none, if◌then◌else◌}
 use Rattle.std.proofs.lemmas.Bool.{eq-eqb}
@@ -16,7 +18,7 @@ use Rattle.core_state.specs.Moves.{Move, On, Over, GoesOn, ComesTo}
 use Rattle.core_state.specs.Frames.{block_in}
 use Rattle.core_state.specs.Arrivals as arrivals
 use Rattle.core_state.specs.Arrivals.{Arrival, at_point, comes_in}
-use Rattle.core_state.specs.Cancelling.{Outcome, NeverHappens, by_outcome, tried, tries, is_to_try, outcome}
+use Rattle.core_state.specs.Cancelling.{Fate, NeverHappens, by_outcome, tried, tries, is_to_try, outcome}
 use Rattle.core_state.specs.Shared.{with_turn, with_entry, seen, seen_left}
 use Rattle.core_state.proofs.Runs.{GoesOn-more}
 use Rattle.core_state.proofs.Simulation.{one_end}
@@ -91,6 +93,7 @@ module _ (code : Parts) (bound : ℕ) (e : Entry) (m : Flat) (none : m.shared.to
   hidden : (why : EndWord) (idle : Bool) → seen why idle m.store.globals m.operations more.shared ≡ None
   hidden why idle = ap (λ (todo : List Entry). seen_left why idle m.store.globals m.operations more.shared (todo ++ e ∷ [])) none
 
+  -- with none ready the core ends, which is not seen while the entry is to come; else the turn rises by one, and the entry's is not the present one, so it is not passed
   dispatched_beside : (ready : List Item) → nat_eq e.turn m.shared.turn ≡ false → Beside e m (dispatched m ready) (dispatched more ready)
   dispatched_beside [] off = (told m.count (seen word.Stalled true m.store.globals m.operations more.shared), refl, hidden word.Stalled true)
   dispatched_beside (t ∷ ready) off =
@@ -135,7 +138,7 @@ module _ (code : Parts) (bound : ℕ) (e : Entry) (m : Flat) (none : m.shared.to
     abbrev inside : Operation → Bool
     inside = is_to_try (flat.is_inside m block)
 
-    abbrev made : Outcome → Operation → Arrival
+    abbrev made : Fate → Operation → Arrival
     made it o = by_outcome it m.store inside m.operations o
 
     never_beside : (x : Arrival) → Beside e m (On (arrived (flat.marked m block) m.shared x)) (On (arrived (flat.marked more block) more.shared x))

@@ -1,4 +1,6 @@
--- The entries of a journal that has a run come in turn after turn.
+-- The entries of a journal that has a run come in turn after turn; so no run goes on with an entry of a turn that is over.
+-- First each move keeps (`Keeps`) what came in, or takes the next entry if its turn is the present one: by the cases of a move, of which only rest and `cancel` take entries.
+-- Then `InOrder` is an invariant of the moves, by induction on their number; an end that is seen has nothing to come, so all of the journal is in order.
 use Rattle.std.proofs.Common.{◌≡◌, ℕ, zero, suc, ◌≤◌, ◌<◌, List, [], ◌∷◌, ◌++◌, Option, Some, None, Result, Ok, Err, Bool, true, false, refl, sym, ap, ◌∙◌, append-nil, append_assoc, arith}
 use Rattle.std.specs.Prelude.{find, nat_eq, nat_lt, slice_get, slice_set, replicate, ◌^◌, ◌-◌, if◌then◌else◌}
 use Rattle.std.proofs.lemmas.Bool.{eqb-true}
@@ -17,7 +19,7 @@ use Rattle.core_state.specs.Moves.{Move, On, Over, moves, and_then}
 use Rattle.core_state.specs.Frames.{block_in, begun, first_store}
 use Rattle.core_state.specs.Arrivals as arrivals
 use Rattle.core_state.specs.Arrivals.{Arrival, at_point, comes_in}
-use Rattle.core_state.specs.Cancelling.{Outcome, NeverHappens, by_outcome, tried, tries, is_to_try, goes_by, decided, outcome}
+use Rattle.core_state.specs.Cancelling.{Fate, NeverHappens, by_outcome, tried, tries, is_to_try, goes_by, decided, outcome}
 use Rattle.core_state.specs.Shared.{Shared, with_turn, with_entry, seen, seen_left, begins_with}
 use Rattle.stack_code.specs.declared.instr.Instr.{Instr}
 use Rattle.stack_code.specs.declared.instr.Instr.TheVariants as i
@@ -127,7 +129,7 @@ module _ (code : Parts) (bound : ℕ) (m : Flat) where
     abbrev inside : Operation → Bool
     inside = is_to_try (flat.is_inside m block)
 
-    abbrev made : Outcome → Operation → Arrival
+    abbrev made : Fate → Operation → Arrival
     made it o = by_outcome it m.store inside m.operations o
 
     never : (x : Arrival) → Keeps m (On (arrived (flat.marked m block) m.shared x))
@@ -142,7 +144,7 @@ module _ (code : Parts) (bound : ℕ) (m : Flat) where
     decided_keeps o number [] is = over (λ e es h. no_entries e es m.shared.todo is h)
     decided_keeps o number (e ∷ es) is = by (nat_eq e.turn m.shared.turn) refl
       where
-        outcome_keeps : e.turn ≡ m.shared.turn → (r : Option Outcome)
+        outcome_keeps : e.turn ≡ m.shared.turn → (r : Option Fate)
             → Keeps m (goes_by (told (flat.counted m.count)) (λ it. On (arrived (flat.marked m block) (with_entry m.shared e es) (made it o))) r)
         outcome_keeps now None = over (λ f fs h. refl)
         outcome_keeps now (Some it) = came (flat.marked m block) (made it o) e es is now

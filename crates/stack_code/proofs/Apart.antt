@@ -1,4 +1,7 @@
 -- What is reserved, address by address, and what follows for the uses of slots.
+-- For `reserve` and `has_one_use`: `Reserves` says what the rows hold after so many addresses, first the array parameters and then one
+-- block more at each `Enter`. No slot has two uses just where no block is a parameter and no int that is named lies in a row; a clash is
+-- two uses of one slot.
 use Rattle.std.proofs.Common.{◌≡◌, ℕ, zero, suc, ◌+◌, ◌<◌, ◌≤◌, ◌⊎◌, inl, inr, List, [], ◌∷◌, length, Option, Some, None, Bool, true, false, not, nat_lt, Contains, refl, sym, ap, ◌∙◌, subst, arith}
 use Rattle.std.specs.Prelude.{slice_get, map, replicate, ◌↔◌, IsTrue, unwrap_or}
 use Rattle.std.specs.List.Sorted.{IsNonDecreasing}
@@ -20,7 +23,7 @@ use Rattle.stack_code.specs.Kept.{IsTable}
 use Rattle.stack_code.specs.inner.Reserve.{named_of, block_in, ints_at, block_at, arrays_from, arrays_in, slots_of, HasRow}
 use Rattle.stack_code.specs.inner.Reserve.{Adds, SameSlots, row_of, AllSorted, NamesBlock, Reserves, IsReserve, IsFree, Freed}
 use Rattle.stack_code.proofs.Homes.{HasHome, home_inside}
-use Rattle.way_order.proofs.Places.{within}
+use Rattle.graph_ranks.proofs.Places.{within}
 use Rattle.stack_code.proofs.Rounds.{below_or_next}
 use Rattle.stack_code.proofs.Naming.{here_of, block_use, ints_use, block_named, load_named, sets_named}
 

@@ -1,4 +1,5 @@
 -- Which bodies are round the addresses to which an instruction leads.
+-- One case of Leading: the bodies stay the same whatever the operands and blocks are, and only an `Async` and a call have others.
 use Rattle.std.proofs.Common.{◌≡◌, ℕ, Some, refl}
 use Rattle.std.specs.Prelude.{slice_get}
 use Rattle.stack_code.specs.declared.instr.Instr.{Instr}

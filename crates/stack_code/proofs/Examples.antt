@@ -1,4 +1,6 @@
 -- What instructions ask for, a code that is valid, and codes that are not.
+-- The valid code is `int x = 3; return x;`, for which each part of validity is shown; others lack an operand, a slot, a step on their way
+-- round, or something that their lists name.
 use Rattle.std.proofs.Common.{◌≡◌, refl, sym, ap, subst, ◌∙◌, ℕ, zero, suc, ◌+◌, ◌<◌, ℤ, pos, List, [], ◌∷◌, codes, Option, Some, None, Bool, true, false, inl, inr, arith}
 use Rattle.std.specs.Prelude.{negsuc, slice_get, slice_index, unwrap_or}
 use Rattle.std.proofs.lemmas.List.Elements.{All-from_recursion}
@@ -7,8 +9,8 @@ use Rattle.stack_code.specs.declared.instr.Instr.TheVariants as i
 use Rattle.stack_code.specs.declared.parts.Entered.{Entered}
 use Rattle.stack_code.specs.declared.parts.Start.{Start}
 use Rattle.stack_code.specs.declared.parts.ChannelEnds.{ChannelEnds}
-use Rattle.stack_code.specs.declared.shape.Kind.{Kind}
-use Rattle.stack_code.specs.declared.shape.Kind.TheVariants as kind
+use Rattle.stack_code.specs.declared.shape.CellKind.{CellKind}
+use Rattle.stack_code.specs.declared.shape.CellKind.TheVariants as kind
 use Rattle.stack_code.specs.declared.shape.Home.{Home}
 use Rattle.stack_code.specs.declared.shape.Home.TheVariants as home
 use Rattle.stack_code.specs.declared.shape.Shape.{Shape}
@@ -47,7 +49,7 @@ begins_so words instrs = record { entry = 0; entry_is = refl; function_is = refl
 
 -- ---- what instructions ask for, at an address 4 in a function with two slots
 
-abbrev pub shape : List Kind → Shape
+abbrev pub shape : List CellKind → Shape
 shape kinds = record { bodies = record { home = home.Function 0; slots = 2 } ∷ []; blocks = []; operands = kinds }
 
 abbrev pub code : Parts
@@ -236,7 +238,7 @@ abbrev pub small : Parts
 small = code_of 1 keeps_three
 
 -- the shape of an address in it
-abbrev pub holding : List Kind → Shape
+abbrev pub holding : List CellKind → Shape
 holding kinds = record { bodies = record { home = home.Function 0; slots = 1 } ∷ []; blocks = []; operands = kinds }
 
 data At : ℕ → Shape → Type 0 where

@@ -1,4 +1,6 @@
 -- The bodies in the shapes of a code are functions of it and `Async`s that stand in it.
+-- By induction on how a shape is reached: a core's first shape has the body of its function, and Effects says what a way makes of the
+-- bodies.
 use Rattle.std.proofs.Common.{◌≡◌, ℕ, zero, suc, ◌<◌, List, length, Option, Some, None, refl, sym, ap, ◌∙◌, subst}
 use Rattle.std.specs.Prelude.{slice_get, option_map}
 use Rattle.stack_code.specs.declared.instr.Instr.{Instr}
@@ -12,7 +14,7 @@ use Rattle.stack_code.specs.Parts.{Parts}
 use Rattle.stack_code.specs.Shapes.{first, inner}
 use Rattle.stack_code.specs.Valid.{Reaches, begins, goes, home_at}
 use Rattle.stack_code.specs.inner.Bodies.{IsHome, IsBody}
-use Rattle.way_order.proofs.Places.{within}
+use Rattle.graph_ranks.proofs.Places.{within}
 use Rattle.stack_code.proofs.Effects.{Bodies, same, more, begin, leading}
 
 abbrev pub AllBodies : Parts → List Body → Type 0

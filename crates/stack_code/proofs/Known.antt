@@ -1,4 +1,7 @@
 -- The search for shapes keeps what it knows.
+-- `IsWork`: what the table has is reached, and each address with a shape is closed (all its ways lead into the table) or still to be
+-- followed. Here one address is met or followed; where a way leads to an address with another shape, or an instruction does not fit, the
+-- code has no shapes at all.
 use Rattle.std.proofs.Common.{◌≡◌, ℕ, zero, suc, ◌+◌, ◌<◌, ◌≤◌, ◌⊎◌, inl, inr, List, [], ◌∷◌, ◌++◌, length, Option, Some, None, Bool, true, false, refl, sym, ap, ◌∙◌, subst, arith, length-append}
 use Rattle.std.specs.Prelude.{slice_get, slice_set, ◌↔◌, IsTrue}
 use Rattle.std.proofs.lemmas.Bool.{false≢true}
@@ -9,7 +12,7 @@ use Rattle.stack_code.specs.Shapes.{effect, LeadsTo}
 use Rattle.stack_code.specs.Valid.{Fits, Reaches, goes, IsShaped}
 use Rattle.stack_code.specs.Kept.{Has}
 use Rattle.stack_code.specs.inner.Work.{IsOpen, IsClosed, nones, IsWork, Extends, IsMet, Met, IsFollowed, IsTurned}
-use Rattle.way_order.proofs.Places.{set_same, set_cases, set_other, set_length, end_cases, end_before, end_here, within}
+use Rattle.graph_ranks.proofs.Places.{set_same, set_cases, set_other, set_length, end_cases, end_before, end_here, within}
 
 one_some : (s t : Shape) → Some s ≡ Some t → s ≡ t
 one_some s t e = cc

@@ -1,11 +1,13 @@
 -- What holds of a shape whatever its operands are, also with a block more or less, holds of each shape to which an instruction leads.
+-- One proof for all instructions, so that what is said of bodies, blocks or slots needs no case for each of them: a user gives the four
+-- changes of `HoldsAround`.
 use Rattle.std.proofs.Common.{◌≡◌, ℕ, ◌+◌, inl, inr, List, [], ◌∷◌, Option, Some, None, Bool, true, false, refl, subst}
 use Rattle.std.specs.Prelude.{slice_get, length, replicate, nat_eq, nat_le, nat_lt, if◌then◌else◌}
 use Rattle.stack_code.specs.declared.instr.Instr.{Instr}
 use Rattle.stack_code.specs.declared.instr.Instr.TheVariants as i
 use Rattle.stack_code.specs.declared.parts.Entered.{Entered}
-use Rattle.stack_code.specs.declared.shape.Kind.{Kind}
-use Rattle.stack_code.specs.declared.shape.Kind.TheVariants as kind
+use Rattle.stack_code.specs.declared.shape.CellKind.{CellKind}
+use Rattle.stack_code.specs.declared.shape.CellKind.TheVariants as kind
 use Rattle.stack_code.specs.declared.shape.Want.{Want}
 use Rattle.stack_code.specs.declared.shape.Want.TheVariants as want
 use Rattle.stack_code.specs.declared.shape.Body.{Body}
@@ -19,7 +21,7 @@ use Rattle.stack_code.specs.Shapes.{taken, with_operands, pushed, after, first, 
 
 -- with other operands, with one block more, without the innermost block, and at the first address of a function
 pub record HoldsAround (code : Parts) (s : Shape) (Holds : Shape → Type 0) : Type 0 where
-  pub kept : (kinds : List Kind) → Holds (with_operands s kinds)
+  pub kept : (kinds : List CellKind) → Holds (with_operands s kinds)
   pub more : (slot : ℕ) (body : Body) → body_with s 0 slot 1 ≡ Some body → Holds (entered slot s)
   pub less : (block : OpenBlock) (blocks : List OpenBlock) → s.blocks ≡ block ∷ blocks → Holds (record s { blocks = blocks })
   pub begun : (number : ℕ) (function : Entered) → slice_get code.functions number ≡ Some function → Holds (first number function)
@@ -57,17 +59,17 @@ module _ (code : Parts) (at : ℕ) (s : Shape) (Holds : Shape → Type 0) (aroun
   by_goes : goes at s ≡ Some l → L l
   by_goes e = by_one (at + 1) s (around.kept s.operands) e
 
-  by_pushes : (k : Kind) → pushes at k s ≡ Some l → L l
+  by_pushes : (k : CellKind) → pushes at k s ≡ Some l → L l
   by_pushes k e = by_one (at + 1) (with_operands s (k ∷ s.operands)) (around.kept (k ∷ s.operands)) e
 
   -- the wanted operands are taken
-  by_after : (wants : List Want) (go : Shape → Option Leads) → ((kinds : List Kind) → go (with_operands s kinds) ≡ Some l → L l) → after wants s go ≡ Some l → L l
+  by_after : (wants : List Want) (go : Shape → Option Leads) → ((kinds : List CellKind) → go (with_operands s kinds) ≡ Some l → L l) → after wants s go ≡ Some l → L l
   by_after wants go h e = by_some (taken wants s.operands) (λ kinds. go (with_operands s kinds)) (λ kinds r f. h kinds f) e
 
   by_take : (wants : List Want) → after wants s (goes at) ≡ Some l → L l
   by_take wants e = by_after wants (goes at) (λ kinds f. by_one (at + 1) (with_operands s kinds) (around.kept kinds) f) e
 
-  by_make : (wants : List Want) (k : Kind) → after wants s (pushes at k) ≡ Some l → L l
+  by_make : (wants : List Want) (k : CellKind) → after wants s (pushes at k) ≡ Some l → L l
   by_make wants k e = by_after wants (pushes at k) (λ kinds f. by_one (at + 1) (with_operands s (k ∷ kinds)) (around.kept (k ∷ kinds)) f) e
 
   by_one_int : one_int at s ≡ Some l → L l
@@ -109,6 +111,8 @@ module _ (code : Parts) (at : ℕ) (s : Shape) (Holds : Shape → Type 0) (aroun
   by_async slots to deeper e = by_if (can_start s) _ (λ f. by_two (at + 1) to (inner at slots s) s deeper (around.kept s.operands) f) e
 
   -- where it holds of the inner body too, if the instruction is an `Async`
+  -- By cases on the instruction; each is one of the ways above to take operands, to push, to jump or to go on, whose condition is then read
+  -- off `effect`.
   pub leading : (instr : Instr) → ((slots to : ℕ) → instr ≡ i.Async slots to → Holds (inner at slots s)) → effect code at instr s ≡ Some l → L l
   leading i.Step deeper = by_goes
   leading (i.Push v) deeper = by_pushes kind.Int

@@ -1,4 +1,6 @@
 -- What an instruction names, and for what the code uses it.
+-- From the table to the definition and back: `block_at` and `ints_at` name slots at an address by its one shape there, and `Uses` speaks of
+-- every shape that is reached; the table has all of them (`IsTable`), so the two say the same.
 use Rattle.std.proofs.Common.{◌≡◌, ℕ, ◌+◌, ◌<◌, ◌≤◌, List, Option, Some, None, Bool, true, false, refl, sym, ap, ◌∙◌, subst, arith}
 use Rattle.std.specs.Prelude.{slice_get, if◌then◌else◌}
 use Rattle.stack_code.specs.declared.instr.Instr.{Instr}

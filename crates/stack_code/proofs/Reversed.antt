@@ -1,4 +1,5 @@
 -- Stacks, seen from their top.
+-- A shape has its top first and the code keeps it last; lists are equal just where they are when both are turned round.
 use Rattle.std.proofs.Common.{◌≡◌, List, Bool, reverse, sym, ap, ◌∙◌}
 use Rattle.std.specs.Prelude.{◌↔◌, IsTrue}
 use Rattle.std.proofs.lemmas.List.{reverse-reverse}

@@ -1,4 +1,6 @@
 -- Globals whose slots rise.
+-- `rising_from` goes over the list once with the least slot that may come next; by induction it is true just where the slots are strictly
+-- increasing.
 use Rattle.std.proofs.Common.{◌≡◌, ℕ, zero, suc, ◌+◌, ◌<◌, ◌≤◌, List, [], ◌∷◌, length, Bool, true, false, nat_lt, refl, sym, ◌∙◌, subst, arith}
 use Rattle.std.specs.Prelude.{map, slice_index, All, ◌↔◌, IsTrue, if◌then◌else◌}
 use Rattle.std.specs.List.Sorted.{IsStrictlyIncreasing}

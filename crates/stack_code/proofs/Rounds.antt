@@ -1,4 +1,6 @@
 -- The search for shapes from its beginning to its end.
+-- The invariants of its two loops: over the entries, of which so many have their shapes in the table, and over the addresses that were
+-- found, of which those before `next` are closed. At the end all are, so the table is closed under all ways, and that is `IsTable`.
 use Rattle.std.proofs.Common.{◌≡◌, ℕ, zero, suc, ◌+◌, ◌<◌, ◌≤◌, ◌⊎◌, inl, inr, List, [], length, Option, Some, None}
 use Rattle.std.proofs.Common.{Bool, true, false, nat_lt, replicate, refl, sym, ap, ◌∙◌, subst, arith, Result, Ok, Err}
 use Rattle.std.specs.Prelude.{slice_get, get_or, IfOk}
@@ -14,7 +16,7 @@ use Rattle.stack_code.specs.Shapes.{first, effect, LeadsTo}
 use Rattle.stack_code.specs.Valid.{Fits, Goes, Reaches, begins, goes, IsShaped}
 use Rattle.stack_code.specs.Kept.{Has}
 use Rattle.stack_code.specs.inner.Work.{IsClosed, nones, IsWork, Extends, IsMet, Met, Followed, IsTurned, Turned, HasEntries, IsBegun, IsFound}
-use Rattle.way_order.proofs.Places.{within}
+use Rattle.graph_ranks.proofs.Places.{within}
 use Rattle.stack_code.proofs.Known.{same_has, turned, leads_same, unfit, reached_on}
 
 -- ---- one address

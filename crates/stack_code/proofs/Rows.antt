@@ -1,4 +1,6 @@
 -- Rows of slots.
+-- A row for each function and each `Async`. Adding a slot changes the row of one home and keeps what the others have; sorting a row leaves
+-- it the same slots, and the rows are sorted one by one.
 use Rattle.std.proofs.Common.{◌≡◌, ℕ, zero, suc, ◌+◌, ◌<◌, ◌⊎◌, inl, inr, List, [], ◌∷◌, ◌++◌, length, Bool, true}
 use Rattle.std.proofs.Common.{false, nat_eq, Result, Ok, Err, Contains, Vec, Global, refl, sym, ap, ◌∙◌, subst, arith}
 use Rattle.std.specs.Prelude.{slice_set, get_or, OnOk}
@@ -11,7 +13,7 @@ use Rattle.stack_code.specs.declared.shape.Home.{Home}
 use Rattle.stack_code.specs.declared.shape.Home.TheVariants as home
 use Rattle.stack_code.specs.declared.uses.Reserved.{Reserved}
 use Rattle.stack_code.specs.inner.Reserve.{slots_of, Adds, SameSlots, row_of, SortedTo}
-use Rattle.way_order.proofs.Places.{set_length}
+use Rattle.graph_ranks.proofs.Places.{set_length}
 
 -- the same place, or another
 pub equal_or_not : (i k : ℕ) → (i ≡ k) ⊎ (i ≡ k → ⊥)

@@ -1,4 +1,5 @@
 -- An instruction leads on from a shape in one way alone.
+-- `effect` is a function, so two ways to fit the same shape at one address lead to the same.
 use Rattle.std.proofs.Common.{◌≡◌, ℕ, subst}
 use Rattle.stack_code.specs.declared.shape.Shape.{Shape}
 use Rattle.stack_code.specs.Parts.{Parts}

@@ -1,9 +1,11 @@
 -- Ways that pass no `Step`, and the graph that is searched.
+-- The graph has just the ways of the code without a `Step` (Known: an address has one shape). A cycle in it is a way of the code that takes
+-- no step for ever; ranks that fall along it exclude one, since then an address would be below itself.
 use Rattle.std.proofs.Common.{◌≡◌, ℕ, zero, suc, ◌<◌, List, length, Option, Some, None, Result, Ok, Err, sym, ◌∙◌, subst, arith}
 use Rattle.std.specs.Prelude.{slice_get, slice_index, IfOk, IfSome, IfNone, MatchOption}
 use Rattle.ac_base.specs.declared.memory.NoMemory.{NoMemory}
-use Rattle.way_order.specs.declared.graph.Ways.{Ways}
-use Rattle.way_order.specs.Graph.{Way, HasCycle, IsInside, IsRanking}
+use Rattle.graph_ranks.specs.declared.graph.Ways.{Ways}
+use Rattle.graph_ranks.specs.Graph.{Way, HasCycle, IsInside, IsRanking}
 use Rattle.stack_code.specs.declared.instr.Instr.{Instr}
 use Rattle.stack_code.specs.declared.instr.Instr.TheVariants as i
 use Rattle.stack_code.specs.declared.shape.Shape.{Shape}
@@ -13,7 +15,7 @@ use Rattle.stack_code.specs.Shapes.{effect, LeadsTo}
 use Rattle.stack_code.specs.Valid.{goes, Quiet, QuietWay, one, more, TakesSteps}
 use Rattle.stack_code.specs.Kept.{Has, IsTable}
 use Rattle.stack_code.specs.inner.Quiet.{IsLed, IsWays, IsGraph, IsSteady}
-use Rattle.way_order.proofs.Places.{within, got}
+use Rattle.graph_ranks.proofs.Places.{within, got}
 use Rattle.stack_code.proofs.Known.{same_has}
 
 -- ---- one address

@@ -1,4 +1,5 @@
 -- What indexing reads, as `slice_get` says it.
+-- Reading the table gives a default past its end; within its length the two say the same.
 use Rattle.std.proofs.Common.{◌≡◌, ℕ, ◌<◌, List, length, Option, Some, None, ap, ◌∙◌}
 use Rattle.std.specs.Prelude.{slice_get, get_or}
 use Rattle.std.proofs.lemmas.Option.{slice_get_read}

@@ -5,8 +5,8 @@ use Rattle.std.specs.List.{list_any}
 use Rattle.stack_code.specs.declared.instr.Instr.{Instr}
 use Rattle.stack_code.specs.declared.instr.Instr.TheVariants as i
 use Rattle.stack_code.specs.declared.parts.Entered.{Entered}
-use Rattle.stack_code.specs.declared.shape.Kind.{Kind}
-use Rattle.stack_code.specs.declared.shape.Kind.TheVariants as kind
+use Rattle.stack_code.specs.declared.shape.CellKind.{CellKind}
+use Rattle.stack_code.specs.declared.shape.CellKind.TheVariants as kind
 use Rattle.stack_code.specs.declared.shape.Home.{Home}
 use Rattle.stack_code.specs.declared.shape.Home.TheVariants as home
 use Rattle.stack_code.specs.declared.shape.Body.{Body}
@@ -24,7 +24,7 @@ on_some (Some x) go = go x
 
 -- ---- operands
 
-abbrev pub takes : Want → Kind → Bool
+abbrev pub takes : Want → CellKind → Bool
 takes want.Int kind.Int = true
 takes want.Int (kind.Reference one) = false
 takes want.Reference kind.Int = false
@@ -35,22 +35,22 @@ takes want.Any kind.Int = true
 takes want.Any (kind.Reference one) = true
 
 -- the kinds that are left below the wanted operands, of which the topmost is the first
-abbrev pub taken : List Want → List Kind → Option (List Kind)
+abbrev pub taken : List Want → List CellKind → Option (List CellKind)
 taken [] kinds = Some kinds
 taken (w ∷ wants) [] = None
 taken (w ∷ wants) (k ∷ kinds) = if takes w k then taken wants kinds else None
 
-abbrev pub with_operands : Shape → List Kind → Shape
+abbrev pub with_operands : Shape → List CellKind → Shape
 with_operands s kinds = record s { operands = kinds }
 
-abbrev pub pushed : Kind → Shape → Shape
+abbrev pub pushed : CellKind → Shape → Shape
 pushed k s = with_operands s (k ∷ s.operands)
 
 -- what `go` makes of the shape without the wanted operands
 abbrev pub after : List Want → Shape → (Shape → Option Leads) → Option Leads
 after wants s go = on_some (taken wants s.operands) (λ kinds. go (with_operands s kinds))
 
-abbrev pub is_int_alone : List Kind → Bool
+abbrev pub is_int_alone : List CellKind → Bool
 is_int_alone (kind.Int ∷ []) = true
 is_int_alone _ = false
 
@@ -70,7 +70,7 @@ abbrev pub is_array : Parts → Home → ℕ → Bool
 is_array code home slot = unwrap_or (slice_get (params_of code home) slot) false
 
 -- what is loaded from a slot
-abbrev pub loaded : Bool → Kind
+abbrev pub loaded : Bool → CellKind
 loaded true = kind.Reference false
 loaded false = kind.Int
 
@@ -158,7 +158,7 @@ channels_of code = length code.capacities - length code.entries
 abbrev pub goes : ℕ → Shape → Option Leads
 goes at s = Some (One (at + 1) s)
 
-abbrev pub pushes : ℕ → Kind → Shape → Option Leads
+abbrev pub pushes : ℕ → CellKind → Shape → Option Leads
 pushes at k s = goes at (pushed k s)
 
 -- an operator

@@ -6,7 +6,7 @@ ghost use Rattle.stack_code.specs.declared.shape.OpenBlock.{OpenBlock};
 ghost use Rattle.stack_code.specs.Shapes.{is_block, body_with, is_entered, entered, finished};
 ghost use Rattle.stack_code.specs.Shapes.{has_own, inner, can_start, can_end, can_return};
 
-use crate::shape::{Body, Home, Kind, OpenBlock, Shape};
+use crate::shape::{Body, CellKind, Home, OpenBlock, Shape};
 use ac_base::NoMemory;
 use std::alloc::Global;
 
@@ -172,8 +172,8 @@ pub fn may_return(shape: &Shape) -> bool
         return false;
     }
     match *shape.operands.get(0) {
-        Kind::Int => true,
-        Kind::Reference { .. } => false,
+        CellKind::Int => true,
+        CellKind::Reference { .. } => false,
     }
 }
 

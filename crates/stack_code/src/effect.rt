@@ -13,7 +13,7 @@ use crate::bodies::{
 use crate::instr::Instr;
 use crate::operands::{push, take, take_arguments, take_ints};
 use crate::parts::Entered;
-use crate::shape::{Body, Home, Kind, Leads, Shape, Want};
+use crate::shape::{Body, CellKind, Home, Leads, Shape, Want};
 use crate::sketch::Sketch;
 use crate::stack::Stack;
 use ac_base::NoMemory;
@@ -43,7 +43,7 @@ fn go_on(at: u32, shape: Shape) -> Option<Leads>
     Some(Leads::One { to: at + 1, shape })
 }
 
-fn push_on(at: u32, kind: Kind, shape: Shape) -> Result<Option<Leads>, NoMemory>
+fn push_on(at: u32, kind: CellKind, shape: Shape) -> Result<Option<Leads>, NoMemory>
     requires { at + 1 < 2 ^ 32 }
     ensures { IfOk result (λ l. l ≡ pushes at kind shape) }
 {
@@ -62,7 +62,7 @@ fn take_on(at: u32, wants: &[Want], shape: Shape) -> Option<Leads>
 }
 
 // Takes the wanted operands, pushes one and goes on.
-fn make_on(at: u32, wants: &[Want], kind: Kind, shape: Shape) -> Result<Option<Leads>, NoMemory>
+fn make_on(at: u32, wants: &[Want], kind: CellKind, shape: Shape) -> Result<Option<Leads>, NoMemory>
     requires { at + 1 < 2 ^ 32 }
     ensures { IfOk result (λ l. l ≡ after wants.now shape (pushes at kind)) }
 {
@@ -104,9 +104,9 @@ fn load(
     match body_with_slots(&shape, level, slot, 1) {
         Some(body) => {
             let kind = if code.is_array(body.home, slot) {
-                Kind::Reference { one: false }
+                CellKind::Reference { one: false }
             } else {
-                Kind::Int
+                CellKind::Int
             };
             push_on(at, kind, shape)
         }
@@ -166,7 +166,7 @@ fn call_of(
     }
     match take_arguments(shape, function.params.as_slice()) {
         Some(left) => {
-            let shape = push(left, Kind::Int)?;
+            let shape = push(left, CellKind::Int)?;
             let other = first_shape(alloc, number, function)?;
             Ok(Some(Leads::Two {
                 next: at + 1,
@@ -213,10 +213,10 @@ fn store(at: u32, level: u32, slot: u32, shape: Shape) -> Option<Leads>
 
 fn array(at: u32, level: u32, slot: u32, len: u32, shape: Shape) -> Result<Option<Leads>, NoMemory>
     requires { at + 1 < 2 ^ 32 }
-    ensures { IfOk result (λ l. l ≡ on_some (body_with shape level slot len) (λ body. pushes at (Kind.Reference (nat_eq len 1)) shape)) }
+    ensures { IfOk result (λ l. l ≡ on_some (body_with shape level slot len) (λ b. pushes at (CellKind.Reference (nat_eq len 1)) shape)) }
 {
     match body_with_slots(&shape, level, slot, len) {
-        Some(_) => push_on(at, Kind::Reference { one: len == 1 }, shape),
+        Some(_) => push_on(at, CellKind::Reference { one: len == 1 }, shape),
         None => Ok(None),
     }
 }
@@ -285,7 +285,7 @@ fn transfer(at: u32, file: u32, shape: Shape) -> Result<Option<Leads>, NoMemory>
     make_on(
         at,
         &[Want::Reference, Want::Int, Want::Int],
-        Kind::Int,
+        CellKind::Int,
         shape,
     )
 }
@@ -298,10 +298,10 @@ fn stop_if(here: bool) -> Option<Leads>
 
 fn load_global(code: &Sketch, at: u32, slot: u32, shape: Shape) -> Result<Option<Leads>, NoMemory>
     requires { at + 1 < 2 ^ 32 }
-    ensures { IfOk result (λ l. l ≡ (if nat_lt slot code.now.globals then pushes at Kind.Int shape else None)) }
+    ensures { IfOk result (λ l. l ≡ (if nat_lt slot code.now.globals then pushes at CellKind.Int shape else None)) }
 {
     if slot < code.globals() {
-        push_on(at, Kind::Int, shape)
+        push_on(at, CellKind::Int, shape)
     } else {
         Ok(None)
     }
@@ -326,11 +326,11 @@ fn global_array(
     shape: Shape,
 ) -> Result<Option<Leads>, NoMemory>
     requires { at + 1 < 2 ^ 32 }
-    ensures { IfOk result (λ l. l ≡ (if nat_le (slot + len) code.now.globals then pushes at (Kind.Reference (nat_eq len 1)) shape
+    ensures { IfOk result (λ l. l ≡ (if nat_le (slot + len) code.now.globals then pushes at (CellKind.Reference (nat_eq len 1)) shape
         else None)) }
 {
     if u64::from(slot) + u64::from(len) <= u64::from(code.globals()) {
-        push_on(at, Kind::Reference { one: len == 1 }, shape)
+        push_on(at, CellKind::Reference { one: len == 1 }, shape)
     } else {
         Ok(None)
     }
@@ -345,11 +345,11 @@ fn operate(
     shape: Shape,
 ) -> Result<Option<Leads>, NoMemory>
     requires { at + 1 < 2 ^ 32 }
-    ensures { IfOk result (λ l. l ≡ (if nat_lt channel (channels_of code.now) then after (want ∷ []) shape (pushes at Kind.Int)
+    ensures { IfOk result (λ l. l ≡ (if nat_lt channel (channels_of code.now) then after (want ∷ []) shape (pushes at CellKind.Int)
         else None)) }
 {
     if u64::from(channel) < code.channels() {
-        make_on(at, &[want], Kind::Int, shape)
+        make_on(at, &[want], CellKind::Int, shape)
     } else {
         Ok(None)
     }
@@ -368,26 +368,26 @@ pub fn leads(
 {
     match instr {
         Instr::Step | Instr::Yield => Ok(go_on(at, shape)),
-        Instr::Push(_) => push_on(at, Kind::Int, shape),
+        Instr::Push(_) => push_on(at, CellKind::Int, shape),
         Instr::Load { level, slot } => load(code, at, level, slot, shape),
         Instr::LoadG { slot } => load_global(code, at, slot, shape),
         Instr::Store { level, slot } => Ok(store(at, level, slot, shape)),
         Instr::StoreG { slot } => Ok(store_global(code, at, slot, shape)),
         Instr::Arr { level, slot, len } => array(at, level, slot, len, shape),
         Instr::ArrG { slot, len } => global_array(code, at, slot, len, shape),
-        Instr::Elem => make_on(at, &[Want::Int, Want::Reference], Kind::Int, shape),
+        Instr::Elem => make_on(at, &[Want::Int, Want::Reference], CellKind::Int, shape),
         Instr::SetElem => Ok(take_on(at, &[Want::Int, Want::Reference, Want::Int], shape)),
         Instr::Place => make_on(
             at,
             &[Want::Int, Want::Reference],
-            Kind::Reference { one: true },
+            CellKind::Reference { one: true },
             shape,
         ),
         Instr::Clear { slot, len } => Ok(clear(at, slot, len, shape)),
         Instr::Neg | Instr::Not | Instr::Flip | Instr::Bool => make_on(
             at,
             &[Want::Int],
-            Kind::Int,
+            CellKind::Int,
             shape,
         ),
         Instr::BitOr
@@ -405,7 +405,7 @@ pub fn leads(
         | Instr::Sub
         | Instr::Mul
         | Instr::Div
-        | Instr::Rem => make_on(at, &[Want::Int, Want::Int], Kind::Int, shape),
+        | Instr::Rem => make_on(at, &[Want::Int, Want::Int], CellKind::Int, shape),
         Instr::Drop => Ok(take_on(at, &[Want::Any], shape)),
         Instr::Jump { to } => Ok(Some(Leads::One { to, shape })),
         Instr::Jz { to } | Instr::Jnz { to } => branch(alloc, at, to, shape),

@@ -18,5 +18,5 @@ mod work;
 pub use code::Code;
 pub use instr::Instr;
 pub use parts::{ChannelEnds, Entered, Start};
-pub use shape::{Body, Home, Kind, OpenBlock, Shape};
+pub use shape::{Body, CellKind, Home, OpenBlock, Shape};
 pub use stack::Stack;

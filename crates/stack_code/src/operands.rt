@@ -4,24 +4,24 @@ ghost use Rattle.std.specs.Prelude.{◌≡◌, ◌∷◌, List, None, Some, if�
 ghost use Rattle.stack_code.specs.declared.shape.Want.{Want};
 ghost use Rattle.stack_code.specs.Shapes.{takes, taken, with_operands, pushed, arguments};
 
-use crate::shape::{Kind, Shape, Want};
+use crate::shape::{CellKind, Shape, Want};
 use crate::stack::Stack;
 use ac_base::NoMemory;
 
-fn is_wanted(want: Want, kind: Kind) -> bool
+fn is_wanted(want: Want, kind: CellKind) -> bool
     ensures { result ≡ takes want kind }
 {
     match (want, kind) {
         (Want::Any, _) => true,
-        (Want::Int, Kind::Int) => true,
-        (Want::Reference, Kind::Reference { .. }) => true,
-        (Want::One, Kind::Reference { one }) => one,
+        (Want::Int, CellKind::Int) => true,
+        (Want::Reference, CellKind::Reference { .. }) => true,
+        (Want::One, CellKind::Reference { one }) => one,
         _ => false,
     }
 }
 
 // Takes the topmost operand away; false where it is not as wanted.
-fn take_one(operands: &mut Stack<Kind>, want: Want) -> bool
+fn take_one(operands: &mut Stack<CellKind>, want: Want) -> bool
     ensures { (wants : List Want) → taken (want ∷ wants) operands.old ≡ (if result then taken wants operands.new else None) }
 {
     match operands.pop() {
@@ -102,7 +102,7 @@ pub fn take_arguments(shape: Shape, params: &[bool]) -> Option<Shape>
 }
 
 /// The shape with an operand more.
-pub fn push(shape: Shape, kind: Kind) -> Result<Shape, NoMemory>
+pub fn push(shape: Shape, kind: CellKind) -> Result<Shape, NoMemory>
     ensures { IfOk result (λ t. t ≡ pushed kind shape) }
 {
     let Shape {

@@ -4,7 +4,7 @@ use crate::stack::Stack;
 
 /// The kind of an operand.
 #[derive(Clone, Copy, Debug, PartialEq, Eq)]
-pub enum Kind {
+pub enum CellKind {
     Int,
     /// A reference to an array, and whether it was made of just one element.
     Reference { one: bool },
@@ -41,7 +41,7 @@ pub struct OpenBlock {
 pub struct Shape {
     pub bodies: Stack<Body>,
     pub blocks: Stack<OpenBlock>,
-    pub operands: Stack<Kind>,
+    pub operands: Stack<CellKind>,
 }
 
 /// The addresses to which an instruction may go on, each with its shape there.

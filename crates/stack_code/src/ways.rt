@@ -11,8 +11,8 @@ use crate::instr::Instr;
 use crate::shape::{Leads, Shape};
 use crate::sketch::Sketch;
 use ac_base::{List, NoMemory};
+use graph_ranks::{Ways, ranks};
 use std::alloc::Global;
-use way_order::{Ways, ranks};
 
 fn ways_of(to: Leads) -> Ways
     ensures { IsLed to result }

@@ -1,17 +1,18 @@
--- What the definitions of Starting say of small files.
-use Rattle.std.proofs.Common.{◌≡◌, refl, ℕ, ◌-◌, ◌^◌, ◌<◌, ◌≤◌, List, [], ◌∷◌, length, codes, take, None, Some, ap, subst, arith, inl, slice_index}
-use Rattle.std.specs.Prelude.{All, Ok}
+-- What the definitions of Starting say of small files: of calls, of one file and of several. Each stands beside what it refuses, as a part that
+-- is taken for the whole, another order, or a file that is read after another one has failed.
+use Rattle.std.proofs.Common.{◌≡◌, refl, ℕ, ◌-◌, ◌^◌, ◌<◌, ◌≤◌, List, [], ◌∷◌, length, codes, take, None, Some, ap, arith, inl, inr, slice_index, true}
+use Rattle.std.specs.Prelude.{All, Ok, slice_index_or}
 use Rattle.std.proofs.lemmas.List.Elements.{All-from_recursion}
 use Rattle.std.specs.declared.result.Result.{Result}
 use Rattle.std.specs.declared.option.Option.{Option}
-use Rattle.ac_outside.specs.Disks.{Held, BindLeaves, with_bound, called}
+use Rattle.ac_outside.specs.Disks.{DiskTold, Held, BindLeaves, with_bound, called}
 use Rattle.ac_outside.specs.Files.{file_of}
 use Rattle.ac_outside.specs.Texts.{text_of}
 use Rattle.ac_outside.proofs.Examples.{named}
 use Rattle.starting_files.specs.declared.fault.StartFault.{StartFault}
 use Rattle.starting_files.specs.declared.fault.StartFault.TheVariants.{Failed, TooLong, NoMemory}
-use Rattle.starting_files.specs.Starting.{most_bytes, more_calls, reads_of, bytes_at, with_read, calls_of, with_started, LeavesBound, StartsFile, stopped, StopsAtFile, given, not_given, StartsFiles}
-use Rattle.starting_files.specs.Starting.{StartHasCause, IsNumberBelow, bind_failed}
+use Rattle.starting_files.specs.Starting.{most_bytes, more_calls, reads_of, bytes_at, with_read, calls_of, with_started, LeavesBound, StartsFile, stopped, StopsAtFile, not_given, StartsFiles}
+use Rattle.starting_files.specs.Starting.{AreStarted, AreStopped, StartHasCause, IsLatest, IsNumber, IsNumberBelow, bind_failed}
 
 -- ---- calls
 
@@ -84,7 +85,7 @@ no_short_file_is_long h = let over : 1048576 < 10 = h.1 in omega (arith, over)
 
 -- ---- several files
 
-pub both_are_given : StartsFiles disk (Some (with_started disk (codes "p" ∷ codes "q" ∷ []))) (codes "p" ∷ codes "q" ∷ []) (given (codes "0123456789" ∷ [] ∷ []))
+pub both_are_given : StartsFiles disk (Some (with_started disk (codes "p" ∷ codes "q" ∷ []))) (codes "p" ∷ codes "q" ∷ []) (codes "0123456789" ∷ [] ∷ [])
 both_are_given = (refl, refl)
 
 abbrev first_byte : Option Held → ℕ
@@ -92,7 +93,7 @@ first_byte None = 0
 first_byte (Some held) = slice_index (file_of held.files 0).name 0
 
 pub not_in_another_order :
-    StartsFiles disk (Some (with_started disk (codes "q" ∷ codes "p" ∷ []))) (codes "p" ∷ codes "q" ∷ []) (given (codes "0123456789" ∷ [] ∷ [])) → ⊥
+    StartsFiles disk (Some (with_started disk (codes "q" ∷ codes "p" ∷ []))) (codes "p" ∷ codes "q" ∷ []) (codes "0123456789" ∷ [] ∷ []) → ⊥
 not_in_another_order h = let e : 113 ≡ 112 = ap first_byte h.1 in omega (arith, e)
 
 p_is_short : All (λ path. length (bytes_at disk path) ≤ most_bytes) (codes "p" ∷ [])
@@ -101,16 +102,13 @@ p_is_short =
     All-from_recursion (λ path. length (bytes_at disk path) ≤ most_bytes) (codes "p" ∷ []) (few, tt)
 
 pub the_second_stops_it :
-    StopsAtFile disk (Some (called (with_started disk (codes "p" ∷ [])))) (codes "p" ∷ codes "q" ∷ []) Failed
-the_second_stops_it = record { number = 1; path = codes "q"; here = refl; short = p_is_short; stops = inl (inl refl) }
+    StopsAtFile disk (Some (called (with_started disk (codes "p" ∷ [])))) (codes "p" ∷ codes "q" ∷ []) 1 Failed
+the_second_stops_it = record { path = codes "q"; here = refl; short = p_is_short; stops = inl (inl refl) }
 
 -- a file that is too long stops it itself, and no later one does
 pub not_past_a_long_file : (bytes : List ℕ) (after : Option Held) (fault : StartFault) → length bytes ≡ 1048577
-    → (h : StopsAtFile (record disk { found = λ path. Some bytes }) after (codes "p" ∷ codes "q" ∷ []) fault) → h.number ≡ 1 → ⊥
-not_past_a_long_file bytes after fault e h n =
-    let short : All (λ path. length bytes ≤ 1048576) (codes "p" ∷ []) =
-    subst (λ (k : ℕ). All (λ path. length bytes ≤ 1048576) (take k (codes "p" ∷ codes "q" ∷ []))) n h.short in
-    let few = short 0 [] (omega arith) in omega (arith, e, few)
+    → StopsAtFile (record disk { found = λ path. Some bytes }) after (codes "p" ∷ codes "q" ∷ []) 1 fault → ⊥
+not_past_a_long_file bytes after fault e h = let few = h.short 0 [] (omega arith) in omega (arith, e, few)
 
 pub a_bind_that_failed : BindLeaves disk (Some (called disk)) (codes "p") bind_failed
 a_bind_that_failed = inl refl
@@ -126,8 +124,94 @@ no_fault_without_one h = let r = h.1 in omega (arith, r)
 pub no_memory_is_no_fault : StartHasCause 3 4 (not_given NoMemory) → ⊥
 no_memory_is_no_fault e = omega (arith, e)
 
+pub none_had_failed_before : IsLatest 3 3 (not_given Failed)
+none_had_failed_before = refl
+
+pub another_had_failed_before : IsLatest 3 4 (not_given Failed) → ⊥
+another_had_failed_before e = omega (arith, e)
+
+pub no_call_failed : IsLatest 3 4 (not_given NoMemory)
+no_call_failed = tt
+
+pub its_own_number : IsNumber 1 (TooLong 1)
+its_own_number = refl
+
+pub not_that_of_another : IsNumber 1 (TooLong 0) → ⊥
+not_that_of_another e = omega (arith, e)
+
 pub the_second_of_two : IsNumberBelow 2 (TooLong 1)
 the_second_of_two = omega arith
 
 pub there_is_no_third : IsNumberBelow 2 (TooLong 2) → ⊥
 there_is_no_third less = omega (arith, less)
+
+-- ---- all together
+
+abbrev paths : List (List ℕ)
+paths = codes "p" ∷ codes "q" ∷ []
+
+abbrev told : DiskTold
+told = record { held = Some disk; bound = 0; is_ready = true; binds = Some []; faults = 0; earlier = 0 }
+
+abbrev told_after : DiskTold
+told_after = record told { held = Some (with_started disk paths); bound = 2; binds = Some paths }
+
+both_are_short : All (λ bytes. length bytes ≤ most_bytes) (codes "0123456789" ∷ [] ∷ [])
+both_are_short =
+    let ten : 10 ≤ 1048576 = omega arith in
+    let none : 0 ≤ 1048576 = omega arith in
+    All-from_recursion (λ (bytes : List ℕ). length bytes ≤ most_bytes) (codes "0123456789" ∷ [] ∷ []) (ten, (none, tt))
+
+pub p_and_q_are_started : AreStarted paths (codes "0123456789" ∷ [] ∷ []) told told_after
+p_and_q_are_started = record { well = refl; bound = refl; is_ready = refl; asked = refl; count = refl; short = both_are_short; told = (refl, refl) }
+
+abbrev first_of : List (List ℕ) → ℕ
+first_of names = slice_index (slice_index_or names 0 []) 0
+
+-- on a disk that tells no files: another path, and the two in another order
+abbrev silent : List (List ℕ) → DiskTold
+silent names = record { held = None; bound = length names; is_ready = true; binds = Some names; faults = 0; earlier = 0 }
+
+pub not_with_another_path : (start : List (List ℕ)) → AreStarted (codes "p" ∷ []) start (silent []) (silent (codes "x" ∷ [])) → ⊥
+not_with_another_path start h = let e : 120 ≡ 112 = ap first_of h.asked in omega (arith, e)
+
+pub nor_in_another_order : (start : List (List ℕ)) → AreStarted paths start (silent []) (silent (codes "q" ∷ codes "p" ∷ [])) → ⊥
+nor_in_another_order start h = let e : 113 ≡ 112 = ap first_of h.asked in omega (arith, e)
+
+pub nor_where_it_stops : (fault : StartFault) → AreStopped (codes "p" ∷ []) fault (silent []) (silent (codes "x" ∷ [])) → ⊥
+nor_where_it_stops fault h = let e : 120 ≡ 112 = ap first_of h.asked in omega (arith, e)
+
+-- a disk with the files p and r of one byte each
+abbrev three : List (List ℕ)
+three = codes "p" ∷ codes "q" ∷ codes "r" ∷ []
+
+abbrev small : Held
+small = record { files = []; found = text_of (named (codes "p") (codes "1") ∷ named (codes "r") (codes "2") ∷ []); calls = 0 }
+
+abbrev small_told : DiskTold
+small_told = record told { held = Some small }
+
+none_before : All (λ path. length (bytes_at small path) ≤ most_bytes) []
+none_before = All-from_recursion (λ path. length (bytes_at small path) ≤ most_bytes) [] tt
+
+abbrev p_has_failed : DiskTold
+p_has_failed = record { held = Some (with_read small (codes "p") 1); bound = 1; is_ready = true; binds = Some (codes "p" ∷ []); faults = 1; earlier = 0 }
+
+pub the_read_of_p_stops_it : AreStopped three Failed small_told p_has_failed
+the_read_of_p_stops_it = record {
+  number = 0;
+  within = omega arith;
+  is_number = tt;
+  asked = refl;
+  cause = (omega arith, omega arith);
+  latest = refl;
+  told = record { path = codes "p"; here = refl; short = none_before; stops = inr (record { reads = 1; some = omega arith; most = omega arith; left = refl }) };
+}
+
+-- it went on: q was made, and r was bound and read
+abbrev all_three_are_bound : DiskTold
+all_three_are_bound =
+    record { held = Some (with_read (with_started small (take 2 three)) (codes "r") 1); bound = 3; is_ready = true; binds = Some three; faults = 1; earlier = 1 }
+
+pub not_at_a_later_file : AreStopped three Failed small_told all_three_are_bound → ⊥
+not_at_a_later_file h = let e : 1 ≡ 0 = h.latest in omega (arith, e)

@@ -1,4 +1,5 @@
--- The reads of a file, one after the other.
+-- The reads of a file, one after the other. Read `k` asks for the bytes from `k` times 65,536 on, so after it the bytes up to the next
+-- piece are there (`SoFar`); as many pieces as the length has, whole or begun, reach its end.
 use Rattle.std.proofs.Common.{◌≡◌, ℕ, suc, ◌+◌, ◌-◌, ◌*◌, ◌<◌, ◌≤◌, min, List, [], ◌++◌, take, None, Some, refl, sym, ap, ◌∙◌, subst, arith}
 use Rattle.std.specs.Prelude.{IfSome, Ok, Err}
 use Rattle.std.specs.declared.option.Option.{Option}

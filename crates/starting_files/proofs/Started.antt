@@ -1,4 +1,6 @@
--- Files that are bound and read, one after the other.
+-- Files that are bound and read, one after the other. What the files before a place gave (`SoFar`) is what their paths alone make of the disk
+-- at the start, so one file more is the same with one path more; where a file stops the work, that is kept beside what this file came to. What
+-- was to be bound, and that no call had failed before, goes along for a disk that does not tell its files.
 use Rattle.std.proofs.Common.{◌≡◌, ◌≢◌, ℕ, zero, suc, ◌+◌, ◌-◌, ◌^◌, ◌<◌, ◌≤◌, min, List, [], ◌∷◌, ◌++◌, length, take, map, None, Some, Bool, true, false, refl, sym, ap, ◌∙◌, subst, inr, arith}
 use Rattle.std.specs.Prelude.{sum_by, slice_get, slice_index_or, IfSome, IfErr, Ok, Err, All, AllPairs}
 use Rattle.std.specs.declared.option.Option.{Option}
@@ -11,13 +13,14 @@ use Rattle.std.proofs.lemmas.List.Sums.{sum_by_more}
 use Rattle.std.proofs.Math.Seq.{get_or-append_seam}
 use Rattle.ac_outside.specs.declared.shelf.NamedBytes.{NamedBytes}
 use Rattle.ac_outside.specs.declared.failed.BindFault.{BindFault}
-use Rattle.ac_outside.specs.Told.{one_more}
+use Rattle.ac_outside.specs.Told.{one_more, AddsName, AddsNames}
 use Rattle.ac_outside.specs.Texts.{text_of}
 use Rattle.ac_outside.specs.Files.{file_at, file_of}
-use Rattle.ac_outside.specs.Disks.{Held, with_bound, BindLeaves, IsFresh}
+use Rattle.ac_outside.specs.Disks.{DiskTold, Held, with_bound, BindLeaves, IsFresh}
 use Rattle.starting_files.specs.declared.fault.StartFault.{StartFault}
 use Rattle.starting_files.specs.declared.fault.StartFault.TheVariants.{Failed, TooLong, NoMemory}
-use Rattle.starting_files.specs.Starting.{more_calls, calls_of, reads_of, bytes_at, with_read, with_started, StartsFile, StopsAtFile, IsNumberBelow}
+use Rattle.starting_files.specs.Starting.{more_calls, calls_of, reads_of, bytes_at, with_read, with_started, not_given, StartsFile}
+use Rattle.starting_files.specs.Starting.{StopsAtFile, IsNumber, IsNumberBelow, IsLatest, StartHasCause, AreStopped}
 use Rattle.starting_files.specs.inner.Pieces.{ReadsWhole}
 
 -- ---- one file
@@ -56,12 +59,12 @@ pub named : (first : Option Held) (number bound : ℕ) → number ≡ bound → 
 named None number bound e tells = tt
 named (Some held) number bound e tells = e ∙ tells
 
--- it is below any number, as there is none
-pub none_below : {T : Type 0} (count : ℕ) (result : Result T StartFault) → IfErr result (IsNumberBelow 0) → IfErr result (IsNumberBelow count)
-none_below count (Ok bytes) h = tt
-none_below count (Err Failed) h = tt
-none_below count (Err (TooLong file)) h = absurd (omega (arith, h))
-none_below count (Err NoMemory) h = tt
+-- it has any number, as there is none
+pub none_numbered : {T : Type 0} (number : ℕ) (result : Result T StartFault) → IfErr result (IsNumberBelow 0) → IfErr result (IsNumber number)
+none_numbered number (Ok bytes) h = tt
+none_numbered number (Err Failed) h = tt
+none_numbered number (Err (TooLong file)) h = absurd (omega (arith, h))
+none_numbered number (Err NoMemory) h = tt
 
 -- ---- several files
 
@@ -122,11 +125,10 @@ stopped_by fault = Err fault
 pub stops_at : (first before after : Option Held) (paths : List (List ℕ)) (number : ℕ) (path : List ℕ) (start : List (List ℕ)) (fault : StartFault)
     → IfSome first (λ held. SoFar held before paths number start) → All (λ bytes. length bytes ≤ 1048576) start
     → IfSome before (λ held. StartsFile held after number path (stopped_by fault)) → slice_get paths number ≡ Some path
-    → IfSome first (λ held. StopsAtFile held after paths fault)
+    → IfSome first (λ held. StopsAtFile held after paths number fault)
 stops_at None before after paths number path start fault so short file here = tt
 stops_at (Some held) before after paths number path start fault so short file here =
     record {
-      number = number;
       path = path;
       here = here;
       short = are_short held (take number paths) start so.0 short;
@@ -137,12 +139,11 @@ stops_at (Some held) before after paths number path start fault so short file he
 pub stops_after : (first before after : Option Held) (paths : List (List ℕ)) (number : ℕ) (path bytes : List ℕ) (start : List (List ℕ))
     → IfSome first (λ held. SoFar held before paths number start) → All (λ bytes. length bytes ≤ 1048576) start
     → IfSome before (λ held. StartsFile held after number path (Ok bytes)) → slice_get paths number ≡ Some path
-    → IfSome first (λ held. StopsAtFile held after paths NoMemory)
+    → IfSome first (λ held. StopsAtFile held after paths number NoMemory)
 stops_after None before after paths number path bytes start so short file here = tt
 stops_after (Some held) before after paths number path bytes start so short file here =
     let now = subst (λ (b : Option Held). IfSome b (λ h. StartsFile h after number path (Ok bytes))) so.1 file in
     record {
-      number = number;
       path = path;
       here = here;
       short = are_short held (take number paths) start so.0 short;
@@ -154,6 +155,48 @@ pub retold : (before after : Option Held) (m n : ℕ) (p q : List ℕ) (result :
     → IfSome before (λ held. StartsFile held after m p result) → IfSome before (λ held. StartsFile held after n q result)
 retold before after m n p q result e f h =
     subst (λ (x : List ℕ). IfSome before (λ held. StartsFile held after n x result)) f (subst (λ (k : ℕ). IfSome before (λ held. StartsFile held after k p result)) e h)
+
+-- a cause is one whatever would have been given
+pub cause_of : (T : Type 0) (before after : ℕ) (fault : StartFault) → StartHasCause {T = T} before after (Err fault) → StartHasCause before after (not_given fault)
+cause_of T before after Failed h = h
+cause_of T before after (TooLong file) h = h
+cause_of T before after NoMemory h = h
+
+pub latest_of : (T : Type 0) (before earlier : ℕ) (fault : StartFault) → IsLatest {T = T} before earlier (Err fault) → IsLatest before earlier (not_given fault)
+latest_of T before earlier Failed h = h
+latest_of T before earlier (TooLong file) h = tt
+latest_of T before earlier NoMemory h = tt
+
+-- ---- what was to be bound
+
+pub asked_more : (first before after : Option (List (List ℕ))) (paths : List (List ℕ)) (number : ℕ) (path : List ℕ)
+    → AddsNames first before (take number paths) → AddsName before after path → number < length paths → slice_index_or paths number path ≡ path
+    → AddsNames first after (take (number + 1) paths)
+asked_more first before None paths number path a b less here = tt
+asked_more first None (Some after) paths number path a b less here = absurd b
+asked_more None (Some before) (Some after) paths number path a b less here = absurd a
+asked_more (Some first) (Some before) (Some after) paths number path a b less here =
+    let more : take (number + 1) paths ≡ take number paths ++ path ∷ [] = take_more paths number path less ∙ ap (λ p. take number paths ++ p ∷ []) here in
+    b ∙ ap (λ ns. ns ++ path ∷ []) a ∙ append_assoc first (take number paths) (path ∷ []) ∙ ap (λ ps. first ++ ps) (sym more)
+
+-- ---- all together
+
+-- the file of this number stopped it, and before its calls no call had failed
+pub are_stopped : (disk between later : DiskTold) (paths : List (List ℕ)) (number : ℕ) (path : List ℕ) (fault : StartFault) → number < length paths → slice_index_or paths number path ≡ path
+    → IsNumber number fault → AddsNames disk.binds between.binds (take number paths) → AddsName between.binds later.binds path
+    → between.faults ≡ disk.faults → StartHasCause between.faults later.faults (not_given fault) → IsLatest between.faults later.earlier (not_given fault)
+    → IfSome disk.held (λ held. StopsAtFile held later.held paths number fault) → AreStopped paths fault disk later
+are_stopped disk between later paths number path fault less here is asked one well cause latest told =
+    let more : number + 1 ≡ suc number = omega arith in
+    record {
+      number = number;
+      within = less;
+      is_number = is;
+      asked = subst (λ n. AddsNames disk.binds later.binds (take n paths)) more (asked_more disk.binds between.binds later.binds paths number path asked one less here);
+      cause = subst (λ n. StartHasCause n later.faults (not_given fault)) well cause;
+      latest = subst (λ n. IsLatest n later.earlier (not_given fault)) well latest;
+      told = told;
+    }
 
 -- ---- paths that no file is bound under
 

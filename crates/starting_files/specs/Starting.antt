@@ -1,15 +1,15 @@
 -- What is told of a disk on which files are bound and read whole, one after the other.
 use Rattle.std.specs.Prelude.{◌≡◌, ◌⊎◌, ℕ, zero, suc, ◌<◌, ◌≤◌, List, ◌++◌, length}
-use Rattle.std.specs.Prelude.{map, take, sum_by, slice_get, All, None, Some, Ok, Err, ⊤}
+use Rattle.std.specs.Prelude.{map, take, sum_by, slice_get, All, IsTrue, IfSome, None, Some, Ok, Err, ⊤}
 use Rattle.std.specs.Int.{div_ceil}
 use Rattle.std.specs.declared.option.Option.{Option}
 use Rattle.std.specs.declared.result.Result.{Result}
 use Rattle.ac_outside.specs.declared.failed.BindFault.{BindFault}
 use Rattle.ac_outside.specs.declared.failed.BindFault.TheVariants as b
 use Rattle.ac_outside.specs.Causes.{Rose}
-use Rattle.ac_outside.specs.Told.{one_more}
+use Rattle.ac_outside.specs.Told.{one_more, AddsNames}
 use Rattle.ac_outside.specs.Files.{file_at}
-use Rattle.ac_outside.specs.Disks.{Held, with_bound, BindLeaves}
+use Rattle.ac_outside.specs.Disks.{DiskTold, Held, with_bound, BindLeaves}
 use Rattle.starting_files.specs.declared.fault.StartFault.{StartFault}
 use Rattle.starting_files.specs.declared.fault.StartFault.TheVariants.{Failed, TooLong, NoMemory}
 
@@ -70,25 +70,20 @@ StartsFile held after number path (Err NoMemory) = (after ≡ None) ⊎ LeavesBo
 abbrev pub stopped : StartFault → Result (List ℕ) StartFault
 stopped fault = Err fault
 
--- The files before this one are bound, none of them is too long, and each was read whole; this one stops the start.
-pub record StopsAtFile (held : Held) (after : Option Held) (paths : List (List ℕ)) (fault : StartFault) : Type 0 where
-  pub number : ℕ
+-- The files before this number are bound, none of them is too long, and each was read whole; that of this number stops the start.
+pub record StopsAtFile (held : Held) (after : Option Held) (paths : List (List ℕ)) (number : ℕ) (fault : StartFault) : Type 0 where
   pub path : List ℕ
   pub here : slice_get paths number ≡ Some path
   pub short : All (λ before. length (bytes_at held before) ≤ most_bytes) (take number paths)
   pub stops : StartsFile (with_started held (take number paths)) after number path (stopped fault)
 
--- the bytes of each file, and why there are none, as answers
-abbrev pub given : List (List ℕ) → Result (List (List ℕ)) StartFault
-given start = Ok start
-
+-- why there are no bytes of each file, as an answer
 abbrev pub not_given : StartFault → Result (List (List ℕ)) StartFault
 not_given fault = Err fault
 
--- What the files of these paths come to: each is given as it was; or one of them stops the start.
-abbrev pub StartsFiles : Held → Option Held → List (List ℕ) → Result (List (List ℕ)) StartFault → Type 0
-StartsFiles held after paths (Ok start) = (start ≡ map (bytes_at held) paths) × (after ≡ Some (with_started held paths))
-StartsFiles held after paths (Err fault) = StopsAtFile held after paths fault
+-- each file of these paths is given as it was, and was bound and read whole
+abbrev pub StartsFiles : Held → Option Held → List (List ℕ) → List (List ℕ) → Type 0
+StartsFiles held after paths start = (start ≡ map (bytes_at held) paths) × (after ≡ Some (with_started held paths))
 
 -- the count of faults rose where a call of the disk failed, and stayed where none did
 abbrev pub StartHasCause : {T : Type 0} → ℕ → ℕ → Result T StartFault → Type 0
@@ -97,8 +92,43 @@ StartHasCause before after (Err Failed) = (before ≤ after) × Rose before afte
 StartHasCause before after (Err (TooLong file)) = after ≡ before
 StartHasCause before after (Err NoMemory) = after ≡ before
 
+-- where a call of the disk failed, none had failed before the latest one
+abbrev pub IsLatest : {T : Type 0} → ℕ → ℕ → Result T StartFault → Type 0
+IsLatest before earlier (Ok given) = ⊤
+IsLatest before earlier (Err Failed) = earlier ≡ before
+IsLatest before earlier (Err (TooLong file)) = ⊤
+IsLatest before earlier (Err NoMemory) = ⊤
+
+-- a file that is too long has this number
+abbrev pub IsNumber : ℕ → StartFault → Type 0
+IsNumber number Failed = ⊤
+IsNumber number (TooLong file) = file ≡ number
+IsNumber number NoMemory = ⊤
+
 -- a file that is too long is one of so many
 abbrev pub IsNumberBelow : ℕ → StartFault → Type 0
 IsNumberBelow count Failed = ⊤
 IsNumberBelow count (TooLong file) = file < count
 IsNumberBelow count NoMemory = ⊤
+
+-- The files of these paths were bound, in order, and read whole, no call failed, and the disk may be called again. Where it tells its
+-- files, these are the bytes that they held, and it holds them still.
+pub record AreStarted (paths start : List (List ℕ)) (disk later : DiskTold) : Type 0 where
+  pub well : later.faults ≡ disk.faults
+  pub bound : later.bound ≡ length paths
+  pub is_ready : IsTrue later.is_ready
+  pub asked : AddsNames disk.binds later.binds paths
+  pub count : length start ≡ length paths
+  pub short : All (λ bytes. length bytes ≤ most_bytes) start
+  pub told : IfSome disk.held (λ held. StartsFiles held later.held paths start)
+
+-- One of the files of these paths was not bound and read whole, those before it were, and no later one was to be bound: where a call
+-- failed, it was one for this file, and the first that did.
+pub record AreStopped (paths : List (List ℕ)) (fault : StartFault) (disk later : DiskTold) : Type 0 where
+  pub number : ℕ
+  pub within : number < length paths
+  pub is_number : IsNumber number fault
+  pub asked : AddsNames disk.binds later.binds (take (suc number) paths)
+  pub cause : StartHasCause disk.faults later.faults (not_given fault)
+  pub latest : IsLatest disk.faults later.earlier (not_given fault)
+  pub told : IfSome disk.held (λ held. StopsAtFile held later.held paths number fault)

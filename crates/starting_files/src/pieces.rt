@@ -4,7 +4,7 @@ ghost use Rattle.std.specs.Prelude.{◌≡◌, ◌+◌, ◌<◌, ◌≤◌, ◌+
 ghost use Rattle.ac_outside.specs.Causes.{HasCause};
 ghost use Rattle.ac_outside.specs.Disks.{BindsNone, called};
 ghost use Rattle.ac_outside.specs.Files.{file_of, part};
-ghost use Rattle.starting_files.specs.Starting.{IsNumberBelow, StartHasCause};
+ghost use Rattle.starting_files.specs.Starting.{IsLatest, IsNumberBelow, StartHasCause};
 ghost use Rattle.starting_files.specs.inner.Pieces.{ReadsPiece, ReadsWhole};
 
 use crate::fault::StartFault;
@@ -33,6 +33,7 @@ fn read_piece<D: Disk>(
     ensures silent { (D.told disk.old).held ≡ None → (D.told disk.new).held ≡ None }
     ensures below { IfErr result (IsNumberBelow 0) }
     ensures cause { StartHasCause (D.told disk.old).faults (D.told disk.new).faults result }
+    ensures latest { IsLatest (D.told disk.old).faults (D.told disk.new).earlier result }
 {
     let count = disk.read_at(file, from, piece)?;
     bytes.extend_from_slice(&piece[..count])?;
@@ -56,6 +57,7 @@ pub(crate) fn read_whole<D: Disk>(
     ensures silent { (D.told disk.old).held ≡ None → (D.told disk.new).held ≡ None }
     ensures below { IfErr result (IsNumberBelow 0) }
     ensures cause { StartHasCause (D.told disk.old).faults (D.told disk.new).faults result }
+    ensures latest { IsLatest (D.told disk.old).faults (D.told disk.new).earlier result }
 {
     let mut piece = vec![in alloc; 0u8; len.min(PIECE) as usize]?;
     let mut bytes = Vec::with_capacity(alloc, len as usize)?;

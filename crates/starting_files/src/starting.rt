@@ -1,9 +1,10 @@
 //! Binding files and reading them whole.
 
-ghost use Rattle.std.specs.Prelude.{◌≡◌, ◌≢◌, ◌+◌, ◌<◌, ◌≤◌, All, AllPairs, length, IsTrue, IfOk, IfErr, IfSome, OnErr, OnOk, None};
+ghost use Rattle.std.specs.Prelude.{◌≡◌, ◌≢◌, ◌+◌, ◌<◌, ◌≤◌, All, AllPairs, length, IsTrue, IfOk, IfErr, IfSome, OnOk, None};
 ghost use Rattle.std.specs.Str.{IsUtf8};
 ghost use Rattle.ac_outside.specs.Disks.{IsFresh};
-ghost use Rattle.starting_files.specs.Starting.{StartHasCause, StartsFile, StartsFiles, IsNumberBelow};
+ghost use Rattle.ac_outside.specs.Told.{AddsName};
+ghost use Rattle.starting_files.specs.Starting.{AreStarted, AreStopped, IsLatest, IsNumber, StartHasCause, StartsFile};
 
 use crate::fault::StartFault;
 use crate::pieces::read_whole;
@@ -27,10 +28,12 @@ fn start_file<D: Disk>(
     ensures bound { OnOk result ((D.told disk.new).bound ≡ number + 1) }
     ensures ready { OnOk result (IsTrue (D.told disk.new).is_ready) }
     ensures short { IfOk result (λ bytes. length bytes ≤ FILE_BYTES) }
-    ensures below { IfErr result (IsNumberBelow (number + 1)) }
+    ensures is_number { IfErr result (IsNumber number) }
+    ensures asked { AddsName (D.told disk.old).binds (D.told disk.new).binds path.now }
     ensures told { IfSome (D.told disk.old).held (λ held. StartsFile held (D.told disk.new).held number path.now result) }
     ensures silent { (D.told disk.old).held ≡ None → (D.told disk.new).held ≡ None }
     ensures cause { StartHasCause (D.told disk.old).faults (D.told disk.new).faults result }
+    ensures latest { IsLatest (D.told disk.old).faults (D.told disk.new).earlier result }
 {
     let Ok(text) = str::from_utf8(path) else {
         unreachable!();
@@ -57,17 +60,11 @@ pub fn start_files<D: Disk>(
     requires texts { All IsUtf8 paths.now }
     requires differ { AllPairs (λ path other. path ≢ other) paths.now }
 
-    // Where the disk tells its files, each is given as it was, by just these calls.
-    ensures told { IfSome (D.told disk.old).held (λ held. StartsFiles held (D.told disk.new).held paths.now result) }
+    // All files were bound and read, or those before one that was not; and where the disk tells its
+    // files, each is given as it was, by just these calls.
+    ensures started { IfOk result (λ start. AreStarted paths.now start (D.told disk.old) (D.told disk.new)) }
+    ensures stopped { IfErr result (λ fault. AreStopped paths.now fault (D.told disk.old) (D.told disk.new)) }
     ensures silent { (D.told disk.old).held ≡ None → (D.told disk.new).held ≡ None }
-    ensures count { IfOk result (λ start. length start ≡ length paths.now) }
-    ensures short { IfOk result (All (λ bytes. length bytes ≤ FILE_BYTES)) }
-    ensures bound { OnOk result (((D.told disk.new).bound ≡ length paths.now) × IsTrue (D.told disk.new).is_ready) }
-
-    // It fails exactly where a call of the disk does.
-    ensures some { OnErr result (0 < length paths.now) }
-    ensures below { IfErr result (IsNumberBelow (length paths.now)) }
-    ensures cause { StartHasCause (D.told disk.old).faults (D.told disk.new).faults result }
 {
     let mut start = List::new(alloc);
     for path in paths {

@@ -1,4 +1,5 @@
--- The operands of a thread, the activations that wait, and a value that was given to a thread.
+-- What the definitions say of the operands of a thread, of activations that wait, and of a value that was given to a thread.
+-- Those that hold do so by computing.
 use Rattle.std.proofs.Common.{◌≡◌, ℕ, refl, pos, true, false, List, [], ◌∷◌, Some, None}
 use Rattle.work_item.specs.declared.ids.FrameId.{FrameId}
 use Rattle.work_item.specs.declared.ids.Item.{Item}
@@ -6,7 +7,7 @@ use Rattle.work_item.specs.declared.cell.Cell.{Cell}
 use Rattle.work_item.specs.declared.cell.Cell.TheVariants as cell
 use Rattle.code_meaning.specs.Machine.{Caller, nobody}
 use Rattle.code_safety.specs.Fit.{is_int}
-use Rattle.thread_table.specs.declared.callers.Waiting as callers
+use Rattle.thread_table.specs.declared.callers.WaitingCall as callers
 use Rattle.thread_table.specs.Operands.{is_reference, on_top}
 use Rattle.thread_table.specs.Callers.{callers_of, all_below, Popped}
 use Rattle.thread_table.specs.Table.{with_given}
@@ -31,10 +32,10 @@ what_is_on_top = (refl, refl, refl)
 
 -- ---- activations that wait
 
-abbrev pub inner : callers.Waiting
+abbrev pub inner : callers.WaitingCall
 inner = record { place = 9; frame = frame 2; below = 1 }
 
-abbrev pub outer : callers.Waiting
+abbrev pub outer : callers.WaitingCall
 outer = record { place = 5; frame = frame 1; below = 2 }
 
 -- the operand on top of all is that of the innermost

@@ -1,4 +1,5 @@
--- The threads that do not run, and the value that one of them is still to have on its operands.
+-- The threads that do not run, and the value that one of them is still to have on its operands. For `ThreadTable`, which keeps that value apart until its thread is asked for.
+-- What is seen is the threads with the value in place: as many threads, and the same once the value has gone onto the operands.
 use Rattle.std.proofs.Common.{◌≡◌, ℕ, ◌≤◌, ◌<◌, List, length, Option, Some, None, true, false, refl, sym, ap, ◌∙◌, arith}
 use Rattle.std.specs.Prelude.{is_some, slice_set, slice_index_or}
 use Rattle.std.proofs.lemmas.List.{length-set, set_past, get_or_default}

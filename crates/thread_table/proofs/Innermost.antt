@@ -1,15 +1,16 @@
--- The innermost of the activations that wait.
+-- The innermost of the activations that wait is the last of the list, and its operands are the last cells. For `pop` and `forget` of `Callers`.
+-- Both lists are turned round, so that the innermost comes first; one that left no operands below needs no cells, and is told apart.
 use Rattle.std.proofs.Common.{◌≡◌, ℕ, zero, suc, ◌+◌, ◌-◌, ◌≤◌, List, [], ◌∷◌, ◌++◌, length, take, drop, Some, None, refl, sym, ap, ◌∙◌, arith}
 use Rattle.std.specs.Prelude.{reverse, slice_get}
 use Rattle.std.proofs.lemmas.List.{reverse-append, reverse-reverse, length-reverse, take-append-drop, drop_all}
 use Rattle.std.proofs.lemmas.Option.{slice_get_within}
 use Rattle.work_item.specs.declared.cell.Cell.{Cell}
 use Rattle.code_meaning.specs.Machine.{Caller}
-use Rattle.thread_table.specs.declared.callers.Waiting.{Waiting}
+use Rattle.thread_table.specs.declared.callers.WaitingCall.{WaitingCall}
 use Rattle.thread_table.specs.Callers.{callers_of, all_below}
 use Rattle.thread_table.proofs.Tops.{taken, left}
 
-module _ (waiting rest : List Waiting) (w : Waiting) (cells : List Cell) (end : ℕ)
+module _ (waiting rest : List WaitingCall) (w : WaitingCall) (cells : List Cell) (end : ℕ)
     (last : waiting ≡ rest ++ w ∷ []) (all : all_below (reverse waiting) ≡ length cells) (lies : end ≡ length cells - w.below) where
   turned : reverse waiting ≡ w ∷ reverse rest
   turned = ap reverse last ∙ reverse-append rest (w ∷ [])
@@ -33,7 +34,7 @@ module _ (waiting rest : List Waiting) (w : Waiting) (cells : List Cell) (end : 
       ∙ ap (λ l. innermost ∷ callers_of (reverse rest) l) below
 
 -- one that has left no operands below
-module _ (waiting rest : List Waiting) (w : Waiting) (cells : List Cell) (last : waiting ≡ rest ++ w ∷ []) (none : w.below ≡ 0) where
+module _ (waiting rest : List WaitingCall) (w : WaitingCall) (cells : List Cell) (last : waiting ≡ rest ++ w ∷ []) (none : w.below ≡ 0) where
   abbrev pub alone : Caller
   alone = record { place = w.place; frame = w.frame; operands = [] }
 

@@ -1,4 +1,5 @@
--- The last elements of a list, which are the first ones of the list turned round.
+-- The last elements of a list, which are the first ones of the list turned round. For `Operands`, whose cells lie with the topmost last, where specifications name it first.
+-- The list is split at `below` and turned round; what was cut off comes first, and is as long as the count.
 use Rattle.std.proofs.Common.{◌≡◌, ℕ, ◌-◌, ◌≤◌, List, [], ◌∷◌, ◌++◌, length, take, drop, set, refl, sym, ap, ◌∙◌, arith}
 use Rattle.std.specs.Prelude.{reverse, Bool, true, false}
 use Rattle.work_item.specs.declared.cell.Cell.{Cell}

@@ -12,7 +12,7 @@ use work_item::{Cell, FrameId};
 
 /// Where an activation goes on, in which frame, and how many operands it has left below.
 #[derive(Clone, Copy, Debug)]
-pub struct Waiting {
+pub struct WaitingCall {
     pub place: usize,
     pub frame: FrameId,
     pub below: usize,
@@ -23,7 +23,7 @@ pub struct Waiting {
 /// Contracts see each with its own operands, the innermost first.
 #[derive(Drop)]
 pub struct Callers {
-    waiting: Vec<Waiting>,
+    waiting: Vec<WaitingCall>,
     cells: Vec<Cell>,
 }
 
@@ -70,7 +70,7 @@ impl Callers {
     {
         self.waiting.reserve(1)?;
         extend(&mut self.cells, operands)?;
-        self.waiting.push_reserved(Waiting {
+        self.waiting.push_reserved(WaitingCall {
             place,
             frame,
             below: operands.len(),
@@ -91,7 +91,11 @@ impl Callers {
 
     /// The innermost goes on: its operands come back, with the value on top. It gives none exactly
     /// where none waits, and the operands then stay. After want of memory all is as before.
-    pub fn pop(&mut self, value: Cell, operands: &mut Operands) -> Result<Option<Waiting>, NoMemory>
+    pub fn pop(
+        &mut self,
+        value: Cell,
+        operands: &mut Operands,
+    ) -> Result<Option<WaitingCall>, NoMemory>
         ensures ok { IfOk result (λ back. Popped self.old self.new value back operands.old operands.new) }
         ensures err { OnErr result (self.new ≡ self.old) }
         ensures same { OnErr result (operands.new ≡ operands.old) }

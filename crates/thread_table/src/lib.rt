@@ -7,7 +7,7 @@ mod operands;
 mod parked;
 mod table;
 
-pub use callers::{Callers, Waiting};
+pub use callers::{Callers, WaitingCall};
 pub use operands::Operands;
 pub use parked::Parked;
 pub use table::ThreadTable;

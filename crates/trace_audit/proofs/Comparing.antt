@@ -1,4 +1,5 @@
--- What a trace tells of each core is compared with its end, one after the other.
+-- What a trace tells of each core is compared with its end, one after the other: the loop keeps that all below its place are told rightly, and at
+-- its end all are.
 use Rattle.std.proofs.Common.{◌≡◌, ℕ, ◌+◌, ◌<◌, ◌≤◌, List, Some, true, refl, ap, ◌∙◌, subst, inl, inr, arith, length}
 use Rattle.std.specs.Prelude.{◌↔◌, IsTrue, slice_get}
 use Rattle.std.proofs.lemmas.Bool.Decides.{leb_tells}

@@ -1,4 +1,5 @@
--- The ends to which the cores of a code come, and what a trace tells of them.
+-- The ends to which the cores of a code come, and what a trace tells of them. A journal has one end, so the ends that a trace may tell are those
+-- of the replays, and the four tests of the audit hold exactly where the end is that of a run.
 use Rattle.std.proofs.Common.{◌≡◌, ℕ, zero, suc, ◌+◌, ◌<◌, ◌≤◌, List, [], ◌∷◌, ◌++◌, Some, Bool, true, false, refl, sym, ap, ◌∙◌, subst, inl, inr, arith, length}
 use Rattle.std.specs.Prelude.{◌==◌, ◌&&◌, ◌↔◌, All, IsTrue, slice_get}
 use Rattle.std.specs.Str.{bytes_eq}
@@ -23,7 +24,7 @@ use Rattle.trace_text.specs.declared.trace.TraceEnd.{TraceEnd}
 use Rattle.ac_history.specs.declared.quiet.LinkParties.{LinkParties}
 use Rattle.ac_history.specs.Quiet.{owner_in, peer_in, IsQuiet}
 use Rattle.ac_history.specs.Served.{HistoryState, after_all}
-use Rattle.core_runner.specs.Network.{owner_of, peer_of}
+use Rattle.program_run.specs.Parties.{owner_of, peer_of}
 use Rattle.trace_audit.specs.RunTrace.{journal_of, file_limit}
 use Rattle.trace_audit.specs.inner.Coded.{nothing_yet, AllEndAsTold, EndsWell}
 use Rattle.trace_audit.specs.inner.Comparing.{word_number, is_told, AreTold}

@@ -1,4 +1,4 @@
--- Each front of a journal that has a run has one.
+-- Each front of a journal that has a run has one: the code is valid, so under the front alone the core comes to an end, whatever is to come.
 use Rattle.std.proofs.Common.{ℕ, List, [], ◌∷◌, ◌++◌, sym, subst, append_assoc, append-nil}
 use Rattle.ac_base.specs.declared.entry.Entry.{Entry}
 use Rattle.stack_code.specs.Parts.{Parts}

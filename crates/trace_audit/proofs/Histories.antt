@@ -1,4 +1,5 @@
--- A history, entry by entry: how it goes on, how it rises, and which parties have made it.
+-- A history, entry by entry: how it goes on, how it rises, and which parties have made it. What the step from one entry to the next tests is
+-- taken apart once, and the rest goes by the list.
 use Rattle.std.proofs.Common.{◌≡◌, ℕ, ◌<◌, List, [], ◌∷◌, ◌++◌, Bool, true, false, refl, sym, ◌∙◌, subst, append_assoc, length}
 use Rattle.std.specs.Prelude.{◌&&◌, nat_lt}
 use Rattle.std.specs.List.{AllByRecursion}

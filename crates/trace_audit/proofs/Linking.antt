@@ -1,4 +1,5 @@
--- The two parties of each link of a code, in a list.
+-- The two parties of each link of a code, in a list, link by link; and a run is quiet by any two functions that tell the same parties of its
+-- links.
 use Rattle.std.proofs.Common.{◌≡◌, ℕ, zero, suc, ◌+◌, ◌<◌, List, [], ◌∷◌, ◌++◌, Some, refl, ap, ◌∙◌, subst, inl, inr, arith, length}
 use Rattle.std.specs.Prelude.{slice_get}
 use Rattle.std.proofs.lemmas.Bool.Decides.{leb_tells}
@@ -8,7 +9,7 @@ use Rattle.stack_code.specs.Parts.{Parts}
 use Rattle.ac_history.specs.declared.quiet.LinkParties.{LinkParties}
 use Rattle.ac_history.specs.History.{Past}
 use Rattle.ac_history.specs.Quiet.{owner_at, owner_in, peer_at, peer_in, CoreIsQuiet, IsQuiet}
-use Rattle.core_runner.specs.Network.{owner_of, peer_of}
+use Rattle.program_run.specs.Parties.{owner_of, peer_of}
 
 -- the parties of the first so many links
 pub record AreParties (code : Parts) (ps : List LinkParties) (n : ℕ) : Type 0 where

@@ -1,4 +1,5 @@
--- The journals of the parties of a history, and the history to which journals are merged.
+-- The journals of the parties of a history, and the history to which journals are merged. A history that rises by stamp and then by party is the
+-- merge of its parts, since it is in order, and its entries of one stamp stand there by their parties.
 use Rattle.std.proofs.Common.{◌≡◌, ℕ, zero, suc, ◌+◌, ◌<◌, ◌≤◌, List, [], ◌∷◌, ◌++◌, Bool, true, false, cond, refl, sym, ap, ◌∙◌, subst, arith, get_or, inl, inr}
 use Rattle.std.specs.Prelude.{◌==◌, map, nat_eq}
 use Rattle.std.specs.List.{filter, AllByRecursion}

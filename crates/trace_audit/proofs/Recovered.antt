@@ -1,4 +1,5 @@
--- A trace that is a run is the trace of one: the journals of its parties, with the ends of the cores.
+-- A trace that is a run is the trace of one: the journals of its parties, with the ends of the cores. The journals merged are the trace's entries
+-- again, since these rise, and each core has the end that the trace tells under its journal, by source and by code.
 use Rattle.std.proofs.Common.{◌≡◌, ℕ, zero, suc, List, [], ◌∷◌, Some, refl, sym, ap, ◌∙◌, subst, length}
 use Rattle.std.specs.Prelude.{map}
 use Rattle.std.proofs.lemmas.List.{length-map}
@@ -18,10 +19,10 @@ use Rattle.ac_history.specs.Quiet.{after_all_of, IsQuiet}
 use Rattle.ac_history.specs.Files.{padded, IsServed, deeds}
 use Rattle.ac_history.specs.Served.{IsHistory}
 use Rattle.ac_history.proofs.Running.{run_is}
-use Rattle.core_runner.specs.declared.ended.Ended.{Ended}
-use Rattle.core_runner.specs.Network.{owner_of, peer_of}
-use Rattle.core_runner.specs.Run.{AreCoreRuns, AreInOrder, IsRunOf}
-use Rattle.core_runner.specs.Run as run
+use Rattle.program_run.specs.declared.ended.Ended.{Ended}
+use Rattle.program_run.specs.Parties.{owner_of, peer_of}
+use Rattle.program_run.specs.Run.{AreCoreRuns, AreInOrder, IsRunOf}
+use Rattle.program_run.specs.Run as run
 use Rattle.trace_text.specs.declared.trace.Trace.{Trace}
 use Rattle.trace_text.specs.declared.trace.TraceEnd.{TraceEnd}
 use Rattle.trace_audit.specs.RunTrace.{journal_of, nothing_yet, AllEndAsTold, IsRunTrace}
@@ -83,6 +84,7 @@ have_run program t sound core (told ∷ tolds) (end ∷ ends) a =
       cores = ap (λ xs. end ∷ xs) r.cores;
     }
 
+-- journals and ends are taken from the trace; that these are a run is shown field by field, and that its trace is this one by the merge
 module _ (program : Resolved) (t : Trace) (sound : IsSound program) (is : IsRunTrace program t) where
   r : HaveRun program t 0 t.ends is.end.ends
   r = have_run program t sound 0 t.ends is.end.ends is.end.told

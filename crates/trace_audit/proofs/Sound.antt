@@ -1,4 +1,4 @@
--- A program whose code is valid and has the same runs is sound.
+-- A program whose code is valid and has the same runs is sound: the code is the program's, so what is known of the one is said of the other.
 use Rattle.std.proofs.Common.{◌≡◌, ℕ, List, subst}
 use Rattle.ac_commands.specs.declared.program.Resolved.{Resolved}
 use Rattle.stack_code.specs.Kept.{IsRanked}

@@ -1,4 +1,5 @@
--- All cores of a code take one entry.
+-- All cores of a code take one entry: its party's core takes it or has no run with it, and the others are as they were. With the links, this is
+-- one step of the audit; step by step it leads from the first entry to the first that does not fit.
 use Rattle.std.proofs.Common.{◌≡◌, ℕ, zero, suc, ◌+◌, ◌<◌, ◌≤◌, List, [], ◌∷◌, ◌++◌, take, drop, append_assoc, Some, None, Result}
 use Rattle.std.proofs.Common.{Ok, Err, Bool, true, false, cond, refl, sym, ap, ◌∙◌, subst, inl, inr, arith, length, append-nil}
 use Rattle.std.specs.Prelude.{nat_eq, slice_get, slice_set, IfOk}

@@ -1,24 +1,15 @@
 -- What the definitions say of a program whose core 0 sends 5 on the channel to core 1, which ends at once: its offer is made, and no one takes it.
-use Rattle.std.proofs.Common.{◌≡◌, ℕ, zero, suc, ◌<◌, ◌≤◌, List, [], ◌∷◌, ◌++◌, pos, codes, Some, true, false, refl, sym, subst, inl, inr, ◌⊎◌, ◌*◌, ℤ, arith, length}
-use Rattle.std.specs.Prelude.{slice_get}
+-- Each part holds of its trace, and not of one with another stamp, another party, the offer twice, or another end.
+use Rattle.std.proofs.Common.{◌≡◌, ℕ, List, [], ◌∷◌, ◌++◌, pos, refl, subst, ◌*◌, arith, length}
 use Rattle.std.proofs.lemmas.List.Elements.{All-nil}
 use Rattle.ac_base.specs.declared.entry.Event.{Event}
 use Rattle.ac_base.specs.declared.entry.Event.TheVariants.{Offer}
 use Rattle.ac_base.specs.declared.entry.Payload.TheVariants.{Int}
 use Rattle.ac_base.specs.declared.entry.Stamped.{Stamped}
-use Rattle.ac_base.specs.declared.ends.CoreEnd.{CoreEnd}
 use Rattle.ac_base.specs.declared.ends.EndWord.TheVariants as word
-use Rattle.ac_base.specs.declared.ends.Phase.TheVariants as phase
-use Rattle.core_state.specs.Moves.{Over}
-use Rattle.ac_semantics.specs.Replay.{Replays}
-use Rattle.ac_semantics.proofs.Examples.{function}
-use Rattle.ac_semantics.proofs.OperationExamples.{two_cores, sends, after, send_form, it_stops_at_the_send}
-use Rattle.ac_translation.specs.Translation.{code_of}
-use Rattle.ac_links.specs.AtRest.{has_front}
-use Rattle.ac_history.specs.History.{Past, link_at}
-use Rattle.ac_history.specs.Quiet.{CoreIsQuiet}
-use Rattle.ac_history.specs.Served.{begun, after_all}
-use Rattle.core_runner.specs.Network.{owner_of, peer_of}
+use Rattle.ac_semantics.proofs.OperationExamples.{two_cores}
+use Rattle.ac_history.specs.Served.{begun}
+use Rattle.program_run.proofs.RunExamples.{its_offer as offered, it_waits, it_has_ended, the_sender_replays, the_other_replays, it_ends_quiet}
 use Rattle.trace_text.specs.declared.trace.Trace.{Trace}
 use Rattle.trace_text.specs.declared.trace.TraceEnd.{TraceEnd}
 use Rattle.trace_audit.specs.declared.verdict.Verdict.TheVariants.{Yes, NoAt, NoAtEnd}
@@ -31,7 +22,7 @@ abbrev by : ℕ → ℕ → ℕ → Event → Stamped
 by party stamp turn event = record { party = party; entry = record { stamp = stamp; turn = turn; event = event } }
 
 abbrev pub its_offer : Stamped
-its_offer = by 0 1 1 (Offer 0 0 (Int (pos 5)))
+its_offer = record { party = 0; entry = offered }
 
 abbrev pub waits_told : TraceEnd
 waits_told = record { word = word.Stalled; steps = 1; output = [] }
@@ -46,40 +37,6 @@ pub whose_entries : (journal_of 0 (its_offer ∷ by 2 2 0 (Offer 1 0 (Int (pos 6
 whose_entries = (refl, refl)
 
 -- ---- its cores
-
-abbrev globals : List ℤ
-globals = pos 0 ∷ pos 5 ∷ []
-
-abbrev pub it_waits : CoreEnd
-it_waits = record {
-  word = word.Stalled;
-  steps = 1;
-  output = [];
-  globals = globals;
-  waiting = record { link = 0; phase = phase.Offered } ∷ [];
-  idle = true;
-}
-
-abbrev pub it_has_ended : CoreEnd
-it_has_ended = record { word = word.Finished; steps = 0; output = []; globals = globals; waiting = []; idle = false }
-
--- the dispatch, the send, the offer, and the end
-it_comes_to_wait : after (its_offer.entry ∷ []) 4 ≡ Over (Some it_waits)
-it_comes_to_wait = rw (send_form, it_stops_at_the_send) refl
-
-pub the_sender_replays : Replays two_cores 0 9 (its_offer.entry ∷ []) (Some it_waits)
-the_sender_replays = record {
-  function = function (sends ∷ []);
-  enters = record { here = record { name = codes "a"; entry = 0 }; core_is = refl; function_is = refl };
-  ends = (4, sym it_comes_to_wait);
-}
-
-pub the_other_replays : Replays two_cores 1 9 [] (Some it_has_ended)
-the_other_replays = record {
-  function = function [];
-  enters = record { here = record { name = codes "b"; entry = 1 }; core_is = refl; function_is = refl };
-  ends = (9, refl);
-}
 
 pub it_has_a_replay : HasReplay two_cores 0 9 (journal_of 0 its_trace.entries)
 it_has_a_replay = record { end = it_waits; replays = the_sender_replays }
@@ -135,52 +92,6 @@ not_only_one e = e.1
 pub a_file_has_a_megabyte : file_limit ≡ 1024 * 1024
 a_file_has_a_megabyte = refl
 
-abbrev owner : ℕ → ℕ
-owner = owner_of (code_of two_cores).ends
-
-abbrev peer : ℕ → ℕ
-peer = peer_of (code_of two_cores).ends 2
-
-abbrev its_past : Past
-its_past = (after_all (nothing_yet two_cores its_trace) its_trace.entries).past
-
-sender_owns : (l : ℕ) → l < 3 → owner l ≡ 0 → (l ≡ 0) ⊎ (l ≡ 1)
-sender_owns zero h is = inl refl
-sender_owns (suc zero) h is = inr refl
-sender_owns (suc (suc zero)) h is = absurd (omega (arith, is))
-sender_owns (suc (suc (suc l))) h is = absurd (omega arith)
-
-sender_takes_none : (l : ℕ) → l < 3 → peer l ≡ 0 → ⊥
-sender_takes_none zero h is = omega (arith, is)
-sender_takes_none (suc zero) h is = omega (arith, is)
-sender_takes_none (suc (suc zero)) h is = omega (arith, is)
-sender_takes_none (suc (suc (suc l))) h is = omega arith
-
--- its offer stands, and it waits for no more
-sender_is_quiet : CoreIsQuiet owner peer its_past 0 it_waits
-sender_is_quiet = record {
-  stopped = refl;
-  owns = λ idle l h is. elim (sender_owns l h is) [
-    | inl e ↦ rw e (record { known = (refl, tt); replied = (refl, tt); full = λ w. cc })
-    | inr e ↦ rw e (record { known = tt; replied = tt; full = λ w. cc })
-  ];
-  decides = λ idle l h is. absurd (sender_takes_none l h is);
-}
-
-other_is_quiet : CoreIsQuiet owner peer its_past 1 it_has_ended
-other_is_quiet = record { stopped = refl; owns = λ idle l h is. cc; decides = λ idle l h is. cc }
-
-each_core : (k : ℕ) (c : CoreEnd) → slice_get (it_waits ∷ it_has_ended ∷ []) k ≡ Some c → CoreIsQuiet owner peer its_past k c
-each_core zero c is = let e : it_waits ≡ c = cc in subst (CoreIsQuiet owner peer its_past 0) e sender_is_quiet
-each_core (suc zero) c is = let e : it_has_ended ≡ c = cc in subst (CoreIsQuiet owner peer its_past 1) e other_is_quiet
-each_core (suc (suc k)) c is = cc
-
-no_request : (l : ℕ) → l < 3 → 1 ≤ l → has_front (link_at its_past l) ≡ false
-no_request zero h from = absurd (omega arith)
-no_request (suc zero) h from = refl
-no_request (suc (suc zero)) h from = refl
-no_request (suc (suc (suc l))) h from = absurd (omega arith)
-
 pub it_ends_well : EndsWell two_cores its_trace
 it_ends_well = record {
   files = refl;
@@ -188,7 +99,7 @@ it_ends_well = record {
   every_core = refl;
   ends = it_waits ∷ it_has_ended ∷ [];
   told = both_end_so;
-  quiet = record { core = each_core; worker = no_request };
+  quiet = it_ends_quiet;
 }
 
 -- each core has an end, and the program has no file

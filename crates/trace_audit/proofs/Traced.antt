@@ -1,4 +1,5 @@
--- The journals of a run, merged by their stamps, are a trace that is a run.
+-- The journals of a run, merged by their stamps, are a trace that is a run. Each front of the history is legal, and gives each core a front of its
+-- journal, under which it has a replay.
 use Rattle.std.proofs.Common.{◌≡◌, ℕ, zero, suc, ◌+◌, ◌<◌, ◌≤◌, List, [], ◌∷◌, ◌++◌, Some, refl, sym, ap, ◌∙◌, subst, arith, length, get_or}
 use Rattle.std.specs.Prelude.{map, All}
 use Rattle.std.proofs.lemmas.List.{length-map}
@@ -16,10 +17,10 @@ use Rattle.ac_history.specs.Files.{padded, IsServed}
 use Rattle.ac_history.specs.Served.{IsHistory}
 use Rattle.ac_history.proofs.Running.{is_run}
 use Rattle.replay_laws.specs.Given.{HasRun}
-use Rattle.core_runner.specs.declared.ended.Ended.{Ended}
-use Rattle.core_runner.specs.Network.{owner_of, peer_of}
-use Rattle.core_runner.specs.Run.{AreCoreRuns, AreInOrder, IsRunOf, history_of}
-use Rattle.core_runner.specs.DiskLeft.{deeds_of}
+use Rattle.program_run.specs.declared.ended.Ended.{Ended}
+use Rattle.program_run.specs.Parties.{owner_of, peer_of}
+use Rattle.program_run.specs.Run.{AreCoreRuns, AreInOrder, IsRunOf, history_of}
+use Rattle.program_run.specs.DiskLeft.{deeds_of}
 use Rattle.trace_text.specs.declared.trace.Trace.{Trace}
 use Rattle.trace_audit.specs.RunTrace.{journal_of, HasReplay, nothing_yet, AllFit, AllEndAsTold, file_limit, EndsWell, IsRunTrace}
 use Rattle.trace_audit.specs.Laws.{told_of, trace_of, IsSound}
@@ -61,6 +62,7 @@ all_told program t core (j ∷ js) (end ∷ ends) a same = (
   all_told program t (suc core) js ends a.1 (λ k p is. same (suc k) p (omega arith)),
 )
 
+-- the history is the merged journals; that each entry fits goes by the history, and that the end fits by the cores
 module _ (program : Resolved) (bound : ℕ) (start : List (List ℕ)) (ended : Ended) (sound : IsSound program) (run : IsRunOf program bound start ended)
     (served : IsServed (padded start) (deeds_of program ended.journals)) (files : length start ≡ length program.files)
     (short : All (λ bytes. length bytes ≤ file_limit) start) where

@@ -1,4 +1,5 @@
--- What is said of a trace by a code is what is said of it by each program whose code it is.
+-- What is said of a trace by a code is what is said of it by each program whose code it is: code and source have the same runs, so each part goes
+-- over by itself, in both directions.
 use Rattle.std.proofs.Common.{◌≡◌, ℕ, suc, ◌<◌, List, [], ◌∷◌, ◌++◌, true, sym, ◌∙◌, subst, length}
 use Rattle.std.proofs.lemmas.List.{length-map}
 use Rattle.ac_base.specs.declared.entry.Stamped.{Stamped}
@@ -10,7 +11,7 @@ use Rattle.ac_translation.specs.Translation.{code_of}
 use Rattle.ac_translation.specs.Same.{IsSame}
 use Rattle.ac_history.specs.Served.{begun, can_follow, after_all}
 use Rattle.ac_history.specs.Quiet.{IsQuiet}
-use Rattle.core_runner.specs.Network.{owner_of, peer_of}
+use Rattle.program_run.specs.Parties.{owner_of, peer_of}
 use Rattle.trace_text.specs.declared.trace.Trace.{Trace}
 use Rattle.trace_text.specs.declared.trace.TraceEnd.{TraceEnd}
 use Rattle.trace_audit.specs.declared.verdict.Verdict.{Verdict}

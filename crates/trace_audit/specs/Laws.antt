@@ -7,9 +7,9 @@ use Rattle.ac_translation.specs.Same.{IsSame}
 use Rattle.stack_code.specs.Kept.{IsRanked}
 use Rattle.stack_code.specs.Valid.{IsValid}
 use Rattle.ac_history.specs.Files.{padded, IsServed}
-use Rattle.core_runner.specs.declared.ended.Ended.{Ended}
-use Rattle.core_runner.specs.Run.{IsRunOf, history_of}
-use Rattle.core_runner.specs.DiskLeft.{deeds_of}
+use Rattle.program_run.specs.declared.ended.Ended.{Ended}
+use Rattle.program_run.specs.Run.{IsRunOf, history_of}
+use Rattle.program_run.specs.DiskLeft.{deeds_of}
 use Rattle.trace_text.specs.declared.trace.Trace.{Trace}
 use Rattle.trace_text.specs.declared.trace.TraceEnd.{TraceEnd}
 use Rattle.trace_audit.specs.RunTrace.{file_limit, IsRunTrace}

@@ -9,7 +9,7 @@ use Rattle.ac_semantics.specs.Replay.{Replays}
 use Rattle.ac_translation.specs.Translation.{code_of}
 use Rattle.ac_history.specs.Served.{HistoryState, begun, can_follow, after_all}
 use Rattle.ac_history.specs.Quiet.{IsQuiet}
-use Rattle.core_runner.specs.Network.{owner_of, peer_of}
+use Rattle.program_run.specs.Parties.{owner_of, peer_of}
 use Rattle.trace_text.specs.declared.trace.Trace.{Trace}
 use Rattle.trace_text.specs.declared.trace.TraceEnd.{TraceEnd}
 

@@ -2,7 +2,7 @@
 
 ghost use Rattle.std.specs.Prelude.{◌≡◌, ℕ, ◌<◌, length, IfOk};
 ghost use Rattle.ac_history.specs.Quiet.{owner_in, peer_in};
-ghost use Rattle.core_runner.specs.Network.{owner_of, peer_of};
+ghost use Rattle.program_run.specs.Parties.{owner_of, peer_of};
 
 use ac_base::{List, NoMemory};
 use ac_history::LinkParties;

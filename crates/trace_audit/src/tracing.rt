@@ -5,7 +5,7 @@ ghost use Rattle.trace_audit.specs.Laws.{told_of, trace_of};
 
 use ac_base::{Bytes, List, MachineEnd, NoMemory};
 use ac_history::merge;
-use core_runner::Ended;
+use program_run::Ended;
 use std::alloc::Global;
 use trace_text::{Trace, TraceEnd};
 

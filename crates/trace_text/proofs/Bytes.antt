@@ -1,4 +1,5 @@
--- Bytes are read from their hexadecimal digits, and from no others.
+-- Bytes are read from their hexadecimal digits, and from no others. Each direction goes from one digit over the pairs to the whole word,
+-- by cases of the tests that the reading functions make; a single dash stands for no bytes, and no digits begin with one.
 use Rattle.std.proofs.Common.{◌≡◌, ℕ, ◌+◌, ◌-◌, ◌*◌, ◌/◌, ◌%◌, ◌<◌, ◌≤◌, Bool, true, false, List, [], ◌∷◌, Some, None, codes, refl, sym, arith}
 use Rattle.std.specs.Prelude.{if◌then◌else◌, ◌&&◌, nat_lt, nat_le}
 use Rattle.std.specs.Str.{bytes_eq}

@@ -1,4 +1,5 @@
--- An event is read as it is written.
+-- An event is read as it is written: each of its parts, with what follows it, is read back and leaves just what follows. Where a number
+-- ends is seen from what comes next, so each part is shown to begin with no digit.
 use Rattle.std.proofs.Common.{◌≡◌, ℕ, ◌<◌, ◌≤◌, ◌^◌, List, [], ◌++◌, Some, codes, refl, sym, ap, ◌∙◌, append-nil, append_assoc, arith, false}
 use Rattle.std.specs.Prelude.{ℤ}
 use Rattle.std.specs.Fmt.{decimal, signed_decimal}

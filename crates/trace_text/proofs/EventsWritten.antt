@@ -1,4 +1,5 @@
--- What is read as an event was written as one.
+-- What is read as an event was written as one. Each reading function is followed backwards: the parts that it took, one behind the other,
+-- are the text from which it began, and each number is within the limit that it was tested against.
 use Rattle.std.proofs.Common.{◌≡◌, ℕ, ◌<◌, ◌≤◌, ◌^◌, List, [], ◌++◌, Some, None, codes, sym, ap, ◌∙◌, append-nil, append_assoc, arith}
 use Rattle.std.specs.Fmt.{decimal, signed_decimal}
 use Rattle.ac_base.specs.declared.entry.Payload.{Payload}

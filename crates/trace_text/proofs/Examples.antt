@@ -1,4 +1,5 @@
--- What the text of a trace says, line by line and whole, worked out by hand.
+-- What the text of a trace says, line by line and whole, worked out by hand. Decimal texts do not compute, so those in the examples are
+-- worked out first, and each example rewrites by them.
 use Rattle.std.proofs.Common.{◌≡◌, ℕ, refl, pos, List, [], ◌∷◌, ◌++◌, codes, ap, ◌∙◌, arith}
 use Rattle.std.specs.Prelude.{negsuc}
 use Rattle.std.specs.Fmt.{decimal}

@@ -1,4 +1,5 @@
--- No line of a trace has a line feed in it.
+-- No line of a trace has a line feed in it, so that a text falls into just the lines that were joined. The parts of a line are digits,
+-- fixed words and hexadecimal digits; a word without a line feed joined to another is one.
 use Rattle.std.proofs.Common.{◌≡◌, ℕ, ◌+◌, ◌-◌, ◌/◌, ◌%◌, ◌<◌, ◌≤◌, ◌^◌, Bool, true, false, List, [], ◌∷◌, ◌++◌, length, codes, refl, arith}
 use Rattle.std.specs.Prelude.{ℤ, pos, negsuc, suc, All, not, ◌&&◌, nat_lt, if◌then◌else◌}
 use Rattle.std.specs.Fmt.{decimal, signed_decimal}

@@ -1,4 +1,5 @@
--- More digits never make a number less.
+-- More digits never make a number less, so that the reader may stop at the first digit that takes it past its limit: the whole is past it
+-- too.
 use Rattle.std.proofs.Common.{◌≡◌, ℕ, suc, ◌+◌, ◌-◌, ◌*◌, ◌<◌, ◌≤◌, Bool, true, false, List, [], ◌∷◌, length, get_or, drop, drop-cons, refl, ap, ◌∙◌, arith}
 use Rattle.std.specs.Prelude.{if◌then◌else◌}
 use Rattle.trace_text.specs.inner.Reading.{is_digit, value_of}

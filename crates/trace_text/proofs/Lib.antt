@@ -1,5 +1,6 @@
 pub mod Words
 pub mod Numbers
+pub mod Fitted
 pub mod Growing
 pub mod Bytes
 pub mod Values

@@ -1,4 +1,5 @@
--- Each line of a trace is read as it is written.
+-- Each line of a trace is read as it is written. It follows from the same of its parts, in their order, where what comes behind a number
+-- begins with no digit.
 use Rattle.std.proofs.Common.{◌≡◌, ℕ, ◌-◌, ◌<◌, ◌≤◌, ◌^◌, true, false, List, [], ◌++◌, Some, codes, refl, sym, ap, ◌∙◌, append-nil, arith}
 use Rattle.std.specs.Prelude.{◌==◌}
 use Rattle.std.specs.Fmt.{decimal}

@@ -1,4 +1,5 @@
--- Each line that is read was written as a line of a trace.
+-- Each line that is read was written as a line of a trace. The reader's steps are followed backwards: what each has taken and what it has
+-- left are joined again to the line.
 use Rattle.std.proofs.Common.{◌≡◌, ℕ, ◌-◌, ◌<◌, ◌≤◌, ◌^◌, Bool, true, false, List, ◌++◌, Some, None, codes, refl, sym, ap, ◌∙◌, arith}
 use Rattle.std.specs.Prelude.{◌==◌, if◌then◌else◌}
 use Rattle.std.specs.Fmt.{decimal}
@@ -82,6 +83,8 @@ pub record WasEntry (s : Stamped) (line : List ℕ) : Type 0 where
   pub fits : IsEntry s
   pub is : line ≡ entry_line s
 
+-- stamp, party, turn and event are taken one behind the other: what each was written as, and what it left, are joined from the last back to the
+-- first
 pub entry_was : (s : Stamped) (line : List ℕ) → entry_at line ≡ Some s → WasEntry s line
 unfolding entry_at
 entry_was s line h =
@@ -149,6 +152,7 @@ pub record WasEnd (k : ℕ) (end : TraceEnd) (line : List ℕ) : Type 0 where
   pub fits : IsEnd end
   pub is : line ≡ end_line k end
 
+-- the number, the blank and the word were taken by one chain, and steps and output behind it: the chain is taken apart first
 pub end_was : (k : ℕ) (end : TraceEnd) (line : List ℕ) → end_at k line ≡ Some end → WasEnd k end line
 unfolding end_at
 end_was k end line h =

@@ -1,4 +1,5 @@
--- A number is read as it is written, and no other way.
+-- A number is read as it is written, and no other way. A text is parted into the digits in front and the rest; digits without a leading
+-- zero are the decimal text of their value, by the library's model of numerals.
 use Rattle.std.proofs.Common.{◌≡◌, ℕ, zero, suc, ◌+◌, ◌-◌, ◌*◌, ◌<◌, ◌≤◌, ◌^◌, Bool, true, false, List, [], ◌∷◌, ◌++◌, length, get_or, drop, Option, Some, None}
 use Rattle.std.proofs.Common.{refl, sym, ap, ◌∙◌, codes, arith}
 use Rattle.std.specs.Prelude.{if◌then◌else◌, not, ◌&&◌, ◌==◌, nat_lt, nat_le}

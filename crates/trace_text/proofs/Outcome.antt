@@ -1,14 +1,50 @@
--- What the parts of the writer make together.
-use Rattle.std.proofs.Common.{◌≡◌, ℕ, List, [], ◌∷◌, ◌++◌, length, Result, Err, refl, sym, ap, ◌∙◌, append-nil, append_assoc, length-append, arith}
+-- What the parts of the writer make together. Each loop keeps that the text so far and the lines of the items that are left are the whole; the
+-- four parts, one behind the other, are the text of the trace; and a part that is too long makes the whole too long.
+use Rattle.std.proofs.Common.{◌≡◌, ℕ, suc, ◌+◌, ◌<◌, List, [], ◌∷◌, ◌++◌, length, get_or, drop, drop-cons, Result, Err, refl, sym, ap, ◌∙◌, subst, append-nil, append_assoc, length-append, arith}
 use Rattle.ac_base.specs.declared.entry.Stamped.{Stamped}
 use Rattle.trace_text.specs.declared.faults.WriteFault.{WriteFault}
 use Rattle.trace_text.specs.declared.faults.WriteFault.TheVariants as w
 use Rattle.trace_text.specs.declared.trace.Trace.{Trace}
 use Rattle.trace_text.specs.declared.trace.TraceEnd.{TraceEnd}
-use Rattle.trace_text.specs.Text.{title, steps_line, file_lines, entry_lines, end_lines, joined, trace_text}
+use Rattle.trace_text.specs.Text.{title, steps_line, file_line, file_lines, entry_line, entry_lines, end_line, end_lines, joined, trace_text}
 use Rattle.trace_text.specs.Outcomes.{Writes}
 use Rattle.trace_text.specs.inner.Adding.{Adds}
 use Rattle.trace_text.proofs.TextLines.{joined_append}
+
+-- ---- one line more
+
+-- the line of an item has gone behind the text, and the other lines are left
+one_more : (text new whole line : List ℕ) (left lines : List (List ℕ)) → new ≡ text ++ joined (line ∷ []) → lines ≡ line ∷ left → text ++ joined lines ≡ whole → new ++ joined left ≡ whole
+one_more text new whole line left lines added is all =
+    ap (λ (bs : List ℕ). bs ++ joined left) added ∙ append_assoc text (joined (line ∷ [])) (joined left)
+    ∙ (ap (λ (bs : List ℕ). text ++ bs) (sym (joined_append (line ∷ []) left)) ∙ (ap (λ (ls : List (List ℕ)). text ++ joined ls) (sym is) ∙ all))
+
+module _ (text new whole : List ℕ) (i : ℕ) where
+  next : suc i ≡ i + 1
+  next = omega arith
+
+  pub one_file_more : (files : List (List ℕ)) (file now item : List ℕ) → i < length files → file ≡ get_or files i item → now ≡ file
+      → new ≡ text ++ joined (file_line i now ∷ []) → text ++ joined (file_lines i (drop i files)) ≡ whole → new ++ joined (file_lines (i + 1) (drop (i + 1) files)) ≡ whole
+  one_file_more files file now item less is same added all =
+      subst (λ (n : ℕ). new ++ joined (file_lines n (drop n files)) ≡ whole) next
+      (one_more text new whole (file_line i now) (file_lines (suc i) (drop (suc i) files)) (file_lines i (drop i files)) added
+      (ap (file_lines i) (drop-cons files i item less) ∙ ap (λ (bytes : List ℕ). file_line i bytes ∷ file_lines (suc i) (drop (suc i) files)) (sym (same ∙ is))) all)
+
+  pub one_entry_more : (entries : List Stamped) (entry item : Stamped) → i < length entries → entry ≡ get_or entries i item
+      → new ≡ text ++ joined (entry_line entry ∷ []) → text ++ joined (entry_lines (drop i entries)) ≡ whole → new ++ joined (entry_lines (drop (i + 1) entries)) ≡ whole
+  one_entry_more entries entry item less is added all =
+      subst (λ (n : ℕ). new ++ joined (entry_lines (drop n entries)) ≡ whole) next
+      (one_more text new whole (entry_line entry) (entry_lines (drop (suc i) entries)) (entry_lines (drop i entries)) added
+      (ap entry_lines (drop-cons entries i item less) ∙ ap (λ (s : Stamped). entry_line s ∷ entry_lines (drop (suc i) entries)) (sym is)) all)
+
+  pub one_end_more : (ends : List TraceEnd) (end item : TraceEnd) → i < length ends → end ≡ get_or ends i item
+      → new ≡ text ++ joined (end_line i end ∷ []) → text ++ joined (end_lines i (drop i ends)) ≡ whole → new ++ joined (end_lines (i + 1) (drop (i + 1) ends)) ≡ whole
+  one_end_more ends end item less is added all =
+      subst (λ (n : ℕ). new ++ joined (end_lines n (drop n ends)) ≡ whole) next
+      (one_more text new whole (end_line i end) (end_lines (suc i) (drop (suc i) ends)) (end_lines i (drop i ends)) added
+      (ap (end_lines i) (drop-cons ends i item less) ∙ ap (λ (e : TraceEnd). end_line i e ∷ end_lines (suc i) (drop (suc i) ends)) (sym is)) all)
+
+-- ---- the whole
 
 -- the four parts of a text: its two first lines, its files, its entries, its ends
 abbrev pub head_part : Trace → List ℕ

@@ -1,4 +1,5 @@
--- Bytes read so far, and the bytes of the pairs that are left.
+-- Bytes read so far, and the bytes of the pairs that are left: together they stay the bytes of the whole word, which is what the loop over
+-- the digits keeps.
 use Rattle.std.proofs.Common.{◌≡◌, ℕ, ◌-◌, ◌≤◌, List, [], ◌∷◌, ◌++◌, length, get_or, take, drop, refl, ap, ◌∙◌, append_assoc, arith}
 use Rattle.std.proofs.lemmas.List.{take_all}
 use Rattle.std.specs.Prelude.{Option, Some, None}

@@ -1,4 +1,5 @@
--- What a text can tell, what it spells, and its first wrong line, worked out by hand.
+-- What a text can tell, what it spells, and its first wrong line, worked out by hand: a limit with a value that just keeps it and one that
+-- just does not, and a text with its trace, for which the reading function computes.
 use Rattle.std.proofs.Common.{◌≡◌, ℕ, ◌-◌, ◌<◌, ◌≤◌, ◌^◌, refl, pos, List, [], ◌∷◌, codes, length, Ok, Err, ap, sym, ◌∙◌, arith}
 use Rattle.std.specs.Prelude.{negsuc}
 use Rattle.std.proofs.lemmas.List.Elements.{All-nil, All-cons, All-head}
@@ -11,6 +12,7 @@ use Rattle.trace_text.specs.declared.faults.TraceFault.TheVariants as fault
 use Rattle.trace_text.specs.declared.so_far.Stage.TheVariants as now
 use Rattle.trace_text.specs.declared.trace.Trace.{Trace}
 use Rattle.trace_text.specs.Spelling.{AreBytes, IsValue, IsPayload, IsAnswer, IsOffer, IsEvent, IsEntry, IsEnd, IsTrace, SpellsTrace, IsTheTrace, Begins, IsFirstWrong}
+use Rattle.trace_text.specs.Fitting.{EntryFits, NumbersFit}
 use Rattle.trace_text.specs.Outcomes.{trace_limit, Writes, Reads}
 use Rattle.trace_text.specs.Text.{trace_text}
 use Rattle.trace_text.specs.inner.Reading.{read_lines, after_line, entry_at, event_at, taking_at, payload_at, answer_at, value_at, number_at, numbered_at, end_at, end_word_at, bytes_to_end}
@@ -54,6 +56,13 @@ stamps_have_limits = (
 pub an_end_is_told : IsEnd (an_end Finished (2 ^ 64 - 1) []) × (IsEnd (an_end Finished (2 ^ 64) []) → ⊥)
 an_end_is_told = (record { steps = omega arith; output = All-nil (λ b. b < 256) }, λ h. let low : 2 ^ 64 < 2 ^ 64 = h.steps in omega (arith, low))
 
+-- but for its stamp, an entry fits its types where its turn has 64 bits and its party 32
+pub entries_fit : EntryFits (made 0 3 (2 ^ 64 - 1) (e.Know 0 0)) × ((EntryFits (made 1 3 (2 ^ 64) (e.Know 0 0)) → ⊥) × (EntryFits (made 1 (2 ^ 32) 0 (e.Know 0 0)) → ⊥))
+entries_fit = (
+  record { party = omega arith; turn = omega arith; event = (omega arith, omega arith) },
+  (λ h. let low : 2 ^ 64 < 2 ^ 64 = h.turn in omega (arith, low), λ h. let low : 2 ^ 32 < 2 ^ 32 = h.party in omega (arith, low)),
+)
+
 -- no core has ended in it
 abbrev endless : Trace
 endless = record { steps = 7; start = []; entries = []; ends = [] }
@@ -64,6 +73,17 @@ boundless = record { steps = 0; start = []; entries = []; ends = an_end Finished
 
 pub no_trace_without_an_end_or_a_step : (IsTrace endless → ⊥) × (IsTrace boundless → ⊥)
 no_trace_without_an_end_or_a_step = (λ h. let some : 1 ≤ 0 = h.some_end in omega (arith, some), λ h. let least : 1 ≤ 0 = h.steps_least in omega (arith, least))
+
+-- a trace that a text does not tell, since it has a bound of no steps, fits its types; one with a byte of 256 does not
+pub numbers_fit : NumbersFit boundless × (NumbersFit (record boundless { start = (256 ∷ []) ∷ [] }) → ⊥)
+numbers_fit = (
+  record {
+    files = All-nil AreBytes;
+    entries = All-nil EntryFits;
+    ends = All-cons IsEnd (an_end Finished 0 []) [] (record { steps = omega arith; output = All-nil (λ b. b < 256) }) (All-nil IsEnd);
+  },
+  λ h. bytes_are_low.1 (All-head AreBytes (256 ∷ []) [] h.files),
+)
 
 -- ---- what a text spells
 

@@ -1,4 +1,6 @@
--- What was read so far is spelled by its lines, and the lines of a trace are read to their end.
+-- What was read so far is spelled by its lines, and the lines of a trace are read to their end. For each stage of the reader `Form` says
+-- which lines spell what it holds; a line more leads from one to the next, in both directions. What is spelled begins a trace, since an end
+-- may be put behind it.
 use Rattle.std.proofs.Common.{◌≡◌, ℕ, suc, ◌+◌, ◌<◌, ◌≤◌, ◌^◌, Bool, true, false, List, [], ◌∷◌}
 use Rattle.std.proofs.Common.{◌++◌, length, Option, Some, None, refl, sym, ap, ◌∙◌, append-nil, append_assoc, length-append, arith}
 use Rattle.std.specs.Prelude.{All, ◌==◌, if◌then◌else◌}

@@ -1,4 +1,5 @@
--- One line more of a text, as the reader takes it.
+-- One line more of a text, as the reader takes it: where it cuts the text, reading the whole lines of what is left gives the same as reading
+-- that line and going on behind it.
 use Rattle.std.proofs.Common.{◌≡◌, ◌≢◌, ℕ, zero, suc, length-drop, ◌+◌, ◌-◌, ◌<◌, ◌≤◌, List, [], ◌∷◌, length, take, drop, Option, Some, None, Result, Ok, Err, refl, sym, ap, ◌∙◌, arith}
 use Rattle.std.proofs.lemmas.List.{take_all}
 use Rattle.trace_text.specs.declared.trace.Trace.{Trace}

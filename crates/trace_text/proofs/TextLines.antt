@@ -1,4 +1,5 @@
--- The lines of a text, and the text of lines.
+-- The lines of a text, and the text of lines. Each text is some whole lines and a tail without a line feed, in one way only, so that joining
+-- lines and cutting them again changes nothing.
 use Rattle.std.proofs.Common.{◌≡◌, ◌≢◌, ℕ, zero, suc, ◌+◌, Bool, true, false, List, [], ◌∷◌, ◌++◌, take, drop, length, refl, sym, ap, ◌∙◌, append_assoc, arith}
 use Rattle.std.specs.Prelude.{if◌then◌else◌}
 use Rattle.std.proofs.lemmas.Bool.Decides.{nat_tests}

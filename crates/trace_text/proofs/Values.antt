@@ -1,4 +1,5 @@
--- A value is read as it is written, with its sign.
+-- A value is read as it is written, with its sign: behind a dash stands a number that is not nought, and otherwise a number. No decimal
+-- begins with a dash, so the two never meet.
 use Rattle.std.proofs.Common.{◌≡◌, ℕ, suc, zero, ◌-◌, ◌≤◌, ◌^◌, List, ◌++◌, Some, codes, pos, refl, sym, ap, ◌∙◌, arith, false}
 use Rattle.std.specs.Prelude.{ℤ, negsuc}
 use Rattle.std.specs.Fmt.{decimal, signed_decimal}

@@ -1,4 +1,5 @@
--- What the reading function says of a text is what the text spells, and its first wrong line is the first wrong line.
+-- What the reading function says of a text is what the text spells, and its first wrong line is the first wrong line. The text of a trace is
+-- read back, so a text spells one trace; where reading stops, the lines before begin a trace, and no trace begins with the next one too.
 use Rattle.std.proofs.Common.{◌≡◌, ◌⊎◌, inl, inr, ℕ, suc, ◌+◌, true, false, List, [], ◌∷◌, ◌++◌}
 use Rattle.std.proofs.Common.{length, Option, Some, None, Result, Ok, Err, refl, sym, ap, ◌∙◌, append-nil, append_assoc, arith}
 use Rattle.trace_text.specs.declared.trace.Trace.{Trace}
@@ -220,6 +221,8 @@ middle_line [] l b h = h.0
 middle_line (m ∷ a) l b h = middle_line a l b h.1
 
 -- where reading stops is the first wrong line
+-- the reader stopped at a line that does not go on, or behind the last line: the lines before it are spelled and begin a trace, and a line more
+-- that began one would have been read
 pub read_stops : (text : List ℕ) (line : ℕ) → read_text text ≡ Err line → IsFirstWrong text line
 read_stops text line h = found (stops_at 1 nothing (lines_of text).0 (lines_of text).1 line h)
   where

@@ -1,4 +1,5 @@
--- A word is read where it stands, and only there.
+-- A word is read where it stands, and only there; and what a chain of reading functions has found on its way, one step at a time, for the
+-- proofs that follow a reader backwards.
 use Rattle.std.proofs.Common.{◌≡◌, ℕ, Bool, true, false, List, [], ◌∷◌, ◌++◌, length, take, drop, Option, Some, None, refl, sym, ap, ◌∙◌}
 use Rattle.std.specs.Prelude.{if◌then◌else◌}
 use Rattle.std.specs.Str.{bytes_eq}

@@ -1,4 +1,5 @@
--- Each way in which a line can be wrong, by the reading function: the number of the line, and the trace where nothing is wrong.
+-- Each way in which a line can be wrong, by the reading function: the number of the line, and the trace where nothing is wrong. All of it
+-- computes.
 use Rattle.std.proofs.Common.{◌≡◌, ℕ, refl, List, [], ◌∷◌, ◌++◌, Ok, Err, Result, codes}
 use Rattle.trace_text.specs.declared.trace.Trace.{Trace}
 use Rattle.trace_text.specs.inner.Reading.{read_text, read_lines, after_line, entry_at, event_at, taking_at, payload_at, answer_at, value_at, number_at, numbered_at, end_at, end_word_at, bytes_to_end}

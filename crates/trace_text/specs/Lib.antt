@@ -1,3 +1,4 @@
+pub mod Fitting
 pub mod inner
 pub mod Outcomes
 pub mod Spelling

@@ -4,23 +4,23 @@ ghost use Rattle.std.specs.Prelude.{◌≡◌, ◌<◌, ◌≤◌, ◌^◌, ◌=
 ghost use Rattle.trace_text.specs.inner.Reading.{Gives, word_at, ended, is_digit, digit_run, starts};
 ghost use Rattle.trace_text.specs.inner.Reading.{value_of, number_at, spaced_at, positive_at, negated_at};
 ghost use Rattle.trace_text.specs.inner.Reading.{value_at, digit_of, byte_of, pairs_of, bytes_to_end, spaced_bytes};
-ghost use Rattle.trace_text.specs.declared.cursor.Halt.TheVariants.{Memory};
+ghost use Rattle.trace_text.specs.declared.cursor.LineFault.TheVariants.{Memory};
 
 use ac_base::{Bytes, List, NoMemory};
 use std::alloc::Global;
 
 /// Why reading stops.
 #[derive(Debug, Drop)]
-pub enum Halt {
+pub enum LineFault {
     Wrong,
     Memory,
 }
 
-impl From<NoMemory> for Halt {
+impl From<NoMemory> for LineFault {
     ghost from_gives = { λ _ e. e ≡ Memory };
 
-    fn from(_: NoMemory) -> Halt {
-        Halt::Memory
+    fn from(_: NoMemory) -> LineFault {
+        LineFault::Memory
     }
 }
 
@@ -31,11 +31,11 @@ pub struct Cursor<'a> {
 }
 
 /// Takes that word.
-pub fn word(c: &mut Cursor<'_>, wanted: &[u8]) -> Result<(), Halt>
+pub fn word(c: &mut Cursor<'_>, wanted: &[u8]) -> Result<(), LineFault>
     ensures { Gives (λ _. c.new.rest.now) result (word_at wanted.now c.old.rest.now) }
 {
     match c.rest.strip_prefix(wanted) {
-        None => Err(Halt::Wrong),
+        None => Err(LineFault::Wrong),
         Some(rest) => {
             c.rest = rest;
             Ok(())
@@ -44,12 +44,12 @@ pub fn word(c: &mut Cursor<'_>, wanted: &[u8]) -> Result<(), Halt>
 }
 
 /// A value, where nothing is left.
-pub fn end<T: Drop>(c: &Cursor<'_>, value: T) -> Result<T, Halt>
+pub fn end<T: Drop>(c: &Cursor<'_>, value: T) -> Result<T, LineFault>
     ensures { Gives (λ x. x) result (ended c.now.rest.now value) }
 {
     match c.rest {
         [] => Ok(value),
-        _ => Err(Halt::Wrong),
+        _ => Err(LineFault::Wrong),
     }
 }
 
@@ -103,16 +103,16 @@ fn value_within(bytes: &[u8], most: u64) -> Option<u64>
 
 /// Takes a number that is at most so great, without a 0 in front of other digits.
 #[tactic(auto, unfolding(crate::specs::inner::Reading::number_at))]
-pub fn number(c: &mut Cursor<'_>, most: u64) -> Result<u64, Halt>
+pub fn number(c: &mut Cursor<'_>, most: u64) -> Result<u64, LineFault>
     ensures gives { Gives (λ n. (n, c.new.rest.now)) result (number_at most c.old.rest.now) }
     ensures low { IfOk result (λ n. n ≤ most) }
 {
     let len = digit_run(c.rest);
     if len == 0 || (starts_with_zero(c.rest) && len > 1) {
-        return Err(Halt::Wrong);
+        return Err(LineFault::Wrong);
     }
     match value_within(c.rest, most) {
-        None => Err(Halt::Wrong),
+        None => Err(LineFault::Wrong),
         Some(n) => {
             c.rest = &c.rest[len..];
             Ok(n)
@@ -121,7 +121,7 @@ pub fn number(c: &mut Cursor<'_>, most: u64) -> Result<u64, Halt>
 }
 
 /// Takes a blank and a number that is at most so great.
-pub fn spaced(c: &mut Cursor<'_>, most: u64) -> Result<u64, Halt>
+pub fn spaced(c: &mut Cursor<'_>, most: u64) -> Result<u64, LineFault>
     ensures gives { Gives (λ n. (n, c.new.rest.now)) result (spaced_at most c.old.rest.now) }
     ensures low { IfOk result (λ n. n ≤ most) }
 {
@@ -130,13 +130,13 @@ pub fn spaced(c: &mut Cursor<'_>, most: u64) -> Result<u64, Halt>
 }
 
 /// Takes a number from 1 to so great.
-pub fn positive(c: &mut Cursor<'_>, most: u64) -> Result<u64, Halt>
+pub fn positive(c: &mut Cursor<'_>, most: u64) -> Result<u64, LineFault>
     ensures gives { Gives (λ n. (n, c.new.rest.now)) result (positive_at most c.old.rest.now) }
     ensures low { IfOk result (λ n. n ≤ most) }
 {
     let n = number(c, most)?;
     if n == 0 {
-        return Err(Halt::Wrong);
+        return Err(LineFault::Wrong);
     }
     Ok(n)
 }
@@ -144,7 +144,7 @@ pub fn positive(c: &mut Cursor<'_>, most: u64) -> Result<u64, Halt>
 const MOST_SMALL: u64 = 4_294_967_295;
 
 /// Takes a number below 2^32.
-pub fn small(c: &mut Cursor<'_>) -> Result<u32, Halt>
+pub fn small(c: &mut Cursor<'_>) -> Result<u32, LineFault>
     ensures { Gives (λ n. (n, c.new.rest.now)) result (number_at 4294967295 c.old.rest.now) }
 {
     let n = number(c, MOST_SMALL)?;
@@ -152,7 +152,7 @@ pub fn small(c: &mut Cursor<'_>) -> Result<u32, Halt>
 }
 
 /// Takes a blank and a number below 2^32.
-pub fn spaced_small(c: &mut Cursor<'_>) -> Result<u32, Halt>
+pub fn spaced_small(c: &mut Cursor<'_>) -> Result<u32, LineFault>
     ensures { Gives (λ n. (n, c.new.rest.now)) result (spaced_at 4294967295 c.old.rest.now) }
 {
     let n = spaced(c, MOST_SMALL)?;
@@ -160,7 +160,7 @@ pub fn spaced_small(c: &mut Cursor<'_>) -> Result<u32, Halt>
 }
 
 // Takes a number from 1 to 2^63, and gives it with a `-` in front.
-fn negated(c: &mut Cursor<'_>) -> Result<i64, Halt>
+fn negated(c: &mut Cursor<'_>) -> Result<i64, LineFault>
     ensures { Gives (λ v. (v, c.new.rest.now)) result (negated_at c.old.rest.now) }
 {
     let n = positive(c, 9_223_372_036_854_775_808)?;
@@ -169,7 +169,7 @@ fn negated(c: &mut Cursor<'_>) -> Result<i64, Halt>
 
 /// Takes a value of 64 bits.
 #[tactic(auto, unfolding(crate::specs::inner::Reading::value_at))]
-pub fn value(c: &mut Cursor<'_>) -> Result<i64, Halt>
+pub fn value(c: &mut Cursor<'_>) -> Result<i64, LineFault>
     ensures { Gives (λ v. (v, c.new.rest.now)) result (value_at c.old.rest.now) }
 {
     match c.rest.strip_prefix(b"-") {
@@ -207,40 +207,40 @@ fn byte(high: u8, low: u8) -> Option<u8>
 }
 
 // The bytes of so many digits, two a byte.
-fn pairs(alloc: Global, digits: &[u8]) -> Result<Bytes, Halt>
+fn pairs(alloc: Global, digits: &[u8]) -> Result<Bytes, LineFault>
     ensures { Gives (λ bytes. bytes) result (pairs_of digits.now) }
 {
     let mut bytes = List::new(alloc);
     let mut rest = digits;
     'pairs: while rest.len() >= 2 {
         match byte(rest[0], rest[1]) {
-            None => return Err(Halt::Wrong),
+            None => return Err(LineFault::Wrong),
             Some(byte) => bytes.push(byte)?,
         }
         rest = &rest[2..];
     }
     if rest.len() == 1 {
-        return Err(Halt::Wrong);
+        return Err(LineFault::Wrong);
     }
     Ok(bytes)
 }
 
 /// The bytes that the rest of the line spells.
 #[tactic(auto, unfolding(crate::specs::inner::Reading::bytes_to_end))]
-pub fn bytes(alloc: Global, c: &Cursor<'_>) -> Result<Bytes, Halt>
+pub fn bytes(alloc: Global, c: &Cursor<'_>) -> Result<Bytes, LineFault>
     ensures { Gives (λ bytes. bytes) result (bytes_to_end c.now.rest.now) }
 {
     if c.rest == b"-".as_slice() {
         return Ok(List::new(alloc));
     }
     match c.rest {
-        [] => Err(Halt::Wrong),
+        [] => Err(LineFault::Wrong),
         _ => pairs(alloc, c.rest),
     }
 }
 
 /// Takes a blank, and the bytes that the rest of the line spells.
-pub fn spaced_bytes(alloc: Global, c: &mut Cursor<'_>) -> Result<Bytes, Halt>
+pub fn spaced_bytes(alloc: Global, c: &mut Cursor<'_>) -> Result<Bytes, LineFault>
     ensures { Gives (λ bytes. bytes) result (spaced_bytes c.old.rest.now) }
 {
     word(c, b" ")?;

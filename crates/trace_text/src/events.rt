@@ -6,7 +6,7 @@ ghost use Rattle.trace_text.specs.inner.Reading.{bare_offer_at, offered_at, got_
 ghost use Rattle.ac_base.specs.declared.entry.Event.TheVariants.{Did, Reply};
 
 use crate::cursor::{
-    Cursor, Halt, bytes, end, small, spaced, spaced_bytes, spaced_small, value, word,
+    Cursor, LineFault, bytes, end, small, spaced, spaced_bytes, spaced_small, value, word,
 };
 use ac_base::{Answer, Event, Payload};
 use std::alloc::Global;
@@ -19,7 +19,7 @@ struct OfferName {
 }
 
 // Takes the number of a link and that of an offer on it.
-fn offer(c: &mut Cursor<'_>) -> Result<OfferName, Halt>
+fn offer(c: &mut Cursor<'_>) -> Result<OfferName, LineFault>
     ensures { Gives (λ o. ((o.link, o.number), c.new.rest.now)) result (offer_at c.old.rest.now) }
 {
     let link = small(c)?;
@@ -35,7 +35,7 @@ struct FilePlace {
 }
 
 // Takes the file and the place of a request.
-fn range(c: &mut Cursor<'_>) -> Result<FilePlace, Halt>
+fn range(c: &mut Cursor<'_>) -> Result<FilePlace, LineFault>
     ensures { Gives (λ r. ((r.file, r.from), c.new.rest.now)) result (range_at c.old.rest.now) }
 {
     let file = small(c)?;
@@ -43,7 +43,7 @@ fn range(c: &mut Cursor<'_>) -> Result<FilePlace, Halt>
     Ok(FilePlace { file, from })
 }
 
-fn int(rest: &[u8]) -> Result<Payload, Halt>
+fn int(rest: &[u8]) -> Result<Payload, LineFault>
     ensures { Gives (λ p. p) result (int_at rest.now) }
 {
     let mut c = Cursor { rest };
@@ -51,7 +51,7 @@ fn int(rest: &[u8]) -> Result<Payload, Halt>
     end(&c, Payload::Int(value))
 }
 
-fn read(rest: &[u8]) -> Result<Payload, Halt>
+fn read(rest: &[u8]) -> Result<Payload, LineFault>
     ensures { Gives (λ p. p) result (read_at rest.now) }
 {
     let mut c = Cursor { rest };
@@ -65,7 +65,7 @@ fn read(rest: &[u8]) -> Result<Payload, Halt>
     end(&c, payload)
 }
 
-fn write(alloc: Global, rest: &[u8]) -> Result<Payload, Halt>
+fn write(alloc: Global, rest: &[u8]) -> Result<Payload, LineFault>
     ensures { Gives (λ p. p) result (write_at rest.now) }
 {
     let mut c = Cursor { rest };
@@ -79,7 +79,7 @@ fn write(alloc: Global, rest: &[u8]) -> Result<Payload, Halt>
 }
 
 #[tactic(auto, unfolding(crate::specs::inner::Reading::payload_at))]
-fn payload(alloc: Global, text: &[u8]) -> Result<Payload, Halt>
+fn payload(alloc: Global, text: &[u8]) -> Result<Payload, LineFault>
     ensures { Gives (λ p. p) result (payload_at text.now) }
 {
     if let Some(rest) = text.strip_prefix(b" int ") {
@@ -91,10 +91,10 @@ fn payload(alloc: Global, text: &[u8]) -> Result<Payload, Halt>
     if let Some(rest) = text.strip_prefix(b" write ") {
         return write(alloc, rest);
     }
-    Err(Halt::Wrong)
+    Err(LineFault::Wrong)
 }
 
-fn count(rest: &[u8]) -> Result<u32, Halt>
+fn count(rest: &[u8]) -> Result<u32, LineFault>
     ensures { Gives (λ n. n) result (count_at rest.now) }
 {
     let mut c = Cursor { rest };
@@ -103,7 +103,7 @@ fn count(rest: &[u8]) -> Result<u32, Halt>
 }
 
 #[tactic(auto, unfolding(crate::specs::inner::Reading::answer_at))]
-fn answer(alloc: Global, text: &[u8]) -> Result<Answer, Halt>
+fn answer(alloc: Global, text: &[u8]) -> Result<Answer, LineFault>
     ensures { Gives (λ a. a) result (answer_at text.now) }
 {
     if let Some(rest) = text.strip_prefix(b" bytes ") {
@@ -118,22 +118,22 @@ fn answer(alloc: Global, text: &[u8]) -> Result<Answer, Halt>
         let count = count(rest)?;
         return Ok(Answer::Fault(count));
     }
-    Err(Halt::Wrong)
+    Err(LineFault::Wrong)
 }
 
 // An offer's numbers, with nothing behind them.
-fn bare(rest: &[u8]) -> Result<OfferName, Halt>
+fn bare(rest: &[u8]) -> Result<OfferName, LineFault>
     ensures { Gives (λ o. (o.link, o.number)) result (bare_offer_at rest.now) }
 {
     let mut c = Cursor { rest };
     let offer = offer(&mut c)?;
     match c.rest {
         [] => Ok(offer),
-        _ => Err(Halt::Wrong),
+        _ => Err(LineFault::Wrong),
     }
 }
 
-fn offered(alloc: Global, rest: &[u8]) -> Result<Event, Halt>
+fn offered(alloc: Global, rest: &[u8]) -> Result<Event, LineFault>
     ensures { Gives (λ e. e) result (offered_at rest.now) }
 {
     let mut c = Cursor { rest };
@@ -146,7 +146,7 @@ fn offered(alloc: Global, rest: &[u8]) -> Result<Event, Halt>
     })
 }
 
-fn got(rest: &[u8]) -> Result<Event, Halt>
+fn got(rest: &[u8]) -> Result<Event, LineFault>
     ensures { Gives (λ e. e) result (got_at rest.now) }
 {
     let mut c = Cursor { rest };
@@ -161,7 +161,7 @@ fn got(rest: &[u8]) -> Result<Event, Halt>
     end(&c, event)
 }
 
-fn did(alloc: Global, rest: &[u8]) -> Result<Event, Halt>
+fn did(alloc: Global, rest: &[u8]) -> Result<Event, LineFault>
     ensures { Gives (λ e. e) result (answered_at Did rest.now) }
 {
     let mut c = Cursor { rest };
@@ -174,7 +174,7 @@ fn did(alloc: Global, rest: &[u8]) -> Result<Event, Halt>
     })
 }
 
-fn reply(alloc: Global, rest: &[u8]) -> Result<Event, Halt>
+fn reply(alloc: Global, rest: &[u8]) -> Result<Event, LineFault>
     ensures { Gives (λ e. e) result (answered_at Reply rest.now) }
 {
     let mut c = Cursor { rest };
@@ -189,7 +189,7 @@ fn reply(alloc: Global, rest: &[u8]) -> Result<Event, Halt>
 
 // What the receiving end of a link makes, or the sending end behind it.
 #[tactic(auto, unfolding(crate::specs::inner::Reading::taking_at))]
-fn taking(alloc: Global, text: &[u8]) -> Result<Event, Halt>
+fn taking(alloc: Global, text: &[u8]) -> Result<Event, LineFault>
     ensures { Gives (λ e. e) result (taking_at text.now) }
 {
     if let Some(rest) = text.strip_prefix(b" got ") {
@@ -205,12 +205,12 @@ fn taking(alloc: Global, text: &[u8]) -> Result<Event, Halt>
     if let Some(rest) = text.strip_prefix(b" reply ") {
         return reply(alloc, rest);
     }
-    Err(Halt::Wrong)
+    Err(LineFault::Wrong)
 }
 
 /// The event that the rest of a line spells.
 #[tactic(auto, unfolding(crate::specs::inner::Reading::event_at))]
-pub fn event(alloc: Global, text: &[u8]) -> Result<Event, Halt>
+pub fn event(alloc: Global, text: &[u8]) -> Result<Event, LineFault>
     ensures { Gives (λ e. e) result (event_at text.now) }
 {
     if let Some(rest) = text.strip_prefix(b" offer ") {

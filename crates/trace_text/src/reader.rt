@@ -4,7 +4,7 @@ ghost use Rattle.std.specs.Prelude.{◌≡◌, ◌≤◌, ◌<◌, ◌^◌, ℕ,
 ghost use Rattle.trace_text.specs.Outcomes.{Reads};
 ghost use Rattle.trace_text.specs.inner.Reading.{line_run, read_text, Told};
 
-use crate::cursor::Halt;
+use crate::cursor::LineFault;
 use crate::faults::TraceFault;
 use crate::so_far::{SoFar, Stage};
 use crate::trace::Trace;
@@ -37,8 +37,8 @@ fn read(alloc: Global, text: &[u8]) -> Result<Trace, TraceFault>
         }
         match so_far.add(alloc, &rest[..len]) {
             Ok(()) => {}
-            Err(Halt::Wrong) => return Err(TraceFault::Line { line }),
-            Err(Halt::Memory) => return Err(TraceFault::NoMemory),
+            Err(LineFault::Wrong) => return Err(TraceFault::Line { line }),
+            Err(LineFault::Memory) => return Err(TraceFault::NoMemory),
         }
         at += len + 1;
         line += 1;

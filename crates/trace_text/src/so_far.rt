@@ -7,7 +7,9 @@ ghost use Rattle.trace_text.specs.inner.Reading.{after_title, after_steps, after
 ghost use Rattle.trace_text.specs.inner.Reading.{after_end, after_entry_or_end, after_any, after_line};
 ghost use Rattle.ac_base.specs.declared.ends.EndWord.TheVariants.{Trapped};
 
-use crate::cursor::{Cursor, Halt, end, positive, small, spaced, spaced_bytes, spaced_small, word};
+use crate::cursor::{
+    Cursor, LineFault, end, positive, small, spaced, spaced_bytes, spaced_small, word,
+};
 use crate::events::event;
 use crate::trace::{Trace, TraceEnd};
 use ac_base::{Bytes, EndWord, Entry, List, Stamped, Trap};
@@ -45,7 +47,7 @@ fn starts_with(line: &[u8], first: u8) -> bool
     }
 }
 
-fn steps(line: &[u8]) -> Result<u64, Halt>
+fn steps(line: &[u8]) -> Result<u64, LineFault>
     ensures { Gives (λ n. n) result (steps_at line.now) }
 {
     let mut c = Cursor { rest: line };
@@ -56,17 +58,17 @@ fn steps(line: &[u8]) -> Result<u64, Halt>
 
 // Takes a word and that number.
 #[tactic(auto, unfolding(crate::specs::inner::Reading::numbered_at))]
-fn numbered(c: &mut Cursor<'_>, wanted: &[u8], number: u64) -> Result<(), Halt>
+fn numbered(c: &mut Cursor<'_>, wanted: &[u8], number: u64) -> Result<(), LineFault>
     ensures { Gives (λ _. c.new.rest.now) result (numbered_at wanted.now number c.old.rest.now) }
 {
     word(c, wanted)?;
     if u64::from(small(c)?) != number {
-        return Err(Halt::Wrong);
+        return Err(LineFault::Wrong);
     }
     Ok(())
 }
 
-fn file(alloc: Global, number: u64, line: &[u8]) -> Result<Bytes, Halt>
+fn file(alloc: Global, number: u64, line: &[u8]) -> Result<Bytes, LineFault>
     ensures { Gives (λ bytes. bytes) result (file_at number line.now) }
 {
     let mut c = Cursor { rest: line };
@@ -75,7 +77,7 @@ fn file(alloc: Global, number: u64, line: &[u8]) -> Result<Bytes, Halt>
 }
 
 #[tactic(auto, unfolding(crate::specs::inner::Reading::entry_at))]
-fn entry(alloc: Global, line: &[u8]) -> Result<Stamped, Halt>
+fn entry(alloc: Global, line: &[u8]) -> Result<Stamped, LineFault>
     ensures { Gives (λ entry. entry) result (entry_at line.now) }
 {
     let mut c = Cursor { rest: line };
@@ -90,7 +92,7 @@ fn entry(alloc: Global, line: &[u8]) -> Result<Stamped, Halt>
 }
 
 // Takes the word of a trap.
-fn trap(c: &mut Cursor<'_>) -> Result<Trap, Halt>
+fn trap(c: &mut Cursor<'_>) -> Result<Trap, LineFault>
     ensures { Gives (λ trap. (Trapped trap, c.new.rest.now)) result (trap_at c.old.rest.now) }
 {
     if let Some(rest) = c.rest.strip_prefix(b"zero-divisor") {
@@ -113,12 +115,12 @@ fn trap(c: &mut Cursor<'_>) -> Result<Trap, Halt>
         c.rest = rest;
         return Ok(Trap::FileRange);
     }
-    Err(Halt::Wrong)
+    Err(LineFault::Wrong)
 }
 
 // Takes the word for how a core ended.
 #[tactic(auto, unfolding(crate::specs::inner::Reading::end_word_at))]
-fn end_word(c: &mut Cursor<'_>) -> Result<EndWord, Halt>
+fn end_word(c: &mut Cursor<'_>) -> Result<EndWord, LineFault>
     ensures { Gives (λ word. (word, c.new.rest.now)) result (end_word_at c.old.rest.now) }
 {
     if let Some(rest) = c.rest.strip_prefix(b"finished") {
@@ -138,7 +140,7 @@ fn end_word(c: &mut Cursor<'_>) -> Result<EndWord, Halt>
 }
 
 #[tactic(auto, unfolding(crate::specs::inner::Reading::end_at))]
-fn trace_end(alloc: Global, number: u64, line: &[u8]) -> Result<TraceEnd, Halt>
+fn trace_end(alloc: Global, number: u64, line: &[u8]) -> Result<TraceEnd, LineFault>
     ensures { Gives (λ end. end) result (end_at number line.now) }
 {
     let mut c = Cursor { rest: line };
@@ -170,17 +172,17 @@ impl SoFar {
         }
     }
 
-    fn add_title(&mut self, line: &[u8]) -> Result<(), Halt>
+    fn add_title(&mut self, line: &[u8]) -> Result<(), LineFault>
         ensures { Gives (λ _. self.new) result (after_title self.old line.now) }
     {
         if line != b"ac-trace 1".as_slice() {
-            return Err(Halt::Wrong);
+            return Err(LineFault::Wrong);
         }
         self.stage = Stage::Steps;
         Ok(())
     }
 
-    fn add_steps(&mut self, line: &[u8]) -> Result<(), Halt>
+    fn add_steps(&mut self, line: &[u8]) -> Result<(), LineFault>
         ensures { Gives (λ _. self.new) result (after_steps self.old line.now) }
     {
         self.trace.steps = steps(line)?;
@@ -188,7 +190,7 @@ impl SoFar {
         Ok(())
     }
 
-    fn add_file(&mut self, alloc: Global, line: &[u8]) -> Result<(), Halt>
+    fn add_file(&mut self, alloc: Global, line: &[u8]) -> Result<(), LineFault>
         ensures { Gives (λ _. self.new) result (after_file self.old line.now) }
     {
         let bytes = file(alloc, self.trace.start.len(), line)?;
@@ -196,7 +198,7 @@ impl SoFar {
         Ok(())
     }
 
-    fn add_entry(&mut self, alloc: Global, line: &[u8]) -> Result<(), Halt>
+    fn add_entry(&mut self, alloc: Global, line: &[u8]) -> Result<(), LineFault>
         ensures { Gives (λ _. self.new) result (after_entry self.old line.now) }
     {
         let entry = entry(alloc, line)?;
@@ -205,7 +207,7 @@ impl SoFar {
         Ok(())
     }
 
-    fn add_end(&mut self, alloc: Global, line: &[u8]) -> Result<(), Halt>
+    fn add_end(&mut self, alloc: Global, line: &[u8]) -> Result<(), LineFault>
         ensures { Gives (λ _. self.new) result (after_end self.old line.now) }
     {
         let end = trace_end(alloc, self.trace.ends.len(), line)?;
@@ -214,7 +216,7 @@ impl SoFar {
         Ok(())
     }
 
-    fn add_entry_or_end(&mut self, alloc: Global, line: &[u8]) -> Result<(), Halt>
+    fn add_entry_or_end(&mut self, alloc: Global, line: &[u8]) -> Result<(), LineFault>
         ensures { Gives (λ _. self.new) result (after_entry_or_end self.old line.now) }
     {
         if starts_with(line, b'e') {
@@ -224,7 +226,7 @@ impl SoFar {
         }
     }
 
-    fn add_any(&mut self, alloc: Global, line: &[u8]) -> Result<(), Halt>
+    fn add_any(&mut self, alloc: Global, line: &[u8]) -> Result<(), LineFault>
         ensures { Gives (λ _. self.new) result (after_any self.old line.now) }
     {
         if starts_with(line, b'f') {
@@ -236,7 +238,7 @@ impl SoFar {
 
     /// One line more, without its line feed.
     #[tactic(auto, unfolding(crate::specs::inner::Reading::after_line))]
-    pub fn add(&mut self, alloc: Global, line: &[u8]) -> Result<(), Halt>
+    pub fn add(&mut self, alloc: Global, line: &[u8]) -> Result<(), LineFault>
         ensures { Gives (λ _. self.new) result (after_line self.old line.now) }
     {
         match self.stage {

@@ -1,12 +1,14 @@
 //! Writing a trace, line by line.
 
-ghost use Rattle.std.specs.Prelude.{◌≡◌, ◌++◌, ◌∷◌, ◌<◌, ◌≤◌, [], length, OnOk};
+ghost use Rattle.std.specs.Prelude.{◌≡◌, ◌++◌, ◌∷◌, ◌<◌, ◌≤◌, [], length, All, OnOk};
 ghost use Rattle.std.specs.Fmt.{decimal, signed_decimal};
 ghost use Rattle.ac_base.specs.Hexadecimal.{hex_digit, hex_digits, hex_of};
 ghost use Rattle.trace_text.specs.Text.{spaced, offer_name, payload_text, answer_text, event_text, title};
 ghost use Rattle.trace_text.specs.Text.{steps_line, file_line, entry_line, outcome_text, end_line};
 ghost use Rattle.trace_text.specs.Text.{file_lines, entry_lines, end_lines, joined};
+ghost use Rattle.trace_text.specs.Fitting.{EntryFits, NumbersFit};
 ghost use Rattle.trace_text.specs.Outcomes.{Writes, trace_limit};
+ghost use Rattle.trace_text.specs.Spelling.{AreBytes, IsAnswer, IsEnd, IsEvent, IsOffer, IsPayload};
 ghost use Rattle.trace_text.specs.inner.Adding.{Adds};
 
 use crate::faults::WriteFault;
@@ -52,7 +54,8 @@ fn digit(number: u8) -> u8
 }
 
 fn add_digits(text: &mut Vec<u8>, bytes: &[u8]) -> Result<(), NoMemory>
-    ensures { OnOk result (text.new.items ≡ text.old.items ++ hex_digits bytes.now) }
+    ensures adds { OnOk result (text.new.items ≡ text.old.items ++ hex_digits bytes.now) }
+    ensures fits { OnOk result (AreBytes bytes.now) }
 {
     for byte in bytes {
         text.push(digit(*byte / 16))?;
@@ -62,7 +65,8 @@ fn add_digits(text: &mut Vec<u8>, bytes: &[u8]) -> Result<(), NoMemory>
 }
 
 fn add_bytes(text: &mut Vec<u8>, bytes: &[u8]) -> Result<(), NoMemory>
-    ensures { OnOk result (text.new.items ≡ text.old.items ++ hex_of bytes.now) }
+    ensures adds { OnOk result (text.new.items ≡ text.old.items ++ hex_of bytes.now) }
+    ensures fits { OnOk result (AreBytes bytes.now) }
 {
     match bytes {
         [] => {
@@ -74,14 +78,16 @@ fn add_bytes(text: &mut Vec<u8>, bytes: &[u8]) -> Result<(), NoMemory>
 }
 
 fn add_offer(alloc: Global, text: &mut Vec<u8>, link: u32, number: u64) -> Result<(), NoMemory>
-    ensures { OnOk result (text.new.items ≡ text.old.items ++ offer_name link number) }
+    ensures adds { OnOk result (text.new.items ≡ text.old.items ++ offer_name link number) }
+    ensures fits { OnOk result (IsOffer link number) }
 {
     add_number(alloc, text, u64::from(link))?;
     add_spaced(alloc, text, number)
 }
 
 fn add_payload(alloc: Global, text: &mut Vec<u8>, payload: &Payload) -> Result<(), NoMemory>
-    ensures { OnOk result (text.new.items ≡ text.old.items ++ payload_text payload.now) }
+    ensures adds { OnOk result (text.new.items ≡ text.old.items ++ payload_text payload.now) }
+    ensures fits { OnOk result (IsPayload payload.now) }
 {
     match payload {
         Payload::Int(value) => {
@@ -105,7 +111,8 @@ fn add_payload(alloc: Global, text: &mut Vec<u8>, payload: &Payload) -> Result<(
 }
 
 fn add_answer(alloc: Global, text: &mut Vec<u8>, answer: &Answer) -> Result<(), NoMemory>
-    ensures { OnOk result (text.new.items ≡ text.old.items ++ answer_text answer.now) }
+    ensures adds { OnOk result (text.new.items ≡ text.old.items ++ answer_text answer.now) }
+    ensures fits { OnOk result (IsAnswer answer.now) }
 {
     match answer {
         Answer::Bytes(bytes) => {
@@ -124,7 +131,8 @@ fn add_answer(alloc: Global, text: &mut Vec<u8>, answer: &Answer) -> Result<(), 
 }
 
 fn add_event(alloc: Global, text: &mut Vec<u8>, event: &Event) -> Result<(), NoMemory>
-    ensures { OnOk result (text.new.items ≡ text.old.items ++ event_text event.now) }
+    ensures adds { OnOk result (text.new.items ≡ text.old.items ++ event_text event.now) }
+    ensures fits { OnOk result (IsEvent event.now) }
 {
     match *event {
         Event::Offer {
@@ -200,7 +208,8 @@ fn add_steps(alloc: Global, text: &mut Vec<u8>, steps: u64) -> Result<(), NoMemo
 }
 
 fn add_file(alloc: Global, text: &mut Vec<u8>, number: u64, bytes: &[u8]) -> Result<(), NoMemory>
-    ensures { OnOk result (text.new.items ≡ text.old.items ++ joined (file_line number bytes.now ∷ [])) }
+    ensures adds { OnOk result (text.new.items ≡ text.old.items ++ joined (file_line number bytes.now ∷ [])) }
+    ensures fits { OnOk result (AreBytes bytes.now) }
 {
     text.extend_from_slice(b"file ")?;
     add_number(alloc, text, number)?;
@@ -211,7 +220,8 @@ fn add_file(alloc: Global, text: &mut Vec<u8>, number: u64, bytes: &[u8]) -> Res
 }
 
 fn add_entry(alloc: Global, text: &mut Vec<u8>, stamped: &Stamped) -> Result<(), NoMemory>
-    ensures { OnOk result (text.new.items ≡ text.old.items ++ joined (entry_line stamped.now ∷ [])) }
+    ensures adds { OnOk result (text.new.items ≡ text.old.items ++ joined (entry_line stamped.now ∷ [])) }
+    ensures fits { OnOk result (EntryFits stamped.now) }
 {
     add_number(alloc, text, stamped.entry.stamp)?;
     add_spaced(alloc, text, u64::from(stamped.party))?;
@@ -223,7 +233,8 @@ fn add_entry(alloc: Global, text: &mut Vec<u8>, stamped: &Stamped) -> Result<(),
 
 // How a core ended, its steps, and its output.
 fn add_outcome(alloc: Global, text: &mut Vec<u8>, end: &TraceEnd) -> Result<(), NoMemory>
-    ensures { OnOk result (text.new.items ≡ text.old.items ++ outcome_text end.now) }
+    ensures adds { OnOk result (text.new.items ≡ text.old.items ++ outcome_text end.now) }
+    ensures fits { OnOk result (IsEnd end.now) }
 {
     text.extend_from_slice(end_word(end.word).as_bytes())?;
     add_spaced(alloc, text, end.steps)?;
@@ -232,7 +243,8 @@ fn add_outcome(alloc: Global, text: &mut Vec<u8>, end: &TraceEnd) -> Result<(), 
 }
 
 fn add_end(alloc: Global, text: &mut Vec<u8>, number: u64, end: &TraceEnd) -> Result<(), NoMemory>
-    ensures { OnOk result (text.new.items ≡ text.old.items ++ joined (end_line number end.now ∷ [])) }
+    ensures adds { OnOk result (text.new.items ≡ text.old.items ++ joined (end_line number end.now ∷ [])) }
+    ensures fits { OnOk result (IsEnd end.now) }
 {
     text.extend_from_slice(b"end ")?;
     add_number(alloc, text, number)?;
@@ -254,7 +266,8 @@ fn check(text: &[u8]) -> Result<(), WriteFault>
 }
 
 fn add_files(alloc: Global, text: &mut Vec<u8>, files: &[Bytes]) -> Result<(), WriteFault>
-    ensures { Adds text.old.items text.new.items (joined (file_lines 0 files.now)) result }
+    ensures adds { Adds text.old.items text.new.items (joined (file_lines 0 files.now)) result }
+    ensures fits { OnOk result (All AreBytes files.now) }
 {
     for (number, bytes) in files.iter().enumerate() {
         check(text.as_slice())?;
@@ -264,7 +277,8 @@ fn add_files(alloc: Global, text: &mut Vec<u8>, files: &[Bytes]) -> Result<(), W
 }
 
 fn add_entries(alloc: Global, text: &mut Vec<u8>, entries: &[Stamped]) -> Result<(), WriteFault>
-    ensures { Adds text.old.items text.new.items (joined (entry_lines entries.now)) result }
+    ensures adds { Adds text.old.items text.new.items (joined (entry_lines entries.now)) result }
+    ensures fits { OnOk result (All EntryFits entries.now) }
 {
     for entry in entries {
         check(text.as_slice())?;
@@ -274,7 +288,8 @@ fn add_entries(alloc: Global, text: &mut Vec<u8>, entries: &[Stamped]) -> Result
 }
 
 fn add_ends(alloc: Global, text: &mut Vec<u8>, ends: &[TraceEnd]) -> Result<(), WriteFault>
-    ensures { Adds text.old.items text.new.items (joined (end_lines 0 ends.now)) result }
+    ensures adds { Adds text.old.items text.new.items (joined (end_lines 0 ends.now)) result }
+    ensures fits { OnOk result (All IsEnd ends.now) }
 {
     for (number, end) in ends.iter().enumerate() {
         check(text.as_slice())?;
@@ -287,7 +302,8 @@ fn add_ends(alloc: Global, text: &mut Vec<u8>, ends: &[TraceEnd]) -> Result<(), 
 ///
 /// It takes time in proportion to what it writes, and stops behind the first line over the limit.
 pub fn write_trace(alloc: Global, trace: &Trace) -> Result<Bytes, WriteFault>
-    ensures { Writes trace.now result }
+    ensures writes { Writes trace.now result }
+    ensures fits { OnOk result (NumbersFit trace.now) }
 {
     let mut text = Vec::new(alloc);
     add_title(&mut text)?;

@@ -8,40 +8,110 @@ use core_channels::{Learning, Links, Offering, Receiving, Withdrawing};
 use std::alloc::Global;
 use std::test::Fail;
 
-/// The channel, for one message, and a link for the requests of each core, with places for four
-/// offers.
-pub fn links(alloc: Global) -> Result<Links, NoMemory>
-    ensures { IfOk result (λ it. (0 < length it) × ((link_at it 0).terms.requests ≡ false)) }
-{
-    links_for(alloc, 1)
+/// What is done.
+#[derive(Clone, Copy)]
+enum Step {
+    /// The sender offers this message.
+    Offer(Message),
+    /// It offers it, and withdraws it at once.
+    CallOff(Message),
+    /// It offers it, and withdraws it once the receiver has taken it.
+    CallOffLate(Message),
+    /// The sender learns.
+    Learn,
+    /// The receiver takes.
+    Take,
 }
 
-// The same with a channel for so many messages.
-fn links_for(alloc: Global, messages: u32) -> Result<Links, NoMemory>
+/// What is answered.
+#[derive(Clone, Copy, PartialEq, Eq)]
+enum Said {
+    Offered {
+        number: u64,
+        stamp: u64,
+    },
+    NoRoom,
+    Withdrawn {
+        stamp: u64,
+    },
+    Taken {
+        stamp: u64,
+    },
+    Known {
+        number: u64,
+        stamp: u64,
+    },
+    Room {
+        number: u64,
+        stamp: u64,
+    },
+    Undecided,
+    AllKnown,
+    Took {
+        number: u64,
+        value: Message,
+        stamp: u64,
+    },
+    Passed {
+        number: u64,
+        stamp: u64,
+    },
+    Nothing,
+    /// What no row has.
+    Other,
+}
+
+fn of_offering(answer: Offering<Payload>) -> Said {
+    match answer {
+        Offering::Offered { number, stamp } => Said::Offered { number, stamp },
+        Offering::NoRoom(_) => Said::NoRoom,
+        _ => Said::Other,
+    }
+}
+
+fn of_withdrawing(answer: Withdrawing) -> Said {
+    match answer {
+        Withdrawing::Withdrawn { stamp } => Said::Withdrawn { stamp },
+        Withdrawing::Taken { stamp } => Said::Taken { stamp },
+        Withdrawing::ClockFull => Said::Other,
+    }
+}
+
+fn of_learning(answer: Learning) -> Said {
+    match answer {
+        Learning::Know { number, stamp } => Said::Known { number, stamp },
+        Learning::Room { number, stamp } => Said::Room { number, stamp },
+        Learning::Undecided => Said::Undecided,
+        Learning::AllKnown => Said::AllKnown,
+        Learning::ClockFull => Said::Other,
+    }
+}
+
+fn of_receiving(answer: Receiving<Message>) -> Said {
+    match answer {
+        Receiving::Took {
+            number,
+            value,
+            stamp,
+        } => Said::Took {
+            number,
+            value,
+            stamp,
+        },
+        Receiving::Passed { number, stamp } => Said::Passed { number, stamp },
+        Receiving::Nothing => Said::Nothing,
+        _ => Said::Other,
+    }
+}
+
+// A channel for so many messages, with places for four offers.
+fn channel(alloc: Global, messages: u32) -> Result<Links, NoMemory>
     ensures { IfOk result (λ it. (0 < length it) × ((link_at it 0).terms.requests ≡ false)) }
 {
-    let capacities = List::from_vec(Vec::from_slice(alloc, &[messages, 16, 16])?);
+    let capacities = List::from_vec(Vec::from_slice(alloc, &[messages])?);
     let mut links = Links::new(alloc, &capacities, 1)?;
     links.reserve(4)?;
     Ok(links)
-}
-
-fn offer(links: &mut Links, value: Message, clock: &mut Clock) -> Offering<Payload>
-    requires one { 0 < length links.old }
-    requires channel { (link_at links.old 0).terms.requests ≡ false }
-    ensures one { 0 < length links.new }
-    ensures channel { (link_at links.new 0).terms.requests ≡ false }
-{
-    links.offer(0, Payload::Int(value), clock)
-}
-
-fn learn(links: &mut Links, clock: &mut Clock) -> Learning
-    requires one { 0 < length links.old }
-    requires channel { (link_at links.old 0).terms.requests ≡ false }
-    ensures one { 0 < length links.new }
-    ensures channel { (link_at links.new 0).terms.requests ≡ false }
-{
-    links.learn(0, clock)
 }
 
 #[tactic(auto, using(crate::proofs::Taking::offers_stay))]
@@ -55,26 +125,26 @@ fn take(links: &mut Links, clock: &mut Clock) -> Receiving<Message>
     links.take(0, clock)
 }
 
-// Offers the message and withdraws it at once.
-fn offer_and_withdraw(links: &mut Links, value: Message, clock: &mut Clock) -> Option<Withdrawing>
+// Offers the message and withdraws it.
+fn call_off(links: &mut Links, value: Message, clock: &mut Clock) -> Said
     requires one { 0 < length links.old }
     requires channel { (link_at links.old 0).terms.requests ≡ false }
     ensures one { 0 < length links.new }
     ensures channel { (link_at links.new 0).terms.requests ≡ false }
 {
     match links.offer(0, Payload::Int(value), clock) {
-        Offering::Offered { number, .. } => Some(links.withdraw(0, number, clock)),
-        _ => None,
+        Offering::Offered { number, .. } => of_withdrawing(links.withdraw(0, number, clock)),
+        _ => Said::Other,
     }
 }
 
-// Offers the message and withdraws it, after the receiver has taken.
-fn offer_and_withdraw_late(
+// The same, after the receiver has taken.
+fn call_off_late(
     links: &mut Links,
     value: Message,
     sender: &mut Clock,
     receiver: &mut Clock,
-) -> Option<Withdrawing>
+) -> Said
     requires one { 0 < length links.old }
     requires channel { (link_at links.old 0).terms.requests ≡ false }
     ensures one { 0 < length links.new }
@@ -83,108 +153,132 @@ fn offer_and_withdraw_late(
     match links.offer(0, Payload::Int(value), sender) {
         Offering::Offered { number, .. } => {
             take(links, receiver);
-            Some(links.withdraw(0, number, sender))
+            of_withdrawing(links.withdraw(0, number, sender))
         }
-        _ => None,
+        _ => Said::Other,
     }
 }
 
-fn has_no_room(answer: Offering<Payload>) -> bool {
-    matches!(answer, Offering::NoRoom(Payload::Int(_)))
-}
-
-// Whether the message was taken, under this number and stamp.
-fn is_took(answer: Receiving<Message>, number: u64, value: Message, stamp: u64) -> bool {
-    match answer {
-        Receiving::Took {
-            number: n,
-            value: v,
-            stamp: s,
-        } => n == number && v == value && s == stamp,
-        _ => false,
+fn act(links: &mut Links, step: Step, sender: &mut Clock, receiver: &mut Clock) -> Said
+    requires one { 0 < length links.old }
+    requires channel { (link_at links.old 0).terms.requests ≡ false }
+    ensures one { 0 < length links.new }
+    ensures channel { (link_at links.new 0).terms.requests ≡ false }
+{
+    match step {
+        Step::Offer(value) => of_offering(links.offer(0, Payload::Int(value), sender)),
+        Step::CallOff(value) => call_off(links, value, sender),
+        Step::CallOffLate(value) => call_off_late(links, value, sender, receiver),
+        Step::Learn => of_learning(links.learn(0, sender)),
+        Step::Take => of_receiving(take(links, receiver)),
     }
 }
 
-// A withdrawn offer is passed, and its room is back once that is known; a late withdrawal is told
-// of the taking.
-#[test]
-fn withdrawals(rt: HostRuntime) -> Result<(), Fail> {
-    let mut links = links(rt.alloc())?;
-    let mut sender = Clock::new(0);
-    let mut receiver = Clock::new(0);
-    assert_eq!(rt;
-        offer_and_withdraw(&mut links, 7, &mut sender),
-        Some(Withdrawing::Withdrawn { stamp: 2 })
-    );
-    assert!(rt; has_no_room(offer(&mut links, 8, &mut sender)));
-    assert_eq!(rt; learn(&mut links, &mut sender), Learning::Undecided);
-    assert!(rt;
-        matches!(
-            take(&mut links, &mut receiver),
-            Receiving::Passed {
-                number: 0,
-                stamp: 3
-            }
-        )
-    );
-    assert_eq!(rt;
-        learn(&mut links, &mut sender),
-        Learning::Room {
-            number: 0,
-            stamp: 4
-        }
-    );
-    assert_eq!(rt;
-        offer_and_withdraw_late(&mut links, 8, &mut sender, &mut receiver),
-        Some(Withdrawing::Taken { stamp: 7 })
-    );
-    assert_eq!(rt; learn(&mut links, &mut sender), Learning::AllKnown);
-    Ok(())
-}
+type Row = (Step, Said);
 
-// A withdrawal that comes too late tells of the taking, which it answers.
-#[test]
-fn a_lost_withdrawal(rt: HostRuntime) -> Result<(), Fail> {
-    let mut links = links(rt.alloc())?;
-    let mut sender = Clock::new(0);
-    let mut receiver = Clock::new(0);
-    assert_eq!(rt;
-        offer_and_withdraw_late(&mut links, 5, &mut sender, &mut receiver),
-        Some(Withdrawing::Taken { stamp: 3 })
-    );
-    Ok(())
-}
+// With room for one: a withdrawal that comes too late tells of the taking, and answers it.
+const LATE: [Row; 2] = [
+    (Step::CallOffLate(5), Said::Taken { stamp: 3 }),
+    (Step::Learn, Said::AllKnown),
+];
 
 // With room for two the next message is offered behind a withdrawn one, which is passed first. The
 // two entries of stamp 3 answer neither the other.
-#[test]
-fn a_withdrawn_offer_is_passed(rt: HostRuntime) -> Result<(), Fail> {
-    let mut links = links_for(rt.alloc(), 2)?;
+const PASSED: [Row; 5] = [
+    (Step::CallOff(5), Said::Withdrawn { stamp: 2 }),
+    (
+        Step::Offer(6),
+        Said::Offered {
+            number: 1,
+            stamp: 3,
+        },
+    ),
+    (
+        Step::Take,
+        Said::Passed {
+            number: 0,
+            stamp: 3,
+        },
+    ),
+    (
+        Step::Take,
+        Said::Took {
+            number: 1,
+            value: 6,
+            stamp: 4,
+        },
+    ),
+    (Step::Take, Said::Nothing),
+];
+
+// With room for one a withdrawn message holds its room until it is passed and this is known.
+const HOLDS: [Row; 9] = [
+    (Step::CallOff(5), Said::Withdrawn { stamp: 2 }),
+    (Step::Offer(6), Said::NoRoom),
+    (Step::Learn, Said::Undecided),
+    (
+        Step::Take,
+        Said::Passed {
+            number: 0,
+            stamp: 3,
+        },
+    ),
+    (
+        Step::Learn,
+        Said::Room {
+            number: 0,
+            stamp: 4,
+        },
+    ),
+    (
+        Step::Offer(6),
+        Said::Offered {
+            number: 1,
+            stamp: 5,
+        },
+    ),
+    (
+        Step::Take,
+        Said::Took {
+            number: 1,
+            value: 6,
+            stamp: 6,
+        },
+    ),
+    (
+        Step::Learn,
+        Said::Known {
+            number: 1,
+            stamp: 7,
+        },
+    ),
+    (Step::Learn, Said::AllKnown),
+];
+
+// How many of the steps are answered so, from the first on.
+fn right(links: &mut Links, rows: &[Row]) -> usize
+    requires one { 0 < length links.old }
+    requires channel { (link_at links.old 0).terms.requests ≡ false }
+{
     let mut sender = Clock::new(0);
     let mut receiver = Clock::new(0);
-    assert_eq!(rt;
-        offer_and_withdraw(&mut links, 5, &mut sender),
-        Some(Withdrawing::Withdrawn { stamp: 2 })
-    );
-    assert!(rt;
-        matches!(
-            offer(&mut links, 6, &mut sender),
-            Offering::Offered {
-                number: 1,
-                stamp: 3
-            }
-        )
-    );
-    assert!(rt;
-        matches!(
-            take(&mut links, &mut receiver),
-            Receiving::Passed {
-                number: 0,
-                stamp: 3
-            }
-        )
-    );
-    assert!(rt; is_took(take(&mut links, &mut receiver), 1, 6, 4));
-    assert!(rt; matches!(take(&mut links, &mut receiver), Receiving::Nothing));
+    for (at, row) in rows.iter().enumerate() {
+        if act(links, row.0, &mut sender, &mut receiver) != row.1 {
+            return at;
+        }
+    }
+    rows.len()
+}
+
+#[test]
+fn offers_withdrawals_and_takings(rt: HostRuntime) -> Result<(), Fail> {
+    for (messages, rows) in [
+        (1, LATE.as_slice()),
+        (2, PASSED.as_slice()),
+        (1, HOLDS.as_slice()),
+    ] {
+        let mut links = channel(rt.alloc(), messages)?;
+        assert_eq!(rt; right(&mut links, rows), rows.len());
+    }
     Ok(())
 }

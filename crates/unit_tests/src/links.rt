@@ -1,36 +1,14 @@
-//! The words of one link, by one thread and by two.
+//! The words of one link, by two threads.
 
-ghost use Rattle.std.specs.Prelude.{◌≡◌, IfOk};
-ghost use Rattle.completion_word.specs.Link.{new_owner, new_peer};
-ghost use Rattle.completion_word.specs.Seats.{owner_of, peer_of, IsOwnerOf, IsPeerOf, places_of};
+ghost use Rattle.std.specs.Prelude.{◌≡◌, ◌<◌, ◌≤◌, IfOk};
+ghost use Rattle.completion_word.specs.Link.{new_owner};
+ghost use Rattle.completion_word.specs.Seats.{owner_of, IsOwnerOf, IsPeerOf, places_of};
 
+use ac_base::NoMemory;
 use completion_word::{Closed, Learnt, Look, OwnerSeat, PeerSeat, Taking, Withdrawal, Words};
 use std::alloc::{AllocError, Global};
 use std::test::Fail;
-use std::thread::join;
-
-#[test]
-fn meeting_tells_both_sides(rt: HostRuntime) -> Result<(), Fail> {
-    let (words, mut owner, mut peer) = Words::make(rt.alloc(), 1)?;
-    words.post(&mut owner, 1);
-    assert_eq!(rt; words.learn(&mut owner), Learnt::Undecided);
-    assert_eq!(rt; words.look(&mut peer), Look::Offered { stamp: 1 });
-    assert_eq!(rt; words.take(&mut peer, 2), Taking::Won);
-    let met = Closed {
-        offered: 1,
-        decided: 1,
-        learned: 0,
-    };
-    assert_eq!(rt; words.meet(&mut owner, &mut peer), met);
-    assert_eq!(rt; words.learn(&mut owner), Learnt::Taken { stamp: 2 });
-    let counts = Closed {
-        offered: 1,
-        decided: 1,
-        learned: 1,
-    };
-    assert_eq!(rt; words.close(owner, peer), counts);
-    Ok(())
-}
+use std::thread::{Threads, join};
 
 // The greatest stamp.
 const LAST_STAMP: u64 = (1 << 60) - 1;
@@ -150,31 +128,62 @@ fn are_fates(notes: &OwnerNotes, decisions: &[Learnt]) -> bool {
     learned && ended && withdrawn.count() == passed.count()
 }
 
+// What a meeting of the two sides says, and then the end of the link.
+fn ended(words: Words, mut owner: OwnerSeat, mut peer: PeerSeat) -> (Closed, Closed)
+    requires { IsOwnerOf owner words × IsPeerOf peer words }
+{
+    let met = words.meet(&mut owner, &mut peer);
+    (met, words.close(owner, peer))
+}
+
+// What one thread noted that offers, another that decides, and both together at the end.
+#[derive(Drop)]
+struct Noted {
+    offering: OwnerNotes,
+    deciding: Vec<Learnt>,
+    met: Closed,
+    closed: Closed,
+}
+
+fn in_two_threads(rt: &impl Threads, alloc: Global, places: u32) -> Result<Noted, NoMemory>
+    requires { (0 < places) × (places ≤ 64) }
+{
+    let (words, owner, peer) = Words::make(alloc, places)?;
+    let shared = &words;
+    let (offered, decided) = join(
+        rt,
+        move ||
+            requires { IsOwnerOf owner shared.now × (owner_of owner ≡ new_owner) × (places_of shared.now ≡ places) }
+            ensures { IfOk result (λ r. IsOwnerOf r.0 shared.entry.now) }
+        { offer_all(alloc, shared, owner, u64::from(places), 20000) },
+        move ||
+            requires { IsPeerOf peer shared.now }
+            ensures { IfOk result (λ r. IsPeerOf r.0 shared.entry.now) }
+        { decide_all(alloc, shared, peer, 20000) },
+    );
+    let (owner, offering) = offered?;
+    let (peer, deciding) = decided?;
+    let (met, closed) = ended(words, owner, peer);
+    Ok(Noted {
+        offering,
+        deciding,
+        met,
+        closed,
+    })
+}
+
 #[test]
 fn two_threads_note_the_same_fates(rt: HostRuntime) -> Result<(), Fail> {
     for round in 0..40u32 {
-        let alloc: Global = rt.alloc();
-        let places = round % 3 + 1;
-        let (words, owner, peer) = Words::make(alloc, places)?;
-        let shared = &words;
-        let (offering, deciding) = join(
-            &rt,
-            move ||
-                requires { IsOwnerOf owner shared.now × (owner_of owner ≡ new_owner) × (places_of shared.now ≡ places) }
-                ensures { IfOk result (λ r. IsOwnerOf r.0 shared.entry.now) }
-            { offer_all(alloc, shared, owner, u64::from(places), 20000) },
-            move ||
-                requires { IsPeerOf peer shared.now }
-                ensures { IfOk result (λ r. IsPeerOf r.0 shared.entry.now) }
-            { decide_all(alloc, shared, peer, 20000) },
-        );
-        let (owner, notes) = offering?;
-        let (peer, decisions) = deciding?;
-        let counts = words.close(owner, peer);
-        assert_eq!(rt; counts.offered, notes.posted);
-        assert_eq!(rt; counts.decided, decisions.len() as u64);
-        assert_eq!(rt; counts.learned, notes.learned.len() as u64);
-        assert!(rt; are_fates(&notes, &decisions));
+        let noted = in_two_threads(&rt, rt.alloc(), round % 3 + 1)?;
+        let counts = Closed {
+            offered: noted.offering.posted,
+            decided: noted.deciding.len() as u64,
+            learned: noted.offering.learned.len() as u64,
+        };
+        assert_eq!(rt; noted.met, counts);
+        assert_eq!(rt; noted.closed, counts);
+        assert!(rt; are_fates(&noted.offering, &noted.deciding));
     }
     Ok(())
 }

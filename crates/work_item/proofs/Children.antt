@@ -1,4 +1,7 @@
 -- Which frames lie in which, and how many words they have.
+-- Counts of children and sums of words over the whole list of frames, and what one frame that is set, made or taken away changes of them:
+-- set and push are laws of sums, so each step is one equation. From counts alone: who has no child can go, and all others keep a parent
+-- that lives.
 use Rattle.std.proofs.Common.{◌≡◌, ℕ, zero, suc, ◌+◌, ◌-◌, ◌<◌, ◌≤◌, List, [], ◌∷◌, ◌++◌, length, Option, Some, None, IsSome, Bool, true, false, cond}
 use Rattle.std.proofs.Common.{◌⊎◌, inl, inr, refl, sym, ap, ◌∙◌, subst, arith, get_or, set, eqb-true, eq-eqb, get_or-set_other, get_or-set_same}
 use Rattle.std.proofs.lemmas.Bool.{cases_eq, cases_lt}

@@ -1,4 +1,5 @@
 -- What the definitions of Store, Conditions and Table say of small stores.
+-- Each law computes: of each definition a case that holds, and where it asks for something one that does not.
 use Rattle.std.proofs.Common.{◌≡◌, refl, ℕ, zero, suc, ◌<◌, pos, List, [], ◌∷◌, Option, None, Some, Bool, true, false, arith}
 use Rattle.std.specs.Prelude.{negsuc}
 use Rattle.work_item.specs.declared.ids.FrameId.{FrameId}

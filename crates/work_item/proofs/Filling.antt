@@ -1,4 +1,5 @@
 -- Filling a frame: what is given, and 0 from there on.
+-- For the loop of `fill`, whose invariant is that the cells so far are `filled` of so many words; one 0 more is one word more.
 use Rattle.std.proofs.Common.{◌≡◌, ℕ, ◌+◌, ◌-◌, ◌≤◌, List, [], ◌∷◌, ◌++◌, length, replicate, ap, ◌∙◌, arith, append_assoc}
 use Rattle.std.proofs.lemmas.List.{length-append, length-replicate, replicate_more}
 use Rattle.work_item.specs.declared.cell.Cell.{Cell}

@@ -1,5 +1,6 @@
--- Which frames are kept: all, where each whose end has come has a child; and a frame without one is
--- taken away first.
+-- Which frames are kept: all, where each whose end has come has a child; and a frame without one is taken away first.
+-- This joins `kept`, which goes over the list once and asks for children that are younger, to the counts of children. By induction over the
+-- list, with the number of its first frame: all children of a frame stand behind it, since a frame lies in an older one (`IsRooted`).
 use Rattle.std.proofs.Common.{◌≡◌, ℕ, zero, suc, ◌+◌, ◌-◌, ◌<◌, List, [], ◌∷◌, Option, Some, None, Bool, true, false}
 use Rattle.std.proofs.Common.{not, ◌&&◌, ◌||◌, if◌then◌else◌, refl, ap, ◌∙◌, subst, arith, drop, set, get_or-drop}
 use Rattle.std.proofs.lemmas.Bool.{or_right}

@@ -1,4 +1,6 @@
 -- Laying cells over the first of a list, one by one.
+-- For the loop of `refill`, which uses the cells of a frame that is gone for a new one: the invariant is that so many cells are those of
+-- the other list, and in the end what was given stands there, with 0 behind it.
 use Rattle.std.proofs.Common.{◌≡◌, ℕ, zero, suc, ◌+◌, ◌-◌, ◌<◌, ◌≤◌, List, [], ◌∷◌, ◌++◌, length, take, drop, replicate, refl, ap, ◌∙◌, arith, set, slice_index_or}
 use Rattle.std.proofs.lemmas.List.{append-nil, length-drop, drop_all, take_all}
 use Rattle.work_item.specs.declared.cell.Cell.{Cell}

@@ -1,4 +1,6 @@
 -- Going up from frame to frame.
+-- For the loop of `above`: the frame that is so many levels above the first stays the same while the one at hand goes up and its level
+-- falls by one.
 use Rattle.std.proofs.Common.{◌≡◌, ℕ, zero, suc, ◌+◌, ◌-◌, ◌<◌, Option, Some, None, IsSome, IsSomeAnd, refl, sym, ap, ◌∙◌, subst, arith}
 use Rattle.work_item.specs.declared.ids.FrameId.{FrameId}
 use Rattle.work_item.specs.Store.{Store, Frame, frame_at, parent_or, above}

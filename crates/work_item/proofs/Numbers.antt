@@ -1,4 +1,6 @@
 -- The places as numbers, of which one means none.
+-- The table keeps its places as numbers of 32 bits; here what is read, added and emptied in that list is told of the list of optional
+-- places for which it stands.
 use Rattle.std.proofs.Common.{◌≡◌, ℕ, zero, suc, ◌<◌, List, [], ◌∷◌, ◌++◌, length, Some, None, IsSome, Bool, true, false, nat_lt, if◌then◌else◌}
 use Rattle.std.proofs.Common.{sym, ap, ◌∙◌, refl, subst, arith, get_or, set}
 use Rattle.std.proofs.lemmas.List.{map-set, map-append, length-map}

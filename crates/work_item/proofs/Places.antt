@@ -1,4 +1,6 @@
 -- The frames by number, and the places at which they lie.
+-- A frame's slot is found through its place, and `ArePlaces` says that no two numbers share one. From this: writing a slot changes one
+-- frame, a new slot at the top adds one, and a place that is given back is that of no number, so its slot may hold anything.
 use Rattle.std.proofs.Common.{◌≡◌, ℕ, ◌+◌, ◌<◌, List, [], ◌∷◌, ◌++◌, length, Option, Some, None, IsSome}
 use Rattle.std.proofs.Common.{inl, inr, refl, sym, ap, ◌∙◌, subst, arith, get_or, set, get_or-set_same}
 use Rattle.std.proofs.lemmas.Bool.{cases_eq}

@@ -1,4 +1,7 @@
 -- The table keeps its counts.
+-- `IsSound`: each frame that lives has the count of its children, and the words are their sum. It is kept where a frame is changed, made or
+-- taken away; the two last change the count of the parent too, so each is shown for the list before the parent is counted and then for the
+-- whole.
 use Rattle.std.proofs.Common.{◌≡◌, ℕ, ◌+◌, ◌-◌, ◌<◌, ◌≤◌, ◌^◌, List, [], ◌∷◌, ◌++◌, length, Option, Some, None, IsSome, IsSomeAnd}
 use Rattle.std.proofs.Common.{IfSome, is_some, is_none, Bool, true, false, not, ◌&&◌, inl, inr, refl, sym, ap, ◌∙◌, subst, arith, set, nat_eq, get_or-set_same, eq-eqb, ne_eqb}
 use Rattle.std.proofs.lemmas.Bool.{cases_eq}

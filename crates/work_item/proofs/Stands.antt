@@ -1,4 +1,7 @@
 -- What was read or written at the place of a frame.
+-- The laws that the calls of `Table` use: places (Places) and counts (Sound) together are `IsKept`. `Adds` and `Takes` hold all that is
+-- known in the middle of a call, where a frame is in or out and its parent has not been counted; from there what is kept and what is seen
+-- are shown each by itself.
 use Rattle.std.proofs.Common.{◌≡◌, ℕ, ◌+◌, ◌-◌, ◌<◌, ◌^◌, List, [], ◌∷◌, ◌++◌, length, Option, Some, None, IsSome, IsSomeAnd, IfSome, Result, Ok, Err, OnErr}
 use Rattle.std.proofs.Common.{refl, sym, ap, ◌∙◌, subst, arith, get_or, set}
 use Rattle.std.proofs.lemmas.List.{map-set, length-map, length-set}

@@ -1,4 +1,5 @@
 -- What the definitions of Threads say of three small threads.
+-- The second was given back: its number is not made again, and what is changed at it changes nothing.
 use Rattle.std.proofs.Common.{◌≡◌, refl, ℕ, [], ◌∷◌, Option, None, Some}
 use Rattle.work_item.specs.declared.ids.Item.{Item}
 use Rattle.work_item.specs.declared.ids.BlockId.{BlockId}

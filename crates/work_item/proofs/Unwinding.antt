@@ -1,4 +1,7 @@
 -- Taking frames away, one after another, up to the first that stays.
+-- For the loop of `unwind`, whose invariant is `Unwinds`: what is left comes to the same kept frames, and only the frame at hand may be
+-- over without a child. Taking one away can make its parent such a frame, and no other; the loop ends since a parent is older. `goes_alone`
+-- is the frame that lies in none.
 use Rattle.std.proofs.Common.{◌≡◌, ℕ, zero, suc, ◌+◌, ◌<◌, ◌≤◌, List, Option, Some, None, IsSome, IsSomeAnd, Bool, true, false, ◌&&◌, ℤ, is_none}
 use Rattle.std.proofs.Common.{inl, inr, refl, sym, ap, ◌∙◌, subst, arith, set, nat_eq, eqb-true, eq-eqb, ne_eqb, get_or-set_same}
 use Rattle.std.proofs.lemmas.Bool.{cases_eq}

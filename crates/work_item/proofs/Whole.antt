@@ -1,4 +1,6 @@
 -- What always holds of the globals and the frames holds after each call.
+-- `IsWhole`: a frame whose end has come has a child that lives, and all words fit 64 bits. A write keeps parent, end and length of a frame;
+-- a new frame adds the words that the call has counted.
 use Rattle.std.proofs.Common.{◌≡◌, ℕ, ◌+◌, ◌<◌, ◌≤◌, ◌^◌, List, [], ◌∷◌, ◌++◌, length, Option, Some, None, Result, Ok, Err, OnOk}
 use Rattle.std.proofs.Common.{OnErr, true, false, ℤ, inl, inr, refl, sym, ap, ◌∙◌, subst, arith, set, get_or-set_same}
 use Rattle.std.proofs.lemmas.Bool.{cases_eq}

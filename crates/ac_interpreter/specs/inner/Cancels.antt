@@ -6,13 +6,13 @@ use Rattle.work_item.specs.declared.ids.BlockId.{BlockId}
 use Rattle.cancel_scope.specs.declared.operation.Operation.{Operation}
 use Rattle.core_state.specs.Moves.{Move, On}
 use Rattle.core_state.specs.Shared.{Shared}
-use Rattle.core_state.specs.Cancelling.{Outcome, by_outcome, decided, cancels}
+use Rattle.core_state.specs.Cancelling.{Fate, by_outcome, decided, cancels}
 use Rattle.ac_semantics.specs.Threads.{CoreState, is_inside, arrived}
 use Rattle.interpreter_steps.specs.Works.{past_first}
 use Rattle.ac_interpreter.specs.inner.Under.{held_under, core_under}
 
 -- this has become of the first operation for which the test holds
-abbrev pub after_outcome : (Operation → Bool) → Operation → CoreState → Shared → Outcome → CoreState
+abbrev pub after_outcome : (Operation → Bool) → Operation → CoreState → Shared → Fate → CoreState
 after_outcome test o c shared it = arrived c shared (by_outcome it c.held.store test c.held.operations o)
 
 -- the first of these entries decides what becomes of its offer

@@ -6,10 +6,10 @@ use Rattle.ac_semantics.specs.Threads.{CoreState, step, first_state}
 use Rattle.ac_interpreter.specs.Unfit.{RunEnds, IsUnfit}
 use Rattle.ac_interpreter.specs.inner.Cores.{state_of}
 use Rattle.ac_interpreter.specs.declared.ending.Ending.{Ending}
-use Rattle.ac_interpreter.specs.declared.running.Core.{Core}
+use Rattle.ac_interpreter.specs.declared.running.InterpretedCore.{InterpretedCore}
 
 -- all entries have come in, and the core has ended
-pub record IsOver (ending : Ending) (core : Core) : Type 0 where
+pub record IsOver (ending : Ending) (core : InterpretedCore) : Type 0 where
   pub ended : IsSome core.ended
   pub comes :
       GoesOn {S = CoreState} {E = Option CoreEnd} (step ending.program.now ending.bound)

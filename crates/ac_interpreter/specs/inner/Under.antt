@@ -7,7 +7,7 @@ use Rattle.ac_semantics.specs.Held.{Held}
 use Rattle.ac_semantics.specs.Threads.{CoreState}
 use Rattle.ac_interpreter.specs.declared.turns.Came.{Came}
 use Rattle.ac_interpreter.specs.declared.turns.Came.TheVariants as came
-use Rattle.ac_interpreter.specs.declared.running.Core.{Core}
+use Rattle.ac_interpreter.specs.declared.running.InterpretedCore.{InterpretedCore}
 use Rattle.ac_interpreter.specs.inner.Cores.{core_of, state_of}
 
 -- with these entries that have come in, and those still to come
@@ -32,7 +32,7 @@ IsLater [] turn = Unit {0}
 IsLater (e ∷ es) turn = nat_eq e.turn turn ≡ false
 
 -- the move took the next of these entries, and the core goes on
-pub record Took (past todo : List Entry) (move : Move CoreState (Option CoreEnd)) (after : Core) : Type 0 where
+pub record Took (past todo : List Entry) (move : Move CoreState (Option CoreEnd)) (after : InterpretedCore) : Type 0 where
   pub entry : Entry
   pub others : List Entry
   pub front : todo ≡ entry ∷ others
@@ -40,7 +40,7 @@ pub record Took (past todo : List Entry) (move : Move CoreState (Option CoreEnd)
   pub ended : after.ended ≡ None
 
 -- the core has made this move under this journal
-abbrev pub IsMoved : Came → List Entry → List Entry → Move CoreState (Option CoreEnd) → Core → Type 0
+abbrev pub IsMoved : Came → List Entry → List Entry → Move CoreState (Option CoreEnd) → InterpretedCore → Type 0
 IsMoved came.Nothing past todo move after = move ≡ move_under past todo (state_of after)
 IsMoved came.Entry past todo move after = Took past todo move after
 IsMoved came.Misfit past todo move after = move ≡ Over None

@@ -52,7 +52,7 @@ returns-in-Some-Does-clause-part g c = let r = c.in-Some-Does in
 pub returns-in-Some-Does-clause-memory : goal.returns-in-Some-Does-clause-memory
 returns-in-Some-Does-clause-memory g c = let r = c.in-Some-Does in λ refused. record {
   cut = of_task r.task r.file.now (subst (λ it. IsCall (map (string_bytes {Z = Global}) c.args.words.now) (asked_of it)) r.field-0-is r.ensures.call)
-      (record { just = c.do_file.ensures.just; well = c.do_file.ensures.library.only (λ e. omega (arith, refused, e)) (λ e. omega (arith, refused, e)) })
+      (record { just = c.do_file.ensures.just; well = c.do_file.ensures.library.only (λ e. omega (arith, refused, e)) (λ e. omega (arith, refused, e)); reads = c.do_file.ensures.took refused })
       (c.do_file.ensures.left refused);
   no_run = c.do_file.ensures.no_run refused;
   nothing = c.do_file.ensures.memory refused;

@@ -18,17 +18,18 @@ use Rattle.ac_words.specs.declared.task.Task.{Task}
 use Rattle.ac_outside.specs.Disks.{DiskTold}
 use Rattle.starting_files.specs.declared.fault.StartFault.{StartFault}
 use Rattle.starting_files.specs.declared.fault.StartFault.TheVariants as f
+use Rattle.starting_files.specs.Starting.{AreStopped}
 use Rattle.ac_program.specs.Source.{HasTokens, IsSpelled, IsAccepted, IsReady, Refuses, needed}
 use Rattle.ac_base.specs.Report.{report_of, status_of}
-use Rattle.core_runner.specs.declared.ended.Ended.{Ended}
-use Rattle.core_runner.specs.Run.{history_of}
+use Rattle.program_run.specs.declared.ended.Ended.{Ended}
+use Rattle.program_run.specs.Run.{history_of}
 use Rattle.trace_text.specs.declared.trace.Trace.{Trace}
 use Rattle.ac_words.specs.declared.task.Telling.{Telling}
 use Rattle.ac_words.specs.declared.task.Telling.TheVariants as w
 use Rattle.ac_program.specs.declared.telling.Told.{Told}
 use Rattle.ac_program.specs.Auditing.{IsDueOfRun, IsDueOfTraced}
 use Rattle.ac_program.specs.Summary.{summary_of}
-use Rattle.ac_program.specs.Making.{AreLeft, AreStopped, Makes, TellsTrace}
+use Rattle.ac_program.specs.Making.{AreLeft, Makes, TellsTrace}
 
 -- ---- why work stops, by the fault that stops it
 

@@ -6,8 +6,8 @@ use Rattle.ac_words.specs.declared.scan.Operands.{Operands}
 use Rattle.ac_words.specs.declared.scan.Operands.TheVariants.{Zero, One, Two}
 use Rattle.ac_words.specs.declared.scan.Next.{Next}
 use Rattle.ac_words.specs.declared.scan.Next.TheVariants.{Any, Value, Operand}
-use Rattle.ac_words.specs.declared.scan.Kind.{Kind}
-use Rattle.ac_words.specs.declared.scan.Kind.TheVariants.{Plain, OnlyOperands, Steps, StepsAre, Other}
+use Rattle.ac_words.specs.declared.scan.WordKind.{WordKind}
+use Rattle.ac_words.specs.declared.scan.WordKind.TheVariants.{Plain, OnlyOperands, Steps, StepsAre, Other}
 use Rattle.ac_words.specs.declared.scan.Scan.{Scan}
 
 -- the operands that were read
@@ -65,7 +65,7 @@ pub record IsOther (word : List ℕ) : Type 0 where
   pub not_steps : word ≢ codes "--steps"
   pub not_joined : (value : List ℕ) → word ≢ codes "--steps=" ++ value
 
-abbrev pub IsKind : List ℕ → Kind → Type 0
+abbrev pub IsKind : List ℕ → WordKind → Type 0
 IsKind word Plain = IsPlain word
 IsKind word OnlyOperands = word ≡ codes "--"
 IsKind word Steps = word ≡ codes "--steps"

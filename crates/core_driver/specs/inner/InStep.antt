@@ -4,6 +4,8 @@ use Rattle.ac_links.specs.Journals.{last_of}
 use Rattle.ac_links.specs.Party.{PartyAgrees}
 use Rattle.core_channels.specs.Counts.{counted}
 use Rattle.core_ports.specs.Ends.{awaits_reply, has_room}
+use Rattle.core_state.specs.Moves.{Move, On, Over}
+use Rattle.code_meaning.specs.Machine.{Flat, FlatEnd}
 use Rattle.core_machine.specs.Machine.{Machine, IsOnItsWay}
 use Rattle.core_machine.specs.Points.{is_at_point, operations_of, has_to_offer, receives_from, work_left}
 use Rattle.core_ports.specs.declared.side.Side.TheVariants.{Owner, Peer, Neither}
@@ -25,10 +27,16 @@ pub record Holds (m : Machine) (o : Outside) (n : Machine) (p : Outside) : Type 
   pub machine : IsLater m n
   pub ports : Later o p
 
--- what holds after a part of a dispatch point: no more is left to do, and where the clock has stayed so has the core
+-- the turn of a core that has not ended
+abbrev pub turn_at : Move Flat FlatEnd → ℕ
+turn_at (On m) = m.shared.turn
+turn_at (Over x) = 0
+
+-- what holds after a part of a dispatch point: no more is left to do, the turn is the same, and where the clock has stayed so has the core
 pub record Looks (m : Machine) (o : Outside) (n : Machine) (p : Outside) : Type 0 where
   pub holds : Holds m o n p
   pub point : is_at_point n.state ≡ true
+  pub turn : turn_at n.state ≡ turn_at m.state
   pub less : (ranks : List ℕ) → work_left ranks n ≤ work_left ranks m
   pub state : p.last ≡ o.last → n.state ≡ m.state
 

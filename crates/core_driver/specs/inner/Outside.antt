@@ -4,6 +4,7 @@ use Rattle.ac_base.specs.Stamps.{stamp_after}
 use Rattle.ac_links.specs.declared.payloads.Terms.{Terms}
 use Rattle.ac_links.specs.Party.{LinkEnd}
 use Rattle.core_ports.specs.AtHand.{AtHand}
+use Rattle.core_ports.specs.PortsTold.{PortsTold}
 
 pub record Outside : Type 0 where
   pub terms : ℕ → Terms
@@ -14,9 +15,17 @@ pub record Outside : Type 0 where
   pub tries : ℕ → ℕ
   pub last : ℕ
 
-abbrev pub outside : (ℕ → Terms) → (ℕ → LinkEnd) → (ℕ → AtHand) → (ℕ → ℕ) → (ℕ → ℕ) → (ℕ → ℕ) → ℕ → Outside
-outside terms ends hand heard polls tries last =
-    record { terms = terms; ends = ends; hand = hand; heard = heard; polls = polls; tries = tries; last = last }
+abbrev pub outside : PortsTold → ℕ → Outside
+outside told last =
+    record {
+      terms = told.terms;
+      ends = told.ends;
+      hand = told.at_hand;
+      heard = told.heard;
+      polls = told.polls;
+      tries = told.tries;
+      last = last;
+    }
 
 -- the same ports after some calls: where the clock has stayed no entry was made, and what is at hand is as before
 pub record Later (before after : Outside) : Type 0 where

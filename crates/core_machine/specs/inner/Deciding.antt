@@ -4,7 +4,7 @@ use Rattle.ac_base.specs.declared.entry.Event.{Event}
 use Rattle.work_item.specs.declared.ids.BlockId.{BlockId}
 use Rattle.cancel_scope.specs.declared.operation.Operation.{Operation}
 use Rattle.core_state.specs.Arrivals.{Arrival}
-use Rattle.core_state.specs.Cancelling.{Outcome, by_outcome, is_to_try}
+use Rattle.core_state.specs.Cancelling.{Fate, by_outcome, is_to_try}
 use Rattle.core_state.specs.Shared.{with_entry}
 use Rattle.code_meaning.specs.Machine.{Flat, arrived, is_inside, marked}
 use Rattle.core_machine.specs.declared.running.Running.{Running}
@@ -20,12 +20,12 @@ pub record Makes (before : Running) (block : BlockId) (event : Event) (stamp : �
   pub same : IsSameCode before after
 
 -- what the outcome makes of the oldest operation within a block that its peer has not begun
-abbrev pub decided_within : Flat → BlockId → Outcome → Operation → Arrival
+abbrev pub decided_within : Flat → BlockId → Fate → Operation → Arrival
 decided_within m block it o = by_outcome it m.store (is_to_try (is_inside m block)) m.operations o
 
 -- at the cancel of a block the outcome has been made of the oldest operation within it that its peer has not begun, by an entry of this
 -- stamp
-pub record Decides (before : Running) (it : Outcome) (event : Event) (stamp : ℕ) (after : Running) : Type 0 where
+pub record Decides (before : Running) (it : Fate) (event : Event) (stamp : ℕ) (after : Running) : Type 0 where
   pub block : BlockId
   pub cancels : cancelled_in before.code.now (flat_of before) ≡ Some block
   pub operation : Operation

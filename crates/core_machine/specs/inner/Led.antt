@@ -7,7 +7,7 @@ use Rattle.replay_laws.specs.Given.{Passes}
 use Rattle.core_machine.specs.declared.running.Running.{Running}
 use Rattle.core_machine.specs.State.{state_of}
 
--- some instructions lead from the one to the other, and no entry could come in before one of them but the first
+-- some instructions, or none, lead from the one to the other, and before none of them could an entry come in
 pub record IsLed (before after : Running) : Type 0 where
   pub goes : GoesOn (exec before.code.now before.bound) (state_of before) (state_of after)
   pub passes : (turn : ℕ) → (k : ℕ) × Passes before.code.now before.bound turn k (state_of before) (state_of after)

@@ -5,7 +5,7 @@ use Rattle.ac_outside.specs.Disks.{DiskTold}
 use Rattle.stack_code.specs.Parts.{Parts}
 use Rattle.stack_code.specs.Valid.{HasLinks}
 use Rattle.file_ops.specs.Rounds.{Seen}
-use Rattle.list_ports.specs.Wired.{Wired, AreWired}
+use Rattle.link_ports.specs.Wired.{Wired, AreWired}
 use Rattle.core_runner.specs.declared.network.Network.{Network}
 use Rattle.core_runner.specs.Network.{AreLinksOf}
 

@@ -4,8 +4,9 @@ use Rattle.std.specs.List.{All}
 use Rattle.stack_code.specs.declared.parts.ChannelEnds.{ChannelEnds}
 use Rattle.core_channels.specs.LinkViews.{LinkViews, IsLink, SameTerms}
 use Rattle.file_ops.specs.Agreement.{worker_ends}
-use Rattle.list_ports.specs.Wired.{AreWired}
-use Rattle.core_runner.specs.Network.{owner_of, peer_of, offers_in, decisions_in, ends_in}
+use Rattle.link_ports.specs.Wired.{AreWired}
+use Rattle.program_run.specs.Parties.{owner_of, peer_of}
+use Rattle.core_runner.specs.Network.{offers_in, decisions_in, ends_in}
 use Rattle.core_runner.specs.inner.Boards.{Board, seen_on}
 use Rattle.core_runner.specs.inner.Working.{GoesOn}
 

@@ -14,15 +14,16 @@ use Rattle.ac_outside.specs.Disks.{DiskTold}
 use Rattle.ac_links.specs.Party.{PartyAgrees}
 use Rattle.ac_history.specs.Quiet.{CoreRests}
 use Rattle.core_channels.specs.LinkViews.{LinkViews, link_at}
-use Rattle.in_turn.specs.Parties.{nobody}
+use Rattle.round_robin.specs.Parties.{nobody}
 use Rattle.core_ports.specs.declared.side.Side.{Side}
 use Rattle.core_ports.specs.declared.side.Side.TheVariants.{Owner, Peer, Neither}
 use Rattle.core_ports.specs.Sides.{side_of}
 use Rattle.file_ops.specs.Agreement.{worker_ends}
-use Rattle.list_ports.specs.Hands.{greatest, last_stamp_of, heard_at}
+use Rattle.link_ports.specs.Hands.{greatest, last_stamp_of, heard_at}
 use Rattle.core_runner.specs.declared.seat.Seat.{Seat}
 use Rattle.core_runner.specs.declared.seat.Seat.TheVariants.{AtCore, AtWorker}
-use Rattle.core_runner.specs.Network.{owner_of, peer_of, terms_in, offers_in, decisions_in, ends_in, AreLinksOf}
+use Rattle.program_run.specs.Parties.{owner_of, peer_of}
+use Rattle.core_runner.specs.Network.{terms_in, offers_in, decisions_in, ends_in, AreLinksOf}
 use Rattle.core_runner.specs.Cores.{CoreView, HasNoStamp, IsDone}
 use Rattle.core_runner.specs.Workers.{WorkerAgreesWith, WorkerRests, WorkerHasNoStamp, WorkerIsDone}
 use Rattle.core_runner.specs.inner.Boards.{Board, AreShared, seen_on}

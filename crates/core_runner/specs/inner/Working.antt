@@ -30,6 +30,7 @@ pub record GoesOn (first cores : ℕ) (s t : Seen) : Type 0 where
   pub tells : (got : Event → Option Payload) → TellsRequests got t.links → TellsRequests got s.links
   pub bound : t.told.bound ≡ s.told.bound
   pub is_ready : t.told.is_ready ≡ s.told.is_ready
+  pub binds : t.told.binds ≡ s.told.binds
   pub counted : (got : Event → Option Payload) → TellsRequests got t.links → (since : DiskTold) → since.bound ≡ s.told.bound
       → AreCounted since s.told (deeds_by got (of_party cores s.entries)) → AreCounted since t.told (deeds_by got
       (of_party cores t.entries))
@@ -44,6 +45,7 @@ goes_on_self first cores s = record {
   tells = λ got h. h;
   bound = refl;
   is_ready = refl;
+  binds = refl;
   counted = λ got h since same c. c;
   served = λ got start held h d. (held, d, record { as_many = refl; paths = refl; found = refl });
 }
@@ -56,6 +58,7 @@ goes_on_then first cores s t u a b = record {
   tells = λ got h. a.tells got (b.tells got h);
   bound = b.bound ∙ a.bound;
   is_ready = b.is_ready ∙ a.is_ready;
+  binds = b.binds ∙ a.binds;
   counted = λ got h since same c. b.counted got h since (same ∙ sym a.bound) (a.counted got (b.tells got h) since same c);
   served = λ got start held h d.
       let x = a.served got start held (b.tells got h) d in

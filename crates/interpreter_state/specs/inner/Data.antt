@@ -2,17 +2,17 @@
 use Rattle.std.specs.Prelude.{◌≡◌, refl}
 use Rattle.work_item.specs.declared.cell.Cell.{Cell}
 use Rattle.work_item.specs.declared.cell.Cell.TheVariants as c
-use Rattle.interpreter_state.specs.declared.datum.Kind.{Kind}
-use Rattle.interpreter_state.specs.declared.datum.Kind.TheVariants as k
+use Rattle.interpreter_state.specs.declared.datum.DatumKind.{DatumKind}
+use Rattle.interpreter_state.specs.declared.datum.DatumKind.TheVariants as k
 use Rattle.interpreter_state.specs.Data.{cell_of}
 
-abbrev pub kind_of : Cell → Kind
+abbrev pub kind_of : Cell → DatumKind
 kind_of (c.Int value) = k.Int value
 kind_of (c.Array span) = k.Array span
 kind_of (c.Block block) = k.Block block
 
 -- the cell tells all of it
-pub the_same_kind : (kind : Kind) → kind_of (cell_of kind) ≡ kind
+pub the_same_kind : (kind : DatumKind) → kind_of (cell_of kind) ≡ kind
 the_same_kind (k.Int value) = refl
 the_same_kind (k.Array span) = refl
 the_same_kind (k.Block block) = refl

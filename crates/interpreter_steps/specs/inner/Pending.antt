@@ -9,8 +9,8 @@ use Rattle.interpreter_steps.specs.declared.pending.Rest.{Rest}
 use Rattle.interpreter_steps.specs.declared.pending.Rest.TheVariants as r
 use Rattle.interpreter_steps.specs.declared.pending.Context.{Context}
 use Rattle.interpreter_steps.specs.declared.pending.Context.TheVariants as c
-use Rattle.interpreter_steps.specs.declared.pending.Outcome.{Outcome}
-use Rattle.interpreter_steps.specs.declared.pending.Outcome.TheVariants as o
+use Rattle.interpreter_steps.specs.declared.pending.Evaluated.{Evaluated}
+use Rattle.interpreter_steps.specs.declared.pending.Evaluated.TheVariants as o
 
 abbrev pub head_of : Head → s.Head
 head_of (h.Acting action) = s.Acting action
@@ -32,12 +32,12 @@ context_of (c.Right x op links) = s.Right x op links.now
 context_of (c.Operands head done rest) = s.Operands (head_of head) (reverse done.items) (rest_of rest)
 
 -- what it comes to, with what is round the open place at a stop; a value leaves what was round it before
-abbrev pub IsOutcome : Outcome → List s.Context → List s.Context → s.Outcome → Type 0
+abbrev pub IsOutcome : Evaluated → List s.Context → List s.Context → s.Evaluated → Type 0
 IsOutcome (o.Comes x) left around out = (around ≡ left) × (out ≡ s.Comes x)
 IsOutcome (o.Traps trap) left around out = out ≡ s.Traps trap
 IsOutcome (o.Stops head operands) left around out = out ≡ s.Stops (head_of head) (reverse operands.items) around
 
-abbrev pub outcome_of : Outcome → List s.Context → s.Outcome
+abbrev pub outcome_of : Evaluated → List s.Context → s.Evaluated
 outcome_of (o.Comes x) around = s.Comes x
 outcome_of (o.Traps trap) around = s.Traps trap
 outcome_of (o.Stops head operands) around = s.Stops (head_of head) (reverse operands.items) around

@@ -1,6 +1,6 @@
 -- The ways that pass no `Step`, as a graph.
 use Rattle.std.specs.Prelude.{◌≡◌, ◌⊎◌, ℕ, List, length, Some, slice_get}
-use Rattle.way_order.specs.declared.graph.Ways.{Ways}
+use Rattle.graph_ranks.specs.declared.graph.Ways.{Ways}
 use Rattle.stack_code.specs.declared.shape.Shape.{Shape}
 use Rattle.stack_code.specs.declared.shape.Leads.{Leads}
 use Rattle.stack_code.specs.Parts.{Parts}

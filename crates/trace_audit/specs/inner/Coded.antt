@@ -6,7 +6,7 @@ use Rattle.stack_code.specs.Parts.{Parts}
 use Rattle.code_meaning.specs.Machine.{Runs}
 use Rattle.ac_history.specs.Served.{HistoryState, begun, can_follow, after_all}
 use Rattle.ac_history.specs.Quiet.{IsQuiet}
-use Rattle.core_runner.specs.Network.{owner_of, peer_of}
+use Rattle.program_run.specs.Parties.{owner_of, peer_of}
 use Rattle.replay_laws.specs.Given.{HasRun}
 use Rattle.trace_text.specs.declared.trace.Trace.{Trace}
 use Rattle.trace_text.specs.declared.trace.TraceEnd.{TraceEnd}

@@ -12,8 +12,8 @@ use Rattle.ac_base.specs.declared.entry.Answer.TheVariants as a
 use Rattle.ac_base.specs.declared.entry.Event.{Event}
 use Rattle.ac_base.specs.declared.entry.Event.TheVariants as e
 use Rattle.ac_base.specs.declared.entry.Stamped.{Stamped}
-use Rattle.trace_text.specs.declared.cursor.Halt.{Halt}
-use Rattle.trace_text.specs.declared.cursor.Halt.TheVariants as h
+use Rattle.trace_text.specs.declared.cursor.LineFault.{LineFault}
+use Rattle.trace_text.specs.declared.cursor.LineFault.TheVariants as h
 use Rattle.trace_text.specs.declared.so_far.Stage.{Stage}
 use Rattle.trace_text.specs.declared.so_far.Stage.TheVariants as now
 use Rattle.trace_text.specs.declared.so_far.SoFar.{SoFar}
@@ -33,7 +33,7 @@ None >>= f = None
 (Some x) >>= f = f x
 
 -- what a function returned, seen by view, is what reading gives, unless memory ran out
-abbrev pub Gives : {X Y : Type 0} → (X → Y) → Result X Halt → Option Y → Type 0
+abbrev pub Gives : {X Y : Type 0} → (X → Y) → Result X LineFault → Option Y → Type 0
 Gives view (Ok x) read = read ≡ Some (view x)
 Gives view (Err h.Wrong) read = read ≡ None
 Gives view (Err h.Memory) read = Unit {0}

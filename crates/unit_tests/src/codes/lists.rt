@@ -148,20 +148,3 @@ fn lists_are_as_they_must_be(rt: HostRuntime) -> Result<(), Fail> {
     }
     Ok(())
 }
-
-// The code of the usual lists.
-fn usual(alloc: Global) -> Result<Code, Fail> {
-    let made = code_with(alloc, &USUAL, &BODY, 2, 0).ok().ok_or("memory")?;
-    Ok(made.ok_or("not valid")?)
-}
-
-// Address 2 is the first of the function that is entered, and the other is not called.
-#[test]
-fn a_code_gives_the_shapes_of_what_is_reached(rt: HostRuntime) -> Result<(), Fail> {
-    let code = usual(rt.alloc())?;
-    assert_eq!(rt; code.shapes().len(), 4);
-    for (at, shape) in code.shapes().iter().enumerate() {
-        assert_eq!(rt; shape.is_some(), at >= 2, "address {at}");
-    }
-    Ok(())
-}

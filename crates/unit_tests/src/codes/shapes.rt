@@ -1,9 +1,6 @@
 //! Operands, blocks and bodies.
 
-use super::parts::{Whose, first_wrong};
-use std::test::Fail;
-
-static OPERANDS: [(&str, bool); 22] = [
+pub(super) static OPERANDS: [(&str, bool); 22] = [
     ("Push 1, Ret", true),
     ("Ret", false),
     ("Push 1, Push 1, Ret", false),
@@ -28,14 +25,7 @@ static OPERANDS: [(&str, bool); 22] = [
     ("Push 0, Yield, Ret", true),
 ];
 
-#[test]
-fn operands_are_of_the_kinds_that_are_asked_for(rt: HostRuntime) -> Result<(), Fail> {
-    let wrong = first_wrong(rt.alloc(), Whose::First, OPERANDS.as_slice());
-    assert_eq!(rt; wrong.ok().ok_or("memory")?, None);
-    Ok(())
-}
-
-static RANGES: [(&str, bool); 12] = [
+pub(super) static RANGES: [(&str, bool); 12] = [
     ("Push 1, Arr 0 0 2, Call 1 2, Ret", true),
     ("Arr 0 0 2, Push 1, Call 1 2, Ret", false),
     ("Push 1, Push 1, Call 1 2, Ret", false),
@@ -50,14 +40,7 @@ static RANGES: [(&str, bool); 12] = [
     ("Push 0, Push 2, Arr 0 0 2, Read 16, Ret", false),
 ];
 
-#[test]
-fn what_is_named_is_in_range(rt: HostRuntime) -> Result<(), Fail> {
-    let wrong = first_wrong(rt.alloc(), Whose::First, RANGES.as_slice());
-    assert_eq!(rt; wrong.ok().ok_or("memory")?, None);
-    Ok(())
-}
-
-static BLOCKS: [(&str, bool); 8] = [
+pub(super) static BLOCKS: [(&str, bool); 8] = [
     ("Enter 0, Finish 0, Push 0, Ret", true),
     ("Finish 0, Push 0, Ret", false),
     ("Enter 0, Push 0, Ret", false),
@@ -68,15 +51,8 @@ static BLOCKS: [(&str, bool); 8] = [
     ("Cancel 0 0, Push 0, Ret", false),
 ];
 
-#[test]
-fn blocks_lie_in_one_another(rt: HostRuntime) -> Result<(), Fail> {
-    let wrong = first_wrong(rt.alloc(), Whose::First, BLOCKS.as_slice());
-    assert_eq!(rt; wrong.ok().ok_or("memory")?, None);
-    Ok(())
-}
-
 // The body of an `Async` begins at address 4, and its creator goes on behind it.
-static BODIES: [(&str, bool); 11] = [
+pub(super) static BODIES: [(&str, bool); 11] = [
     ("Enter 0, Async 1 5, End, Finish 0, Push 0, Ret", true),
     ("Async 1 4, End, Push 0, Ret", false),
     ("Enter 0, Push 1, Async 1 6, End, Finish 0, Ret", false),
@@ -110,10 +86,3 @@ static BODIES: [(&str, bool); 11] = [
         false,
     ),
 ];
-
-#[test]
-fn bodies_begin_in_a_block_and_end_as_they_began(rt: HostRuntime) -> Result<(), Fail> {
-    let wrong = first_wrong(rt.alloc(), Whose::First, BODIES.as_slice());
-    assert_eq!(rt; wrong.ok().ok_or("memory")?, None);
-    Ok(())
-}

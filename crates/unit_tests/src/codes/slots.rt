@@ -1,9 +1,6 @@
 //! Slots of frames and of the globals.
 
-use super::parts::{Whose, first_wrong};
-use std::test::Fail;
-
-static IN_FRAME: [(&str, bool); 17] = [
+pub(super) static IN_FRAME: [(&str, bool); 17] = [
     ("Load 0 3, Ret", true),
     ("Load 0 4, Ret", false),
     ("Load 1 0, Ret", false),
@@ -23,14 +20,7 @@ static IN_FRAME: [(&str, bool); 17] = [
     ("ArrG 1 3, Drop, Push 0, Ret", false),
 ];
 
-#[test]
-fn slots_lie_in_their_frame(rt: HostRuntime) -> Result<(), Fail> {
-    let wrong = first_wrong(rt.alloc(), Whose::First, IN_FRAME.as_slice());
-    assert_eq!(rt; wrong.ok().ok_or("memory")?, None);
-    Ok(())
-}
-
-static BLOCKS_AND_INTS: [(&str, bool); 8] = [
+pub(super) static BLOCKS_AND_INTS: [(&str, bool); 8] = [
     ("Enter 1, Finish 1, Load 0 0, Ret", true),
     ("Enter 1, Finish 1, Load 0 1, Ret", false),
     ("Push 1, Store 0 1, Enter 1, Finish 1, Push 0, Ret", false),
@@ -48,14 +38,7 @@ static BLOCKS_AND_INTS: [(&str, bool); 8] = [
     ),
 ];
 
-#[test]
-fn a_block_is_no_int(rt: HostRuntime) -> Result<(), Fail> {
-    let wrong = first_wrong(rt.alloc(), Whose::First, BLOCKS_AND_INTS.as_slice());
-    assert_eq!(rt; wrong.ok().ok_or("memory")?, None);
-    Ok(())
-}
-
-static PARAMETERS: [(&str, bool); 14] = [
+pub(super) static PARAMETERS: [(&str, bool); 14] = [
     ("Load 0 0, Ret", true),
     ("Load 0 1, Push 0, Elem, Ret", true),
     ("Load 0 1, Ret", false),
@@ -72,10 +55,3 @@ static PARAMETERS: [(&str, bool); 14] = [
     ("Load 0 1, Recv 0, Ret", false),
     ("Step, Push 1, Load 0 1, Call 1 2, Ret", true),
 ];
-
-#[test]
-fn parameters_are_ints_and_references(rt: HostRuntime) -> Result<(), Fail> {
-    let wrong = first_wrong(rt.alloc(), Whose::Second, PARAMETERS.as_slice());
-    assert_eq!(rt; wrong.ok().ok_or("memory")?, None);
-    Ok(())
-}

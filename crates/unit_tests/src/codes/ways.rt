@@ -1,9 +1,6 @@
 //! Ways through a code.
 
-use super::parts::{Whose, first_wrong};
-use std::test::Fail;
-
-static WAYS: [(&str, bool); 10] = [
+pub(super) static WAYS: [(&str, bool); 10] = [
     ("Push 0", false),
     ("Jump 9", false),
     ("Push 1, Jz 5, Step, Push 0, Ret", true),
@@ -28,14 +25,7 @@ static WAYS: [(&str, bool); 10] = [
     ("Jump 4, Drop, Push 0, Ret", true),
 ];
 
-#[test]
-fn an_address_lies_in_the_code_and_has_one_shape(rt: HostRuntime) -> Result<(), Fail> {
-    let wrong = first_wrong(rt.alloc(), Whose::First, WAYS.as_slice());
-    assert_eq!(rt; wrong.ok().ok_or("memory")?, None);
-    Ok(())
-}
-
-static WAYS_BACK: [(&str, bool); 9] = [
+pub(super) static WAYS_BACK: [(&str, bool); 9] = [
     ("Jump 2", false),
     ("Step, Jump 2", true),
     ("Push 1, Jz 2, Push 0, Ret", false),
@@ -47,16 +37,7 @@ static WAYS_BACK: [(&str, bool); 9] = [
     ("Enter 0, Finish 0, Jump 2", false),
 ];
 
-static CALLS_BACK: [(&str, bool); 2] = [
+pub(super) static CALLS_BACK: [(&str, bool); 2] = [
     ("Push 1, Load 0 1, Call 1 2, Ret", false),
     ("Step, Push 1, Load 0 1, Call 1 2, Ret", true),
 ];
-
-#[test]
-fn each_way_back_takes_a_step(rt: HostRuntime) -> Result<(), Fail> {
-    let wrong = first_wrong(rt.alloc(), Whose::First, WAYS_BACK.as_slice());
-    assert_eq!(rt; wrong.ok().ok_or("memory")?, None);
-    let wrong = first_wrong(rt.alloc(), Whose::Second, CALLS_BACK.as_slice());
-    assert_eq!(rt; wrong.ok().ok_or("memory")?, None);
-    Ok(())
-}

@@ -1,3 +1,4 @@
+-- How many bytes were read, at most as many as fit; a turn that reads none ends the loop, so the room that is left goes down.
 use Rattle.std.proofs.Common.{◌≤◌, ◌-◌, length}
 use Rattle.ac_adapters.proofs.disk.read_all.Given as goal
 

@@ -1,3 +1,4 @@
+-- How many bytes have gone in, at most all; a turn in which none does ends the loop, so what is left goes down.
 use Rattle.std.proofs.Common.{◌≤◌, ◌-◌, length}
 use Rattle.ac_adapters.proofs.disk.write_all.Given as goal
 

@@ -1,4 +1,4 @@
-use Rattle.std.proofs.Common.{refl, subst}
+use Rattle.std.proofs.Common.{refl, subst, inr}
 use Rattle.ac_words.specs.declared.task.Task.TheVariants.{Check}
 use Rattle.ac_program.specs.inner.Parts.{Stops}
 use Rattle.ac_program.specs.Auditing.{IsDueOfSource, IsDueOfTrace}
@@ -18,3 +18,6 @@ pub returns-in-Ok-clause-answered : goal.returns-in-Ok-clause-answered
 returns-in-Ok-clause-answered g c =
     answered_as (IsDueOfTrace c.in-Ok.checked c.args.trace.now _ _) (IsDueOfSource c.args.source.now c.args.trace.now _ _) (λ n t due. ready c.in-Ok.checked c.in-Ok.ensures due)
     _ _ c.audit_trace.result c.audit_trace.ensures.answered
+
+pub returns-in-Ok-clause-read : goal.returns-in-Ok-clause-read
+returns-in-Ok-clause-read g c = λ is. inr (record { program = c.in-Ok.checked; is_ready = c.in-Ok.ensures; read = c.audit_trace.ensures.read is })

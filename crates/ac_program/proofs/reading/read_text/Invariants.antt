@@ -1,6 +1,6 @@
-use Rattle.std.proofs.Common.{◌≡◌, ◌+◌, ◌-◌, ◌≤◌, IsTrue, vec_len}
+use Rattle.std.proofs.Common.{◌≡◌, ◌+◌, ◌-◌, ◌≤◌, length, IsTrue, vec_len}
 use Rattle.std.specs.Io.KnownBytes.{Consumes}
-use Rattle.ac_outside.specs.Told.{CountsOne, AddsName}
+use Rattle.ac_outside.specs.Told.{CountsOne, CountsAtMost, AddsName}
 use Rattle.ac_program.proofs.reading.read_text.Given as goal
 
 abbrev pub invariant-reading : goal.invariant-reading
@@ -11,6 +11,7 @@ invariant-reading g l = record {
   named : AddsName (g.L.Library.told l.fn.library).names (g.L.Library.told l.library).names l.name;
   well : (g.L.Library.told l.library).faults ≡ (g.L.Library.told l.fn.library).faults;
   consumed : Consumes ((g.L.Library.told l.fn.library).text_at l.name) (g.L.Library.told l.library).left l.text.items;
+  few : CountsAtMost (g.L.Library.told l.fn.library).reads (g.L.Library.told l.library).reads (length l.text.items);
   within : vec_len l.text ≤ l.limit + 1;
 }
 

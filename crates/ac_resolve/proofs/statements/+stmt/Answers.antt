@@ -41,4 +41,4 @@ pub resolve_listed-returns-clause-walk : goal.resolve_listed-returns-clause-walk
 resolve_listed-returns-clause-walk t c =
     on_ok_weaker c.declare.result
     (λ e. listed_after c.args.stmt.now c.args.depth c.args.walk.now c.resolve_stmt.new.walk c.declare.new.self c.in_ok-resolve_stmt.ensures.walk e)
-    c.declare.ensures
+    c.declare.ensures.ok

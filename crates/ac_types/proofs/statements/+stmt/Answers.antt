@@ -73,4 +73,4 @@ pub see_listed-returns : goal.see_listed-returns
 see_listed-returns t c =
     on_ok_weaker c.declare.result
     (λ e. listed_after c.args.tables.now c.args.around c.args.stmt.now c.args.walk.now c.see_stmt.new.walk c.declare.new.self c.in_ok-see_stmt.ensures e)
-    c.declare.ensures
+    c.declare.ensures.ok

@@ -39,10 +39,8 @@ returns-in_err-make_room-clause-stays g c = g.met.P.Ports.stays_self c.args.port
 pub returns-in-Got-clause-looks : goal.returns-in-Got-clause-looks
 returns-in-Got-clause-looks g c = let fits : SFits w64 c.in-Got.value = search rules in entered_looks c.args.machine.now c.make_room.new.self _ c.requires.in_step c.requires.point
     c.make_room.ensures.same c.make_room.ensures.state c.make_room.ensures.run _ (record { event = event.Got c.args.link c.in-Got.number c.in-Got.value; stamp = c.in-Got.stamp })
-    (poll_called (outside (g.P.Ports.terms c.args.ports.now) (g.P.Ports.ends c.args.ports.now) (g.P.Ports.at_hand c.args.ports.now) (g.P.Ports.heard c.args.ports.now)
-    (g.P.Ports.polls c.args.ports.now) (g.P.Ports.tries c.args.ports.now) c.args.clock.now)
-    (outside (g.P.Ports.terms c.poll.new.self) (g.P.Ports.ends c.poll.new.self) (g.P.Ports.at_hand c.poll.new.self) (g.P.Ports.heard c.poll.new.self) (g.P.Ports.polls c.poll.new.self)
-    (g.P.Ports.tries c.poll.new.self) c.poll.new.clock) (Some (record { event = event.Got c.args.link c.in-Got.number c.in-Got.value; stamp = c.in-Got.stamp })) c.args.link
+    (poll_called (outside (g.P.Ports.told c.args.ports.now) c.args.clock.now)
+    (outside (g.P.Ports.told c.poll.new.self) c.poll.new.clock) (Some (record { event = event.Got c.args.link c.in-Got.number c.in-Got.value; stamp = c.in-Got.stamp })) c.args.link
     c.in-Got.ensures.tells c.in-Got.ensures.hand
     c.in-Got.ensures.terms c.in-Got.ensures.polls c.in-Got.ensures.tries) c.got.new.self (subst (λ v. HasCome c.make_room.new.self (event.Got c.args.link c.in-Got.number v) c.in-Got.stamp
     c.got.new.self) (to_z-of_z w64 c.in-Got.value fits) c.got.ensures.come) c.got.ensures.less c.got.ensures.run
@@ -51,108 +49,82 @@ pub returns-in-Got-clause-looked : goal.returns-in-Got-clause-looked
 returns-in-Got-clause-looked g c = let fits : SFits w64 c.in-Got.value = search rules in λ e. peer_looked _ _ _ _ c.args.link
     (entered_looks c.args.machine.now c.make_room.new.self _ c.requires.in_step c.requires.point c.make_room.ensures.same c.make_room.ensures.state c.make_room.ensures.run _
     (record { event = event.Got c.args.link c.in-Got.number c.in-Got.value; stamp = c.in-Got.stamp })
-    (poll_called (outside (g.P.Ports.terms c.args.ports.now) (g.P.Ports.ends c.args.ports.now) (g.P.Ports.at_hand c.args.ports.now) (g.P.Ports.heard c.args.ports.now)
-    (g.P.Ports.polls c.args.ports.now) (g.P.Ports.tries c.args.ports.now) c.args.clock.now)
-    (outside (g.P.Ports.terms c.poll.new.self) (g.P.Ports.ends c.poll.new.self) (g.P.Ports.at_hand c.poll.new.self) (g.P.Ports.heard c.poll.new.self) (g.P.Ports.polls c.poll.new.self)
-    (g.P.Ports.tries c.poll.new.self) c.poll.new.clock)
+    (poll_called (outside (g.P.Ports.told c.args.ports.now) c.args.clock.now)
+    (outside (g.P.Ports.told c.poll.new.self) c.poll.new.clock)
     (Some (record { event = event.Got c.args.link c.in-Got.number c.in-Got.value; stamp = c.in-Got.stamp })) c.args.link c.in-Got.ensures.tells c.in-Got.ensures.hand c.in-Got.ensures.terms
     c.in-Got.ensures.polls c.in-Got.ensures.tries) c.got.new.self (subst (λ v. HasCome c.make_room.new.self (event.Got c.args.link c.in-Got.number v) c.in-Got.stamp c.got.new.self)
     (to_z-of_z w64 c.in-Got.value fits) c.got.ensures.come) c.got.ensures.less c.got.ensures.run)
-    (counts_here (g.P.Ports.polls c.args.ports.now) (g.P.Ports.polls c.poll.new.self) c.args.link c.in-Got.ensures.polls) c.requires.side
-    (λ same waits. absurd (told_moves (outside (g.P.Ports.terms c.args.ports.now) (g.P.Ports.ends c.args.ports.now) (g.P.Ports.at_hand c.args.ports.now) (g.P.Ports.heard c.args.ports.now)
-    (g.P.Ports.polls c.args.ports.now) (g.P.Ports.tries c.args.ports.now) c.args.clock.now)
-    (outside (g.P.Ports.terms c.poll.new.self) (g.P.Ports.ends c.poll.new.self) (g.P.Ports.at_hand c.poll.new.self) (g.P.Ports.heard c.poll.new.self) (g.P.Ports.polls c.poll.new.self)
-    (g.P.Ports.tries c.poll.new.self) c.poll.new.clock) (record { event = event.Got c.args.link c.in-Got.number c.in-Got.value; stamp = c.in-Got.stamp })
-    (poll_called (outside (g.P.Ports.terms c.args.ports.now) (g.P.Ports.ends c.args.ports.now) (g.P.Ports.at_hand c.args.ports.now) (g.P.Ports.heard c.args.ports.now)
-    (g.P.Ports.polls c.args.ports.now) (g.P.Ports.tries c.args.ports.now) c.args.clock.now)
-    (outside (g.P.Ports.terms c.poll.new.self) (g.P.Ports.ends c.poll.new.self) (g.P.Ports.at_hand c.poll.new.self) (g.P.Ports.heard c.poll.new.self) (g.P.Ports.polls c.poll.new.self)
-    (g.P.Ports.tries c.poll.new.self) c.poll.new.clock) (Some (record { event = event.Got c.args.link c.in-Got.number c.in-Got.value; stamp = c.in-Got.stamp })) c.args.link
+    (counts_here (g.P.Ports.told c.args.ports.now).polls (g.P.Ports.told c.poll.new.self).polls c.args.link c.in-Got.ensures.polls) c.requires.side
+    (λ same waits. absurd (told_moves (outside (g.P.Ports.told c.args.ports.now) c.args.clock.now)
+    (outside (g.P.Ports.told c.poll.new.self) c.poll.new.clock) (record { event = event.Got c.args.link c.in-Got.number c.in-Got.value; stamp = c.in-Got.stamp })
+    (poll_called (outside (g.P.Ports.told c.args.ports.now) c.args.clock.now)
+    (outside (g.P.Ports.told c.poll.new.self) c.poll.new.clock) (Some (record { event = event.Got c.args.link c.in-Got.number c.in-Got.value; stamp = c.in-Got.stamp })) c.args.link
     c.in-Got.ensures.tells c.in-Got.ensures.hand
     c.in-Got.ensures.terms c.in-Got.ensures.polls c.in-Got.ensures.tries) same))
 
 pub returns-in-Pass-clause-looks : goal.returns-in-Pass-clause-looks
 returns-in-Pass-clause-looks g c = entered_looks c.args.machine.now c.make_room.new.self _ c.requires.in_step c.requires.point c.make_room.ensures.same c.make_room.ensures.state
     c.make_room.ensures.run _ (record { event = event.Pass c.args.link c.in-Pass.number; stamp = c.in-Pass.stamp })
-    (poll_called (outside (g.P.Ports.terms c.args.ports.now) (g.P.Ports.ends c.args.ports.now) (g.P.Ports.at_hand c.args.ports.now) (g.P.Ports.heard c.args.ports.now)
-    (g.P.Ports.polls c.args.ports.now) (g.P.Ports.tries c.args.ports.now) c.args.clock.now)
-    (outside (g.P.Ports.terms c.poll.new.self) (g.P.Ports.ends c.poll.new.self) (g.P.Ports.at_hand c.poll.new.self) (g.P.Ports.heard c.poll.new.self) (g.P.Ports.polls c.poll.new.self)
-    (g.P.Ports.tries c.poll.new.self) c.poll.new.clock) (Some (record { event = event.Pass c.args.link c.in-Pass.number; stamp = c.in-Pass.stamp })) c.args.link c.in-Pass.ensures.tells
+    (poll_called (outside (g.P.Ports.told c.args.ports.now) c.args.clock.now)
+    (outside (g.P.Ports.told c.poll.new.self) c.poll.new.clock) (Some (record { event = event.Pass c.args.link c.in-Pass.number; stamp = c.in-Pass.stamp })) c.args.link c.in-Pass.ensures.tells
     c.in-Pass.ensures.hand
     c.in-Pass.ensures.terms c.in-Pass.ensures.polls c.in-Pass.ensures.tries) c.passed.new.self c.passed.ensures.come c.passed.ensures.less c.passed.ensures.run
 
 pub returns-in-Pass-clause-looked : goal.returns-in-Pass-clause-looked
 returns-in-Pass-clause-looked g c = λ e. peer_looked _ _ _ _ c.args.link (entered_looks c.args.machine.now c.make_room.new.self _ c.requires.in_step c.requires.point
     c.make_room.ensures.same c.make_room.ensures.state c.make_room.ensures.run _ (record { event = event.Pass c.args.link c.in-Pass.number; stamp = c.in-Pass.stamp })
-    (poll_called (outside (g.P.Ports.terms c.args.ports.now) (g.P.Ports.ends c.args.ports.now) (g.P.Ports.at_hand c.args.ports.now) (g.P.Ports.heard c.args.ports.now)
-    (g.P.Ports.polls c.args.ports.now) (g.P.Ports.tries c.args.ports.now) c.args.clock.now)
-    (outside (g.P.Ports.terms c.poll.new.self) (g.P.Ports.ends c.poll.new.self) (g.P.Ports.at_hand c.poll.new.self) (g.P.Ports.heard c.poll.new.self) (g.P.Ports.polls c.poll.new.self)
-    (g.P.Ports.tries c.poll.new.self) c.poll.new.clock) (Some (record { event = event.Pass c.args.link c.in-Pass.number; stamp = c.in-Pass.stamp })) c.args.link c.in-Pass.ensures.tells
+    (poll_called (outside (g.P.Ports.told c.args.ports.now) c.args.clock.now)
+    (outside (g.P.Ports.told c.poll.new.self) c.poll.new.clock) (Some (record { event = event.Pass c.args.link c.in-Pass.number; stamp = c.in-Pass.stamp })) c.args.link c.in-Pass.ensures.tells
     c.in-Pass.ensures.hand
     c.in-Pass.ensures.terms c.in-Pass.ensures.polls c.in-Pass.ensures.tries) c.passed.new.self c.passed.ensures.come c.passed.ensures.less c.passed.ensures.run)
-    (counts_here (g.P.Ports.polls c.args.ports.now) (g.P.Ports.polls c.poll.new.self) c.args.link c.in-Pass.ensures.polls) c.requires.side
-    (λ same waits. absurd (told_moves (outside (g.P.Ports.terms c.args.ports.now) (g.P.Ports.ends c.args.ports.now) (g.P.Ports.at_hand c.args.ports.now) (g.P.Ports.heard c.args.ports.now)
-    (g.P.Ports.polls c.args.ports.now) (g.P.Ports.tries c.args.ports.now) c.args.clock.now)
-    (outside (g.P.Ports.terms c.poll.new.self) (g.P.Ports.ends c.poll.new.self) (g.P.Ports.at_hand c.poll.new.self) (g.P.Ports.heard c.poll.new.self) (g.P.Ports.polls c.poll.new.self)
-    (g.P.Ports.tries c.poll.new.self) c.poll.new.clock)
+    (counts_here (g.P.Ports.told c.args.ports.now).polls (g.P.Ports.told c.poll.new.self).polls c.args.link c.in-Pass.ensures.polls) c.requires.side
+    (λ same waits. absurd (told_moves (outside (g.P.Ports.told c.args.ports.now) c.args.clock.now)
+    (outside (g.P.Ports.told c.poll.new.self) c.poll.new.clock)
     (record { event = event.Pass c.args.link c.in-Pass.number; stamp = c.in-Pass.stamp })
-    (poll_called (outside (g.P.Ports.terms c.args.ports.now) (g.P.Ports.ends c.args.ports.now) (g.P.Ports.at_hand c.args.ports.now) (g.P.Ports.heard c.args.ports.now)
-    (g.P.Ports.polls c.args.ports.now) (g.P.Ports.tries c.args.ports.now) c.args.clock.now)
-    (outside (g.P.Ports.terms c.poll.new.self) (g.P.Ports.ends c.poll.new.self) (g.P.Ports.at_hand c.poll.new.self) (g.P.Ports.heard c.poll.new.self) (g.P.Ports.polls c.poll.new.self)
-    (g.P.Ports.tries c.poll.new.self) c.poll.new.clock)
+    (poll_called (outside (g.P.Ports.told c.args.ports.now) c.args.clock.now)
+    (outside (g.P.Ports.told c.poll.new.self) c.poll.new.clock)
     (Some (record { event = event.Pass c.args.link c.in-Pass.number; stamp = c.in-Pass.stamp })) c.args.link c.in-Pass.ensures.tells c.in-Pass.ensures.hand c.in-Pass.ensures.terms
     c.in-Pass.ensures.polls c.in-Pass.ensures.tries) same))
 
 pub returns-in-Nothing-clause-looks : goal.returns-in-Nothing-clause-looks
 returns-in-Nothing-clause-looks g c = nothing_looks c.args.machine.now c.make_room.new.self _ c.requires.in_step c.requires.point c.make_room.ensures.same c.make_room.ensures.state
-    c.make_room.ensures.run _ (poll_called (outside (g.P.Ports.terms c.args.ports.now) (g.P.Ports.ends c.args.ports.now) (g.P.Ports.at_hand c.args.ports.now) (g.P.Ports.heard c.args.ports.now)
-    (g.P.Ports.polls c.args.ports.now) (g.P.Ports.tries c.args.ports.now) c.args.clock.now)
-    (outside (g.P.Ports.terms c.poll.new.self) (g.P.Ports.ends c.poll.new.self) (g.P.Ports.at_hand c.poll.new.self) (g.P.Ports.heard c.poll.new.self) (g.P.Ports.polls c.poll.new.self)
-    (g.P.Ports.tries c.poll.new.self) c.poll.new.clock) None c.args.link c.in-Nothing.ensures.tells c.in-Nothing.ensures.hand c.in-Nothing.ensures.terms c.in-Nothing.ensures.polls
+    c.make_room.ensures.run _ (poll_called (outside (g.P.Ports.told c.args.ports.now) c.args.clock.now)
+    (outside (g.P.Ports.told c.poll.new.self) c.poll.new.clock) None c.args.link c.in-Nothing.ensures.tells c.in-Nothing.ensures.hand c.in-Nothing.ensures.terms c.in-Nothing.ensures.polls
     c.in-Nothing.ensures.tries)
 
 pub returns-in-Nothing-clause-looked : goal.returns-in-Nothing-clause-looked
 returns-in-Nothing-clause-looked g c = λ e. peer_looked _ _ _ _ c.args.link (nothing_looks c.args.machine.now c.make_room.new.self _ c.requires.in_step c.requires.point
     c.make_room.ensures.same c.make_room.ensures.state c.make_room.ensures.run _
-    (poll_called (outside (g.P.Ports.terms c.args.ports.now) (g.P.Ports.ends c.args.ports.now) (g.P.Ports.at_hand c.args.ports.now) (g.P.Ports.heard c.args.ports.now)
-    (g.P.Ports.polls c.args.ports.now) (g.P.Ports.tries c.args.ports.now) c.args.clock.now)
-    (outside (g.P.Ports.terms c.poll.new.self) (g.P.Ports.ends c.poll.new.self) (g.P.Ports.at_hand c.poll.new.self) (g.P.Ports.heard c.poll.new.self) (g.P.Ports.polls c.poll.new.self)
-    (g.P.Ports.tries c.poll.new.self) c.poll.new.clock) None c.args.link c.in-Nothing.ensures.tells c.in-Nothing.ensures.hand
+    (poll_called (outside (g.P.Ports.told c.args.ports.now) c.args.clock.now)
+    (outside (g.P.Ports.told c.poll.new.self) c.poll.new.clock) None c.args.link c.in-Nothing.ensures.tells c.in-Nothing.ensures.hand
     c.in-Nothing.ensures.terms c.in-Nothing.ensures.polls c.in-Nothing.ensures.tries))
-    (counts_here (g.P.Ports.polls c.args.ports.now) (g.P.Ports.polls c.poll.new.self) c.args.link c.in-Nothing.ensures.polls) c.requires.side
+    (counts_here (g.P.Ports.told c.args.ports.now).polls (g.P.Ports.told c.poll.new.self).polls c.args.link c.in-Nothing.ensures.polls) c.requires.side
     (λ same waits. ap (λ (f : ℕ → AtHand). (f c.args.link).front) c.in-Nothing.ensures.hand ∙ c.in-Nothing.ensures.answer.front (c.receives_from-wants.ensures ∙ waits))
 
 pub returns-in-NotYet-clause-looks : goal.returns-in-NotYet-clause-looks
 returns-in-NotYet-clause-looks g c = nothing_looks c.args.machine.now c.make_room.new.self _ c.requires.in_step c.requires.point c.make_room.ensures.same c.make_room.ensures.state
-    c.make_room.ensures.run _ (poll_called (outside (g.P.Ports.terms c.args.ports.now) (g.P.Ports.ends c.args.ports.now) (g.P.Ports.at_hand c.args.ports.now) (g.P.Ports.heard c.args.ports.now)
-    (g.P.Ports.polls c.args.ports.now) (g.P.Ports.tries c.args.ports.now) c.args.clock.now)
-    (outside (g.P.Ports.terms c.poll.new.self) (g.P.Ports.ends c.poll.new.self) (g.P.Ports.at_hand c.poll.new.self) (g.P.Ports.heard c.poll.new.self) (g.P.Ports.polls c.poll.new.self)
-    (g.P.Ports.tries c.poll.new.self) c.poll.new.clock) None c.args.link c.in-NotYet.ensures.tells c.in-NotYet.ensures.hand c.in-NotYet.ensures.terms c.in-NotYet.ensures.polls
+    c.make_room.ensures.run _ (poll_called (outside (g.P.Ports.told c.args.ports.now) c.args.clock.now)
+    (outside (g.P.Ports.told c.poll.new.self) c.poll.new.clock) None c.args.link c.in-NotYet.ensures.tells c.in-NotYet.ensures.hand c.in-NotYet.ensures.terms c.in-NotYet.ensures.polls
     c.in-NotYet.ensures.tries)
 
 pub returns-in-NotYet-clause-looked : goal.returns-in-NotYet-clause-looked
 returns-in-NotYet-clause-looked g c = λ e. peer_looked _ _ _ _ c.args.link (nothing_looks c.args.machine.now c.make_room.new.self _ c.requires.in_step c.requires.point
     c.make_room.ensures.same c.make_room.ensures.state c.make_room.ensures.run _
-    (poll_called (outside (g.P.Ports.terms c.args.ports.now) (g.P.Ports.ends c.args.ports.now) (g.P.Ports.at_hand c.args.ports.now) (g.P.Ports.heard c.args.ports.now)
-    (g.P.Ports.polls c.args.ports.now) (g.P.Ports.tries c.args.ports.now) c.args.clock.now)
-    (outside (g.P.Ports.terms c.poll.new.self) (g.P.Ports.ends c.poll.new.self) (g.P.Ports.at_hand c.poll.new.self) (g.P.Ports.heard c.poll.new.self) (g.P.Ports.polls c.poll.new.self)
-    (g.P.Ports.tries c.poll.new.self) c.poll.new.clock) None c.args.link c.in-NotYet.ensures.tells c.in-NotYet.ensures.hand
+    (poll_called (outside (g.P.Ports.told c.args.ports.now) c.args.clock.now)
+    (outside (g.P.Ports.told c.poll.new.self) c.poll.new.clock) None c.args.link c.in-NotYet.ensures.tells c.in-NotYet.ensures.hand
     c.in-NotYet.ensures.terms c.in-NotYet.ensures.polls c.in-NotYet.ensures.tries))
-    (counts_here (g.P.Ports.polls c.args.ports.now) (g.P.Ports.polls c.poll.new.self) c.args.link c.in-NotYet.ensures.polls) c.requires.side
+    (counts_here (g.P.Ports.told c.args.ports.now).polls (g.P.Ports.told c.poll.new.self).polls c.args.link c.in-NotYet.ensures.polls) c.requires.side
     (λ same waits. ap (λ (f : ℕ → AtHand). (f c.args.link).front) c.in-NotYet.ensures.hand ∙ c.in-NotYet.ensures.answer.0.front (c.receives_from-wants.ensures ∙ waits))
 
 pub returns-in-ClockFull-clause-looks : goal.returns-in-ClockFull-clause-looks
 returns-in-ClockFull-clause-looks g c = nothing_looks c.args.machine.now c.make_room.new.self _ c.requires.in_step c.requires.point c.make_room.ensures.same c.make_room.ensures.state
-    c.make_room.ensures.run _ (poll_called (outside (g.P.Ports.terms c.args.ports.now) (g.P.Ports.ends c.args.ports.now) (g.P.Ports.at_hand c.args.ports.now) (g.P.Ports.heard c.args.ports.now)
-    (g.P.Ports.polls c.args.ports.now) (g.P.Ports.tries c.args.ports.now) c.args.clock.now)
-    (outside (g.P.Ports.terms c.poll.new.self) (g.P.Ports.ends c.poll.new.self) (g.P.Ports.at_hand c.poll.new.self) (g.P.Ports.heard c.poll.new.self) (g.P.Ports.polls c.poll.new.self)
-    (g.P.Ports.tries c.poll.new.self) c.poll.new.clock) None c.args.link c.in-ClockFull.ensures.tells c.in-ClockFull.ensures.hand c.in-ClockFull.ensures.terms c.in-ClockFull.ensures.polls
+    c.make_room.ensures.run _ (poll_called (outside (g.P.Ports.told c.args.ports.now) c.args.clock.now)
+    (outside (g.P.Ports.told c.poll.new.self) c.poll.new.clock) None c.args.link c.in-ClockFull.ensures.tells c.in-ClockFull.ensures.hand c.in-ClockFull.ensures.terms c.in-ClockFull.ensures.polls
     c.in-ClockFull.ensures.tries)
 
 pub returns-in-ClockFull-clause-heard : goal.returns-in-ClockFull-clause-heard
-returns-in-ClockFull-clause-heard g c = λ e. full_there (outside (g.P.Ports.terms c.args.ports.now) (g.P.Ports.ends c.args.ports.now) (g.P.Ports.at_hand c.args.ports.now)
-    (g.P.Ports.heard c.args.ports.now) (g.P.Ports.polls c.args.ports.now) (g.P.Ports.tries c.args.ports.now) c.args.clock.now)
-    (outside (g.P.Ports.terms c.poll.new.self) (g.P.Ports.ends c.poll.new.self) (g.P.Ports.at_hand c.poll.new.self) (g.P.Ports.heard c.poll.new.self) (g.P.Ports.polls c.poll.new.self)
-    (g.P.Ports.tries c.poll.new.self) c.poll.new.clock) c.args.link c.in-ClockFull.ensures.tells.1 c.in-ClockFull.ensures.answer.0
+returns-in-ClockFull-clause-heard g c = λ e. full_there (outside (g.P.Ports.told c.args.ports.now) c.args.clock.now)
+    (outside (g.P.Ports.told c.poll.new.self) c.poll.new.clock) c.args.link c.in-ClockFull.ensures.tells.1 c.in-ClockFull.ensures.answer.0
 
 pub unreachable-requires : goal.unreachable-requires
 unreachable-requires g c = peer_knows_nothing _ _ c.args.link c.in-Know.number (c.requires.in_step.ports.peer c.args.link c.requires.side) c.in-Know.ensures.tells.fits

@@ -49,142 +49,106 @@ returns-in_err-make_room-clause-stays g c = g.met.P.Ports.stays_self c.args.port
 pub returns-in-Know-clause-looks : goal.returns-in-Know-clause-looks
 returns-in-Know-clause-looks g c = entered_looks c.args.machine.now c.make_room.new.self _ c.requires.in_step c.requires.point c.make_room.ensures.same c.make_room.ensures.state
     c.make_room.ensures.run _ (record { event = event.Know c.args.link c.in-Know.number; stamp = c.in-Know.stamp })
-    (poll_called (outside (g.P.Ports.terms c.args.ports.now) (g.P.Ports.ends c.args.ports.now) (g.P.Ports.at_hand c.args.ports.now) (g.P.Ports.heard c.args.ports.now)
-    (g.P.Ports.polls c.args.ports.now) (g.P.Ports.tries c.args.ports.now) c.args.clock.now)
-    (outside (g.P.Ports.terms c.poll.new.self) (g.P.Ports.ends c.poll.new.self) (g.P.Ports.at_hand c.poll.new.self) (g.P.Ports.heard c.poll.new.self) (g.P.Ports.polls c.poll.new.self)
-    (g.P.Ports.tries c.poll.new.self) c.poll.new.clock) (Some (record { event = event.Know c.args.link c.in-Know.number; stamp = c.in-Know.stamp })) c.args.link c.in-Know.ensures.tells
+    (poll_called (outside (g.P.Ports.told c.args.ports.now) c.args.clock.now)
+    (outside (g.P.Ports.told c.poll.new.self) c.poll.new.clock) (Some (record { event = event.Know c.args.link c.in-Know.number; stamp = c.in-Know.stamp })) c.args.link c.in-Know.ensures.tells
     c.in-Know.ensures.hand
     c.in-Know.ensures.terms c.in-Know.ensures.polls c.in-Know.ensures.tries) c.know.new.self c.know.ensures.come c.know.ensures.less c.know.ensures.run
 
 pub returns-in-Know-clause-polled : goal.returns-in-Know-clause-polled
-returns-in-Know-clause-polled g c = counts_here (g.P.Ports.polls c.args.ports.now) (g.P.Ports.polls c.poll.new.self) c.args.link c.in-Know.ensures.polls
+returns-in-Know-clause-polled g c = counts_here (g.P.Ports.told c.args.ports.now).polls (g.P.Ports.told c.poll.new.self).polls c.args.link c.in-Know.ensures.polls
 
 pub returns-in-Know-clause-decision : goal.returns-in-Know-clause-decision
-returns-in-Know-clause-decision g c = λ e same. absurd (told_moves (outside (g.P.Ports.terms c.args.ports.now) (g.P.Ports.ends c.args.ports.now) (g.P.Ports.at_hand c.args.ports.now)
-    (g.P.Ports.heard c.args.ports.now) (g.P.Ports.polls c.args.ports.now) (g.P.Ports.tries c.args.ports.now) c.args.clock.now)
-    (outside (g.P.Ports.terms c.poll.new.self) (g.P.Ports.ends c.poll.new.self) (g.P.Ports.at_hand c.poll.new.self) (g.P.Ports.heard c.poll.new.self) (g.P.Ports.polls c.poll.new.self)
-    (g.P.Ports.tries c.poll.new.self) c.poll.new.clock) (record { event = event.Know c.args.link c.in-Know.number; stamp = c.in-Know.stamp })
-    (poll_called (outside (g.P.Ports.terms c.args.ports.now) (g.P.Ports.ends c.args.ports.now) (g.P.Ports.at_hand c.args.ports.now) (g.P.Ports.heard c.args.ports.now)
-    (g.P.Ports.polls c.args.ports.now) (g.P.Ports.tries c.args.ports.now) c.args.clock.now)
-    (outside (g.P.Ports.terms c.poll.new.self) (g.P.Ports.ends c.poll.new.self) (g.P.Ports.at_hand c.poll.new.self) (g.P.Ports.heard c.poll.new.self) (g.P.Ports.polls c.poll.new.self)
-    (g.P.Ports.tries c.poll.new.self) c.poll.new.clock) (Some (record { event = event.Know c.args.link c.in-Know.number; stamp = c.in-Know.stamp })) c.args.link c.in-Know.ensures.tells
+returns-in-Know-clause-decision g c = λ e same. absurd (told_moves (outside (g.P.Ports.told c.args.ports.now) c.args.clock.now)
+    (outside (g.P.Ports.told c.poll.new.self) c.poll.new.clock) (record { event = event.Know c.args.link c.in-Know.number; stamp = c.in-Know.stamp })
+    (poll_called (outside (g.P.Ports.told c.args.ports.now) c.args.clock.now)
+    (outside (g.P.Ports.told c.poll.new.self) c.poll.new.clock) (Some (record { event = event.Know c.args.link c.in-Know.number; stamp = c.in-Know.stamp })) c.args.link c.in-Know.ensures.tells
     c.in-Know.ensures.hand
     c.in-Know.ensures.terms c.in-Know.ensures.polls c.in-Know.ensures.tries) same)
 
 pub returns-in-Know-clause-reply : goal.returns-in-Know-clause-reply
-returns-in-Know-clause-reply g c = λ e same asks waits. absurd (told_moves (outside (g.P.Ports.terms c.args.ports.now) (g.P.Ports.ends c.args.ports.now) (g.P.Ports.at_hand c.args.ports.now)
-    (g.P.Ports.heard c.args.ports.now) (g.P.Ports.polls c.args.ports.now) (g.P.Ports.tries c.args.ports.now) c.args.clock.now)
-    (outside (g.P.Ports.terms c.poll.new.self) (g.P.Ports.ends c.poll.new.self) (g.P.Ports.at_hand c.poll.new.self) (g.P.Ports.heard c.poll.new.self) (g.P.Ports.polls c.poll.new.self)
-    (g.P.Ports.tries c.poll.new.self) c.poll.new.clock) (record { event = event.Know c.args.link c.in-Know.number; stamp = c.in-Know.stamp })
-    (poll_called (outside (g.P.Ports.terms c.args.ports.now) (g.P.Ports.ends c.args.ports.now) (g.P.Ports.at_hand c.args.ports.now) (g.P.Ports.heard c.args.ports.now)
-    (g.P.Ports.polls c.args.ports.now) (g.P.Ports.tries c.args.ports.now) c.args.clock.now)
-    (outside (g.P.Ports.terms c.poll.new.self) (g.P.Ports.ends c.poll.new.self) (g.P.Ports.at_hand c.poll.new.self) (g.P.Ports.heard c.poll.new.self) (g.P.Ports.polls c.poll.new.self)
-    (g.P.Ports.tries c.poll.new.self) c.poll.new.clock) (Some (record { event = event.Know c.args.link c.in-Know.number; stamp = c.in-Know.stamp })) c.args.link c.in-Know.ensures.tells
+returns-in-Know-clause-reply g c = λ e same asks waits. absurd (told_moves (outside (g.P.Ports.told c.args.ports.now) c.args.clock.now)
+    (outside (g.P.Ports.told c.poll.new.self) c.poll.new.clock) (record { event = event.Know c.args.link c.in-Know.number; stamp = c.in-Know.stamp })
+    (poll_called (outside (g.P.Ports.told c.args.ports.now) c.args.clock.now)
+    (outside (g.P.Ports.told c.poll.new.self) c.poll.new.clock) (Some (record { event = event.Know c.args.link c.in-Know.number; stamp = c.in-Know.stamp })) c.args.link c.in-Know.ensures.tells
     c.in-Know.ensures.hand
     c.in-Know.ensures.terms c.in-Know.ensures.polls c.in-Know.ensures.tries) same)
 
 pub returns-in-Reply-clause-looks : goal.returns-in-Reply-clause-looks
 returns-in-Reply-clause-looks g c = entered_looks c.args.machine.now c.make_room.new.self _ c.requires.in_step c.requires.point c.make_room.ensures.same c.make_room.ensures.state
     c.make_room.ensures.run _ (record { event = event.Reply c.args.link c.in-Reply.number c.in-Reply.answer; stamp = c.in-Reply.stamp })
-    (poll_called (outside (g.P.Ports.terms c.args.ports.now) (g.P.Ports.ends c.args.ports.now) (g.P.Ports.at_hand c.args.ports.now) (g.P.Ports.heard c.args.ports.now)
-    (g.P.Ports.polls c.args.ports.now) (g.P.Ports.tries c.args.ports.now) c.args.clock.now)
-    (outside (g.P.Ports.terms c.poll.new.self) (g.P.Ports.ends c.poll.new.self) (g.P.Ports.at_hand c.poll.new.self) (g.P.Ports.heard c.poll.new.self) (g.P.Ports.polls c.poll.new.self)
-    (g.P.Ports.tries c.poll.new.self) c.poll.new.clock) (Some (record { event = event.Reply c.args.link c.in-Reply.number c.in-Reply.answer; stamp = c.in-Reply.stamp })) c.args.link
+    (poll_called (outside (g.P.Ports.told c.args.ports.now) c.args.clock.now)
+    (outside (g.P.Ports.told c.poll.new.self) c.poll.new.clock) (Some (record { event = event.Reply c.args.link c.in-Reply.number c.in-Reply.answer; stamp = c.in-Reply.stamp })) c.args.link
     c.in-Reply.ensures.tells c.in-Reply.ensures.hand c.in-Reply.ensures.terms c.in-Reply.ensures.polls c.in-Reply.ensures.tries) c.replied.new.self
     c.replied.ensures.come c.replied.ensures.less c.replied.ensures.run
 
 pub returns-in-Reply-clause-polled : goal.returns-in-Reply-clause-polled
-returns-in-Reply-clause-polled g c = counts_here (g.P.Ports.polls c.args.ports.now) (g.P.Ports.polls c.poll.new.self) c.args.link c.in-Reply.ensures.polls
+returns-in-Reply-clause-polled g c = counts_here (g.P.Ports.told c.args.ports.now).polls (g.P.Ports.told c.poll.new.self).polls c.args.link c.in-Reply.ensures.polls
 
 pub returns-in-Reply-clause-decision : goal.returns-in-Reply-clause-decision
-returns-in-Reply-clause-decision g c = λ e same. absurd (told_moves (outside (g.P.Ports.terms c.args.ports.now) (g.P.Ports.ends c.args.ports.now) (g.P.Ports.at_hand c.args.ports.now)
-    (g.P.Ports.heard c.args.ports.now) (g.P.Ports.polls c.args.ports.now) (g.P.Ports.tries c.args.ports.now) c.args.clock.now)
-    (outside (g.P.Ports.terms c.poll.new.self) (g.P.Ports.ends c.poll.new.self) (g.P.Ports.at_hand c.poll.new.self) (g.P.Ports.heard c.poll.new.self) (g.P.Ports.polls c.poll.new.self)
-    (g.P.Ports.tries c.poll.new.self) c.poll.new.clock) (record { event = event.Reply c.args.link c.in-Reply.number c.in-Reply.answer; stamp = c.in-Reply.stamp })
-    (poll_called (outside (g.P.Ports.terms c.args.ports.now) (g.P.Ports.ends c.args.ports.now) (g.P.Ports.at_hand c.args.ports.now) (g.P.Ports.heard c.args.ports.now)
-    (g.P.Ports.polls c.args.ports.now) (g.P.Ports.tries c.args.ports.now) c.args.clock.now)
-    (outside (g.P.Ports.terms c.poll.new.self) (g.P.Ports.ends c.poll.new.self) (g.P.Ports.at_hand c.poll.new.self) (g.P.Ports.heard c.poll.new.self) (g.P.Ports.polls c.poll.new.self)
-    (g.P.Ports.tries c.poll.new.self) c.poll.new.clock) (Some (record { event = event.Reply c.args.link c.in-Reply.number c.in-Reply.answer; stamp = c.in-Reply.stamp })) c.args.link
+returns-in-Reply-clause-decision g c = λ e same. absurd (told_moves (outside (g.P.Ports.told c.args.ports.now) c.args.clock.now)
+    (outside (g.P.Ports.told c.poll.new.self) c.poll.new.clock) (record { event = event.Reply c.args.link c.in-Reply.number c.in-Reply.answer; stamp = c.in-Reply.stamp })
+    (poll_called (outside (g.P.Ports.told c.args.ports.now) c.args.clock.now)
+    (outside (g.P.Ports.told c.poll.new.self) c.poll.new.clock) (Some (record { event = event.Reply c.args.link c.in-Reply.number c.in-Reply.answer; stamp = c.in-Reply.stamp })) c.args.link
     c.in-Reply.ensures.tells c.in-Reply.ensures.hand c.in-Reply.ensures.terms c.in-Reply.ensures.polls c.in-Reply.ensures.tries) same)
 
 pub returns-in-Reply-clause-reply : goal.returns-in-Reply-clause-reply
-returns-in-Reply-clause-reply g c = λ e same asks waits. absurd (told_moves (outside (g.P.Ports.terms c.args.ports.now) (g.P.Ports.ends c.args.ports.now) (g.P.Ports.at_hand c.args.ports.now)
-    (g.P.Ports.heard c.args.ports.now) (g.P.Ports.polls c.args.ports.now) (g.P.Ports.tries c.args.ports.now) c.args.clock.now)
-    (outside (g.P.Ports.terms c.poll.new.self) (g.P.Ports.ends c.poll.new.self) (g.P.Ports.at_hand c.poll.new.self) (g.P.Ports.heard c.poll.new.self) (g.P.Ports.polls c.poll.new.self)
-    (g.P.Ports.tries c.poll.new.self) c.poll.new.clock) (record { event = event.Reply c.args.link c.in-Reply.number c.in-Reply.answer; stamp = c.in-Reply.stamp })
-    (poll_called (outside (g.P.Ports.terms c.args.ports.now) (g.P.Ports.ends c.args.ports.now) (g.P.Ports.at_hand c.args.ports.now) (g.P.Ports.heard c.args.ports.now)
-    (g.P.Ports.polls c.args.ports.now) (g.P.Ports.tries c.args.ports.now) c.args.clock.now)
-    (outside (g.P.Ports.terms c.poll.new.self) (g.P.Ports.ends c.poll.new.self) (g.P.Ports.at_hand c.poll.new.self) (g.P.Ports.heard c.poll.new.self) (g.P.Ports.polls c.poll.new.self)
-    (g.P.Ports.tries c.poll.new.self) c.poll.new.clock) (Some (record { event = event.Reply c.args.link c.in-Reply.number c.in-Reply.answer; stamp = c.in-Reply.stamp })) c.args.link
+returns-in-Reply-clause-reply g c = λ e same asks waits. absurd (told_moves (outside (g.P.Ports.told c.args.ports.now) c.args.clock.now)
+    (outside (g.P.Ports.told c.poll.new.self) c.poll.new.clock) (record { event = event.Reply c.args.link c.in-Reply.number c.in-Reply.answer; stamp = c.in-Reply.stamp })
+    (poll_called (outside (g.P.Ports.told c.args.ports.now) c.args.clock.now)
+    (outside (g.P.Ports.told c.poll.new.self) c.poll.new.clock) (Some (record { event = event.Reply c.args.link c.in-Reply.number c.in-Reply.answer; stamp = c.in-Reply.stamp })) c.args.link
     c.in-Reply.ensures.tells c.in-Reply.ensures.hand c.in-Reply.ensures.terms c.in-Reply.ensures.polls c.in-Reply.ensures.tries) same)
 
 pub returns-in-Room-clause-looks : goal.returns-in-Room-clause-looks
 returns-in-Room-clause-looks g c = entered_looks c.args.machine.now c.make_room.new.self _ c.requires.in_step c.requires.point c.make_room.ensures.same c.make_room.ensures.state
     c.make_room.ensures.run _ (record { event = event.Room c.args.link c.in-Room.number; stamp = c.in-Room.stamp })
-    (poll_called (outside (g.P.Ports.terms c.args.ports.now) (g.P.Ports.ends c.args.ports.now) (g.P.Ports.at_hand c.args.ports.now) (g.P.Ports.heard c.args.ports.now)
-    (g.P.Ports.polls c.args.ports.now) (g.P.Ports.tries c.args.ports.now) c.args.clock.now)
-    (outside (g.P.Ports.terms c.poll.new.self) (g.P.Ports.ends c.poll.new.self) (g.P.Ports.at_hand c.poll.new.self) (g.P.Ports.heard c.poll.new.self) (g.P.Ports.polls c.poll.new.self)
-    (g.P.Ports.tries c.poll.new.self) c.poll.new.clock) (Some (record { event = event.Room c.args.link c.in-Room.number; stamp = c.in-Room.stamp })) c.args.link c.in-Room.ensures.tells
+    (poll_called (outside (g.P.Ports.told c.args.ports.now) c.args.clock.now)
+    (outside (g.P.Ports.told c.poll.new.self) c.poll.new.clock) (Some (record { event = event.Room c.args.link c.in-Room.number; stamp = c.in-Room.stamp })) c.args.link c.in-Room.ensures.tells
     c.in-Room.ensures.hand
     c.in-Room.ensures.terms c.in-Room.ensures.polls c.in-Room.ensures.tries) c.roomed.new.self c.roomed.ensures.come c.roomed.ensures.less c.roomed.ensures.run
 
 pub returns-in-Room-clause-polled : goal.returns-in-Room-clause-polled
-returns-in-Room-clause-polled g c = counts_here (g.P.Ports.polls c.args.ports.now) (g.P.Ports.polls c.poll.new.self) c.args.link c.in-Room.ensures.polls
+returns-in-Room-clause-polled g c = counts_here (g.P.Ports.told c.args.ports.now).polls (g.P.Ports.told c.poll.new.self).polls c.args.link c.in-Room.ensures.polls
 
 pub returns-in-Room-clause-decision : goal.returns-in-Room-clause-decision
-returns-in-Room-clause-decision g c = λ e same. absurd (told_moves (outside (g.P.Ports.terms c.args.ports.now) (g.P.Ports.ends c.args.ports.now) (g.P.Ports.at_hand c.args.ports.now)
-    (g.P.Ports.heard c.args.ports.now) (g.P.Ports.polls c.args.ports.now) (g.P.Ports.tries c.args.ports.now) c.args.clock.now)
-    (outside (g.P.Ports.terms c.poll.new.self) (g.P.Ports.ends c.poll.new.self) (g.P.Ports.at_hand c.poll.new.self) (g.P.Ports.heard c.poll.new.self) (g.P.Ports.polls c.poll.new.self)
-    (g.P.Ports.tries c.poll.new.self) c.poll.new.clock) (record { event = event.Room c.args.link c.in-Room.number; stamp = c.in-Room.stamp })
-    (poll_called (outside (g.P.Ports.terms c.args.ports.now) (g.P.Ports.ends c.args.ports.now) (g.P.Ports.at_hand c.args.ports.now) (g.P.Ports.heard c.args.ports.now)
-    (g.P.Ports.polls c.args.ports.now) (g.P.Ports.tries c.args.ports.now) c.args.clock.now)
-    (outside (g.P.Ports.terms c.poll.new.self) (g.P.Ports.ends c.poll.new.self) (g.P.Ports.at_hand c.poll.new.self) (g.P.Ports.heard c.poll.new.self) (g.P.Ports.polls c.poll.new.self)
-    (g.P.Ports.tries c.poll.new.self) c.poll.new.clock) (Some (record { event = event.Room c.args.link c.in-Room.number; stamp = c.in-Room.stamp })) c.args.link c.in-Room.ensures.tells
+returns-in-Room-clause-decision g c = λ e same. absurd (told_moves (outside (g.P.Ports.told c.args.ports.now) c.args.clock.now)
+    (outside (g.P.Ports.told c.poll.new.self) c.poll.new.clock) (record { event = event.Room c.args.link c.in-Room.number; stamp = c.in-Room.stamp })
+    (poll_called (outside (g.P.Ports.told c.args.ports.now) c.args.clock.now)
+    (outside (g.P.Ports.told c.poll.new.self) c.poll.new.clock) (Some (record { event = event.Room c.args.link c.in-Room.number; stamp = c.in-Room.stamp })) c.args.link c.in-Room.ensures.tells
     c.in-Room.ensures.hand
     c.in-Room.ensures.terms c.in-Room.ensures.polls c.in-Room.ensures.tries) same)
 
 pub returns-in-Room-clause-reply : goal.returns-in-Room-clause-reply
-returns-in-Room-clause-reply g c = λ e same asks waits. absurd (told_moves (outside (g.P.Ports.terms c.args.ports.now) (g.P.Ports.ends c.args.ports.now) (g.P.Ports.at_hand c.args.ports.now)
-    (g.P.Ports.heard c.args.ports.now) (g.P.Ports.polls c.args.ports.now) (g.P.Ports.tries c.args.ports.now) c.args.clock.now)
-    (outside (g.P.Ports.terms c.poll.new.self) (g.P.Ports.ends c.poll.new.self) (g.P.Ports.at_hand c.poll.new.self) (g.P.Ports.heard c.poll.new.self) (g.P.Ports.polls c.poll.new.self)
-    (g.P.Ports.tries c.poll.new.self) c.poll.new.clock) (record { event = event.Room c.args.link c.in-Room.number; stamp = c.in-Room.stamp })
-    (poll_called (outside (g.P.Ports.terms c.args.ports.now) (g.P.Ports.ends c.args.ports.now) (g.P.Ports.at_hand c.args.ports.now) (g.P.Ports.heard c.args.ports.now)
-    (g.P.Ports.polls c.args.ports.now) (g.P.Ports.tries c.args.ports.now) c.args.clock.now)
-    (outside (g.P.Ports.terms c.poll.new.self) (g.P.Ports.ends c.poll.new.self) (g.P.Ports.at_hand c.poll.new.self) (g.P.Ports.heard c.poll.new.self) (g.P.Ports.polls c.poll.new.self)
-    (g.P.Ports.tries c.poll.new.self) c.poll.new.clock) (Some (record { event = event.Room c.args.link c.in-Room.number; stamp = c.in-Room.stamp })) c.args.link c.in-Room.ensures.tells
+returns-in-Room-clause-reply g c = λ e same asks waits. absurd (told_moves (outside (g.P.Ports.told c.args.ports.now) c.args.clock.now)
+    (outside (g.P.Ports.told c.poll.new.self) c.poll.new.clock) (record { event = event.Room c.args.link c.in-Room.number; stamp = c.in-Room.stamp })
+    (poll_called (outside (g.P.Ports.told c.args.ports.now) c.args.clock.now)
+    (outside (g.P.Ports.told c.poll.new.self) c.poll.new.clock) (Some (record { event = event.Room c.args.link c.in-Room.number; stamp = c.in-Room.stamp })) c.args.link c.in-Room.ensures.tells
     c.in-Room.ensures.hand
     c.in-Room.ensures.terms c.in-Room.ensures.polls c.in-Room.ensures.tries) same)
 
 pub returns-in-Nothing-clause-looks : goal.returns-in-Nothing-clause-looks
 returns-in-Nothing-clause-looks g c = nothing_looks c.args.machine.now c.make_room.new.self _ c.requires.in_step c.requires.point c.make_room.ensures.same c.make_room.ensures.state
-    c.make_room.ensures.run _ (poll_called (outside (g.P.Ports.terms c.args.ports.now) (g.P.Ports.ends c.args.ports.now) (g.P.Ports.at_hand c.args.ports.now) (g.P.Ports.heard c.args.ports.now)
-    (g.P.Ports.polls c.args.ports.now) (g.P.Ports.tries c.args.ports.now) c.args.clock.now)
-    (outside (g.P.Ports.terms c.poll.new.self) (g.P.Ports.ends c.poll.new.self) (g.P.Ports.at_hand c.poll.new.self) (g.P.Ports.heard c.poll.new.self) (g.P.Ports.polls c.poll.new.self)
-    (g.P.Ports.tries c.poll.new.self) c.poll.new.clock) None c.args.link c.in-Nothing.ensures.tells c.in-Nothing.ensures.hand c.in-Nothing.ensures.terms c.in-Nothing.ensures.polls
+    c.make_room.ensures.run _ (poll_called (outside (g.P.Ports.told c.args.ports.now) c.args.clock.now)
+    (outside (g.P.Ports.told c.poll.new.self) c.poll.new.clock) None c.args.link c.in-Nothing.ensures.tells c.in-Nothing.ensures.hand c.in-Nothing.ensures.terms c.in-Nothing.ensures.polls
     c.in-Nothing.ensures.tries)
 
 pub returns-in-Nothing-clause-polled : goal.returns-in-Nothing-clause-polled
-returns-in-Nothing-clause-polled g c = counts_here (g.P.Ports.polls c.args.ports.now) (g.P.Ports.polls c.poll.new.self) c.args.link c.in-Nothing.ensures.polls
+returns-in-Nothing-clause-polled g c = counts_here (g.P.Ports.told c.args.ports.now).polls (g.P.Ports.told c.poll.new.self).polls c.args.link c.in-Nothing.ensures.polls
 
 pub returns-in-Nothing-clause-decision : goal.returns-in-Nothing-clause-decision
 returns-in-Nothing-clause-decision g c = λ e same. ap (λ (f : ℕ → AtHand). (f c.args.link).decision) c.in-Nothing.ensures.hand ∙ c.in-Nothing.ensures.answer.decision
 
 pub returns-in-ClockFull-clause-looks : goal.returns-in-ClockFull-clause-looks
 returns-in-ClockFull-clause-looks g c = nothing_looks c.args.machine.now c.make_room.new.self _ c.requires.in_step c.requires.point c.make_room.ensures.same c.make_room.ensures.state
-    c.make_room.ensures.run _ (poll_called (outside (g.P.Ports.terms c.args.ports.now) (g.P.Ports.ends c.args.ports.now) (g.P.Ports.at_hand c.args.ports.now) (g.P.Ports.heard c.args.ports.now)
-    (g.P.Ports.polls c.args.ports.now) (g.P.Ports.tries c.args.ports.now) c.args.clock.now)
-    (outside (g.P.Ports.terms c.poll.new.self) (g.P.Ports.ends c.poll.new.self) (g.P.Ports.at_hand c.poll.new.self) (g.P.Ports.heard c.poll.new.self) (g.P.Ports.polls c.poll.new.self)
-    (g.P.Ports.tries c.poll.new.self) c.poll.new.clock) None c.args.link c.in-ClockFull.ensures.tells c.in-ClockFull.ensures.hand c.in-ClockFull.ensures.terms c.in-ClockFull.ensures.polls
+    c.make_room.ensures.run _ (poll_called (outside (g.P.Ports.told c.args.ports.now) c.args.clock.now)
+    (outside (g.P.Ports.told c.poll.new.self) c.poll.new.clock) None c.args.link c.in-ClockFull.ensures.tells c.in-ClockFull.ensures.hand c.in-ClockFull.ensures.terms c.in-ClockFull.ensures.polls
     c.in-ClockFull.ensures.tries)
 
 pub returns-in-ClockFull-clause-heard : goal.returns-in-ClockFull-clause-heard
-returns-in-ClockFull-clause-heard g c = λ e. full_there (outside (g.P.Ports.terms c.args.ports.now) (g.P.Ports.ends c.args.ports.now) (g.P.Ports.at_hand c.args.ports.now)
-    (g.P.Ports.heard c.args.ports.now) (g.P.Ports.polls c.args.ports.now) (g.P.Ports.tries c.args.ports.now) c.args.clock.now)
-    (outside (g.P.Ports.terms c.poll.new.self) (g.P.Ports.ends c.poll.new.self) (g.P.Ports.at_hand c.poll.new.self) (g.P.Ports.heard c.poll.new.self) (g.P.Ports.polls c.poll.new.self)
-    (g.P.Ports.tries c.poll.new.self) c.poll.new.clock) c.args.link c.in-ClockFull.ensures.tells.1 c.in-ClockFull.ensures.answer.0
+returns-in-ClockFull-clause-heard g c = λ e. full_there (outside (g.P.Ports.told c.args.ports.now) c.args.clock.now)
+    (outside (g.P.Ports.told c.poll.new.self) c.poll.new.clock) c.args.link c.in-ClockFull.ensures.tells.1 c.in-ClockFull.ensures.answer.0
 
 pub returns-in-ClockFull-clause-polled : goal.returns-in-ClockFull-clause-polled
-returns-in-ClockFull-clause-polled g c = counts_here (g.P.Ports.polls c.args.ports.now) (g.P.Ports.polls c.poll.new.self) c.args.link c.in-ClockFull.ensures.polls
+returns-in-ClockFull-clause-polled g c = counts_here (g.P.Ports.told c.args.ports.now).polls (g.P.Ports.told c.poll.new.self).polls c.args.link c.in-ClockFull.ensures.polls
 
 pub returns-in-Nothing-clause-reply : goal.returns-in-Nothing-clause-reply
 returns-in-Nothing-clause-reply g c = λ e same asks waits.

@@ -71,65 +71,55 @@ returns-then-not-has_to_offer-clause-stays g c = g.met.P.Ports.stays_self c.args
 pub returns-in-Offered-clause-looks : goal.returns-in-Offered-clause-looks
 returns-in-Offered-clause-looks g c = entered_looks c.args.machine.now c.make_room.new.self _ c.requires.in_step c.requires.point c.make_room.ensures.same c.make_room.ensures.state
     c.make_room.ensures.run _ (record { event = event.Offer c.args.link c.in-Offered.number c.in_ok-payload.payload; stamp = c.in-Offered.stamp })
-    (offer_called (outside (g.P.Ports.terms c.args.ports.now) (g.P.Ports.ends c.args.ports.now) (g.P.Ports.at_hand c.args.ports.now) (g.P.Ports.heard c.args.ports.now)
-    (g.P.Ports.polls c.args.ports.now) (g.P.Ports.tries c.args.ports.now) c.args.clock.now)
-    (outside (g.P.Ports.terms c.offer.new.self) (g.P.Ports.ends c.offer.new.self) (g.P.Ports.at_hand c.offer.new.self) (g.P.Ports.heard c.offer.new.self) (g.P.Ports.polls c.offer.new.self)
-    (g.P.Ports.tries c.offer.new.self) c.offer.new.clock) (Some (record { event = event.Offer c.args.link c.in-Offered.number c.in_ok-payload.payload; stamp = c.in-Offered.stamp })) c.args.link
+    (offer_called (outside (g.P.Ports.told c.args.ports.now) c.args.clock.now)
+    (outside (g.P.Ports.told c.offer.new.self) c.offer.new.clock) (Some
+    (record { event = event.Offer c.args.link c.in-Offered.number c.in_ok-payload.payload; stamp = c.in-Offered.stamp })) c.args.link
     c.in-Offered.ensures.tells c.in-Offered.ensures.hand c.in-Offered.ensures.terms c.in-Offered.ensures.polls c.in-Offered.ensures.tries) c.offered.new.self
     (subst (λ (p : Payload). HasCome c.make_room.new.self (event.Offer c.args.link c.in-Offered.number p) c.in-Offered.stamp c.offered.new.self) c.in_ok-copy.ensures c.offered.ensures.come)
     c.offered.ensures.less c.offered.ensures.run
 
 pub returns-in-Offered-clause-tried : goal.returns-in-Offered-clause-tried
-returns-in-Offered-clause-tried g c = λ some. counts_here (g.P.Ports.tries c.args.ports.now) (g.P.Ports.tries c.offer.new.self) c.args.link c.in-Offered.ensures.tries
+returns-in-Offered-clause-tried g c = λ some. counts_here (g.P.Ports.told c.args.ports.now).tries (g.P.Ports.told c.offer.new.self).tries c.args.link c.in-Offered.ensures.tries
 
 pub returns-in-Offered-clause-slot : goal.returns-in-Offered-clause-slot
-returns-in-Offered-clause-slot g c = λ e same some room. absurd (told_moves (outside (g.P.Ports.terms c.args.ports.now) (g.P.Ports.ends c.args.ports.now) (g.P.Ports.at_hand c.args.ports.now)
-    (g.P.Ports.heard c.args.ports.now) (g.P.Ports.polls c.args.ports.now) (g.P.Ports.tries c.args.ports.now) c.args.clock.now)
-    (outside (g.P.Ports.terms c.offer.new.self) (g.P.Ports.ends c.offer.new.self) (g.P.Ports.at_hand c.offer.new.self) (g.P.Ports.heard c.offer.new.self) (g.P.Ports.polls c.offer.new.self)
-    (g.P.Ports.tries c.offer.new.self) c.offer.new.clock) (record { event = event.Offer c.args.link c.in-Offered.number c.in_ok-payload.payload; stamp = c.in-Offered.stamp })
-    (offer_called (outside (g.P.Ports.terms c.args.ports.now) (g.P.Ports.ends c.args.ports.now) (g.P.Ports.at_hand c.args.ports.now) (g.P.Ports.heard c.args.ports.now)
-    (g.P.Ports.polls c.args.ports.now) (g.P.Ports.tries c.args.ports.now) c.args.clock.now)
-    (outside (g.P.Ports.terms c.offer.new.self) (g.P.Ports.ends c.offer.new.self) (g.P.Ports.at_hand c.offer.new.self) (g.P.Ports.heard c.offer.new.self) (g.P.Ports.polls c.offer.new.self)
-    (g.P.Ports.tries c.offer.new.self) c.offer.new.clock) (Some (record { event = event.Offer c.args.link c.in-Offered.number c.in_ok-payload.payload; stamp = c.in-Offered.stamp })) c.args.link
+returns-in-Offered-clause-slot g c = λ e same some room. absurd (told_moves (outside (g.P.Ports.told c.args.ports.now) c.args.clock.now)
+    (outside (g.P.Ports.told c.offer.new.self) c.offer.new.clock) (record { event = event.Offer c.args.link c.in-Offered.number c.in_ok-payload.payload; stamp = c.in-Offered.stamp })
+    (offer_called (outside (g.P.Ports.told c.args.ports.now) c.args.clock.now)
+    (outside (g.P.Ports.told c.offer.new.self) c.offer.new.clock) (Some
+    (record { event = event.Offer c.args.link c.in-Offered.number c.in_ok-payload.payload; stamp = c.in-Offered.stamp })) c.args.link
     c.in-Offered.ensures.tells c.in-Offered.ensures.hand c.in-Offered.ensures.terms c.in-Offered.ensures.polls c.in-Offered.ensures.tries) same)
 
 pub returns-in-NoRoom-clause-looks : goal.returns-in-NoRoom-clause-looks
 returns-in-NoRoom-clause-looks g c = nothing_looks c.args.machine.now c.make_room.new.self _ c.requires.in_step c.requires.point c.make_room.ensures.same c.make_room.ensures.state
-    c.make_room.ensures.run _ (offer_called (outside (g.P.Ports.terms c.args.ports.now) (g.P.Ports.ends c.args.ports.now) (g.P.Ports.at_hand c.args.ports.now) (g.P.Ports.heard c.args.ports.now)
-    (g.P.Ports.polls c.args.ports.now) (g.P.Ports.tries c.args.ports.now) c.args.clock.now)
-    (outside (g.P.Ports.terms c.offer.new.self) (g.P.Ports.ends c.offer.new.self) (g.P.Ports.at_hand c.offer.new.self) (g.P.Ports.heard c.offer.new.self) (g.P.Ports.polls c.offer.new.self)
-    (g.P.Ports.tries c.offer.new.self) c.offer.new.clock) None c.args.link
+    c.make_room.ensures.run _ (offer_called (outside (g.P.Ports.told c.args.ports.now) c.args.clock.now)
+    (outside (g.P.Ports.told c.offer.new.self) c.offer.new.clock) None c.args.link
     c.in-NoRoom.ensures.tells c.in-NoRoom.ensures.hand c.in-NoRoom.ensures.terms c.in-NoRoom.ensures.polls c.in-NoRoom.ensures.tries)
 
 pub returns-in-NoRoom-clause-tried : goal.returns-in-NoRoom-clause-tried
-returns-in-NoRoom-clause-tried g c = λ some. counts_here (g.P.Ports.tries c.args.ports.now) (g.P.Ports.tries c.offer.new.self) c.args.link c.in-NoRoom.ensures.tries
+returns-in-NoRoom-clause-tried g c = λ some. counts_here (g.P.Ports.told c.args.ports.now).tries (g.P.Ports.told c.offer.new.self).tries c.args.link c.in-NoRoom.ensures.tries
 
 pub returns-in-NotYet-clause-looks : goal.returns-in-NotYet-clause-looks
 returns-in-NotYet-clause-looks g c = nothing_looks c.args.machine.now c.make_room.new.self _ c.requires.in_step c.requires.point c.make_room.ensures.same c.make_room.ensures.state
-    c.make_room.ensures.run _ (offer_called (outside (g.P.Ports.terms c.args.ports.now) (g.P.Ports.ends c.args.ports.now) (g.P.Ports.at_hand c.args.ports.now) (g.P.Ports.heard c.args.ports.now)
-    (g.P.Ports.polls c.args.ports.now) (g.P.Ports.tries c.args.ports.now) c.args.clock.now)
-    (outside (g.P.Ports.terms c.offer.new.self) (g.P.Ports.ends c.offer.new.self) (g.P.Ports.at_hand c.offer.new.self) (g.P.Ports.heard c.offer.new.self) (g.P.Ports.polls c.offer.new.self)
-    (g.P.Ports.tries c.offer.new.self) c.offer.new.clock) None c.args.link
+    c.make_room.ensures.run _ (offer_called (outside (g.P.Ports.told c.args.ports.now) c.args.clock.now)
+    (outside (g.P.Ports.told c.offer.new.self) c.offer.new.clock) None c.args.link
     c.in-NotYet.ensures.tells c.in-NotYet.ensures.hand c.in-NotYet.ensures.terms c.in-NotYet.ensures.polls c.in-NotYet.ensures.tries)
 
 pub returns-in-NotYet-clause-tried : goal.returns-in-NotYet-clause-tried
-returns-in-NotYet-clause-tried g c = λ some. counts_here (g.P.Ports.tries c.args.ports.now) (g.P.Ports.tries c.offer.new.self) c.args.link c.in-NotYet.ensures.tries
+returns-in-NotYet-clause-tried g c = λ some. counts_here (g.P.Ports.told c.args.ports.now).tries (g.P.Ports.told c.offer.new.self).tries c.args.link c.in-NotYet.ensures.tries
 
 pub returns-in-ClockFull-clause-looks : goal.returns-in-ClockFull-clause-looks
 returns-in-ClockFull-clause-looks g c = nothing_looks c.args.machine.now c.make_room.new.self _ c.requires.in_step c.requires.point c.make_room.ensures.same c.make_room.ensures.state
-    c.make_room.ensures.run _ (offer_called (outside (g.P.Ports.terms c.args.ports.now) (g.P.Ports.ends c.args.ports.now) (g.P.Ports.at_hand c.args.ports.now) (g.P.Ports.heard c.args.ports.now)
-    (g.P.Ports.polls c.args.ports.now) (g.P.Ports.tries c.args.ports.now) c.args.clock.now)
-    (outside (g.P.Ports.terms c.offer.new.self) (g.P.Ports.ends c.offer.new.self) (g.P.Ports.at_hand c.offer.new.self) (g.P.Ports.heard c.offer.new.self) (g.P.Ports.polls c.offer.new.self)
-    (g.P.Ports.tries c.offer.new.self) c.offer.new.clock) None c.args.link
+    c.make_room.ensures.run _ (offer_called (outside (g.P.Ports.told c.args.ports.now) c.args.clock.now)
+    (outside (g.P.Ports.told c.offer.new.self) c.offer.new.clock) None c.args.link
     c.in-ClockFull.ensures.tells c.in-ClockFull.ensures.hand c.in-ClockFull.ensures.terms c.in-ClockFull.ensures.polls c.in-ClockFull.ensures.tries)
 
 pub returns-in-ClockFull-clause-tried : goal.returns-in-ClockFull-clause-tried
-returns-in-ClockFull-clause-tried g c = λ some. counts_here (g.P.Ports.tries c.args.ports.now) (g.P.Ports.tries c.offer.new.self) c.args.link c.in-ClockFull.ensures.tries
+returns-in-ClockFull-clause-tried g c = λ some. counts_here (g.P.Ports.told c.args.ports.now).tries (g.P.Ports.told c.offer.new.self).tries c.args.link c.in-ClockFull.ensures.tries
 
 pub returns-in-NoRoom-clause-slot : goal.returns-in-NoRoom-clause-slot
 returns-in-NoRoom-clause-slot g c = λ e same some room.
-    let was = subst (λ x. has_room (x c.args.link) (g.P.Ports.ends c.offer.new.self c.args.link) ≡ true) c.in-NoRoom.ensures.terms room in
-    let now = subst (λ x. has_room (g.P.Ports.terms c.args.ports.now c.args.link) (x c.args.link) ≡ true) c.in-NoRoom.ensures.tells.0 was in
+    let was = subst (λ x. has_room (x c.args.link) ((g.P.Ports.told c.offer.new.self).ends c.args.link) ≡ true) c.in-NoRoom.ensures.terms room in
+    let now = subst (λ x. has_room ((g.P.Ports.told c.args.ports.now).terms c.args.link) (x c.args.link) ≡ true) c.in-NoRoom.ensures.tells.0 was in
     let no : true ≡ false = sym now ∙ c.in-NoRoom.ensures.answer.1 in
     absurd (cc)
 
@@ -138,7 +128,5 @@ returns-in-NotYet-clause-slot g c = λ e same some room. ap (λ (f : ℕ → AtH
 
 pub returns-in-ClockFull-clause-heard : goal.returns-in-ClockFull-clause-heard
 returns-in-ClockFull-clause-heard g c = λ e. full_of_offers
-    (outside (g.P.Ports.terms c.args.ports.now) (g.P.Ports.ends c.args.ports.now) (g.P.Ports.at_hand c.args.ports.now) (g.P.Ports.heard c.args.ports.now)
-    (g.P.Ports.polls c.args.ports.now) (g.P.Ports.tries c.args.ports.now) c.args.clock.now)
-    (outside (g.P.Ports.terms c.offer.new.self) (g.P.Ports.ends c.offer.new.self) (g.P.Ports.at_hand c.offer.new.self) (g.P.Ports.heard c.offer.new.self) (g.P.Ports.polls c.offer.new.self)
-    (g.P.Ports.tries c.offer.new.self) c.offer.new.clock) c.args.link c.in-ClockFull.ensures.tells.1 c.in-ClockFull.ensures.answer.2
+    (outside (g.P.Ports.told c.args.ports.now) c.args.clock.now)
+    (outside (g.P.Ports.told c.offer.new.self) c.offer.new.clock) c.args.link c.in-ClockFull.ensures.tells.1 c.in-ClockFull.ensures.answer.2

@@ -5,19 +5,18 @@ use Rattle.core_driver.specs.inner.Outside.{outside}
 use Rattle.core_driver.specs.inner.Rounds.{is_seen_full}
 use Rattle.core_driver.proofs.Together.{holds_still, holds_then, same_later}
 use Rattle.core_driver.proofs.Looking.{full_never, full_next, or_none}
+use Rattle.core_driver.proofs.Polling.{polled_none, polled_then}
 use Rattle.core_driver.proofs.Resting.{end_is_no_full_clock, end_is_not_full, end_is_not_idle, falls_on, falls_quiet, leaves_nothing, looked_more, looked_none, paused_at, times_is}
 use Rattle.core_driver.proofs.rounds.advance_by.Goals as goal
 
 pub turns-init : goal.turns-init
 turns-init g c = record {
   holds = holds_still _ _ c.requires.in_step;
+  polled = polled_none c.args.machine.now (g.P.Ports.told c.args.ports.now).polls;
   full = refl;
   quiet = c.requires.some;
-  looked = looked_none c.args.machine.now (outside (g.P.Ports.terms c.args.ports.now) (g.P.Ports.ends c.args.ports.now) (g.P.Ports.at_hand c.args.ports.now) (g.P.Ports.heard c.args.ports.now)
-      (g.P.Ports.polls c.args.ports.now) (g.P.Ports.tries c.args.ports.now) c.args.clock.now)
-      (outside (g.P.Ports.terms c.args.ports.now) (g.P.Ports.ends c.args.ports.now) (g.P.Ports.at_hand c.args.ports.now) (g.P.Ports.heard c.args.ports.now) (g.P.Ports.polls c.args.ports.now)
-      (g.P.Ports.tries c.args.ports.now) c.args.clock.now) (same_later (outside (g.P.Ports.terms c.args.ports.now) (g.P.Ports.ends c.args.ports.now) (g.P.Ports.at_hand c.args.ports.now)
-      (g.P.Ports.heard c.args.ports.now) (g.P.Ports.polls c.args.ports.now) (g.P.Ports.tries c.args.ports.now) c.args.clock.now));
+  looked = looked_none c.args.machine.now (outside (g.P.Ports.told c.args.ports.now) c.args.clock.now)
+      (outside (g.P.Ports.told c.args.ports.now) c.args.clock.now) (same_later (outside (g.P.Ports.told c.args.ports.now) c.args.clock.now));
   stays = g.met.P.Ports.stays_self c.args.ports.now;
 }
 
@@ -37,7 +36,7 @@ pub returns-in-Some-clause-pause : goal.returns-in-Some-clause-pause
 returns-in-Some-clause-pause g c = rw c.pause_of.ensures (paused_at _ c.in-Some.ending c.in-Some.ensures.ended)
 
 pub returns-in-Some-clause-full : goal.returns-in-Some-clause-full
-returns-in-Some-clause-full g c = c.turns.invariant.full ∙ or_none _ ∙ ap (λ b. g.P.Ports.full c.args.ports.now || b)
+returns-in-Some-clause-full g c = c.turns.invariant.full ∙ or_none _ ∙ ap (λ b. (g.P.Ports.told c.args.ports.now).full || b)
     (sym (ap is_clock_full c.pause_of.ensures ∙ end_is_not_full c.in-Some.ending))
 
 pub returns-in-Some-clause-heard : goal.returns-in-Some-clause-heard
@@ -68,7 +67,7 @@ pub returns-in-Full-clause-pause : goal.returns-in-Full-clause-pause
 returns-in-Full-clause-pause g c = let came = (rw c.in-Full.is at c.in_ok-seen.ensures.came) in came.going
 
 pub returns-in-Full-clause-full : goal.returns-in-Full-clause-full
-returns-in-Full-clause-full g c = full_next _ _ _ _ c.turns.invariant.full (c.in_ok-seen.ensures.full ∙ ap (λ b. g.P.Ports.full c.turns.ports || b) (ap is_seen_full c.in-Full.is))
+returns-in-Full-clause-full g c = full_next _ _ _ _ c.turns.invariant.full (c.in_ok-seen.ensures.full ∙ ap (λ b. (g.P.Ports.told c.turns.ports).full || b) (ap is_seen_full c.in-Full.is))
 
 pub returns-in-Full-clause-heard : goal.returns-in-Full-clause-heard
 returns-in-Full-clause-heard g c = λ e. let came = (rw c.in-Full.is at c.in_ok-seen.ensures.came) in came.full
@@ -79,6 +78,8 @@ returns-in-Full-clause-stays g c = g.met.P.Ports.stays_then c.args.ports.now c.t
 pub turns-preserved-in-WentOn : goal.turns-preserved-in-WentOn
 turns-preserved-in-WentOn g c = record {
   holds = holds_then c.args.machine.now c.turns.machine c.next_stretch.new.machine _ _ _ c.turns.invariant.holds c.next_stretch.ensures.holds;
+  polled = polled_then c.args.machine.now c.turns.machine c.next_stretch.new.machine _ _ _ c.turns.invariant.polled c.next_stretch.ensures.polled c.next_stretch.ensures.holds.machine
+      c.turns.invariant.holds.in_step.run c.in_default.ensures.ended;
   full = full_never _ _ _ _ c.turns.invariant.full c.in_ok-seen.ensures.full (ap is_seen_full c.in-WentOn.is);
   quiet = c.requires.some;
   looked = looked_none c.next_stretch.new.machine _ _ (holds_then c.args.machine.now c.turns.machine c.next_stretch.new.machine _ _ _ c.turns.invariant.holds
@@ -93,13 +94,12 @@ turns-smaller-in-WentOn g c = let came = (rw c.in-WentOn.is at c.in_ok-seen.ensu
 pub turns-preserved : goal.turns-preserved
 turns-preserved g c = record {
   holds = holds_then c.args.machine.now c.turns.machine c.next_stretch.new.machine _ _ _ c.turns.invariant.holds c.next_stretch.ensures.holds;
+  polled = polled_then c.args.machine.now c.turns.machine c.next_stretch.new.machine _ _ _ c.turns.invariant.polled c.next_stretch.ensures.polled c.next_stretch.ensures.holds.machine
+      c.turns.invariant.holds.in_step.run c.in_default.ensures.ended;
   full = full_never _ _ _ _ c.turns.invariant.full c.in_ok-seen.ensures.full (ap is_seen_full c.in-Nothing.is);
   quiet = let low = c.turns.invariant.quiet in let other = c.if-quiet-polls.false in omega (arith, low, other);
-  looked = looked_more c.turns.quiet c.turns.machine c.next_stretch.new.machine (outside (g.P.Ports.terms c.args.ports.now) (g.P.Ports.ends c.args.ports.now) (g.P.Ports.at_hand c.args.ports.now)
-      (g.P.Ports.heard c.args.ports.now) (g.P.Ports.polls c.args.ports.now) (g.P.Ports.tries c.args.ports.now) c.args.clock.now)
-      (outside (g.P.Ports.terms c.turns.ports) (g.P.Ports.ends c.turns.ports) (g.P.Ports.at_hand c.turns.ports) (g.P.Ports.heard c.turns.ports) (g.P.Ports.polls c.turns.ports)
-      (g.P.Ports.tries c.turns.ports) c.turns.clock) (outside (g.P.Ports.terms c.next_stretch.new.ports) (g.P.Ports.ends c.next_stretch.new.ports) (g.P.Ports.at_hand c.next_stretch.new.ports)
-      (g.P.Ports.heard c.next_stretch.new.ports) (g.P.Ports.polls c.next_stretch.new.ports) (g.P.Ports.tries c.next_stretch.new.ports) c.next_stretch.new.clock) c.turns.invariant.looked
+  looked = looked_more c.turns.quiet c.turns.machine c.next_stretch.new.machine (outside (g.P.Ports.told c.args.ports.now) c.args.clock.now)
+      (outside (g.P.Ports.told c.turns.ports) c.turns.clock) (outside (g.P.Ports.told c.next_stretch.new.ports) c.next_stretch.new.clock) c.turns.invariant.looked
       c.next_stretch.ensures.holds (rw c.in-Nothing.is at c.in_ok-seen.ensures.came);
   stays = g.met.P.Ports.stays_then c.args.ports.now c.turns.ports c.next_stretch.new.ports c.turns.invariant.stays c.next_stretch.ensures.stays;
 }
@@ -122,12 +122,27 @@ returns-then-quiet-polls-clause-idle g c = λ e. leaves_nothing c.turns.machine 
 
 pub returns-then-quiet-polls-clause-looked : goal.returns-then-quiet-polls-clause-looked
 returns-then-quiet-polls-clause-looked g c = λ e. times_is _ _ c.next_stretch.new.machine _ _ _ _ c.if-quiet-polls.true
-    (looked_more c.turns.quiet c.turns.machine c.next_stretch.new.machine (outside (g.P.Ports.terms c.args.ports.now) (g.P.Ports.ends c.args.ports.now) (g.P.Ports.at_hand c.args.ports.now)
-    (g.P.Ports.heard c.args.ports.now) (g.P.Ports.polls c.args.ports.now) (g.P.Ports.tries c.args.ports.now) c.args.clock.now)
-    (outside (g.P.Ports.terms c.turns.ports) (g.P.Ports.ends c.turns.ports) (g.P.Ports.at_hand c.turns.ports) (g.P.Ports.heard c.turns.ports) (g.P.Ports.polls c.turns.ports)
-    (g.P.Ports.tries c.turns.ports) c.turns.clock) (outside (g.P.Ports.terms c.next_stretch.new.ports) (g.P.Ports.ends c.next_stretch.new.ports) (g.P.Ports.at_hand c.next_stretch.new.ports)
-    (g.P.Ports.heard c.next_stretch.new.ports) (g.P.Ports.polls c.next_stretch.new.ports) (g.P.Ports.tries c.next_stretch.new.ports) c.next_stretch.new.clock) c.turns.invariant.looked
+    (looked_more c.turns.quiet c.turns.machine c.next_stretch.new.machine (outside (g.P.Ports.told c.args.ports.now) c.args.clock.now)
+    (outside (g.P.Ports.told c.turns.ports) c.turns.clock) (outside (g.P.Ports.told c.next_stretch.new.ports) c.next_stretch.new.clock) c.turns.invariant.looked
     c.next_stretch.ensures.holds (rw c.in-Nothing.is at c.in_ok-seen.ensures.came))
 
 pub returns-then-quiet-polls-clause-stays : goal.returns-then-quiet-polls-clause-stays
 returns-then-quiet-polls-clause-stays g c = g.met.P.Ports.stays_then c.args.ports.now c.turns.ports c.next_stretch.new.ports c.turns.invariant.stays c.next_stretch.ensures.stays
+
+pub returns-in-Some-clause-polled : goal.returns-in-Some-clause-polled
+returns-in-Some-clause-polled g c = c.turns.invariant.polled
+
+pub returns-in_err-seen-clause-polled : goal.returns-in_err-seen-clause-polled
+returns-in_err-seen-clause-polled g c = polled_then c.args.machine.now c.turns.machine c.next_stretch.new.machine _ _ _ c.turns.invariant.polled c.next_stretch.ensures.polled
+    c.next_stretch.ensures.holds.machine
+    c.turns.invariant.holds.in_step.run c.in_default.ensures.ended
+
+pub returns-in-Full-clause-polled : goal.returns-in-Full-clause-polled
+returns-in-Full-clause-polled g c = polled_then c.args.machine.now c.turns.machine c.next_stretch.new.machine _ _ _ c.turns.invariant.polled c.next_stretch.ensures.polled
+    c.next_stretch.ensures.holds.machine
+    c.turns.invariant.holds.in_step.run c.in_default.ensures.ended
+
+pub returns-then-quiet-polls-clause-polled : goal.returns-then-quiet-polls-clause-polled
+returns-then-quiet-polls-clause-polled g c = polled_then c.args.machine.now c.turns.machine c.next_stretch.new.machine _ _ _ c.turns.invariant.polled c.next_stretch.ensures.polled
+    c.next_stretch.ensures.holds.machine
+    c.turns.invariant.holds.in_step.run c.in_default.ensures.ended

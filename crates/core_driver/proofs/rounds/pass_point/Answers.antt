@@ -1,6 +1,7 @@
 use Rattle.std.proofs.Common.{◌≡◌, refl, sym, ◌∙◌}
 use Rattle.core_driver.proofs.Together.{holds_then, still_going, turn_holds}
 use Rattle.core_driver.proofs.Deciding.{asks_nothing}
+use Rattle.core_driver.proofs.Polling.{polled_by_look, polled_by_point}
 use Rattle.core_driver.proofs.Looking.{full_never, or_none}
 use Rattle.core_driver.proofs.Resting.{less_by_entry, less_by_move}
 use Rattle.std.proofs.lemmas.Result.{err_from_is_err_and}
@@ -74,3 +75,23 @@ returns-in_err-turn-clause-holds g c = holds_then c.args.machine.now c.look_roun
 pub returns-in_err-turn-clause-full : goal.returns-in_err-turn-clause-full
 returns-in_err-turn-clause-full g c = let p = err_from_is_err_and c.from_residual-in_err-turn.result c.from_residual-in_err-turn.ensures.1 in rw p.1
     (full_never _ _ _ _ refl c.in_ok-full.ensures.full c.if-full.false)
+
+pub returns-in_err-full-clause-polled : goal.returns-in_err-full-clause-polled
+returns-in_err-full-clause-polled g c = polled_by_look c.args.machine.now c.look_round.new.machine _ _ c.look_round.ensures.looks
+
+pub returns-then-full-clause-polled : goal.returns-then-full-clause-polled
+returns-then-full-clause-polled g c = polled_by_look c.args.machine.now c.look_round.new.machine _ _ c.look_round.ensures.looks
+
+pub returns-then-after-before-clause-polled : goal.returns-then-after-before-clause-polled
+returns-then-after-before-clause-polled g c = polled_by_look c.args.machine.now c.look_round.new.machine _ _ c.look_round.ensures.looks
+
+pub returns-then-idle-clause-polled : goal.returns-then-idle-clause-polled
+returns-then-idle-clause-polled g c = polled_by_look c.args.machine.now c.look_round.new.machine _ _ c.look_round.ensures.looks
+
+pub returns-clause-polled : goal.returns-clause-polled
+returns-clause-polled g c = polled_by_point c.args.machine.now c.look_round.new.machine c.turn.new.self _ _ c.look_round.ensures.looks (c.in_ok-full.ensures.looked c.if-full.false)
+    c.turn.ensures.same c.turn.ensures.passes
+
+pub returns-in_err-turn-clause-polled : goal.returns-in_err-turn-clause-polled
+returns-in_err-turn-clause-polled g c = polled_by_point c.args.machine.now c.look_round.new.machine c.turn.new.self _ _ c.look_round.ensures.looks (c.in_ok-full.ensures.looked c.if-full.false)
+    c.turn.ensures.same c.turn.ensures.passes

@@ -20,13 +20,14 @@ loop-seat-preserved g c =
     let at = c.loop-seat in
     let x = c.in-Some.seat in
     let steps : into_iter_items at.seat-iterator ≡ x ∷ into_iter_items c.next.new.self = c.in-Some.ensures.steps.0 in
-    let more = cores_more g.C.Core.seen at.yielded (x ∷ []) in
+    let more = cores_more g.C.BoundedCore.seen at.yielded (x ∷ []) in
     record {
       left = append_assoc at.yielded (x ∷ []) _ ∙ rw (← steps) at.invariant.left;
       count = let was = at.invariant.count in let gone = c.in-Some.ensures.steps.1 in let short = ap length steps in omega arith;
-      journals = one_more (λ (v : CoreView). v.journal) (cores_at g.C.Core.seen at.yielded) (cores_at g.C.Core.seen (x ∷ [])) _ (map entries_of at.journals) _ c.in_ok-keep.ensures.journals
+      journals = one_more (λ (v : CoreView). v.journal) (cores_at g.C.BoundedCore.seen at.yielded) (cores_at g.C.BoundedCore.seen (x ∷ [])) _
+          (map entries_of at.journals) _ c.in_ok-keep.ensures.journals
           at.invariant.journals more;
-      ends = one_more (λ (v : CoreView). v.end) (cores_at g.C.Core.seen at.yielded) (cores_at g.C.Core.seen (x ∷ [])) _ at.cores _ c.in_ok-keep.ensures.ends at.invariant.ends more;
+      ends = one_more (λ (v : CoreView). v.end) (cores_at g.C.BoundedCore.seen at.yielded) (cores_at g.C.BoundedCore.seen (x ∷ [])) _ at.cores _ c.in_ok-keep.ensures.ends at.invariant.ends more;
     }
 
 pub returns : goal.returns
@@ -39,7 +40,7 @@ returns g c =
       steps = refl;
       start = refl;
       journals = ap (map entries_of) c.in_ok-push.ensures.ok ∙ map-append entries_of at.journals (c.into_journal.result ∷ [])
-          ∙ ap (λ js. js ++ entries_of c.into_journal.result ∷ []) (at.invariant.journals ∙ ap (λ seats. map (λ (v : CoreView). v.journal) (cores_at g.C.Core.seen seats)) all)
-          ∙ ap (λ (j : List Entry). map (λ (v : CoreView). v.journal) (cores_at g.C.Core.seen c.args.seats.items) ++ j ∷ []) c.into_journal.ensures;
-      ends = at.invariant.ends ∙ ap (λ seats. map (λ (v : CoreView). v.end) (cores_at g.C.Core.seen seats)) all;
+          ∙ ap (λ js. js ++ entries_of c.into_journal.result ∷ []) (at.invariant.journals ∙ ap (λ seats. map (λ (v : CoreView). v.journal) (cores_at g.C.BoundedCore.seen seats)) all)
+          ∙ ap (λ (j : List Entry). map (λ (v : CoreView). v.journal) (cores_at g.C.BoundedCore.seen c.args.seats.items) ++ j ∷ []) c.into_journal.ensures;
+      ends = at.invariant.ends ∙ ap (λ seats. map (λ (v : CoreView). v.end) (cores_at g.C.BoundedCore.seen seats)) all;
     }

@@ -1,7 +1,7 @@
 use Rattle.std.proofs.Common.{◌∙◌, ap, length, map, suc, sym, subst}
 use Rattle.std.specs.Prelude.{nat_eq}
 use Rattle.std.specs.List.{AllByRecursion, IsDistinct}
-use Rattle.in_turn.specs.Parties.{AreReady, is_one_of}
+use Rattle.round_robin.specs.Parties.{AreReady, is_one_of}
 use Rattle.core_runner.specs.inner.Boards.{Loans, board_of}
 use Rattle.core_runner.specs.inner.Changes.{BoardChanged}
 use Rattle.core_runner.specs.inner.Seats.{number_of, Sits, RestsAt}
@@ -11,7 +11,7 @@ use Rattle.core_runner.proofs.running.go_on_all.Goals as goal
 
 pub run_in_turn-requires : goal.run_in_turn-requires
 run_in_turn-requires g c =
-    subst (λ seats. AreReady number_of (λ seat network. Sits g.C.Core.seen seat (board_of g.D.Disk.told network)) seats c.args.network.now) (sym c.as_mut_slice.ensures.value) (record {
+    subst (λ seats. AreReady number_of (λ seat network. Sits g.C.BoundedCore.seen seat (board_of g.D.Disk.told network)) seats c.args.network.now) (sym c.as_mut_slice.ensures.value) (record {
       distinct = subst (IsDistinct nat_eq) (sym c.requires.numbers) (in_order_are_distinct 0 (suc (length c.args.network.now.code.now.entries)));
       agree = c.requires.sit;
     })
@@ -21,12 +21,12 @@ returns-clause-numbers g c = ap (map number_of) (given_back c.args.seats.now.len
     c.as_mut_slice.ensures.len) ∙ c.run_in_turn.ensures.numbers ∙ ap (map number_of) c.as_mut_slice.ensures.value
 
 pub returns-clause-sit : goal.returns-clause-sit
-returns-clause-sit g c = subst (AllByRecursion (λ seat. Sits g.C.Core.seen seat (board_of g.D.Disk.told c.run_in_turn.new.shared))) (sym
+returns-clause-sit g c = subst (AllByRecursion (λ seat. Sits g.C.BoundedCore.seen seat (board_of g.D.Disk.told c.run_in_turn.new.shared))) (sym
     (given_back c.args.seats.now.len c.run_in_turn.new.parties c.args.seats.now.items c.as_mut_slice.result.now c.run_in_turn.auto.parties c.as_mut_slice.ensures.len))
     c.run_in_turn.ensures.ready.agree
 
 pub returns-clause-rest : goal.returns-clause-rest
-returns-clause-rest g c = where_all c.run_in_turn.result _ _ (subst (AllByRecursion (λ seat. RestsAt g.C.Core.seen seat (board_of g.D.Disk.told c.run_in_turn.new.shared))) (sym
+returns-clause-rest g c = where_all c.run_in_turn.result _ _ (subst (AllByRecursion (λ seat. RestsAt g.C.BoundedCore.seen seat (board_of g.D.Disk.told c.run_in_turn.new.shared))) (sym
     (given_back c.args.seats.now.len c.run_in_turn.new.parties c.args.seats.now.items c.as_mut_slice.result.now c.run_in_turn.auto.parties c.as_mut_slice.ensures.len))) c.run_in_turn.ensures.rest
 
 pub returns-clause-changed : goal.returns-clause-changed

@@ -1,9 +1,9 @@
 use Rattle.std.proofs.Common.{ℕ, ◌<◌, ◌+◌, ◌∙◌, List, length, map, sym, ap, subst, arith}
 use Rattle.std.specs.Prelude.{◌^◌}
 use Rattle.stack_code.specs.declared.parts.ChannelEnds.{ChannelEnds}
-use Rattle.in_turn.specs.Parties.{is_one_of}
+use Rattle.round_robin.specs.Parties.{is_one_of}
 use Rattle.core_runner.specs.Seen.{view_of}
-use Rattle.core_runner.specs.DiskLeft.{LeavesDisk}
+use Rattle.program_run.specs.DiskLeft.{LeavesDisk}
 use Rattle.core_runner.specs.Laws.{IsRunOfCores}
 use Rattle.core_runner.specs.inner.Seats.{number_of, cores_at}
 use Rattle.core_runner.proofs.Starting.{new_board, all_seated, all_numbers, worker_at_work}
@@ -31,8 +31,14 @@ returns-in_err-go_on_all-clause-bound g c = ap (λ d. (g.D.Disk.told d).bound) (
 pub returns-clause-ready : goal.returns-clause-ready
 returns-clause-ready g c = ap (λ d. (g.D.Disk.told d).is_ready) (c.disk-1.given.1 (sym c.in_ok-go_on_all.ensures.disk)) ∙ c.in_ok-go_on_all.ensures.changed.works.is_ready
 
+pub returns-clause-binds : goal.returns-clause-binds
+returns-clause-binds g c = ap (λ d. (g.D.Disk.told d).binds) (c.disk-1.given.1 (sym c.in_ok-go_on_all.ensures.disk)) ∙ c.in_ok-go_on_all.ensures.changed.works.binds
+
 pub returns-in_err-go_on_all-clause-ready : goal.returns-in_err-go_on_all-clause-ready
 returns-in_err-go_on_all-clause-ready g c = ap (λ d. (g.D.Disk.told d).is_ready) (c.disk-1.given.1 (sym c.in_err-go_on_all.ensures.disk)) ∙ c.in_err-go_on_all.ensures.changed.works.is_ready
+
+pub returns-in_err-go_on_all-clause-binds : goal.returns-in_err-go_on_all-clause-binds
+returns-in_err-go_on_all-clause-binds g c = ap (λ d. (g.D.Disk.told d).binds) (c.disk-1.given.1 (sym c.in_err-go_on_all.ensures.disk)) ∙ c.in_err-go_on_all.ensures.changed.works.binds
 
 pub go_on_all-requires-clause-numbers : goal.go_on_all-requires-clause-numbers
 go_on_all-requires-clause-numbers g c = all_numbers view_of c.args.code.now c.args.steps 0 (length c.args.code.now.entries) c.in_ok-seats.seats.items (omega arith) c.in_ok-seats.ensures

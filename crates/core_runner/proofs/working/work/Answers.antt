@@ -1,5 +1,5 @@
 use Rattle.std.proofs.Common.{arith, nat_eq}
-use Rattle.in_turn.specs.Parties.{nobody}
+use Rattle.round_robin.specs.Parties.{nobody}
 use Rattle.core_runner.specs.inner.Boards.{board_of}
 use Rattle.core_runner.specs.inner.Keeping.{board_unchanged, board_in_a_row}
 use Rattle.core_runner.proofs.AtWork.{further, fewer_left, none_before}

@@ -1,5 +1,5 @@
 use Rattle.std.proofs.Common.{◌≡◌, ◌≤◌, ◌-◌, ◌^◌, false, nat_eq, nat_lt}
-use Rattle.in_turn.specs.Parties.{nobody}
+use Rattle.round_robin.specs.Parties.{nobody}
 use Rattle.core_runner.specs.inner.Boards.{board_of}
 use Rattle.core_runner.specs.inner.Changes.{BoardChanged}
 use Rattle.core_runner.specs.inner.Seats.{IsAtWork}

@@ -1,13 +1,13 @@
 use Rattle.std.proofs.Common.{◌≡◌, ℕ, suc, ◌+◌, ◌-◌, ◌<◌, List, ◌∷◌, None, Bool, true, replicate, ap, ◌∙◌, arith}
 use Rattle.std.specs.Prelude.{if◌then◌else◌}
-use Rattle.stack_code.specs.declared.shape.Kind.{Kind}
+use Rattle.stack_code.specs.declared.shape.CellKind.{CellKind}
 use Rattle.stack_code.specs.declared.shape.Want.{Want}
 use Rattle.stack_code.specs.declared.shape.Want.TheVariants as want
 use Rattle.stack_code.specs.Shapes.{taken}
 use Rattle.stack_code.proofs.operands.take_ints.Goals as goal
 
 -- one int less to take
-one_less : (count k : ℕ) (old new : List Kind) (b : Bool) → k < count → b ≡ true → ((wants : List Want) → taken (want.Int ∷ wants) old ≡ (if b then taken wants new else None))
+one_less : (count k : ℕ) (old new : List CellKind) (b : Bool) → k < count → b ≡ true → ((wants : List Want) → taken (want.Int ∷ wants) old ≡ (if b then taken wants new else None))
     → taken (replicate (count - k) want.Int) old ≡ taken (replicate (count - (k + 1)) want.Int) new
 one_less count k old new b lt e h =
     let n : count - k ≡ suc (count - (k + 1)) = omega arith in

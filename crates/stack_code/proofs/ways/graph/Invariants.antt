@@ -1,6 +1,6 @@
 use Rattle.std.proofs.Common.{◌≡◌, ℕ, Some, length}
 use Rattle.std.specs.Prelude.{slice_get}
-use Rattle.way_order.specs.declared.graph.Ways.{Ways}
+use Rattle.graph_ranks.specs.declared.graph.Ways.{Ways}
 use Rattle.stack_code.specs.inner.Quiet.{IsWays}
 use Rattle.stack_code.proofs.ways.graph.Given as goal
 

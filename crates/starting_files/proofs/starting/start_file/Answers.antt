@@ -1,11 +1,11 @@
 use Rattle.std.proofs.Common.{ℕ, List, subst}
 use Rattle.std.specs.Prelude.{IfSome}
 use Rattle.starting_files.specs.Starting.{StartsFile}
-use Rattle.starting_files.proofs.Started.{file_read, named, none_below}
+use Rattle.starting_files.proofs.Started.{file_read, named, none_numbered}
 use Rattle.starting_files.proofs.starting.start_file.Goals as goal
 
-pub returns-in-Ok-2-clause-below : goal.returns-in-Ok-2-clause-below
-returns-in-Ok-2-clause-below g c = none_below _ c.read_whole.result c.read_whole.ensures.below
+pub returns-in-Ok-2-clause-is_number : goal.returns-in-Ok-2-clause-is_number
+returns-in-Ok-2-clause-is_number g c = none_numbered _ c.read_whole.result c.read_whole.ensures.below
 
 pub returns-in-Ok-2-clause-told : goal.returns-in-Ok-2-clause-told
 returns-in-Ok-2-clause-told g c =

@@ -2,6 +2,7 @@ use Rattle.std.proofs.Common.{◌≡◌, true, false, sym, ap, ◌∙◌}
 use Rattle.std.proofs.lemmas.Result.{err_from_is_err_and}
 use Rattle.core_driver.specs.Driven.{Driven}
 use Rattle.core_driver.proofs.Driving.{full_by, heard_by, in_step_by, kept_by, kept_still, later_by, quiet_by}
+use Rattle.core_driver.proofs.Polling.{polled_none, polled_seen}
 use Rattle.core_driver.proofs.driver.Driver.advance.Goals as goal
 
 pub advance_by-requires-clause-in_step : goal.advance_by-requires-clause-in_step
@@ -72,3 +73,12 @@ returns-in_err-pause-clause-for_good g c = λ e. let no : false ≡ true = sym c
 
 pub returns-clause-for_good : goal.returns-clause-for_good
 returns-clause-for_good g c = λ e. let no : false ≡ true = sym c.if-self.false ∙ ap (λ (d : Driven). d.full) c.self.view_is ∙ e in absurd (cc)
+
+pub returns-in_err-pause-clause-polled : goal.returns-in_err-pause-clause-polled
+returns-in_err-pause-clause-polled g c = polled_seen c.self.inside.machine c.advance_by.new.machine c.self.inside.full c.args.self.now _ _ c.self.view_is c.advance_by.ensures.polled
+
+pub returns-clause-polled : goal.returns-clause-polled
+returns-clause-polled g c = polled_seen c.self.inside.machine c.advance_by.new.machine c.self.inside.full c.args.self.now _ _ c.self.view_is c.advance_by.ensures.polled
+
+pub returns-then-self-clause-polled : goal.returns-then-self-clause-polled
+returns-then-self-clause-polled g c = polled_none c.args.self.now.machine (g.P.Ports.told c.args.ports.now).polls

@@ -1,7 +1,7 @@
 use Rattle.std.proofs.Common.{◌≡◌, ◌∙◌, rules, arith, w64, to_z, of_z}
 use Rattle.std.proofs.lemmas.Int.{ints, to_z-of_z}
 use Rattle.core_state.specs.Requests.{bytes_at}
-use Rattle.core_values.proofs.Bytes.{one_read}
+use Rattle.core_operators.proofs.Bytes.{one_read}
 use Rattle.interpreter_state.proofs.memory.Memory.bytes_at.Goals as goal
 
 pub loop-index-preserved : goal.loop-index-preserved

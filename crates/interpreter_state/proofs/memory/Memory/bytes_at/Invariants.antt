@@ -1,6 +1,6 @@
 use Rattle.std.proofs.Common.{◌≡◌, ◌++◌}
 use Rattle.core_state.specs.Requests.{bytes_at}
-use Rattle.core_values.proofs.Bytes.{from_here}
+use Rattle.core_operators.proofs.Bytes.{from_here}
 use Rattle.interpreter_state.proofs.memory.Memory.bytes_at.Given as goal
 
 abbrev pub invariant-loop-index : goal.invariant-loop-index

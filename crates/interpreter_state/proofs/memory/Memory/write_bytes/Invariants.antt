@@ -1,6 +1,6 @@
 use Rattle.std.proofs.Common.{◌≡◌}
 use Rattle.core_state.specs.Requests.{with_bytes_at, bytes_for}
-use Rattle.core_values.proofs.Bytes.{with_others}
+use Rattle.core_operators.proofs.Bytes.{with_others}
 use Rattle.interpreter_state.proofs.memory.Memory.write_bytes.Given as goal
 
 abbrev pub invariant-loop-index : goal.invariant-loop-index

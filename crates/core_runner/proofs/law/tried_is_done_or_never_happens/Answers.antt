@@ -1,5 +1,0 @@
-use Rattle.core_runner.proofs.Outcomes.{done_or_never}
-use Rattle.core_runner.proofs.law.tried_is_done_or_never_happens.Goals as goal
-
-pub returns : goal.returns
-returns c = done_or_never

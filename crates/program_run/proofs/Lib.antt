@@ -1,0 +1,7 @@
+pub mod DiskExamples
+pub mod NamedDeeds
+pub mod NamedRuns
+pub mod Naming
+pub mod Outcomes
+pub mod OutcomesExamples
+pub mod RunExamples
