@@ -8,8 +8,14 @@ mod channels;
 #[cfg(test)]
 mod codes;
 #[cfg(test)]
+mod ends;
+#[cfg(test)]
 mod links;
 #[cfg(test)]
 mod outside;
 #[cfg(test)]
+mod rows;
+#[cfg(test)]
 mod server_text;
+#[cfg(test)]
+mod two_ends;

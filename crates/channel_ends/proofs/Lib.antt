@@ -1,0 +1,16 @@
+pub mod Tables
+pub mod Lists
+pub mod Heard
+pub mod Noting
+pub mod Changes
+pub mod Examples
+pub mod SettledExamples
+pub mod Hearing
+pub mod OneLink
+pub mod Withdrawals
+pub mod Passing
+pub mod Offering
+pub mod Learning
+pub mod Keeping
+pub mod Within
+pub mod Withdrawing

@@ -1,0 +1,10 @@
+pub mod Rings
+pub mod Sending
+pub mod Offers
+pub mod Learns
+pub mod Withdraws
+pub mod Receiving
+pub mod Settled
+pub mod Closing
+pub mod Pairs
+pub mod inner
