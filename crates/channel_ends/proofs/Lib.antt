@@ -5,6 +5,7 @@ pub mod Noting
 pub mod Changes
 pub mod Examples
 pub mod SettledExamples
+pub mod AnswerExamples
 pub mod Hearing
 pub mod OneLink
 pub mod Withdrawals

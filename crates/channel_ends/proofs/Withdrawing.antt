@@ -15,7 +15,7 @@ use Rattle.completion_word.specs.Link.{offer_at}
 use Rattle.completion_word.specs.Seats.{owner_of}
 use Rattle.completion_word.specs.Steps.{after_withdraw, IsOpen, IsWithdrawalAsTold}
 use Rattle.channel_ends.specs.declared.marks.Mark.{Mark}
-use Rattle.channel_ends.specs.declared.marks.Mark.TheVariants.{Open, Known, Seen}
+use Rattle.channel_ends.specs.declared.marks.Mark.TheVariants.{Known, Seen}
 use Rattle.channel_ends.specs.declared.side.OwnerSide.TheInside.{Inside}
 use Rattle.channel_ends.specs.Sending.{MadeOffer, OwnerNotes, withdrawn_at}
 use Rattle.channel_ends.specs.Learns.{Knows, IsHeardOnly}
@@ -29,6 +29,7 @@ use Rattle.channel_ends.proofs.Heard.{heard_learned, heard_found}
 use Rattle.channel_ends.proofs.Changes.{known_below, known_marked}
 use Rattle.channel_ends.proofs.Noting.{noted_withdrawn, known_is_heard}
 use Rattle.channel_ends.proofs.Withdrawals.{heard_withdraws, offers_withdraws, same_lost, heard_lost, others_lost}
+use Rattle.channel_ends.proofs.Hearing.{heard_nothing}
 use Rattle.channel_ends.proofs.Offering.{offered_is}
 use Rattle.channel_ends.proofs.Learning.{heard_is, seen_noted, heard_only, known_noted, knows}
 
@@ -94,14 +95,9 @@ module _ (it : Inside) (e : OwnerNotes) (view : notes_of it ≡ e) (n : IsNoted 
   }
 
   -- nothing was heard of it, where its mark does not say that either
-  nothing_by : (m : Mark) → is_known m ≡ false → ((gone : Bool) (stamp : ℕ) → m ≡ Seen gone stamp → ⊥) → (h : Option ℕ) (w : Bool) → MarkFits m h w → h ≡ None
-  nothing_by Open unknown other h w f = f
-  nothing_by Known unknown other h w f = absurd cc
-  nothing_by (Seen gone stamp) unknown other h w f = absurd (other gone stamp refl)
-
   module _ (other : (gone : Bool) (stamp : ℕ) → mark_at it.marks number ≡ Seen gone stamp → ⊥) where
     pub nothing : heard_at own number ≡ None
-    nothing = nothing_by (mark_at it.marks number) is_open.unknown other _ _ (n.marked number at inside)
+    nothing = heard_nothing (mark_at it.marks number) _ _ is_open.unknown other (n.marked number at inside)
 
     pub not_learned : length own.learned ≤ number
     not_learned = ⊎_elim (λ (l : number < length own.learned). absurd (none_some (sym nothing ∙ heard_learned own number l))) (λ (l : length own.learned ≤ number). l)
