@@ -2,6 +2,7 @@
 use Rattle.std.proofs.Common.{◌≡◌, ◌-◌, ◌^◌, refl, ap, true, false, [], ◌∷◌, Some, None, arith}
 use Rattle.ac_base.specs.declared.ends.Trap.TheVariants.{ZeroDivisor}
 use Rattle.ac_base.specs.declared.entry.Payload.TheVariants.{Read}
+use Rattle.ac_links.specs.declared.payloads.Terms.{Terms}
 use Rattle.ac_links.specs.Views.{OwnerOffer}
 use Rattle.ac_links.specs.Party.{LinkEnd}
 use Rattle.ac_links.specs.Party.LinkEnd.{Owns, Decides, Absent}
@@ -41,10 +42,14 @@ module _ (code : Parts) where
 
   pub its_own : ArePortsOf two 0 (terms_at 1 two.capacities) (λ l. end_for (side_of two.ends 0 l))
   its_own = record {
-    coded = λ l low. refl;
+    coded = λ l some. refl;
     owner = λ l side. ap (λ (s : Side). is_owner (end_for s)) side;
     peer = λ l side. ap (λ (s : Side). is_peer (end_for s)) side;
   }
+
+  -- the terms of a link of its own are those of the code
+  pub not_with_more_room : ArePortsOf two 0 (λ l. record { capacity = 7; requests = false }) (λ l. end_for (side_of two.ends 0 l)) → ⊥
+  not_with_more_room h = let e = ap (λ (t : Terms). t.capacity) (h.coded 0 (λ none. let no : Owner ≡ Neither = none in cc)) in omega (arith, e)
 
   pub none_at_all : ArePortsOf two 0 (terms_at 1 two.capacities) (λ l. Absent) → ⊥
   none_at_all h = let no : false ≡ true = h.owner 0 refl in cc

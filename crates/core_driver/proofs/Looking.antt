@@ -23,7 +23,7 @@ use Rattle.core_machine.specs.Points.{operations_of, has_to_offer, receives_from
 use Rattle.core_ports.specs.declared.side.Side.{Side}
 use Rattle.core_ports.specs.declared.side.Side.TheVariants.{Owner, Peer, Neither}
 use Rattle.core_ports.specs.Sides.{side_at, side_of}
-use Rattle.core_driver.specs.Sides.{ArePortsOf, links_of}
+use Rattle.core_driver.specs.Sides.{ArePortsOf}
 use Rattle.core_driver.specs.inner.InStep.{IsLookedAt, Looks}
 use Rattle.core_driver.specs.inner.Outside.{IsFull, Outside}
 use Rattle.core_driver.proofs.Together.{Called}
@@ -125,10 +125,10 @@ peer_is_channel ends core l side = by (slice_get ends l) refl side
     by None is h = absurd (asks (l == length ends + core) h)
 
 -- it carries no requests
-pub no_requests : (code : Parts) (core : ℕ) (terms : ℕ → Terms) (ends : ℕ → LinkEnd) (l : ℕ) → ArePortsOf code core terms ends → l < length code.ends → (terms l).requests ≡ false
-no_requests code core terms ends l ports low =
-    let here : l < links_of code = omega (arith, low) in
-    ap (λ (t : Terms). t.requests) (ports.coded l here) ∙ not_below (length code.ends) l low
+pub no_requests : (code : Parts) (core : ℕ) (terms : ℕ → Terms) (ends : ℕ → LinkEnd) (l : ℕ) → ArePortsOf code core terms ends → l < length code.ends
+    → (side_of code.ends core l ≡ Neither → ⊥) → (terms l).requests ≡ false
+no_requests code core terms ends l ports low some =
+    ap (λ (t : Terms). t.requests) (ports.coded l some) ∙ not_below (length code.ends) l low
   where
     not_below : (n k : ℕ) → k < n → nat_le n k ≡ false
     not_below n k h = grind (arith, nat_tests, h)
@@ -138,6 +138,9 @@ pub requests_on : (code : Parts) (core : ℕ) (terms : ℕ → Terms) (ends : �
     → (terms l).requests ≡ nat_eq l (request_link (length code.ends) core)
 requests_on code core terms ends l ports low side = by (slice_get code.ends l) refl side
   where
+    some : side_of code.ends core l ≡ Neither → ⊥
+    some none = let no : Owner ≡ Neither = sym side ∙ none in cc
+
     is_other : (n k : ℕ) → k < n → nat_eq k (n + core) ≡ false
     is_other n k h = let differ : k ≡ n + core → ⊥ = λ e. absurd (omega (arith, h, e)) in grind (arith, nat_tests, differ)
 
@@ -147,12 +150,11 @@ requests_on code core terms ends l ports low side = by (slice_get code.ends l) r
     asks : (b : Bool) → (l == length code.ends + core) ≡ b → (if b then Owner else Neither) ≡ Owner → (terms l).requests ≡ (l == length code.ends + core)
     asks true e h =
         let at : l ≡ length code.ends + core = eqb-true l (length code.ends + core) e in
-        let here : l < links_of code = omega (arith, at, low) in
-        ap (λ (t : Terms). t.requests) (ports.coded l here) ∙ ap (nat_le (length code.ends)) at ∙ is_after (length code.ends) ∙ sym e
+        ap (λ (t : Terms). t.requests) (ports.coded l some) ∙ ap (nat_le (length code.ends)) at ∙ is_after (length code.ends) ∙ sym e
     asks false e h = let no : Neither ≡ Owner = h in absurd (cc)
 
     by : (o : Option ChannelEnds) → slice_get code.ends l ≡ o → side_at (length code.ends) core l o ≡ Owner → (terms l).requests ≡ nat_eq l (request_link (length code.ends) core)
-    by (Some e) is h = let lt = slice_get_within code.ends l e is in no_requests code core terms ends l ports lt ∙ sym (is_other (length code.ends) l lt)
+    by (Some e) is h = let lt = slice_get_within code.ends l e is in no_requests code core terms ends l ports lt some ∙ sym (is_other (length code.ends) l lt)
     by None is h = asks (l == length code.ends + core) refl h
 
 -- ---- all stamps are used

@@ -30,7 +30,7 @@ use Rattle.core_runner.specs.inner.Changes.{Changed, BoardChanged}
 use Rattle.core_runner.specs.inner.Keeping.{shared_still, seated_still}
 use Rattle.core_runner.specs.inner.Seats.{IsSeated}
 use Rattle.core_runner.proofs.Idling.{idle_goes_on}
-use Rattle.core_runner.proofs.Parties.{owner_there, peer_there}
+use Rattle.core_runner.proofs.Parties.{owner_there, peer_there, side_within}
 use Rattle.core_runner.proofs.Rising as rising
 use Rattle.core_runner.proofs.Seating.{reserved, its_own, still_of, payloads_stay, nothing_changed, same_spare}
 use Rattle.core_runner.proofs.Stopping.{at_rest}
@@ -104,7 +104,7 @@ module _ (b : Board) (c : CoreView) (number : ℕ) (seated : IsSeated c number b
 
   pub are_ports : ArePortsOf c.code c.core (terms_of p) (ends_of p)
   are_ports = subst (ArePortsOf c.code c.core (terms_of p)) (sym (same_ends p c.code.ends c.core its_ports)) (record {
-    coded = λ l h. of.terms l (let n = valid.each in omega (arith, h, n));
+    coded = λ l some. of.terms l (side_within c.code valid (links_of p) of c.core l seated.agrees.core some);
     owner = λ l is. owner_there c.code valid (links_of p) of c.core l seated.agrees.core is;
     peer = λ l is. peer_there c.code valid (links_of p) of c.core l is;
   })

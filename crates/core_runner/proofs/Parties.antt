@@ -269,6 +269,14 @@ module _ (code : Parts) (valid : HasLinks code) (links : List LinkViews) (of : A
         omega arith)
   ]
 
+  within_by : (core l : ℕ) → core < cores → (side : Side) → side_of code.ends core l ≡ side → (side ≡ Neither → ⊥) → l < length code.capacities
+  within_by core l lt Owner is some = owner_within core l lt is
+  within_by core l lt Peer is some = let low = peer_of_channel core l is in let e = valid.each in omega arith
+  within_by core l lt Neither is some = absurd (some refl)
+
+  pub side_within : (core l : ℕ) → core < cores → (side_of code.ends core l ≡ Neither → ⊥) → l < length code.capacities
+  side_within core l lt some = within_by core l lt (side_of code.ends core l) refl some
+
   pub owner_there : (core l : ℕ) → core < cores → side_of code.ends core l ≡ Owner → is_owner (ends_in code.ends core links l) ≡ true
   owner_there core l lt is = ap (λ side. is_owner (end_of side (slice_get links l))) is ∙ ap (λ o. is_owner (end_of Owner o)) (there l (owner_within core l lt is))
 

@@ -3,6 +3,7 @@ use Rattle.std.proofs.lemmas.Int.{to_z-of_z}
 use Rattle.ac_base.specs.declared.entry.Event.TheVariants as event
 use Rattle.core_machine.specs.Points.{HasCome, is_at_point}
 use Rattle.core_ports.specs.AtHand.{AtHand}
+use Rattle.core_ports.specs.declared.side.Side.TheVariants.{Peer, Neither}
 use Rattle.core_driver.proofs.Together.{entered_looks, nothing_looks, peer_frees_nothing, peer_knows_nothing, roomed_looks, still_going, told_moves, up_to}
 use Rattle.core_driver.proofs.Looking.{counts_here, full_there, no_requests, peer_holds, peer_is_channel, peer_looked, poll_called}
 use Rattle.core_driver.specs.inner.Outside.{outside}
@@ -133,5 +134,6 @@ pub unreachable-requires-in-Room : goal.unreachable-requires-in-Room
 unreachable-requires-in-Room g c = peer_frees_nothing _ _ c.args.link c.in-Room.number (c.requires.in_step.ports.peer c.args.link c.requires.side) c.in-Room.ensures.tells.fits
 
 pub unreachable-requires-in-Reply : goal.unreachable-requires-in-Reply
-unreachable-requires-in-Reply g c = let no : false ≡ true = sym (no_requests _ _ _ _ c.args.link c.requires.in_step.ports (peer_is_channel _ _ c.args.link c.requires.side)) ∙
+unreachable-requires-in-Reply g c = let no : false ≡ true = sym (no_requests _ _ _ _ c.args.link c.requires.in_step.ports (peer_is_channel _ _ c.args.link c.requires.side)
+    (λ none. let no : Peer ≡ Neither = sym c.requires.side ∙ none in cc)) ∙
     c.in-Reply.ensures.answer.1 in cc

@@ -1,0 +1,5 @@
+mod Pointwise
+mod Pairs
+mod EachLink
+mod EachTurn
+mod Examples

@@ -1,0 +1,24 @@
+-- What a pass over the parties, and a settling, do to them.
+use Rattle.std.specs.Prelude.{◌≡◌, ℕ, ◌-◌, ◌^◌, ◌<◌, ◌≤◌, List, Bool, true, false}
+use Rattle.std.specs.List.{AllByRecursion, sum_by}
+use Rattle.settled_rounds.specs.declared.party.Way.{Way}
+use Rattle.settled_rounds.specs.Linked.{Pointwise, OnLinks}
+
+module _ {P : Type 0} where
+  -- how many stamps the clocks have left, all together
+  abbrev pub left : (P → ℕ) → List P → ℕ
+  left clock parties = sum_by (λ p. 2 ^ 60 - clock p) parties
+
+  -- each party has gone on once: one made an entry, or all is as before and each has stopped
+  pub record Passes (clock : P → ℕ) (still : P → P → Type 0) (stopped : P → Type 0) (old new : List P) (moved : Bool) : Type 0 where
+    pub falls : left clock new ≤ left clock old
+    pub moved_so : moved ≡ true → left clock new < left clock old
+    pub same : moved ≡ false → Pointwise still old new
+    pub rest : moved ≡ false → AllByRecursion stopped new
+
+  -- one made an entry, or each link is settled and each party has stopped
+  pub record Settles (clock : P → ℕ) (settled : ℕ → P → P → Type 0) (stopped : P → Type 0) (ways : List Way) (old new : List P)
+      (moved : Bool) : Type 0 where
+    pub falls : moved ≡ true → left clock new < left clock old
+    pub all_settled : moved ≡ false → OnLinks settled ways new
+    pub rest : moved ≡ false → AllByRecursion stopped new
