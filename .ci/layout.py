@@ -147,7 +147,7 @@ def public_clauses(crate):
                 owner, owned = kind.group(1), True
             elif line.startswith("}"):
                 owner = None
-            call = re.match(r"^\s*(pub )?(?:const )?(?:ghost )?fn (\w+)", line)
+            call = re.match(r"^\s*(pub )?(?:pub\([^)]*\) )?(?:const )?(?:ghost )?fn (\w+)", line)
             if call:
                 function = call.group(2)
                 private = not (call.group(1) or (owner and owned and kind is None)) if owner else not call.group(1)

@@ -1,5 +1,5 @@
 -- The answers that make no entry, and what an end knows: with clocks at their last stamp, without a slot, and with nothing to see.
-use Rattle.std.proofs.Common.{ℕ, [], ◌∷◌, Some, None, refl, arith, inl, inr, ⊎_elim}
+use Rattle.std.proofs.Common.{ℕ, true, [], ◌∷◌, Some, None, refl, arith, inl, inr, ⊎_elim}
 use Rattle.std.specs.Prelude.{pos}
 use Rattle.completion_word.specs.declared.answers.Look.TheVariants as look
 use Rattle.completion_word.specs.declared.standing.Standing.TheVariants as word
@@ -11,7 +11,7 @@ use Rattle.channel_ends.specs.Sending.{OwnerNotes}
 use Rattle.channel_ends.specs.Offers.{Offers}
 use Rattle.channel_ends.specs.Learns.{Learns, IsHeardOnly}
 use Rattle.channel_ends.specs.Withdraws.{Withdraws, IsNotTried}
-use Rattle.channel_ends.specs.Receiving.{Receives}
+use Rattle.channel_ends.specs.Receiving.{Receives, Sees}
 use Rattle.channel_ends.proofs.Examples.{an_offer, notes, sender, a_peer, receiver, new_one, five_offered, five_known}
 
 abbrev last : ℕ
@@ -102,6 +102,16 @@ its_item_is_not_known = (
 
 pub none_was_seen : Receives (receiver 1 (a_peer [] 0 word.Unused None) []) 0 receiving.NotYet (receiver 1 (a_peer [] 1 word.Unused (Some look.Nothing)) []) → ⊥
 none_was_seen h = h.1 refl
+
+-- a look alone
+pub one_stands_there : Sees (receiver 1 (a_peer [] 0 word.Unused None) []) true (receiver 1 (a_peer [] 1 (word.Offered 1) (Some (look.Offered 1))) [])
+one_stands_there = (
+  record { table = refl; ring = refl; decisions = refl; told = refl; looks = refl; popped = refl; items = ([], refl) },
+  λ e. cc,
+)
+
+pub none_stands_there : Sees (receiver 1 (a_peer [] 0 word.Unused None) []) true (receiver 1 (a_peer [] 1 word.Unused (Some look.Nothing)) []) → ⊥
+none_stands_there h = h.1 refl
 
 pub no_stamp_to_take_it : Receives (receiver 1 (a_peer [] 0 word.Unused None) []) last receiving.ClockFull
     (receiver 1 (a_peer [] 1 (word.Offered 1) (Some (look.Offered 1))) [])

@@ -1,5 +1,5 @@
 -- What contracts see of the receiving end of a pair: what it has decided, with the stamps of what that answers, and what it knows.
-use Rattle.std.specs.Prelude.{◌≡◌, ◌≢◌, ℕ, ◌+◌, ◌≤◌, List, [], ◌∷◌, ◌++◌, length, Some, None}
+use Rattle.std.specs.Prelude.{◌≡◌, ◌≢◌, ℕ, ◌+◌, ◌≤◌, List, [], ◌∷◌, ◌++◌, length, Some, None, Bool, true, false}
 use mathlib.Core.List.{IsPrefix}
 use Rattle.ac_base.specs.Stamps.{stamp_after}
 use Rattle.atomic_table.specs.Seated.{TableId}
@@ -67,6 +67,12 @@ module _ {M : Type 0} where
       DecidesNone old new × (look_of new.peer.saw ≡ look.Nothing) × (old.peer.told_offers ≤ length old.peer.decisions)
   Receives old last NotYet new = DecidesNone old new × SawOne new.peer × (old.items ≡ [])
   Receives old last ClockFull new = DecidesNone old new × SawFull last new.peer
+
+  -- Whether a look alone saw an offer or a withdrawal
+  abbrev pub Sees : Receiving M → Bool → Receiving M → Type 0
+  Sees old true new = DecidesNone old new × SawOne new.peer
+  Sees old false new =
+      DecidesNone old new × (look_of new.peer.saw ≡ look.Nothing) × (old.peer.told_offers ≤ length old.peer.decisions)
 
   -- the peer's last stamp after the answer
   abbrev pub receiving_clock : ℕ → Received M → ℕ

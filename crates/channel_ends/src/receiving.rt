@@ -3,7 +3,7 @@
 ghost use Rattle.std.specs.Prelude.{◌≡◌, ◌<◌, length, Some};
 ghost use Rattle.completion_word.specs.declared.answers.Look.TheVariants as look;
 ghost use Rattle.completion_word.specs.Seats.{peer_of};
-ghost use Rattle.channel_ends.specs.Receiving.{Receives, IsAllowed, receiving_clock};
+ghost use Rattle.channel_ends.specs.Receiving.{Receives, IsAllowed, Sees, receiving_clock};
 ghost use Rattle.channel_ends.specs.Pairs.{IsSameRecv};
 ghost use Rattle.channel_ends.specs.inner.Takes.{Passes};
 
@@ -80,6 +80,17 @@ impl<'a, M: Drop, P: Protocol<M>> RecvEnd<'a, M, P> {
                 }
                 self.pass(withdrawn, clock)
             }
+        }
+    }
+
+    /// The look of `take` alone: whether the first offer that is not decided stands there, offered or
+    /// withdrawn. Nothing is decided.
+    pub fn look(&mut self) -> bool
+        ensures { Sees self.old result self.new }
+    {
+        match self.words.look(&mut self.peer) {
+            Look::Nothing => false,
+            Look::Offered { .. } | Look::Withdrawn { .. } => true,
         }
     }
 

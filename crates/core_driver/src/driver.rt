@@ -76,15 +76,6 @@ impl<'a> Driver<'a> {
         machine
     }
 
-    /// Lets the core go on over other ports where all stamps are used: what its old ports had heard, the
-    /// new ones may not have.
-    pub fn ask_again(&mut self)
-        ensures machine { self.new.machine ≡ self.old.machine }
-        ensures full { self.new.full ≡ false }
-    {
-        self.full = false;
-    }
-
     /// Runs the core until it has ended, or so many dispatch points in a row have brought nothing while
     /// no thread is ready, or a port has answered that all stamps are used; after that last answer it
     /// gives it again at once. Meanwhile it polls each link of the core at least as often as the core's

@@ -1,9 +1,11 @@
 -- What the ends of its links tell a party.
-use Rattle.std.specs.Prelude.{ℕ, ◌≤◌, ◌-◌, List, [], length, slice_get, Option, Some, None, Bool, true, false, is_some, IfSome, nat_lt}
+use Rattle.std.specs.Prelude.{ℕ, ◌≤◌, ◌-◌, List, [], ◌∷◌, length, slice_get, Option, Some, None, Bool, true, false, is_some, IfSome}
+use Rattle.std.specs.Prelude.{max, nat_lt}
 use Rattle.std.specs.List.{AllByRecursion}
 use Rattle.ac_links.specs.declared.payloads.Terms.{Terms}
 use Rattle.ac_links.specs.Views.{OwnerOffer, PeerDecision, owner_lead}
 use Rattle.ac_links.specs.Replies.{least_open}
+use Rattle.ac_links.specs.Noted.{or_zero}
 use Rattle.ac_links.specs.Party.{LinkEnd}
 use Rattle.ac_links.specs.Party.LinkEnd.{Owns, Decides, Absent}
 
@@ -47,6 +49,15 @@ abbrev pub awaits_reply : LinkEnd → Bool
 awaits_reply end = is_known (offer_at end (least_open (offers_of end)))
 
 -- ---- stamps
+
+-- the greatest stamp of a list; 0 where there is none
+abbrev pub greatest : {X : Type 0} → (X → ℕ) → List X → ℕ
+greatest stamp [] = 0
+greatest stamp (x ∷ xs) = max (stamp x) (greatest stamp xs)
+
+-- the later one of the stamps of an offer and of its withdrawal
+abbrev pub last_stamp_of : OwnerOffer → ℕ
+last_stamp_of o = max o.stamp (or_zero o.withdrawn)
 
 -- each stamp that is noted at an offer is at most this one
 pub record IsOfferUpTo (last : ℕ) (o : OwnerOffer) : Type 0 where

@@ -1,97 +1,82 @@
--- Parties at seats in order are the cores of the code and the worker.
-use Rattle.std.proofs.Common.{◌≡◌, ℕ, zero, suc, ◌+◌, ◌<◌, List, [], ◌∷◌, Some, false, refl, sym, ap, subst, arith, length, map}
-use Rattle.std.specs.Prelude.{nat_eq, slice_get}
-use Rattle.std.specs.List.{AllByRecursion, IsDistinct, range_with_len}
-use Rattle.std.proofs.lemmas.Bool.Decides.{nat_tests}
-use Rattle.stack_code.specs.Parts.{Parts}
-use Rattle.core_runner.specs.declared.seat.Seat.{Seat}
-use Rattle.core_runner.specs.declared.seat.Seat.TheVariants.{AtCore, AtWorker}
-use Rattle.core_runner.specs.Cores.{CoreView, IsDone, AreCoresOf}
-use Rattle.core_runner.specs.Workers.{WorkerIsDone}
-use Rattle.core_runner.specs.inner.Boards.{Board}
-use Rattle.core_runner.specs.inner.Seats.{IsSeated, IsAtWork, number_of, Sits, RestsAt, cores_at}
+-- Parties in a list, and the cores among them: after some calls each is at its place what it was before, a core or the worker.
+use Rattle.std.proofs.Common.{◌≡◌, ℕ, zero, suc, ◌<◌, List, [], ◌∷◌, ◌++◌, Some, refl, ap, subst, arith, length, map}
+use Rattle.std.specs.Prelude.{slice_get}
+use Rattle.ac_outside.specs.Disks.{DiskTold}
+use Rattle.file_worker.specs.declared.worker.Worker.{Worker}
+use Rattle.file_worker.specs.Rounds.{GoesOn}
+use Rattle.file_worker.specs.Workers.{loan_of, seen_of}
+use Rattle.run_parties.specs.declared.run_party.RunParty.{RunParty}
+use Rattle.run_parties.specs.declared.run_party.RunParty.TheVariants.{Core, Disk}
+use Rattle.run_parties.specs.Seats.{CoreSeat}
+use Rattle.run_parties.specs.Moving.{IsLaterSeat}
+use Rattle.run_parties.specs.Parties.{IsLaterParty}
+use Rattle.settled_rounds.specs.Linked.{Pointwise}
+use Rattle.core_runner.specs.inner.Parties.{seats_in}
+use Rattle.core_runner.proofs.Lists.{same_some}
 
--- ---- numbers in order
+-- ---- party by party
 
-above : (a b n : ℕ) → a < b → AllByRecursion (λ y. nat_eq a y ≡ false) (range_with_len b n)
-above a b zero h = tt
-above a b (suc n) h = (grind (arith, nat_tests), above a (b + 1) n (omega arith))
+module _ {P : Type 0} (R : P → P → Type 0) where
+  pub as_many : (ps qs : List P) → Pointwise R ps qs → length qs ≡ length ps
+  as_many [] [] h = refl
+  as_many [] (q ∷ qs) h = absurd h
+  as_many (p ∷ ps) [] h = absurd h
+  as_many (p ∷ ps) (q ∷ qs) h = ap suc (as_many ps qs h.1)
 
-pub in_order_are_distinct : (a n : ℕ) → IsDistinct nat_eq (range_with_len a n)
-unfolding IsDistinct
-in_order_are_distinct a zero = tt
-in_order_are_distinct a (suc n) = (above a (a + 1) n (omega arith), in_order_are_distinct (a + 1) n)
+  -- the party that stands at this place after it
+  pub after_at : (ps qs : List P) (k : ℕ) (p : P) → Pointwise R ps qs → slice_get ps k ≡ Some p → (q : P) × (slice_get qs k ≡ Some q) × R p q
+  after_at [] [] k p h at = cc
+  after_at [] (y ∷ qs) k p h at = absurd h
+  after_at (x ∷ ps) [] k p h at = absurd h
+  after_at (x ∷ ps) (y ∷ qs) zero p h at = (y, refl, subst (λ z. R z y) (same_some x p at) h.0)
+  after_at (x ∷ ps) (y ∷ qs) (suc k) p h at = after_at ps qs k p h.1 at
 
--- ---- who sits where
+module _ {D : Type 0} (told : D → DiskTold) where
+  -- a core is a core after it, and the worker is the worker
+  pub core_after : (s : CoreSeat) (q : RunParty D) → IsLaterParty told (Core s) q → (t : CoreSeat) × (q ≡ Core t) × IsLaterSeat s t
+  core_after s (Core t) later = (t, refl, later)
+  core_after s (Disk w) later = absurd later
 
--- the cores from number `a` on, as many as n, and then the worker
-pub record AreSeated (b : Board) (a n : ℕ) (cores : List CoreView) : Type 0 where
-  pub count : length cores ≡ n
-  pub seated : (k : ℕ) (c : CoreView) → slice_get cores k ≡ Some c → IsSeated c (a + k) b
-  pub done : (k : ℕ) (c : CoreView) → slice_get cores k ≡ Some c → IsDone c b.wired.links
-  pub last : ℕ
-  pub at_work : IsAtWork last (a + n) b
-  pub rests : WorkerIsDone b.code b.entries b.wired.links
+  pub worker_after : (v : Worker D) (q : RunParty D) → IsLaterParty told (Disk v) q
+      → (w : Worker D) × (q ≡ Disk w) × GoesOn (seen_of told v) (seen_of told w) × (loan_of w ≡ loan_of v)
+  worker_after v (Core t) later = absurd later
+  worker_after v (Disk w) later = (w, refl, later.0, later.1)
 
-one_more : (b : Board) (a n : ℕ) (c : CoreView) (cores : List CoreView) → IsSeated c a b → IsDone c b.wired.links → AreSeated b (a + 1) n cores → AreSeated b a (suc n) (c ∷ cores)
-one_more b a n c cores here done rest = record {
-  count = ap suc rest.count;
-  seated = seated;
-  done = all_done;
-  last = rest.last;
-  at_work = subst (λ m. IsAtWork rest.last m b) (let e : (a + 1) + n ≡ a + suc n = omega arith in e) rest.at_work;
-  rests = rest.rests;
-} where
-  seated : (k : ℕ) (x : CoreView) → slice_get (c ∷ cores) k ≡ Some x → IsSeated x (a + k) b
-  seated zero x h = let e : c ≡ x = cc in subst (λ m. IsSeated x m b) (let z : a ≡ a + 0 = omega arith in z) (subst (λ y. IsSeated y a b) e here)
-  seated (suc k) x h = subst (λ m. IsSeated x m b) (let z : (a + 1) + k ≡ a + suc k = omega arith in z) (rest.seated k x h)
+-- ---- the cores among them
 
-  all_done : (k : ℕ) (x : CoreView) → slice_get (c ∷ cores) k ≡ Some x → IsDone x b.wired.links
-  all_done zero x h = let e : c ≡ x = cc in subst (λ y. IsDone y b.wired.links) e done
-  all_done (suc k) x h = rest.done k x h
+module _ {D : Type 0} where
+  pub same_core : (s t : CoreSeat) (p : RunParty D) → p ≡ Core s → p ≡ Core t → s ≡ t
+  same_core s t p e f = cc
 
-head_is : {X : Type 0} {x y : X} {xs ys : List X} → x ∷ xs ≡ y ∷ ys → x ≡ y
-head_is h = cc
+  pub same_worker : (v w : Worker D) → Disk v ≡ Disk w → v ≡ w
+  same_worker v w e = cc
 
-tail_is : {X : Type 0} {x y : X} {xs ys : List X} → x ∷ xs ≡ y ∷ ys → xs ≡ ys
-tail_is h = cc
+  pub seats_more : (ps qs : List (RunParty D)) → seats_in (ps ++ qs) ≡ seats_in ps ++ seats_in qs
+  seats_more [] qs = refl
+  seats_more (Core s ∷ ps) qs = ap (λ ss. s ∷ ss) (seats_more ps qs)
+  seats_more (Disk w ∷ ps) qs = seats_more ps qs
 
-module _ {C : Type 0} (seen : C → CoreView) (b : Board) where
-  pub are_seated : (a n : ℕ) (seats : List (Seat C)) → a + n ≡ length b.code.entries → map number_of seats ≡ range_with_len a (suc n) → AllByRecursion (λ s. Sits seen s b) seats
-      → AllByRecursion (λ s. RestsAt seen s b) seats → AreSeated b a n (cores_at seen seats)
-  are_seated a n [] many numbers sits rests = cc
-  are_seated a zero (AtCore core number ∷ seats) many numbers sits rests =
-      absurd (let e : number ≡ a = head_is numbers in let s = sits.0 in let c = s.core in
-      let within : (seen core).core < length b.code.entries = subst (λ (code : Parts). (seen core).core < length code.entries) s.code s.agrees.core in omega arith)
-  are_seated a (suc n) (AtCore core number ∷ seats) many numbers sits rests =
-      let e : number ≡ a = head_is numbers in
-      one_more b a n (seen core) (cores_at seen seats) (subst (λ m. IsSeated (seen core) m b) e sits.0) rests.0
-      (are_seated (a + 1) n seats (omega arith) (tail_is numbers) sits.1 rests.1)
-  are_seated a zero (AtWorker last number ∷ seats) many numbers sits rests =
-      let e : number ≡ a = head_is numbers in
-      let none : seats ≡ [] = no_more seats (tail_is numbers) in
-      subst (λ xs. AreSeated b a 0 (cores_at seen xs)) (sym none) (record {
-        count = refl;
-        seated = λ k c h. cc;
-        done = λ k c h. cc;
-        last = last;
-        at_work = subst (λ m. IsAtWork last m b) (let z : number ≡ a + 0 = omega arith in z) sits.0;
-        rests = rests.0;
-      })
-    where
-      no_more : (xs : List (Seat C)) → map number_of xs ≡ [] → xs ≡ []
-      no_more [] h = refl
-      no_more (x ∷ xs) h = cc
-  are_seated a (suc n) (AtWorker last number ∷ seats) many numbers sits rests =
-      absurd (let e : number ≡ a = head_is numbers in let w = sits.0.number_is in omega arith)
+  -- where all are cores, each stands at its place
+  abbrev pub AreCores : List (RunParty D) → Type 0
+  AreCores ps = (k : ℕ) → k < length ps → (s : CoreSeat) × (slice_get ps k ≡ Some (Core s))
 
--- ---- they are the cores of the code
+  rest_are : (p : RunParty D) (ps : List (RunParty D)) → AreCores (p ∷ ps) → AreCores ps
+  rest_are p ps all k h = all (suc k) (omega (arith, h))
 
-module _ (b : Board) (cores : List CoreView) (all : AreSeated b 0 (length b.code.entries) cores) where
-  pub are_cores : AreCoresOf b.code b.steps cores b.wired.links
-  are_cores = record {
-    count = all.count;
-    each = λ k c h. let it = all.seated k c h in record { code_is = it.code; core_is = (let e = it.core in omega arith); bound_is = it.bound };
-    agree = λ k c h. (all.seated k c h).agrees;
-    linked = all.at_work.shared.links;
-  }
+  no_worker : (w : Worker D) (ps : List (RunParty D)) → AreCores (Disk w ∷ ps) → ⊥
+  no_worker w ps all = let first = all 0 (omega arith) in let no : Disk w ≡ Core first.0 = same_some (Disk w) (Core first.0) first.1 in absurd cc
+
+  pub all_seats : (ps : List (RunParty D)) → AreCores ps → length (seats_in ps) ≡ length ps
+  all_seats [] all = refl
+  all_seats (Core s ∷ ps) all = ap suc (all_seats ps (rest_are (Core s) ps all))
+  all_seats (Disk w ∷ ps) all = absurd (no_worker w ps all)
+
+  pub seat_at : (ps : List (RunParty D)) (k : ℕ) (s : CoreSeat) → AreCores ps → slice_get ps k ≡ Some (Core s) → slice_get (seats_in ps) k ≡ Some s
+  seat_at [] k s all at = cc
+  seat_at (Core t ∷ ps) zero s all at = ap Some (same_core t s (Core t) refl (same_some (Core t) (Core s) at))
+  seat_at (Core t ∷ ps) (suc k) s all at = seat_at ps k s (rest_are (Core t) ps all) at
+  seat_at (Disk w ∷ ps) k s all at = absurd (no_worker w ps all)
+
+pub map_twice : {X Y Z : Type 0} (f : X → Y) (g : Y → Z) (xs : List X) → map g (map f xs) ≡ map (λ x. g (f x)) xs
+map_twice f g [] = refl
+map_twice f g (x ∷ xs) = ap (λ zs. g (f x) ∷ zs) (map_twice f g xs)

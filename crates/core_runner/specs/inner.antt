@@ -1,6 +1,2 @@
-pub mod Boards
-pub mod Changes
-pub mod Keeping
-pub mod Seats
-pub mod Starting
-pub mod Working
+pub mod Parties
+pub mod Runs

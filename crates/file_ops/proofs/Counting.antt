@@ -1,31 +1,23 @@
--- The disk is called once for each request of a bound file that is done, and fails where FAULT is answered. One deed more is one call more
--- or none; a round's deeds are those of its turns, one behind another.
-use Rattle.std.proofs.Common.{◌≡◌, ℕ, zero, suc, ◌+◌, ◌≤◌, List, [], ◌∷◌, ◌++◌, Option, Some, None, Bool, true, false, cond, refl, sym, ap, ◌∙◌, subst, arith, length, append_assoc}
-use Rattle.std.specs.Prelude.{IfSome, ◌&&◌, slice_get}
+-- The disk is called once for each request of a bound file that is done, and fails where FAULT is answered: one deed more is one call more or none.
+use Rattle.std.proofs.Common.{◌≡◌, ℕ, suc, ◌+◌, ◌≤◌, List, [], ◌∷◌, ◌++◌, Option, Some, None, Bool, true, false, cond, refl, sym, ap, ◌∙◌, subst, arith, length}
+use Rattle.std.specs.Prelude.{IfSome, ◌&&◌}
 use Rattle.std.specs.List.{filter}
-use Rattle.std.proofs.lemmas.List.{append-nil}
 use Rattle.ac_base.specs.declared.entry.Payload.{Payload}
 use Rattle.ac_base.specs.declared.entry.Payload.TheVariants.{Int, Read, Write}
 use Rattle.ac_base.specs.declared.entry.Answer.{Answer}
-use Rattle.ac_base.specs.declared.entry.Event.{Event}
-use Rattle.ac_base.specs.declared.entry.Entry.{Entry}
+use Rattle.ac_base.specs.declared.entry.Event.TheVariants.{Pass}
 use Rattle.ac_links.specs.Payloads.{answer_fits}
-use Rattle.ac_links.specs.Order.{of_party}
-use Rattle.ac_links.proofs.Party.{of_party_push}
-use Rattle.ac_history.specs.Files.{Deed, deed_of, deeds_by}
-use Rattle.ac_history.proofs.Disk.{deeds_push}
+use Rattle.ac_history.specs.Files.{Deed, deed_of}
 use Rattle.ac_outside.specs.Disks.{Held, DiskTold}
 use Rattle.ac_outside.specs.Told.{one_more}
-use Rattle.core_channels.specs.declared.answers.Front.{Front}
-use Rattle.core_channels.specs.declared.answers.Front.TheVariants.{Nothing, Withdrawn, Request, ClockFull}
-use Rattle.core_channels.specs.Requests.{fronting, did_stamp, pass_stamp}
-use Rattle.core_channels.proofs.Fronts.{Waits, it_waits}
-use Rattle.file_ops.specs.Agreement.{TellsRequests}
 use Rattle.file_ops.specs.Asked.{is_of_bound, is_fault, held_after, FaultIsDue, Called, AskedBy}
 use Rattle.file_ops.specs.Counting.{raised, is_call, is_failure, calls_among, failures_among, AreCounted}
-use Rattle.file_ops.specs.Rounds.{Seen, AreRequestLinks, own_link, last, pass_entry, did_entry, Stays, Passes, Does, TurnBy, Turn, Went}
-use Rattle.file_ops.proofs.Leaving.{went_only, disk_goes_on}
-use Rattle.file_ops.proofs.Serving.{no_deed}
+
+-- ---- what is passed is no deed
+
+pub no_deed : (q : Option Payload) (l n : ℕ) → deed_of q (Pass l n) ≡ []
+no_deed None l n = refl
+no_deed (Some p) l n = refl
 
 -- ---- one deed more
 
@@ -118,55 +110,3 @@ module _ (before mid after : DiskTold) (ds : List Deed) (payload : Payload) (ans
 
   pub counted_more : AskedBy (is_of_bound mid.bound payload) mid after payload answer → AreCounted before after (ds ++ d ∷ [])
   counted_more x = by_bound (is_of_bound mid.bound payload) (ap (λ n. is_of_bound n payload) (sym bound)) x
-
--- ---- a round
-
-module _ (p first cores : ℕ) (got : Event → Option Payload) where
-  abbrev deeds_of : List Entry → List Deed
-  deeds_of j = deeds_by got (of_party p j)
-
-  abbrev Counts : Seen → Seen → Type 0
-  Counts s t = (new : List Entry) × (t.entries ≡ s.entries ++ new) × AreCounted s.told t.told (deeds_of new)
-
-  deeds_more : (j : List Entry) (e : Entry) → deeds_of (j ++ e ∷ []) ≡ deeds_of j ++ deed_of (got e.event) e.event
-  deeds_more j e = ap (deeds_by got) (of_party_push p j e) ∙ deeds_push got (of_party p j) (record { party = p; entry = e })
-
-  turn_counts : (core : ℕ) (s u t : Seen) → TellsRequests got u.links → u.told.bound ≡ s.told.bound → Counts s u → Turn first core u t → Counts s t
-  turn_counts core s u t tells bound was x = by (fronting (own_link u first core) (last u)) refl x
-    where
-      stays : Stays u t → Counts s t
-      stays y = (was.0, y.entries ∙ was.1, subst (λ d. AreCounted s.told d (deeds_of was.0)) (sym y.told) was.2)
-
-      passes : Passes first core u t → Counts s t
-      passes y =
-          let e = pass_entry (first + core) (own_link u first core) (pass_stamp (own_link u first core) (last u)) in (
-            was.0 ++ e ∷ [],
-            y.entries ∙ ap (λ j. j ++ e ∷ []) was.1 ∙ append_assoc s.entries was.0 (e ∷ []),
-            subst (λ d. AreCounted s.told d (deeds_of (was.0 ++ e ∷ []))) (sym y.told)
-                (subst (AreCounted s.told u.told) (sym (deeds_more was.0 e ∙ ap (λ r. deeds_of was.0 ++ r) (no_deed (got e.event) (first + core) (length (own_link u first core).decisions))
-                ∙ append-nil (deeds_of was.0))) was.2),
-          )
-
-      does : (n : ℕ) (payload : Payload) (answer : Answer) → Waits (own_link u first core) (last u) n payload → Does first core payload answer u t → Counts s t
-      does n payload answer a y =
-          let e = did_entry (first + core) (own_link u first core) answer (did_stamp (own_link u first core) (last u)) in
-          let told = tells (first + core) (length (own_link u first core).decisions) answer a.own a.there ∙ ap Some a.payload_is in (
-            was.0 ++ e ∷ [],
-            y.entries ∙ ap (λ j. j ++ e ∷ []) was.1 ∙ append_assoc s.entries was.0 (e ∷ []),
-            subst (AreCounted s.told t.told) (sym (deeds_more was.0 e ∙ ap (λ q. deeds_of was.0 ++ deed_of q e.event) told))
-                (counted_more s.told u.told t.told (deeds_of was.0) payload answer was.2 bound y.asked),
-          )
-
-      by : (f : Front) → fronting (own_link u first core) (last u) ≡ f → TurnBy f first core u t → Counts s t
-      by Nothing e y = stays y
-      by (Withdrawn n) e y = passes y
-      by (Request n payload) e y = does n payload y.0 (it_waits (own_link u first core) (last u) n payload e) y.1
-      by ClockFull e y = stays y
-
-  pub went_counts : (n : ℕ) (s t : Seen) → n ≤ cores → AreRequestLinks first cores s.links → TellsRequests got s.links → Went first n s t → Counts s t
-  went_counts zero s t h a tells x = subst (Counts s) (sym x) ([], sym (append-nil s.entries), counted_none s.told)
-  went_counts (suc n) s t h a tells x =
-      let u = x.0 in
-      let only = went_only first cores n s u (omega arith) a x.1 in
-      turn_counts n s u t (λ l m answer o g. tells l m answer o (subst (λ os. slice_get os m ≡ Some o) (only.offers l) g)) (disk_goes_on first n s u x.1).bound
-      (went_counts n s u (omega arith) a tells x.1) x.2

@@ -1,13 +1,4 @@
-pub mod AgreementExamples
-pub mod Changing
 pub mod Counting
-pub mod Doing
-pub mod Examples
 pub mod Filing
-pub mod Leaving
 pub mod Reading
-pub mod RestExamples
-pub mod Resting
-pub mod Rounding
-pub mod Serving
-pub mod Turning
+pub mod Examples

@@ -1,8 +1,4 @@
-pub mod Agreement
 pub mod Asked
 pub mod Counting
+pub mod Agreement
 pub mod Laws
-pub mod Resting
-pub mod Rings
-pub mod Rounds
-pub mod inner

@@ -1,15 +1,6 @@
-//! The file worker in one thread with its cores: it does the requests of their links, and puts the
-//! answers on rings from which the cores take them.
+//! What a disk is asked for a request and what it answers, how its calls are counted by what was done, and what the worker decides.
 #![tactic(auto)]
 
-mod asking;
 mod law;
-mod replies;
-mod worker;
 
-pub use law::{
-    rounds_agree, rounds_are_counted, rounds_are_served, rounds_come_to_rest, rounds_lower,
-    rounds_only_decide,
-};
-pub use replies::{Replied, Replies};
-pub use worker::{ListWorker, Round};
+pub use law::{files_are_done, requests_are_counted};

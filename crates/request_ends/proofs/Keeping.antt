@@ -5,7 +5,7 @@ use Rattle.std.specs.Prelude.{slice_get, slice_set, drop}
 use Rattle.ac_base.specs.declared.entry.Payload.{Payload}
 use Rattle.ac_links.specs.Views.{Response, altered, replied_with, withdrawn_at as withdrawn_in}
 use Rattle.ac_links.specs.Replies.{least_open}
-use Rattle.channel_ends.specs.Sending.{Sending, MadeOffer, OwnerNotes, capacity_of, known_lead, made_offer, withdrawn_at, known_at}
+use Rattle.channel_ends.specs.Sending.{Sending, MadeOffer, OwnerNotes, capacity_of, has_room, known_lead, made_offer, withdrawn_at, known_at}
 use Rattle.channel_ends.specs.Offers.{IsOffered}
 use Rattle.channel_ends.specs.Learns.{Knows, is_withdrawn}
 use Rattle.channel_ends.specs.Withdraws.{MayWithdraw}
@@ -21,6 +21,7 @@ use mathlib.Core.List.{IsPrefix}
 use Rattle.core_ports.specs.Ends.{awaits_reply, is_known}
 use Rattle.request_ends.specs.Answered.{HasReply, OnlyLooks}
 use Rattle.request_ends.specs.inner.Coming.{Coming, LooksOnly, PopsNext, first_of, stamp_of}
+use Rattle.request_ends.proofs.Leading.{lead_within, lead_more, lead_altered, room_left}
 use Rattle.request_ends.proofs.Nexts.{as_many, least_is, awaits_so}
 use Rattle.request_ends.proofs.Listing.{asked_more, asked_known, asked_withdrawn, asked_replied}
 
@@ -39,9 +40,9 @@ front_more : (ms : List Asked) → (slice_get ms 0 ≡ Some Gone → ⊥) → sl
 front_more [] f e = cc
 front_more (m ∷ ms) f e = f e
 
-pub offer_keeps : (it : Inside) (x : Payload) (s : ℕ) (send : Sending Payload) (marks : Marked) → IsAsking it → IsOffered it.send x s send
-    → marks.list ≡ it.marks.list ++ Open ∷ [] → IsAsking (record { send = send; inbox = it.inbox; marks = marks; replied = it.replied })
-offer_keeps it x s send marks v o e = record {
+pub offer_keeps : (it : Inside) (x : Payload) (s : ℕ) (send : Sending Payload) (marks : Marked) → IsAsking it → has_room it.send.notes ≡ true
+    → IsOffered it.send x s send → marks.list ≡ it.marks.list ++ Open ∷ [] → IsAsking (record { send = send; inbox = it.inbox; marks = marks; replied = it.replied })
+offer_keeps it x s send marks v room o e = record {
   over = v.over;
   noted = subst (λ (os : List MadeOffer). AreNoted v.over os it.inbox.had marks.list) (sym o.notes.offers)
       (subst (λ ms. AreNoted v.over (it.send.notes.offers ++ made_offer s ∷ []) it.inbox.had ms) (sym e)
@@ -50,6 +51,11 @@ offer_keeps it x s send marks v o e = record {
   one_each = ap length o.payloads ∙ length_snoc it.send.payloads x ∙ ap (λ n. n + 1) v.one_each ∙ sym (length_snoc it.send.notes.offers (made_offer s))
       ∙ sym (ap length o.notes.offers);
   size = ap (λ t. t.words) o.notes.table ∙ v.size;
+  few =
+      let left = room_left (length it.send.notes.offers) (known_lead it.send.notes.offers) (capacity_of it.send.notes) room v.size (lead_within it.send.notes.offers) in
+      let up = lead_more it.send.notes.offers (made_offer s) in
+      let n = length_snoc it.send.notes.offers (made_offer s) in
+      subst (λ (os : List MadeOffer). length os ≤ known_lead os + 16) (sym o.notes.offers) (omega (arith, left, up, n));
   replied = v.replied;
 }
 
@@ -86,10 +92,11 @@ pub record IsMarked (it : Inside) : Type 0 where
   pub noted : AreNoted over it.send.notes.offers it.inbox.had it.marks.list
   pub one_each : length it.send.payloads ≡ length it.send.notes.offers
   pub size : capacity_of it.send.notes ≡ 16
+  pub few : length it.send.notes.offers ≤ known_lead it.send.notes.offers + 16
   pub replied : it.replied ≡ length it.inbox.had
 
 pub front_keeps : (it : Inside) → IsMarked it → (slice_get it.marks.list 0 ≡ Some Gone → ⊥) → IsAsking it
-front_keeps it m f = record { over = m.over; noted = m.noted; front = f; one_each = m.one_each; size = m.size; replied = m.replied }
+front_keeps it m f = record { over = m.over; noted = m.noted; front = f; one_each = m.one_each; size = m.size; few = m.few; replied = m.replied }
 
 pub skip_keeps : (it : Inside) (marks : Marked) → IsMarked it → Skips it.marks marks
     → IsAsking (record { send = it.send; inbox = it.inbox; marks = marks; replied = it.replied })
@@ -100,8 +107,18 @@ skip_keeps it marks m s = record {
   front = s.front;
   one_each = m.one_each;
   size = m.size;
+  few = m.few;
   replied = m.replied;
 }
+
+-- no more stand than before, where what was known stays known
+few_after : (it : Inside) → IsAsking it → (k : ℕ) (f : MadeOffer → MadeOffer) → ((o : MadeOffer) → is_some o.known ≡ true → is_some (f o).known ≡ true)
+    → (os : List MadeOffer) → os ≡ altered it.send.notes.offers k f → length os ≤ known_lead os + 16
+few_after it v k f knows os e =
+    let up = lead_altered it.send.notes.offers k f knows in
+    let n = length_altered it.send.notes.offers k f in
+    let few = v.few in
+    subst (λ (xs : List MadeOffer). length xs ≤ known_lead xs + 16) (sym e) (omega (arith, up, n, few))
 
 module _ (it : Inside) (v : IsAsking it) (k : ℕ) (may : MayWithdraw (slice_get it.send.notes.offers k)) where
   mark_says : (o : MadeOffer) → slice_get it.send.notes.offers k ≡ Some o → (o.withdrawn ≡ None) × (o.known ≡ None)
@@ -111,8 +128,9 @@ module _ (it : Inside) (v : IsAsking it) (k : ℕ) (may : MayWithdraw (slice_get
       → notes.table ≡ it.send.notes.table
       → marks.list ≡ slice_set it.marks.list (k - (length it.send.notes.offers - length it.marks.list)) m
       → ((o : MadeOffer) → o.withdrawn ≡ None → o.known ≡ None → MarkSays m (f o))
+      → ((o : MadeOffer) → is_some o.known ≡ true → is_some (f o).known ≡ true)
       → IsMarked (record { send = record it.send { notes = notes }; inbox = it.inbox; marks = marks; replied = it.replied })
-  changed f m notes marks eo et em says = record {
+  changed f m notes marks eo et em says knows = record {
     over = v.over;
     noted = subst (λ (os : List MadeOffer). AreNoted v.over os it.inbox.had marks.list) (sym eo)
         (subst (λ ms. AreNoted v.over (altered it.send.notes.offers k f) it.inbox.had ms) (sym em)
@@ -121,6 +139,7 @@ module _ (it : Inside) (v : IsAsking it) (k : ℕ) (may : MayWithdraw (slice_get
         (λ o e. let h = mark_says o e in says o h.0 h.1)));
     one_each = v.one_each ∙ sym (ap length eo ∙ length_altered it.send.notes.offers k f);
     size = ap (λ t. t.words) et ∙ v.size;
+    few = few_after it v k f knows notes.offers eo;
     replied = v.replied;
   }
 
@@ -149,6 +168,7 @@ room_keeps it last k s notes v w e = record {
   front = v.front;
   one_each = v.one_each ∙ sym (ap length w.offers ∙ length_altered it.send.notes.offers k (known_at w.of));
   size = ap (λ t. t.words) w.hears.table ∙ v.size;
+  few = few_after it v k (known_at w.of) (λ o known. refl) notes.offers w.offers;
   replied = v.replied;
 }
 
@@ -198,7 +218,7 @@ module _ (it : Inside) (v : IsAsking it) (last k s : ℕ) (send : Sending Payloa
       (front_keeps (record { send = record it.send { notes = send.notes }; inbox = it.inbox; marks = marks; replied = it.replied })
       (changed it v k learnt_may (known_at w.of) Started send.notes marks w.offers w.hears.table
       (e ∙ ap (λ n. slice_set it.marks.list (k - (n - length it.marks.list)) Started) (ap length w.offers ∙ length_altered it.send.notes.offers k (known_at w.of)))
-      (λ o a b. (a, refl)))
+      (λ o a b. (a, refl)) (λ o known. refl))
       (subst (λ (ms : List Asked). slice_get ms 0 ≡ Some Gone → ⊥) (sym e)
       (started_front it.marks.list (k - (length send.notes.offers - length it.marks.list)) v.front)))
 
@@ -260,6 +280,7 @@ reply_keeps it r inbox passed marks v e had list skips = skip_keeps (record { se
           (noted_reply v.over it.send.notes.offers it.inbox.had it.marks.list r v.noted e));
       one_each = v.one_each;
       size = v.size;
+      few = v.few;
       replied = ap (λ n. n + 1) v.replied ∙ sym (length_snoc it.inbox.had r) ∙ sym (ap length had);
     })
     skips

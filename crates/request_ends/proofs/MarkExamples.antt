@@ -1,5 +1,5 @@
 -- How the marks of the row keep which request comes next: before, between and after its two replies.
-use Rattle.std.proofs.Common.{◌≡◌, List, [], ◌∷◌, Some, None, refl, inl, inr, ⊎_elim}
+use Rattle.std.proofs.Common.{arith, ◌≡◌, List, [], ◌∷◌, Some, None, refl, inl, inr, ⊎_elim}
 use Rattle.request_ends.specs.declared.asking.AskEnd.TheInside.{Inside}
 use Rattle.request_ends.specs.declared.marks.Asked.{Asked}
 use Rattle.request_ends.specs.declared.marks.Asked.TheVariants.{Open, Started, Gone}
@@ -58,7 +58,7 @@ pub as_it_is_seen : asking_of (inside (Started ∷ [])) ≡ first_had
 as_it_is_seen = refl
 
 pub third_is_next : IsAsking (inside (Started ∷ []))
-third_is_next = record { over = 2; noted = two_are_over; front = λ e. cc; one_each = refl; size = refl; replied = refl }
+third_is_next = record { over = 2; noted = two_are_over; front = λ e. cc; one_each = refl; size = refl; few = omega arith; replied = refl }
 
 -- the withdrawn one does not wait at the front
 pub withdrawn_is_not_next : IsAsking (inside (Gone ∷ Started ∷ [])) → ⊥

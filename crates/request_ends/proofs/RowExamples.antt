@@ -16,6 +16,8 @@ use Rattle.channel_ends.specs.Rings.{RingName}
 use Rattle.channel_ends.specs.Sending.{MadeOffer, OwnerNotes, Sending, AreWithin}
 use Rattle.channel_ends.specs.Settled.{owner_offers}
 use Rattle.request_ends.specs.Asking.{Asking, reply_for, replies_after, asked, requests_of, end_of, IsNewAsk, IsSameAsk}
+use Rattle.request_ends.specs.declared.replying.Reply.{Reply}
+use Rattle.request_ends.specs.Replying.{ReplyRing}
 use Rattle.request_ends.specs.Laws.{RequestsAreViews}
 use Rattle.request_ends.proofs.Viewing.{requests_are_views}
 use Rattle.std.proofs.lemmas.List.Elements.{All-nil, All-cons}
@@ -139,11 +141,17 @@ when_one_is_awaited = refl
 
 -- ---- new ends, and the same ones
 
-pub it_is_new : IsNewAsk none_sent (a_ring 2) none_asked
-it_is_new = record { send = refl; ring = refl; replies = refl; gathered = refl }
+abbrev side : List Reply → ReplyRing
+side items = record { ring = a_ring 2; taken = []; items = items }
 
-pub no_reply_was_had : IsNewAsk none_sent (a_ring 2) (an_end none_sent (seven ∷ []) [] [] 0) → ⊥
+pub it_is_new : IsNewAsk none_sent (side []) none_asked
+it_is_new = record { send = refl; ring = refl; replies = refl; gathered = refl; items = refl }
+
+pub no_reply_was_had : IsNewAsk none_sent (side []) (an_end none_sent (seven ∷ []) [] [] 0) → ⊥
 no_reply_was_had h = let e = h.replies in cc
+
+pub nor_is_one_known_that_is_not_there : IsNewAsk none_sent (side []) (an_end none_sent [] [] (seven ∷ []) 64) → ⊥
+nor_is_one_known_that_is_not_there h = let e = h.items in cc
 
 pub it_is_the_same : IsSameAsk three_asked both_had
 it_is_the_same = record { send = record { table = refl; ring = refl }; ring = refl }

@@ -1,5 +1,5 @@
 -- What contracts see of the end of a core's requests.
-use Rattle.std.specs.Prelude.{◌≡◌, ℕ, List, [], ◌∷◌, Option, Some, None}
+use Rattle.std.specs.Prelude.{◌≡◌, ℕ, List, [], ◌∷◌, Option, Some, None, map}
 use Rattle.ac_base.specs.declared.entry.Payload.{Payload}
 use Rattle.ac_links.specs.Views.{Response, OwnerOffer}
 use Rattle.ac_links.specs.Party.{LinkEnd}
@@ -7,6 +7,7 @@ use Rattle.ac_links.specs.Party.LinkEnd.{Owns}
 use Rattle.channel_ends.specs.Pairs.{IsSameSend}
 use Rattle.channel_ends.specs.Rings.{RingName}
 use Rattle.channel_ends.specs.Sending.{MadeOffer, Sending}
+use Rattle.request_ends.specs.Replying.{ReplyRing, response_of}
 
 -- its requests with what is known of them; and the replies, each the oldest first: those that the core has had, those that were gathered
 -- for it, and those that it knows to be on their ring
@@ -50,9 +51,10 @@ pub record IsSameAsk (old new : Asking) : Type 0 where
   pub send : IsSameSend old.send new.send
   pub ring : new.ring ≡ old.ring
 
--- it is the end over this sending end and this ring, and no reply was had or gathered
-pub record IsNewAsk (of : Sending Payload) (name : RingName) (new : Asking) : Type 0 where
+-- it is the end over this sending end and this end of a ring, and no reply was had or gathered
+pub record IsNewAsk (of : Sending Payload) (side : ReplyRing) (new : Asking) : Type 0 where
   pub send : new.send ≡ of
-  pub ring : new.ring ≡ name
+  pub ring : new.ring ≡ side.ring
   pub replies : new.replies ≡ []
   pub gathered : new.gathered ≡ []
+  pub items : new.items ≡ map response_of side.items

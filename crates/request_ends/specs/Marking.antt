@@ -1,8 +1,8 @@
 -- How the end of a core's requests keeps which of them comes next: by a mark for each, from the first on that is neither withdrawn nor
 -- replied.
-use Rattle.std.specs.Prelude.{◌≡◌, ℕ, zero, suc, ◌⊎◌, List, [], ◌∷◌, length, Some, None, true, is_some, slice_get}
+use Rattle.std.specs.Prelude.{◌≡◌, ℕ, zero, suc, ◌+◌, ◌≤◌, ◌⊎◌, List, [], ◌∷◌, length, Some, None, true, is_some, slice_get}
 use Rattle.ac_links.specs.Views.{Response}
-use Rattle.channel_ends.specs.Sending.{MadeOffer, capacity_of}
+use Rattle.channel_ends.specs.Sending.{MadeOffer, capacity_of, known_lead}
 use Rattle.request_ends.specs.declared.asking.AskEnd.TheInside.{Inside}
 use Rattle.request_ends.specs.declared.marks.Asked.{Asked}
 use Rattle.request_ends.specs.declared.marks.Asked.TheVariants.{Open, Started, Gone}
@@ -38,11 +38,13 @@ asking_of it = record {
   places = it.marks.places;
 }
 
--- the requests before the marks are over, and the first that is marked is not withdrawn; the link has sixteen places
+-- the requests before the marks are over, and the first that is marked is not withdrawn; the link has sixteen places, and no more requests
+-- stand from the first one on that is not known
 pub record IsAsking (it : Inside) : Type 0 where
   pub over : ℕ
   pub noted : AreNoted over it.send.notes.offers it.inbox.had it.marks.list
   pub front : slice_get it.marks.list 0 ≡ Some Gone → ⊥
   pub one_each : length it.send.payloads ≡ length it.send.notes.offers
   pub size : capacity_of it.send.notes ≡ 16
+  pub few : length it.send.notes.offers ≤ known_lead it.send.notes.offers + 16
   pub replied : it.replied ≡ length it.inbox.had

@@ -1,6 +1,6 @@
 //! The end of a core's requests: it offers and withdraws them, and takes the replies.
 
-ghost use Rattle.std.specs.Prelude.{◌≡◌, ◌-◌, ◌≤◌, ◌<◌, [], ◌++◌, length, slice_get, true, OnOk};
+ghost use Rattle.std.specs.Prelude.{◌≡◌, ◌+◌, ◌-◌, ◌≤◌, ◌<◌, [], ◌++◌, length, slice_get, true, OnOk, IfErr};
 ghost use mathlib.Core.List.{IsPrefix};
 ghost use Rattle.ac_links.specs.Payloads.{is_request};
 ghost use Rattle.core_ports.specs.Ends.{awaits_reply};
@@ -13,6 +13,7 @@ ghost use Rattle.channel_ends.specs.Withdraws.{MayWithdraw, Withdraws};
 ghost use Rattle.channel_ends.specs.Pairs.{IsSettledSend, IsSettledRecv};
 ghost use Rattle.channel_ends.specs.Settled.{AreEnds, AreSettled, MakeALink};
 ghost use Rattle.request_ends.specs.Asking.{end_of, requests_of, IsNewAsk, IsSameAsk};
+ghost use Rattle.request_ends.specs.Replying.{HasLooked};
 ghost use Rattle.request_ends.specs.Requesting.{Requests, ListWithdraws, ListLearns, NotesOnly};
 ghost use Rattle.request_ends.specs.Answered.{Replies, replied_clock, Gathers, HasAllReplies};
 
@@ -91,7 +92,7 @@ impl<'a> AskEnd<'a> {
         requires send { (send.notes.offers ≡ []) × (send.payloads ≡ []) }
         requires size { capacity_of send.notes ≡ 16 }
         requires side { side.taken ≡ [] }
-        ensures { IsNewAsk send.entry side.ring result }
+        ensures { IsNewAsk send.entry side result }
     {
         AskEnd {
             send,
@@ -260,7 +261,7 @@ impl<'a> AskEnd<'a> {
 
     /// Lets both ends of the requests and both ends of the replies know all that the other has done, in a
     /// thread that has all of them, and gathers the replies. It makes no entry. After want of memory the
-    /// lists of all ends are as before, but that more of the replies may have come.
+    /// requests are not settled, and of the replies no more has changed than that some may have come.
     ///
     /// Condition: the ends are those of one core.
     pub fn settle(
@@ -273,19 +274,21 @@ impl<'a> AskEnd<'a> {
         ensures pair { AreEnds self.new.send recv.new }
         ensures send { IsSettledSend self.old.send self.new.send }
         ensures recv { IsSettledRecv recv.old recv.new }
-        ensures settled { AreSettled self.new.send recv.new }
-        ensures link { MakeALink self.new.send recv.new }
         ensures list { requests_of self.new ≡ requests_of self.old }
         ensures same { IsSameAsk self.old self.new }
         ensures replies { self.new.replies ≡ self.old.replies }
         ensures came { IsPrefix (self.old.gathered ++ self.old.items) (self.new.gathered ++ self.new.items) }
         ensures places { self.old.places ≤ self.new.places }
-        ensures end { (end.new.ring ≡ end.old.ring) × (end.new.replies ≡ end.old.replies) }
+        ensures end { HasLooked end.old end.new }
+        ensures settled { OnOk result (AreSettled self.new.send recv.new × MakeALink self.new.send recv.new) }
+        ensures few { length self.new.send.notes.offers ≤ known_lead self.new.send.notes.offers + 16 }
         ensures ok { OnOk result (HasAllReplies self.new end.new × (0 < self.new.places)) }
+        ensures err { IfErr result (λ _. (self.new.send ≡ self.old.send) × (recv.new ≡ recv.old)) }
     {
-        settle(&mut self.send, recv);
         self.marks.reserve(4 * PLACES as u32)?;
-        self.inbox.meet(end)
+        self.inbox.meet(end)?;
+        settle(&mut self.send, recv);
+        Ok(())
     }
 
     /// How many requests there are.

@@ -1,7 +1,7 @@
 //! The replies to the requests of a core as they come to it.
 
-ghost use Rattle.std.specs.Prelude.{◌≡◌, ◌<◌, [], ◌++◌, length, OnOk, Some, None};
-ghost use Rattle.request_ends.specs.Replying.{response_of};
+ghost use Rattle.std.specs.Prelude.{◌≡◌, ◌<◌, [], ◌++◌, length, map, OnOk, Some, None};
+ghost use Rattle.request_ends.specs.Replying.{response_of, HasLooked};
 ghost use Rattle.request_ends.specs.inner.Coming.{first_of, stamp_of, LooksOnly, PopsNext, MayPop, HasGathered, HasMet};
 
 use crate::replying::{Reply, ReplyEnd, ReplySide};
@@ -33,6 +33,7 @@ impl Inbox {
         requires { side.taken ≡ [] }
         ensures ring { result.ring ≡ side.ring }
         ensures none { (result.had ≡ []) × (result.gathered ≡ []) }
+        ensures items { result.items ≡ map response_of side.items }
     {
         let ReplySide { ring } = side;
         Inbox {
@@ -82,7 +83,7 @@ impl Inbox {
     /// lets that end know of each free place. The last look shows that nothing more has come.
     pub(crate) fn meet(&mut self, end: &mut ReplyEnd) -> Result<(), NoMemory>
         requires { end.old.ring ≡ self.old.ring }
-        ensures end { (end.new.ring ≡ end.old.ring) × (end.new.replies ≡ end.old.replies) }
+        ensures end { HasLooked end.old end.new }
         ensures all { HasMet self.old self.new }
         ensures ok { OnOk result ((self.new.items ≡ []) × (end.new.free ≡ 16)
             × (self.new.had ++ self.new.gathered ≡ end.new.replies)) }

@@ -7,7 +7,7 @@ use Rattle.std.proofs.lemmas.Bool.{cases_lt}
 use Rattle.std.proofs.lemmas.Option.{slice_get_within}
 use Rattle.settled_rounds.specs.declared.party.Way.{Way}
 use Rattle.settled_rounds.specs.Linked.{Pointwise, OnLinks}
-use Rattle.settled_rounds.specs.inner.Settling.{Keeps, SettlesOne, SettlesAll}
+use Rattle.settled_rounds.specs.inner.Settling.{Keeps, SettlesOne}
 use Rattle.settled_rounds.proofs.Pointwise.{each_at, each_self, each_then, each_weaker, all_keep}
 use Rattle.settled_rounds.proofs.Pairs.{two_each, two_read, two_stand, same_Some}
 
@@ -20,13 +20,19 @@ module _ {P : Type 0} (clock : P → ℕ) (later : P → P → Type 0) (known : 
   keeps_self : (l : ℕ) (p : P) → Keeps clock later known still apart l p p
   keeps_self l p = record { is_later = later_self p; same_clock = refl; is_apart = apart_self l p }
 
+  pub both_keep : (all front back : List P) (i j l : ℕ) (x y c d : P) → all ≡ front ++ back → length front ≡ j → i < j → j < length all
+      → Keeps clock later known still apart l (get_or front i x) c → Keeps clock later known still apart l (get_or back 0 y) d
+      → Pointwise (Keeps clock later known still apart l) all (slice_set front i c ++ slice_set back 0 d)
+  both_keep all front back i j l x y c d e len below inside one two =
+      two_each (Keeps clock later known still apart l) (keeps_self l) all front back i j x y c d e len below inside one two
+
   -- the owner stands before the peer
   pub settles_up : (all front back : List P) (i j l : ℕ) (x y c d : P) → all ≡ front ++ back → length front ≡ j → i < j → j < length all
       → Keeps clock later known still apart l (get_or front i x) c → Keeps clock later known still apart l (get_or back 0 y) d
       → (known l (get_or front i x) (get_or back 0 y) → still (get_or front i x) c × still (get_or back 0 y) d)
       → SettlesOne clock later known still apart l i j all (slice_set front i c ++ slice_set back 0 d)
   settles_up all front back i j l x y c d e len below inside one two again = record {
-    keeps = two_each (Keeps clock later known still apart l) (keeps_self l) all front back i j x y c d e len below inside one two;
+    keeps = both_keep all front back i j l x y c d e len below inside one two;
     again = λ k.
         let (a, b) = two_stand all front back i j x y e len below inside in
         let (s, t) = again (k (get_or front i x) (get_or back 0 y) a b) in
@@ -39,7 +45,7 @@ module _ {P : Type 0} (clock : P → ℕ) (later : P → P → Type 0) (known : 
       → (known l (get_or back 0 y) (get_or front i x) → still (get_or back 0 y) d × still (get_or front i x) c)
       → SettlesOne clock later known still apart l j i all (slice_set front i c ++ slice_set back 0 d)
   settles_down all front back i j l x y c d e len below inside one two again = record {
-    keeps = two_each (Keeps clock later known still apart l) (keeps_self l) all front back i j x y c d e len below inside one two;
+    keeps = both_keep all front back i j l x y c d e len below inside one two;
     again = λ k.
         let (a, b) = two_stand all front back i j x y e len below inside in
         let (s, t) = again (k (get_or back 0 y) (get_or front i x) b a) in
@@ -76,6 +82,11 @@ module _ {P : Type 0} (clock : P → ℕ) (later : P → P → Type 0) (known : 
       below = λ l w a b less is from to. absurd (omega arith);
     }
 
+  pub one_more_later : ((p q r : P) → later p q → later q r → later p r) → (n : ℕ) (ps qs rs : List P) → Pointwise later ps qs
+      → Pointwise (Keeps clock later known still apart n) qs rs → Pointwise later ps rs
+  one_more_later later_then n ps qs rs all keeps =
+      each_then later later_then ps qs rs all (each_weaker (Keeps clock later known still apart n) later (λ p q h. h.is_later) qs rs keeps)
+
   module _ (later_then : (p q r : P) → later p q → later q r → later p r)
       (settled_apart : (l o : ℕ) (p q r s : P) → settled l p q → (l ≡ o → ⊥) → apart o p r → apart o q s → settled l r s)
       (known_still : (l : ℕ) (p q r s : P) → known l p q → still p r → still q s → known l r s)
@@ -90,11 +101,10 @@ module _ {P : Type 0} (clock : P → ℕ) (later : P → P → Type 0) (known : 
         → OnLinks known ways qs → Pointwise still qs rs
     all_still ways n w qs rs is one k = one.again (λ a b at_a at_b. k n w a b is at_a at_b)
 
-    pub one_more_kept : (ways : List Way) (n : ℕ) (w : Way) (ps qs rs : List P) → slice_get ways n ≡ Some w → SettledBelow ways n ps qs
+    one_more_kept : (ways : List Way) (n : ℕ) (w : Way) (ps qs rs : List P) → slice_get ways n ≡ Some w → SettledBelow ways n ps qs
         → SettlesOne clock later known still apart n w.from w.to qs rs → SettledBelow ways n ps rs
     one_more_kept ways n w ps qs rs is all one = record {
-      all_later = each_then later later_then ps qs rs all.all_later
-          (each_weaker (Keeps clock later known still apart n) later (λ p q h. h.is_later) qs rs one.keeps);
+      all_later = one_more_later later_then n ps qs rs all.all_later one.keeps;
       clocks = each_then (λ p q. clock q ≡ clock p) (λ p q r a b. b ∙ a) ps qs rs all.clocks
           (each_weaker (Keeps clock later known still apart n) (λ p q. clock q ≡ clock p) (λ p q h. h.same_clock) qs rs one.keeps);
       all_known = λ k. let m = all.all_known k in known_on ways qs rs m (all_still ways n w qs rs is one m);
@@ -131,9 +141,6 @@ module _ {P : Type 0} (clock : P → ℕ) (later : P → P → Type 0) (known : 
 
   pub all_below : (ways : List Way) (n : ℕ) (ps qs : List P) → length ways ≤ n → SettledBelow ways n ps qs → OnLinks settled ways qs
   all_below ways n ps qs whole all l w a b is from to = all.below l w a b (let h = slice_get_within ways l w is in omega arith) is from to
-
-  pub settles_all : (ways : List Way) (n : ℕ) (ps qs : List P) → SettledBelow ways n ps qs → SettlesAll clock later known still apart stopped ways ps qs
-  settles_all ways n ps qs all = record { all_later = all.all_later; clocks = all.clocks; again = all.rest }
 
   module _ (pair_stays : (l : ℕ) (p q r s : P) → pair l p q → later p r → later q s → pair l r s) where
     pub pairs_stay : (ways : List Way) (ps qs : List P) → OnLinks pair ways ps → Pointwise later ps qs → OnLinks pair ways qs

@@ -1,7 +1,5 @@
 -- A pass goes over the parties one by one: what is left of all clocks falls where one makes an entry, and else each has stopped.
-use Rattle.std.proofs.Common.{◌≡◌, ℕ, ◌+◌, ◌-◌, ◌^◌, ◌<◌, ◌≤◌, ◌++◌, List, [], ◌∷◌, length, get_or, slice_set, Bool, true, false, ◌||◌, refl, sym, ◌∙◌, ap, subst, arith}
-use Rattle.std.specs.Prelude.{nat_lt}
-use Rattle.std.proofs.lemmas.Bool.Decides.{nat_tests}
+use Rattle.std.proofs.Common.{◌≡◌, ℕ, ◌+◌, ◌-◌, ◌^◌, ◌<◌, ◌++◌, List, [], ◌∷◌, length, get_or, slice_set, Bool, true, false, refl, sym, ◌∙◌, ap, subst, arith}
 use Rattle.std.proofs.lemmas.List.Sums.{sum_by-cons}
 use Rattle.settled_rounds.specs.declared.party.Way.{Way}
 use Rattle.settled_rounds.specs.Linked.{Pointwise, OnLinks}
@@ -21,46 +19,9 @@ module _ {P : Type 0} (later : P → P → Type 0) (later_self : (p : P) → lat
       → Pointwise later all (slice_set front 0 q ++ rest)
   one_later all front rest x q e len one = more_later all front rest rest x q e len one (each_self later later_self rest)
 
-first_false : (m n : Bool) → m || n ≡ false → m ≡ false
-first_false false n h = refl
-first_false true n h = absurd cc
-
-second_false : (m n : Bool) → m || n ≡ false → n ≡ false
-second_false false n h = h
-second_false true n h = absurd cc
-
 module _ {P : Type 0} (clock : P → ℕ) (still : P → P → Type 0) (stopped : P → Type 0) where
   left_cons : (p : P) (ps : List P) → left clock (p ∷ ps) ≡ (2 ^ 60 - clock p) + left clock ps
   left_cons p ps = sum_by-cons (λ p. 2 ^ 60 - clock p) p ps
-
-  falls_so : (x q : P) (rest qs : List P) (m n : Bool) → clock x ≤ clock q → clock q < 2 ^ 60 → m ≡ nat_lt (clock x) (clock q)
-      → Passes clock still stopped rest qs n → m || n ≡ true → left clock (q ∷ qs) < left clock (x ∷ rest)
-  falls_so x q rest qs true n up bound is more e =
-      let r : clock x < clock q = grind (arith, nat_tests) in
-      let f : left clock qs ≤ left clock rest = more.falls in
-      let a = left_cons q qs in
-      let b = left_cons x rest in
-      omega arith
-  falls_so x q rest qs false n up bound is more e =
-      let f : left clock qs < left clock rest = more.moved_so e in
-      let a = left_cons q qs in
-      let b = left_cons x rest in
-      omega arith
-
-  pub more_passed : (all front rest qs : List P) (x q : P) (m n r : Bool) → all ≡ front ++ rest → length front ≡ 1 → clock (get_or front 0 x) ≤ clock q
-      → clock q < 2 ^ 60 → m ≡ nat_lt (clock (get_or front 0 x)) (clock q) → (m ≡ false → still (get_or front 0 x) q × stopped q)
-      → Passes clock still stopped rest qs n → r ≡ (m || n) → Passes clock still stopped all (slice_set front 0 q ++ qs) r
-  more_passed all [] rest qs x q m n r e len up bound is rests more so = absurd (omega arith)
-  more_passed all (y ∷ z ∷ ys) rest qs x q m n r e len up bound is rests more so = absurd (omega arith)
-  more_passed all (y ∷ []) rest qs x q m n r e len up bound is rests more so =
-      subst (λ (b : Bool). Passes clock still stopped all (q ∷ qs) b) (sym so)
-      (subst (λ (xs : List P). Passes clock still stopped xs (q ∷ qs) (m || n)) (sym e) (record {
-        falls = let f : left clock qs ≤ left clock rest = more.falls in let a = left_cons q qs in let b : left clock ((y ∷ []) ++ rest) ≡
-            (2 ^ 60 - clock y) + left clock rest = left_cons y rest in omega arith;
-        moved_so = λ h. falls_so y q rest qs m n up bound is more h;
-        same = λ h. ((rests (first_false m n h)).0, more.same (second_false m n h));
-        rest = λ h. ((rests (first_false m n h)).1, more.rest (second_false m n h));
-      }))
 
   same_left : (ps qs : List P) → Pointwise (λ p q. clock q ≡ clock p) ps qs → left clock qs ≡ left clock ps
   same_left [] [] h = refl
@@ -95,5 +56,5 @@ module _ {P : Type 0} (clock : P → ℕ) (later : P → P → Type 0) (known : 
   settles_still knows stays ps mid qs rs m all p is again done = record {
     falls = λ e. absurd cc;
     all_settled = λ e. done;
-    rest = λ e. again.again (known_after knows stays mid qs all (p.same is)) (p.rest is);
+    rest = λ e. again.again (known_after knows stays mid qs all (p.same is)) p.rest;
   }

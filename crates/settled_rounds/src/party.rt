@@ -52,7 +52,8 @@ pub trait Party {
         ensures rises { clock self.old ≤ clock self.new }
         ensures bound { clock self.new < 2 ^ 60 }
         ensures moved { IfOk result (λ it. it ≡ nat_lt (clock self.old) (clock self.new)) }
-        ensures rests { IfOk result (λ it. it ≡ false → still self.old self.new × stopped self.new) };
+        ensures stops { OnOk result (stopped self.new) }
+        ensures rests { IfOk result (λ it. it ≡ false → still self.old self.new) };
 
     /// Lets its end of a link on which it sends, and the other party's, know all that the other has done.
     /// It makes no entry, and where each already has at hand all that is there nothing new comes to either.
@@ -61,7 +62,7 @@ pub trait Party {
         ensures owner { later self.old self.new × (clock self.new ≡ clock self.old) × apart link self.old self.new }
         ensures peer { later other.old other.new × (clock other.new ≡ clock other.old) × apart link other.old other.new }
         ensures settled { OnOk result (settled link self.new other.new) }
-        ensures again { known link self.old other.old → still self.old self.new × still other.old other.new };
+        ensures again { OnOk result (known link self.old other.old → still self.old self.new × still other.old other.new) };
 
     ghost later_self: { (p : Self) → later p p };
 

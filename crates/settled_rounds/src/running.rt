@@ -52,7 +52,7 @@ fn settle<P: Party>(ways: &[Way], parties: &mut [P]) -> Result<bool, NoMemory>
     Ok(moved)
 }
 
-/// Lets the parties go on one after the other, and settles them, until a settling shows that none can go on.
+/// Settles the parties and lets them go on one after the other, until a settling shows that none can go on.
 ///
 /// Conditions: there are fewer than 2^32 links, each goes from one of the parties to another, and their ends
 /// of it are of one pair; and each party may go on.
@@ -65,7 +65,6 @@ pub fn run<P: Party>(ways: &[Way], parties: &mut [P]) -> Result<(), NoMemory>
     ensures settled { OnOk result (OnLinks P.settled ways.now parties.new) }
     ensures stopped { OnOk result (AllByRecursion P.stopped parties.new) }
 {
-    round(parties)?;
     while settle(ways, parties)? {
         round(parties)?;
     }

@@ -19,9 +19,9 @@ use Rattle.core_ports.specs.declared.side.Side.{Side}
 use Rattle.core_ports.specs.declared.side.Side.TheVariants.{Owner, Peer, Neither}
 use Rattle.core_ports.specs.Sides.{side_of}
 use Rattle.file_ops.specs.Agreement.{is_own, worker_ends}
-use Rattle.core_runner.specs.Network.{terms_in, ends_in}
-use Rattle.core_runner.specs.Cores.{CoreView, AgreesWith, AreCoresOf}
-use Rattle.core_runner.specs.Workers.{WorkerAgreesWith}
+use Rattle.run_laws.specs.Network.{terms_in, ends_in}
+use Rattle.run_laws.specs.Cores.{CoreView, AgreesWith, AreCoresOf}
+use Rattle.run_laws.specs.Workers.{WorkerAgreesWith}
 use Rattle.settled_run.specs.Settled.{AreSettledEnds}
 use Rattle.settled_run.specs.Parties.{AreCoresWith, WorkerHolds}
 use Rattle.settled_run.proofs.Linked.{links, linked, within, core_end, worker_end, worker_holds, own_within, own_low, at_least}

@@ -20,9 +20,9 @@ use Rattle.ac_links.specs.Party.LinkEnd.{Owns, Decides, Absent}
 use Rattle.ac_links.specs.Views.{PeerDecision}
 use Rattle.ac_outside.specs.Disks.{Held, DiskTold, called}
 use Rattle.program_run.specs.DiskLeft.{LeavesDisk}
-use Rattle.core_runner.specs.Network.{terms_in}
-use Rattle.core_runner.proofs.CoreExamples.{crossing, crossed, links_with, five}
-use Rattle.core_runner.proofs.RunExamples.{its_cores, their_run, it_is_made}
+use Rattle.run_laws.specs.Network.{terms_in}
+use Rattle.run_laws.proofs.CoreExamples.{crossing, crossed, links_with, five}
+use Rattle.run_laws.proofs.RunExamples.{its_cores, their_run, it_is_made}
 use Rattle.settled_run.specs.Ends.{owner_end}
 use Rattle.settled_run.specs.Disk.{TellsPopped, payloads_at, ArePopped, LeavesHeld, HasServed}
 use Rattle.settled_run.specs.Laws.{SettledEndsLeaveTheDisk}

@@ -16,13 +16,13 @@ use Rattle.core_ports.specs.declared.side.Side.{Side}
 use Rattle.core_ports.specs.declared.side.Side.TheVariants.{Owner, Peer, Neither}
 use Rattle.core_ports.specs.Sides.{side_of}
 use Rattle.ac_links.specs.declared.payloads.Terms.{Terms}
-use Rattle.link_ports.specs.Hands.{hand_at, heard_at}
-use Rattle.link_ports.proofs.Answering.{none_above}
-use Rattle.core_runner.specs.Network.{terms_in, offers_in, decisions_in, ends_in, heard_in, AreLinksOf}
-use Rattle.core_runner.specs.Cores.{CoreView, HasNoStamp, IsAtRest, HasFullClock, IsDone}
-use Rattle.core_runner.specs.GoingOn.{LeavesNothing, HasStopped}
-use Rattle.core_runner.specs.Workers.{WorkerIsDone}
-use Rattle.core_runner.proofs.Stopping.{at_rest}
+use Rattle.run_laws.specs.Hands.{hand_at, heard_at}
+use Rattle.run_laws.proofs.Clocks.{none_above}
+use Rattle.run_laws.specs.Network.{terms_in, offers_in, decisions_in, ends_in, heard_in, AreLinksOf}
+use Rattle.run_laws.specs.Cores.{CoreView, HasNoStamp, IsAtRest, HasFullClock, IsDone}
+use Rattle.run_laws.specs.GoingOn.{LeavesNothing, HasStopped}
+use Rattle.run_laws.specs.Workers.{WorkerIsDone}
+use Rattle.run_laws.proofs.Stopping.{at_rest}
 use Rattle.settled_run.specs.Ends.{greatest_at, owner_end, peer_end, facing, other_ends}
 use Rattle.settled_run.specs.Settled.{AreSettledEnds}
 use Rattle.settled_run.specs.Telling.{TellsOwner, TellsPeer, TellsAll}

@@ -26,10 +26,10 @@ use Rattle.file_ops.specs.Counting.{AreCounted}
 use Rattle.program_run.specs.declared.ended.Ended.{Ended}
 use Rattle.program_run.specs.DiskLeft.{deeds_of, LeavesFiles, LeavesDisk}
 use Rattle.program_run.specs.Run.{history_of}
-use Rattle.core_runner.specs.Cores.{CoreView, journals_of}
-use Rattle.core_runner.specs.Laws.{IsRunOfCores}
-use Rattle.core_runner.specs.Network.{offers_in, request_in}
-use Rattle.core_runner.proofs.Together.{did}
+use Rattle.run_laws.specs.Cores.{CoreView, journals_of}
+use Rattle.run_laws.specs.Laws.{IsRunOfCores}
+use Rattle.run_laws.specs.Network.{offers_in, request_in}
+use Rattle.run_laws.proofs.Together.{did}
 use Rattle.settled_run.specs.Ends.{owner_end}
 use Rattle.settled_run.specs.Settled.{AreSettledEnds}
 use Rattle.settled_run.specs.Parties.{AreCoresWith, WorkerHolds}

@@ -18,10 +18,10 @@ use Rattle.core_ports.specs.declared.side.Side.{Side}
 use Rattle.core_ports.specs.declared.side.Side.TheVariants.{Owner, Peer, Neither}
 use Rattle.core_ports.specs.Sides.{side_of}
 use Rattle.file_ops.specs.Agreement.{is_own, worker_ends}
-use Rattle.link_ports.specs.Ends.{end_of}
+use Rattle.run_laws.specs.Ends.{end_of}
 use Rattle.program_run.specs.Parties.{peer_of}
-use Rattle.core_runner.specs.Network.{offers_in, decisions_in, ends_in, AreLinksOf}
-use Rattle.core_runner.proofs.Parties.{owner_is, peer_is, carries_messages, peer_of_channel, side_within}
+use Rattle.run_laws.specs.Network.{offers_in, decisions_in, ends_in, AreLinksOf}
+use Rattle.run_laws.proofs.Parties.{owner_is, peer_is, carries_messages, peer_of_channel, side_within}
 use Rattle.settled_run.specs.Ends.{decisions_of, owner_end, peer_end}
 use Rattle.settled_run.specs.Settled.{AreSettledEnds}
 

@@ -22,9 +22,8 @@ use Rattle.ac_outside.specs.Disks.{Held, DiskTold}
 use Rattle.file_ops.specs.Agreement.{files_of}
 use Rattle.file_ops.specs.Asked.{file_of, texts, is_of_bound, held_after, AskedBy, Asked}
 use Rattle.file_ops.specs.Counting.{AreCounted}
-use Rattle.file_ops.proofs.Counting.{counted_none, counted_more}
+use Rattle.file_ops.proofs.Counting.{counted_none, counted_more, no_deed}
 use Rattle.file_ops.proofs.Filing.{serves_padded, same_files, as_many_files, same_found, nothing_done, nothing_served}
-use Rattle.file_ops.proofs.Serving.{no_deed}
 use Rattle.settled_run.specs.Disk.{TellsPopped, LeavesHeld, HasServed}
 
 -- ---- lists

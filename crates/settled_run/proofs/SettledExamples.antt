@@ -25,12 +25,12 @@ use Rattle.core_ports.specs.declared.side.Side.{Side}
 use Rattle.core_ports.specs.declared.side.Side.TheVariants.{Owner, Peer, Neither}
 use Rattle.core_ports.specs.Sides.{side_of}
 use Rattle.file_ops.specs.Agreement.{is_own}
-use Rattle.link_ports.specs.Hands.{heard_at}
+use Rattle.run_laws.specs.Hands.{heard_at}
 use Rattle.program_run.specs.Run.{IsRunOf}
-use Rattle.core_runner.specs.Network.{terms_in, ends_in, heard_in}
-use Rattle.core_runner.proofs.CoreExamples.{crossing, five, crossed, links_with, entry, sender}
-use Rattle.core_runner.proofs.CoreExamples.{waiting, by_place, it_agrees, so_does_the_receiver, the_sender_ends, the_receiver_ends, the_first_of_its_cores}
-use Rattle.core_runner.proofs.RunExamples.{its_cores, their_run, it_is_made}
+use Rattle.run_laws.specs.Network.{terms_in, ends_in, heard_in}
+use Rattle.run_laws.proofs.CoreExamples.{crossing, five, crossed, links_with, entry, sender}
+use Rattle.run_laws.proofs.CoreExamples.{waiting, by_place, it_agrees, so_does_the_receiver, the_sender_ends, the_receiver_ends, the_first_of_its_cores}
+use Rattle.run_laws.proofs.RunExamples.{its_cores, their_run, it_is_made}
 use Rattle.settled_run.specs.Ends.{decisions_of, greatest_at, owner_end, peer_end, facing, other_ends}
 use Rattle.settled_run.specs.Settled.{IsSettledLink, AreSettledEnds}
 use Rattle.settled_run.specs.Telling.{TellsOwner, TellsPeer, TellsAll}

@@ -8,7 +8,7 @@ use Rattle.core_ports.specs.PortsTold.{PortsTold}
 use Rattle.core_ports.specs.declared.side.Side.{Side}
 use Rattle.core_ports.specs.declared.side.Side.TheVariants.{Owner, Peer, Neither}
 use Rattle.core_ports.specs.Sides.{side_of}
-use Rattle.link_ports.specs.Hands.{greatest, last_stamp_of}
+use Rattle.core_ports.specs.Ends.{greatest, last_stamp_of}
 use Rattle.program_run.specs.Parties.{owner_of, peer_of}
 
 -- what a party has decided on the link

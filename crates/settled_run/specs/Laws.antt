@@ -14,8 +14,8 @@ use Rattle.core_ports.specs.PortsTold.{PortsTold}
 use Rattle.program_run.specs.declared.ended.Ended.{Ended}
 use Rattle.program_run.specs.Run.{IsRunOf}
 use Rattle.program_run.specs.DiskLeft.{LeavesDisk}
-use Rattle.core_runner.specs.Cores.{CoreView}
-use Rattle.core_runner.specs.Laws.{IsRunOfCores}
+use Rattle.run_laws.specs.Cores.{CoreView}
+use Rattle.run_laws.specs.Laws.{IsRunOfCores}
 use Rattle.settled_run.specs.Ends.{other_ends}
 use Rattle.settled_run.specs.Settled.{AreSettledEnds}
 use Rattle.settled_run.specs.Telling.{TellsAll}

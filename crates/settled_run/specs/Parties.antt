@@ -11,8 +11,8 @@ use Rattle.ac_links.specs.Party.{LinkEnd, PartyAgrees}
 use Rattle.ac_links.specs.Party.LinkEnd.{Owns, Decides}
 use Rattle.core_driver.specs.Sides.{ArePortsOf}
 use Rattle.core_ports.specs.PortsTold.{PortsTold}
-use Rattle.core_runner.specs.Cores.{CoreView, HasNoStamp, IsCoreOf}
-use Rattle.core_runner.specs.GoingOn.{HasStopped}
+use Rattle.run_laws.specs.Cores.{CoreView, HasNoStamp, IsCoreOf}
+use Rattle.run_laws.specs.GoingOn.{HasStopped}
 use Rattle.settled_run.specs.Ends.{greatest_at, owner_end}
 
 -- ---- cores

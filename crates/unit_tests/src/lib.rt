@@ -14,6 +14,8 @@ mod links;
 #[cfg(test)]
 mod outside;
 #[cfg(test)]
+mod requests;
+#[cfg(test)]
 mod rows;
 #[cfg(test)]
 mod server_text;

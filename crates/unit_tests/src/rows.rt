@@ -54,6 +54,12 @@ pub enum Said {
         number: u64,
         stamp: u64,
     },
+    Replied {
+        number: u64,
+        count: u32,
+        stamp: u64,
+    },
+    NotAwaited,
     Nothing,
     ClockFull,
     Settled,

@@ -9,12 +9,12 @@ module _ {P : Type 0} where
   abbrev pub left : (P → ℕ) → List P → ℕ
   left clock parties = sum_by (λ p. 2 ^ 60 - clock p) parties
 
-  -- each party has gone on once: one made an entry, or all is as before and each has stopped
+  -- each party has gone on once and has stopped: one made an entry, or all is as before
   pub record Passes (clock : P → ℕ) (still : P → P → Type 0) (stopped : P → Type 0) (old new : List P) (moved : Bool) : Type 0 where
     pub falls : left clock new ≤ left clock old
     pub moved_so : moved ≡ true → left clock new < left clock old
     pub same : moved ≡ false → Pointwise still old new
-    pub rest : moved ≡ false → AllByRecursion stopped new
+    pub rest : AllByRecursion stopped new
 
   -- one made an entry, or each link is settled and each party has stopped
   pub record Settles (clock : P → ℕ) (settled : ℕ → P → P → Type 0) (stopped : P → Type 0) (ways : List Way) (old new : List P)

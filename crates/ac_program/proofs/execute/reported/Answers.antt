@@ -3,6 +3,7 @@ use Rattle.std.proofs.Common.{ℕ, List, ◌*◌, ◌≤◌, refl, ap, sym, ◌�
 use Rattle.std.proofs.lemmas.Result.{err_from_is_err_and}
 use Rattle.ac_names.specs.Numbered.{core_names, file_paths}
 use Rattle.ac_resolve.specs.Resolution.{resolved}
+use Rattle.core_runner.proofs.Programs.{program_has_places}
 use Rattle.program_run.specs.Run.{IsRunOf}
 use Rattle.program_run.proofs.NamedRuns.{runs_name_files}
 use Rattle.starting_files.specs.Starting.{AreStarted, AreStopped}
@@ -15,6 +16,9 @@ use Rattle.ac_program.proofs.execute.reported.Goals as goal
 
 pub run-requires-clause-keeps : goal.run-requires-clause-keeps
 run-requires-clause-keeps g c = c.in_ok-code.ensures.ends
+
+pub run-requires-clause-places : goal.run-requires-clause-places
+run-requires-clause-places g c = program_has_places (resolved c.args.checked.now) c.in_ok-code.code c.in_ok-code.ensures.code
 
 pub run-requires-clause-few : goal.run-requires-clause-few
 run-requires-clause-few g c =

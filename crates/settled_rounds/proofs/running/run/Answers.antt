@@ -1,4 +1,4 @@
-use Rattle.settled_rounds.proofs.Pointwise.{each_then, all_stay}
+use Rattle.settled_rounds.proofs.Pointwise.{each_self, each_then, all_stay}
 use Rattle.settled_rounds.proofs.EachLink.{pairs_stay}
 use Rattle.settled_rounds.proofs.running.run.Goals as goal
 
@@ -15,16 +15,16 @@ returns-in_err-settle-clause-later g c =
 pub loop-parties-preserved : goal.loop-parties-preserved
 loop-parties-preserved g c =
     let t = g.P.Party in
-    each_then t.later g.met.P.Party.later_then c.args.parties.now c.settle.new.parties c.round-in-loop-parties.new.parties
+    each_then t.later g.met.P.Party.later_then c.args.parties.now c.settle.new.parties c.round.new.parties
     (each_then t.later g.met.P.Party.later_then c.args.parties.now c.loop-parties.parties c.settle.new.parties c.loop-parties.invariant c.settle.ensures.later)
-    c.round-in-loop-parties.ensures.later
+    c.round.ensures.later
 
-pub returns-in_err-round-2-clause-later : goal.returns-in_err-round-2-clause-later
-returns-in_err-round-2-clause-later g c =
+pub returns-in_err-round-clause-later : goal.returns-in_err-round-clause-later
+returns-in_err-round-clause-later g c =
     let t = g.P.Party in
-    each_then t.later g.met.P.Party.later_then c.args.parties.now c.settle.new.parties c.round-in-loop-parties.new.parties
+    each_then t.later g.met.P.Party.later_then c.args.parties.now c.settle.new.parties c.round.new.parties
     (each_then t.later g.met.P.Party.later_then c.args.parties.now c.loop-parties.parties c.settle.new.parties c.loop-parties.invariant c.settle.ensures.later)
-    c.round-in-loop-parties.ensures.later
+    c.round.ensures.later
 
 pub returns-clause-later : goal.returns-clause-later
 returns-clause-later g c =
@@ -33,7 +33,10 @@ returns-clause-later g c =
 pub settle-requires-clause-ready : goal.settle-requires-clause-ready
 settle-requires-clause-ready g c = all_stay g.P.Party.later g.P.Party.ready g.met.P.Party.ready_stays c.args.parties.now c.loop-parties.parties c.requires.ready c.loop-parties.invariant
 
-pub round-requires-in-loop-parties : goal.round-requires-in-loop-parties
-round-requires-in-loop-parties g c =
+pub round-requires : goal.round-requires
+round-requires g c =
     all_stay g.P.Party.later g.P.Party.ready g.met.P.Party.ready_stays c.args.parties.now c.settle.new.parties c.requires.ready
     (each_then g.P.Party.later g.met.P.Party.later_then c.args.parties.now c.loop-parties.parties c.settle.new.parties c.loop-parties.invariant c.settle.ensures.later)
+
+pub loop-parties-init : goal.loop-parties-init
+loop-parties-init g c = each_self g.P.Party.later g.met.P.Party.later_self c.args.parties.now

@@ -1,4 +1,4 @@
-use Rattle.core_runner.proofs.Whole.{one_run}
+use Rattle.run_laws.proofs.Whole.{one_run}
 use Rattle.settled_run.proofs.Agreed.{are_cores, core_within, worker_agrees}
 use Rattle.settled_run.proofs.Done.{core_done, worker_done}
 use Rattle.settled_run.proofs.Linked.{links}

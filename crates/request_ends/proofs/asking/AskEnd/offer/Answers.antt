@@ -11,7 +11,8 @@ use Rattle.request_ends.proofs.asking.AskEnd.offer.Goals as goal
 pub invariant_of-self : goal.invariant_of-self
 invariant_of-self c =
     let o : IsOffered c.self.inside.send c.args.value c.in-Offered.stamp c.offer.new.self = search rules in
-    offer_keeps c.self.inside c.args.value c.in-Offered.stamp c.offer.new.self c.push.new.self c.self.invariant o c.push.ensures.list
+    let room : has_room c.self.inside.send.notes ≡ true = search rules in
+    offer_keeps c.self.inside c.args.value c.in-Offered.stamp c.offer.new.self c.push.new.self c.self.invariant room o c.push.ensures.list
 
 pub returns-in-Offered-clause-answer : goal.returns-in-Offered-clause-answer
 returns-in-Offered-clause-answer c =

@@ -48,7 +48,7 @@ invariant_of-self c =
     ∙ ap (λ n. c.args.number - (length i.send.notes.offers - n)) c.len.ensures in
     let m = changed i c.self.invariant c.args.number may (withdrawn_at c.in-Withdrawn.stamp) Gone c.withdraw.new.self.notes c.set.new.self
     (ap (λ (n : OwnerNotes). n.offers) w.after) (ap (λ (n : OwnerNotes). n.table) w.after)
-    (c.set.ensures.list ∙ ap (λ n. slice_set i.marks.list n Gone) at) (λ o e f. refl) in
+    (c.set.ensures.list ∙ ap (λ n. slice_set i.marks.list n Gone) at) (λ o e f. refl) (λ o known. known) in
     subst (λ (send : Sending Payload). IsAsking (record { send = send; inbox = i.inbox; marks = c.skip.new.self; replied = i.replied })) (sym c.withdraw.ensures.end)
     (skip_keeps (record { send = record i.send { notes = c.withdraw.new.self.notes }; inbox = i.inbox; marks = c.set.new.self; replied = i.replied }) c.skip.new.self m
     c.skip.ensures)
@@ -72,7 +72,7 @@ invariant_of-self-in-Taken c =
     c.place_of-at.ensures ∙ ap (λ n. c.args.number - (n - c.len.result)) c.offered.ensures
     ∙ ap (λ n. c.args.number - (length i.send.notes.offers - n)) c.len.ensures in
     let m = changed i c.self.invariant c.args.number may (known_at w.of) Started c.withdraw.new.self.notes c.set-in-Taken.new.self
-    w.offers w.hears.table (c.set-in-Taken.ensures.list ∙ ap (λ n. slice_set i.marks.list n Started) at) (λ o e f. (e, refl)) in
+    w.offers w.hears.table (c.set-in-Taken.ensures.list ∙ ap (λ n. slice_set i.marks.list n Started) at) (λ o e f. (e, refl)) (λ o known. refl) in
     subst (λ (send : Sending Payload). IsAsking (record { send = send; inbox = i.inbox; marks = c.set-in-Taken.new.self; replied = i.replied })) (sym c.withdraw.ensures.end)
     (front_keeps (record { send = record i.send { notes = c.withdraw.new.self.notes }; inbox = i.inbox; marks = c.set-in-Taken.new.self; replied = i.replied }) m
     (subst (λ (ms : List Asked). slice_get ms 0 ≡ Some Gone → ⊥) (sym c.set-in-Taken.ensures.list) (started_front i.marks.list c.place_of-at.result c.self.invariant.front)))

@@ -1,5 +1,0 @@
-use Rattle.core_runner.proofs.Together.{legal}
-use Rattle.core_runner.proofs.law.cores_are_legal.Goals as goal
-
-pub returns : goal.returns
-returns c = λ code bound cores entries links valid all work. legal code valid bound cores entries links all work

@@ -1,8 +1,0 @@
-use Rattle.core_runner.proofs.Together.{did, served}
-use Rattle.core_runner.proofs.law.cores_are_served.Goals as goal
-
-pub returns : goal.returns
-returns c = λ code bound cores entries links valid all work. (
-  did code valid bound cores entries links all work,
-  served code valid bound cores entries links all work,
-)

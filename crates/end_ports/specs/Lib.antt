@@ -1,0 +1,10 @@
+pub mod Held
+pub mod OnLinks
+pub mod Answers
+pub mod EndCalls
+pub mod PortsTold
+pub mod SettledLinks
+pub mod SendFields
+pub mod RecvFields
+pub mod PortFields
+pub mod inner

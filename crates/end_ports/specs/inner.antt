@@ -1,0 +1,5 @@
+pub mod Calls
+pub mod Entered
+pub mod Places
+pub mod AskFields
+pub mod Pairs

@@ -1,0 +1,52 @@
+//! The ends on which a core receives.
+
+ghost use Rattle.std.specs.Prelude.{◌≡◌, ◌<◌, ◌==◌, length};
+ghost use Rattle.std.specs.List.{position};
+ghost use Rattle.end_ports.specs.Held.{IsSameRecvAt};
+ghost use Rattle.end_ports.specs.Held.HeldEnd.{OfRecv};
+ghost use Rattle.end_ports.specs.OnLinks.{on_recv};
+ghost use Rattle.end_ports.specs.inner.Calls.{PollsOn};
+ghost use Rattle.end_ports.specs.inner.Places.{ChangesAt};
+
+use crate::recv_at::RecvAt;
+use ac_base::Clock;
+use core_channels::Arrived;
+use std::marker::Model;
+
+/// Ends of channels, each with the number of its link. A place in the list stands for its end.
+#[derive(Drop)]
+pub(crate) struct Recvs<'a> {
+    pub(crate) list: Vec<RecvAt<'a>>,
+}
+
+impl<'a> Model for Recvs<'a> {
+    ghost use Rattle.std.specs.Prelude.{List};
+    ghost use Rattle.end_ports.specs.Held.{ReceivingAt};
+
+    ghost Value = { List ReceivingAt };
+
+    ghost view = { λ it. it.list.items };
+}
+
+impl<'a> Recvs<'a> {
+    pub(crate) fn new(list: Vec<RecvAt<'a>>) -> Recvs<'a>
+        ensures { result ≡ list.entry.items }
+    {
+        Recvs { list }
+    }
+
+    /// The place of the first end of this link.
+    pub(crate) fn place(&self, link: u32) -> Option<usize>
+        ensures { result ≡ position (λ r. r.link == link) self.now }
+    {
+        self.list.iter().position(|end| end.link() == link)
+    }
+
+    pub(crate) fn poll(&mut self, at: usize, wants: bool, clock: &mut Clock) -> Arrived
+        requires at { at < length self.old }
+        ensures { ChangesAt (λ r t. PollsOn (OfRecv r) r.link clock.old wants result (OfRecv t) clock.new × IsSameRecvAt r t)
+            self.old at self.new }
+    {
+        self.list[at].poll(wants, clock)
+    }
+}

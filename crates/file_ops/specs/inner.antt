@@ -1,3 +1,0 @@
-pub mod Copies
-pub mod Requests
-pub mod Turns

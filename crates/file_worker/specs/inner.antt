@@ -1,0 +1,4 @@
+pub mod Copies
+pub mod Desks
+pub mod Turns
+pub mod Rounds

@@ -1,0 +1,3 @@
+pub mod Unused
+pub mod Dealt
+pub mod inner

@@ -1,0 +1,16 @@
+pub mod Clocks
+pub mod ComingBack
+pub mod CoreExamples
+pub mod DiskExamples
+pub mod DrivenExamples
+pub mod HandExamples
+pub mod Ordered
+pub mod Parties
+pub mod Replies
+pub mod Rested
+pub mod Rising
+pub mod RunExamples
+pub mod Stopping
+pub mod Together
+pub mod Waits
+pub mod Whole

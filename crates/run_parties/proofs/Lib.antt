@@ -1,0 +1,8 @@
+pub mod Advancing
+pub mod Channels
+pub mod Desks
+pub mod Rounds
+pub mod Answered
+pub mod Requests
+pub mod Meeting
+mod PartyExamples

@@ -1,0 +1,6 @@
+pub mod Seats
+pub mod Seated
+pub mod Settling
+pub mod Moving
+pub mod Parties
+pub mod inner
