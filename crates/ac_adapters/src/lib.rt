@@ -4,8 +4,10 @@
 
 mod disk;
 mod files;
+mod gate;
 mod output;
 
 pub use disk::FileDisk;
 pub use files::FileLibrary;
+pub use gate::OpenGate;
 pub use output::StandardSink;

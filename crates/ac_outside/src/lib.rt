@@ -1,9 +1,11 @@
 //! What a program meets outside itself: a library of texts that it reads, a sink that it writes
-//! to, a disk whose files it keeps, and objects in memory of each kind.
+//! to, a disk whose files it keeps, and objects in memory of each kind; and a gate that the parties
+//! of its run pass.
 #![tactic(auto)]
 
 mod disk;
 mod failed;
+mod gate;
 mod library;
 mod memory;
 mod memory_disk;
@@ -16,6 +18,7 @@ mod store;
 
 pub use disk::{Disk, FILE_BYTES};
 pub use failed::{BindFault, Failed, Torn};
+pub use gate::Gate;
 pub use library::Library;
 pub use memory::{MemoryLibrary, MemorySink};
 pub use memory_disk::{DiskFail, MemoryDisk};
