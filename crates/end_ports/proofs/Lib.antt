@@ -10,6 +10,7 @@ pub mod Asking
 pub mod Ready
 pub mod Placing
 pub mod Dispatch
+pub mod Counting
 pub mod Telling
 pub mod Lasting
 mod Examples

@@ -1,12 +1,12 @@
 //! The link of a core's requests.
 
-ghost use Rattle.std.specs.Prelude.{◌≡◌, ◌<◌, ◌≤◌, [], slice_get, true, false, OnOk, IfErr};
+ghost use Rattle.std.specs.Prelude.{◌≡◌, ◌<◌, ◌≤◌, [], slice_get, true, false, OnOk, IfErr, length};
 ghost use Rattle.ac_links.specs.Payloads.{is_request};
-ghost use Rattle.ac_links.specs.Views.{may_withdraw};
-ghost use Rattle.core_ports.specs.Ends.{IsUpTo};
+ghost use Rattle.ac_links.specs.Views.{may_withdraw, owner_lead};
+ghost use Rattle.core_ports.specs.Ends.{IsUpTo, awaits_reply};
 ghost use Rattle.channel_ends.specs.Pairs.{IsSettledSend, IsSettledRecv};
 ghost use Rattle.channel_ends.specs.Settled.{AreEnds, AreSettled, MakeALink};
-ghost use Rattle.request_ends.specs.Asking.{requests_of, IsSameAsk};
+ghost use Rattle.request_ends.specs.Asking.{end_of, requests_of, IsSameAsk};
 ghost use Rattle.request_ends.specs.Replying.{HasLooked};
 ghost use Rattle.request_ends.specs.Answered.{HasAllReplies};
 ghost use Rattle.end_ports.specs.Held.{IsSameAskAt};
@@ -66,6 +66,24 @@ impl<'a> AskAt<'a> {
         ensures { result ≡ self.now.link }
     {
         self.link
+    }
+
+    pub(crate) fn offered(&self) -> u64
+        ensures { result ≡ length (requests_of self.now.end) }
+    {
+        self.end.offered()
+    }
+
+    pub(crate) fn known(&self) -> u64
+        ensures { result ≡ owner_lead (requests_of self.now.end) }
+    {
+        self.end.known()
+    }
+
+    pub(crate) fn awaits(&self) -> bool
+        ensures { result ≡ awaits_reply (end_of self.now.end) }
+    {
+        self.end.awaits()
     }
 
     pub(crate) fn offer(&mut self, payload: Payload, clock: &mut Clock) -> Offering<Payload>
@@ -137,7 +155,8 @@ impl<'a> AskAt<'a> {
         ensures calls { (self.new.link ≡ self.old.link) × (self.new.polls ≡ self.old.polls) × (self.new.tries ≡ self.old.tries) }
         ensures settled { OnOk result (AreSettled self.new.end.send recv.new × MakeALink self.new.end.send recv.new) }
         ensures ok { OnOk result (HasAllReplies self.new.end end.new × (0 < self.new.end.places) × IsSettledAsk self.new recv.new end.new) }
-        ensures err { IfErr result (λ _. (self.new.end.send ≡ self.old.end.send) × (recv.new ≡ recv.old)) }
+        ensures err { IfErr result (λ _. (self.new.end.send ≡ self.old.end.send) × (recv.new ≡ recv.old)
+            × ((on_ask self.new).hand ≡ (on_ask self.old).hand)) }
     {
         self.end.settle(recv, end)?;
         self.settled = true;

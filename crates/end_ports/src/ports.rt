@@ -1,21 +1,22 @@
 //! A core's calls of its ports, each of which is one call of the end of its link.
 
-ghost use Rattle.std.specs.Prelude.{◌≡◌, ◌<◌, ◌||◌, [], IfNone, OnOk, IfErr, true, false};
+ghost use Rattle.std.specs.Prelude.{◌≡◌, ◌<◌, ◌||◌, [], IfNone, OnOk, IfErr, length, true, false};
 ghost use Rattle.ac_links.specs.Payloads.{is_payload};
-ghost use Rattle.ac_links.specs.Views.{may_withdraw};
+ghost use Rattle.ac_links.specs.Views.{may_withdraw, owner_lead};
+ghost use Rattle.ac_links.specs.Party.LinkEnd.{Decides};
 ghost use Rattle.core_channels.specs.Laws.{told_by_offering, told_by_withdrawing};
 ghost use Rattle.core_ports.specs.Answers.{IsOfferAnswer, IsWithdrawalAnswer, IsPollAnswer};
 ghost use Rattle.core_ports.specs.Answers.{is_full_offering, is_full_withdrawal, is_full_arrival};
 ghost use Rattle.core_ports.specs.Counts.{with_one_more};
-ghost use Rattle.core_ports.specs.Ends.{is_owner, is_held, offer_at, AreUpTo, IsUpTo};
+ghost use Rattle.core_ports.specs.Ends.{is_owner, is_peer, is_held, awaits_reply, offer_at, offers_of, AreUpTo, IsUpTo};
 ghost use Rattle.core_ports.specs.Tells.{told_by_arrival, Tells};
 ghost use Rattle.channel_ends.specs.Pairs.{IsSettledSend, IsSettledRecv};
 ghost use Rattle.channel_ends.specs.Settled.{AreEnds, AreSettled, MakeALink};
-ghost use Rattle.request_ends.specs.Asking.{requests_of, IsSameAsk};
+ghost use Rattle.request_ends.specs.Asking.{end_of, requests_of, IsSameAsk};
 ghost use Rattle.request_ends.specs.Replying.{HasLooked};
 ghost use Rattle.request_ends.specs.Answered.{HasAllReplies};
 ghost use Rattle.end_ports.specs.EndCalls.{OffersAt, WithdrawsAt, PollsAt};
-ghost use Rattle.end_ports.specs.OnLinks.{end_on, on_link};
+ghost use Rattle.end_ports.specs.OnLinks.{end_on, on_ask, on_link};
 ghost use Rattle.end_ports.specs.SettledLinks.{HavePair, Settles, IsSettled, SettlesRequests, IsSettledAsk};
 ghost use Rattle.end_ports.specs.inner.Calls.{OffersOn, WithdrawsOn, PollsOn};
 ghost use Rattle.end_ports.specs.inner.Places.{OnlyOn};
@@ -131,6 +132,56 @@ impl<'a> CorePorts<'a> {
     }
 }
 
+// How far the core is on a link. Of one that it does not hold all of it is none.
+impl<'a> CorePorts<'a> {
+    /// How many offers the core has made on a link.
+    pub fn offered(&self, link: u32) -> u64
+        ensures { result ≡ length (offers_of (on_link self.now link).end) }
+    {
+        if self.ask.link() == link {
+            return self.ask.offered();
+        }
+        match self.sends.place(link) {
+            Some(at) => self.sends.offered(at),
+            None => 0,
+        }
+    }
+
+    /// How many of them there are before the first that is not known.
+    pub fn known(&self, link: u32) -> u64
+        ensures { result ≡ owner_lead (offers_of (on_link self.now link).end) }
+    {
+        if self.ask.link() == link {
+            return self.ask.known();
+        }
+        match self.sends.place(link) {
+            Some(at) => self.sends.known(at),
+            None => 0,
+        }
+    }
+
+    /// How many offers the core has decided on a link.
+    pub fn decided(&self, link: u32) -> u64
+        ensures some { (ds : _) → (on_link self.now link).end ≡ Decides ds → result ≡ length ds }
+        ensures none { is_peer (on_link self.now link).end ≡ false → result ≡ 0 }
+    {
+        if self.ask.link() == link {
+            return 0;
+        }
+        match (self.sends.place(link), self.recvs.place(link)) {
+            (None, Some(at)) => self.recvs.decided(at),
+            _ => 0,
+        }
+    }
+
+    /// Whether the core awaits the reply to one of its requests.
+    pub fn awaits_reply(&self) -> bool
+        ensures { result ≡ awaits_reply (end_of self.now.ask.end) }
+    {
+        self.ask.awaits()
+    }
+}
+
 impl<'a> CorePorts<'a> {
     /// Settles the channel of this number, on which these ports send and the other ones receive: each end
     /// knows all that the other has done, and all that there is on the link is at hand. It makes no entry,
@@ -155,7 +206,7 @@ impl<'a> CorePorts<'a> {
 
     /// Settles the requests and the replies with the worker's ends of them, and gathers the replies. It
     /// makes no entry, and of the other links nothing changes. After want of memory the requests are not
-    /// settled, and of the replies no more has changed than that some may have come.
+    /// settled, and what is at hand is as it was.
     ///
     /// Condition: the worker's ends are those of this core.
     pub fn settle_requests(
@@ -175,7 +226,8 @@ impl<'a> CorePorts<'a> {
         ensures settled { OnOk result (AreSettled self.new.ask.end.send recv.new × MakeALink self.new.ask.end.send recv.new) }
         ensures ok { OnOk result (HasAllReplies self.new.ask.end end.new × (0 < self.new.ask.end.places)
             × IsSettledAsk self.new.ask recv.new end.new) }
-        ensures err { IfErr result (λ _. (self.new.ask.end.send ≡ self.old.ask.end.send) × (recv.new ≡ recv.old)) }
+        ensures err { IfErr result (λ _. (self.new.ask.end.send ≡ self.old.ask.end.send) × (recv.new ≡ recv.old)
+            × ((on_ask self.new.ask).hand ≡ (on_ask self.old.ask).hand)) }
 
         // What the ports tell of other links stays.
         ensures ports { SettlesRequests self.old self.new }

@@ -1,9 +1,9 @@
 //! The ends of the channels on which a core receives.
 
-ghost use Rattle.std.specs.Prelude.{◌≡◌, [], ◌≤◌};
+ghost use Rattle.std.specs.Prelude.{◌≡◌, [], ◌≤◌, length};
 ghost use Rattle.end_ports.specs.Held.{IsSameRecvAt};
 ghost use Rattle.end_ports.specs.Held.HeldEnd.{OfRecv};
-ghost use Rattle.end_ports.specs.OnLinks.{on_recv};
+ghost use Rattle.end_ports.specs.OnLinks.{decisions_on, on_recv};
 ghost use Rattle.end_ports.specs.inner.Calls.{PollsOn};
 
 use crate::calls::{counted, received};
@@ -54,6 +54,12 @@ impl<'a> RecvAt<'a> {
         ensures { result ≡ self.now.link }
     {
         self.link
+    }
+
+    pub(crate) fn decided(&self) -> u64
+        ensures { result ≡ length (decisions_on self.now) }
+    {
+        self.end.decided()
     }
 
     pub(crate) fn poll(&mut self, wants: bool, clock: &mut Clock) -> Arrived

@@ -1,10 +1,10 @@
 //! The ends on which a core receives.
 
-ghost use Rattle.std.specs.Prelude.{◌≡◌, ◌<◌, ◌==◌, length};
+ghost use Rattle.std.specs.Prelude.{◌≡◌, ◌<◌, ◌==◌, Some, length, slice_get};
 ghost use Rattle.std.specs.List.{position};
 ghost use Rattle.end_ports.specs.Held.{IsSameRecvAt};
 ghost use Rattle.end_ports.specs.Held.HeldEnd.{OfRecv};
-ghost use Rattle.end_ports.specs.OnLinks.{on_recv};
+ghost use Rattle.end_ports.specs.OnLinks.{decisions_on, on_recv};
 ghost use Rattle.end_ports.specs.inner.Calls.{PollsOn};
 ghost use Rattle.end_ports.specs.inner.Places.{ChangesAt};
 
@@ -40,6 +40,13 @@ impl<'a> Recvs<'a> {
         ensures { result ≡ position (λ r. r.link == link) self.now }
     {
         self.list.iter().position(|end| end.link() == link)
+    }
+
+    pub(crate) fn decided(&self, at: usize) -> u64
+        requires { at < length self.now }
+        ensures { (r : _) → slice_get self.now at ≡ Some r → result ≡ length (decisions_on r) }
+    {
+        self.list[at].decided()
     }
 
     pub(crate) fn poll(&mut self, at: usize, wants: bool, clock: &mut Clock) -> Arrived

@@ -1,8 +1,8 @@
 //! The ends of the channels on which a core sends.
 
-ghost use Rattle.std.specs.Prelude.{◌≡◌, [], slice_get, true};
+ghost use Rattle.std.specs.Prelude.{◌≡◌, [], length, slice_get, true};
 ghost use Rattle.ac_links.specs.Payloads.{is_int};
-ghost use Rattle.ac_links.specs.Views.{may_withdraw};
+ghost use Rattle.ac_links.specs.Views.{may_withdraw, owner_lead};
 ghost use Rattle.channel_ends.specs.Settled.{AreEnds};
 ghost use Rattle.core_ports.specs.Ends.{IsUpTo};
 ghost use Rattle.end_ports.specs.Held.{IsSameSendAt};
@@ -61,6 +61,18 @@ impl<'a> SendAt<'a> {
         ensures { result ≡ self.now.link }
     {
         self.link
+    }
+
+    pub(crate) fn offered(&self) -> u64
+        ensures { result ≡ length (offers_on self.now) }
+    {
+        self.end.offered()
+    }
+
+    pub(crate) fn known(&self) -> u64
+        ensures { result ≡ owner_lead (offers_on self.now) }
+    {
+        self.end.known()
     }
 
     pub(crate) fn offer(&mut self, payload: Payload, clock: &mut Clock) -> Offering<Payload>

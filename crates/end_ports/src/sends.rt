@@ -3,7 +3,7 @@
 ghost use Rattle.std.specs.Prelude.{◌≡◌, ◌<◌, ◌==◌, Some, length, slice_get, true};
 ghost use Rattle.std.specs.List.{position};
 ghost use Rattle.ac_links.specs.Payloads.{is_int};
-ghost use Rattle.ac_links.specs.Views.{may_withdraw};
+ghost use Rattle.ac_links.specs.Views.{may_withdraw, owner_lead};
 ghost use Rattle.channel_ends.specs.Settled.{AreEnds};
 ghost use Rattle.core_ports.specs.Ends.{IsUpTo};
 ghost use Rattle.end_ports.specs.Held.{IsSameSendAt};
@@ -46,6 +46,20 @@ impl<'a> Sends<'a> {
         ensures { result ≡ position (λ s. s.link == link) self.now }
     {
         self.list.iter().position(|end| end.link() == link)
+    }
+
+    pub(crate) fn offered(&self, at: usize) -> u64
+        requires { at < length self.now }
+        ensures { (s : _) → slice_get self.now at ≡ Some s → result ≡ length (offers_on s) }
+    {
+        self.list[at].offered()
+    }
+
+    pub(crate) fn known(&self, at: usize) -> u64
+        requires { at < length self.now }
+        ensures { (s : _) → slice_get self.now at ≡ Some s → result ≡ owner_lead (offers_on s) }
+    {
+        self.list[at].known()
     }
 
     pub(crate) fn offer(

@@ -1,6 +1,6 @@
 -- What a settling told of is known with what it asks, and with a place for its reply: after a turn as before it, and after a settling.
 use Rattle.std.proofs.Common.{◌≡◌, ℕ, ◌+◌, ◌≤◌, List, [], ◌∷◌, ◌++◌, ap, arith, length, length-append}
-use Rattle.std.specs.Prelude.{◌<◌, Result, Ok, Err, OnOk, IfErr}
+use Rattle.std.specs.Prelude.{◌<◌, Result, Ok, Err, OnOk, OnErr, IfErr}
 use mathlib.Core.List.{IsPrefix}
 use Rattle.ac_base.specs.declared.entry.Payload.{Payload}
 use Rattle.ac_base.specs.declared.entry.Entry.{Entry}
@@ -64,11 +64,11 @@ settled_ready send e s free few =
     record { items = omega (arith, told, popped, sent, both, all); places = omega (arith, told, free, few) }
 
 -- whether a settling had memory or not
-pub either_ready : {X E : Type 0} (r : Result X E) (ask : AskingAt) (a b : CoreEnds) (S Q : Type 0) → OnOk r (AreSettled ask.end.send b.ask × S)
-    → OnOk r (HasAllReplies ask.end b.reply × (0 < ask.end.places) × IsSettledAsk ask b.ask b.reply) → IfErr r (λ _. Q × (b.ask ≡ a.ask))
+pub either_ready : {X E : Type 0} (r : Result X E) (ask : AskingAt) (a b : CoreEnds) (S Q H : Type 0) → OnOk r (AreSettled ask.end.send b.ask × S)
+    → OnOk r (HasAllReplies ask.end b.reply × (0 < ask.end.places) × IsSettledAsk ask b.ask b.reply) → IfErr r (λ _. Q × (b.ask ≡ a.ask) × H)
     → HasLooked a.reply b.reply → IsReady a → IsReady b
-either_ready (Ok x) ask a b S Q s all none looked r = settled_ready ask.end.send b s.0 all.0.free all.2.few
-either_ready (Err e) ask a b S Q s all none looked r =
+either_ready (Ok x) ask a b S Q H s all none looked r = settled_ready ask.end.send b s.0 all.0.free all.2.few
+either_ready (Err e) ask a b S Q H s all none looked r =
     let told = ap (λ (x : Receiving Payload). x.peer.told_offers) none.1 in
     let n = ap (λ (x : Receiving Payload). length x.peer.decisions) none.1 in
     let m = ap (λ (x : Receiving Payload). length x.items) none.1 in
@@ -80,3 +80,7 @@ either_ready (Err e) ask a b S Q s all none looked r =
 pub on_both : {X E : Type 0} (r : Result X E) (P Q R : Type 0) → OnOk r P → OnOk r Q → (P → Q → R) → OnOk r R
 on_both (Ok x) P Q R p q f = f p q
 on_both (Err e) P Q R p q f = tt
+
+pub on_err : {X E : Type 0} (r : Result X E) (P Q : Type 0) → IfErr r (λ _. P) → (P → Q) → OnErr r Q
+on_err (Ok x) P Q p f = tt
+on_err (Err e) P Q p f = f p

@@ -1,6 +1,6 @@
 -- A core's ends are settled with the worker's after its request was done: the core is told of the decision and has the reply at hand; and what
 -- is no settling, or not with this core.
-use Rattle.std.proofs.Common.{◌≡◌, ℕ, zero, suc, ◌<◌, ◌≤◌, List, [], ◌∷◌, Some, None, true, refl, ap, subst, arith}
+use Rattle.std.proofs.Common.{◌≡◌, ◌∙◌, ℕ, zero, suc, ◌<◌, ◌≤◌, List, [], ◌∷◌, Some, None, true, false, refl, sym, ap, subst, arith}
 use Rattle.ac_base.specs.declared.entry.Entry.{Entry}
 use Rattle.ac_links.specs.Views.{Response}
 use Rattle.completion_word.specs.declared.standing.Standing.TheVariants as word
@@ -13,11 +13,12 @@ use Rattle.channel_ends.specs.Settled.{stamp_of, AreEnds, AreOfOneLink, AreSettl
 use Rattle.channel_ends.proofs.Examples.{an_offer, notes}
 use Rattle.channel_ends.proofs.OneLink.{makes_a_link}
 use Rattle.request_ends.specs.Asking.{Asking}
+use Rattle.core_ports.specs.AtHand.{AtHand}
 use Rattle.end_ports.specs.Held.{AskingAt}
 use Rattle.file_worker.specs.Ends.{CoreEnds, AtDesk}
 use Rattle.file_worker.specs.Agreement.{Seen}
 use Rattle.file_worker.specs.Rounds.{GoesOn}
-use Rattle.file_worker.specs.Settling.{MaySettle, AskSettles, SettlesCore, AskIsSettled, IsSettledWith}
+use Rattle.file_worker.specs.Settling.{MaySettle, AskSettles, SettlesCore, AskIsSettled, IsSettledWith, LeavesAtHand}
 use Rattle.file_worker.specs.Laws.{SettlingsGoOn}
 use Rattle.file_worker.proofs.EndLists.{same_some}
 use Rattle.file_worker.proofs.EndExamples.{a_ring, putter, two_bytes, as_read, first_done, second_passed, at_last}
@@ -101,6 +102,18 @@ then_settled = record after_both { desk = at_settled }
 
 pub it_goes_on : SettlingsGoOn → GoesOn after_both then_settled
 it_goes_on law = law 0 after_both then_settled asked settled core_0_settles refl
+
+-- ---- where there was no memory
+
+abbrev at_link_2 : Asking → AskingAt
+at_link_2 a = record { link = 2; end = a; polls = 0; tries = 0; settled = false }
+
+-- the core may know of the reply on its ring, but it is not at hand
+pub all_is_left : LeavesAtHand 0 at_last (at_link_2 asked) at_last (at_link_2 (record asked { items = as_read ∷ [] }))
+all_is_left = record { hand = refl; taken = λ e e' a b. ap (λ (x : CoreEnds). x.ask) (sym (same_some first_done e' b) ∙ same_some first_done e a) }
+
+pub nothing_comes_to_hand : LeavesAtHand 0 at_last (at_link_2 asked) at_last (at_link_2 settled) → ⊥
+nothing_comes_to_hand h = let e = ap (λ (x : AtHand). x.reply) h.hand in cc
 
 -- ---- once it is done
 

@@ -6,6 +6,7 @@ use Rattle.request_ends.specs.Asking.{Asking, requests_of, IsSameAsk}
 use Rattle.request_ends.specs.Replying.{HasLooked}
 use Rattle.request_ends.specs.Answered.{HasAllReplies}
 use Rattle.end_ports.specs.Held.{AskingAt}
+use Rattle.end_ports.specs.OnLinks.{on_ask}
 use Rattle.end_ports.specs.SettledLinks.{IsSettledAsk}
 use Rattle.file_worker.specs.Ends.{CoreEnds, AtDesk}
 
@@ -42,3 +43,8 @@ pub record AskIsSettled (ask : AskingAt) (e : CoreEnds) : Type 0 where
 
 abbrev pub IsSettledWith : ℕ → AtDesk → AskingAt → Type 0
 IsSettledWith core w ask = (e : CoreEnds) → slice_get w.ends core ≡ Some e → AskIsSettled ask e
+
+-- after want of memory what is at hand for the core is as it was, and so is the worker's end of its requests
+pub record LeavesAtHand (core : ℕ) (old : AtDesk) (ask : AskingAt) (new : AtDesk) (ask' : AskingAt) : Type 0 where
+  pub hand : (on_ask ask').hand ≡ (on_ask ask).hand
+  pub taken : (e e' : CoreEnds) → slice_get old.ends core ≡ Some e → slice_get new.ends core ≡ Some e' → e'.ask ≡ e.ask

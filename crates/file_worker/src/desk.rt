@@ -7,7 +7,7 @@ ghost use Rattle.file_worker.specs.Agreement.{WorkerAgrees};
 ghost use Rattle.file_worker.specs.Ends.{core_ends, done_on, is_done_on, AreReady, AtEach, IsNew};
 ghost use Rattle.file_worker.specs.Rounds.{GoesOn, LooksOnce, Says};
 ghost use Rattle.end_ports.specs.SettledLinks.{SettlesRequests};
-ghost use Rattle.file_worker.specs.Settling.{MaySettle, SettlesCore, IsSettledWith};
+ghost use Rattle.file_worker.specs.Settling.{MaySettle, SettlesCore, IsSettledWith, LeavesAtHand};
 ghost use Rattle.file_worker.specs.inner.Rounds.{seen, TurnsAt};
 
 use crate::asking::Buffers;
@@ -181,6 +181,7 @@ impl<'a> Desk<'a> {
         ensures settles { SettlesCore core self.old ports.old.ask.end self.new ports.new.ask.end }
         ensures ports { SettlesRequests ports.old ports.new }
         ensures ok { OnOk result (IsSettledWith core self.new ports.new.ask) }
+        ensures err { OnErr result (LeavesAtHand core self.old ports.old.ask self.new ports.new.ask) }
     {
         let at = core as usize;
         ports.settle_requests(&mut self.asks[at], &mut self.replies[at])

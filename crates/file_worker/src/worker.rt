@@ -1,13 +1,13 @@
 //! The file worker over the ends of its cores' requests.
 
-ghost use Rattle.std.specs.Prelude.{◌≡◌, ◌+◌, ◌<◌, ◌^◌, [], length, slice_get, IfOk, OnOk, IsTrue, Some};
+ghost use Rattle.std.specs.Prelude.{◌≡◌, ◌+◌, ◌<◌, ◌^◌, [], length, slice_get, IfOk, OnErr, OnOk, IsTrue, Some};
 ghost use Rattle.std.specs.List.{All};
 ghost use Rattle.ac_links.specs.Journals.{last_of};
 ghost use Rattle.file_worker.specs.Agreement.{WorkerAgrees};
 ghost use Rattle.file_worker.specs.Ends.{core_ends, done_on, AreReady, AtEach, IsNew};
 ghost use Rattle.file_worker.specs.Rounds.{GoesOn, LooksOnce, Says};
 ghost use Rattle.end_ports.specs.SettledLinks.{SettlesRequests};
-ghost use Rattle.file_worker.specs.Settling.{MaySettle, SettlesCore, IsSettledWith};
+ghost use Rattle.file_worker.specs.Settling.{MaySettle, SettlesCore, IsSettledWith, LeavesAtHand};
 ghost use Rattle.file_worker.specs.Workers.{desk_of, loan_of, seen_of, told_of};
 
 use crate::desk::Desk;
@@ -122,8 +122,8 @@ impl<'a, 'd, D: Disk> Worker<'a, 'd, D> {
     }
 
     /// Lets the ports of one core and its own ends of the same requests and replies know all that the
-    /// other has done, in a thread that has all of them. It makes no entry. After want of memory nothing
-    /// is settled but that some of the replies may have come.
+    /// other has done, in a thread that has all of them. It makes no entry. After want of memory what is
+    /// at hand for either is as it was.
     ///
     /// Conditions: it is one of its cores, and the ports are that core's.
     pub fn settle(&mut self, core: u32, ports: &mut CorePorts<'_>) -> Result<(), NoMemory>
@@ -132,6 +132,7 @@ impl<'a, 'd, D: Disk> Worker<'a, 'd, D> {
         ensures settles { SettlesCore core (desk_of self.old) ports.old.ask.end (desk_of self.new) ports.new.ask.end }
         ensures ports { SettlesRequests ports.old ports.new }
         ensures ok { OnOk result (IsSettledWith core (desk_of self.new) ports.new.ask) }
+        ensures err { OnErr result (LeavesAtHand core (desk_of self.old) ports.old.ask (desk_of self.new) ports.new.ask) }
         ensures told { told_of D.told self.new ≡ told_of D.told self.old }
         ensures loan { loan_of self.new ≡ loan_of self.old }
     {

@@ -261,7 +261,7 @@ impl<'a> AskEnd<'a> {
 
     /// Lets both ends of the requests and both ends of the replies know all that the other has done, in a
     /// thread that has all of them, and gathers the replies. It makes no entry. After want of memory the
-    /// requests are not settled, and of the replies no more has changed than that some may have come.
+    /// requests are not settled, no reply more is gathered, and it may only know of more of them.
     ///
     /// Condition: the ends are those of one core.
     pub fn settle(
@@ -283,7 +283,8 @@ impl<'a> AskEnd<'a> {
         ensures settled { OnOk result (AreSettled self.new.send recv.new × MakeALink self.new.send recv.new) }
         ensures few { length self.new.send.notes.offers ≤ known_lead self.new.send.notes.offers + 16 }
         ensures ok { OnOk result (HasAllReplies self.new end.new × (0 < self.new.places)) }
-        ensures err { IfErr result (λ _. (self.new.send ≡ self.old.send) × (recv.new ≡ recv.old)) }
+        ensures err { IfErr result (λ _. (self.new.send ≡ self.old.send) × (recv.new ≡ recv.old)
+            × (self.new.gathered ≡ self.old.gathered)) }
     {
         self.marks.reserve(4 * PLACES as u32)?;
         self.inbox.meet(end)?;

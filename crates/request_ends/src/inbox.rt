@@ -1,6 +1,6 @@
 //! The replies to the requests of a core as they come to it.
 
-ghost use Rattle.std.specs.Prelude.{◌≡◌, ◌<◌, [], ◌++◌, length, map, OnOk, Some, None};
+ghost use Rattle.std.specs.Prelude.{◌≡◌, ◌<◌, [], ◌++◌, length, map, OnOk, IfErr, Some, None};
 ghost use Rattle.request_ends.specs.Replying.{response_of, HasLooked};
 ghost use Rattle.request_ends.specs.inner.Coming.{first_of, stamp_of, LooksOnly, PopsNext, MayPop, HasGathered, HasMet};
 
@@ -71,6 +71,7 @@ impl Inbox {
     pub(crate) fn gather(&mut self) -> Result<(), NoMemory>
         ensures all { HasGathered self.old self.new }
         ensures ok { OnOk result (self.new.items ≡ []) }
+        ensures err { IfErr result (λ _. self.new.gathered ≡ self.old.gathered) }
     {
         self.gathered.reserve(self.ring.cached_slots())?;
         while self.ring.cached_slots() > 0 {
@@ -87,6 +88,7 @@ impl Inbox {
         ensures all { HasMet self.old self.new }
         ensures ok { OnOk result ((self.new.items ≡ []) × (end.new.free ≡ 16)
             × (self.new.had ++ self.new.gathered ≡ end.new.replies)) }
+        ensures err { IfErr result (λ _. self.new.gathered ≡ self.old.gathered) }
     {
         self.ring.slots_beside(&mut end.ring);
         self.gather()?;

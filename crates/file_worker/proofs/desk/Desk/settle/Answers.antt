@@ -1,12 +1,12 @@
 -- Only the ends of this core change, and these are settled with those of the core.
 use Rattle.std.proofs.Common.{◌≡◌, Some, refl, sym, ap, ◌∙◌, subst, arith}
-use Rattle.std.specs.Prelude.{slice_get}
+use Rattle.std.specs.Prelude.{slice_get, OnErr}
 use Rattle.std.specs.Vec.{with_item}
 use Rattle.completion_word.specs.declared.views.Peer.{Peer}
 use Rattle.file_worker.specs.declared.desk.Desk.TheInside.{Inside}
 use Rattle.file_worker.specs.Ends.{AtDesk, CoreEnds, IsReady}
-use Rattle.file_worker.specs.Settling.{SettlesCore, AskIsSettled}
-use Rattle.file_worker.proofs.Readying.{either_ready, on_both}
+use Rattle.file_worker.specs.Settling.{SettlesCore, AskIsSettled, LeavesAtHand}
+use Rattle.file_worker.proofs.Readying.{either_ready, on_both, on_err}
 use Rattle.file_worker.specs.inner.Desks.{at_desk}
 use Rattle.file_worker.proofs.EndLists.{ends_get, same_some}
 use Rattle.file_worker.proofs.Turning.{has_core, was, now_at, desk_is, same_at_desk}
@@ -55,7 +55,7 @@ invariant_of-self c =
     } in
     let was = was c.self.inside new c.args.core a b c.self.invariant has.0 c.index_mut.ensures.value c.index_mut-2.ensures.value refl refl refl in
     let before = c.self.invariant.ready c.args.core a was in
-    let ready_here : IsReady b = either_ready c.settle_requests.result c.settle_requests.new.self.ask a b _ _ c.settle_requests.ensures.settled c.settle_requests.ensures.ok
+    let ready_here : IsReady b = either_ready c.settle_requests.result c.settle_requests.new.self.ask a b _ _ _ c.settle_requests.ensures.settled c.settle_requests.ensures.ok
     c.settle_requests.ensures.err c.settle_requests.ensures.end before in
     same_at_desk c.self.inside new c.args.core a b c.self.invariant has.0 c.index_mut.ensures.value c.index_mut-2.ensures.value refl refl refl
     c.settle_requests.ensures.recv.popped (ap (λ (p : Peer). p.decisions) c.settle_requests.ensures.recv.peer) c.settle_requests.ensures.end.replies refl refl ready_here
@@ -106,3 +106,24 @@ returns-clause-ok c =
     (λ s all e at. subst (AskIsSettled c.settle_requests.new.self.ask)
     (same_some b e (sym (now_at c.self.inside new c.args.core a b c.self.invariant has.0 c.index_mut.ensures.value c.index_mut-2.ensures.value refl refl refl) ∙ at))
     (record { settled = s.0; link = s.1; replies = all.0; places = all.1; told = all.2 }))
+
+pub returns-clause-err : goal.returns-clause-err
+returns-clause-err c =
+    let has = has_core c.self.inside c.args.self.now c.args.core c.self.view_is c.self.invariant c.requires.core in
+    let a : CoreEnds = record { ask = c.index_mut.result.now; reply = c.index_mut-2.result.now } in
+    let b : CoreEnds = record { ask = c.settle_requests.new.recv; reply = c.settle_requests.new.end } in
+    let new : Inside = record {
+      asks = with_item c.self.inside.asks c.args.core c.settle_requests.new.recv;
+      replies = with_item c.self.inside.replies c.args.core c.settle_requests.new.end;
+      journal = c.self.inside.journal;
+      clock = c.self.inside.clock;
+      first = c.self.inside.first;
+      room = c.self.inside.room;
+    } in
+    let before = was c.self.inside new c.args.core a b c.self.invariant has.0 c.index_mut.ensures.value c.index_mut-2.ensures.value refl refl refl in
+    let after = now_at c.self.inside new c.args.core a b c.self.invariant has.0 c.index_mut.ensures.value c.index_mut-2.ensures.value refl refl refl in
+    subst (λ (v : AtDesk). OnErr c.settle_requests.result (LeavesAtHand c.args.core v c.args.ports.now.ask (at_desk new) c.settle_requests.new.self.ask)) c.self.view_is
+    (on_err c.settle_requests.result _ _ c.settle_requests.ensures.err (λ h. record {
+      hand = h.2;
+      taken = λ e e' at at'. sym (ap (λ (x : CoreEnds). x.ask) (same_some b e' (sym after ∙ at'))) ∙ h.1 ∙ ap (λ (x : CoreEnds). x.ask) (same_some a e (sym before ∙ at));
+    }))
