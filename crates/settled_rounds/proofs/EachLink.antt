@@ -1,15 +1,19 @@
 -- The settling of one link leaves the parties that have no end of it, and of all links one after the other each is settled in the end, since
 -- what is settled is disturbed by no other link. Where all was known before, nothing is new to a party that has stopped.
 use Rattle.std.proofs.Common.{◌≡◌, ℕ, ◌+◌, ◌<◌, ◌≤◌, ◌++◌, List, length, get_or, slice_set, Some, refl, sym, ◌∙◌, ap, subst, arith, inl, inr}
-use Rattle.std.specs.Prelude.{slice_get, OnOk, Result, Ok, Err}
+use Rattle.std.specs.Prelude.{slice_get, IfOk, OnOk, Result, Ok, Err}
 use Rattle.std.specs.List.{AllByRecursion}
 use Rattle.std.proofs.lemmas.Bool.{cases_lt}
 use Rattle.std.proofs.lemmas.Option.{slice_get_within}
 use Rattle.settled_rounds.specs.declared.party.Way.{Way}
 use Rattle.settled_rounds.specs.Linked.{Pointwise, OnLinks}
-use Rattle.settled_rounds.specs.inner.Settling.{Keeps, SettlesOne}
+use Rattle.settled_rounds.specs.inner.Settling.{Keeps, SettlesOne, SettlesAll}
 use Rattle.settled_rounds.proofs.Pointwise.{each_at, each_self, each_then, each_weaker, all_keep}
 use Rattle.settled_rounds.proofs.Pairs.{two_each, two_read, two_stand, same_Some}
+
+pub if_ok : {A E : Type 0} (r : Result A E) (X Y : A → Type 0) → ((a : A) → X a → Y a) → IfOk r X → IfOk r Y
+if_ok (Ok a) X Y f h = f a h
+if_ok (Err e) X Y f h = h
 
 pub on_ok : {A E : Type 0} (r : Result A E) (X Y : Type 0) → (X → Y) → OnOk r X → OnOk r Y
 on_ok (Ok a) X Y f h = f h
@@ -20,7 +24,7 @@ module _ {P : Type 0} (clock : P → ℕ) (later : P → P → Type 0) (known : 
   keeps_self : (l : ℕ) (p : P) → Keeps clock later known still apart l p p
   keeps_self l p = record { is_later = later_self p; same_clock = refl; is_apart = apart_self l p }
 
-  pub both_keep : (all front back : List P) (i j l : ℕ) (x y c d : P) → all ≡ front ++ back → length front ≡ j → i < j → j < length all
+  both_keep : (all front back : List P) (i j l : ℕ) (x y c d : P) → all ≡ front ++ back → length front ≡ j → i < j → j < length all
       → Keeps clock later known still apart l (get_or front i x) c → Keeps clock later known still apart l (get_or back 0 y) d
       → Pointwise (Keeps clock later known still apart l) all (slice_set front i c ++ slice_set back 0 d)
   both_keep all front back i j l x y c d e len below inside one two =
@@ -82,11 +86,6 @@ module _ {P : Type 0} (clock : P → ℕ) (later : P → P → Type 0) (known : 
       below = λ l w a b less is from to. absurd (omega arith);
     }
 
-  pub one_more_later : ((p q r : P) → later p q → later q r → later p r) → (n : ℕ) (ps qs rs : List P) → Pointwise later ps qs
-      → Pointwise (Keeps clock later known still apart n) qs rs → Pointwise later ps rs
-  one_more_later later_then n ps qs rs all keeps =
-      each_then later later_then ps qs rs all (each_weaker (Keeps clock later known still apart n) later (λ p q h. h.is_later) qs rs keeps)
-
   module _ (later_then : (p q r : P) → later p q → later q r → later p r)
       (settled_apart : (l o : ℕ) (p q r s : P) → settled l p q → (l ≡ o → ⊥) → apart o p r → apart o q s → settled l r s)
       (known_still : (l : ℕ) (p q r s : P) → known l p q → still p r → still q s → known l r s)
@@ -101,10 +100,10 @@ module _ {P : Type 0} (clock : P → ℕ) (later : P → P → Type 0) (known : 
         → OnLinks known ways qs → Pointwise still qs rs
     all_still ways n w qs rs is one k = one.again (λ a b at_a at_b. k n w a b is at_a at_b)
 
-    one_more_kept : (ways : List Way) (n : ℕ) (w : Way) (ps qs rs : List P) → slice_get ways n ≡ Some w → SettledBelow ways n ps qs
+    still_below : (ways : List Way) (n : ℕ) (w : Way) (ps qs rs : List P) → slice_get ways n ≡ Some w → SettledBelow ways n ps qs
         → SettlesOne clock later known still apart n w.from w.to qs rs → SettledBelow ways n ps rs
-    one_more_kept ways n w ps qs rs is all one = record {
-      all_later = one_more_later later_then n ps qs rs all.all_later one.keeps;
+    still_below ways n w ps qs rs is all one = record {
+      all_later = each_then later later_then ps qs rs all.all_later (each_weaker (Keeps clock later known still apart n) later (λ p q h. h.is_later) qs rs one.keeps);
       clocks = each_then (λ p q. clock q ≡ clock p) (λ p q r a b. b ∙ a) ps qs rs all.clocks
           (each_weaker (Keeps clock later known still apart n) (λ p q. clock q ≡ clock p) (λ p q h. h.same_clock) qs rs one.keeps);
       all_known = λ k. let m = all.all_known k in known_on ways qs rs m (all_still ways n w qs rs is one m);
@@ -118,11 +117,18 @@ module _ {P : Type 0} (clock : P → ℕ) (later : P → P → Type 0) (known : 
           settled_apart l n a b c d (all.below l v a b before at a_at b_at) (λ e. absurd (omega arith)) ac.is_apart bd.is_apart;
     }
 
+    -- which stands at an error too
+    pub one_more_kept : (ways : List Way) (n : ℕ) (w : Way) (ps qs rs : List P) → slice_get ways n ≡ Some w → SettledBelow ways n ps qs
+        → SettlesOne clock later known still apart n w.from w.to qs rs → SettlesAll clock later known still apart stopped ways ps rs
+    one_more_kept ways n w ps qs rs is all one =
+        let kept = still_below ways n w ps qs rs is all one in
+        record { all_later = kept.all_later; clocks = kept.clocks; again = kept.rest }
+
     pub one_more_settled : (ways : List Way) (n : ℕ) (w : Way) (ps qs rs : List P) → slice_get ways n ≡ Some w → SettledBelow ways n ps qs
         → SettlesOne clock later known still apart n w.from w.to qs rs
         → ((a b : P) → slice_get rs w.from ≡ Some a → slice_get rs w.to ≡ Some b → settled n a b) → SettledBelow ways (n + 1) ps rs
     one_more_settled ways n w ps qs rs is all one here =
-        let kept = one_more_kept ways n w ps qs rs is all one in
+        let kept = still_below ways n w ps qs rs is all one in
         record {
           all_later = kept.all_later;
           clocks = kept.clocks;

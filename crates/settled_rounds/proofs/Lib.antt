@@ -2,4 +2,5 @@ mod Pointwise
 mod Pairs
 mod EachLink
 mod EachTurn
+mod Ways
 mod Examples

@@ -1,6 +1,6 @@
 -- What holds party by party.
-use Rattle.std.proofs.Common.{◌≡◌, ℕ, zero, suc, List, [], ◌∷◌, ◌++◌, length, Some, refl, subst, arith}
-use Rattle.std.specs.Prelude.{slice_get}
+use Rattle.std.proofs.Common.{◌≡◌, ℕ, zero, suc, List, [], ◌∷◌, ◌++◌, length, Some, ◌<◌, Result, Ok, get_or, slice_set, refl, subst, arith}
+use Rattle.std.specs.Prelude.{slice_get, IfOk}
 use Rattle.std.specs.List.{AllByRecursion}
 use Rattle.settled_rounds.specs.Linked.{Pointwise}
 
@@ -25,10 +25,20 @@ module _ {P : Type 0} (R : P → P → Type 0) where
   each_append (p ∷ ps) [] xs ys h k = absurd h
   each_append (p ∷ ps) (q ∷ qs) xs ys h k = (h.0, each_append ps qs xs ys h.1 k)
 
+  -- of a list that was cut in two
+  pub each_joined : (all front back xs ys : List P) → front ++ back ≡ all → Pointwise R front xs → Pointwise R back ys → Pointwise R all (xs ++ ys)
+  each_joined all front back xs ys cut a b = subst (λ ps. Pointwise R ps (xs ++ ys)) cut (each_append front xs back ys a b)
+
   module _ (self : (p : P) → R p p) where
     pub each_self : (ps : List P) → Pointwise R ps ps
     each_self [] = tt
     each_self (p ∷ ps) = (self p, each_self ps)
+
+    -- where one is put in the place of another
+    pub each_but : (ps : List P) (k : ℕ) (x q : P) → k < length ps → R (get_or ps k x) q → Pointwise R ps (slice_set ps k q)
+    each_but [] k x q within h = absurd (omega arith)
+    each_but (p ∷ ps) zero x q within h = (h, each_self ps)
+    each_but (p ∷ ps) (suc k) x q within h = (self p, each_but ps k x q (omega arith) h)
 
   module _ (then : (p q r : P) → R p q → R q r → R p r) where
     pub each_then : (ps qs rs : List P) → Pointwise R ps qs → Pointwise R qs rs → Pointwise R ps rs
@@ -38,6 +48,9 @@ module _ {P : Type 0} (R : P → P → Type 0) where
     each_then (p ∷ ps) [] rs h k = absurd h
     each_then (p ∷ ps) (q ∷ qs) [] h k = absurd k
     each_then (p ∷ ps) (q ∷ qs) (r ∷ rs) h k = (then p q r h.0 k.0, each_then ps qs rs h.1 k.1)
+
+    pub each_then_twice : (ps qs rs ss : List P) → Pointwise R ps qs → Pointwise R qs rs → Pointwise R rs ss → Pointwise R ps ss
+    each_then_twice ps qs rs ss h k l = each_then ps rs ss (each_then ps qs rs h k) l
 
   module _ (S : P → P → Type 0) (weaker : (p q : P) → R p q → S p q) where
     pub each_weaker : (ps qs : List P) → Pointwise R ps qs → Pointwise S ps qs
@@ -61,3 +74,7 @@ all_stay R H keep [] [] h r = tt
 all_stay R H keep [] (q ∷ qs) h r = absurd r
 all_stay R H keep (p ∷ ps) [] h r = absurd r
 all_stay R H keep (p ∷ ps) (q ∷ qs) h r = (keep p q h.0 r.0, all_stay R H keep ps qs h.1 r.1)
+
+-- what follows at an Ok
+pub at_ok : {T E : Type 0} (r : Result T E) (x : T) (X : T → Type 0) → r ≡ Ok x → IfOk r X → X x
+at_ok {T} {E} r x X is h = subst (λ (z : Result T E). IfOk z X) is h

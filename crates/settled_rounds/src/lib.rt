@@ -1,6 +1,7 @@
-//! Parties with ends of their own, which go on one after the other and are settled, until none can go on.
+//! Parties with ends of their own, which go on side by side and are settled, until none can go on.
 #![tactic(auto)]
 
+mod choosing;
 mod party;
 mod running;
 mod settling;

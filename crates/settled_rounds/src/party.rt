@@ -1,8 +1,9 @@
 //! A party: what it may do with its ends, and when it has stopped.
 
-ghost use Rattle.std.specs.Prelude.{◌≡◌, ◌≤◌, ◌<◌, ◌^◌, ℕ, Bool, false, nat_lt, IfOk, OnOk};
+ghost use Rattle.std.specs.Prelude.{◌≡◌, ◌≤◌, ◌<◌, ◌^◌, ℕ, false, nat_lt, IfOk, OnOk};
 
 use ac_base::NoMemory;
+use ac_outside::Gate;
 
 /// A link, by the places of its owner and of its peer among the parties.
 #[derive(Clone, Copy, Debug, PartialEq, Eq)]
@@ -43,6 +44,9 @@ pub trait Party {
     /// It has ended, or it waits and nothing that is at hand is for it, or no stamp is left to it.
     ghost stopped: { Self → Type 0 };
 
+    /// The second is the first after its part of a round.
+    ghost worked: { Self → Self → Type 0 };
+
     /// Goes on until it can go on no further by what its ends tell, and says whether it made an entry.
     ///
     /// Condition: it may go on.
@@ -55,14 +59,40 @@ pub trait Party {
         ensures stops { OnOk result (stopped self.new) }
         ensures rests { IfOk result (λ it. it ≡ false → still self.old self.new) };
 
+    /// Its part of a round, in which the others go on too: goes on again and again, until it has ended, or no
+    /// stamp is left to it, or it has tried in vain as often in a row as a round asks for; and says whether it
+    /// made an entry. It passes the gate with its place and the number of its entries as it begins, and after
+    /// each call that made one.
+    ///
+    /// Condition: it may go on.
+    fn work<G: Gate>(&mut self, place: u32, gate: &G) -> Result<bool, NoMemory>
+        requires { ready self.old }
+        ensures later { later self.old self.new }
+        ensures rises { clock self.old ≤ clock self.new }
+        ensures bound { clock self.new < 2 ^ 60 }
+        ensures moved { IfOk result (λ it. it ≡ nat_lt (clock self.old) (clock self.new)) }
+        ensures worked { OnOk result (worked self.old self.new) };
+
+    /// Whether it can go on by itself. No clause stands on this, nor on `has_news` and `progress`: by them a
+    /// run chooses who goes on next.
+    fn is_ready(&self) -> bool;
+
+    /// Whether this party, which sends on the link, and the other one have something to learn or to take
+    /// there.
+    fn has_news(&self, other: &Self, link: u32) -> (bool, bool);
+
+    /// A number that rises with what it does, by about one in the time of an instruction.
+    fn progress(&self) -> u64;
+
     /// Lets its end of a link on which it sends, and the other party's, know all that the other has done.
-    /// It makes no entry, and where each already has at hand all that is there nothing new comes to either.
+    /// It makes no entry, and where each already has at hand all that is there, all stays as it was, at want of
+    /// memory too.
     fn settle_with(&mut self, other: &mut Self, link: u32) -> Result<(), NoMemory>
         requires { pair link self.old other.old }
         ensures owner { later self.old self.new × (clock self.new ≡ clock self.old) × apart link self.old self.new }
         ensures peer { later other.old other.new × (clock other.new ≡ clock other.old) × apart link other.old other.new }
         ensures settled { OnOk result (settled link self.new other.new) }
-        ensures again { OnOk result (known link self.old other.old → still self.old self.new × still other.old other.new) };
+        ensures again { known link self.old other.old → still self.old self.new × still other.old other.new };
 
     ghost later_self: { (p : Self) → later p p };
 

@@ -1,8 +1,8 @@
 //! The settling of all links, in one thread.
 
 ghost use Rattle.std.specs.Prelude.{◌≡◌, ◌≢◌, ◌<◌, ◌^◌, length, slice_get, Some, OnOk};
-ghost use Rattle.settled_rounds.specs.Linked.{AreWays, OnLinks, Pointwise};
-ghost use Rattle.settled_rounds.specs.inner.Settling.{Keeps, SettlesOne, SettlesAll};
+ghost use Rattle.settled_rounds.specs.Linked.{AreWays, OnLinks};
+ghost use Rattle.settled_rounds.specs.inner.Settling.{SettlesOne, SettlesAll};
 
 use crate::party::{Party, Way};
 use ac_base::NoMemory;
@@ -11,8 +11,7 @@ use ac_base::NoMemory;
 fn settle_at<P: Party>(parties: &mut [P], from: usize, to: usize, link: u32) -> Result<(), NoMemory>
     requires places { (from < length parties.old) × (to < length parties.old) × (from ≢ to) }
     requires pair { (a b : P) → slice_get parties.old from ≡ Some a → slice_get parties.old to ≡ Some b → P.pair link a b }
-    ensures keeps { Pointwise (Keeps P.clock P.later P.known P.still P.apart link) parties.old parties.new }
-    ensures one { OnOk result (SettlesOne P.clock P.later P.known P.still P.apart link from to parties.old parties.new) }
+    ensures one { SettlesOne P.clock P.later P.known P.still P.apart link from to parties.old parties.new }
     ensures settled { OnOk result ((a b : P) → slice_get parties.new from ≡ Some a → slice_get parties.new to ≡ Some b
         → P.settled link a b) }
 {
@@ -30,8 +29,7 @@ pub(crate) fn settle_all<P: Party>(ways: &[Way], parties: &mut [P]) -> Result<()
     requires few { length ways.now < 2 ^ 32 }
     requires ways { AreWays (length parties.old) ways.now }
     requires paired { OnLinks P.pair ways.now parties.old }
-    ensures later { Pointwise P.later parties.old parties.new }
-    ensures all { OnOk result (SettlesAll P.clock P.later P.known P.still P.apart P.stopped ways.now parties.old parties.new) }
+    ensures all { SettlesAll P.clock P.later P.known P.still P.apart P.stopped ways.now parties.old parties.new }
     ensures settled { OnOk result (OnLinks P.settled ways.now parties.new) }
 {
     for (link, way) in ways.iter().enumerate() {

@@ -2,41 +2,45 @@ use Rattle.settled_rounds.proofs.Pointwise.{each_self, each_then, all_stay}
 use Rattle.settled_rounds.proofs.EachLink.{pairs_stay}
 use Rattle.settled_rounds.proofs.running.run.Goals as goal
 
-pub settle-requires-clause-paired : goal.settle-requires-clause-paired
-settle-requires-clause-paired g c =
+pub loop-moved-init : goal.loop-moved-init
+loop-moved-init g c =
+    let w = g.world in
+    let m = g.met.P.Party w.𝓛 w.𝓜 w.𝓡 (λ s h. h, λ p. p, λ n s. n s, λ x. x) in
     let t = g.P.Party in
-    pairs_stay t.clock t.later t.known t.still t.apart t.settled t.pair t.stopped g.met.P.Party.pair_stays c.args.ways.now c.args.parties.now c.loop-parties.parties c.requires.paired
-    c.loop-parties.invariant
+    each_self t.later m.later_self c.args.parties.now
 
-pub returns-in_err-settle-clause-later : goal.returns-in_err-settle-clause-later
-returns-in_err-settle-clause-later g c =
-    each_then g.P.Party.later g.met.P.Party.later_then c.args.parties.now c.loop-parties.parties c.settle.new.parties c.loop-parties.invariant c.settle.ensures.later
-
-pub loop-parties-preserved : goal.loop-parties-preserved
-loop-parties-preserved g c =
+pub step-requires-clause-paired : goal.step-requires-clause-paired
+step-requires-clause-paired g c κs within =
+    let w = g.world in
+    let m = g.met.P.Party w.𝓛 w.𝓜 w.𝓡 (λ s h. h, λ p. p, λ n s. n s, λ x. x) in
     let t = g.P.Party in
-    each_then t.later g.met.P.Party.later_then c.args.parties.now c.settle.new.parties c.round.new.parties
-    (each_then t.later g.met.P.Party.later_then c.args.parties.now c.loop-parties.parties c.settle.new.parties c.loop-parties.invariant c.settle.ensures.later)
-    c.round.ensures.later
+    pairs_stay t.clock t.later t.known t.still t.apart t.settled t.pair t.stopped m.pair_stays c.args.ways.now c.args.parties.now c.loop-moved.parties c.requires.paired
+    c.loop-moved.invariant
 
-pub returns-in_err-round-clause-later : goal.returns-in_err-round-clause-later
-returns-in_err-round-clause-later g c =
+pub step-requires-clause-ready : goal.step-requires-clause-ready
+step-requires-clause-ready g c κs within =
+    let w = g.world in
+    let m = g.met.P.Party w.𝓛 w.𝓜 w.𝓡 (λ s h. h, λ p. p, λ n s. n s, λ x. x) in
     let t = g.P.Party in
-    each_then t.later g.met.P.Party.later_then c.args.parties.now c.settle.new.parties c.round.new.parties
-    (each_then t.later g.met.P.Party.later_then c.args.parties.now c.loop-parties.parties c.settle.new.parties c.loop-parties.invariant c.settle.ensures.later)
-    c.round.ensures.later
+    all_stay t.later t.ready m.ready_stays c.args.parties.now c.loop-moved.parties c.requires.ready c.loop-moved.invariant
 
-pub returns-clause-later : goal.returns-clause-later
-returns-clause-later g c =
-    each_then g.P.Party.later g.met.P.Party.later_then c.args.parties.now c.loop-parties.parties c.settle.new.parties c.loop-parties.invariant c.settle.ensures.later
+pub returns-in_err-moved-clause-later : goal.returns-in_err-moved-clause-later
+returns-in_err-moved-clause-later g c =
+    let w = g.world in
+    let m = g.met.P.Party w.𝓛 w.𝓜 w.𝓡 (λ s h. h, λ p. p, λ n s. n s, λ x. x) in
+    let t = g.P.Party in
+    each_then t.later m.later_then c.args.parties.now c.loop-moved.parties c.step.new.parties c.loop-moved.invariant c.step.ensures.later
 
-pub settle-requires-clause-ready : goal.settle-requires-clause-ready
-settle-requires-clause-ready g c = all_stay g.P.Party.later g.P.Party.ready g.met.P.Party.ready_stays c.args.parties.now c.loop-parties.parties c.requires.ready c.loop-parties.invariant
+pub returns-then-not-moved-clause-later : goal.returns-then-not-moved-clause-later
+returns-then-not-moved-clause-later g c =
+    let w = g.world in
+    let m = g.met.P.Party w.𝓛 w.𝓜 w.𝓡 (λ s h. h, λ p. p, λ n s. n s, λ x. x) in
+    let t = g.P.Party in
+    each_then t.later m.later_then c.args.parties.now c.loop-moved.parties c.step.new.parties c.loop-moved.invariant c.step.ensures.later
 
-pub round-requires : goal.round-requires
-round-requires g c =
-    all_stay g.P.Party.later g.P.Party.ready g.met.P.Party.ready_stays c.args.parties.now c.settle.new.parties c.requires.ready
-    (each_then g.P.Party.later g.met.P.Party.later_then c.args.parties.now c.loop-parties.parties c.settle.new.parties c.loop-parties.invariant c.settle.ensures.later)
-
-pub loop-parties-init : goal.loop-parties-init
-loop-parties-init g c = each_self g.P.Party.later g.met.P.Party.later_self c.args.parties.now
+pub loop-moved-preserved : goal.loop-moved-preserved
+loop-moved-preserved g c =
+    let w = g.world in
+    let m = g.met.P.Party w.𝓛 w.𝓜 w.𝓡 (λ s h. h, λ p. p, λ n s. n s, λ x. x) in
+    let t = g.P.Party in
+    each_then t.later m.later_then c.args.parties.now c.loop-moved.parties c.step.new.parties c.loop-moved.invariant c.step.ensures.later

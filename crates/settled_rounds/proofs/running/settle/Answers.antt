@@ -6,27 +6,27 @@ use Rattle.settled_rounds.proofs.running.settle.Goals as goal
 
 pub returns-in_err-moved-clause-later : goal.returns-in_err-moved-clause-later
 returns-in_err-moved-clause-later g c =
-    each_then g.P.Party.later g.met.P.Party.later_then c.args.parties.now c.settle_all.new.parties c.pass.new.parties c.settle_all.ensures.later c.pass.ensures.later
+    each_then g.P.Party.later g.met.P.Party.later_then c.args.parties.now c.settle_all.new.parties c.pass.new.parties c.settle_all.ensures.all.all_later c.pass.ensures.later
 
 pub settle_all-requires-then-not-moved-clause-paired : goal.settle_all-requires-then-not-moved-clause-paired
 settle_all-requires-then-not-moved-clause-paired g c =
     let t = g.P.Party in
     pairs_stay t.clock t.later t.known t.still t.apart t.settled t.pair t.stopped g.met.P.Party.pair_stays c.args.ways.now c.args.parties.now c.pass.new.parties c.requires.paired
-    (each_then t.later g.met.P.Party.later_then c.args.parties.now c.settle_all.new.parties c.pass.new.parties c.settle_all.ensures.later c.pass.ensures.later)
+    (each_then t.later g.met.P.Party.later_then c.args.parties.now c.settle_all.new.parties c.pass.new.parties c.settle_all.ensures.all.all_later c.pass.ensures.later)
 
 pub returns-in_err-settle_all-2-clause-later : goal.returns-in_err-settle_all-2-clause-later
 returns-in_err-settle_all-2-clause-later g c =
     let t = g.P.Party in
     each_then t.later g.met.P.Party.later_then c.args.parties.now c.pass.new.parties c.settle_all-then-not-moved.new.parties
-    (each_then t.later g.met.P.Party.later_then c.args.parties.now c.settle_all.new.parties c.pass.new.parties c.settle_all.ensures.later c.pass.ensures.later)
-    c.settle_all-then-not-moved.ensures.later
+    (each_then t.later g.met.P.Party.later_then c.args.parties.now c.settle_all.new.parties c.pass.new.parties c.settle_all.ensures.all.all_later c.pass.ensures.later)
+    c.settle_all-then-not-moved.ensures.all.all_later
 
 pub returns-in_ok-settle_all-2-clause-later : goal.returns-in_ok-settle_all-2-clause-later
 returns-in_ok-settle_all-2-clause-later g c =
     let t = g.P.Party in
     each_then t.later g.met.P.Party.later_then c.args.parties.now c.pass.new.parties c.settle_all-then-not-moved.new.parties
-    (each_then t.later g.met.P.Party.later_then c.args.parties.now c.settle_all.new.parties c.pass.new.parties c.settle_all.ensures.later c.pass.ensures.later)
-    c.settle_all-then-not-moved.ensures.later
+    (each_then t.later g.met.P.Party.later_then c.args.parties.now c.settle_all.new.parties c.pass.new.parties c.settle_all.ensures.all.all_later c.pass.ensures.later)
+    c.settle_all-then-not-moved.ensures.all.all_later
 
 pub returns-in_ok-settle_all-2-clause-moved : goal.returns-in_ok-settle_all-2-clause-moved
 returns-in_ok-settle_all-2-clause-moved g c =
@@ -37,7 +37,7 @@ returns-in_ok-settle_all-2-clause-moved g c =
 
 pub returns-else-not-moved-clause-later : goal.returns-else-not-moved-clause-later
 returns-else-not-moved-clause-later g c =
-    each_then g.P.Party.later g.met.P.Party.later_then c.args.parties.now c.settle_all.new.parties c.pass.new.parties c.settle_all.ensures.later c.pass.ensures.later
+    each_then g.P.Party.later g.met.P.Party.later_then c.args.parties.now c.settle_all.new.parties c.pass.new.parties c.settle_all.ensures.all.all_later c.pass.ensures.later
 
 pub returns-else-not-moved-clause-moved : goal.returns-else-not-moved-clause-moved
 returns-else-not-moved-clause-moved g c =
@@ -46,4 +46,4 @@ returns-else-not-moved-clause-moved g c =
     c.in_ok-settle_all.ensures.all c.in_ok-moved.ensures.moved (search rules)
 
 pub pass-requires : goal.pass-requires
-pass-requires g c = all_stay g.P.Party.later g.P.Party.ready g.met.P.Party.ready_stays c.args.parties.now c.settle_all.new.parties c.requires.ready c.settle_all.ensures.later
+pass-requires g c = all_stay g.P.Party.later g.P.Party.ready g.met.P.Party.ready_stays c.args.parties.now c.settle_all.new.parties c.requires.ready c.settle_all.ensures.all.all_later

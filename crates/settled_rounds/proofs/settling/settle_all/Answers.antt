@@ -1,7 +1,7 @@
 use Rattle.std.proofs.Common.{rules, arith}
 use Rattle.std.proofs.lemmas.Option.{slice_get-get_or}
 use Rattle.settled_rounds.proofs.Pointwise.{each_length}
-use Rattle.settled_rounds.proofs.EachLink.{none_settled, one_more_later, one_more_settled, all_below, pairs_stay}
+use Rattle.settled_rounds.proofs.EachLink.{none_settled, one_more_kept, one_more_settled, all_below, pairs_stay}
 use Rattle.settled_rounds.proofs.settling.settle_all.Goals as goal
 
 pub loop-link-init : goal.loop-link-init
@@ -23,11 +23,13 @@ settle_at-requires-clause-pair g c =
     λ a b from to. pairs_stay t.clock t.later t.known t.still t.apart t.settled t.pair t.stopped g.met.P.Party.pair_stays c.args.ways.now c.args.parties.now c.loop-link.parties c.requires.paired
     c.loop-link.invariant.all_later c.loop-link.link _ a b at from to
 
-pub returns-in_err-settle_at-clause-later : goal.returns-in_err-settle_at-clause-later
-returns-in_err-settle_at-clause-later g c =
+pub returns-in_err-settle_at-clause-all : goal.returns-in_err-settle_at-clause-all
+returns-in_err-settle_at-clause-all g c =
     let t = g.P.Party in
-    one_more_later t.clock t.later t.known t.still t.apart t.settled t.pair t.stopped g.met.P.Party.later_then c.loop-link.link c.args.parties.now c.loop-link.parties c.settle_at.new.parties
-    c.loop-link.invariant.all_later c.settle_at.ensures.keeps
+    let m = g.met.P.Party in
+    let at = slice_get-get_or c.args.ways.now c.loop-link.link (record { from = 0; to = 0 }) (search rules) in
+    one_more_kept t.clock t.later t.known t.still t.apart t.settled t.pair t.stopped m.later_then m.settled_apart m.known_still m.stopped_still c.args.ways.now c.loop-link.link _
+    c.args.parties.now c.loop-link.parties c.settle_at.new.parties at c.loop-link.invariant c.settle_at.ensures.one
 
 pub loop-link-preserved : goal.loop-link-preserved
 loop-link-preserved g c =
