@@ -2,7 +2,7 @@
 //! program's name, and ends with its status.
 #![tactic(auto)]
 
-use ac_adapters::{FileDisk, FileLibrary, StandardSink};
+use ac_adapters::{FileDisk, FileLibrary, OpenGate, StandardSink};
 use ac_program::ac_main;
 use std::process::ExitCode;
 use std::{env, io};
@@ -30,11 +30,13 @@ fn main(rt: HostRuntime) -> ExitCode {
     let mut sink = StandardSink::new(&rt);
     let mut disk = FileDisk::new(&rt, rt.alloc());
     let outcome = ac_main(
+        &rt,
         rt.alloc(),
         words.as_slice(),
         &mut library,
         &mut sink,
         &mut disk,
+        &OpenGate::new(),
     );
     ExitCode::from(outcome.status.number)
 }

@@ -19,11 +19,12 @@ use crate::reading::{ReadFault, SOURCE_LIMIT, read_text};
 use crate::refusal::{LIMIT_SOURCE, Refusal, Stop, place_line};
 use crate::writing::answer;
 use ac_base::Status;
-use ac_outside::{Disk, Library, Sink};
+use ac_outside::{Disk, Gate, Library, Sink};
 use ac_types::Checked;
 use ac_words::Task;
 use starting_files::StartFault;
 use std::alloc::Global;
+use std::thread::Threads;
 
 /// The line of words that call for nothing.
 pub const USAGE: &str =
@@ -112,7 +113,9 @@ fn refuse_file<K: Sink>(alloc: Global, sink: &mut K, file: u32) -> Outcome
 }
 
 // Does a task with a program that nothing refuses, and writes what is made of it, or of its files.
-fn do_program<K: Sink, D: Disk>(
+fn do_program<K: Sink, D: Disk + Send, G: Gate + Sync, R: Threads + Sync>(
+    rt: &R,
+    gate: &G,
     alloc: Global,
     checked: &Checked,
     task: Task,
@@ -138,7 +141,7 @@ fn do_program<K: Sink, D: Disk>(
     ensures sink { TellsSink (K.told sink.old) (K.told sink.new) result.status.number }
     ensures other { (result.status.number ≢ 1) × (result.status.number ≢ 7) }
 {
-    match make(alloc, checked, task, disk) {
+    match make(rt, gate, alloc, checked, task, disk) {
         Err(StartFault::NoMemory) => no_memory(),
         Err(StartFault::Failed) => refuse(sink, 9, "disk fault\n"),
         Err(StartFault::TooLong { file }) => refuse_file(alloc, sink, file),
@@ -147,7 +150,9 @@ fn do_program<K: Sink, D: Disk>(
 }
 
 /// Does a task with a source and writes what is made of it, or what refuses it.
-pub fn do_source<K: Sink, D: Disk>(
+pub fn do_source<K: Sink, D: Disk + Send, G: Gate + Sync, R: Threads + Sync>(
+    rt: &R,
+    gate: &G,
     alloc: Global,
     source: &[u8],
     task: Task,
@@ -173,12 +178,14 @@ pub fn do_source<K: Sink, D: Disk>(
     match build(alloc, source, task) {
         Err(Stop::NoMemory) => no_memory(),
         Err(Stop::Refused(refusal)) => refuse_source(alloc, sink, refusal),
-        Ok(checked) => do_program(alloc, &checked, task, sink, disk),
+        Ok(checked) => do_program(rt, gate, alloc, &checked, task, sink, disk),
     }
 }
 
 /// Reads the text of a name, does a task with it and writes what is made of it, or what refuses it.
-pub fn do_file<L: Library, K: Sink, D: Disk>(
+pub fn do_file<L: Library, K: Sink, D: Disk + Send, G: Gate + Sync, R: Threads + Sync>(
+    rt: &R,
+    gate: &G,
     alloc: Global,
     file: &str,
     task: Task,
@@ -210,6 +217,6 @@ pub fn do_file<L: Library, K: Sink, D: Disk>(
         Err(ReadFault::NoMemory) => no_memory(),
         Err(ReadFault::Failed) => refuse(sink, 7, "library fault\n"),
         Err(ReadFault::TooLong) => refuse(sink, 10, LIMIT_SOURCE),
-        Ok(source) => do_source(alloc, source.as_slice(), task, sink, disk),
+        Ok(source) => do_source(rt, gate, alloc, source.as_slice(), task, sink, disk),
     }
 }

@@ -15,7 +15,7 @@ ghost use Rattle.ac_program.specs.inner.Parts.{GivesDone, GivesText};
 use crate::telling::tell;
 use ac_base::{Bytes, List, NoMemory, Status};
 use ac_compile::compile;
-use ac_outside::Disk;
+use ac_outside::{Disk, Gate};
 use ac_types::Checked;
 use ac_words::{Task, Telling};
 use code_listing::listing;
@@ -23,6 +23,7 @@ use core_runner::run;
 use program_run::Ended;
 use starting_files::{StartFault, start_files};
 use std::alloc::Global;
+use std::thread::Threads;
 
 /// What is made of a source: a run, if there is one, a text that is written, and a status.
 #[derive(Drop)]
@@ -44,7 +45,9 @@ fn paths_of(alloc: Global, checked: &Checked) -> Result<List<Bytes>, NoMemory>
 }
 
 // A run of a program on its files, and what tells of it.
-fn reported<D: Disk>(
+fn reported<D: Disk + Send, G: Gate + Sync, R: Threads + Sync>(
+    rt: &R,
+    gate: &G,
     alloc: Global,
     checked: &Checked,
     steps: u32,
@@ -67,7 +70,7 @@ fn reported<D: Disk>(
     let _ = code.ranks();
     let paths = paths_of(alloc, checked)?;
     let start = start_files(alloc, disk, paths.as_slice())?;
-    let ended = run(alloc, &code, u64::from(steps), start, disk)?;
+    let ended = run(rt, gate, alloc, &code, u64::from(steps), start, disk)?;
     let told = tell(alloc, code.names(), &ended, telling)?;
     Ok(Done {
         run: Some(ended),
@@ -104,7 +107,9 @@ fn listed(alloc: Global, checked: &Checked) -> Result<Done, NoMemory>
 
 /// What a task makes of a program that nothing refuses. Only a run needs the disk, on which its
 /// files are bound and read first.
-pub fn make<D: Disk>(
+pub fn make<D: Disk + Send, G: Gate + Sync, R: Threads + Sync>(
+    rt: &R,
+    gate: &G,
     alloc: Global,
     checked: &Checked,
     task: Task,
@@ -120,7 +125,7 @@ pub fn make<D: Disk>(
     ensures { GivesDone task checked.now (D.told disk.old) (D.told disk.new) result }
 {
     match task {
-        Task::Run(steps, telling) => reported(alloc, checked, steps, telling, disk),
+        Task::Run(steps, telling) => reported(rt, gate, alloc, checked, steps, telling, disk),
         Task::Check => Ok(accepted(alloc)?),
         Task::Code => Ok(listed(alloc, checked)?),
     }

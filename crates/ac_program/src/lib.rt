@@ -23,7 +23,7 @@ mod summary;
 mod telling;
 mod writing;
 
-use ac_outside::{Disk, Library, Sink};
+use ac_outside::{Disk, Gate, Library, Sink};
 use ac_words::{Call, read_words};
 use answering::{USAGE, do_file, refuse};
 use auditing::audit_files;
@@ -31,6 +31,7 @@ use loading::load;
 pub use outcome::Outcome;
 pub use program_run::Ended;
 use std::alloc::Global;
+use std::thread::Threads;
 
 /// Does what the words of a command line ask for. With the text of a file, which it reads from the
 /// library: runs its program with the bound on steps that they give, on its files on the disk, and
@@ -68,12 +69,18 @@ use std::alloc::Global;
 /// A run reads and writes the files of its program: where the disk tells them, they are read as they
 /// are, and afterwards hold what the run's history has written. What fails there is an answer to the
 /// program.
-pub fn ac_main<L: Library, K: Sink, D: Disk>(
+///
+/// The cores of a run and the worker of their files go on at the same time, on threads of `rt`, and
+/// pass `gate` with their numbers and how many entries they have made. Which outcome a race has is not
+/// said: whatever the schedule is, the run is one of the program.
+pub fn ac_main<L: Library, K: Sink, D: Disk + Send, G: Gate + Sync, R: Threads + Sync>(
+    rt: &R,
     alloc: Global,
     words: &[String],
     library: &mut L,
     sink: &mut K,
     disk: &mut D,
+    gate: &G,
 ) -> Outcome
     // The disk has bound no file, and may be called.
     requires ready { IsTrue (D.told disk.old).is_ready }
@@ -133,8 +140,10 @@ pub fn ac_main<L: Library, K: Sink, D: Disk>(
 {
     match read_words(words) {
         None => refuse(sink, 1, USAGE),
-        Some(Call::Does { task, file }) => do_file(alloc, file, task, library, sink, disk),
+        Some(Call::Does { task, file }) => do_file(
+            rt, gate, alloc, file, task, library, sink, disk,
+        ),
         Some(Call::Audits { file, trace }) => audit_files(alloc, file, trace, library, sink),
-        Some(Call::Loads { turns, steps }) => load(alloc, turns, steps, sink, disk),
+        Some(Call::Loads { turns, steps }) => load(rt, gate, alloc, turns, steps, sink, disk),
     }
 }

@@ -10,13 +10,16 @@ ghost use Rattle.ac_program.specs.Making.{IsDueOf};
 use crate::answering::{do_source, no_memory};
 use crate::outcome::Outcome;
 use ac_file_server::load_text;
-use ac_outside::{Disk, Sink};
+use ac_outside::{Disk, Gate, Sink};
 use ac_words::{Task, Telling};
 use std::alloc::Global;
+use std::thread::Threads;
 
 /// Runs the text of the file server, whose clients take so many turns, and writes the summary of the
 /// run.
-pub fn load<K: Sink, D: Disk>(
+pub fn load<K: Sink, D: Disk + Send, G: Gate + Sync, R: Threads + Sync>(
+    rt: &R,
+    gate: &G,
     alloc: Global,
     turns: u32,
     steps: u32,
@@ -46,7 +49,7 @@ pub fn load<K: Sink, D: Disk>(
         Err(_) => no_memory(),
         Ok(text) => {
             let task = Task::Run(steps, Telling::Summary(turns));
-            do_source(alloc, text.as_slice(), task, sink, disk)
+            do_source(rt, gate, alloc, text.as_slice(), task, sink, disk)
         }
     }
 }

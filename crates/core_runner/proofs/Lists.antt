@@ -6,6 +6,13 @@ use Rattle.std.specs.List.{AllByRecursion}
 pub same_some : {X : Type 0} (x y : X) → Some x ≡ Some y → x ≡ y
 same_some x y e = cc
 
+pub one_more : {X : Type 0} (xs ys : List X) (y : X) → xs ≡ ys ++ y ∷ [] → length xs ≡ suc (length ys)
+one_more {X = X} xs ys y e = ap length e ∙ longer ys
+  where
+    longer : (zs : List X) → length (zs ++ y ∷ []) ≡ suc (length zs)
+    longer [] = refl
+    longer (z ∷ zs) = ap suc (longer zs)
+
 -- ---- by place
 
 pub found : {X : Type 0} (xs : List X) (k : ℕ) → k < length xs → (x : X) × (slice_get xs k ≡ Some x)

@@ -1,6 +1,6 @@
 -- The parties of a run as it begins: what is dealt to a core is its own and agrees with a journal without entries, and what is dealt to the worker
 -- is new. At the two ends of each way stand parties that have the two ends of its link.
-use Rattle.std.proofs.Common.{◌≡◌, ⊎_elim, ℕ, zero, suc, ◌+◌, ◌<◌, List, [], ◌∷◌, ◌++◌, Some, refl, sym, ap, ◌∙◌, subst, arith, length}
+use Rattle.std.proofs.Common.{◌≡◌, ⊎_elim, ℕ, zero, suc, ◌+◌, ◌<◌, ◌≤◌, ◌^◌, List, [], ◌∷◌, ◌++◌, Some, refl, sym, ap, ◌∙◌, subst, arith, length}
 use Rattle.std.specs.Prelude.{slice_get, IsTrue}
 use Rattle.std.specs.List.{All, AllByRecursion}
 use Rattle.std.proofs.lemmas.List.{length-append}
@@ -153,6 +153,9 @@ module _ {D : Type 0} (code : Parts) (well : HasLinks code) (bound : ℕ) (cores
 
   pub all_ways : AreWays (suc (length cores)) ways
   all_ways = are_ways code well ways b.ways_are (suc (length cores)) (ap suc core_count)
+
+  pub few_parties : length code.entries ≤ 16 → suc (length cores) < 2 ^ 32
+  few_parties few = let n = core_count in omega (arith, n, few)
 
   -- ---- the ends of each link
 

@@ -22,7 +22,7 @@ ghost use Rattle.core_runner.specs.inner.Runs.{HaveRun};
 use crate::ended::ended_of;
 use crate::parties::{cores_of, ways_of};
 use ac_base::{Bytes, List, NoMemory};
-use ac_outside::Disk;
+use ac_outside::{Disk, Gate};
 use completion_word::Words;
 use file_worker::Worker;
 use program_run::Ended;
@@ -32,10 +32,13 @@ use settled_rounds::Way;
 use settled_run::{settled_ends_leave_the_disk, settled_ends_make_a_run};
 use stack_code::Code;
 use std::alloc::Global;
+use std::thread::Threads;
 
 // Lets these cores and this worker run until each is done, and gives what they have made, and the disk
 // back.
-fn run_all<'a, 'd, D: Disk>(
+fn run_all<'a, 'd, D: Disk + Send, G: Gate + Sync, R: Threads + Sync>(
+    rt: &R,
+    gate: &G,
     alloc: Global,
     steps: u64,
     files: List<Bytes>,
@@ -45,6 +48,7 @@ fn run_all<'a, 'd, D: Disk>(
 ) -> (Result<Ended, NoMemory>, &'d mut D)
     requires room { vec_len cores < vec_capacity cores }
     requires few { length ways.now < 2 ^ 32 }
+    requires parties { suc (length cores.items) < 2 ^ 32 }
     requires ways { AreWays (suc (length cores.items)) ways.now }
     requires paired { OnLinks HaveEnds ways.now (cores.items ++ party.Disk worker ∷ []) }
     requires ready { AllByRecursion (MayGoOn D.told) (cores.items ++ party.Disk worker ∷ []) }
@@ -55,7 +59,7 @@ fn run_all<'a, 'd, D: Disk>(
 {
     let mut parties = cores;
     parties.push_reserved(RunParty::Disk(worker));
-    let ran = settled_rounds::run(ways, parties.as_mut_slice());
+    let ran = settled_rounds::run(rt, gate, ways, parties.as_mut_slice());
     let RunParty::Disk(worker) = parties.take_last() else {
         unreachable!()
     };
@@ -70,7 +74,9 @@ fn run_all<'a, 'd, D: Disk>(
 }
 
 // Runs a code over these words.
-fn run_over<'a, D: Disk>(
+fn run_over<'a, D: Disk + Send, G: Gate + Sync, R: Threads + Sync>(
+    rt: &R,
+    gate: &G,
     alloc: Global,
     code: &'a Code,
     steps: u64,
@@ -114,14 +120,26 @@ fn run_over<'a, D: Disk>(
     let cores = cores_of(alloc, code, steps, ports)?;
     let first = code.ends().len() as u32;
     let worker = Worker::new(alloc, disk, first, asks, replies);
-    let (ended, _disk) = run_all(alloc, steps, start, ways.as_slice(), cores, worker);
+    let (ended, _disk) = run_all(
+        rt,
+        gate,
+        alloc,
+        steps,
+        start,
+        ways.as_slice(),
+        cores,
+        worker,
+    );
     ended
 }
 
-/// Runs the cores of a code, each with this bound on its steps, and the worker of their files, one after
-/// the other in one thread, until each core has ended, or is idle and nothing on its links is for it, and
-/// no request is left undone. Each has ends of its own, which are settled with those of the others where
-/// none can go on by what its own tell.
+/// Runs the cores of a code, each with this bound on its steps, and the worker of their files, until each
+/// core has ended, or is idle and nothing on its links is for it, and no request is left undone. They go on
+/// at the same time, each on a thread, where several have something to do. Each has ends of its own, which
+/// are settled with those of the others in between. Whatever the schedule is, the run is one of the program.
+///
+/// A party passes the gate with its number, the worker's being the number of cores, and with the count of
+/// its entries, as its part of a round begins and after each call that made an entry.
 ///
 /// `start` is what the bound files of the disk hold. The disk is called once for each request of a bound
 /// file that is done, and what it holds after the run is what the history of the run has made of `start`.
@@ -129,7 +147,9 @@ fn run_over<'a, D: Disk>(
 /// Conditions: each core uses a channel only at its own end, the link of its requests has sixteen places,
 /// as in the code of each program, all cores together may take at most 4,000,000 steps, the disk may be
 /// called, as many files are bound as `start` has, and where the disk tells its files, they are these.
-pub fn run<D: Disk>(
+pub fn run<D: Disk + Send, G: Gate + Sync, R: Threads + Sync>(
+    rt: &R,
+    gate: &G,
     alloc: Global,
     code: &Code,
     steps: u64,
@@ -154,5 +174,15 @@ pub fn run<D: Disk>(
     let _instrs = code.instrs();
     let channels = code.ends().len() as u32;
     let (words, seats) = make_words(alloc, code.capacities().as_slice(), channels)?;
-    run_over(alloc, code, steps, start, words.as_slice(), seats, disk)
+    run_over(
+        rt,
+        gate,
+        alloc,
+        code,
+        steps,
+        start,
+        words.as_slice(),
+        seats,
+        disk,
+    )
 }

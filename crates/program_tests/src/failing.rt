@@ -4,6 +4,7 @@
 use crate::main_calls::{Left, Outside, WELL, call};
 use std::alloc::Global;
 use std::test::Fail;
+use std::thread::Threads;
 
 const SEVEN: &str = "core a(f); async void f() { printf(\"%d\\n\", 1+2*3); }";
 
@@ -14,13 +15,13 @@ const TWO: &str = "core a(f); async void f() { printf(\"%d\\n\", 1); printf(\"%d
 const UNDECLARED: &str = "core a(f); async void f() { x = 1; }";
 
 // Whether a run writes as much of its report as a sink has room for.
-fn is_front(alloc: Global, room: usize) -> Result<bool, Fail> {
+fn is_front<R: Threads + Sync>(rt: &R, alloc: Global, room: usize) -> Result<bool, Fail> {
     let outside = Outside {
         text: SEVEN,
         room: room as u64,
         ..WELL
     };
-    let left = call(alloc, &["run", "x.ac"], &outside)?;
+    let left = call(rt, alloc, &["run", "x.ac"], &outside)?;
     let status = if room < 44 { 8 } else { 0 };
     let front = &REPORT.as_bytes()[..room.min(REPORT.len())];
     Ok(left.status == status && left.ran && left.taken.as_slice() == front)
@@ -29,7 +30,7 @@ fn is_front(alloc: Global, room: usize) -> Result<bool, Fail> {
 #[test]
 fn a_report_is_written_as_far_as_there_is_room(rt: HostRuntime) -> Result<(), Fail> {
     for room in 0..=44 {
-        assert!(rt; is_front(rt.alloc(), room)?, "at room {room}");
+        assert!(rt; is_front(&rt, rt.alloc(), room)?, "at room {room}");
     }
     Ok(())
 }
@@ -54,7 +55,7 @@ fn lines_and_listings_are_so_too(rt: HostRuntime) -> Result<(), Fail> {
             room: *room,
             ..WELL
         };
-        let left = call(rt.alloc(), words, &outside)?;
+        let left = call(&rt, rt.alloc(), words, &outside)?;
         let written = left.status == *status && left.taken.as_slice() == taken.as_bytes();
         assert!(rt; written && left.ran == (at == 0), "row {at}");
     }
@@ -84,7 +85,7 @@ fn a_library_that_fails_is_told_and_opened_once(rt: HostRuntime) -> Result<(), F
             library_fails: *fails,
             ..WELL
         };
-        let left = call(rt.alloc(), &[task, "x.ac"], &outside)?;
+        let left = call(&rt, rt.alloc(), &[task, "x.ac"], &outside)?;
         let told = left.status == *status && left.taken.as_slice() == line.as_bytes();
         assert!(rt; told && left.opens == 1, "row {at}");
     }
@@ -121,7 +122,7 @@ fn a_file_is_bound_and_read_before_a_run(rt: HostRuntime) -> Result<(), Fail> {
             disk_fails: *fails,
             ..WELL
         };
-        let left = call(alloc, &[task, "x.ac"], &outside)?;
+        let left = call(&rt, alloc, &[task, "x.ac"], &outside)?;
         let told = left.status == *status && left.taken.as_slice() == line.as_bytes();
         assert!(rt; told && left.calls == *calls, "row {at}");
     }
@@ -314,7 +315,7 @@ fn a_disk_that_fails_answers_the_program(rt: HostRuntime) -> Result<(), Fail> {
                 taken: *taken,
                 ..WELL
             };
-            let left = call(rt.alloc(), &["run", "x.ac"], &outside)?;
+            let left = call(&rt, rt.alloc(), &["run", "x.ac"], &outside)?;
             assert!(rt;
                 is_of(&left, *status, report, file, *calls),
                 "call {disk_fails} of {text}"
@@ -324,58 +325,57 @@ fn a_disk_that_fails_answers_the_program(rt: HostRuntime) -> Result<(), Fail> {
     Ok(())
 }
 
-// The calls of a load where none fails: two files are bound, and each of nine bytes is written to both
+// The most calls of a load of one turn: two files are bound, and each of three bytes is written to both
 // and read from both.
-const CALLS: u64 = 38;
+const MOST: u64 = 14;
 
-const ALL: &str = "load 3 status 0\n21\n24\n27\n";
+// The fewest: of each two reads the one that comes second is called off.
+const FEWEST: u64 = 11;
 
-// The status and the answer of a load where this call fails, a write before any byte went in.
-//
-// A failed read is taken from the other file. A failed write leaves one file without the byte: where
-// that file ends there, its read gives no byte, and the other's gives the byte. Where other bytes stand
-// behind, it reads as 0; the two answers come in the order of the files, so this shows where it is the
-// second file, and the byte that is missing is no 0.
-fn due(call: u64) -> (u8, &'static str) {
-    match call {
-        0 | 1 => (9, "disk fault\n"),
-        5 => (0, "load 3 status 0\n21\n23\n27\n"),
-        15 => (0, "load 3 status 0\n14\n24\n27\n"),
-        17 => (0, "load 3 status 0\n21\n16\n27\n"),
-        27 => (0, "load 3 status 0\n7\n24\n27\n"),
-        29 => (0, "load 3 status 0\n21\n9\n27\n"),
-        _ => (0, ALL),
+const ALL: &str = "load 1 status 0\n0\n1\n2\n";
+
+// A failed write leaves one file without its byte. Where another stands behind by then, it reads as 0
+// there, and that may be the answer. Only the 1 can be missing: a 0 is not missed, and none stands behind
+// the 2.
+const WITHOUT_ONE: &str = "load 1 status 0\n0\n0\n2\n";
+
+// Whether a load may come to this where that call of the disk fails, a write after so many bytes. Which
+// of the clients' requests come first is not said. A failed read is taken from the other file.
+fn is_due(left: &Left, fails: u64, taken: u32) -> bool {
+    let written = left.taken.as_slice();
+    if fails < 2 {
+        return left.status == 9 && left.calls == fails + 1 && written == b"disk fault\n".as_slice();
     }
+    let may_lack = taken == 0 && fails < left.calls;
+    let is_whole = written == ALL.as_bytes();
+    let lacks = written == WITHOUT_ONE.as_bytes();
+    let calls = left.calls >= FEWEST && left.calls <= MOST;
+    left.status == 0 && calls && (is_whole || may_lack && lacks)
 }
 
-// Whether a load over an empty disk comes to this, where that call fails after so many bytes.
-fn loads(alloc: Global, fails: u64, taken: u32, due: (u8, &str)) -> Result<bool, Fail> {
+// Whether a load over an empty disk is as it may be.
+fn loads<R: Threads + Sync>(rt: &R, alloc: Global, fails: u64, taken: u32) -> Result<bool, Fail> {
     let outside = Outside {
         disk_fails: fails,
         taken,
         ..WELL
     };
-    let left = call(alloc, &["load", "3"], &outside)?;
-    let calls = if due.0 == 0 {
-        CALLS
-    } else {
-        fails.saturating_add(1)
-    };
-    Ok(left.status == due.0 && left.taken.as_slice() == due.1.as_bytes() && left.calls == calls)
+    let left = call(rt, alloc, &["load", "1"], &outside)?;
+    Ok(is_due(&left, fails, taken))
 }
 
 #[test]
 fn a_load_goes_on_where_a_call_of_the_disk_fails(rt: HostRuntime) -> Result<(), Fail> {
-    for fails in 0..=CALLS {
-        assert!(rt; loads(rt.alloc(), fails, 0, due(fails))?, "call {fails}");
+    for fails in 0..=MOST {
+        assert!(rt; loads(&rt, rt.alloc(), fails, 0)?, "call {fails}");
     }
     Ok(())
 }
 
 #[test]
 fn a_write_that_fails_once_its_byte_is_there_is_not_seen(rt: HostRuntime) -> Result<(), Fail> {
-    for fails in 2..=CALLS {
-        assert!(rt; loads(rt.alloc(), fails, 1, (0, ALL))?, "call {fails}");
+    for fails in 2..=MOST {
+        assert!(rt; loads(&rt, rt.alloc(), fails, 1)?, "call {fails}");
     }
     Ok(())
 }

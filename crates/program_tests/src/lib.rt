@@ -4,6 +4,10 @@
 #[cfg(test)]
 mod failing;
 #[cfg(test)]
+mod gates;
+#[cfg(test)]
+mod holding;
+#[cfg(test)]
 mod main_calls;
 #[cfg(test)]
 mod reference;

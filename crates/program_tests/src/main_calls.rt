@@ -2,6 +2,7 @@
 
 ghost use Rattle.std.specs.Prelude.{◌≡◌, [], IfOk, IsTrue, None, is_some};
 
+use crate::holding::{Hold, HoldingGate};
 use ac_base::List;
 use ac_outside::{
     Disk, DiskFail, Failed, Library, MemoryDisk, MemoryLibrary, MemorySink, NamedBytes, SafeDisk,
@@ -10,6 +11,7 @@ use ac_outside::{
 use ac_program::ac_main;
 use std::alloc::{AllocError, Global};
 use std::test::Fail;
+use std::thread::Threads;
 
 // The words of a command line.
 fn words_of(alloc: Global, words: &[&str]) -> Result<Vec<String>, AllocError> {
@@ -32,18 +34,20 @@ fn one_file(alloc: Global, name: &str, bytes: &[u8]) -> Result<List<NamedBytes>,
 
 // The status of a call, and whether it keeps a run. This is the one call of `ac_main`: each such call
 // is proved through all its clauses.
-fn called<L: Library, K: Sink, D: Disk>(
+fn called<L: Library, K: Sink, D: Disk + Send, R: Threads + Sync>(
+    rt: &R,
     alloc: Global,
     words: &[&str],
     library: &mut L,
     sink: &mut K,
     disk: &mut D,
+    gate: &HoldingGate<'_>,
 ) -> Result<(u8, bool), AllocError>
     requires ready { IsTrue (D.told disk.old).is_ready }
     requires none { (D.told disk.old).bound ≡ 0 }
 {
     let owned = words_of(alloc, words)?;
-    let outcome = ac_main(alloc, owned.as_slice(), library, sink, disk);
+    let outcome = ac_main(rt, alloc, owned.as_slice(), library, sink, disk, gate);
     Ok((outcome.status.number, outcome.run.is_some()))
 }
 
@@ -60,9 +64,11 @@ pub(crate) struct Outside<'a> {
     pub(crate) disk_fails: u64,
     /// How many bytes went in before, where that is a write.
     pub(crate) taken: u32,
+    /// How its parties are held.
+    pub(crate) holds: &'a [Hold],
 }
 
-/// No call fails, all is taken, and the text and the file are empty.
+/// No call fails, all is taken, the text and the file are empty, and nobody is held.
 pub(crate) const WELL: Outside<'static> = Outside {
     text: "",
     library_fails: 999,
@@ -70,10 +76,12 @@ pub(crate) const WELL: Outside<'static> = Outside {
     file: b"",
     disk_fails: 999,
     taken: 0,
+    holds: &[],
 };
 
 /// What a call came to: its status, whether it keeps a run, what the sink took, what the file `p` holds
-/// if it was bound, and how many texts were opened and how many calls of the disk were made.
+/// if it was bound, how many texts were opened and how many calls of the disk were made, and whether a
+/// party was held for longer than it may be.
 #[derive(Drop)]
 pub(crate) struct Left {
     pub(crate) status: u8,
@@ -82,6 +90,7 @@ pub(crate) struct Left {
     pub(crate) file: Vec<u8>,
     pub(crate) opens: u64,
     pub(crate) calls: u64,
+    pub(crate) limit_met: bool,
 }
 
 fn library(alloc: Global, outside: &Outside) -> Result<MemoryLibrary, Fail> {
@@ -104,11 +113,17 @@ fn disk(alloc: Global, outside: &Outside) -> Result<MemoryDisk, Fail>
 }
 
 /// The call of these words.
-pub(crate) fn call(alloc: Global, words: &[&str], outside: &Outside) -> Result<Left, Fail> {
+pub(crate) fn call<R: Threads + Sync>(
+    rt: &R,
+    alloc: Global,
+    words: &[&str],
+    outside: &Outside,
+) -> Result<Left, Fail> {
     let mut library = library(alloc, outside)?;
     let mut sink = MemorySink::new(alloc, outside.room)?;
     let mut disk = disk(alloc, outside)?;
-    let (status, ran) = called(alloc, words, &mut library, &mut sink, &mut disk)?;
+    let gate = HoldingGate::new(outside.holds);
+    let (status, ran) = called(rt, alloc, words, &mut library, &mut sink, &mut disk, &gate)?;
     let file = if disk.bound() == 1 {
         Vec::from_slice(alloc, disk.contents(0))?
     } else {
@@ -121,6 +136,7 @@ pub(crate) fn call(alloc: Global, words: &[&str], outside: &Outside) -> Result<L
         file,
         opens: library.opens(),
         calls: disk.calls(),
+        limit_met: gate.limit_met(),
     })
 }
 
@@ -177,7 +193,16 @@ fn a_text_that_comes_and_goes_byte_by_byte_is_whole(rt: HostRuntime) -> Result<(
         inner: SafeSink::new(alloc)?,
     };
     let mut disk = SafeDisk::new(one_file(alloc, "p", b"AB")?)?;
-    let seen = called(alloc, &["run", "x.ac"], &mut library, &mut sink, &mut disk)?;
+    let gate = HoldingGate::new(&[]);
+    let seen = called(
+        &rt,
+        alloc,
+        &["run", "x.ac"],
+        &mut library,
+        &mut sink,
+        &mut disk,
+        &gate,
+    )?;
     assert_eq!(rt; seen, (0, true));
     assert!(rt;
         sink.inner.taken() == b"a: finished after 4 steps, 21 instructions\n66\n".as_slice()

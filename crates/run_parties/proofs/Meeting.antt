@@ -1,7 +1,7 @@
 -- Two parties that are settled with each other, two cores or a core and the worker, are what the run asks of them: each is the same party later,
 -- with its clock and all else as it was but what is at hand on that link; there they are settled, and where both knew all before, nothing is new.
 use Rattle.std.proofs.Common.{◌≡◌, ℕ, List, true, sym, ap, ◌∙◌, subst}
-use Rattle.std.specs.Prelude.{OnOk, Result, Ok}
+use Rattle.std.specs.Prelude.{OnOk, OnErr, Result, Ok}
 use mathlib.Core.List.{IsPrefix}
 use Rattle.ac_base.specs.declared.entry.Entry.{Entry}
 use Rattle.ac_links.specs.Journals.{last_of}
@@ -19,10 +19,11 @@ use Rattle.run_parties.specs.declared.run_party.RunParty.{RunParty}
 use Rattle.run_parties.specs.declared.run_party.RunParty.TheVariants.{Core, Disk}
 use Rattle.run_parties.specs.Seats.{CoreSeat, on_desk, popped_at}
 use Rattle.run_parties.specs.Settling.{IsSettledOn}
+use Rattle.run_parties.specs.Moving.{SeatStays, DeskStays}
 use Rattle.run_parties.specs.Parties.{clock_of, IsLaterParty, HaveEnds, AreKnownAt, AreSettledAt, PartyStays, PartyButAt}
 use Rattle.run_parties.proofs.Channels.{seat_later, seat_apart, is_settled_on, both_stay}
 use Rattle.run_parties.proofs.Desks.{entries_same, desk_apart}
-use Rattle.run_parties.proofs.Requests.{asking_later, asking_apart, asking_stays, desk_rests, on_ok}
+use Rattle.run_parties.proofs.Requests.{asking_later, asking_apart, asking_stays, desk_rests, either_way, on_ok}
 
 same_clock : (s s' : CoreSeat) → s'.driven ≡ s.driven → last_of 0 s'.driven.machine.journal ≡ last_of 0 s.driven.machine.journal
 same_clock s s' e = ap (λ (d : Driven). last_of 0 d.machine.journal) e
@@ -35,7 +36,7 @@ module _ {D E : Type 0} (told : D → DiskTold) (l : ℕ) where
     pub owner : IsLaterParty told p p' × (clock_of p' ≡ clock_of p) × PartyButAt l p p'
     pub peer : IsLaterParty told q q' × (clock_of q' ≡ clock_of q) × PartyButAt l q q'
     pub settled : OnOk r (AreSettledAt l p' q')
-    pub again : OnOk r (AreKnownAt l p q → PartyStays p p' × PartyStays q q')
+    pub again : AreKnownAt l p q → PartyStays p p' × PartyStays q q'
 
   -- what is so of parties at their places is so of those that are equal to them
   at_places : (p q p' q' a b a' b' : RunParty D) (r r' : Result (Unit {0}) E) → p ≡ a → q ≡ b → p' ≡ a' → q' ≡ b' → r ≡ r' → HaveMet a b a' b' r'
@@ -60,8 +61,8 @@ module _ {D E : Type 0} (told : D → DiskTold) (l : ℕ) where
       → SettlesCore s.driven.machine.core (desk_of v) s.ports.ask.end (desk_of w) s'.ports.ask.end
       → OnOk r' (IsSettledOn true (on_link s'.ports s'.ports.ask.link) (on_desk (desk_of w) s'.ports.ask.link))
       → OnOk r' (IsPrefix (popped_at (desk_of w) s'.ports.ask.link) (payloads_at (on_link s'.ports s'.ports.ask.link).end))
-      → told_of told w ≡ told_of told v → loan_of w ≡ loan_of v → HaveMet p q p' q' r
-  requests_have_met p q p' q' r r' s s' v w ep eq ep' eq' er ends ds ports settles settled taken same loan =
+      → told_of told w ≡ told_of told v → loan_of w ≡ loan_of v → OnErr r' (SeatStays s s' × DeskStays (desk_of v) (desk_of w)) → HaveMet p q p' q' r
+  requests_have_met p q p' q' r r' s s' v w ep eq ep' eq' er ends ds ports settles settled taken same loan rests =
       let has = have_ends l p q (Core s) (Disk v) ep eq ends in
       let here : s'.ports.ask.link ≡ l = ports.stays.ask.link ∙ has.asked in
       let settled_here = on_ok r' _ (IsSettledOn true (on_link s'.ports l) (on_desk (desk_of w) l))
@@ -76,6 +77,10 @@ module _ {D E : Type 0} (told : D → DiskTold) (l : ℕ) where
           desk_apart s.driven.machine.core (desk_of v) (desk_of w) s.ports.ask.end s'.ports.ask.end settles l has.link,
         );
         settled = on_both r' _ _ _ settled_here taken_here (λ a b. (a, b));
-        again = on_ok r' _ _ (λ a known.
-            (asking_stays s s' (desk_of v) (desk_of w) l has ds ports settles known a.known, desk_rests s s' (desk_of v) (desk_of w) l has ds ports settles known a.known)) settled_here;
+        again = λ known. either_way r' _ _ _ settled_here rests
+            (λ a. (
+              asking_stays s s' (desk_of v) (desk_of w) l has ds ports settles known a.known,
+              desk_rests s s' (desk_of v) (desk_of w) l has ds ports settles known a.known,
+            ))
+            (λ left. left);
       })

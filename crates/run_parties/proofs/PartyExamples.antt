@@ -16,7 +16,7 @@ use Rattle.file_worker.specs.Ends.{CoreEnds, AtDesk, end_of}
 use Rattle.run_laws.proofs.CoreExamples.{crossing}
 use Rattle.run_parties.specs.Seats.{CoreSeat, ports_of, on_request, or_not_held, on_desk, popped_by, popped_at}
 use Rattle.run_parties.specs.Seated.{seat_of, HasItsPorts, IsSeated}
-use Rattle.run_parties.specs.Moving.{SeatStays, SeatButAt, DeskStops}
+use Rattle.run_parties.specs.Moving.{SeatStays, SeatButAt, DeskStays, DeskStops}
 use Rattle.run_parties.specs.inner.Keeping.{stays_on}
 
 -- ---- a worker with the ends of one core, whose link is 2
@@ -54,6 +54,13 @@ module _ (e : CoreEnds) where
     | inl none ↦ (let two = none 2 in cc)
     | inr full ↦ stamps full.0 full.1
   ]
+
+  pub a_desk_stays : DeskStays (desk e) (desk e)
+  a_desk_stays l = stays_on (on_desk (desk e) l)
+
+  pub not_where_a_request_comes_to_hand : (after : CoreEnds) → (on_request e).hand.front ≡ false → (on_request after).hand.front ≡ true
+      → DeskStays (desk e) (desk after) → ⊥
+  not_where_a_request_comes_to_hand after none one h = let same : (on_request after).hand.front ≡ (on_request e).hand.front = (h 2).front in cc
 
   pub but_without_a_stamp : (stamp_after 0 (on_request e).heard ≡ None) → DeskStops (desk e)
   but_without_a_stamp none = inr (2, none)

@@ -1,7 +1,7 @@
 -- The settling of a core's requests is to the run what the core and the worker owe: no entry is made, all is as it was but what is at hand on that
 -- link and what was heard there, the two ends are one settled link, and what the worker has taken are the first requests.
 use Rattle.std.proofs.Common.{◌≡◌, ◌+◌, ◌++◌, ℕ, List, [], ◌∷◌, true, Some, refl, sym, ap, ◌∙◌, subst, length, map, nat_lt, All, arith}
-use Rattle.std.specs.Prelude.{slice_get, OnOk, Result, Ok, Err}
+use Rattle.std.specs.Prelude.{slice_get, OnOk, OnErr, Result, Ok, Err}
 use Rattle.std.specs.List.{filter}
 use mathlib.Core.List.{IsPrefix}
 use Rattle.ac_base.specs.declared.entry.Payload.{Payload}
@@ -13,7 +13,9 @@ use Rattle.ac_links.specs.Party.{LinkEnd, EndRuns, PartyAgrees}
 use Rattle.ac_links.specs.Payloads.{is_payload}
 use Rattle.ac_links.specs.Replies.{waiting_replies}
 use Rattle.ac_links.specs.Views.{OwnerOffer, Response}
+use Rattle.channel_ends.specs.Receiving.{Receiving}
 use Rattle.channel_ends.specs.Sending.{MadeOffer}
+use Rattle.core_ports.specs.AtHand.{AtHand}
 use Rattle.core_driver.specs.Driven.{Driven}
 use Rattle.core_driver.specs.Idle.{IsLater}
 use Rattle.core_driver.specs.Sides.{ArePortsOf}
@@ -26,7 +28,7 @@ use Rattle.end_ports.proofs.Lasting.{shown_ask}
 use Rattle.end_ports.proofs.Stamps.{none_above}
 use Rattle.file_worker.specs.Agreement.{WorkerAgrees}
 use Rattle.file_worker.specs.Ends.{AtDesk}
-use Rattle.file_worker.specs.Settling.{SettlesCore, AskIsSettled}
+use Rattle.file_worker.specs.Settling.{SettlesCore, AskIsSettled, LeavesAtHand}
 use Rattle.file_worker.proofs.Going.{begins_with}
 use Rattle.run_laws.specs.Cores.{CoreView, HasNoStamp}
 use Rattle.run_laws.specs.Seen.{view_of}
@@ -92,6 +94,49 @@ module _ (s s' : CoreSeat) (v w : AtDesk) (l : ℕ) (has : HasRequests l s v) (d
     others = λ k n. ap told_by (ports.others k (λ e. n (sym e ∙ has.asked)));
   }
 
+  -- ---- what is there of the link before and after
+
+  abbrev owns : (on_link s'.ports l).end ≡ (on_link s.ports l).end
+  owns = ap (λ (f : ℕ → LinkEnd). f l) ports.ends
+
+  abbrev apart_here : (on_desk w l).end ≡ (on_desk v l).end
+  apart_here = (desk_apart core v w s.ports.ask.end s'.ports.ask.end settles l has.link).here.end
+
+  -- both tell at this link what the record has by itself
+  seat_same : {X : Type 0} (f : OnLink → X) → f (on_ask s'.ports.ask) ≡ f (on_ask s.ports.ask) → f (on_link s'.ports l) ≡ f (on_link s.ports l)
+  seat_same f e = ap f seat_is ∙ e ∙ sym (ap f seat_was)
+
+  desk_same : {X : Type 0} (f : OnLink → X) → f (on_request settles.after) ≡ f (on_request settles.before) → f (on_desk w l) ≡ f (on_desk v l)
+  desk_same f e = ap f desk_is ∙ e ∙ sym (ap f desk_was)
+
+  -- where there was no memory
+  pub asking_rests : (on_ask s'.ports.ask).hand ≡ (on_ask s.ports.ask).hand → SeatStays s s'
+  asking_rests hand = all_stay l (on_link s.ports) (on_link s'.ports)
+      (record {
+        terms = ap (λ (f : ℕ → Terms). f l) ports.terms;
+        end = owns;
+        decision = seat_same (λ x. x.hand.decision) (ap (λ (h : AtHand). h.decision) hand);
+        front = seat_same (λ x. x.hand.front) (ap (λ (h : AtHand). h.front) hand);
+        reply = seat_same (λ x. x.hand.reply) (ap (λ (h : AtHand). h.reply) hand);
+        slot = λ room. seat_same (λ x. x.hand.slot) (ap (λ (h : AtHand). h.slot) hand);
+      })
+      (λ k n. ap told_by (ports.others k (λ e. n (sym has.asked ∙ e))))
+
+  pub desk_left : settles.after.ask ≡ settles.before.ask → DeskStays v w
+  desk_left taken = all_stay l (on_desk v) (on_desk w)
+      (record {
+        terms = (desk_apart core v w s.ports.ask.end s'.ports.ask.end settles l has.link).here.terms;
+        end = apart_here;
+        decision = desk_same (λ x. x.hand.decision) refl;
+        front = desk_same (λ x. x.hand.front) (ap (λ (r : Receiving Payload). nat_lt (length r.peer.decisions) r.peer.told_offers) taken);
+        reply = desk_same (λ x. x.hand.reply) refl;
+        slot = λ room. desk_same (λ x. x.hand.slot) refl;
+      })
+      (λ k n. desk_others core v w s.ports.ask.end s'.ports.ask.end settles k (λ e. n (sym has.link ∙ e)))
+
+  pub both_rest : LeavesAtHand core v s.ports.ask w s'.ports.ask → SeatStays s s' × DeskStays v w
+  both_rest left = (asking_rests left.hand, desk_left (left.taken settles.before settles.after settles.was now))
+
   -- ---- the link
 
   module _ (ask_settled : AskIsSettled s'.ports.ask settles.after) (agrees : WorkerAgrees w) (seated : HasItsPorts s') where
@@ -120,19 +165,6 @@ module _ (s s' : CoreSeat) (v w : AtDesk) (l : ℕ) (has : HasRequests l s v) (d
   -- ---- where all was at hand before
 
   module _ (known : IsKnownOn true (on_link s.ports l) (on_desk v l)) (is : IsKnownOn true (on_link s'.ports l) (on_desk w l)) where
-    abbrev owns : (on_link s'.ports l).end ≡ (on_link s.ports l).end
-    owns = ap (λ (f : ℕ → LinkEnd). f l) ports.ends
-
-    abbrev apart_here : (on_desk w l).end ≡ (on_desk v l).end
-    apart_here = (desk_apart core v w s.ports.ask.end s'.ports.ask.end settles l has.link).here.end
-
-    -- both tell at this link what the record has by itself
-    seat_same : {X : Type 0} (f : OnLink → X) → f (on_ask s'.ports.ask) ≡ f (on_ask s.ports.ask) → f (on_link s'.ports l) ≡ f (on_link s.ports l)
-    seat_same f e = ap f seat_is ∙ e ∙ sym (ap f seat_was)
-
-    desk_same : {X : Type 0} (f : OnLink → X) → f (on_request settles.after) ≡ f (on_request settles.before) → f (on_desk w l) ≡ f (on_desk v l)
-    desk_same f e = ap f desk_is ∙ e ∙ sym (ap f desk_was)
-
     reply_same : (on_link s'.ports l).hand.reply ≡ (on_link s.ports l).hand.reply
     reply_same = is.reply refl
         ∙ ap (λ os. nat_lt 0 (length (waiting_replies os is.decisions))) (same_offers true (on_link s.ports l) (on_desk v l) (on_link s'.ports l) (on_desk w l) known is owns apart_here)
@@ -175,3 +207,12 @@ still_seated d h h' settles x = record {
 pub on_ok : {A E : Type 0} (r : Result A E) (X Y : Type 0) → (X → Y) → OnOk r X → OnOk r Y
 on_ok (Ok a) X Y f h = f h
 on_ok (Err e) X Y f h = h
+
+pub on_err : {A E : Type 0} (r : Result A E) (X Y : Type 0) → (X → Y) → OnErr r X → OnErr r Y
+on_err (Ok a) X Y f h = h
+on_err (Err e) X Y f h = f h
+
+-- what follows from either answer
+pub either_way : {A E : Type 0} (r : Result A E) (X Y Z : Type 0) → OnOk r X → OnErr r Y → (X → Z) → (Y → Z) → Z
+either_way (Ok a) X Y Z x y f g = f x
+either_way (Err e) X Y Z x y f g = g y

@@ -1,11 +1,12 @@
 //! A core with its ports.
 
-ghost use Rattle.std.specs.Prelude.{◌≡◌, ◌<◌, ◌≤◌, ◌^◌, [], true, false, nat_lt, IfOk, OnOk};
+ghost use Rattle.std.specs.Prelude.{◌≡◌, ◌<◌, ◌≤◌, ◌^◌, [], true, false, nat_lt, not, IfOk, OnErr, OnOk};
 ghost use mathlib.Core.List.{IsPrefix};
 ghost use Rattle.ac_links.specs.Journals.{last_of};
 ghost use Rattle.ac_links.specs.Party.{PartyAgrees};
 ghost use Rattle.code_safety.specs.KeptEnds.{KeepsEnds};
 ghost use Rattle.core_driver.specs.Sides.{ArePortsOf};
+ghost use Rattle.core_machine.specs.Machine.{has_stopped};
 ghost use Rattle.end_ports.specs.PortsTold.{told_of};
 ghost use Rattle.end_ports.specs.SettledLinks.{HavePair, IsSettled, Settles, SettlesRequests};
 ghost use Rattle.end_ports.specs.OnLinks.{on_link};
@@ -16,12 +17,14 @@ ghost use Rattle.settled_run.specs.Parties.{CanGoNoFurther};
 ghost use Rattle.run_parties.specs.Seats.{core_of, on_desk, popped_at, ports_of};
 ghost use Rattle.run_parties.specs.Settling.{IsSettledOn};
 ghost use Rattle.run_parties.specs.Parties.{HasRequests};
-ghost use Rattle.run_parties.specs.Moving.{IsLaterSeat, SeatStays};
+ghost use Rattle.run_parties.specs.Moving.{DeskStays, IsLaterSeat, SeatStays};
 ghost use Rattle.run_parties.specs.Seated.{HasItsPorts};
+ghost use Rattle.run_parties.specs.Working.{HavePolled, IsOver, SeatWorked};
 
+use crate::working::TRIES;
 use ac_base::NoMemory;
-use ac_outside::Disk;
-use core_driver::Driver;
+use ac_outside::{Disk, Gate};
+use core_driver::{Driver, Pause};
 use core_machine::CoreMachine;
 use end_ports::CorePorts;
 use file_worker::Worker;
@@ -30,8 +33,8 @@ use std::marker::Model;
 /// A core that owns its ports. Contracts see both.
 #[derive(Drop)]
 pub struct CoreParty<'a> {
-    driver: Driver<'a>,
-    ports: CorePorts<'a>,
+    pub(crate) driver: Driver<'a>,
+    pub(crate) ports: CorePorts<'a>,
 }
 
 impl<'a> Model for CoreParty<'a> {
@@ -94,6 +97,66 @@ impl<'a> CoreParty<'a> {
         Ok(before < after)
     }
 
+    // Goes on as far as its ends tell, and says whether its part of a round is over by that.
+    fn stretch(&mut self) -> Result<bool, NoMemory>
+        ensures later { IsLaterSeat self.old self.new }
+        ensures rises { last_of 0 self.old.driven.machine.journal ≤ last_of 0 self.new.driven.machine.journal }
+        ensures over { IfOk result (λ over. over ≡ true → IsOver self.new) }
+        ensures tried { IfOk result (λ over. over ≡ false → HavePolled 1 self.old self.new) }
+    {
+        let went = self.driver.advance(&mut self.ports, 1);
+        // What holds of a core at any time is asked for, for the proof.
+        let _ending = self.driver.machine().ending();
+        Ok(!matches!(went?, Pause::Idle))
+    }
+
+    // Goes on again and again, as `work` does.
+    fn keep_on<G: Gate>(&mut self, place: u32, gate: &G) -> Result<(), NoMemory>
+        ensures later { IsLaterSeat self.old self.new }
+        ensures rises { last_of 0 self.old.driven.machine.journal ≤ last_of 0 self.new.driven.machine.journal }
+        ensures worked { OnOk result (SeatWorked 10000 self.old self.new) }
+    {
+        gate.pass(place, self.driver.machine().journal().len());
+        let mut in_vain = 0;
+        let mut over = false;
+        while !over && in_vain < TRIES {
+            let before = self.driver.last();
+            over = self.stretch()?;
+            if before < self.driver.last() {
+                in_vain = 0;
+                gate.pass(place, self.driver.machine().journal().len());
+            } else {
+                in_vain += 1;
+            }
+        }
+        Ok(())
+    }
+
+    /// Its part of a round: goes on until it has ended, or all stamps are used, or so many calls in a row
+    /// have made no entry, in each of which it has looked at each of its links; and says whether it made an
+    /// entry.
+    pub fn work<G: Gate>(&mut self, place: u32, gate: &G) -> Result<bool, NoMemory>
+        ensures later { IsLaterSeat self.old self.new }
+        ensures rises { last_of 0 self.old.driven.machine.journal ≤ last_of 0 self.new.driven.machine.journal }
+        ensures bound { last_of 0 self.new.driven.machine.journal < 2 ^ 60 }
+        ensures moved { IfOk result (λ it. it ≡ nat_lt (last_of 0 self.old.driven.machine.journal)
+            (last_of 0 self.new.driven.machine.journal)) }
+        ensures worked { OnOk result (SeatWorked 10000 self.old self.new) }
+    {
+        let first = self.driver.last();
+        let went = self.keep_on(place, gate);
+        let last = self.driver.last();
+        went?;
+        Ok(first < last)
+    }
+
+    /// Whether it has a thread that can go on.
+    pub fn is_ready(&self) -> bool
+        ensures { result ≡ not (has_stopped self.now.driven.machine.state) }
+    {
+        !self.driver.machine().ended() && !self.driver.machine().idle()
+    }
+
     /// Settles a channel on which this core sends and the other receives.
     ///
     /// Condition: the two ends of the link are of one pair.
@@ -107,7 +170,8 @@ impl<'a> CoreParty<'a> {
         self.ports.settle_with(link, &mut other.ports);
     }
 
-    /// Settles the requests of this core and their replies with the worker.
+    /// Settles the requests of this core and their replies with the worker. After want of memory what is
+    /// at hand for either is as it was.
     ///
     /// Condition: the worker's ends for this core are those of its requests.
     pub fn settle_requests<D: Disk>(
@@ -123,6 +187,7 @@ impl<'a> CoreParty<'a> {
             (on_desk (desk_of worker.new) self.new.ports.ask.link)) }
         ensures taken { OnOk result (IsPrefix (popped_at (desk_of worker.new) self.new.ports.ask.link)
             (payloads_at (on_link self.new.ports self.new.ports.ask.link).end)) }
+        ensures rests { OnErr result (SeatStays self.old self.new × DeskStays (desk_of worker.old) (desk_of worker.new)) }
         ensures told { disk_told D.told worker.new ≡ disk_told D.told worker.old }
         ensures loan { loan_of worker.new ≡ loan_of worker.old }
     {

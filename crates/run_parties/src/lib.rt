@@ -2,6 +2,7 @@
 #![tactic(auto)]
 
 mod core_party;
+mod news;
 mod run_party;
 mod working;
 

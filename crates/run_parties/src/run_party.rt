@@ -1,11 +1,16 @@
 //! The parties of a run: its cores, and the worker of their files.
 
 use crate::core_party::CoreParty;
-use crate::working::work;
+use crate::working::{work, work_on};
 use ac_base::NoMemory;
-use ac_outside::Disk;
+use ac_outside::{Disk, Gate};
 use file_worker::Worker;
 use settled_rounds::Party;
+
+// What a turn of a core takes, and an entry of the worker, beside an instruction of the machine.
+const TURN: u64 = 64;
+
+const ENTRY: u64 = 256;
 
 /// A party of a run: a core that owns its ports, or the worker with its ends of the cores' requests and
 /// the disk that is lent to it.
@@ -18,6 +23,7 @@ pub enum RunParty<'a, 'd, D> {
 impl<'a, 'd, D: Disk> Party for RunParty<'a, 'd, D> {
     ghost use Rattle.run_parties.specs.Parties.{clock_of, IsLaterParty, MayGoOn, HaveEnds, AreKnownAt, AreSettledAt};
     ghost use Rattle.run_parties.specs.Parties.{PartyStays, PartyButAt, PartyStops};
+    ghost use Rattle.run_parties.specs.Working.{PartyWorked};
     ghost use Rattle.run_parties.specs.inner.Keeping.{is_later_self, is_later_then, may_stay, stays_self, but_at_self};
     ghost use Rattle.run_parties.specs.inner.Keeping.{ends_stay, settled_but, settled_known, known_stays, stops_still};
 
@@ -37,12 +43,43 @@ impl<'a, 'd, D: Disk> Party for RunParty<'a, 'd, D> {
 
     ghost apart = { λ link p q. PartyButAt link p q };
 
+    ghost worked = { λ p q. PartyWorked p q };
+
     ghost stopped = { λ p. PartyStops p };
 
     fn advance(&mut self) -> Result<bool, NoMemory> {
         match self {
             RunParty::Core(core) => core.advance(),
             RunParty::Disk(worker) => work(worker),
+        }
+    }
+
+    fn work<G: Gate>(&mut self, place: u32, gate: &G) -> Result<bool, NoMemory> {
+        match self {
+            RunParty::Core(core) => core.work(place, gate),
+            RunParty::Disk(worker) => work_on(worker, place, gate),
+        }
+    }
+
+    fn is_ready(&self) -> bool {
+        match self {
+            RunParty::Core(core) => core.is_ready(),
+            RunParty::Disk(_) => false,
+        }
+    }
+
+    fn has_news(&self, other: &Self, link: u32) -> (bool, bool) {
+        match (self, other) {
+            (RunParty::Core(from), RunParty::Core(to)) => from.news_with(link, to),
+            (RunParty::Core(core), RunParty::Disk(worker)) => core.news_of_requests(link, worker),
+            _ => (false, false),
+        }
+    }
+
+    fn progress(&self) -> u64 {
+        match self {
+            RunParty::Core(core) => core.machine().turns().saturating_mul(TURN),
+            RunParty::Disk(worker) => worker.journal().len().saturating_mul(ENTRY),
         }
     }
 

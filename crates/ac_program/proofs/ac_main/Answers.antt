@@ -35,7 +35,7 @@ returns-in-None-clause-usage g c = record { told = λ _. c.in-None.ensures.usage
 -- ---- a task
 
 pub do_file-requires-clause-bounded : goal.do_file-requires-clause-bounded
-do_file-requires-clause-bounded g c = let r = c.in-Some-Does in
+do_file-requires-clause-bounded g c κs within = let r = c.in-Some-Does in
     bounded (map (string_bytes {Z = Global}) c.args.words.now) r.task r.file.now (subst (λ it. IsCall (map (string_bytes {Z = Global}) c.args.words.now) (asked_of it)) r.field-0-is r.ensures.call)
 
 pub returns-in-Some-Does-clause-whole : goal.returns-in-Some-Does-clause-whole
@@ -99,17 +99,17 @@ returns-in-Some-Audits-clause-judged g c = let r = c.in-Some-Audits in
 -- ---- a load
 
 pub load-requires-clause-some : goal.load-requires-clause-some
-load-requires-clause-some g c = let r = c.in-Some-Loads in
+load-requires-clause-some g c κs within = let r = c.in-Some-Loads in
     (load_bounded (map (string_bytes {Z = Global}) c.args.words.now) r.turns r.steps (subst (λ it. IsCall (map (string_bytes {Z = Global}) c.args.words.now)
     (asked_of it)) r.field-0-is r.ensures.call)).least_turns
 
 pub load-requires-clause-few : goal.load-requires-clause-few
-load-requires-clause-few g c = let r = c.in-Some-Loads in
+load-requires-clause-few g c κs within = let r = c.in-Some-Loads in
     (load_bounded (map (string_bytes {Z = Global}) c.args.words.now) r.turns r.steps (subst (λ it. IsCall (map (string_bytes {Z = Global}) c.args.words.now)
     (asked_of it)) r.field-0-is r.ensures.call)).most_turns
 
 pub load-requires-clause-bounded : goal.load-requires-clause-bounded
-load-requires-clause-bounded g c = let r = c.in-Some-Loads in
+load-requires-clause-bounded g c κs within = let r = c.in-Some-Loads in
     (load_bounded (map (string_bytes {Z = Global}) c.args.words.now) r.turns r.steps (subst (λ it. IsCall (map (string_bytes {Z = Global}) c.args.words.now)
     (asked_of it)) r.field-0-is r.ensures.call)).some_steps
 

@@ -69,7 +69,7 @@ later_seat s = record {
   ports = held_stays s.ports;
 }
 
-later_seat_then : (r s t : CoreSeat) → IsLaterSeat r s → IsLaterSeat s t → IsLaterSeat r t
+pub later_seat_then : (r s t : CoreSeat) → IsLaterSeat r s → IsLaterSeat s t → IsLaterSeat r t
 later_seat_then r s t a b = record {
   machine = record {
     code = b.machine.code ∙ a.machine.code;

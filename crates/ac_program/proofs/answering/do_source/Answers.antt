@@ -24,16 +24,16 @@ returns-in-Err-Refused-clause-part g c =
     (refused x refl refl refl h refl) c.refuse_source.ensures.run (λ f. rw c.in-Err-Refused.field-0-is at (c.refuse_source.ensures.part f))
 
 pub do_program-requires-clause-few : goal.do_program-requires-clause-few
-do_program-requires-clause-few g c = c.in-Ok.ensures.within
+do_program-requires-clause-few g c κs within = c.in-Ok.ensures.within
 
 pub do_program-requires-clause-files : goal.do_program-requires-clause-files
-do_program-requires-clause-files g c = few_paths c.args.source.now c.in-Ok.checked c.in-Ok.ensures.is_accepted
+do_program-requires-clause-files g c κs within = few_paths c.args.source.now c.in-Ok.checked c.in-Ok.ensures.is_accepted
 
 pub do_program-requires-clause-texts : goal.do_program-requires-clause-texts
-do_program-requires-clause-texts g c = paths_are_texts c.args.source.now c.in-Ok.checked c.in-Ok.ensures.is_accepted
+do_program-requires-clause-texts g c κs within = paths_are_texts c.args.source.now c.in-Ok.checked c.in-Ok.ensures.is_accepted
 
 pub do_program-requires-clause-differ : goal.do_program-requires-clause-differ
-do_program-requires-clause-differ g c = paths_differ c.args.source.now c.in-Ok.checked c.in-Ok.ensures.is_accepted
+do_program-requires-clause-differ g c κs within = paths_differ c.args.source.now c.in-Ok.checked c.in-Ok.ensures.is_accepted
 
 pub returns-in-Ok-clause-whole : goal.returns-in-Ok-clause-whole
 returns-in-Ok-clause-whole g c =

@@ -15,25 +15,26 @@ use Rattle.ac_program.proofs.Filing.{halts, holds_start}
 use Rattle.ac_program.proofs.execute.reported.Goals as goal
 
 pub run-requires-clause-keeps : goal.run-requires-clause-keeps
-run-requires-clause-keeps g c = c.in_ok-code.ensures.ends
+run-requires-clause-keeps g c κs within = c.in_ok-code.ensures.ends
 
 pub run-requires-clause-places : goal.run-requires-clause-places
-run-requires-clause-places g c = program_has_places (resolved c.args.checked.now) c.in_ok-code.code c.in_ok-code.ensures.code
+run-requires-clause-places g c κs within = program_has_places (resolved c.args.checked.now) c.in_ok-code.code c.in_ok-code.ensures.code
 
 pub run-requires-clause-few : goal.run-requires-clause-few
-run-requires-clause-few g c =
+run-requires-clause-few g c κs within =
     let bound = subst (λ (n : ℕ). length (core_names c.args.checked.now.items) * n ≤ 4000000) (sym c.from.ensures) c.requires.few in
     subst (λ (n : ℕ). n * c.from.result ≤ 4000000) (sym (entries_are c.args.checked.now c.in_ok-code.code c.in_ok-code.ensures.code)) bound
 
 pub run-requires-clause-ready : goal.run-requires-clause-ready
-run-requires-clause-ready g c = c.in_ok-start.ensures.started.is_ready
+run-requires-clause-ready g c κs within = c.in_ok-start.ensures.started.is_ready
 
 pub run-requires-clause-bound : goal.run-requires-clause-bound
-run-requires-clause-bound g c = c.in_ok-start.ensures.started.bound ∙ sym c.in_ok-start.ensures.started.count
+run-requires-clause-bound g c κs within = c.in_ok-start.ensures.started.bound ∙ sym c.in_ok-start.ensures.started.count
 
 pub run-requires-clause-held : goal.run-requires-clause-held
-run-requires-clause-held g c = holds_start (g.D.Disk.told c.args.disk.now).held (g.D.Disk.told c.start_files.new.disk).held (g.D.Disk.told c.args.disk.now).bound
-    c.as_slice.result.now c.in_ok-start.start c.requires.none (g.met.D.Disk.tells_bound c.args.disk.now) c.in_ok-start.ensures.silent c.in_ok-start.ensures.started.told
+run-requires-clause-held g c κs within = holds_start (g.D.Disk.told c.args.disk.now).held (g.D.Disk.told c.start_files.new.disk).held (g.D.Disk.told c.args.disk.now).bound
+    c.as_slice.result.now c.in_ok-start.start c.requires.none ((g.met.D.Disk g.world.𝓛 g.world.𝓜 g.world.𝓡
+    (λ s h. h, λ p. p, λ n s. n s, λ x. x)).tells_bound c.args.disk.now) c.in_ok-start.ensures.silent c.in_ok-start.ensures.started.told
 
 pub tell-requires-clause-names : goal.tell-requires-clause-names
 tell-requires-clause-names g c =

@@ -7,7 +7,7 @@ use Rattle.ac_program.proofs.Loads.{far_below}
 use Rattle.ac_program.proofs.loading.load.Goals as goal
 
 pub do_source-requires-clause-short : goal.do_source-requires-clause-short
-do_source-requires-clause-short g c = subst IsShort (sym c.as_slice.ensures) (far_below (length c.in-Ok.text) c.in-Ok.ensures.short)
+do_source-requires-clause-short g c κs within = subst IsShort (sym c.as_slice.ensures) (far_below (length c.in-Ok.text) c.in-Ok.ensures.short)
 
 pub returns-in-Ok-clause-whole : goal.returns-in-Ok-clause-whole
 returns-in-Ok-clause-whole g c =

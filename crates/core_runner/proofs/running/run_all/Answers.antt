@@ -1,12 +1,22 @@
 -- The worker that is taken from the end of the list is the one that was put there, later; with it and the cores before it the run is what it has to be.
-use Rattle.std.proofs.Common.{sym, ◌∙◌, subst, map}
+use Rattle.std.proofs.Common.{sym, ◌∙◌, ◌<◌, ◌^◌, subst, map}
 use Rattle.file_ops.specs.Agreement.{DiskGoesOn}
 use Rattle.run_laws.specs.Laws.{IsRunOfCores}
 use Rattle.run_parties.specs.Seats.{core_of}
+use Rattle.settled_rounds.specs.Linked.{AreWays}
 use Rattle.core_runner.specs.inner.Parties.{seats_in}
 use Rattle.core_runner.proofs.LastParty.{no_core_stands_there, worker_went_on, have_run, ok_both, no_ok}
+use Rattle.core_runner.proofs.Lists.{one_more}
 use Rattle.core_runner.proofs.running.run_all.Goals as goal
 use Rattle.core_runner.proofs.running.run_all.Goals.{in-Ok, in-Err}
+
+pub run-ran-requires-clause-parties : goal.run-ran-requires-clause-parties
+run-ran-requires-clause-parties g c κs within =
+    subst (λ n. n < 2 ^ 32) (sym (one_more c.as_mut_slice.result.now c.args.cores.items _ (c.as_mut_slice.ensures.value ∙ c.push_reserved.ensures.items))) c.requires.parties
+
+pub run-ran-requires-clause-ways : goal.run-ran-requires-clause-ways
+run-ran-requires-clause-ways g c κs within =
+    subst (λ n. AreWays n c.args.ways.now) (sym (one_more c.as_mut_slice.result.now c.args.cores.items _ (c.as_mut_slice.ensures.value ∙ c.push_reserved.ensures.items))) c.requires.ways
 
 pub unreachable-requires : goal.unreachable-requires
 unreachable-requires g c =

@@ -7,7 +7,7 @@ use Rattle.program_run.specs.DiskLeft.{LeavesDisk}
 use Rattle.file_ops.specs.Asked.{texts}
 use Rattle.core_runner.proofs.Dealing.{dealt_over, begins}
 use Rattle.core_runner.proofs.LastParty.{where_ok}
-use Rattle.core_runner.proofs.NewParties.{all_new, all_ways, all_paired, all_ready}
+use Rattle.core_runner.proofs.NewParties.{all_new, all_ways, few_parties, all_paired, all_ready}
 use Rattle.core_runner.proofs.Whole.{is_a_run, disk_is_left}
 use Rattle.core_runner.proofs.running.run_over.Goals as goal
 
@@ -31,8 +31,18 @@ new-worker-requires-clause-new g c =
     (dealt_over c.args.code.now c.instrs-instrs.ensures.valid.lists.links c.args.words.now c.args.seats c.requires.unused c.requires.channels c.ends.result.now c.as_slice.result.now
     c.in_ok-ports.field-0.ports.items c.in_ok-ports.field-0.asks.items c.in_ok-ports.field-0.replies.items c.ends.ensures (c.as_slice.ensures ∙ c.capacities.ensures) c.in_ok-ports.ensures)
 
+pub run_all-ended-requires-clause-parties : goal.run_all-ended-requires-clause-parties
+run_all-ended-requires-clause-parties g c κs within =
+    few_parties c.args.code.now c.instrs-instrs.ensures.valid.lists.links c.args.steps c.in_ok-cores.cores.items c.as_slice-2.result.now c.new-worker.result
+    (begins c.args.code.now c.args.steps c.in_ok-ports.field-0.ports.items c.in_ok-ports.field-0.asks.items c.in_ok-ports.field-0.replies.items c.in_ok-cores.cores.items
+    c.in_ok-ways.ways.items c.as_slice-2.result.now c.new-worker.result c.ends-2.result.now c.ends-3.result.now c.entries.result.now
+    (dealt_over c.args.code.now c.instrs-instrs.ensures.valid.lists.links c.args.words.now c.args.seats c.requires.unused c.requires.channels c.ends.result.now c.as_slice.result.now
+    c.in_ok-ports.field-0.ports.items c.in_ok-ports.field-0.asks.items c.in_ok-ports.field-0.replies.items c.ends.ensures (c.as_slice.ensures ∙ c.capacities.ensures) c.in_ok-ports.ensures)
+    c.in_ok-cores.ensures.cores c.as_slice-2.ensures.value c.ends-2.ensures c.entries.ensures c.in_ok-ways.ensures c.ends-3.ensures c.new-worker.ensures.first c.new-worker.ensures.ends
+    c.new-worker.ensures.entries) c.instrs-instrs.ensures.valid.lists.cores.few
+
 pub run_all-ended-requires-clause-ways : goal.run_all-ended-requires-clause-ways
-run_all-ended-requires-clause-ways g c =
+run_all-ended-requires-clause-ways g c κs within =
     all_ways c.args.code.now c.instrs-instrs.ensures.valid.lists.links c.args.steps c.in_ok-cores.cores.items c.as_slice-2.result.now c.new-worker.result
     (begins c.args.code.now c.args.steps c.in_ok-ports.field-0.ports.items c.in_ok-ports.field-0.asks.items c.in_ok-ports.field-0.replies.items c.in_ok-cores.cores.items
     c.in_ok-ways.ways.items c.as_slice-2.result.now c.new-worker.result c.ends-2.result.now c.ends-3.result.now c.entries.result.now
@@ -42,7 +52,7 @@ run_all-ended-requires-clause-ways g c =
     c.new-worker.ensures.entries)
 
 pub run_all-ended-requires-clause-paired : goal.run_all-ended-requires-clause-paired
-run_all-ended-requires-clause-paired g c =
+run_all-ended-requires-clause-paired g c κs within =
     all_paired c.args.code.now c.instrs-instrs.ensures.valid.lists.links c.args.steps c.in_ok-cores.cores.items c.as_slice-2.result.now c.new-worker.result
     (begins c.args.code.now c.args.steps c.in_ok-ports.field-0.ports.items c.in_ok-ports.field-0.asks.items c.in_ok-ports.field-0.replies.items c.in_ok-cores.cores.items
     c.in_ok-ways.ways.items c.as_slice-2.result.now c.new-worker.result c.ends-2.result.now c.ends-3.result.now c.entries.result.now
@@ -52,7 +62,7 @@ run_all-ended-requires-clause-paired g c =
     c.new-worker.ensures.entries)
 
 pub run_all-ended-requires-clause-ready : goal.run_all-ended-requires-clause-ready
-run_all-ended-requires-clause-ready g c =
+run_all-ended-requires-clause-ready g c κs within =
     all_ready c.args.code.now c.instrs-instrs.ensures.valid.lists.links c.args.steps c.in_ok-cores.cores.items c.as_slice-2.result.now c.new-worker.result
     (begins c.args.code.now c.args.steps c.in_ok-ports.field-0.ports.items c.in_ok-ports.field-0.asks.items c.in_ok-ports.field-0.replies.items c.in_ok-cores.cores.items
     c.in_ok-ways.ways.items c.as_slice-2.result.now c.new-worker.result c.ends-2.result.now c.ends-3.result.now c.entries.result.now
@@ -86,5 +96,6 @@ returns-clause-disk g c =
     c.in_ok-ports.field-0.ports.items c.in_ok-ports.field-0.asks.items c.in_ok-ports.field-0.replies.items c.ends.ensures (c.as_slice.ensures ∙ c.capacities.ensures) c.in_ok-ports.ensures)
     c.in_ok-cores.ensures.cores c.as_slice-2.ensures.value c.ends-2.ensures c.entries.ensures c.in_ok-ways.ensures c.ends-3.ensures c.new-worker.ensures.first c.new-worker.ensures.ends
     c.new-worker.ensures.entries) (g.D.Disk.told c.run_all-ended.result.1.now) ended ran program is_code c.settled_ends_leave_the_disk.ensures
-    (subst (λ (t : DiskTold). IfSome t.held (λ h. t.bound ≡ length h.files)) (sym c.new-worker.ensures.told) (g.met.D.Disk.tells_bound c.args.disk.now))
+    (subst (λ (t : DiskTold). IfSome t.held (λ h. t.bound ≡ length h.files)) (sym c.new-worker.ensures.told) ((g.met.D.Disk g.world.𝓛 g.world.𝓜 g.world.𝓡
+    (λ s h. h, λ p. p, λ n s. n s, λ x. x)).tells_bound c.args.disk.now))
     (subst (λ (t : DiskTold). IfSome t.held (λ h. texts h ≡ c.args.start)) (sym c.new-worker.ensures.told) c.requires.held))))

@@ -10,7 +10,7 @@ returns-clause-owner g c = elim c.match-other.branch [
   | in-Core-Disk w ↦ (requests_have_met g.D.Disk.told c.args.link c.args.self.now c.args.other.now c.match-other.self c.match-other.other c.match-other.result _ c.t8-1.given.0.0
       w.settle_requests.new.self w.t9-in-Disk-1.given.0.0 w.settle_requests.new.worker c.t8-1.given.1 w.t9-in-Disk-1.given.1 w.self-is w.other-is w.result-is c.requires w.settle_requests.ensures.core
       w.settle_requests.ensures.ports w.settle_requests.ensures.worker w.settle_requests.ensures.settled
-      w.settle_requests.ensures.taken w.settle_requests.ensures.told w.settle_requests.ensures.loan).owner
+      w.settle_requests.ensures.taken w.settle_requests.ensures.told w.settle_requests.ensures.loan w.settle_requests.ensures.rests).owner
 ]
 
 pub returns-clause-peer : goal.returns-clause-peer
@@ -21,7 +21,7 @@ returns-clause-peer g c = elim c.match-other.branch [
   | in-Core-Disk w ↦ (requests_have_met g.D.Disk.told c.args.link c.args.self.now c.args.other.now c.match-other.self c.match-other.other c.match-other.result _ c.t8-1.given.0.0
       w.settle_requests.new.self w.t9-in-Disk-1.given.0.0 w.settle_requests.new.worker c.t8-1.given.1 w.t9-in-Disk-1.given.1 w.self-is w.other-is w.result-is c.requires w.settle_requests.ensures.core
       w.settle_requests.ensures.ports w.settle_requests.ensures.worker w.settle_requests.ensures.settled
-      w.settle_requests.ensures.taken w.settle_requests.ensures.told w.settle_requests.ensures.loan).peer
+      w.settle_requests.ensures.taken w.settle_requests.ensures.told w.settle_requests.ensures.loan w.settle_requests.ensures.rests).peer
 ]
 
 pub returns-clause-settled : goal.returns-clause-settled
@@ -32,7 +32,7 @@ returns-clause-settled g c = elim c.match-other.branch [
   | in-Core-Disk w ↦ (requests_have_met g.D.Disk.told c.args.link c.args.self.now c.args.other.now c.match-other.self c.match-other.other c.match-other.result _ c.t8-1.given.0.0
       w.settle_requests.new.self w.t9-in-Disk-1.given.0.0 w.settle_requests.new.worker c.t8-1.given.1 w.t9-in-Disk-1.given.1 w.self-is w.other-is w.result-is c.requires w.settle_requests.ensures.core
       w.settle_requests.ensures.ports w.settle_requests.ensures.worker w.settle_requests.ensures.settled
-      w.settle_requests.ensures.taken w.settle_requests.ensures.told w.settle_requests.ensures.loan).settled
+      w.settle_requests.ensures.taken w.settle_requests.ensures.told w.settle_requests.ensures.loan w.settle_requests.ensures.rests).settled
 ]
 
 pub returns-clause-again : goal.returns-clause-again
@@ -43,5 +43,5 @@ returns-clause-again g c = elim c.match-other.branch [
   | in-Core-Disk w ↦ (requests_have_met g.D.Disk.told c.args.link c.args.self.now c.args.other.now c.match-other.self c.match-other.other c.match-other.result _ c.t8-1.given.0.0
       w.settle_requests.new.self w.t9-in-Disk-1.given.0.0 w.settle_requests.new.worker c.t8-1.given.1 w.t9-in-Disk-1.given.1 w.self-is w.other-is w.result-is c.requires w.settle_requests.ensures.core
       w.settle_requests.ensures.ports w.settle_requests.ensures.worker w.settle_requests.ensures.settled
-      w.settle_requests.ensures.taken w.settle_requests.ensures.told w.settle_requests.ensures.loan).again
+      w.settle_requests.ensures.taken w.settle_requests.ensures.told w.settle_requests.ensures.loan w.settle_requests.ensures.rests).again
 ]
