@@ -6,7 +6,11 @@
 
 Words pick the tests whose path has one of them in it. README.md says what a test looks like. The second form runs nothing: it
 writes the tests into a new folder, as `rt try --cases` takes them.
+
+A program whose cores race may have more than one right answer. Then a file NAME.any beside NAME.txt or NAME.ac has each of them;
+what comes has to be one, and a trace has to be a run that ends with one, by `ac audit` and by the plain slow program of bench/slow.
 """
+import functools
 import os
 import pathlib
 import re
@@ -18,6 +22,11 @@ import typing
 
 HERE = pathlib.Path(__file__).resolve().parent
 ROOT = HERE.parent
+sys.path.insert(0, str(ROOT / "bench" / "slow"))
+import disk as outside  # noqa: E402
+import report as slow  # noqa: E402
+import traces  # noqa: E402
+
 PAGE = ROOT / "docs" / "LANGUAGE.md"
 GUIDE = ROOT / "docs" / "GUIDE.md"
 PAGES = [ROOT / "README.md", GUIDE, PAGE]
@@ -27,10 +36,13 @@ PIECE = re.compile(r'(?:(\d+) \* )?"((?:[^"\\]|\\.)*)"')
 ESCAPE = re.compile(r"\\(x[0-9a-f]{2}|.)")
 PLAIN = {"n": "\n", "t": "\t", "r": "\r", "\\": "\\", '"': '"'}
 SECONDS = 120
+# In how many orders at least, and at most, the slow program looks for the answers of a program that has several.
+ORDERS, MOST_ORDERS = 40, 2_000
 
 
 class Test(typing.NamedTuple):
-    """The words, and the source with the name of its file; what is wanted; and files beside it, before and after. None is no file."""
+    """The words, and the source with the name of its file; what is wanted; files beside it, before and after, of which None is no
+    file; and each right answer, where there are several: its status and its output."""
 
     words: list
     name: str
@@ -39,6 +51,7 @@ class Test(typing.NamedTuple):
     output: bytes
     before: dict = {}
     after: dict = {}
+    answers: tuple = ()
 
 
 def unescaped(text, number):
@@ -66,6 +79,18 @@ def piece(line):
     return b"".join(unescaped(found.group(2), number) for number in range(times))
 
 
+def answers_beside(path):
+    """Each right answer of this text or program, where it has several: its status and its output."""
+    found, path = [], path.with_suffix(".any")
+    for line in path.read_text().splitlines() if path.is_file() else ():
+        key, _, rest = line.partition(" ")
+        if key == "status":
+            found.append((int(rest), b""))
+        elif line and line != "output" and not line.startswith("#"):
+            found[-1] = found[-1][0], found[-1][1] + piece(line)
+    return tuple(found)
+
+
 def read(path):
     """The test of a file."""
     test = {"words": "run x.ac", "name": "x.ac", "source": None, "status": None, "output": None, "before": {}, "after": {}}
@@ -91,7 +116,8 @@ def read(path):
     if test["status"] is None or test["output"] is None:
         raise ValueError(f"{path.name} has no status or no output")
     words, status = shlex.split(test["words"]), int(test["status"])
-    return Test(words, test["name"], test["source"], status, test["output"], test["before"], test["after"])
+    answers = answers_beside(path)
+    return Test(words, test["name"], test["source"], status, test["output"], test["before"], test["after"], answers)
 
 
 def status_of(answer):
@@ -158,8 +184,10 @@ def command_tests():
                 raise ValueError(f"{page.name}: {command} shows other than {lines} lines")
             name = next((word for word in words if (ROOT / word).is_file()), None)
             source = (ROOT / name).read_bytes() if name else None
+            answers = answers_beside(ROOT / name) if name and words[0] == "run" else ()
             words = ["x.ac" if word == name else word for word in words]
-            yield f"{page.relative_to(ROOT)}, {command}", (words, "x.ac", source, status, Front(output) if lines else output)
+            output = Front(output) if lines else output
+            yield f"{page.relative_to(ROOT)}, {command}", (words, "x.ac", source, status, output, {}, {}, answers)
 
 
 def page_faults():
@@ -277,33 +305,95 @@ def session_failure(program, commands):
     return None
 
 
+def without_instructions(report):
+    """A report without what a trace does not tell."""
+    return re.sub(rb"^(\w+: [a-z-]+ after \d+ steps), \d+ instructions$", rb"\1", report, flags=re.M)
+
+
+def trace_failure(program, test):
+    """What is wrong with a trace of a program with several right answers, or nothing."""
+    with tempfile.TemporaryDirectory() as folder:
+        put(pathlib.Path(folder), {test.name: test.source} | test.before)
+        done = subprocess.run([program, "trace", *test.words[1:]], cwd=folder, stdout=subprocess.PIPE, timeout=SECONDS)
+        (pathlib.Path(folder) / "run.trace").write_bytes(done.stdout)
+        words = [program, "audit", "--", test.name, "run.trace"]
+        audit = subprocess.run(words, cwd=folder, stdout=subprocess.PIPE, timeout=SECONDS)
+    judged = slow.deep(lambda: slow.judged(test.source, done.stdout))
+    if (audit.returncode, audit.stdout, judged) != (0, b"yes\n", (0, "yes")):
+        return f"  `ac audit` says {shown(audit.stdout)}, and the slow program {judged}, of the trace\n{done.stdout.decode('latin-1')}"
+    names = [core.name for core in slow.load(test.source)[1].cores]
+    told = slow.report([(name, word, steps, 0, output) for name, (word, steps, output) in zip(names, traces.read(done.stdout).ends)])
+    if done.returncode == told[0] and any(without_instructions(told[1]) == without_instructions(output) for _, output in test.answers):
+        return None
+    return f"  status {done.returncode}, and no right answer, of the trace\n{done.stdout.decode('latin-1')}"
+
+
 def failure(program, test):
     """What differs, or nothing."""
     if isinstance(test, Session):
         return session_failure(program, test.commands)
-    words, name, source, status, output, before, after = Test(*test)
+    test = Test(*test)
+    output, answers = test.output, test.answers or ((test.status, test.output),)
     with tempfile.TemporaryDirectory() as folder:
-        put(pathlib.Path(folder), ({} if source is None else {name: source}) | before)
+        folder = pathlib.Path(folder)
+        put(folder, ({} if test.source is None else {test.name: test.source}) | test.before)
         try:
-            done = subprocess.run([program, *words], cwd=folder, stdout=subprocess.PIPE, timeout=SECONDS)
+            done = subprocess.run([program, *test.words], cwd=folder, stdout=subprocess.PIPE, timeout=SECONDS)
+            other = other_file(folder, test.after)
+            if test.answers and not other:
+                other = trace_failure(program, test)
         except subprocess.TimeoutExpired:
             return f"  not done after {SECONDS} seconds"
-        other = other_file(pathlib.Path(folder), after)
     came = done.stdout[: len(output)] if isinstance(output, Front) else done.stdout
-    if (done.returncode, came) == (status, output):
+    if (done.returncode, came) in answers:
         return other
-    return f"  wanted {status}, {shown(output)}\n  came   {done.returncode}, {shown(came)}"
+    wanted = "\n  or     ".join(f"{status}, {shown(output)}" for status, output in answers)
+    return f"  wanted {wanted}\n  came   {done.returncode}, {shown(came)}"
+
+
+def answers_of_orders(source, files, wanted):
+    """The answers of the slow program in many orders, in which it has tried for each of those that are wanted."""
+    found, files = set(), {name.encode(): held for name, held in files.items()}
+    for order in range(MOST_ORDERS):
+        if order >= ORDERS and found >= wanted:
+            break
+        found.add(slow.both(source, 100_000, order, order % 4 >= 2, outside.Disk(files)))
+    return found
+
+
+def answer_faults():
+    """The files of answers that are not beside a text or a program, whose answers are not those of the orders of the slow program,
+    or of which a text or a page has not one, or all the pages not each."""
+    programs = {}
+    for path in sorted([*HERE.glob("**/*.any"), *(ROOT / "examples").glob("*.any")]):
+        if path.with_suffix(".txt").is_file():
+            test = read(path.with_suffix(".txt"))
+            programs[path] = test.source, test.before
+            if (test.status, test.output) not in test.answers or test.words != ["run", test.name]:
+                yield f"{path.relative_to(ROOT)}: the answer of the text is not among them, or its words are others"
+        elif path.with_suffix(".ac").is_file():
+            programs[path] = path.with_suffix(".ac").read_bytes(), {}
+            on_pages = {test[3:5] for name, test in command_tests() if name.endswith(f"ac run examples/{path.stem}.ac")}
+            if on_pages != set(answers_beside(path)):
+                yield f"{path.relative_to(ROOT)}: the pages show other answers"
+        else:
+            yield f"{path.relative_to(ROOT)}: no text and no program is beside it"
+    for path, program in programs.items():
+        wanted = set(answers_beside(path))
+        found = slow.deep(functools.partial(answers_of_orders, *program, wanted))
+        if len(wanted) < 2 or found != wanted:
+            yield f"{path.relative_to(ROOT)}: the slow program finds\n" + "\n".join(map(str, sorted(found)))
 
 
 def write_cases(folder, tests):
     """The tests as files of a new folder: of each its source, its words and its output. The status is not among them.
 
     A source of another name than `x.ac` is left out, since `rt try` names the copies of sources itself, and so are a test with
-    files beside the source, a block of several kinds of commands and an output that is not shown whole."""
+    files beside the source or with several answers, a block of several kinds of commands and an output that is not shown whole."""
     folder.mkdir(parents=True)
     tests = [(name, Test(*test)) for name, test in tests if not isinstance(test, Session)]
     tests = [(name, test) for name, test in tests
-             if test.name == "x.ac" and not test.before and not test.after and not isinstance(test.output, Front)]
+             if test.name == "x.ac" and not (test.before or test.after or test.answers or isinstance(test.output, Front))]
     for number, (name, (words, file, source, _, output, *_)) in enumerate(tests):
         case = re.sub(r"\W+", "_", f"{number:04} {name.removesuffix('.txt')}")
         (folder / case).write_bytes(source or b"")
@@ -325,7 +415,7 @@ def main():
         write_cases(pathlib.Path(sys.argv[2]), tests)
         return
     program = str(pathlib.Path(sys.argv[1]).resolve())
-    faults = list(page_faults())
+    faults = [*page_faults(), *answer_faults()]
     for fault in faults:
         print(fault)
     failed = 0

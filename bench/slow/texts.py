@@ -1,7 +1,8 @@
 #!/usr/bin/env python3
 """texts.py FOLDER [ORDERS]: the tests of a folder that run a program, each in so many orders (20 where none is given).
 
-The report has to be the wanted one in each. Where it is not in every order, it has to be in every order of `ac`."""
+The report has to be the wanted one in each, or one of several right ones. Where it is not in every order, it has to be in every
+order of `ac`."""
 import importlib.util
 import pathlib
 import sys
@@ -27,8 +28,8 @@ def disk_of(files):
     return outside.Disk({name.encode(): content for name, content in files.items()})
 
 
-def came(source, steps, want, orders, polls, before, after):
-    """The first report that is not the wanted one, or file that is left otherwise, or None."""
+def came(source, steps, wanted, orders, polls, before, after):
+    """The first report that is none of the wanted ones, or file that is left otherwise, or None."""
     for seed in range(orders):
         disk = disk_of(before)
         try:
@@ -36,7 +37,7 @@ def came(source, steps, want, orders, polls, before, after):
             got = oracle.both(source, steps, seed, polls, disk)
         except lang.Fault as f:
             got = f.status, f.line.encode() + b"\n"
-        if got != want:
+        if got not in wanted:
             return f"in order {seed}: {got[0]}, {got[1][:600]!r}"
         for name, held in after.items():
             left = disk.files.get(name.encode())
@@ -49,16 +50,16 @@ def main():
     orders = int(sys.argv[2]) if len(sys.argv) > 2 else 20
     read, bad, count = tests_of_programs().read, 0, 0
     for path in sorted(pathlib.Path(sys.argv[1]).glob("*.txt")):
-        words, _, source, status, output, before, after = read(path)
+        words, _, source, status, output, before, after, answers = read(path)
         if words[0] != "run" or "# Only real files show it." in path.read_text():
             continue
         count += 1
-        steps, want = int(words[3]) if len(words) == 4 else 100_000, (status, output)
-        wrong = came(source, steps, want, orders, True, before, after)
+        steps, wanted = int(words[3]) if len(words) == 4 else 100_000, answers or ((status, output),)
+        wrong = came(source, steps, wanted, orders, True, before, after)
         if wrong:
-            print(f"{path.name}: wanted {want}\nof ac, {wrong}")
+            print(f"{path.name}: wanted {wanted}\nof ac, {wrong}")
         else:
-            wrong = came(source, steps, want, orders, False, before, after)
+            wrong = came(source, steps, wanted, orders, False, before, after)
             if wrong:
                 print(f"{path.name}: right in each order of ac, and not {wrong}")
             continue
