@@ -9,7 +9,11 @@ plain slow program of bench/slow have to say yes of the trace; its file has to h
 showed more than one answer is printed, and is no matter of right or wrong.
 
 Of as many seeds a program of networks.py and one of cancels.py, whose answer is the same in every order, have to give that one at
-each of three runs; and what `ac load 50` and `ac load 500` run is traced and audited. It ends with status 1 where anything is wrong.
+each of three runs; and what `ac load 50` and `ac load 500` run is traced and audited.
+
+Each text and example with several right answers, and each text of an answer that comes in time, too late or never to a receive with a
+timer core or with turns of a `yield` for a clock, is run 40 times, every second time on a single processor. What comes has to be one
+of its answers. It ends with status 1 where anything is wrong.
 """
 import collections
 import concurrent.futures
@@ -34,6 +38,8 @@ import traces  # noqa: E402
 
 SEEDS, RUNS = 24, 3
 CORES = (2, 4, 16)
+TIMES = 40
+CLOCKS = ("an_answer_*.txt", "turns_of_a_yield_*.txt", "a_receive_waits_no_longer_than_its_timeout.txt")
 # The turns of a load, the bound on its steps, and whether the slow program judges it as well.
 LOADS = ((50, 100_000, True), (500, 1_000_000, False))
 
@@ -122,8 +128,36 @@ def loaded(program, turns, steps, judge):
     return 1, traced(program, server.text(turns).encode(), steps, judge)[1]
 
 
+def answered(program, test):
+    answers, seen = test.answers or ((test.status, test.output),), set()
+    for number in range(TIMES):
+        with tempfile.TemporaryDirectory() as folder:
+            folder = pathlib.Path(folder)
+            run.put(folder, {test.name: test.source} | test.before)
+            came = ac(program, folder, *test.words, one=number % 2 == 1)
+            wrong = run.other_file(folder, test.after)
+        if wrong or came not in answers:
+            return 0, wrong or f"run {number} has given {came}, of the program\n{test.source.decode()}"
+        seen.add(came)
+    return len(seen), None
+
+
+def answered_tests():
+    """The texts and the examples with several answers, and the texts of the clocks, by how many answers they have."""
+    texts = {*run.HERE.glob("**/*.any"), *(path for name in CLOCKS for path in (run.HERE / "cancel").glob(name))}
+    for path in sorted({path.with_suffix(".txt") for path in texts}):
+        test = run.read(path)
+        yield "texts with several answers" if test.answers else "texts with one answer", test
+    named = {name.rpartition(" ")[2]: run.Test(*test) for name, test in run.command_tests()}
+    for name, test in named.items():
+        if test.answers or name == "examples/timeout.ac":
+            yield "examples", test
+
+
 def cases(seeds):
     """What is tried, by the kind that is counted, with what it is tried with."""
+    for kind, test in answered_tests():
+        yield kind, answered, (test,)
     for turns, steps, judge in reversed(LOADS):
         yield "load", loaded, (turns, steps, judge)
     for seed in range(seeds):
@@ -161,9 +195,9 @@ def main():
             if wrong:
                 failed += 1
                 print(f"{kind}: {wrong}", flush=True)
-    for count in CORES:
-        kind = f"{count} cores"
-        print(f"{kind}: {seen[kind]} programs that race, {several[kind]} showed more than one answer in {RUNS} runs")
+    for kind in [f"{count} cores" for count in CORES] + [*dict.fromkeys(kind for kind, _ in answered_tests())]:
+        runs = RUNS if kind.endswith(" cores") else TIMES
+        print(f"{kind}: {seen[kind]} programs, {several[kind]} showed more than one answer in {runs} runs")
     print(f"{sum(seen.values()) - failed} passed, {failed} failed")
     return 1 if failed or not seen else 0
 

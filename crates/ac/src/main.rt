@@ -5,12 +5,22 @@
 use ac_adapters::{FileDisk, FileLibrary, OpenGate, StandardSink};
 use ac_program::ac_main;
 use std::process::ExitCode;
-use std::{env, io};
+use std::{env, fs, io};
 
 // The status where memory is refused before the call.
 const NO_MEMORY: u8 = 11;
 
+// A file that nobody reads or writes here.
+const NOWHERE: &str = "/dev/null";
+
 fn main(rt: HostRuntime) -> ExitCode {
+    // Where a standard stream is closed, the next file that is opened takes its place. These do, only to
+    // be read, so that no report goes into a file of the program.
+    let _places = [
+        fs::open(&rt, NOWHERE),
+        fs::open(&rt, NOWHERE),
+        fs::open(&rt, NOWHERE),
+    ];
     let mut words = Vec::new(rt.alloc());
     match env::args(&rt) {
         Ok(given) => {

@@ -1,10 +1,11 @@
 //! The files of the system as a disk.
 
-ghost use Rattle.std.specs.Prelude.{◌≡◌, ◌≤◌, [], ◌∷◌, ◌++◌, length, IfErr, OnOk, None, Some, true};
-ghost use Rattle.std.specs.Io.{ReadsAtMost};
+ghost use Rattle.std.specs.Prelude.{◌≡◌, ◌≤◌, [], ◌∷◌, ◌++◌, ◌-◌, min, length, IfErr, OnOk, None, Some, true};
+ghost use Rattle.std.specs.Io.{ReadsAtMost, WritesAtMost};
 
 use ac_base::{Bytes, List, NoMemory};
 use ac_outside::{BindFault, Disk, FILE_BYTES, Failed, Torn};
+use libc::types::rlimit;
 use std::alloc::Global;
 use std::fs::{OpenFile, OpenOptions};
 use std::io;
@@ -15,7 +16,8 @@ use std::rt::Files;
 /// The files of the system, bound by their paths.
 ///
 /// It tells the paths that it was to bind, until memory was refused, and no contents. That a write past
-/// the end of a file fills the gap with zeros is the system's.
+/// the end of a file fills the gap with zeros is the system's. A write goes in as far as the limit of the
+/// process on the size of files allows (`ulimit -f`), and fails there.
 #[derive(Drop)]
 pub struct FileDisk<'a, R: Files> {
     files: &'a R,
@@ -101,14 +103,45 @@ fn read_all<F: FileExt>(file: &F, from: u32, into: &mut [u8]) -> io::Result<usiz
     Ok(at)
 }
 
-// Writes until all bytes have gone in, or the system takes none.
+// The resource that is the size of files, by its number on Linux.
+const RLIMIT_FSIZE: i32 = 1;
+
+// How many bytes a file may have by the limit of this process, as it is now.
+fn most_bytes() -> u64 {
+    let mut limit = rlimit {
+        rlim_cur: u64::MAX,
+        rlim_max: u64::MAX,
+    };
+    if libc::getrlimit(RLIMIT_FSIZE, &mut limit) < 0 {
+        return u64::MAX;
+    }
+    limit.rlim_cur
+}
+
+// How many of so many bytes, from a place on, lie below the limit.
+fn room_below(limit: u64, from: u64, len: usize) -> usize
+    ensures { result ≡ min (limit - from) len }
+{
+    limit.saturating_sub(from).min(len as u64) as usize
+}
+
+// Writes what of the bytes lies below the limit. A write beyond it would end the process by a signal.
+fn write_below<F: FileExt>(file: &F, limit: u64, from: u64, bytes: &[u8]) -> io::Result<usize>
+    ensures { WritesAtMost result bytes.now }
+{
+    let room = room_below(limit, from, bytes.len());
+    file.write_at(&bytes[..room], from)
+}
+
+// Writes until all bytes have gone in, or the system or the limit takes none.
 fn write_all<F: FileExt>(file: &F, from: u32, bytes: &[u8]) -> Result<(), Torn>
     requires { length bytes.now ≤ FILE_BYTES }
     ensures { IfErr result (λ torn. torn.taken ≤ length bytes.now) }
 {
+    let limit = most_bytes();
     let mut at = 0;
     while at < bytes.len() {
-        match file.write_at(&bytes[at..], u64::from(from) + at as u64) {
+        match write_below(file, limit, u64::from(from) + at as u64, &bytes[at..]) {
             Ok(count) if count > 0 => at += count,
             _ => return Err(Torn { taken: at as u32 }),
         }
