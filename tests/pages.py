@@ -4,7 +4,7 @@
 - each link leads to a file or folder of the repository, and its part after `#` to a heading there;
 - of a link whose words are a name in backticks, the file has a definition of that name;
 - each path in backticks that begins with a folder of the top is there, a `*` standing for what its place may have;
-- CONTRIBUTING.md has a row for each of the rules C1 to C18, whose tests bear its number, and its edit, where it has one;
+- CONTRIBUTING.md has a row for each of the rules C1 to C17, whose tests bear its number, and its edit, where it has one;
 - docs/ARCHITECTURE.md has the layers of crates.txt with their crates in the same order, docs/PROOFS.md has a heading for each
   crate in that order, and no crate uses one of a layer above;
 - no line of docs/SEMANTICS.md and docs/PROOFS.md has more than 600 characters.
@@ -73,13 +73,13 @@ def rows():
 
 def faults_of_rules():
     found = rows()
-    for number in range(1, 19):
+    for number in range(1, 18):
         row = found.get(number, "")
         if not re.search(rf"`tests/rules/c{number}_\*\.txt`", row):
             yield f"C{number} has no row with its tests"
         if not re.search(rf"\| (\[c{number}_\w+\]\(crates/ac_types/must-fail/c{number}_\w+\.edit\)|–) \|$", row):
             yield f"C{number} has no row with its edit, or with none"
-    for number in sorted(set(found) - set(range(1, 19))):
+    for number in sorted(set(found) - set(range(1, 18))):
         yield f"C{number} is no rule"
 
 

@@ -208,7 +208,7 @@ def each_rule_and_each_answer_with_a_place_has_a_test(_):
         if found and test["place"].startswith(test["name"].encode()):
             shown.add(found.group(1).decode())
     assert answers <= shown, f"without a test: {sorted(answers - shown)}"
-    assert len(answers) == 6 + 18, f"{len(answers)} answers"
+    assert len(answers) == 6 + 17, f"{len(answers)} answers"
 
 
 CALLS = (

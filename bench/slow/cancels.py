@@ -37,6 +37,8 @@ class Writer:
             for _ in range(self.exchange):
                 self.put(1, "Send(a0, q);" if self.core == "a" else "Recv(a0, &x);")
         self.statements(1, depth, [], False, False)
+        if head.startswith("async int"):
+            self.put(1, "return q * 3 + x;")
         self.lines.append("}")
         self.lines = self.lines + old if not entry else old + self.lines
 
@@ -66,13 +68,31 @@ class Writer:
         self.put(indent, "yield;")
 
     def operation(self, indent, depth, labels, in_do, in_loop):
-        r = self.r
-        what = r.choice([f"Send({self.core}1, {self.number()})", f"Recv({self.other}2, &x)"])
+        r, alone = self.r, self.r.random() < 0.5
+        what = self.waiting() if alone else self.several(depth)
+        tell = f'printf("{self.number()}:%d ", {what});'
         if r.random() < 0.5 and in_do and depth < 5:
-            self.put(indent, r.choice([f"async {what};", f'async {{ q = {what}; printf("{self.number()}:%d ", q); }}']))
+            told = f'async {{ q = {what}; printf("{self.number()}:%d ", q); }}'
+            self.put(indent, r.choice([f"async {what};", told] if alone else [f"async {tell}", told]))
         elif labels or r.random() < 0.1:
-            self.put(indent, f"q = {what};")
-            self.put(indent, f'printf("{self.number()}:%d ", q);')
+            if r.random() < 0.5:
+                self.put(indent, f"q = {what};")
+                self.put(indent, f'printf("{self.number()}:%d ", q);')
+            else:
+                self.put(indent, r.choice([tell, f'if ({what}) printf("{self.number()} ");']))
+
+    def waiting(self):
+        return self.r.choice([f"Send({self.core}1, {self.number()})", f"Recv({self.other}2, &x)"])
+
+    def several(self, depth):
+        """An operation as an operand, with what is read before it and behind it, and often a second one, a call or both."""
+        r, one, other = self.r, self.waiting(), self.waiting()
+        forms = [f"{one} * 10 + {other}", f"{one} - q * {other}", f"(q + {one}) * 3 + x", f"q * 100 + {one} + q", f"{one} && {other}",
+                 f"{one} || {other}", f"-{one} - ({other} == CANCELLED) * q", f"Send({self.core}1, {one} + q) * 2 + q"]
+        if depth < 3:
+            call = self.called(depth, "int") + "()"
+            forms += [f"q + {call} + q", f"{one} * 10 + {call}", f"{call} * 10 + {one}", f"Send({self.core}1, {call}) + {other}"]
+        return r.choice(forms)
 
     def cancel(self, indent, depth, labels, in_do, in_loop):
         self.put(indent, f"cancel {self.r.choice(labels)};")
@@ -94,9 +114,12 @@ class Writer:
         self.put(indent, "}")
 
     def call(self, indent, depth, *_):
+        self.put(indent, f"{self.called(depth, 'void')}();")
+
+    def called(self, depth, gives):
         name = f"{self.core}_{self.number()}"
-        self.put(indent, f"{name}();")
-        self.function(f"async void {name}()", depth + 2, False)
+        self.function(f"async {gives} {name}()", depth + 2, False)
+        return name
 
 
 def program(seed):

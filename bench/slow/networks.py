@@ -162,7 +162,7 @@ class Writer:
         return f"{letter}{self.fresh}"
 
     def program(self):
-        self.items += [[f"int done[{len(self.plan.threads)}];"]]
+        self.items += [[f"int done[{len(self.plan.threads)}];"], ["int mixed(int a, int b, int c) { return a * 5 + b * 3 + c; }"]]
         self.items += [[f"int g{t.number} = {self.r.randrange(0, 9)};", f"int h{t.number}[8];"] for t in self.plan.threads]
         for name, (a, b, capacity) in self.plan.channels.items():
             self.items.append([f"channel {name}(k{a.core}, k{b.core}, {capacity});"])
@@ -245,6 +245,8 @@ class Writer:
             ]))
 
     def acts(self, t, acts):
+        if all(kind != "fail" for kind, _ in acts) and self.r.random() < 0.35:
+            return self.in_one(t, acts)
         for kind, channel in acts:
             if kind == "fail":
                 self.fail(t)
@@ -262,6 +264,46 @@ class Writer:
         self.put(self.r.choice(forms))
 
     # ---- sends and receives
+
+    def in_one(self, t, acts):
+        """All of them in one statement, in their order."""
+        r, n = self.r, t.number
+        parts = [self.part(t, *act) for act in acts]
+        s, x, v = f"s{n}", f"x{n}", f"v{n}"
+        skipped = [f"Send({c}, {s})" if a is t else f"Recv({c}, &{x})" for c, (a, b, _) in self.plan.channels.items() if t in (a, b)]
+        if r.random() < 0.3:
+            k = r.randrange(0, len(parts) + 1)
+            parts[k:k] = [f"({r.choice(['0 && ', '1 || '])}{r.choice(skipped)})"]
+        last = parts.pop()
+        all_ = self.joined(parts + [last])
+        forms = [f"{s} = {s} * {r.randrange(2, 9)} + {all_};", f"int {self.new('q')} = {all_}; {s} = {s} ^ {s} + {x};",
+                 f"{v}[{x} & 3] = {all_};", f"if (({all_}) & 1) {s} = {s} + 1; else {s} = {s} * 3;", f"{s} = mixed({s}, {all_}, {x});",
+                 f"{s} = -({all_}) - {s};", f"{v}[({all_}) & 3] = {s};", f"{s} = {v}[({all_}) & 3] + {s};"]
+        if parts:
+            forms += [f"{v}[({last}) & 3] = {self.joined(parts)};", f"{s} = mixed({self.joined(parts)}, {s}, {last});"] * 2
+        if t.parent is None:
+            forms.append(f'printf("%d %d ", {all_}, {x});')
+        self.put(r.choice(forms))
+        self.put(f"{s} = {s} * {r.randrange(2, 9)} + {x} + {v}[1];")
+
+    def joined(self, parts):
+        r = self.r
+        return "".join(f"{r.choice([' + ', ' - ', ' * 3 + ', ' ^ ']) if k else ''}{part}" for k, part in enumerate(parts))
+
+    def part(self, t, kind, c):
+        """A send or a receive as an operand, with what was read before it or is read behind it."""
+        r, n = self.r, t.number
+        s, x, v, g = f"s{n}", f"x{n}", f"v{n}", f"g{n}"
+        if kind == "send":
+            e, name = self.message(t), self.helper(c, "give", True)
+            forms = [f"Send({c}, {e})", f"(Send({c}, {e}) == OK) * {s}", f"{v}[Send({c}, {e}) + 1]", f"!Send({c}, {e} + {g})"]
+            return r.choice(forms + [f"{name}({e})", f"{g} * {name}({e})", f"mixed({g}, {name}({e}), {g})"])
+        name = self.helper(c, "take", True)
+        by_row = self.calls[c, "take", True][1]
+        call = f"{name}({v}, {r.randrange(0, 4)})" if by_row else f"{name}()"
+        forms = [f"Recv({c}, &{x}) + {x}", f"({x} | Recv({c}, &{x}) | {x})", f"Recv({c}, &{v}[{s} & 3]) + {v}[{s} & 3]",
+                 f"{g} + Recv({c}, &{g}) * 2 + {g}", f"(Recv({c}, &{x}) || {x} > {s})"]
+        return r.choice(forms + [call, f"{s} * {call}", f"{g} * 10 + {call} + {g}", f"mixed({g}, {call}, {g})"])
 
     def message(self, t):
         r, n = self.r, t.number
@@ -333,8 +375,11 @@ class Writer:
         self.put("} finish;")
         self.put(f"s{n} = s{n} * 7 + v{n}[0] + v{n}[1] * 3 + v{n}[3] + r{n};")
 
-    def helper(self, c, kind):
-        """A function that sends to the channel, or that receives from it."""
+    def helper(self, c, kind, gives=False):
+        """A function that sends to the channel, or that receives from it; or one of those that give a number and change a global of
+        the one thread that calls them."""
+        if gives:
+            return self.helper_that_gives(c, kind)
         if (c, kind) in self.calls:
             return self.calls[c, kind][0]
         name, by_row = f"{kind}_{c}", False
@@ -353,6 +398,26 @@ class Writer:
             forms.append(by_thread)
         self.items.append([self.r.choice(forms)])
         self.calls[c, kind] = (name, by_row)
+        return name
+
+
+    def helper_that_gives(self, c, kind):
+        if (c, kind, True) in self.calls:
+            return self.calls[c, kind, True][0]
+        sender, receiver, _ = self.plan.channels[c]
+        name, g, by_row = f"{kind}_by_{c}", f"g{(sender if kind == 'give' else receiver).number}", False
+        change = self.r.choice([f"{g} = {g} + 1; ", f"{g} = {g} * 3 + 1; ", ""])
+        if kind == "give":
+            forms = [f"async int {name}(int m) {{ {change}return Send({c}, m + {g}) + m; }}",
+                     f"async int {name}(int m) {{ if (Send({c}, m) == OK) {{ {change}return {g} - m; }} return 1; }}"]
+        elif self.r.random() < 0.3:
+            by_row = True
+            forms = [f"async int {name}(int row[], int at) {{ {change}return row[at] * 2 + Recv({c}, &row[at]) + row[at]; }}"]
+        else:
+            forms = [f"async int {name}() {{ int m; {change}return {g} + Recv({c}, &m) + m; }}",
+                     f"async int {name}() {{ int m[2]; while (Recv({c}, &m[1]) != OK) ; {change}return m[1] - {g}; }}"]
+        self.items.append([self.r.choice(forms)])
+        self.calls[c, kind, True] = (name, by_row)
         return name
 
 

@@ -18,6 +18,8 @@ class Gen:
         self.long = self.r.random() < 0.03
         self.loops = 0
         self.functions = []
+        self.calling = self.r.choice([0.0, 0.05, 0.15, 0.3])
+        self.inside, self.again = None, 0
         self.in_async_fn = True
         self.blocks = []
         self.can_async = False
@@ -93,6 +95,10 @@ class Gen:
             if arrays:
                 n, k = r.choice(arrays)
                 return f"{n}[{self.index(k, d)}]"
+        if d > 0 and x < 0.15 + self.calling and self.functions:
+            c = self.call(True, d)
+            if c:
+                return c
         if x < 0.55 and ints:
             return r.choice(ints)
         return self.number()
@@ -215,29 +221,35 @@ class Gen:
             self.scopes[-1][n] = 0
 
     def whole(self, d):
-        """A whole right side: an expression or a call."""
+        """A right side: an expression, or nothing but a call."""
         r = self.r
         if self.functions and r.random() < 0.25:
-            c = self.call(True)
+            c = self.call(True, d)
             if c:
                 return c
         return self.expr(d)
 
-    def call(self, value):
+    def call(self, value, d):
+        """A call of a function that is written before or, a few times, of the one that it stands in. The first parameter of one that
+        calls itself says how deep that goes."""
         r = self.r
-        fs = [f for f in self.functions if (f[2] or not value) and (not f[3] or self.in_async_fn)]
+        fs = [f for f in self.functions if (f[2] or not value) and (not f[3] or self.in_async_fn) and (f[0] != self.inside or self.again > 0)]
         if not fs:
             return None
-        name, params, gives, _ = r.choice(fs)
+        name, params, gives, _, counted = r.choice(fs)
+        self.again -= name == self.inside
         args = []
-        for p in params:
+        for k, p in enumerate(params):
             if p:
                 arrays = [n for n, k in self.arrays() if k >= p]
                 if not arrays:
                     return None
                 args.append(r.choice(arrays))
+            elif counted and k == 0:
+                less = "" if r.random() < self.risk / 10 else " - 1"
+                args.append(f"{counted}{less}" if name == self.inside else str(r.choice([0, 1, 1, 2, 3])))
             else:
-                args.append(self.expr(1))
+                args.append(self.expr(d - 1))
         return f"{name}({', '.join(args)})"
 
     def stmt(self, depth):
@@ -259,10 +271,10 @@ class Gen:
         elif x < 0.47 and self.loops and self.loop_ok:
             self.put(r.choice(["break;", "continue;"]))
         elif x < 0.475 and self.ret_ok:
-            e = f" {self.expr(2)}" if self.gives else ""
+            e = f" {self.whole(2)}" if self.gives else ""
             self.put(f"return{e};")
         elif x < 0.5 and self.functions:
-            c = self.call(False)
+            c = self.call(False, 2)
             self.put(f"{c};" if c else ";")
         elif self.threads and self.in_async_fn and x < 0.53:
             self.put("yield;")
@@ -396,7 +408,9 @@ class Gen:
     def function(self, k):
         r = self.r
         is_async, gives = self.threads and r.random() < 0.5, r.random() < 0.6
-        params, names, scope = [], [], {}
+        params, names, scope, counted = [], [], {}, f"d{k}" if r.random() < 0.4 else None
+        if counted:
+            params, names, scope = [0], [f"int {counted}"], {counted: 0}
         for j in range(r.randrange(0, 4)):
             arr = r.choice([0, 0, 1, 4])
             params.append(arr)
@@ -409,10 +423,25 @@ class Gen:
         self.indent += 1
         self.scopes = [self.top, scope]
         # an array parameter is never hidden by a name of its own scope
+        told = (f"g{k}", params, gives, is_async, counted)
+        if counted:
+            e = f" {self.expr(1)}" if gives else ""
+            self.put(f"if ({counted} < 1)")
+            self.put(f"  return{e};")
+            self.functions.append(told)
+            self.inside, self.again = f"g{k}", r.choice([1, 2, 2, 3])
+            self.locked.add(counted)
+            self.counters.append(counted)
         self.many(2)
+        if gives and r.random() < 0.5:
+            self.put(f"return {self.whole(3)};")
+        if counted:
+            self.inside = None
+            self.counters.pop()
+        else:
+            self.functions.append(told)
         self.indent -= 1
         self.put("}")
-        self.functions.append((f"g{k}", params, gives, is_async))
 
     def program(self):
         r = self.r
@@ -447,11 +476,9 @@ class Gen:
             else:
                 self.put(f"int {n} = {r.choice(['', '-'])}{r.choice([r.randrange(0, 20), r.choice(EDGES)])};")
                 self.top[n] = 0
-        self.locked = {"f", "a"}
-        if self.threads:
-            self.locked |= {f"g{k}" for k in range(4)}
-            for k in range(r.randrange(0, 4)):
-                self.function(k)
+        self.locked = {"f", "a"} | {f"g{k}" for k in range(4)}
+        for k in range(r.randrange(0, 4)):
+            self.function(k)
         core = "core a(f);"
         first = r.random() < 0.7
         if first:

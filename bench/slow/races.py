@@ -43,11 +43,15 @@ class Writer:
         thread = self.r.choice([t for t in self.threads if t.core != receiver])
         name = self.channel(thread.core, receiver)
         if name:
-            thread.lines.append(f'q = Send({name}, g + {self.number()}); if (q != OK) printf("{self.number()}:%d ", q);')
+            q = f"Send({name}, g + {self.number()})"
+            thread.lines.append(self.r.choice([f'q = {q}; if (q != OK) printf("{self.number()}:%d ", q);', f'if ({q}) printf("{self.number()} ");',
+                                               f"g = g + {q} + g;"]))
         return name
 
     def received(self, name):
-        return f'q = Recv({name}, &x); g = g * 3 + x; printf("{self.number()}:%d,%d ", q, x);'
+        return self.r.choice([f'q = Recv({name}, &x); g = g * 3 + x; printf("{self.number()}:%d,%d ", q, x);',
+                              f'g = g * 3 + Recv({name}, &x) + x; printf("{self.number()}:%d,%d ", g, x);',
+                              f'printf("{self.number()}:%d,%d ", Recv({name}, &x) + x, g); g = g * 3 + x;'])
 
     # ---- acts
 

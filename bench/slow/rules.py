@@ -1,4 +1,4 @@
-"""The 18 rules of the language."""
+"""The 17 rules of the language."""
 import tokens_and_trees as lang
 
 
@@ -120,17 +120,17 @@ class Rules:
         elif k in ("Int", "Array"):
             self.node(s.at, 1 if s.name in self.scopes[-1] else 0, 13 if k == "Array" and not 1 <= s.size <= 4096 else 0)
             if k == "Int" and s.value is not None:
-                self.expr(s.value, "whole")
+                self.expr(s.value)
             self.scopes[-1].setdefault(s.name, s)
         elif k == "Empty":
             self.node(s.at)
         elif k == "Assign":
             self.node(s.at)
-            self.expr(s.place, "value")
-            self.expr(s.value, "whole")
+            self.expr(s.place)
+            self.expr(s.value)
         elif k == "CallStmt":
             self.node(s.at)
-            self.expr(s.call, "stmt")
+            self.expr(s.call, True)
         elif k == "Print":
             n, i, bad, t = 0, 0, False, s.format
             while i < len(t):
@@ -146,10 +146,10 @@ class Rules:
                     i += 1
             self.node(s.at, 16 if bad or n != len(s.args) else 0)
             for a in s.args:
-                self.expr(a, "value")
+                self.expr(a)
         elif k == "If":
             self.node(s.at)
-            self.expr(s.test, "value")
+            self.expr(s.test)
             self.stmt(s.body)
             if s.other:
                 self.stmt(s.other)
@@ -159,7 +159,7 @@ class Rules:
             if k == "For" and s.init:
                 self.stmt(s.init)
             if s.test is not None:
-                self.expr(s.test, "value")
+                self.expr(s.test)
             if k == "For" and s.next:
                 self.stmt(s.next)
             old, self.loop = self.loop, True
@@ -171,7 +171,7 @@ class Rules:
         elif k == "Return":
             self.node(s.at, 9 if self.inner else 0, 12 if (s.value is not None) != self.f.gives_int else 0)
             if s.value is not None:
-                self.expr(s.value, "whole")
+                self.expr(s.value)
         elif k == "Do":
             self.node(s.at, 6 if plain else 0)
             self.labels.append(s.label)
@@ -193,44 +193,45 @@ class Rules:
         elif k == "Yield":
             self.node(s.at, 6 if plain else 0)
 
-    def expr(self, e, place):
+    def expr(self, e, dropped=False):
+        """Its value is used, but for that of a call which is a statement."""
         k = e.kind
         plain = 0 if self.f.is_async else 6
-        loose = 18 if place == "value" else 0
         if k == "Number":
             self.node(e.at)
         elif k == "Name":
             self.node(e.at, self.use(e.name, "int"))
         elif k == "Index":
             self.node(e.at, self.use(e.name, "array"))
-            self.expr(e.index, "value")
+            self.expr(e.index)
         elif k in ("Group", "Unary"):
             self.node(e.at)
-            self.expr(e.inner, "value")
+            self.expr(e.inner)
         elif k == "Chain":
             self.node(e.at)
-            self.expr(e.first, "value")
+            self.expr(e.first)
             for _, x in e.rest:
-                self.expr(x, "value")
+                self.expr(x)
         elif k == "Call":
             d = self.find(e.name)
             if d is None or d.kind != "Function":
-                self.node(e.at, 2 if d is None else 4, loose)
+                self.node(e.at, 2 if d is None else 4)
                 for a in e.args:
-                    self.expr(a, "value")
+                    self.expr(a)
                 return
             self.calls[self.f].append(d)
             self.node(e.at, 3 if len(e.args) != len(d.params) else 0, 5 if d.is_async and not self.f.is_async else 0,
-                      12 if place != "stmt" and not d.gives_int else 0, loose)
+                      0 if d.gives_int or dropped else 12)
             for n, a in enumerate(e.args):
                 if n < len(d.params) and d.params[n].is_array:
                     if a.kind == "Name":
                         self.node(a.at, self.use(a.name, "array"))
                     else:
                         self.node(a.at, 4)
-                        # its parts come later and cannot be the first broken
+                        # its parts come later and cannot be the first broken, but what is called in them is reached
+                        self.expr(a)
                 else:
-                    self.expr(a, "value")
+                    self.expr(a)
         elif k in ("Send", "Recv"):
             r = self.use(e.channel, "Channel")
             wrong = 0
@@ -238,12 +239,12 @@ class Rules:
                 d = self.find(e.channel)
                 end = self.top.get(d.frm if k == "Send" else d.to)
                 wrong = 11 if any(c is not end for c in self.reach.get(self.f, [])) else 0
-            self.node(e.at, r, plain, wrong, loose)
-            self.expr(e.value if k == "Send" else e.place, "value")
+            self.node(e.at, r, plain, wrong)
+            self.expr(e.value if k == "Send" else e.place)
         else:
-            self.node(e.at, self.use(e.file, "File"), self.use(e.array, "array"), plain, loose)
-            self.expr(e.frm, "value")
-            self.expr(e.len, "value")
+            self.node(e.at, self.use(e.file, "File"), self.use(e.array, "array"), plain)
+            self.expr(e.frm)
+            self.expr(e.len)
 
 
 def refusal(text, steps):

@@ -322,68 +322,71 @@ class TreeCore:
             frame.cells[decl] = [0] * (decl.size if decl.kind == "Array" else 1)
         return frame.cells[decl]
 
-    def place(self, place, frame):
-        """The cells of the place and the index in them."""
-        cells = self.cells(frame, place.decl)
-        if place.kind == "Name":
-            return cells, 0
-        i = self.value(place.index, frame)
+    def element(self, e, frame, t):
+        """The cells of an array and the index in them."""
+        cells = self.cells(frame, e.decl)
+        i = yield from self.value(e.index, frame, t)
         if not 0 <= i < len(cells):
             raise Trap("index")
         return cells, i
 
-    def value(self, e, frame):
+    def place(self, place, frame, t):
+        """The cells of the place and the index in them."""
+        if place.kind == "Name":
+            return self.cells(frame, place.decl), 0
+        return (yield from self.element(place, frame, t))
+
+    def value(self, e, frame, t):
+        """Where a call or an operation in it lets another thread run, what was computed before stays in this generator."""
         k = e.kind
         if k == "Number":
             return e.value
         if k == "Name":
             return self.cells(frame, e.decl)[0]
         if k == "Index":
-            cells = self.cells(frame, e.decl)
-            i = self.value(e.index, frame)
-            if not 0 <= i < len(cells):
-                raise Trap("index")
+            cells, i = yield from self.element(e, frame, t)
             return cells[i]
         if k == "Group":
-            return self.value(e.inner, frame)
+            return (yield from self.value(e.inner, frame, t))
         if k == "Unary":
-            v = self.value(e.inner, frame)
+            v = yield from self.value(e.inner, frame, t)
             return wrap(-v) if e.op == "-" else int(v == 0) if e.op == "!" else ~v
-        v = self.value(e.first, frame)
+        if k == "Call":
+            return (yield from self.call(e, frame, t))
+        if k != "Chain":
+            return (yield from self.operation(e, frame, t))
+        v = yield from self.value(e.first, frame, t)
         for op, right in e.rest:
             if op == "And":
-                v = int(self.value(right, frame) != 0) if v != 0 else 0
+                v = int((yield from self.value(right, frame, t)) != 0) if v != 0 else 0
             elif op == "Or":
-                v = 1 if v != 0 else int(self.value(right, frame) != 0)
+                v = 1 if v != 0 else int((yield from self.value(right, frame, t)) != 0)
             else:
-                v = binary(op, v, self.value(right, frame))
+                v = binary(op, v, (yield from self.value(right, frame, t)))
         return v
 
     def call(self, c, frame, t):
         args = []
         for p, a in zip(c.func.params, c.args):
-            args.append(self.cells(frame, a.decl) if p.is_array else self.value(a, frame))
+            args.append(self.cells(frame, a.decl) if p.is_array else (yield from self.value(a, frame, t)))
         inner = Frame(self, c.func, None)
         for p, a in zip(c.func.params, args):
             inner.cells[p] = a if p.is_array else [a]
         return (yield from self.activation(c.func, inner, t))
 
-    def result(self, e, frame, t):
-        if e.kind == "Call":
-            return (yield from self.call(e, frame, t))
+    def operation(self, e, frame, t):
         if e.kind == "Send":
-            return (yield ("send", e.link, self.value(e.value, frame)))
+            return (yield ("send", e.link, (yield from self.value(e.value, frame, t))))
         if e.kind == "Recv":
-            return (yield ("receive", e.link, self.place(e.place, frame)))
-        if e.kind in ("Read", "Write"):
-            place, length = self.value(e.frm, frame), self.value(e.len, frame)
-            cells = self.cells(frame, e.decl)
-            if place < 0 or not 0 <= length <= min(256, len(cells)) or place + length > FILE:
-                raise Trap("file-range")
-            if e.kind == "Read":
-                return (yield ("read", self.requests, ("read", e.number, place, length), cells))
-            return (yield ("write", self.requests, ("write", e.number, place, bytes(v & 255 for v in cells[:length]))))
-        return self.value(e, frame)
+            return (yield ("receive", e.link, (yield from self.place(e.place, frame, t))))
+        place = yield from self.value(e.frm, frame, t)
+        length = yield from self.value(e.len, frame, t)
+        cells = self.cells(frame, e.decl)
+        if place < 0 or not 0 <= length <= min(256, len(cells)) or place + length > FILE:
+            raise Trap("file-range")
+        if e.kind == "Read":
+            return (yield ("read", self.requests, ("read", e.number, place, length), cells))
+        return (yield ("write", self.requests, ("write", e.number, place, bytes(v & 255 for v in cells[:length]))))
 
     def body(self, stmts, frame, t):
         for s in stmts:
@@ -400,7 +403,7 @@ class TreeCore:
         if k in ("While", "For"):
             while True:
                 self.step()
-                if s.test is not None and self.value(s.test, frame) == 0:
+                if s.test is not None and (yield from self.value(s.test, frame, t)) == 0:
                     return
                 try:
                     yield from self.stmt(s.body, frame, t)
@@ -414,23 +417,26 @@ class TreeCore:
         if k == "Empty":
             return
         if k == "Int":
-            v = 0 if s.value is None else (yield from self.result(s.value, frame, t))
+            v = 0 if s.value is None else (yield from self.value(s.value, frame, t))
             self.cells(frame, s)[0] = v
         elif k == "Array":
             self.cells(frame, s)[:] = [0] * s.size
         elif k == "Assign":
-            value = yield from self.result(s.value, frame, t)
-            cells, i = self.place(s.place, frame)
+            value = yield from self.value(s.value, frame, t)
+            cells, i = yield from self.place(s.place, frame, t)
             cells[i] = value
         elif k == "CallStmt":
-            yield from self.result(s.call, frame, t)
+            yield from self.value(s.call, frame, t)
         elif k == "Print":
-            text = printed(s.format, [self.value(a, frame) for a in s.args])
+            values = []
+            for a in s.args:
+                values.append((yield from self.value(a, frame, t)))
+            text = printed(s.format, values)
             if len(self.out) + len(text) > LIMIT:
                 raise Trap("output-full")
             self.out += text
         elif k == "If":
-            if self.value(s.test, frame) != 0:
+            if (yield from self.value(s.test, frame, t)) != 0:
                 yield from self.stmt(s.body, frame, t)
             elif s.other:
                 yield from self.stmt(s.other, frame, t)
@@ -439,7 +445,7 @@ class TreeCore:
         elif k == "Continue":
             raise Cont()
         elif k == "Return":
-            raise Ret(0 if s.value is None else (yield from self.result(s.value, frame, t)))
+            raise Ret(0 if s.value is None else (yield from self.value(s.value, frame, t)))
         elif k == "Do":
             b = Block(t.block)
             t.block = frame.blocks[s] = b
