@@ -5,6 +5,8 @@ pub mod Calls
 pub mod Consequences
 pub mod Endings
 pub mod Faults
+pub mod FewActions
+pub mod FewEntries
 pub mod Filing
 pub mod Judging
 pub mod Left
@@ -31,6 +33,7 @@ pub mod LineExamples
 pub mod AuditExamples
 pub mod LoadExamples
 pub mod DueExamples
+pub mod FewExamples
 pub mod FileExamples
 pub mod FileRunExamples
 pub mod ReadRunExamples

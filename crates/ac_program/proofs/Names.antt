@@ -28,7 +28,7 @@ as_many program code bound start ended h r = ap (λ (c : Parts). length c.names)
 
 -- ---- how many there are
 
-cores_there : (items : List Item) (scopes : List (List Declaration)) → length (cores_in items scopes) ≡ length (core_names items)
+pub cores_there : (items : List Item) (scopes : List (List Declaration)) → length (cores_in items scopes) ≡ length (core_names items)
 cores_there [] scopes = refl
 cores_there (i.Core at name entry ∷ items) scopes = ap suc (cores_there items scopes)
 cores_there (i.Function f ∷ items) scopes = cores_there items scopes

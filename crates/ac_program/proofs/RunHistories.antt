@@ -27,9 +27,9 @@ use Rattle.ac_base.specs.declared.ends.CoreEnd.{CoreEnd}
 use Rattle.ac_semantics.specs.Replay.{Replays}
 use Rattle.ac_translation.specs.Translation.{code_of}
 use Rattle.journal_bounds.specs.Actions.{most_actions}
-use Rattle.journal_bounds.specs.Laws.{AllReplay}
+use Rattle.journal_bounds.specs.Laws.{AllReplay, IsShortHistory}
 use Rattle.journal_bounds.proofs.Sizes.{actions_few}
-use Rattle.journal_bounds.proofs.Stamps.{stamps_small}
+use Rattle.journal_bounds.proofs.Stamps.{histories_short, stamps_small}
 use Rattle.program_run.specs.declared.ended.Ended.{Ended}
 use Rattle.program_run.specs.Run.{IsCoreRun, AreCoreRuns, IsRunOf, history_of, nothing_yet}
 
@@ -176,13 +176,20 @@ module _ (program : Resolved) (bound : ℕ) (start : List (List ℕ)) (ended : E
   pub least_stamps : All (λ s. 1 ≤ s.entry.stamp) (history_of ended.journals)
   least_stamps = All-from_recursion (λ s. 1 ≤ s.entry.stamp) (history_of ended.journals) (each_is_stamped (nothing_yet program) (history_of ended.journals) run.legal)
 
+  count : length (map entries_of ended.journals) ≡ suc (length program.cores)
+  count = length-map ended.journals entries_of ∙ as_many_journals program bound 0 ended.journals ended.cores run.cores ∙ ap suc run.every_core
+
+  all_replay : AllReplay program (length program.cores) bound (map entries_of ended.journals)
+  all_replay core lt = core_at program bound 0 ended.journals ended.cores run.cores core core (omega arith) (let n = run.every_core in omega (arith, lt, n))
+
+  -- it has few entries, and no stamp is above their number
+  pub short_history : IsShortHistory program (length program.cores) bound (history_of ended.journals)
+  short_history = histories_short program (code_of program).capacities (length program.cores) bound (map entries_of ended.journals) count all_replay run.legal
+
   pub greatest_stamps : length (code_of program).instrs < 2 ^ 32 → length program.cores * bound ≤ 4000000 → All (λ s. s.entry.stamp < 2 ^ 60) (history_of ended.journals)
   greatest_stamps short few =
-      let many = as_many_journals program bound 0 ended.journals ended.cores run.cores in
-      let js = map entries_of ended.journals in
       let most = most_actions program in
-      let all : AllReplay program (length program.cores) bound js =
-      λ core lt. core_at program bound 0 ended.journals ended.cores run.cores core core (omega arith) (let n = run.every_core in omega (arith, lt, n)) in
       All-from_recursion (λ s. s.entry.stamp < 2 ^ 60) (history_of ended.journals)
-      (each_below (length program.cores * (4 * (most * bound))) (2 ^ 60) (small_bound (length program.cores) most bound (length (code_of program).instrs) (actions_few program) short few) (merged js)
-      (stamps_small program (code_of program).capacities (length program.cores) bound js (length-map ended.journals entries_of ∙ many ∙ ap suc run.every_core) all run.legal))
+      (each_below (length program.cores * (4 * (most * bound))) (2 ^ 60) (small_bound (length program.cores) most bound (length (code_of program).instrs) (actions_few program) short few)
+      (history_of ended.journals)
+      (stamps_small program (code_of program).capacities (length program.cores) bound (map entries_of ended.journals) count all_replay run.legal))

@@ -1,6 +1,7 @@
 -- What a call of the program promises, on one page. `before` and `after` are what the library tells before and after the call, `disk` and
 -- `later` what the disk does, and `sink` and `written` what the sink does.
-use Rattle.std.specs.Prelude.{◌≡◌, ◌≢◌, ℕ, ◌+◌, ◌<◌, ◌≤◌, ◌⊎◌, List, [], length, map, All, Contains, is_some, IsTrue, IfSome, None, Some}
+use Rattle.std.specs.Prelude.{◌≡◌, ◌≢◌, ℕ, ◌+◌, ◌^◌, ◌<◌, ◌≤◌, ◌⊎◌, List, [], length, map, All, Contains}
+use Rattle.std.specs.Prelude.{is_some, IsTrue, IfSome, None, Some}
 use Rattle.std.specs.declared.option.Option.{Option}
 use Rattle.ac_base.specs.Log.{Log}
 use Rattle.ac_lexer.specs.declared.fault.LexFault.{LexFault}
@@ -26,7 +27,7 @@ use Rattle.ac_program.specs.Reading.{Gave, TookBytes, IsRead, IsReadWhole, IsTri
 use Rattle.ac_program.specs.Writing.{TookFront}
 use Rattle.ac_program.specs.Source.{HasFault, IsUnexpected, IsTooDeep, IsBroken, IsTooMany, IsReady, needed}
 use Rattle.ac_history.specs.Files.{padded, IsServed}
-use Rattle.program_run.specs.Run.{IsRunOf}
+use Rattle.program_run.specs.Run.{IsRunOf, history_of}
 use Rattle.program_run.specs.DiskLeft.{deeds_of}
 use Rattle.ac_program.specs.Making.{IsDueOf, AreLeft, Tells}
 use Rattle.ac_program.specs.Auditing.{IsDueOfAudit, AreRead}
@@ -241,3 +242,10 @@ pub record ReadsBack (told : Option (List ℕ)) (task : Task) (run : Option Ende
   pub taken : GrewBy sink.held written.held text
   pub spells : IsTheTrace text (trace_of ended)
   pub is_run : IsRunTrace (resolved program) (trace_of ended)
+
+-- ---- how much a run is
+
+-- it has few entries, and no stamp is above their number
+pub record HasFewEntries (ended : Ended) : Type 0 where
+  pub entries : length (history_of ended.journals) < 2 ^ 45
+  pub stamps : All (λ s. s.entry.stamp ≤ length (history_of ended.journals)) (history_of ended.journals)

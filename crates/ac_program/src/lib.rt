@@ -1,14 +1,14 @@
 //! The top call: from the words of a command line to a status and what is written.
 #![tactic(auto)]
 
-ghost use Rattle.std.specs.Prelude.{◌≡◌, ◌≢◌, ℕ, List, map, string_bytes, is_some, IsTrue};
+ghost use Rattle.std.specs.Prelude.{◌≡◌, ◌≢◌, ℕ, List, map, string_bytes, is_some, IfSome, IsTrue};
 ghost use Rattle.ac_words.specs.declared.task.Task.{Task};
 ghost use Rattle.ac_words.specs.declared.task.Task.TheVariants.{Run};
 ghost use Rattle.ac_words.specs.declared.task.Telling.TheVariants.{Trace};
 ghost use Rattle.ac_words.specs.Words.{Does, Audits, Loads, IsCall};
 ghost use Rattle.ac_program.specs.Auditing.{IsJudged};
 ghost use Rattle.ac_program.specs.Headline.{IsDue, TookWhole, TookPart, GaveUp, IsOfText, IsDecided, IsLoaded, IsOfCores, ReadsBack};
-ghost use Rattle.ac_program.specs.Headline.{TellsUsage, TellsLibrary, TellsDisk, TellsSink};
+ghost use Rattle.ac_program.specs.Headline.{TellsUsage, TellsLibrary, TellsDisk, TellsSink, HasFewEntries};
 
 mod answering;
 mod auditing;
@@ -72,7 +72,8 @@ use std::thread::Threads;
 ///
 /// The cores of a run and the worker of their files go on at the same time, on threads of `rt`, and
 /// pass `gate` with their numbers and how many entries they have made. Which outcome a race has is not
-/// said: whatever the schedule is, the run is one of the program.
+/// said: whatever the schedule is, the run is one of the program, with fewer than 2^45 entries and no
+/// stamp above their number.
 pub fn ac_main<L: Library, K: Sink, D: Disk + Send, G: Gate + Sync, R: Threads + Sync>(
     rt: &R,
     alloc: Global,
@@ -137,6 +138,9 @@ pub fn ac_main<L: Library, K: Sink, D: Disk + Send, G: Gate + Sync, R: Threads +
     ensures read_back { IsOfCores result.status.number → IsTrue (is_some (D.told disk.old).held) → (steps : ℕ) (file : List ℕ) →
         IsCall (map string_bytes words.now) (Does (Run steps Trace) file) →
         ReadsBack ((L.told library.old).text_at file) (Run steps Trace) result.run (K.told sink.old) (K.told sink.new) }
+
+    // A run has few entries, and no stamp is above their number.
+    ensures few { IfSome result.run HasFewEntries }
 {
     match read_words(words) {
         None => refuse(sink, 1, USAGE),

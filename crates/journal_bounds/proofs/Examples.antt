@@ -7,6 +7,7 @@ use Rattle.ac_base.specs.declared.ends.EndWord.TheVariants.{Stalled}
 use Rattle.ac_base.specs.declared.ends.CoreEnd.{CoreEnd}
 use Rattle.ac_base.specs.declared.ends.Phase.TheVariants as phase
 use Rattle.ac_base.specs.declared.entry.Entry.{Entry}
+use Rattle.ac_base.specs.declared.entry.Stamped.{Stamped}
 use Rattle.ac_base.specs.declared.entry.Event.TheVariants.{Offer, Withdraw, Pass}
 use Rattle.ac_base.specs.declared.entry.Payload.TheVariants.{Int}
 use Rattle.ac_tree.specs.declared.expr.BinaryOp.TheVariants as b
@@ -34,7 +35,7 @@ use Rattle.ac_translation.proofs.Codes.{number_code, act_code}
 use Rattle.ac_translation.proofs.Sized.{functions_sized}
 use Rattle.journal_bounds.specs.Actions.{total, greatest, value_step, link_step, actions_in, actions_of, most_of_some, most_within, command_step, most_in, most_of, most_in_function, most_actions}
 use Rattle.journal_bounds.specs.Passes.{pass_of, passes_in}
-use Rattle.journal_bounds.specs.Laws.{EntriesAreFew, AllReplay, StampsAreSmall, ActionsAreFew}
+use Rattle.journal_bounds.specs.Laws.{EntriesAreFew, AllReplay, IsShortHistory, HistoriesAreShort, StampsAreSmall, ActionsAreFew}
 
 -- ---- by the parts of an expression and of a statement
 
@@ -152,6 +153,22 @@ two_entries_are_few law =
     let none : passes_in taken ≡ 0 = refl in
     let two : length taken ≡ 2 = refl in
     omega (arith, few, none, two)
+
+-- one entry, with stamp 1
+pub its_history_is_short : HistoriesAreShort → IsShortHistory two_cores 1 9 (merged journals)
+its_history_is_short law = law two_cores (1 ∷ 16 ∷ []) 1 9 journals refl it_has_offered (refl, tt)
+
+pub one_entry_of_stamp_one_is_short : IsShortHistory two_cores 1 9 (merged journals)
+one_entry_of_stamp_one_is_short = let one = its_program_has_one in record { entries = omega (arith, one); stamps = (omega arith, tt) }
+
+abbrev late : Stamped
+late = record { party = 0; entry = withdrawing }
+
+pub its_stamp_is_above_their_number : IsShortHistory two_cores 1 9 (late ∷ []) → ⊥
+its_stamp_is_above_their_number h = let five = h.stamps.0 in omega (arith, five)
+
+pub no_step_no_entry : IsShortHistory two_cores 1 0 (merged journals) → ⊥
+no_step_no_entry h = let few = h.entries in let one = its_program_has_one in omega (arith, few, one)
 
 pub its_stamp_is_small : StampsAreSmall → AllByRecursion (λ e. e.entry.stamp ≤ 1 * (4 * (most_actions two_cores * 9))) (merged journals)
 its_stamp_is_small law = law two_cores (1 ∷ 16 ∷ []) 1 9 journals refl it_has_offered (refl, tt)

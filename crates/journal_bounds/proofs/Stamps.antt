@@ -1,4 +1,4 @@
--- The merged history has as many entries as its journals, and so its stamps are small. For `stamps_are_small`.
+-- The merged history has as many entries as its journals, so few, and its stamps are small. For `histories_are_short` and `stamps_are_small`.
 -- No stamp is above the number of entries (ac_history), each core has few (Runs), and the worker and the passes as many as cores made offers (Passing).
 use Rattle.std.proofs.Common.{◌≡◌, ℕ, suc, ◌*◌, ◌≤◌, List, [], ◌∷◌, length, get_or, Bool, true, false, refl, ap, ◌∙◌, arith}
 use Rattle.std.specs.Prelude.{nat_le, if◌then◌else◌}
@@ -9,7 +9,7 @@ use Rattle.ac_links.specs.Order.{placed, in_order, stamp_of}
 use Rattle.ac_history.specs.Merged.{all_from, merged}
 use Rattle.ac_history.proofs.Bound.{stamps_at_most}
 use Rattle.journal_bounds.specs.Actions.{most_actions}
-use Rattle.journal_bounds.specs.Laws.{StampsAreSmall}
+use Rattle.journal_bounds.specs.Laws.{HistoriesAreShort, StampsAreSmall}
 use Rattle.journal_bounds.proofs.Counting.{settled, offered_below, idle_of, count_in_order, few_offered, few_from}
 use Rattle.journal_bounds.proofs.Passing.{settled_at_most}
 use Rattle.journal_bounds.proofs.Runs.{short}
@@ -32,8 +32,8 @@ each_more : (m n : ℕ) → m ≤ n → (es : List Stamped) → AllByRecursion (
 each_more m n le [] a = tt
 each_more m n le (e ∷ es) a = (let h = a.0 in omega arith, each_more m n le es a.1)
 
-pub stamps_small : StampsAreSmall
-stamps_small program capacities cores bound js many runs legal =
+pub histories_short : HistoriesAreShort
+histories_short program capacities cores bound js many runs legal =
     let k = most_actions program * bound in
     let settles = settled_at_most capacities cores (merged js) legal in
     let fewer = settles.0 in
@@ -46,4 +46,9 @@ stamps_small program capacities cores bound js many runs legal =
     let all = order_length stamp_of (all_from 0 js) in
     let thrice = mul_left_comm cores 3 k in
     let four_times = mul_left_comm cores 4 k in
-    each_more (length (merged js)) (cores * (4 * k)) (omega arith) (merged js) (stamps_at_most capacities cores (merged js) legal)
+    record { entries = omega arith; stamps = stamps_at_most capacities cores (merged js) legal }
+
+pub stamps_small : StampsAreSmall
+stamps_small program capacities cores bound js many runs legal =
+    let short = histories_short program capacities cores bound js many runs legal in
+    each_more (length (merged js)) (cores * (4 * (most_actions program * bound))) short.entries (merged js) short.stamps

@@ -3,6 +3,7 @@ use Rattle.std.specs.Prelude.{◌≡◌, ℕ, suc, ◌+◌, ◌*◌, ◌≤◌, 
 use Rattle.std.specs.List.{AllByRecursion}
 use Rattle.ac_base.specs.declared.ends.CoreEnd.{CoreEnd}
 use Rattle.ac_base.specs.declared.entry.Entry.{Entry}
+use Rattle.ac_base.specs.declared.entry.Stamped.{Stamped}
 use Rattle.ac_commands.specs.declared.program.Resolved.{Resolved}
 use Rattle.ac_semantics.specs.Replay.{Replays}
 use Rattle.ac_history.specs.Merged.{merged}
@@ -23,9 +24,20 @@ abbrev pub AllReplay : Resolved → ℕ → ℕ → List (List Entry) → Type 0
 AllReplay program cores bound js = (core : ℕ) → core < cores →
     (end : CoreEnd) × Replays program core bound (slice_index_or js core []) (Some end)
 
--- No stamp is above what all cores and the worker may enter. Each operation makes one offer at most, and in a legal history no more offers
--- are passed over, and done by the worker, than were made: so an operation pays for four entries, its own three, and one by which its peer
--- passes over it or the worker does it.
+-- this history of cores with that bound on steps has few entries, and no stamp of it is above their number
+pub record IsShortHistory (program : Resolved) (cores bound : ℕ) (history : List Stamped) : Type 0 where
+  pub entries : length history ≤ cores * (4 * (most_actions program * bound))
+  pub stamps : AllByRecursion (λ e. e.entry.stamp ≤ length history) history
+
+-- A legal history has no more entries than all cores and the worker may enter. Each operation makes one offer at most, and in a legal
+-- history no more offers are passed over, and done by the worker, than were made: so an operation pays for four entries, its own three, and
+-- one by which its peer passes over it or the worker does it.
+abbrev pub HistoriesAreShort : Type 0
+HistoriesAreShort = (program : Resolved) (capacities : List ℕ) (cores bound : ℕ) (js : List (List Entry))
+    → length js ≡ suc cores → AllReplay program cores bound js → IsLegal (start capacities cores) (merged js)
+    → IsShortHistory program cores bound (merged js)
+
+-- so no stamp is above that
 abbrev pub StampsAreSmall : Type 0
 StampsAreSmall = (program : Resolved) (capacities : List ℕ) (cores bound : ℕ) (js : List (List Entry))
     → length js ≡ suc cores → AllReplay program cores bound js → IsLegal (start capacities cores) (merged js)

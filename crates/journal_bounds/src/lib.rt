@@ -3,4 +3,4 @@
 
 mod law;
 
-pub use law::{actions_are_few, entries_are_few, stamps_are_small};
+pub use law::{actions_are_few, entries_are_few, histories_are_short, stamps_are_small};

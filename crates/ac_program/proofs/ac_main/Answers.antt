@@ -8,6 +8,7 @@ use Rattle.ac_program.specs.Auditing.{IsDueOfAudit}
 use Rattle.ac_program.specs.Headline.{IsDue, IsDueOfFile, summed, of_task, of_audit, of_load}
 use Rattle.ac_program.specs.Making.{IsDueOf}
 use Rattle.ac_program.specs.Headline.IsDue.{usage, call, audit, load as loads}
+use Rattle.ac_program.proofs.FewEntries.{few_in_none, few_entries}
 use Rattle.ac_program.proofs.Endings.{whole_of, part_of, whole_as, part_as}
 use Rattle.ac_program.proofs.Statuses.{one_or_eight}
 use Rattle.ac_program.proofs.Reasons.{decided_for, loaded_for}
@@ -31,6 +32,9 @@ returns-in-None-clause-part g c =
 
 pub returns-in-None-clause-usage : goal.returns-in-None-clause-usage
 returns-in-None-clause-usage g c = record { told = λ _. c.in-None.ensures.usage refl; only = λ _. one_or_eight c.refuse.result.status.number c.refuse.ensures.status }
+
+pub returns-in-None-clause-few : goal.returns-in-None-clause-few
+returns-in-None-clause-few g c = few_in_none c.refuse.result.run c.refuse.ensures.run
 
 -- ---- a task
 
@@ -70,6 +74,12 @@ returns-in-Some-Does-clause-read_back g c = let r = c.in-Some-Does in
     c.do_file.result.status.number c.do_file.result.run (g.K.Sink.told c.args.sink.now) (g.K.Sink.told c.do_file.new.sink) c.do_file.ensures.whole is told steps file
     (r.ensures.only _ asked ∙ ap asked_of r.field-0-is)
 
+pub returns-in-Some-Does-clause-few : goal.returns-in-Some-Does-clause-few
+returns-in-Some-Does-clause-few g c =
+    few_entries (map (string_bytes {Z = Global}) c.args.words.now) (g.L.Library.told c.args.library.now) (g.L.Library.told c.do_file.new.library) (g.D.Disk.told c.args.disk.now)
+    (g.D.Disk.told c.do_file.new.disk) c.do_file.result.status.number c.do_file.result.run (g.K.Sink.told c.args.sink.now) (g.K.Sink.told c.do_file.new.sink)
+    (returns-in-Some-Does-clause-whole g c) (returns-in-Some-Does-clause-part g c) (returns-in-Some-Does-clause-memory g c)
+
 -- ---- an audit
 
 pub returns-in-Some-Audits-clause-whole : goal.returns-in-Some-Audits-clause-whole
@@ -95,6 +105,9 @@ pub returns-in-Some-Audits-clause-judged : goal.returns-in-Some-Audits-clause-ju
 returns-in-Some-Audits-clause-judged g c = let r = c.in-Some-Audits in
     λ t file trace asked. judged_for r.file.now r.trace.now _ _ _ _ c.audit_files.result c.audit_files.ensures.answered t file trace (r.ensures.only (Audits file trace) asked
     ∙ ap asked_of r.field-0-is)
+
+pub returns-in-Some-Audits-clause-few : goal.returns-in-Some-Audits-clause-few
+returns-in-Some-Audits-clause-few g c = few_in_none c.audit_files.result.run c.audit_files.ensures.answered.no_run
 
 -- ---- a load
 
@@ -139,3 +152,9 @@ returns-in-Some-Loads-clause-loaded g c = let r = c.in-Some-Loads in
     λ t turns steps asked. loaded_for r.turns r.steps (is_short r.turns few) (g.L.Library.told c.args.library.now) (g.D.Disk.told c.args.disk.now) (g.D.Disk.told c.load.new.disk)
     c.load.result.status.number c.load.result.run (g.K.Sink.told c.args.sink.now) (g.K.Sink.told c.load.new.sink) c.load.ensures.whole t turns steps
     (r.ensures.only (Loads turns steps) asked ∙ ap asked_of r.field-0-is)
+
+pub returns-in-Some-Loads-clause-few : goal.returns-in-Some-Loads-clause-few
+returns-in-Some-Loads-clause-few g c =
+    few_entries (map (string_bytes {Z = Global}) c.args.words.now) (g.L.Library.told c.args.library.now) (g.L.Library.told c.args.library.now) (g.D.Disk.told c.args.disk.now)
+    (g.D.Disk.told c.load.new.disk) c.load.result.status.number c.load.result.run (g.K.Sink.told c.args.sink.now) (g.K.Sink.told c.load.new.sink)
+    (returns-in-Some-Loads-clause-whole g c) (returns-in-Some-Loads-clause-part g c) (returns-in-Some-Loads-clause-memory g c)
