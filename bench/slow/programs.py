@@ -18,7 +18,7 @@ class Gen:
         self.long = self.r.random() < 0.03
         self.loops = 0
         self.functions = []
-        self.calling = self.r.choice([0.0, 0.05, 0.15, 0.3])
+        self.calling = self.r.choice([0.0, 0.15, 0.3, 0.5])
         self.inside, self.again = None, 0
         self.in_async_fn = True
         self.blocks = []
@@ -477,7 +477,7 @@ class Gen:
                 self.put(f"int {n} = {r.choice(['', '-'])}{r.choice([r.randrange(0, 20), r.choice(EDGES)])};")
                 self.top[n] = 0
         self.locked = {"f", "a"} | {f"g{k}" for k in range(4)}
-        for k in range(r.randrange(0, 4)):
+        for k in range(r.choice([0, 1, 2, 3, 3, 4])):
             self.function(k)
         core = "core a(f);"
         first = r.random() < 0.7
