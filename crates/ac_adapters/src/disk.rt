@@ -3,9 +3,9 @@
 ghost use Rattle.std.specs.Prelude.{◌≡◌, ◌≤◌, [], ◌∷◌, ◌++◌, ◌-◌, min, length, IfErr, OnOk, None, Some, true};
 ghost use Rattle.std.specs.Io.{ReadsAtMost, WritesAtMost};
 
+use crate::limits::most_bytes;
 use ac_base::{Bytes, List, NoMemory};
 use ac_outside::{BindFault, Disk, FILE_BYTES, Failed, Torn};
-use libc::types::rlimit;
 use std::alloc::Global;
 use std::fs::{OpenFile, OpenOptions};
 use std::io;
@@ -17,7 +17,7 @@ use std::rt::Files;
 ///
 /// It tells the paths that it was to bind, until memory was refused, and no contents. That a write past
 /// the end of a file fills the gap with zeros is the system's. A write goes in as far as the limit of the
-/// process on the size of files allows (`ulimit -f`), and fails there.
+/// process on the size of files allows (`ulimit -f`), as it was when the disk was made, and fails there.
 #[derive(Drop)]
 pub struct FileDisk<'a, R: Files> {
     files: &'a R,
@@ -26,6 +26,8 @@ pub struct FileDisk<'a, R: Files> {
     is_ready: bool,
     faults: u64,
     earlier: u64,
+    // How many bytes a file may have by the limit of the process.
+    limit: u64,
 }
 
 impl<'a, R: Files> Model for FileDisk<'a, R> {
@@ -58,6 +60,7 @@ impl<'a, R: Files> FileDisk<'a, R> {
             is_ready: true,
             faults: 0,
             earlier: 0,
+            limit: most_bytes(files),
         }
     }
 
@@ -103,21 +106,6 @@ fn read_all<F: FileExt>(file: &F, from: u32, into: &mut [u8]) -> io::Result<usiz
     Ok(at)
 }
 
-// The resource that is the size of files, by its number on Linux.
-const RLIMIT_FSIZE: i32 = 1;
-
-// How many bytes a file may have by the limit of this process, as it is now.
-fn most_bytes() -> u64 {
-    let mut limit = rlimit {
-        rlim_cur: u64::MAX,
-        rlim_max: u64::MAX,
-    };
-    if libc::getrlimit(RLIMIT_FSIZE, &mut limit) < 0 {
-        return u64::MAX;
-    }
-    limit.rlim_cur
-}
-
 // How many of so many bytes, from a place on, lie below the limit.
 fn room_below(limit: u64, from: u64, len: usize) -> usize
     ensures { result ≡ min (limit - from) len }
@@ -134,11 +122,10 @@ fn write_below<F: FileExt>(file: &F, limit: u64, from: u64, bytes: &[u8]) -> io:
 }
 
 // Writes until all bytes have gone in, or the system or the limit takes none.
-fn write_all<F: FileExt>(file: &F, from: u32, bytes: &[u8]) -> Result<(), Torn>
+fn write_all<F: FileExt>(file: &F, limit: u64, from: u32, bytes: &[u8]) -> Result<(), Torn>
     requires { length bytes.now ≤ FILE_BYTES }
     ensures { IfErr result (λ torn. torn.taken ≤ length bytes.now) }
 {
-    let limit = most_bytes();
     let mut at = 0;
     while at < bytes.len() {
         match write_below(file, limit, u64::from(from) + at as u64, &bytes[at..]) {
@@ -194,7 +181,7 @@ where
 
     fn write_at(&mut self, file: u32, from: u32, bytes: &[u8]) -> Result<(), Torn> {
         self.earlier = self.faults;
-        let written = write_all(&self.bound[file as usize], from, bytes);
+        let written = write_all(&self.bound[file as usize], self.limit, from, bytes);
         if written.is_err() {
             self.faults = self.faults.saturating_add(1);
         }

@@ -5,6 +5,7 @@
 mod disk;
 mod files;
 mod gate;
+mod limits;
 mod output;
 
 pub use disk::FileDisk;
