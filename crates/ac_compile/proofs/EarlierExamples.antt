@@ -1,6 +1,6 @@
 -- Calls that stand alone and calls that do not, and plain steps of small statements.
 -- Counts and plain values are folds and do not compute, so they go by their forms; a plain run with a nested call shows that it is another.
-use Rattle.std.proofs.Common.{◌≡◌, refl, sym, ap, ◌∙◌, subst, ℕ, zero, suc, ◌+◌, List, [], ◌∷◌, map, codes, Option, Some, None, Bool, true, false, arith}
+use Rattle.std.proofs.Common.{◌≡◌, refl, sym, ap, ◌∙◌, subst, ℕ, zero, suc, ◌+◌, List, [], ◌∷◌, map, length, codes, Option, Some, None, Bool, true, false, arith}
 use Rattle.std.specs.Prelude.{ℤ, pos, Result, Ok, Err, slice_get}
 use Rattle.std.proofs.lemmas.Fmt.{decimal_digit}
 use Rattle.ac_base.specs.declared.ends.Trap.{Trap}
@@ -41,11 +41,11 @@ use Rattle.ac_commands.specs.declared.program.Core.{Core}
 use Rattle.ac_commands.specs.declared.program.Resolved.{Resolved}
 use Rattle.ac_semantics.specs.Evaluation.{Ending, Operands}
 use Rattle.ac_semantics.specs.Held.{Held, with_store}
-use Rattle.ac_semantics.specs.Work.{Work, Pend}
-use Rattle.ac_semantics.specs.Statements.{Next, Goes, operands_of, calls}
-use Rattle.ac_semantics.specs.Threads.{step, first_state}
+use Rattle.ac_semantics.specs.Work.{Work, Pend, Leave}
+use Rattle.ac_semantics.specs.Statements.{Next, Goes, Ends, operands_of, calls, does}
+use Rattle.ac_semantics.specs.Threads.{CoreState, rests, step, shared_at_first, first_state}
 use Rattle.ac_semantics.specs.Replay.{Enters, Replays}
-use Rattle.ac_semantics.proofs.Examples.{a_call_in_a_sum, form, finish_by, function, two_functions, prints_a_call, gives_back, with_a_call, joins, link, number, call, ended}
+use Rattle.ac_semantics.proofs.Examples.{a_call_in_a_sum, it_stops_at_the_call, form, finish_by, function, two_functions, prints_a_call, gives_back, with_a_call, joins, link, number, call, ended}
 use Rattle.ac_compile.specs.StandAlone.{Acts, no_act, one_act, all_in, total_acts, expr_step, acts_in, nested_in, some_acts, some_nested, stmt_step, stmt_nested, item_nested, StandAlone}
 use Rattle.ac_compile.specs.StandAlone as tree
 use Rattle.ac_compile.specs.Alone.{acts, all_acts, after_act, own_nested, total_others, nested_within, command_step, command_nested, IsAlone, body_nested, function_nested, AreAlone}
@@ -124,7 +124,8 @@ it_is_the_operand = (rw (stmt_folds stmt_step _ (s.rolls-Return 0 (Some the_call
 
 -- for (; f(); ) ;
 pub it_is_a_test : (stmt_nested (s.For 0 None (Some the_call) None (s.Empty 0)) ≡ 1) × (some_acts (Some the_call) ≡ 1)
-it_is_a_test = (rw (for_folds stmt_step 0 None (Some the_call) None (s.Empty 0), stmt_folds stmt_step _ (s.rolls-Empty 0), all_is the_call a_call_is_not_nested) refl, all_is the_call a_call_is_not_nested)
+it_is_a_test = (rw (for_folds stmt_step 0 None (Some the_call) None (s.Empty 0), stmt_folds stmt_step _
+    (s.rolls-Empty 0), all_is the_call a_call_is_not_nested) refl, all_is the_call a_call_is_not_nested)
 
 -- async void f() { .. }
 abbrev item : List Stmt → Item
@@ -170,7 +171,8 @@ call_nested : after_act (alone_call ∷ []) ≡ 0
 call_nested = let h = ap (λ (z : Acts). z.nested) call_acts in omega (arith, h)
 
 pub it_is_alone : IsAlone gets
-it_is_alone = ap command_nested (sym (c.rolls-Set (t.Variable (p.Global 0)) alone_call)) ∙ fold-roll-Command ℕ command_step (Command-F.Set (t.Variable (p.Global 0)) alone_call) ∙ (let h = call_nested in omega (arith, h))
+it_is_alone = ap command_nested (sym (c.rolls-Set (t.Variable (p.Global 0)) alone_call)) ∙ fold-roll-Command ℕ command_step (Command-F.Set (t.Variable (p.Global 0)) alone_call) ∙
+    (let h = call_nested in omega (arith, h))
 
 with_a_call_acts : acts with_a_call ≡ no_act 1
 with_a_call_acts = rw (
@@ -191,7 +193,8 @@ pub it_is_not_alone : IsAlone prints_a_call → ⊥
 it_is_not_alone none = let h = prints_nested in omega (arith, h, none)
 
 -- its own, and those within it
-pub own_and_within : (own_nested {A = Command} (Command-F.Set (t.Variable (p.Global 0)) alone_call) ≡ 0) × (nested_within (Command-F.If alone_call (1 ∷ []) (Some (2 ∷ []))) ≡ 3) × (total_others None ≡ 0)
+pub own_and_within : (own_nested {A = Command} (Command-F.Set (t.Variable (p.Global 0)) alone_call) ≡ 0) × (nested_within (Command-F.If alone_call (1 ∷ []) (Some (2 ∷ []))) ≡ 3) × (total_others None
+    ≡ 0)
 own_and_within = (call_nested, refl, refl)
 
 -- int f(int x) { return x; } and a core that gets a value of it
@@ -261,8 +264,15 @@ nothing_is_left = ap (λ (x : Command-F Command). rest_of (operands_of x)) gets_
 
 module _ (s : Held) (ws : List Work) where
   -- f is called, and the statement waits
-  pub it_waits : plain_does gets_one gets first_frame ws s ≡ calls (Some (record { name = codes "f"; is_async = false; gives_int = true; params = false ∷ []; slots = 1; body = gives_back ∷ [] })) (cell.Int (pos 2) ∷ []) (Pend first_frame gets (Operands Ending [] [] ∷ []) ∷ ws) s
+  pub it_waits : plain_does gets_one gets first_frame ws s ≡ calls (Some (record { name = codes "f"; is_async = false; gives_int = true; params = false ∷ []; slots = 1; body = gives_back ∷ [] }))
+      (cell.Int (pos 2) ∷ []) (Pend first_frame gets (Operands Ending [] [] ∷ []) ∷ ws) s
   it_waits = rw (gets_form, call_form, number_plain) refl
+
+  pub its_call_comes_first : goes_plainly gets_one gets first_frame ws s (alone_call ∷ []) ≡ acts_plainly gets_one gets first_frame ws s (Call 0) (number 2 ∷ []) []
+  its_call_comes_first = rw call_form refl
+
+  pub a_number_is_computed : begins_plainly gets_one gets first_frame ws s (Value-F.Number (pos 2)) (number 2) [] ≡ ends_plainly gets_one gets first_frame ws s [] (number 2 ∷ [])
+  a_number_is_computed = refl
 
   -- and then x is what it gives
   pub it_goes_on : (n : ℤ) → plain_goes_on gets_one gets first_frame ws s (cell.Int n) ≡ Goes (with_store s (with_global s.store 0 n)) ws
@@ -283,6 +293,13 @@ chain_out : out-Value with_a_call ≡ Value-F.Chain (number 1) (link b.Add (join
 chain_out =
     ap out-Value (sym (v.rolls-Chain (number 1) (link b.Add (joins alone_call b.Mul (number 3)) ∷ [])))
     ∙ out-roll-Value (Value-F.Chain (number 1) (link b.Add (joins alone_call b.Mul (number 3)) ∷ []))
+
+-- where no statement goes on all is as in any run
+pub the_core_leaves : (s : Held) → plain_next_at two_functions 9 (Leave ∷ []) s ≡ Ends Finished s
+the_core_leaves s = refl
+
+pub no_thread_runs : (x : CoreState) → plain_step_of two_functions 9 x None ≡ rests x
+no_thread_runs x = refl
 
 -- a call that is nested counts for 0
 pub it_prints_one_plainly : and_then (first_state two_functions 0 (function (prints_a_call ∷ [])) []) (moves (plain_step two_functions 9) 3) ≡ ended Finished 1 (codes "1\n") (pos 0 ∷ pos 5 ∷ [])
@@ -324,3 +341,17 @@ it_does_not_run_plainly h =
     let run = (h 0 9 [] _).0 (record { function = main; enters = enters; ends = (5, sym a_call_in_a_sum) }) in
     let n = two_steps _ run.function (enters_main run.function run.enters) run.ends in
     omega (arith, n)
+
+-- its statement calls f, and so leaves the body of f, the return and itself; plainly it is over
+abbrev pub at_first : Held
+at_first = record { shared = shared_at_first two_functions 0 []; store = first_store (pos 0 ∷ pos 5 ∷ []); marks = []; operations = [] }
+
+abbrev pub work_left : Next → ℕ
+work_left (Goes s ws) = length ws
+work_left _ = 0
+
+pub it_calls : work_left (does two_functions prints_a_call first_frame [] at_first) ≡ 3
+it_calls = rw (print_form, it_stops_at_the_call) refl
+
+pub it_is_over_plainly : work_left (plain_does two_functions prints_a_call first_frame [] at_first) ≡ 0
+it_is_over_plainly = rw (print_form, chain_out, with_a_call_plain, finish_by two_functions prints_a_call _ print_form, decimal_digit 1 (omega arith)) refl

@@ -141,4 +141,5 @@ fifteen = rw (
 ) refl
 
 pub its_code_is_not_plain : HasPlainCode two_functions → ⊥
-its_code_is_not_plain h = let e : length (code_of two_functions).instrs ≡ length (plain_code_of two_functions).instrs = ap (λ (x : Parts). length x.instrs) h in omega (arith, e, plainly_thirteen, fifteen)
+its_code_is_not_plain h = let e : length (code_of two_functions).instrs ≡ length (plain_code_of two_functions).instrs = ap (λ (x : Parts). length x.instrs) h in omega
+    (arith, e, plainly_thirteen, fifteen)

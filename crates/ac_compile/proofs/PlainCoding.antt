@@ -172,7 +172,8 @@ command_of y = map-Command Command_ Command (λ c. c.0) y
 abbrev nested_in : Command-F Command → ℕ
 nested_in x = alone.command_step (map-Command Command ℕ command_nested x)
 
-set_same : (value : Value) (target : Target) → (acts value).nested ≡ 0 → all_acts (target_operands target) ≡ 0 → one i.Step ⨾ value_code value ⨾ target_code target ≡ one i.Step ⨾ alone_code value ⨾ plain_target target
+set_same : (value : Value) (target : Target) → (acts value).nested ≡ 0 → all_acts (target_operands target) ≡ 0 → one i.Step ⨾ value_code value ⨾ target_code target
+    ≡ one i.Step ⨾ alone_code value ⨾ plain_target target
 set_same value target h k = let e = alone_same value h in let f = target_same target k in cc
 
 choice_same : (p q : Piece) (cs ds : List Piece) (os us : Option (List Piece)) → p ≡ q → cs ≡ ds → os ≡ us → if_code p (all cs) os ≡ if_code q (all ds) us

@@ -194,7 +194,8 @@ module _ (program : Resolved) (alone : AreAlone program) (bound : ℕ) where
       ap (λ (m : Move CoreState (Option CoreEnd)). and_then m (moves (step program bound) k)) (step_same c c.running h)
       ∙ then_same (plain_step program bound c) (moves (step program bound) k) (moves (plain_step program bound) k) (step_fine c c.running h) (moves_same k)
 
-  begins_fine : (globals : List ℤ) (shared : Shared) (f : Function) → body_nested f.body ≡ 0 → (r : Result Store Trap) → Fine (begins_with (λ e. e) globals shared r (λ store. On (first_core f shared store)))
+  begins_fine : (globals : List ℤ) (shared : Shared) (f : Function) → body_nested f.body ≡ 0 → (r : Result Store Trap) → Fine (begins_with (λ e. e) globals shared r (λ store. On
+      (first_core f shared store)))
   begins_fine globals shared f none (Ok store) = record { work = tt; threads = (before_calm first_frame f.body (Leave ∷ []) none (tt, tt), tt) }
   begins_fine globals shared f none (Err trap) = tt
 

@@ -142,7 +142,8 @@ returns_calm value (Back own ∷ ws) s a = given_calm (cell.Int value) ws a.1
 returns_calm value (Leave ∷ ws) s a = tt
 returns_calm value (x ∷ ws) s a = returns_calm value ws s a.1
 
-loops_calm : (test : ℤ) (loop : Command) (body : List Command) (frame : FrameId) (ws : List Work) (s : Held) → IsAlone loop → body_nested body ≡ 0 → AreCalm ws → LeavesCalm (loops test loop body frame ws s)
+loops_calm : (test : ℤ) (loop : Command) (body : List Command) (frame : FrameId) (ws : List Work) (s : Held) → IsAlone loop → body_nested body ≡ 0 → AreCalm ws → LeavesCalm
+    (loops test loop body frame ws s)
 loops_calm test loop body frame ws s l h a = zero_calm test ws (before frame body (Turn frame loop ∷ ws)) a (before_calm frame body (Turn frame loop ∷ ws) h (l, a))
 
 -- One form of statement at a time, its operands evaluated.

@@ -1,21 +1,17 @@
 -- A program that was accepted, and stays as it was.
-use Rattle.std.proofs.Common.{◌≡◌, refl, ap, ℕ, List, [], ◌∷◌, codes, Option, Some, arith}
-use Rattle.std.specs.Prelude.{ℤ, pos}
+use Rattle.std.proofs.Common.{◌≡◌, refl, ap, ℕ, List, [], ◌∷◌, codes, arith}
+use Rattle.std.specs.Prelude.{pos}
 use Rattle.ac_tree.specs.declared.expr.Expr.TheVariants as e
 use Rattle.ac_tree.specs.declared.stmt.Stmt.TheVariants as s
 use Rattle.ac_tree.specs.declared.item.Program.{Program}
-use Rattle.work_item.specs.declared.cell.Cell.{Cell}
-use Rattle.work_item.specs.declared.cell.Cell.TheVariants as cell
 use Rattle.core_state.specs.Frames.{first_frame}
-use Rattle.ac_semantics.specs.Evaluation.{Ending, Operands}
-use Rattle.ac_semantics.specs.Held.{Held}
-use Rattle.ac_semantics.specs.Work.{Work}
-use Rattle.ac_semantics.specs.Statements.{does, goes_on_with}
+use Rattle.ac_semantics.specs.Statements.{does}
+use Rattle.ac_compile.specs.Plain.{plain_does}
 use Rattle.ac_semantics.proofs.Examples.{two_functions, prints_a_call}
 use Rattle.ac_types.proofs.Examples.{one_core, it_breaks_none, it_breaks_one}
 use Rattle.ac_compile.specs.Earlier.{WasAccepted, IsPlainStep, StaysAsItWas, EarlierProgramsStay}
 use Rattle.ac_compile.proofs.Earlier.{plain_steps, programs_stay}
-use Rattle.ac_compile.proofs.EarlierExamples.{program_of, assigns, one_more, it_does_not, gets, gets_one, it_is_alone}
+use Rattle.ac_compile.proofs.EarlierExamples.{program_of, assigns, one_more, it_does_not, gets, gets_one, it_is_alone, at_first, work_left, it_calls, it_is_over_plainly}
 
 -- core a(f); async void f() {}
 abbrev does_nothing : Program
@@ -41,3 +37,10 @@ they_stay = programs_stay
 -- x = f(2);
 pub its_step_is_plain : IsPlainStep gets_one gets
 its_step_is_plain = plain_steps gets_one gets it_is_alone
+
+-- printf("%d\n", 1+f(2)*3);
+pub its_step_is_not_plain : IsPlainStep two_functions prints_a_call → ⊥
+its_step_is_not_plain h =
+    let e : work_left (does two_functions prints_a_call first_frame [] at_first) ≡ work_left (plain_does two_functions prints_a_call first_frame [] at_first)
+    = ap work_left (h.first first_frame [] at_first) in
+    omega (arith, e, it_calls, it_is_over_plainly)

@@ -24,10 +24,14 @@ WasAccepted p = BreaksNone p.items × StandAlone p
 
 -- what a statement does is its plain step: at once, and when the value has come for which it waits
 pub record IsPlainStep (program : Resolved) (command : Command) : Type 0 where
-  pub first : (frame : FrameId) (ws : List Work) (s : Held) → does program command frame ws s ≡ plain_does program command frame ws s
+  pub first : (frame : FrameId) (ws : List Work) (s : Held)
+      → does program command frame ws s ≡ plain_does program command frame ws s
   pub later : (frame : FrameId) (ws : List Work) (s : Held) (value : Cell)
-      → goes_on_with program value command (Operands Ending [] (waits_for command) ∷ []) frame ws s ≡ plain_goes_on program command frame ws s value
+      → goes_on_with program value command (Operands Ending [] (waits_for command) ∷ []) frame ws s
+      ≡ plain_goes_on program command frame ws s value
 
+-- It is accepted, and each call and each operation stands alone without its names too. So whatever a statement with such calls does is its
+-- plain step, the runs of its cores are plain ones, and so is its code.
 pub record StaysAsItWas (p : Program) : Type 0 where
   pub accepted : BreaksNone p.items
   pub alone : AreAlone (resolved p)

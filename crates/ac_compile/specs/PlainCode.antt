@@ -74,7 +74,8 @@ plain_function f = all (map plain_command f.body) ⨾ last_code
 
 abbrev pub plain_from : ℕ → List Function → List Entered
 plain_from at [] = []
-plain_from at (f ∷ fs) = record { name = f.name; at = at; params = f.params; words = f.slots } ∷ plain_from (at + (plain_function f).size) fs
+plain_from at (f ∷ fs) = record { name = f.name; at = at; params = f.params; words = f.slots }
+    ∷ plain_from (at + (plain_function f).size) fs
 
 abbrev pub plain_code_of : Resolved → Parts
 plain_code_of p = record (code_of p) {
