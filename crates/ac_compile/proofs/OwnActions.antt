@@ -280,16 +280,16 @@ module _ (t : Tables) (calls : List ℕ) where
         let right : Given = λ t a. values_all (List Node) one_node [] join_nodes xs t scopes a in
         each.both_hold P own _ _ (value_at po.Value x g (sooner (used x) right a c)) (values_at xs gs (later (used x) right a c))
 
-    abbrev some_used : Position → Option Expr → Given
-    some_used w x t a = value_all (List Node) one_node [] join_nodes w x t scopes a
+    abbrev some_used : Option Expr → Given
+    some_used x t a = value_all (List Node) one_node [] join_nodes x t scopes a
 
-    some_at : (w : Position) (x : Option Expr) → shape.IsValue x → Fair (some_used w x) a → Operands P own (some_in x scopes a.depth)
-    some_at w _ shape.no_value c = tt
-    some_at w _ (shape.some_value x g) c = value_at w x g c
+    some_at : (x : Option Expr) → shape.IsValue x → Fair (some_used x) a → Operands P own (some_in x scopes a.depth)
+    some_at _ shape.no_value c = tt
+    some_at _ (shape.some_value x g) c = value_at po.Value x g c
 
-    initial_at : (x : Option Expr) → shape.IsValue x → Fair (some_used po.Whole x) a → V (initial_in x scopes a.depth)
+    initial_at : (x : Option Expr) → shape.IsValue x → Fair (some_used x) a → V (initial_in x scopes a.depth)
     initial_at _ shape.no_value c = each.number_holds P own (pos 0)
-    initial_at _ (shape.some_value x g) c = value_at po.Whole x g c
+    initial_at _ (shape.some_value x g) c = value_at po.Value x g c
 
   -- ---- statements
 
@@ -327,10 +327,10 @@ module _ (t : Tables) (calls : List ℕ) where
 
   assignment_does : (x : Stmt) → IsAssignment x → DoesIt x
   assignment_does _ (shape.assign at place value g h) = form_does _ (stmt.rolls-Assign at place value) (λ n a texts c.
-      let parts : Fair (λ t a. used_in n po.Value place t a ++ used_in n po.Whole value t a) a = (c.0.1, c.1.1) in
+      let parts : Fair (λ t a. used_in n po.Value place t a ++ used_in n po.Value value t a) a = (c.0.1, c.1.1) in
       each.set_holds (P a n.scopes) (own a n.scopes) _ _
-      (value_at a n.scopes po.Whole value h (later (used_in n po.Value place) (used_in n po.Whole value) a parts))
-      (target_at a n.scopes place g (sooner (used_in n po.Value place) (used_in n po.Whole value) a parts)))
+      (value_at a n.scopes po.Value value h (later (used_in n po.Value place) (used_in n po.Value value) a parts))
+      (target_at a n.scopes place g (sooner (used_in n po.Value place) (used_in n po.Value value) a parts)))
 
   -- ---- parts of a `for`
 
@@ -370,7 +370,7 @@ module _ (t : Tables) (calls : List ℕ) where
       let after = some_texts (some_told init) texts in
       let head = some_given init (opened n) in
       let tail : Given = λ t a. for_given test next body (some_listed (some_nodes init) a.depth (opened n)) t a in
-      let tested : Given = λ t a. value_all (List Node) one_node [] join_nodes po.Value test t k.scopes a in
+      let tested : Given = λ t a. value_all (List Node) one_node [] join_nodes test t k.scopes a in
       let nexts = some_given next k in
       let bodies : Given = λ t a. part_gives (stmt_nodes body) t (moved k (some_words (some_nodes next))) (inside_loop a) in
       let others : Given = λ t a. nexts t a ++ bodies t a in
@@ -378,7 +378,7 @@ module _ (t : Tables) (calls : List ℕ) where
       let ends = later tested others a parts in
       let inside = subst (λ x. Fair (λ t a. part_gives (stmt_nodes body) t (moved k x) a) (inside_loop a)) (sym (some_alike next)) (later nexts bodies a ends) in
       append a _ _ (some_does init di (opened n) a texts (sooner head tail a c))
-      (each.for_holds (P a k.scopes) (own a k.scopes) _ _ _ (some_at a k.scopes po.Value test gt (sooner tested others a parts))
+      (each.for_holds (P a k.scopes) (own a k.scopes) _ _ _ (some_at a k.scopes test gt (sooner tested others a parts))
       (some_does next dn k a after (sooner nexts bodies a ends))
       (db (moved k (some_words (some_shape (some_told next)))) (inside_loop a) (some_texts (some_told next) after) inside))
 
@@ -449,7 +449,7 @@ module _ (t : Tables) (calls : List ℕ) where
     statement_does _ (shape.break at) = form_does _ (stmt.rolls-Break at) (λ n a texts c. each.break_holds (P a n.scopes) (own a n.scopes))
     statement_does _ (shape.continue at) = form_does _ (stmt.rolls-Continue at) (λ n a texts c. each.continue_holds (P a n.scopes) (own a n.scopes))
     statement_does _ (shape.return at value g) = form_does _ (stmt.rolls-Return at value) (λ n a texts c.
-        each.return_holds (P a n.scopes) (own a n.scopes) _ (some_at a n.scopes po.Whole value g (c.0.1, c.1.1)))
+        each.return_holds (P a n.scopes) (own a n.scopes) _ (some_at a n.scopes value g (c.0.1, c.1.1)))
     statement_does _ (shape.do_finish at label body g) = form_does _ (stmt.rolls-Do at label body) (λ n a texts c.
         each.do_holds (P a n.scopes) (own a n.scopes) n.slot _ (entries_do body g (opened (in_do label a.depth n)) (inside_do a) texts (c.0.1, c.1.1)))
     statement_does _ (shape.async at body g) = form_does _ (stmt.rolls-Async at body) (λ n a texts c.

@@ -168,9 +168,9 @@ module _ (program : Resolved) (t : Tables) where
   assignment_does : (x : Stmt) → IsAssignment x → DoesIt x
   assignment_does _ (shape.assign at place value g h) = form_does _ (stmt.rolls-Assign at place value) (λ r n a texts i c.
       let left = expr_nodes place t n.scopes a po.Value in
-      let right = expr_nodes value t n.scopes a po.Whole in
+      let right = expr_nodes value t n.scopes a po.Value in
       single program r _ (set r _ _ (target_at program t r a n.scopes i.names place g (clean_sooner left right c.1))
-      (value_at program t r a n.scopes i.names po.Whole refl value h (clean_later left right c.1))))
+      (value_at program t r a n.scopes i.names po.Value refl value h (clean_later left right c.1))))
 
   -- ---- parts of a `for`
 
@@ -223,7 +223,7 @@ module _ (program : Resolved) (t : Tables) where
       let kept_later = kept_further later _ program.texts ((is_told body).texts later) i.kept in
       let kept_after = kept_further after later program.texts (some_kept next after) kept_later in
       let head = nodes_of (some_nodes init) (opened n) a in
-      let tested = value_all (List Node) one_node [] join_nodes po.Value test t k.scopes a in
+      let tested = value_all (List Node) one_node [] join_nodes test t k.scopes a in
       let nexts = nodes_of (some_nodes next) k a in
       let bodies = part_gives (stmt_nodes body) t (moved k (some_words (some_nodes next))) (inside_loop a) in
       let rest = subst (λ x. AllClean (rest_nodes test next body x a)) (sym (some_same init a.depth (opened n)))
@@ -234,7 +234,7 @@ module _ (program : Resolved) (t : Tables) where
       (some_does init di r (opened n) a texts (at_names (opened n) _ _ i i.names i.labels (omega arith) first kept_after)
       (clean_sooner head (rest_nodes test next body (some_listed (some_nodes init) a.depth (opened n)) a) c))
       (single program r _ (for_loop r _ _ _
-      (test_at program t r a k.scopes inner po.Value refl test gt (clean_sooner tested (nexts ++ bodies) rest))
+      (test_at program t r a k.scopes inner test gt (clean_sooner tested (nexts ++ bodies) rest))
       (some_does next dn r k a after
       (at_names k _ _ i inner (labels_of i) (omega (arith, there)) (stands_sooner _ (uses_some next) (uses_of body) k.slot others) kept_later) (clean_sooner nexts bodies ends))
       (db (in_loop r) (moved k more) (inside_loop a) later
@@ -368,7 +368,7 @@ module _ (program : Resolved) (t : Tables) where
     statement_does _ (shape.continue at) = form_does _ (stmt.rolls-Continue at) (λ r n a texts i c.
         single program r _ (go_on r (i.loop ∙ not_false a.in_loop (λ e. c.0 9 (inl (refl, e))))))
     statement_does _ (shape.return at value g) = form_does _ (stmt.rolls-Return at value) (λ r n a texts i c.
-        single program r _ (give r _ (i.block ∙ not_true (is_closed a) (λ e. c.0 9 (inl (refl, e)))) (test_at program t r a n.scopes i.names po.Whole refl value g c.1)))
+        single program r _ (give r _ (i.block ∙ not_true (is_closed a) (λ e. c.0 9 (inl (refl, e)))) (test_at program t r a n.scopes i.names value g c.1)))
     statement_does _ (shape.do_finish at label body g) = form_does _ (stmt.rolls-Do at label body) (λ r n a texts i c.
         single program r _ (do_finish r n.slot _ (hold_first _ n.slot AsBlock (hold_one _ AsBlock n.slot (stands_sooner _ (AsBlock ∷ []) (uses_in body) n.slot i.slots)))
         (not_true _ (λ e. no_less_than_itself n.slot (i.before n.slot e)))

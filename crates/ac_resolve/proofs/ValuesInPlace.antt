@@ -58,7 +58,6 @@ IsPlain w = is_array_position w ≡ false
 
 misplaced : (o : Option Meaning) (w : Position) → IsPlain w → is_misplaced o w ≡ is_other ki.Int o
 misplaced o po.Statement h = refl
-misplaced o po.Whole h = refl
 misplaced o po.Value h = refl
 misplaced o po.Array h = cc
 
@@ -436,12 +435,12 @@ module _ (program : Resolved) (t : Tables) (r : Round) (a : Around) (scopes : Li
       let right = values_all (List Node) one_node [] join_nodes xs t scopes a in
       (value_at po.Value refl x g (clean_sooner left right c), values_at xs gs (clean_later left right c))
 
-  pub test_at : (w : Position) → IsPlain w → (x : Option Expr) → shape.IsValue x → AllClean (value_all (List Node) one_node [] join_nodes w x t scopes a)
+  pub test_at : (x : Option Expr) → shape.IsValue x → AllClean (value_all (List Node) one_node [] join_nodes x t scopes a)
       → IsTest program r (some_in x scopes a.depth)
-  test_at w plain _ shape.no_value c = no_test
-  test_at w plain _ (shape.some_value x g) c = some_test _ (value_at w plain x g c)
+  test_at _ shape.no_value c = no_test
+  test_at _ (shape.some_value x g) c = some_test _ (value_at po.Value refl x g c)
 
-  pub initial_at : (x : Option Expr) → shape.IsValue x → AllClean (value_all (List Node) one_node [] join_nodes po.Whole x t scopes a)
+  pub initial_at : (x : Option Expr) → shape.IsValue x → AllClean (value_all (List Node) one_node [] join_nodes x t scopes a)
       → IsValue program r AnInt (initial_in x scopes a.depth)
   initial_at _ shape.no_value c = number (pos 0)
-  initial_at _ (shape.some_value x g) c = value_at po.Whole refl x g c
+  initial_at _ (shape.some_value x g) c = value_at po.Value refl x g c

@@ -156,10 +156,10 @@ values_agree (x ∷ xs) t s a u =
     (expr_agrees x t s a p.Value u)
     (values_agree xs t s a (expr_seen x t s a p.Value u))
 
-pub value_agrees : (w : Position) (x : Option Expr) (t : Tables) (s : List (List Declaration)) (a : Around) (u : Seen) →
-    value_seen w x t s a u ≡ seen_all (value_all (List Node) one_node [] join_nodes w x t s a) u
-value_agrees w None t s a u = refl
-value_agrees w (Some x) t s a u = expr_agrees x t s a w u
+pub value_agrees : (x : Option Expr) (t : Tables) (s : List (List Declaration)) (a : Around) (u : Seen) →
+    value_seen x t s a u ≡ seen_all (value_all (List Node) one_node [] join_nodes x t s a) u
+value_agrees None t s a u = refl
+value_agrees (Some x) t s a u = expr_agrees x t s a p.Value u
 
 -- ---- what is first, and what is called
 

@@ -57,7 +57,7 @@ if_after t a x at test body body2 other w v u z is e same f g =
 -- ---- `for`
 
 abbrev for_walk : Tables → Around → ℕ → Option SeenPart → Option Expr → Option SeenPart → SeenPart → Walk → Walk
-for_walk t a at init test next body w = after t (inside_loop a) body (after_some t a next (after_value t a p.Value test (after_init t a init (after_open at w))))
+for_walk t a at init test next body w = after t (inside_loop a) body (after_some t a next (after_value t a test (after_init t a init (after_open at w))))
 
 for_slot : (init next : Option SeenPart) (body : SeenPart) (a : Around) (n : Names) →
     ((some_listed init a.depth (opened n)).slot + some_words next) + part_words body ≡ n.slot + ((some_words init + some_words next) + part_words body)
@@ -78,20 +78,20 @@ slot_none n = same_names n.scopes n.scopes n.labels n.labels n.slot (n.slot + 0)
 shut_for : (t : Tables) (a : Around) (at : ℕ) (init : Option SeenPart) (test : Option Expr) (next : Option SeenPart) (body : SeenPart) (w : Walk) →
     after_shut (for_walk t a at init test next body w) ≡ after t a (for_seen at init test next body) w
 shut_for t a at None test None body w =
-    ap (λ n. after_shut (after t (inside_loop a) body (walk_of n (after_value t a p.Value test (after_open at w)).seen))) (slot_none (opened w.names))
-    ∙ ap (λ n. walk_of n (after t (inside_loop a) body (walk_of (moved (opened w.names) 0) (after_value t a p.Value test (after_open at w)).seen)).seen) (for_names None None body a w.names)
+    ap (λ n. after_shut (after t (inside_loop a) body (walk_of n (after_value t a test (after_open at w)).seen))) (slot_none (opened w.names))
+    ∙ ap (λ n. walk_of n (after t (inside_loop a) body (walk_of (moved (opened w.names) 0) (after_value t a test (after_open at w)).seen)).seen) (for_names None None body a w.names)
 shut_for t a at None test (Some q) body w =
     ap (λ n. walk_of n (for_walk t a at None test (Some q) body w).seen) (for_names None (Some q) body a w.names)
 shut_for t a at (Some r) test None body w =
-    ap (λ n. after_shut (after t (inside_loop a) body (walk_of n (after_value t a p.Value test (after_listed t a r (after_open at w))).seen))) (slot_none (listed r a.depth (opened w.names)))
-    ∙ ap (λ n. walk_of n (after t (inside_loop a) body (walk_of (moved (listed r a.depth (opened w.names)) 0) (after_value t a p.Value test (after_listed t a r (after_open at w))).seen)).seen)
+    ap (λ n. after_shut (after t (inside_loop a) body (walk_of n (after_value t a test (after_listed t a r (after_open at w))).seen))) (slot_none (listed r a.depth (opened w.names)))
+    ∙ ap (λ n. walk_of n (after t (inside_loop a) body (walk_of (moved (listed r a.depth (opened w.names)) 0) (after_value t a test (after_listed t a r (after_open at w))).seen)).seen)
     (for_names (Some r) None body a w.names)
 shut_for t a at (Some r) test (Some q) body w =
     ap (λ n. walk_of n (for_walk t a at (Some r) test (Some q) body w).seen) (for_names (Some r) (Some q) body a w.names)
 
 pub for_after : (t : Tables) (a a2 : Around) (x : Stmt) (at : ℕ) (init : Option Stmt) (test : Option Expr) (next : Option Stmt) (body body2 : Stmt) (w w1 w2 w3 w4 w5 : Walk)
     (c : List (List Declaration)) →
-    x ≡ s.For at init test next body → w1 ≡ after_open at w → w2 ≡ after_init t a (some_seen init) w1 → w3 ≡ after_value t a p.Value test w2 → w4 ≡ after_some t a (some_seen next) w3 →
+    x ≡ s.For at init test next body → w1 ≡ after_open at w → w2 ≡ after_init t a (some_seen init) w1 → w3 ≡ after_value t a test w2 → w4 ≡ after_some t a (some_seen next) w3 →
     a2 ≡ inside_loop a → body2 ≡ body → w5 ≡ after t a2 (stmt_seen body2) w4 → c ≡ closed w5.names.scopes →
     walk_of (names_of c w5.names.labels w5.names.slot) w5.seen ≡ after t a (stmt_seen x) w
 for_after t a a2 x at init test next body body2 w w1 w2 w3 w4 w5 c is e1 e2 e3 e4 l same e5 g =
@@ -99,7 +99,7 @@ for_after t a a2 x at init test next body body2 w w1 w2 w3 w4 w5 c is e1 e2 e3 e
     ∙ ap (λ (k : Walk). after_shut k)
     (e5 ∙ ap (λ b. after t a2 (stmt_seen b) w4) same ∙ ap (λ b. after t b (stmt_seen body) w4) l
     ∙ ap (after t (inside_loop a) (stmt_seen body))
-    (e4 ∙ ap (after_some t a (some_seen next)) (e3 ∙ ap (after_value t a p.Value test) (e2 ∙ ap (after_init t a (some_seen init)) e1))))
+    (e4 ∙ ap (after_some t a (some_seen next)) (e3 ∙ ap (after_value t a test) (e2 ∙ ap (after_init t a (some_seen init)) e1))))
     ∙ shut_for t a at (some_seen init) test (some_seen next) (stmt_seen body) w
     ∙ ap (λ q. after t a q w) (sym (for_folds seen_step at init test next body) ∙ ap stmt_seen (sym is))
 

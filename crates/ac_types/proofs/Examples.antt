@@ -37,7 +37,7 @@ use Rattle.ac_types.specs.declared.rule.Rule.TheVariants as rule
 use Rattle.ac_types.specs.Rules.{rule_number, IsUpTo}
 use Rattle.ac_types.specs.Tables.{callee_of, callee, is_array_in, takes_array, ends_named}
 use Rattle.ac_types.specs.Nodes.{Node, calls_of}
-use Rattle.ac_types.specs.Around.{is_array_position, is_used, is_partial, position_of, inside_do, inside_async, inside_loop, is_closed, is_reached_by_another}
+use Rattle.ac_types.specs.Around.{is_array_position, is_used, position_of, inside_do, inside_async, inside_loop, is_closed, is_reached_by_another}
 use Rattle.ac_types.specs.Formats.{HasHoles, no_more, a_byte, a_percent_sign, a_number, a_letter}
 use Rattle.ac_types.specs.Judged.{Tests, lacks_one, value_tests, name_tests, index_tests, call_tests, sends_away, takes_away, channel_tests, file_tests, array_tests, holes}
 use Rattle.ac_types.specs.Judged.{is_misplaced, is_miscounted, calls_async, uses_void, once_tests, is_size, is_misprinted, print_tests, leave_tests, return_tests, async_tests}
@@ -56,11 +56,11 @@ use Rattle.ac_types.proofs.Judging.{program_told}
 
 -- ---- numbers and their order
 
-pub eighteen_rules : map rule_number (rule.DeclaredOnce ∷ rule.NameIsDeclared ∷ rule.ArgumentsMatchParameters ∷ rule.NameFitsItsPlace ∷ rule.AsyncIsCalledInAsync ∷ rule.StandsInAsyncFunction
+pub seventeen_rules : map rule_number (rule.DeclaredOnce ∷ rule.NameIsDeclared ∷ rule.ArgumentsMatchParameters ∷ rule.NameFitsItsPlace ∷ rule.AsyncIsCalledInAsync ∷ rule.StandsInAsyncFunction
     ∷ rule.AsyncStandsInDo ∷ rule.CancelStandsInItsDo ∷ rule.JumpStaysInside ∷ rule.EntryIsAsyncWithoutParameters ∷ rule.OnlyItsEndUsesChannel ∷ rule.ValueFitsFunction ∷ rule.ArraySizeIsAllowed
-    ∷ rule.ChannelIsAllowed ∷ rule.NumberOfCoresIsAllowed ∷ rule.FormatFitsArguments ∷ rule.FileIsAllowed ∷ rule.CallStandsAlone ∷ [])
-    ≡ 1 ∷ 2 ∷ 3 ∷ 4 ∷ 5 ∷ 6 ∷ 7 ∷ 8 ∷ 9 ∷ 10 ∷ 11 ∷ 12 ∷ 13 ∷ 14 ∷ 15 ∷ 16 ∷ 17 ∷ 18 ∷ []
-eighteen_rules = refl
+    ∷ rule.ChannelIsAllowed ∷ rule.NumberOfCoresIsAllowed ∷ rule.FormatFitsArguments ∷ rule.FileIsAllowed ∷ [])
+    ≡ 1 ∷ 2 ∷ 3 ∷ 4 ∷ 5 ∷ 6 ∷ 7 ∷ 8 ∷ 9 ∷ 10 ∷ 11 ∷ 12 ∷ 13 ∷ 14 ∷ 15 ∷ 16 ∷ 17 ∷ []
+seventeen_rules = refl
 
 -- a node comes before a rule, and a pair is up to itself
 pub by_node_first : IsUpTo 2 18 3 1
@@ -76,16 +76,13 @@ not_the_greater_rule (inr h) = let le = h.1 in omega (arith, le)
 -- ---- where an expression stands, and what is around it
 
 abbrev positions : List Position
-positions = p.Statement ∷ p.Whole ∷ p.Value ∷ p.Array ∷ []
+positions = p.Statement ∷ p.Value ∷ p.Array ∷ []
 
-pub positions_for_arrays : map is_array_position positions ≡ false ∷ false ∷ false ∷ true ∷ []
+pub positions_for_arrays : map is_array_position positions ≡ false ∷ false ∷ true ∷ []
 positions_for_arrays = refl
 
-pub positions_whose_value_is_used : map is_used positions ≡ false ∷ true ∷ true ∷ true ∷ []
+pub positions_whose_value_is_used : map is_used positions ≡ false ∷ true ∷ true ∷ []
 positions_whose_value_is_used = refl
-
-pub positions_for_no_call : map is_partial positions ≡ false ∷ false ∷ true ∷ true ∷ []
-positions_for_no_call = refl
 
 pub positions_of_arguments : map position_of (true ∷ false ∷ []) ≡ p.Array ∷ p.Value ∷ []
 positions_of_arguments = refl
@@ -141,7 +138,7 @@ an_int = Some (m.Local 0 0)
 abbrev an_array : Option Meaning
 an_array = Some (m.ArrayParam 0)
 
-pub a_value_is_no_array : map (λ (w : Position). broken (value_tests w)) positions ≡ [] ∷ [] ∷ [] ∷ (4 ∷ []) ∷ []
+pub a_value_is_no_array : map (λ (w : Position). broken (value_tests w)) positions ≡ [] ∷ [] ∷ (4 ∷ []) ∷ []
 a_value_is_no_array = refl
 
 pub names_as_values : map (λ (o : Option Meaning). broken (name_tests o p.Value)) (None ∷ an_int ∷ Some (m.Global 0) ∷ an_array ∷ Some (m.Function 0) ∷ [])
@@ -167,10 +164,10 @@ in_plain = record { is_async = false; gives_int = false; depth = 0; in_do = fals
 abbrev call : Option Callee → ℕ → Around → Position → List ℕ
 call callee args a w = broken (call_tests (Some (m.Function 0)) callee args a w)
 
-pub calls_by_their_callee : call (with false true 1) 1 in_plain p.Whole ∷ call (with false true 1) 0 in_plain p.Whole ∷ call (with false true 1) 1 in_plain p.Value
+pub calls_by_their_callee : call (with false true 1) 1 in_plain p.Value ∷ call (with false true 1) 0 in_plain p.Value
     ∷ call (with false false 1) 1 in_plain p.Statement
-    ∷ call (with false false 1) 1 in_plain p.Whole ∷ call (with true false 0) 0 in_plain p.Statement ∷ call (with true false 0) 0 in_loop p.Statement ∷ call (with true false 1) 0 in_plain p.Array ∷ []
-    ≡ [] ∷ (3 ∷ []) ∷ (18 ∷ []) ∷ [] ∷ (12 ∷ []) ∷ (5 ∷ []) ∷ [] ∷ (3 ∷ 4 ∷ 5 ∷ 12 ∷ 18 ∷ []) ∷ []
+    ∷ call (with false false 1) 1 in_plain p.Value ∷ call (with true false 0) 0 in_plain p.Statement ∷ call (with true false 0) 0 in_loop p.Statement ∷ call (with true false 1) 0 in_plain p.Array ∷ []
+    ≡ [] ∷ (3 ∷ []) ∷ [] ∷ (12 ∷ []) ∷ (5 ∷ []) ∷ [] ∷ (3 ∷ 4 ∷ 5 ∷ 12 ∷ []) ∷ []
 calls_by_their_callee = refl
 
 -- what is no function has no parameters to be counted
@@ -187,25 +184,25 @@ away a = (sends_away a.reached (Some (record { from = Some 0; to = Some 1 })), t
 pub away_from_the_ends : map away (of_core 0 ∷ of_core 1 ∷ in_loop ∷ []) ≡ (false, true) ∷ (true, false) ∷ (false, false) ∷ []
 away_from_the_ends = refl
 
-pub operations_on_channels : map (λ (o : Option Meaning). broken (channel_tests o false in_loop p.Whole)) (None ∷ an_int ∷ Some (m.Channel 0) ∷ []) ≡ (2 ∷ []) ∷ (4 ∷ []) ∷ [] ∷ []
+pub operations_on_channels : map (λ (o : Option Meaning). broken (channel_tests o false in_loop p.Value)) (None ∷ an_int ∷ Some (m.Channel 0) ∷ []) ≡ (2 ∷ []) ∷ (4 ∷ []) ∷ [] ∷ []
 operations_on_channels = refl
 
-pub an_operation_that_breaks_more : broken (channel_tests (Some (m.Channel 0)) true in_plain p.Array) ≡ 4 ∷ 6 ∷ 11 ∷ 18 ∷ []
+pub an_operation_that_breaks_more : broken (channel_tests (Some (m.Channel 0)) true in_plain p.Array) ≡ 4 ∷ 6 ∷ 11 ∷ []
 an_operation_that_breaks_more = refl
 
-pub operations_on_files : map (λ (o : Option Meaning). broken (file_tests (Some (m.File 0)) o in_loop p.Whole)) (None ∷ an_int ∷ an_array ∷ []) ≡ (2 ∷ []) ∷ (4 ∷ []) ∷ [] ∷ []
+pub operations_on_files : map (λ (o : Option Meaning). broken (file_tests (Some (m.File 0)) o in_loop p.Value)) (None ∷ an_int ∷ an_array ∷ []) ≡ (2 ∷ []) ∷ (4 ∷ []) ∷ [] ∷ []
 operations_on_files = refl
 
 pub a_file_that_is_none : map (λ (o : Option Meaning). broken (file_tests o an_array in_plain p.Value)) (None ∷ an_int ∷ Some (m.File 0) ∷ [])
-    ≡ (2 ∷ 6 ∷ 18 ∷ []) ∷ (4 ∷ 6 ∷ 18 ∷ []) ∷ (6 ∷ 18 ∷ []) ∷ []
+    ≡ (2 ∷ 6 ∷ []) ∷ (4 ∷ 6 ∷ []) ∷ (6 ∷ []) ∷ []
 a_file_that_is_none = refl
 
 -- where one of two names is not declared, the other may be anything; what stands where an array is wanted is asked of no name
 pub one_of_two_names : lacks_one None None ∷ lacks_one None an_int ∷ lacks_one an_int None ∷ lacks_one an_int an_array ∷ [] ≡ true ∷ true ∷ true ∷ false ∷ []
 one_of_two_names = refl
 
-pub a_file_beside_no_array : broken (file_tests None an_int in_loop p.Whole) ∷ broken (file_tests an_int None in_loop p.Whole) ∷ broken (file_tests an_int an_int in_loop p.Whole)
-    ∷ broken (file_tests None an_int in_loop p.Array) ∷ [] ≡ (2 ∷ []) ∷ (2 ∷ []) ∷ (4 ∷ []) ∷ (2 ∷ 4 ∷ 18 ∷ []) ∷ []
+pub a_file_beside_no_array : broken (file_tests None an_int in_loop p.Value) ∷ broken (file_tests an_int None in_loop p.Value) ∷ broken (file_tests an_int an_int in_loop p.Value)
+    ∷ broken (file_tests None an_int in_loop p.Array) ∷ [] ≡ (2 ∷ []) ∷ (2 ∷ []) ∷ (4 ∷ []) ∷ (2 ∷ 4 ∷ []) ∷ []
 a_file_beside_no_array = refl
 
 pub a_channel_beside_no_core : broken (link_tests None None (Some (m.Function 0)) (pos 1) 0) ∷ broken (link_tests None (Some (m.Function 0)) None (pos 0) 0)
@@ -248,7 +245,7 @@ returns_in_a_body = refl
 
 -- ---- the questions that the rules ask
 
-pub misplaced_names : is_misplaced an_int p.Array ∷ is_misplaced an_array p.Array ∷ is_misplaced an_int p.Value ∷ is_misplaced an_array p.Whole ∷ is_misplaced None p.Value ∷ []
+pub misplaced_names : is_misplaced an_int p.Array ∷ is_misplaced an_array p.Array ∷ is_misplaced an_int p.Value ∷ is_misplaced an_array p.Value ∷ is_misplaced None p.Value ∷ []
     ≡ true ∷ false ∷ false ∷ true ∷ false ∷ []
 misplaced_names = refl
 
@@ -347,12 +344,12 @@ a_number_has_one_node = rw (expr_is _ (e.rolls-Number 5 (pos 1))) refl
 pub values_in_order : firsts (values_all (List Node) one_node [] join_nodes (e.Number 5 (pos 1) ∷ e.Number 8 (pos 1) ∷ []) no_tables [] in_plain) ≡ 5 ∷ 8 ∷ []
 values_in_order = rw (expr_is _ (e.rolls-Number 5 (pos 1)), expr_is _ (e.rolls-Number 8 (pos 1))) refl
 
-pub a_value_that_may_be_left_out : firsts (value_all (List Node) one_node [] join_nodes p.Whole None no_tables [] in_plain)
-    ∷ firsts (value_all (List Node) one_node [] join_nodes p.Whole (Some (e.Number 5 (pos 1))) no_tables [] in_plain) ∷ [] ≡ [] ∷ (5 ∷ []) ∷ []
+pub a_value_that_may_be_left_out : firsts (value_all (List Node) one_node [] join_nodes None no_tables [] in_plain)
+    ∷ firsts (value_all (List Node) one_node [] join_nodes (Some (e.Number 5 (pos 1))) no_tables [] in_plain) ∷ [] ≡ [] ∷ (5 ∷ []) ∷ []
 a_value_that_may_be_left_out = rw (expr_is _ (e.rolls-Number 5 (pos 1))) refl
 
 pub a_value_that_is_used : firsts (used (List Node) one_node [] join_nodes (e.Number 5 (pos 1)) no_tables (from_slot 0) in_plain)
-    ∷ firsts (valued (List Node) one_node [] join_nodes p.Whole (Some (e.Number 5 (pos 1))) no_tables (from_slot 0) in_plain) ∷ [] ≡ (5 ∷ []) ∷ (5 ∷ []) ∷ []
+    ∷ firsts (valued (List Node) one_node [] join_nodes (Some (e.Number 5 (pos 1))) no_tables (from_slot 0) in_plain) ∷ [] ≡ (5 ∷ []) ∷ (5 ∷ []) ∷ []
 a_value_that_is_used = rw (expr_is _ (e.rolls-Number 5 (pos 1))) refl
 
 -- a statement that takes one slot, and whose node begins at the number of that slot
@@ -527,7 +524,7 @@ a_group = e.Group 5 (a_number_at 6)
 pub groups : faults (expr_nodes a_group no_tables [] in_plain p.Value) ∷ faults (expr_nodes a_group no_tables [] in_plain p.Array) ∷ [] ≡ [] ∷ ((5, 4 ∷ []) ∷ []) ∷ []
 groups = rw (expr_is _ (e.rolls-Group 5 (a_number_at 6)), expr_is _ (e.rolls-Number 6 (pos 1))) refl
 
--- core a(f); async int f() { return (CANCELLED); } and with `return (f());`, where the group makes the call a part
+-- core a(f); async int f() { return (CANCELLED); } and with `return (f());`
 abbrev gives_group : Expr → List Item
 gives_group inner = i.Core 0 (codes "a") (codes "f") ∷ a_function 11 true true (codes "f") [] (s.Return 27 (Some (e.Group 34 inner)) ∷ []) ∷ []
 
@@ -539,7 +536,7 @@ a_group_of_a_constant = rw (
       (e.rolls-Const 35 c.Cancelled),
 ) refl
 
-pub a_group_of_a_call : faults (program_nodes (gives_group (e.Call 35 (codes "f") [])) (r.ByOne 0 ∷ [])) ≡ (35, 18 ∷ []) ∷ []
+pub a_group_of_a_call : faults (program_nodes (gives_group (e.Call 35 (codes "f") [])) (r.ByOne 0 ∷ [])) ≡ []
 a_group_of_a_call = rw (
   stmt_is _ (s.rolls-Return 27 (Some (e.Group 34 (e.Call 35 (codes "f") [])))),
   expr_is _ (e.rolls-Group 34 (e.Call 35 (codes "f") [])),
@@ -693,36 +690,61 @@ a_write_to_what_is_not_declared = rw (
   expr_is _ (e.rolls-Number 50 (pos 1)),
 ) refl
 
--- core a(f); async int f() { if (1+f()) h[1] = f(); else h[-f()] = 1; return Read(g, 1, 1, h); } int h[3]; file g("d");
-abbrev call_at : ℕ → Expr
-call_at at = e.Call at (codes "f") []
+-- core a(f); async int f() { if (1+f()) h[1] = f(); else h[-f()] = 1; return Read(g, 1, 1, h); } int h[3]; file g("d"); void v() {}
+-- and with calls of v, whose values are not there
+abbrev call_at : List ℕ → ℕ → Expr
+call_at name at = e.Call at name []
 
-abbrev sum : Expr
-sum = e.Chain 31 9 (a_number_at 31) (record { op = b.Add; operand = call_at 33 } ∷ [])
+abbrev sum : List ℕ → Expr
+sum name = e.Chain 31 9 (a_number_at 31) (record { op = b.Add; operand = call_at name 33 } ∷ [])
 
 abbrev element : ℕ → Expr → Expr
 element at index = e.Index at (codes "h") index
 
-abbrev with_values : List Item
-with_values = i.Core 0 (codes "a") (codes "f")
+abbrev with_values : List ℕ → List Item
+with_values name = i.Core 0 (codes "a") (codes "f")
     ∷ a_function 11 true true (codes "f") []
-    (s.If 27 sum (s.Assign 38 (element 38 (a_number_at 40)) (call_at 45)) (Some (s.Assign 55 (element 55 (e.Unary 57 u.Neg (call_at 58))) (a_number_at 65)))
+    (s.If 27 (sum name) (s.Assign 38 (element 38 (a_number_at 40)) (call_at name 45)) (Some (s.Assign 55 (element 55 (e.Unary 57 u.Neg (call_at name 58))) (a_number_at 65)))
     ∷ s.Return 68 (Some (e.Read 75 (codes "g") (a_number_at 83) (a_number_at 86) (codes "h"))) ∷ [])
-    ∷ i.Global 95 (codes "h") (Some (pos 3)) (pos 0) ∷ i.File 105 (codes "g") (codes "d") ∷ []
+    ∷ i.Global 95 (codes "h") (Some (pos 3)) (pos 0) ∷ i.File 105 (codes "g") (codes "d") ∷ a_function 115 false false (codes "v") [] [] ∷ []
 
-pub calls_in_values : faults (program_nodes with_values (r.ByOne 0 ∷ [])) ≡ (33, 18 ∷ []) ∷ (58, 18 ∷ []) ∷ []
+pub calls_in_values : faults (program_nodes (with_values (codes "f")) (r.ByOne 0 ∷ r.ByOne 0 ∷ [])) ≡ []
 calls_in_values = rw (
-  stmt_is _ (s.rolls-If 27 sum (s.Assign 38 (element 38 (a_number_at 40)) (call_at 45)) (Some (s.Assign 55 (element 55 (e.Unary 57 u.Neg (call_at 58))) (a_number_at 65)))),
-  expr_is _ (e.rolls-Chain 31 9 (a_number_at 31) (record { op = b.Add; operand = call_at 33 } ∷ [])),
-  link_folds of_expr of_link (record { op = b.Add; operand = call_at 33 }),
-  stmt_is _ (s.rolls-Assign 38 (element 38 (a_number_at 40)) (call_at 45)),
-  stmt_is _ (s.rolls-Assign 55 (element 55 (e.Unary 57 u.Neg (call_at 58))) (a_number_at 65)),
+  stmt_is _ (s.rolls-If 27 (sum (codes "f")) (s.Assign 38 (element 38 (a_number_at 40)) (call_at (codes "f") 45)) (Some (s.Assign 55 (element 55 (e.Unary 57 u.Neg (call_at (codes "f") 58)))
+      (a_number_at 65)))),
+  expr_is _ (e.rolls-Chain 31 9 (a_number_at 31) (record { op = b.Add; operand = call_at (codes "f") 33 } ∷ [])),
+  link_folds of_expr of_link (record { op = b.Add; operand = call_at (codes "f") 33 }),
+  stmt_is _ (s.rolls-Assign 38 (element 38 (a_number_at 40)) (call_at (codes "f") 45)),
+  stmt_is _ (s.rolls-Assign 55 (element 55 (e.Unary 57 u.Neg (call_at (codes "f") 58))) (a_number_at 65)),
   expr_is _ (e.rolls-Index 38 (codes "h") (a_number_at 40)),
-  expr_is _ (e.rolls-Index 55 (codes "h") (e.Unary 57 u.Neg (call_at 58))),
-  expr_is _ (e.rolls-Unary 57 u.Neg (call_at 58)),
+  expr_is _ (e.rolls-Index 55 (codes "h") (e.Unary 57 u.Neg (call_at (codes "f") 58))),
+  expr_is _ (e.rolls-Unary 57 u.Neg (call_at (codes "f") 58)),
   expr_is _ (e.rolls-Call 33 (codes "f") []),
   expr_is _ (e.rolls-Call 45 (codes "f") []),
   expr_is _ (e.rolls-Call 58 (codes "f") []),
+  stmt_is _ (s.rolls-Return 68 (Some (e.Read 75 (codes "g") (a_number_at 83) (a_number_at 86) (codes "h")))),
+  expr_is _ (e.rolls-Read 75 (codes "g") (a_number_at 83) (a_number_at 86) (codes "h")),
+  expr_is _ (e.rolls-Number 31 (pos 1)),
+  expr_is _ (e.rolls-Number 40 (pos 1)),
+  expr_is _ (e.rolls-Number 65 (pos 1)),
+  expr_is _ (e.rolls-Number 83 (pos 1)),
+  expr_is _ (e.rolls-Number 86 (pos 1)),
+) refl
+
+pub void_calls_in_values : faults (program_nodes (with_values (codes "v")) (r.ByOne 0 ∷ r.ByOne 0 ∷ [])) ≡ (33, 12 ∷ []) ∷ (45, 12 ∷ []) ∷ (58, 12 ∷ []) ∷ []
+void_calls_in_values = rw (
+  stmt_is _ (s.rolls-If 27 (sum (codes "v")) (s.Assign 38 (element 38 (a_number_at 40)) (call_at (codes "v") 45)) (Some (s.Assign 55 (element 55 (e.Unary 57 u.Neg (call_at (codes "v") 58)))
+      (a_number_at 65)))),
+  expr_is _ (e.rolls-Chain 31 9 (a_number_at 31) (record { op = b.Add; operand = call_at (codes "v") 33 } ∷ [])),
+  link_folds of_expr of_link (record { op = b.Add; operand = call_at (codes "v") 33 }),
+  stmt_is _ (s.rolls-Assign 38 (element 38 (a_number_at 40)) (call_at (codes "v") 45)),
+  stmt_is _ (s.rolls-Assign 55 (element 55 (e.Unary 57 u.Neg (call_at (codes "v") 58))) (a_number_at 65)),
+  expr_is _ (e.rolls-Index 38 (codes "h") (a_number_at 40)),
+  expr_is _ (e.rolls-Index 55 (codes "h") (e.Unary 57 u.Neg (call_at (codes "v") 58))),
+  expr_is _ (e.rolls-Unary 57 u.Neg (call_at (codes "v") 58)),
+  expr_is _ (e.rolls-Call 33 (codes "v") []),
+  expr_is _ (e.rolls-Call 45 (codes "v") []),
+  expr_is _ (e.rolls-Call 58 (codes "v") []),
   stmt_is _ (s.rolls-Return 68 (Some (e.Read 75 (codes "g") (a_number_at 83) (a_number_at 86) (codes "h")))),
   expr_is _ (e.rolls-Read 75 (codes "g") (a_number_at 83) (a_number_at 86) (codes "h")),
   expr_is _ (e.rolls-Number 31 (pos 1)),

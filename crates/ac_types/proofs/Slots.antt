@@ -76,12 +76,12 @@ module _ (t : Tables) (a : Around) (x : Stmt) (at : ℕ) (init : Option Stmt) (t
   for_whole : x ≡ s.For at init test next body → for_weight
   for_whole is = ap stmt_weight is ∙ f.for_weighs at init test next body
 
-  slot_there : (w w1 w2 w3 : Walk) → w1 ≡ after_open at w → w2 ≡ after_init t a (some_seen init) w1 → w3 ≡ after_value t a p.Value test w2 → w3.names.slot ≡ w.names.slot + some_words (some_seen init)
+  slot_there : (w w1 w2 w3 : Walk) → w1 ≡ after_open at w → w2 ≡ after_init t a (some_seen init) w1 → w3 ≡ after_value t a test w2 → w3.names.slot ≡ w.names.slot + some_words (some_seen init)
   slot_there w w1 w2 w3 e1 e2 e3 =
       ap (λ (k : Walk). k.names.slot) e3 ∙ ap (λ (k : Walk). k.names.slot) e2 ∙ init_slot t a (some_seen init) w1
       ∙ ap (λ (k : Walk). k.names.slot + some_words (some_seen init)) e1
 
-  pub next_slots : (w w1 w2 w3 : Walk) → x ≡ s.For at init test next body → w1 ≡ after_open at w → w2 ≡ after_init t a (some_seen init) w1 → w3 ≡ after_value t a p.Value test w2 →
+  pub next_slots : (w w1 w2 w3 : Walk) → x ≡ s.For at init test next body → w1 ≡ after_open at w → w2 ≡ after_init t a (some_seen init) w1 → w3 ≡ after_value t a test w2 →
       HasSlots w.names.slot (stmt_weight x) → HasSlots w3.names.slot (some_weight next)
   next_slots w w1 w2 w3 is e1 e2 e3 h =
       let g : for_weight = for_whole is in
@@ -95,7 +95,7 @@ module _ (t : Tables) (a : Around) (x : Stmt) (at : ℕ) (init : Option Stmt) (t
   pub next_depths : x ≡ s.For at init test next body → HasDepths a.depth (stmt_weight x) → HasDepths a.depth (some_weight next)
   next_depths is h = let g : for_weight = for_whole is in omega (arith, g, h)
 
-  pub for_slots : (y : Stmt) (w w1 w2 w3 w4 : Walk) → x ≡ s.For at init test next body → w1 ≡ after_open at w → w2 ≡ after_init t a (some_seen init) w1 → w3 ≡ after_value t a p.Value test w2 →
+  pub for_slots : (y : Stmt) (w w1 w2 w3 w4 : Walk) → x ≡ s.For at init test next body → w1 ≡ after_open at w → w2 ≡ after_init t a (some_seen init) w1 → w3 ≡ after_value t a test w2 →
       w4 ≡ after_some t a (some_seen next) w3 → y ≡ body → HasSlots w.names.slot (stmt_weight x) → HasSlots w4.names.slot (stmt_weight y)
   for_slots y w w1 w2 w3 w4 is e1 e2 e3 e4 same h =
       let g : for_weight = for_whole is in

@@ -118,34 +118,34 @@ while_agrees test body t n a u =
     seen_two (expr_nodes test t n.scopes a p.Value) (part_gives (stmt_nodes body.0) t n (inside_loop a)) u v (part_gives (stmt_seen body.0) t n (inside_loop a) v)
     (expr_agrees test t n.scopes a p.Value u) (body.1.gives t n (inside_loop a) v)
 
-abbrev value_nodes : Position → Option Expr → Tables → List (List Declaration) → Around → List Node
+abbrev value_nodes : Option Expr → Tables → List (List Declaration) → Around → List Node
 value_nodes = value_all (List Node) one_node [] join_nodes
 
 abbrev for_rest : Option Expr → Option Stmt_ → Stmt_ → Tables → Names → ℕ → Around → Seen → Seen
-for_rest test next body t l words a u = part_gives (stmt_seen body.0) t (moved l words) (inside_loop a) (some_gives_q (some_q next) t l a (value_seen p.Value test t l.scopes a u))
+for_rest test next body t l words a u = part_gives (stmt_seen body.0) t (moved l words) (inside_loop a) (some_gives_q (some_q next) t l a (value_seen test t l.scopes a u))
 
 for_rest_agrees : (test : Option Expr) (next : Option Stmt_) (body : Stmt_) (t : Tables) (l : Names) (a : Around) (u : Seen) →
     for_rest test next body t l (some_words (some_q next)) a u
-    ≡ seen_all (value_nodes p.Value test t l.scopes a ++ (some_gives_r (some_r next) t l a ++ part_gives (stmt_nodes body.0) t (moved l (some_words (some_r next))) (inside_loop a))) u
+    ≡ seen_all (value_nodes test t l.scopes a ++ (some_gives_r (some_r next) t l a ++ part_gives (stmt_nodes body.0) t (moved l (some_words (some_r next))) (inside_loop a))) u
 for_rest_agrees test next body t l a u =
-    let v = value_seen p.Value test t l.scopes a u in
+    let v = value_seen test t l.scopes a u in
     let z = some_gives_q (some_q next) t l a v in
     let last = part_gives (stmt_nodes body.0) t (moved l (some_words (some_r next))) (inside_loop a) in
-    seen_two (value_nodes p.Value test t l.scopes a) (some_gives_r (some_r next) t l a ++ last) u v (for_rest test next body t l (some_words (some_q next)) a u)
-    (value_agrees p.Value test t l.scopes a u)
+    seen_two (value_nodes test t l.scopes a) (some_gives_r (some_r next) t l a ++ last) u v (for_rest test next body t l (some_words (some_q next)) a u)
+    (value_agrees test t l.scopes a u)
     (seen_two (some_gives_r (some_r next) t l a) last v z (for_rest test next body t l (some_words (some_q next)) a u) (some_agrees next t l a v)
     (ap (λ k. part_gives (stmt_seen body.0) t (moved l k) (inside_loop a) z) (some_words_agree next) ∙ body.1.gives t (moved l (some_words (some_r next))) (inside_loop a) z))
 
 for_agrees : (init : Option Stmt_) (test : Option Expr) (next : Option Stmt_) (body : Stmt_) (t : Tables) (n : Names) (a : Around) (u : Seen) →
     for_rest test next body t (some_listed (some_q init) a.depth n) (some_words (some_q next)) a (some_gives_q (some_q init) t n a u)
-    ≡ seen_all (some_gives_r (some_r init) t n a ++ (value_nodes p.Value test t (some_listed (some_r init) a.depth n).scopes a
+    ≡ seen_all (some_gives_r (some_r init) t n a ++ (value_nodes test t (some_listed (some_r init) a.depth n).scopes a
     ++ (some_gives_r (some_r next) t (some_listed (some_r init) a.depth n) a
     ++ part_gives (stmt_nodes body.0) t (moved (some_listed (some_r init) a.depth n) (some_words (some_r next))) (inside_loop a)))) u
 for_agrees init test next body t n a u =
     let l = some_listed (some_r init) a.depth n in
     let v = some_gives_q (some_q init) t n a u in
     seen_two (some_gives_r (some_r init) t n a)
-    (value_nodes p.Value test t l.scopes a ++ (some_gives_r (some_r next) t l a ++ part_gives (stmt_nodes body.0) t (moved l (some_words (some_r next))) (inside_loop a)))
+    (value_nodes test t l.scopes a ++ (some_gives_r (some_r next) t l a ++ part_gives (stmt_nodes body.0) t (moved l (some_words (some_r next))) (inside_loop a)))
     u v (for_rest test next body t (some_listed (some_q init) a.depth n) (some_words (some_q next)) a v) (some_agrees init t n a u)
     (ap (λ k. for_rest test next body t k (some_words (some_q next)) a v) (some_listed_agree init a n) ∙ for_rest_agrees test next body t l a v)
 
@@ -162,11 +162,11 @@ abbrev nodes_layer : Stmt-F Stmt_ → NodesPart
 nodes_layer y = node_step (map-Stmt Stmt NodesPart stmt_nodes (map-Stmt Stmt_ Stmt (λ x. x.0) y))
 
 assign_agrees : (place value : Expr) (t : Tables) (n : Names) (a : Around) (u : Seen) →
-    expr_seen value t n.scopes a p.Whole (expr_seen place t n.scopes a p.Value u) ≡ seen_all (expr_nodes place t n.scopes a p.Value ++ expr_nodes value t n.scopes a p.Whole) u
+    expr_seen value t n.scopes a p.Value (expr_seen place t n.scopes a p.Value u) ≡ seen_all (expr_nodes place t n.scopes a p.Value ++ expr_nodes value t n.scopes a p.Value) u
 assign_agrees place value t n a u =
-    seen_two (expr_nodes place t n.scopes a p.Value) (expr_nodes value t n.scopes a p.Whole) u (expr_seen place t n.scopes a p.Value u)
-    (expr_seen value t n.scopes a p.Whole (expr_seen place t n.scopes a p.Value u))
-    (expr_agrees place t n.scopes a p.Value u) (expr_agrees value t n.scopes a p.Whole (expr_seen place t n.scopes a p.Value u))
+    seen_two (expr_nodes place t n.scopes a p.Value) (expr_nodes value t n.scopes a p.Value) u (expr_seen place t n.scopes a p.Value u)
+    (expr_seen value t n.scopes a p.Value (expr_seen place t n.scopes a p.Value u))
+    (expr_agrees place t n.scopes a p.Value u) (expr_agrees value t n.scopes a p.Value (expr_seen place t n.scopes a p.Value u))
 
 for_layer : (at : ℕ) (init : Option Stmt_) (test : Option Expr) (next : Option Stmt_) (body : Stmt_)
     → Agree (seen_layer (Stmt-F.For at init test next body)) (nodes_layer (Stmt-F.For at init test next body))
@@ -194,7 +194,7 @@ for_layer at (Some x) test (Some y) body = record {
 layer : (y : Stmt-F Stmt_) → Agree (seen_layer y) (nodes_layer y)
 layer (Stmt-F.Block at body) = record { names = refl; words = sum_agrees body; gives = λ t n a u. body_agrees body t (opened n) a (noted (plain at []) u) }
 layer (Stmt-F.Empty at) = record { names = refl; words = refl; gives = λ t n a u. refl }
-layer (Stmt-F.Int at name value) = record { names = refl; words = refl; gives = λ t n a u. value_agrees p.Whole value t n.scopes a (noted (plain at (once_tests (in_inner name n.scopes))) u) }
+layer (Stmt-F.Int at name value) = record { names = refl; words = refl; gives = λ t n a u. value_agrees value t n.scopes a (noted (plain at (once_tests (in_inner name n.scopes))) u) }
 layer (Stmt-F.Array at name size) = record { names = refl; words = refl; gives = λ t n a u. refl }
 layer (Stmt-F.Assign at place value) = record { names = refl; words = refl; gives = λ t n a u. assign_agrees place value t n a (noted (plain at []) u) }
 layer (Stmt-F.Call at call) = record { names = refl; words = refl; gives = λ t n a u. expr_agrees call t n.scopes a p.Statement _ }
@@ -205,7 +205,7 @@ layer (Stmt-F.While at test body) = record { names = refl; words = body.1.words;
 layer (Stmt-F.For at init test next body) = for_layer at init test next body
 layer (Stmt-F.Break at) = record { names = refl; words = refl; gives = λ t n a u. refl }
 layer (Stmt-F.Continue at) = record { names = refl; words = refl; gives = λ t n a u. refl }
-layer (Stmt-F.Return at value) = record { names = refl; words = refl; gives = λ t n a u. value_agrees p.Whole value t n.scopes a (noted (plain at (return_tests a (is_some value))) u) }
+layer (Stmt-F.Return at value) = record { names = refl; words = refl; gives = λ t n a u. value_agrees value t n.scopes a (noted (plain at (return_tests a (is_some value))) u) }
 layer (Stmt-F.Do at label body) = record {
   names = refl;
   words = ap (λ k. 1 + k) (sum_agrees body);

@@ -16,12 +16,6 @@ abbrev pub is_used : Position → Bool
 is_used p.Statement = false
 is_used _ = true
 
--- whether a call or an operation may not stand there
-abbrev pub is_partial : Position → Bool
-is_partial p.Statement = false
-is_partial p.Whole = false
-is_partial _ = true
-
 abbrev pub position_of : Bool → Position
 position_of true = p.Array
 position_of false = p.Value

@@ -87,10 +87,10 @@ module _ (X : Type 0) (one : Node → X) (none : X) (join : X → X → X) where
   values_all [] t s a = none
   values_all (x ∷ xs) t s a = join (expr_all x t s a p.Value) (values_all xs t s a)
 
-  -- an initialiser or the operand of a `return`, where there is one
-  abbrev pub value_all : Position → Option Expr → Tables → List (List Declaration) → Around → X
-  value_all w None t s a = none
-  value_all w (Some x) t s a = expr_all x t s a w
+  -- an expression whose value is used, where there is one
+  abbrev pub value_all : Option Expr → Tables → List (List Declaration) → Around → X
+  value_all None t s a = none
+  value_all (Some x) t s a = expr_all x t s a p.Value
 
 -- ---- with lists of nodes
 

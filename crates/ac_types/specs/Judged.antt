@@ -12,7 +12,7 @@ use Rattle.ac_types.specs.declared.numbered.Callee.{Callee}
 use Rattle.ac_types.specs.declared.numbered.Ends.{Ends}
 use Rattle.ac_reach.specs.declared.reached.Reached.{Reached}
 use Rattle.ac_names.specs.Kinds.{is_other, is_undeclared, is_declared, either, both}
-use Rattle.ac_types.specs.Around.{is_array_position, is_used, is_partial, is_closed, is_reached_by_another}
+use Rattle.ac_types.specs.Around.{is_array_position, is_used, is_closed, is_reached_by_another}
 
 abbrev pub Tests : Type 0
 Tests = List (Rule × Bool)
@@ -60,8 +60,7 @@ call_tests meaning f args a position =
     ∷ (rule.ArgumentsMatchParameters, is_miscounted f args)
     ∷ (rule.NameFitsItsPlace, either (is_other k.Function meaning) (is_array_position position))
     ∷ (rule.AsyncIsCalledInAsync, calls_async f a)
-    ∷ (rule.ValueFitsFunction, uses_void f position)
-    ∷ (rule.CallStandsAlone, is_partial position) ∷ []
+    ∷ (rule.ValueFitsFunction, uses_void f position) ∷ []
 
 abbrev pub sends_away : Reached → Option Ends → Bool
 sends_away reached None = false
@@ -77,8 +76,7 @@ channel_tests meaning away a position =
     (rule.NameIsDeclared, is_undeclared meaning)
     ∷ (rule.NameFitsItsPlace, either (is_other k.Channel meaning) (is_array_position position))
     ∷ (rule.StandsInAsyncFunction, not a.is_async)
-    ∷ (rule.OnlyItsEndUsesChannel, away)
-    ∷ (rule.CallStandsAlone, is_partial position) ∷ []
+    ∷ (rule.OnlyItsEndUsesChannel, away) ∷ []
 
 -- a Read or a Write
 abbrev pub file_tests : Option Meaning → Option Meaning → Around → Position → Tests
@@ -89,8 +87,7 @@ file_tests file array a position =
       either (both (not (lacks_one file array)) (either (is_other k.File file) (is_other k.Array array)))
           (is_array_position position),
     )
-    ∷ (rule.StandsInAsyncFunction, not a.is_async)
-    ∷ (rule.CallStandsAlone, is_partial position) ∷ []
+    ∷ (rule.StandsInAsyncFunction, not a.is_async) ∷ []
 
 -- ---- statements
 

@@ -21,7 +21,6 @@ rule_number r.ChannelIsAllowed = 14
 rule_number r.NumberOfCoresIsAllowed = 15
 rule_number r.FormatFitsArguments = 16
 rule_number r.FileIsAllowed = 17
-rule_number r.CallStandsAlone = 18
 
 -- a pair of a node's number and a rule's is another, or comes before it
 abbrev pub IsUpTo : ℕ → ℕ → ℕ → ℕ → Type 0

@@ -35,23 +35,23 @@ module _ (X : Type 0) (one : Node → X) (none : X) (join : X → X → X) where
   abbrev pub used : Expr → Gives X
   used x t n a = expr_all X one none join x t n.scopes a p.Value
 
-  abbrev pub valued : Position → Option Expr → Gives X
-  valued w x t n a = value_all X one none join w x t n.scopes a
+  abbrev pub valued : Option Expr → Gives X
+  valued x t n a = value_all X one none join x t n.scopes a
 
   -- the parts of a `for` after its first, which has a scope of its own round them
   abbrev pub for_gives : Option Expr → Option (StmtPart X) → StmtPart X → Gives X
   for_gives test next body t n a =
-      join (valued p.Value test t n a)
+      join (valued test t n a)
       (join (some_gives next t n a)
       (part_gives body t (moved n (some_words next)) (inside_loop a)))
 
   abbrev pub gives_step : Stmt-F (StmtPart X) → Gives X
   gives_step (Stmt-F.Block at body) t n a = join (one (plain at [])) (body_gives body t (opened n) a)
   gives_step (Stmt-F.Empty at) t n a = one (plain at [])
-  gives_step (Stmt-F.Int at name value) t n a = join (one (plain at (once_tests (in_inner name n.scopes)))) (valued p.Whole value t n a)
+  gives_step (Stmt-F.Int at name value) t n a = join (one (plain at (once_tests (in_inner name n.scopes)))) (valued value t n a)
   gives_step (Stmt-F.Array at name size) t n a = one (plain at (array_tests (in_inner name n.scopes) size))
   gives_step (Stmt-F.Assign at place value) t n a =
-      join (one (plain at [])) (join (used place t n a) (expr_all X one none join value t n.scopes a p.Whole))
+      join (one (plain at [])) (join (used place t n a) (expr_all X one none join value t n.scopes a p.Value))
   gives_step (Stmt-F.Call at call) t n a = join (one (plain at [])) (expr_all X one none join call t n.scopes a p.Statement)
   gives_step (Stmt-F.Print at format args) t n a = join (one (plain at (print_tests format (length args))))
       (values_all X one none join args t n.scopes a)
@@ -62,7 +62,7 @@ module _ (X : Type 0) (one : Node → X) (none : X) (join : X → X → X) where
       join (one (plain at [])) (join (some_gives init t (opened n) a) (for_gives test next body t (some_listed init a.depth (opened n)) a))
   gives_step (Stmt-F.Break at) t n a = one (plain at (leave_tests a))
   gives_step (Stmt-F.Continue at) t n a = one (plain at (leave_tests a))
-  gives_step (Stmt-F.Return at value) t n a = join (one (plain at (return_tests a (is_some value)))) (valued p.Whole value t n a)
+  gives_step (Stmt-F.Return at value) t n a = join (one (plain at (return_tests a (is_some value)))) (valued value t n a)
   gives_step (Stmt-F.Do at label body) t n a = join (one (plain at (async_tests a)))
       (body_gives body t (opened (in_do label a.depth n)) (inside_do a))
   gives_step (Stmt-F.Async at body) t n a = join (one (plain at (body_tests a))) (part_gives body t (in_async n) (inside_async a))

@@ -1,7 +1,7 @@
 //! What is around a node.
 
 ghost use Rattle.std.specs.Prelude.{◌≡◌};
-ghost use Rattle.ac_types.specs.Around.{is_array_position, is_used, is_partial, position_of, inside_do, inside_loop, is_closed};
+ghost use Rattle.ac_types.specs.Around.{is_array_position, is_used, position_of, inside_do, inside_loop, is_closed};
 
 use ac_reach::Reached;
 
@@ -10,9 +10,7 @@ use ac_reach::Reached;
 pub enum Position {
     /// It is a statement.
     Statement,
-    /// It is the whole right side of an assignment, the whole initialiser of an `int` or the whole operand of a `return`.
-    Whole,
-    /// Its value is used otherwise.
+    /// Its value is used.
     Value,
     /// It is an argument for an array parameter.
     Array,

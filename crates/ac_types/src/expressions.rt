@@ -171,19 +171,18 @@ pub fn see_values(
     Ok(())
 }
 
-/// Sees the nodes of an expression where there is one.
+/// Sees the nodes of an expression whose value is used, where there is one.
 pub fn see_value(
     seen: &mut Seen,
     tables: &Tables,
     scopes: &Scopes,
     around: Around,
-    position: Position,
     value: &Option<Expr>,
 ) -> Result<(), NoMemory>
-    ensures { OnOk result (seen.new ≡ value_seen position value.now tables.now scopes.now around seen.old) }
+    ensures { OnOk result (seen.new ≡ value_seen value.now tables.now scopes.now around seen.old) }
 {
     match value {
         None => Ok(()),
-        Some(value) => see_expr(seen, tables, scopes, around, position, value),
+        Some(value) => see_expr(seen, tables, scopes, around, Position::Value, value),
     }
 }

@@ -1,7 +1,7 @@
 //! The least rule that a node breaks, by its form.
 
 ghost use Rattle.std.specs.Prelude.{◌≡◌, false};
-ghost use Rattle.ac_types.specs.Around.{is_array_position, is_used, is_partial, is_closed, is_reached_by_another};
+ghost use Rattle.ac_types.specs.Around.{is_array_position, is_used, is_closed, is_reached_by_another};
 ghost use Rattle.ac_types.specs.Judged.{lacks_one, value_tests, is_misplaced, name_tests, index_tests, is_miscounted};
 ghost use Rattle.ac_types.specs.Judged.{calls_async, uses_void, call_tests, sends_away, takes_away, channel_tests};
 ghost use Rattle.ac_types.specs.Judged.{file_tests, once_tests, is_size, array_tests, holes, is_misprinted};
@@ -30,16 +30,6 @@ fn is_used(position: Position) -> bool
 {
     match position {
         Position::Statement => false,
-        _ => true,
-    }
-}
-
-fn is_partial(position: Position) -> bool
-    ensures { result ≡ is_partial position }
-{
-    match position {
-        Position::Statement => false,
-        Position::Whole => false,
         _ => true,
     }
 }
@@ -137,8 +127,7 @@ pub fn judge_call(
     ensures { result ≡ least_broken (call_tests meaning callee args around position) }
 {
     let is_wrong = is_other(NameKind::Function, meaning) || is_array(position);
-    let rest = least(Rule::CallStandsAlone, is_partial(position), None);
-    let rest = least(Rule::ValueFitsFunction, uses_void(callee, position), rest);
+    let rest = least(Rule::ValueFitsFunction, uses_void(callee, position), None);
     let rest = least(
         Rule::AsyncIsCalledInAsync,
         calls_async(callee, around),
@@ -193,8 +182,7 @@ fn judge_channel(
     ensures { result ≡ least_broken (channel_tests meaning is_away around position) }
 {
     let is_wrong = is_other(NameKind::Channel, meaning) || is_array(position);
-    let rest = least(Rule::CallStandsAlone, is_partial(position), None);
-    let rest = least(Rule::OnlyItsEndUsesChannel, is_away, rest);
+    let rest = least(Rule::OnlyItsEndUsesChannel, is_away, None);
     let rest = least(Rule::StandsInAsyncFunction, !around.is_async, rest);
     let rest = least(Rule::NameFitsItsPlace, is_wrong, rest);
     least(Rule::NameIsDeclared, is_undeclared(meaning), rest)
@@ -236,8 +224,7 @@ pub fn judge_file(
     let is_unknown = lacks_one(file, array);
     let is_unfit = is_other(NameKind::File, file) || is_other(NameKind::Array, array);
     let is_wrong = (!is_unknown && is_unfit) || is_array(position);
-    let rest = least(Rule::CallStandsAlone, is_partial(position), None);
-    let rest = least(Rule::StandsInAsyncFunction, !around.is_async, rest);
+    let rest = least(Rule::StandsInAsyncFunction, !around.is_async, None);
     let rest = least(Rule::NameFitsItsPlace, is_wrong, rest);
     least(Rule::NameIsDeclared, is_unknown, rest)
 }

@@ -40,12 +40,10 @@ pub enum Rule {
     FormatFitsArguments,
     /// Fewer than 16 files are before a file, and none of the same path.
     FileIsAllowed,
-    /// A call and an operation are a statement, or whole on the right side of an assignment, in an initialiser or in a `return`.
-    CallStandsAlone,
 }
 
 impl Rule {
-    /// Its number, 1 to 18.
+    /// Its number, 1 to 17.
     pub fn number(self) -> u8
         ensures { result ≡ rule_number self }
     {
@@ -67,7 +65,6 @@ impl Rule {
             Rule::NumberOfCoresIsAllowed => 15,
             Rule::FormatFitsArguments => 16,
             Rule::FileIsAllowed => 17,
-            Rule::CallStandsAlone => 18,
         }
     }
 }

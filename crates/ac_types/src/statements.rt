@@ -58,24 +58,16 @@ impl Walk {
         )
     }
 
-    /// Sees an expression, where there is one, at its position.
+    /// Sees an expression whose value is used, where there is one.
     fn value(
         &mut self,
         tables: &Tables,
         around: Around,
-        position: Position,
         value: &Option<Expr>,
     ) -> Result<(), NoMemory>
-        ensures { OnOk result (self.new ≡ after_value tables.now around position value.now self.old) }
+        ensures { OnOk result (self.new ≡ after_value tables.now around value.now self.old) }
     {
-        see_value(
-            &mut self.seen,
-            tables,
-            &self.names.scopes,
-            around,
-            position,
-            value,
-        )
+        see_value(&mut self.seen, tables, &self.names.scopes, around, value)
     }
 }
 
@@ -92,7 +84,7 @@ fn see_int(
 {
     let before = walk.names.scopes.find_inner(name);
     walk.note(at, judge_once(before))?;
-    walk.value(tables, around, Position::Whole, value)?;
+    walk.value(tables, around, value)?;
     walk.names.take(1);
     Ok(())
 }
@@ -126,7 +118,7 @@ fn see_assign(
 {
     walk.note(at, None)?;
     walk.expr(tables, around, Position::Value, place)?;
-    walk.expr(tables, around, Position::Whole, value)
+    walk.expr(tables, around, Position::Value, value)
 }
 
 fn see_call(
@@ -172,7 +164,7 @@ fn see_return(
     ensures { OnOk result (walk.new ≡ after tables.now around (return_seen at value.now) walk.old) }
 {
     walk.note(at, judge_return(around, value.is_some()))?;
-    walk.value(tables, around, Position::Whole, value)
+    walk.value(tables, around, value)
 }
 
 fn see_cancel(
@@ -258,7 +250,7 @@ fn see_stmt(walk: &mut Walk, tables: &Tables, around: Around, stmt: &Stmt) -> Re
         } => {
             see_open(walk, *at)?;
             see_init(walk, tables, around, init)?;
-            walk.value(tables, around, Position::Value, test)?;
+            walk.value(tables, around, test)?;
             see_some(walk, tables, around, next)?;
             see_stmt(walk, tables, in_loop(around), body.get())?;
             walk.names.scopes.close();

@@ -68,5 +68,5 @@ args_seen = args_all (Seen → Seen) noted unseen join_seen
 abbrev pub values_seen : List Expr → Tables → List (List Declaration) → Around → Seen → Seen
 values_seen = values_all (Seen → Seen) noted unseen join_seen
 
-abbrev pub value_seen : Position → Option Expr → Tables → List (List Declaration) → Around → Seen → Seen
+abbrev pub value_seen : Option Expr → Tables → List (List Declaration) → Around → Seen → Seen
 value_seen = value_all (Seen → Seen) noted unseen join_seen

@@ -63,8 +63,8 @@ noted_plain at rule w = record { names = w.names; seen = noted_by at rule None w
 abbrev pub after_expr : Tables → Around → Position → Expr → Walk → Walk
 after_expr t a position x w = record { names = w.names; seen = expr_seen x t w.names.scopes a position w.seen }
 
-abbrev pub after_value : Tables → Around → Position → Option Expr → Walk → Walk
-after_value t a position x w = record { names = w.names; seen = value_seen position x t w.names.scopes a w.seen }
+abbrev pub after_value : Tables → Around → Option Expr → Walk → Walk
+after_value t a x w = record { names = w.names; seen = value_seen x t w.names.scopes a w.seen }
 
 abbrev pub after_test : Tables → Around → ℕ → Expr → Walk → Walk
 after_test t a at test w = after_expr t a p.Value test (noted_plain at None w)
