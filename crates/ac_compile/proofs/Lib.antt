@@ -36,7 +36,7 @@ pub mod PlainWork
 pub mod PlainRuns
 pub mod PlainCoding
 pub mod StandingAlone
-pub mod Earlier
+pub mod Staying
 pub mod Examples
 pub mod EarlierExamples
 pub mod PlainCodeExamples

@@ -10,7 +10,7 @@ use Rattle.ac_compile.specs.Plain.{plain_does}
 use Rattle.ac_semantics.proofs.Examples.{two_functions, prints_a_call}
 use Rattle.ac_types.proofs.Examples.{one_core, it_breaks_none, it_breaks_one}
 use Rattle.ac_compile.specs.Earlier.{WasAccepted, IsPlainStep, StaysAsItWas, EarlierProgramsStay}
-use Rattle.ac_compile.proofs.Earlier.{plain_steps, programs_stay}
+use Rattle.ac_compile.proofs.Staying.{plain_steps, programs_stay}
 use Rattle.ac_compile.proofs.EarlierExamples.{program_of, assigns, one_more, it_does_not, gets, gets_one, it_is_alone, at_first, work_left, it_calls, it_is_over_plainly}
 
 -- core a(f); async void f() {}

@@ -1,4 +1,4 @@
-use Rattle.ac_compile.proofs.Earlier.{programs_stay}
+use Rattle.ac_compile.proofs.Staying.{programs_stay}
 use Rattle.ac_compile.proofs.earlier.earlier_programs_stay.Goals as goal
 
 pub returns : goal.returns
