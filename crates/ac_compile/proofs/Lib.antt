@@ -31,4 +31,13 @@ pub mod Formed
 pub mod OneEnd
 pub mod OnlyEnds
 pub mod Compiling
+pub mod Plainly
+pub mod PlainWork
+pub mod PlainRuns
+pub mod PlainCoding
+pub mod StandingAlone
+pub mod Staying
 pub mod Examples
+pub mod EarlierExamples
+pub mod PlainCodeExamples
+pub mod StaysExamples

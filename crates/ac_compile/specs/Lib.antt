@@ -1,3 +1,9 @@
 pub mod Compiled
 pub mod OneEnd
+pub mod StandAlone
+pub mod Alone
+pub mod Plain
+pub mod PlainRuns
+pub mod PlainCode
+pub mod Earlier
 pub mod inner

@@ -8,8 +8,11 @@ ghost use Rattle.ac_compile.specs.Compiled.{IsCodeOf};
 ghost use Rattle.ac_compile.specs.OneEnd.{HasOneEnd};
 ghost use Rattle.code_safety.specs.KeptEnds.{KeepsEnds};
 
+mod earlier;
 mod emit;
 mod whole;
+
+pub use earlier::earlier_programs_stay;
 
 use crate::whole::program_code;
 use ac_base::NoMemory;
