@@ -1,13 +1,12 @@
 -- Small programs and the rules that they break, and the rules on single forms. Each law computes what the definitions say of one program and
 -- compares it with what was worked out by hand; beside each that breaks a rule stands one that keeps it.
-use Rattle.std.proofs.Common.{◌≡◌, refl, sym, ap, subst, ℕ, ℤ, pos, List, [], ◌∷◌, ◌++◌, map, codes, Bool, true, false, Option, Some, None, inl, inr, arith}
+use Rattle.std.proofs.Common.{◌≡◌, refl, sym, subst, ℕ, ℤ, pos, List, [], ◌∷◌, ◌++◌, map, codes, Bool, true, false, Option, Some, None, inl, inr, arith}
 use Rattle.std.specs.Prelude.{negsuc, if◌then◌else◌}
 use Rattle.ac_tree.specs.declared.expr.Expr.{Expr}
 use Rattle.ac_tree.specs.declared.expr.Expr.TheVariants as e
 use Rattle.ac_tree.specs.declared.expr.Expr.TheOpen.{Expr-F}
 use Rattle.ac_tree.specs.declared.expr.BinaryOp.TheVariants as b
 use Rattle.ac_tree.specs.declared.expr.Constant.TheVariants as c
-use Rattle.ac_tree.specs.declared.expr.UnaryOp.TheVariants as u
 use Rattle.ac_tree.specs.declared.stmt.Stmt.{Stmt}
 use Rattle.ac_tree.specs.declared.stmt.Stmt.TheVariants as s
 use Rattle.ac_tree.specs.declared.stmt.Stmt.TheOpen.{Stmt-F}
@@ -15,28 +14,25 @@ use Rattle.ac_tree.specs.declared.item.Item.{Item}
 use Rattle.ac_tree.specs.declared.item.Item.TheVariants as i
 use Rattle.ac_tree.specs.declared.item.Function.{Function}
 use Rattle.ac_tree.specs.declared.item.Param.{Param}
-use Rattle.ac_tree.proofs.Folds.{link_folds}
 use Rattle.ac_names.specs.declared.meaning.Meaning.{Meaning}
 use Rattle.ac_names.specs.declared.meaning.Meaning.TheVariants as m
 use Rattle.ac_names.specs.declared.names.Names.{Names}
 use Rattle.ac_names.specs.Statements.{part, part_gives}
-use Rattle.ac_names.specs.Items.{no_past, outermost, function_names}
+use Rattle.ac_names.specs.Items.{no_past, function_names}
 use Rattle.ac_reach.specs.declared.reached.Reached.{Reached}
 use Rattle.ac_reach.specs.declared.reached.Reached.TheVariants as r
-use Rattle.ac_reach.specs.Reached.{is_entry, is_called, AreRows, here_is}
-use Rattle.ac_reach.specs.Reached as reach
-use Rattle.ac_reach.proofs.Examples.{none_reached, only_core, one_row}
+use Rattle.ac_reach.specs.Reached.{AreRows}
+use Rattle.ac_reach.proofs.Examples.{one_row}
 use Rattle.ac_types.specs.declared.around.Around.{Around}
 use Rattle.ac_types.specs.declared.around.Position.{Position}
 use Rattle.ac_types.specs.declared.around.Position.TheVariants as p
 use Rattle.ac_types.specs.declared.fault.CheckFault.TheVariants as f
 use Rattle.ac_types.specs.declared.numbered.Callee.{Callee}
-use Rattle.ac_types.specs.declared.numbered.Signature.{Signature}
 use Rattle.ac_types.specs.declared.numbered.Tables.{Tables}
 use Rattle.ac_types.specs.declared.rule.Rule.TheVariants as rule
 use Rattle.ac_types.specs.Rules.{rule_number, IsUpTo}
-use Rattle.ac_types.specs.Tables.{callee_of, callee, is_array_in, takes_array, ends_named}
-use Rattle.ac_types.specs.Nodes.{Node, calls_of}
+use Rattle.ac_types.specs.Tables.{callee}
+use Rattle.ac_types.specs.Nodes.{Node}
 use Rattle.ac_types.specs.Around.{is_array_position, is_used, position_of, inside_do, inside_async, inside_loop, is_closed, is_reached_by_another}
 use Rattle.ac_types.specs.Formats.{HasHoles, no_more, a_byte, a_percent_sign, a_number, a_letter}
 use Rattle.ac_types.specs.Judged.{Tests, lacks_one, value_tests, name_tests, index_tests, call_tests, sends_away, takes_away, channel_tests, file_tests, array_tests, holes}
@@ -44,14 +40,14 @@ use Rattle.ac_types.specs.Judged.{is_misplaced, is_miscounted, calls_async, uses
 use Rattle.ac_types.specs.Judged.{body_tests, cancel_tests}
 use Rattle.ac_types.specs.Expressions.{plain, number_of, call_node, ExprPart, expr_nodes, links_step, args_step, expr_step, link_step, expr_all, values_all, value_all, one_node, join_nodes}
 use Rattle.ac_types.specs.Statements.{Gives, StmtPart, body_gives, some_gives, used, valued, for_gives, gives_step, stmt_all}
-use Rattle.ac_types.specs.Items.{signature_of, channel_ends, all_ends, global_tests, is_capacity, is_same_core, is_no_entry, around_of, params_give, function_gives, item_gives}
+use Rattle.ac_types.specs.Items.{signature_of, global_tests, is_capacity, is_same_core, is_no_entry, around_of, params_give, function_gives, item_gives}
 use Rattle.ac_types.specs.Items.{items_give, program_gives}
-use Rattle.ac_types.specs.Items.{tables_of, signatures, core_number, link_tests, path_tests, core_tests, program_tests, reached_in, function_nodes, program_nodes}
-use Rattle.ac_types.specs.Reached.{function_number, calls_in, entries_of, all_calls, Reaches, AreReached, IsReachedByAnother, IsBrokenRule, BreaksIn, Breaks, IsLeastBroken, BreaksNone}
+use Rattle.ac_types.specs.Items.{link_tests, path_tests, core_tests, program_tests, function_nodes, program_nodes}
+use Rattle.ac_types.specs.Reached.{all_calls, AreReached, IsBrokenRule, BreaksIn, Breaks, IsLeastBroken, BreaksNone}
 use Rattle.ac_types.specs.Verdicts.{IsFault}
 use Rattle.ac_types.specs.inner.Seen.{first_of}
 use Rattle.ac_types.proofs.Formats.{formats_are_printed}
-use Rattle.ac_types.proofs.Forms.{of_expr, of_link, expr_is, stmt_is}
+use Rattle.ac_types.proofs.Forms.{expr_is, stmt_is}
 use Rattle.ac_types.proofs.Judging.{program_told}
 
 -- ---- numbers and their order
@@ -384,7 +380,7 @@ abbrev with_fault : ℕ → List ℕ → List (ℕ × List ℕ) → List (ℕ ×
 with_fault at [] rest = rest
 with_fault at (r ∷ rs) rest = (at, r ∷ rs) ∷ rest
 
-abbrev faults : List Node → List (ℕ × List ℕ)
+abbrev pub faults : List Node → List (ℕ × List ℕ)
 faults [] = []
 faults (n ∷ ns) = with_fault n.at (broken n.tests) (faults ns)
 
@@ -398,7 +394,7 @@ one_core body = i.Core 0 (codes "a") (codes "f") ∷ a_function 11 true false (c
 abbrev in_one_core : List Stmt → List (ℕ × List ℕ)
 in_one_core body = faults (program_nodes (one_core body) (r.ByOne 0 ∷ []))
 
-abbrev a_number_at : ℕ → Expr
+abbrev pub a_number_at : ℕ → Expr
 a_number_at at = e.Number at (pos 1)
 
 -- int f(int x, int x[]) {}
@@ -688,58 +684,6 @@ a_write_to_what_is_not_declared = rw (
   expr_is _ (e.rolls-Write 38 (codes "zz") (a_number_at 47) (a_number_at 50) (codes "f")),
   expr_is _ (e.rolls-Number 47 (pos 1)),
   expr_is _ (e.rolls-Number 50 (pos 1)),
-) refl
-
--- core a(f); async int f() { if (1+f()) h[1] = f(); else h[-f()] = 1; return Read(g, 1, 1, h); } int h[3]; file g("d"); void v() {}
--- and with calls of v, whose values are not there
-abbrev call_at : List ℕ → ℕ → Expr
-call_at name at = e.Call at name []
-
-abbrev sum : List ℕ → Expr
-sum name = e.Chain 31 9 (a_number_at 31) (record { op = b.Add; operand = call_at name 33 } ∷ [])
-
-abbrev element : ℕ → Expr → Expr
-element at index = e.Index at (codes "h") index
-
-abbrev with_values : List ℕ → List Item
-with_values name = i.Core 0 (codes "a") (codes "f")
-    ∷ a_function 11 true true (codes "f") []
-    (s.If 27 (sum name) (s.Assign 38 (element 38 (a_number_at 40)) (call_at name 45)) (Some (s.Assign 55 (element 55 (e.Unary 57 u.Neg (call_at name 58))) (a_number_at 65)))
-    ∷ s.Return 68 (Some (e.Read 75 (codes "g") (a_number_at 83) (a_number_at 86) (codes "h"))) ∷ [])
-    ∷ i.Global 95 (codes "h") (Some (pos 3)) (pos 0) ∷ i.File 105 (codes "g") (codes "d") ∷ a_function 115 false false (codes "v") [] [] ∷ []
-
-pub calls_in_values : faults (program_nodes (with_values (codes "f")) (r.ByOne 0 ∷ r.ByOne 0 ∷ [])) ≡ []
-calls_in_values = rw (
-  stmt_is _ (s.rolls-If 27 (sum (codes "f")) (s.Assign 38 (element 38 (a_number_at 40)) (call_at (codes "f") 45)) (Some (s.Assign 55 (element 55 (e.Unary 57 u.Neg (call_at (codes "f") 58)))
-      (a_number_at 65)))),
-  expr_is _ (e.rolls-Chain 31 9 (a_number_at 31) (record { op = b.Add; operand = call_at (codes "f") 33 } ∷ [])),
-  link_folds of_expr of_link (record { op = b.Add; operand = call_at (codes "f") 33 }),
-  stmt_is _ (s.rolls-Assign 38 (element 38 (a_number_at 40)) (call_at (codes "f") 45)),
-  stmt_is _ (s.rolls-Assign 55 (element 55 (e.Unary 57 u.Neg (call_at (codes "f") 58))) (a_number_at 65)),
-  expr_is _ (e.rolls-Index 38 (codes "h") (a_number_at 40)), expr_is _ (e.rolls-Index 55 (codes "h") (e.Unary 57 u.Neg (call_at (codes "f") 58))),
-  expr_is _ (e.rolls-Unary 57 u.Neg (call_at (codes "f") 58)),
-  expr_is _ (e.rolls-Call 33 (codes "f") []), expr_is _ (e.rolls-Call 45 (codes "f") []), expr_is _ (e.rolls-Call 58 (codes "f") []),
-  stmt_is _ (s.rolls-Return 68 (Some (e.Read 75 (codes "g") (a_number_at 83) (a_number_at 86) (codes "h")))),
-  expr_is _ (e.rolls-Read 75 (codes "g") (a_number_at 83) (a_number_at 86) (codes "h")),
-  expr_is _ (e.rolls-Number 31 (pos 1)), expr_is _ (e.rolls-Number 40 (pos 1)), expr_is _ (e.rolls-Number 65 (pos 1)),
-  expr_is _ (e.rolls-Number 83 (pos 1)), expr_is _ (e.rolls-Number 86 (pos 1)),
-) refl
-
-pub void_calls_in_values : faults (program_nodes (with_values (codes "v")) (r.ByOne 0 ∷ r.ByOne 0 ∷ [])) ≡ (33, 12 ∷ []) ∷ (45, 12 ∷ []) ∷ (58, 12 ∷ []) ∷ []
-void_calls_in_values = rw (
-  stmt_is _ (s.rolls-If 27 (sum (codes "v")) (s.Assign 38 (element 38 (a_number_at 40)) (call_at (codes "v") 45)) (Some (s.Assign 55 (element 55 (e.Unary 57 u.Neg (call_at (codes "v") 58)))
-      (a_number_at 65)))),
-  expr_is _ (e.rolls-Chain 31 9 (a_number_at 31) (record { op = b.Add; operand = call_at (codes "v") 33 } ∷ [])),
-  link_folds of_expr of_link (record { op = b.Add; operand = call_at (codes "v") 33 }),
-  stmt_is _ (s.rolls-Assign 38 (element 38 (a_number_at 40)) (call_at (codes "v") 45)),
-  stmt_is _ (s.rolls-Assign 55 (element 55 (e.Unary 57 u.Neg (call_at (codes "v") 58))) (a_number_at 65)),
-  expr_is _ (e.rolls-Index 38 (codes "h") (a_number_at 40)), expr_is _ (e.rolls-Index 55 (codes "h") (e.Unary 57 u.Neg (call_at (codes "v") 58))),
-  expr_is _ (e.rolls-Unary 57 u.Neg (call_at (codes "v") 58)),
-  expr_is _ (e.rolls-Call 33 (codes "v") []), expr_is _ (e.rolls-Call 45 (codes "v") []), expr_is _ (e.rolls-Call 58 (codes "v") []),
-  stmt_is _ (s.rolls-Return 68 (Some (e.Read 75 (codes "g") (a_number_at 83) (a_number_at 86) (codes "h")))),
-  expr_is _ (e.rolls-Read 75 (codes "g") (a_number_at 83) (a_number_at 86) (codes "h")),
-  expr_is _ (e.rolls-Number 31 (pos 1)), expr_is _ (e.rolls-Number 40 (pos 1)), expr_is _ (e.rolls-Number 65 (pos 1)),
-  expr_is _ (e.rolls-Number 83 (pos 1)), expr_is _ (e.rolls-Number 86 (pos 1)),
 ) refl
 
 -- ---- broken rules

@@ -15,3 +15,4 @@ pub mod Others
 pub mod Forms
 mod Examples
 mod TableExamples
+mod CallExamples
