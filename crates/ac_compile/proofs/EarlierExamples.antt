@@ -124,8 +124,15 @@ it_is_the_operand = (rw (stmt_folds stmt_step _ (s.rolls-Return 0 (Some the_call
 
 -- for (; f(); ) ;
 pub it_is_a_test : (stmt_nested (s.For 0 None (Some the_call) None (s.Empty 0)) ≡ 1) × (some_acts (Some the_call) ≡ 1)
-it_is_a_test = (rw (for_folds stmt_step 0 None (Some the_call) None (s.Empty 0), stmt_folds stmt_step _
-    (s.rolls-Empty 0), all_is the_call a_call_is_not_nested) refl, all_is the_call a_call_is_not_nested)
+it_is_a_test = (
+  rw (
+    for_folds stmt_step 0 None (Some the_call) None (s.Empty 0),
+    stmt_folds stmt_step _
+        (s.rolls-Empty 0),
+    all_is the_call a_call_is_not_nested,
+  ) refl,
+  all_is the_call a_call_is_not_nested,
+)
 
 -- async void f() { .. }
 abbrev item : List Stmt → Item

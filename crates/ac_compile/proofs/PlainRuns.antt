@@ -216,6 +216,7 @@ module _ (program : Resolved) (alone : AreAlone program) where
       there : Replays program core bound journal end → ReplaysPlainly program core bound journal end
       there r =
           record { function = r.function; enters = r.enters; ends = (r.ends.0, r.ends.1 ∙ run_same program alone bound core journal r.function (entered_none core r.function r.enters) r.ends.0) }
+
       back : ReplaysPlainly program core bound journal end → Replays program core bound journal end
       back r =
           record { function = r.function; enters = r.enters; ends = (r.ends.0, r.ends.1 ∙ sym (run_same program alone bound core journal r.function (entered_none core r.function r.enters) r.ends.0)) }

@@ -130,10 +130,10 @@ module _ (s : Store) (frame : FrameId) where
       let count = link_count l.0 in
       let right = l.1 (omega (arith, count, none)) in
       let rest : (n : ℤ) → chain_goes s frame (cell.Int n) (links_of ls) around ≡ from_plain (chained (cell.Int n) (map plain_link (links_of ls)))
-          = λ n. chain_same ls (omega (arith, none)) (cell.Int n) around in
+      = λ n. chain_same ls (omega (arith, none)) (cell.Int n) around in
       link_goes s frame x l.0 (links_of ls) around
       ∙ ap (λ (r : Evaluated). unless_decided l.0.op (int_in x) (λ v. chain_goes s frame (cell.Int v) (links_of ls) around) (then_goes r (λ y. then_int (operate l.0.op (int_in x) (int_in y))
-          (λ v. chain_goes s frame (cell.Int v) (links_of ls) around)))) (right _)
+      (λ v. chain_goes s frame (cell.Int v) (links_of ls) around)))) (right _)
       ∙ joined_same l.0.op (int_in x) (plain_value s frame l.0.operand) _ (λ n. chained (cell.Int n) (map plain_link (links_of ls))) rest
       ∙ ap (λ (t : BinaryOp × Plain). from_plain (chained x (t ∷ map plain_link (links_of ls)))) (sym (link_form l.0))
 
