@@ -12,12 +12,11 @@ mod earlier;
 mod emit;
 mod whole;
 
-pub use earlier::earlier_programs_stay;
-
 use crate::whole::program_code;
 use ac_base::NoMemory;
 use ac_resolve::resolve;
 use ac_types::Checked;
+pub use earlier::earlier_programs_stay;
 use stack_code::Code;
 use std::alloc::Global;
 
