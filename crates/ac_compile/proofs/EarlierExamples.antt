@@ -1,34 +1,27 @@
 -- Calls that stand alone and calls that do not, and plain steps of small statements.
 -- Counts and plain values are folds and do not compute, so they go by their forms; a plain run with a nested call shows that it is another.
-use Rattle.std.proofs.Common.{◌≡◌, refl, sym, ap, ◌∙◌, subst, ℕ, zero, suc, ◌+◌, List, [], ◌∷◌, map, length, codes, Option, Some, None, Bool, true, false, arith}
-use Rattle.std.specs.Prelude.{ℤ, pos, Result, Ok, Err, slice_get}
+use Rattle.std.proofs.Common.{◌≡◌, refl, sym, ap, ◌∙◌, subst, ℕ, zero, suc, List, [], ◌∷◌, map, length, codes, Option, Some, None, true, false, arith}
+use Rattle.std.specs.Prelude.{ℤ, pos, Ok, Err, slice_get}
 use Rattle.std.proofs.lemmas.Fmt.{decimal_digit}
-use Rattle.ac_base.specs.declared.ends.Trap.{Trap}
 use Rattle.ac_base.specs.declared.ends.Trap.TheVariants.{ZeroDivisor}
 use Rattle.ac_base.specs.declared.ends.EndWord.TheVariants.{Finished}
 use Rattle.ac_base.specs.declared.ends.CoreEnd.{CoreEnd}
-use Rattle.ac_tree.specs.Weight.{total}
-use Rattle.ac_tree.specs.declared.expr.BinaryOp.{BinaryOp}
 use Rattle.ac_tree.specs.declared.expr.BinaryOp.TheVariants as b
 use Rattle.ac_tree.specs.declared.expr.Expr.{Expr}
 use Rattle.ac_tree.specs.declared.expr.Expr.TheVariants as e
-use Rattle.ac_tree.specs.declared.expr.Link.{Link}
 use Rattle.ac_tree.specs.declared.stmt.Stmt.{Stmt}
 use Rattle.ac_tree.specs.declared.stmt.Stmt.TheVariants as s
 use Rattle.ac_tree.specs.declared.item.Item.{Item}
 use Rattle.ac_tree.specs.declared.item.Item.TheVariants as i
 use Rattle.ac_tree.specs.declared.item.Program.{Program}
 use Rattle.ac_tree.proofs.Folds.{expr_folds, link_folds, stmt_folds, for_folds}
-use Rattle.work_item.specs.declared.ids.FrameId.{FrameId}
-use Rattle.work_item.specs.declared.cell.Cell.{Cell}
 use Rattle.work_item.specs.declared.cell.Cell.TheVariants as cell
 use Rattle.work_item.specs.Store.{Store, no_int, with_global}
 use Rattle.core_state.specs.Moves.{Move, On, Over, and_then, moves, ComesTo}
 use Rattle.core_state.specs.Frames.{first_frame, first_store}
 use Rattle.ac_commands.specs.declared.value.Place.TheVariants as p
-use Rattle.ac_commands.specs.declared.value.Array.TheVariants as a
 use Rattle.ac_commands.specs.declared.value.Action.TheVariants.{Call}
-use Rattle.ac_commands.specs.declared.value.Value.{Value, roll-Value, out-Value, out-roll-Value}
+use Rattle.ac_commands.specs.declared.value.Value.{Value, out-Value, out-roll-Value}
 use Rattle.ac_commands.specs.declared.value.Value.TheVariants as v
 use Rattle.ac_commands.specs.declared.value.Value.TheOpen.{Value-F}
 use Rattle.ac_commands.specs.declared.value.ValueLink.{ValueLink}
@@ -43,16 +36,15 @@ use Rattle.ac_semantics.specs.Evaluation.{Ending, Operands}
 use Rattle.ac_semantics.specs.Held.{Held, with_store}
 use Rattle.ac_semantics.specs.Work.{Work, Pend, Leave}
 use Rattle.ac_semantics.specs.Statements.{Next, Goes, Ends, operands_of, calls, does}
-use Rattle.ac_semantics.specs.Threads.{CoreState, rests, step, shared_at_first, first_state}
-use Rattle.ac_semantics.specs.Replay.{Enters, Replays}
+use Rattle.ac_semantics.specs.Threads.{CoreState, rests, shared_at_first, first_state}
+use Rattle.ac_semantics.specs.Replay.{Enters}
 use Rattle.ac_semantics.proofs.Examples.{a_call_in_a_sum, it_stops_at_the_call, form, finish_by, function, two_functions, prints_a_call, gives_back, with_a_call, joins, link, number, call, ended}
 use Rattle.ac_compile.specs.StandAlone.{Acts, no_act, one_act, all_in, total_acts, expr_step, acts_in, nested_in, some_acts, some_nested, stmt_step, stmt_nested, item_nested, StandAlone}
 use Rattle.ac_compile.specs.StandAlone as tree
 use Rattle.ac_compile.specs.Alone.{acts, all_acts, after_act, own_nested, total_others, nested_within, command_step, command_nested, IsAlone, body_nested, function_nested, AreAlone}
-use Rattle.ac_compile.specs.Alone as alone
-use Rattle.ac_compile.specs.Plain.{Plain, and_then as after, int, part, joined, chained, value_step, link_step, plain_value, plain_row, rest_of, waits_for}
+use Rattle.ac_compile.specs.Plain.{Plain, and_then as after, int, part, joined, chained, value_step, plain_value, plain_row, rest_of, waits_for}
 use Rattle.ac_compile.specs.Plain.{ends_plainly, acts_plainly, begins_plainly, goes_plainly, plain_does, plain_goes_on}
-use Rattle.ac_compile.specs.PlainRuns.{plain_next_at, plain_step_of, plain_step, ReplaysPlainly, RunsPlainly}
+use Rattle.ac_compile.specs.PlainRuns.{plain_next_at, plain_step_of, plain_step, RunsPlainly}
 use Rattle.ac_compile.proofs.PlainRuns.{runs_plainly}
 use Rattle.ac_compile.proofs.Plainly.{acts_form, link_count, plain_link, plain_form, link_form}
 

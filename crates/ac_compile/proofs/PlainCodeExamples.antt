@@ -1,8 +1,7 @@
 -- The plain code of small statements and programs, with a call that stands alone and with one that does not.
 -- Each goes by its form; a nested call has no plain code, so that of its program is another.
-use Rattle.std.proofs.Common.{◌≡◌, refl, sym, ap, ◌∙◌, ℕ, ◌+◌, List, [], ◌∷◌, map, codes, length, true, false, Option, Some, None, arith}
+use Rattle.std.proofs.Common.{◌≡◌, refl, sym, ap, ◌∙◌, ℕ, List, [], ◌∷◌, map, codes, length, true, false, Some, None, arith}
 use Rattle.std.specs.Prelude.{pos}
-use Rattle.ac_tree.specs.declared.expr.BinaryOp.{BinaryOp}
 use Rattle.ac_tree.specs.declared.expr.BinaryOp.TheVariants as b
 use Rattle.ac_commands.specs.declared.value.Place.TheVariants as p
 use Rattle.ac_commands.specs.declared.value.Array.TheVariants as a
@@ -12,12 +11,11 @@ use Rattle.ac_commands.specs.declared.value.Value.TheVariants as v
 use Rattle.ac_commands.specs.declared.value.Value.TheOpen.{Value-F}
 use Rattle.ac_commands.specs.declared.value.ValueLink.{ValueLink}
 use Rattle.ac_commands.specs.declared.command.Target.TheVariants as t
-use Rattle.ac_commands.specs.declared.command.Command.{Command, fold-roll-Command}
+use Rattle.ac_commands.specs.declared.command.Command.{fold-roll-Command}
 use Rattle.ac_commands.specs.declared.command.Command.TheVariants as c
 use Rattle.ac_commands.specs.declared.command.Command.TheOpen.{Command-F}
 use Rattle.ac_commands.specs.declared.program.Function.{Function}
-use Rattle.stack_code.specs.declared.instr.Instr.{Instr}
-use Rattle.stack_code.specs.declared.instr.Instr.TheVariants.{Step, Push, Load, LoadG, StoreG, ArrG, SetElem, Add, Mul, Jz, Print, Call as Calls, Ret}
+use Rattle.stack_code.specs.declared.instr.Instr.TheVariants.{Step, Push, Load, LoadG, StoreG, ArrG, SetElem, Add, Mul, Jz, Call as Calls, Ret}
 use Rattle.stack_code.specs.Parts.{Parts}
 use Rattle.ac_translation.specs.Pieces.{Piece, one, ◌⨾◌}
 use Rattle.ac_translation.specs.Translation.{chained_code, no_exits, code_of}

@@ -6,7 +6,7 @@ use Rattle.std.proofs.lemmas.List.{length-map}
 use Rattle.ac_tree.specs.Weight.{total}
 use Rattle.ac_tree.specs.declared.expr.BinaryOp.{BinaryOp}
 use Rattle.ac_commands.specs.declared.value.Action.{Action}
-use Rattle.ac_commands.specs.declared.value.Value.{Value, roll-Value, out-Value, out-roll-Value, map-Value, ind-Value, fold-roll-Value}
+use Rattle.ac_commands.specs.declared.value.Value.{Value, roll-Value, out-roll-Value, map-Value, ind-Value, fold-roll-Value}
 use Rattle.ac_commands.specs.declared.value.Value.TheOpen.{Value-F, ValueLink-F}
 use Rattle.ac_commands.specs.declared.value.ValueLink.{ValueLink, fold-ValueLink, fold-roll-ValueLink}
 use Rattle.ac_commands.specs.declared.command.Target.{Target}
@@ -20,14 +20,14 @@ use Rattle.stack_code.specs.declared.parts.Entered.{Entered}
 use Rattle.ac_semantics.specs.Statements.{target_operands, some_operand}
 use Rattle.ac_translation.specs.Pieces.{Piece, no_code, one, ◌⨾◌, all, over, loop}
 use Rattle.ac_translation.specs.Translation.{unary_code, array_code, action_code, chained_code, value_step, link_step, value_code, link_code, values_code, target_code, if_code, test_code}
-use Rattle.ac_translation.specs.Translation.{at_loop, at_next, operand_code, command_step, command_code, last_code, function_code, functions_from, functions_code, no_exits, code_of}
+use Rattle.ac_translation.specs.Translation.{at_loop, at_next, operand_code, command_step, command_code, last_code, function_code, functions_from, no_exits, code_of}
 use Rattle.ac_compile.specs.StandAlone.{Acts}
 use Rattle.ac_compile.specs.Alone.{acts, all_acts, after_act, command_nested, body_nested, function_nested, IsAlone, AreAlone}
 use Rattle.ac_compile.specs.Alone as alone
 use Rattle.ac_compile.specs.PlainCode.{plain_step, plain_code, row_code, alone_form, alone_code, plain_target, plain_test, plain_operand, plain_command_step, plain_command}
 use Rattle.ac_compile.specs.PlainCode.{plain_function, plain_from, plain_code_of, HasPlainCode}
 use Rattle.ac_compile.proofs.Forms.{link_form}
-use Rattle.ac_compile.proofs.Plainly.{link_acts, acts_form, link_count, nested_form, all_form}
+use Rattle.ac_compile.proofs.Plainly.{link_acts, link_count, nested_form, all_form}
 
 -- ---- expressions
 

@@ -1,8 +1,8 @@
 -- The runs of a program whose calls and operations stand alone are its plain runs.
 -- Each state of a core has only such work (`Calm`): so it is at first, and each step keeps it. From such a state both kinds of step lead to
 -- the same move, so by induction on the number of moves they come to the same end.
-use Rattle.std.proofs.Common.{◌≡◌, ℕ, zero, suc, ◌^◌, ◌-◌, List, [], ◌∷◌, ◌++◌, get_or, set, Option, Some, None, Bool, true, false, refl, sym, ap, ◌∙◌, subst}
-use Rattle.std.specs.Prelude.{ℤ, nat_eq, nat_lt, find, replicate, slice_get, Result, Ok, Err, if◌then◌else◌, ◌↔◌}
+use Rattle.std.proofs.Common.{◌≡◌, ℕ, zero, suc, ◌^◌, ◌-◌, List, [], ◌∷◌, ◌++◌, get_or, set, Option, Some, None, Bool, true, false, refl, sym, ap, ◌∙◌}
+use Rattle.std.specs.Prelude.{ℤ, nat_eq, nat_lt, find, replicate, Result, Ok, Err, if◌then◌else◌}
 use Rattle.std.specs.List.{AllByRecursion}
 use Rattle.ac_base.specs.declared.entry.Entry.{Entry}
 use Rattle.ac_base.specs.declared.ends.CoreEnd.{CoreEnd}
@@ -17,7 +17,7 @@ use Rattle.cancel_scope.specs.declared.operation.Asked.{Asked}
 use Rattle.cancel_scope.specs.declared.operation.Progress.{Progress}
 use Rattle.cancel_scope.specs.declared.operation.Progress.TheVariants as progress
 use Rattle.cancel_scope.specs.declared.operation.Operation.{Operation}
-use Rattle.core_state.specs.Moves.{Move, On, Over, and_then, moves, ComesTo}
+use Rattle.core_state.specs.Moves.{Move, On, Over, and_then, moves}
 use Rattle.core_state.specs.Frames.{begun, first_store, first_frame}
 use Rattle.core_state.specs.Shared.{Shared, with_entry, begins_with}
 use Rattle.core_state.specs.Arrivals.{Arrival, arrives, comes_in, at_point, cancelled}
@@ -28,7 +28,7 @@ use Rattle.ac_semantics.specs.Held.{Held, with_store, with_mark, any_marked, tur
 use Rattle.ac_semantics.specs.Work.{Work, Leave, ahead, given}
 use Rattle.ac_semantics.specs.Statements.{Next, Goes, Ends, Starts, Yields, Arrives, Cancels, Operates, Dies, Stays}
 use Rattle.ac_semantics.specs.Threads.{Phase, Active, AtFinish, Ended, Thread, nobody, CoreState, thread_at, with_phase, none_within, stops, goes_on, starts, arrives as arrives_at, woken, wakes}
-use Rattle.ac_semantics.specs.Threads.{path, is_inside, operates, calls_off, applied, resumed, arrived, dispatched, rests, step_of, step, first_core, first_globals, shared_at_first, first_state}
+use Rattle.ac_semantics.specs.Threads.{path, is_inside, operates, calls_off, applied, resumed, arrived, dispatched, step_of, step, first_core, first_globals, shared_at_first, first_state}
 use Rattle.ac_semantics.specs.Replay.{Enters, Replays}
 use Rattle.ac_compile.specs.Alone.{body_nested, AreAlone}
 use Rattle.ac_compile.specs.PlainRuns.{plain_step_of, plain_step, ReplaysPlainly, RunsPlainly}

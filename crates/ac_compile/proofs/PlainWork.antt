@@ -1,7 +1,7 @@
 -- A statement whose calls and operations stand alone leaves work of such statements, where each that waits has only the rest of its operands
 -- round the open place. By the cases of what a statement does.
-use Rattle.std.proofs.Common.{◌≡◌, ℕ, zero, suc, ◌+◌, List, [], ◌∷◌, ◌++◌, map, length, Option, Some, None, Bool, true, false, refl, sym, ap, ◌∙◌, subst, arith}
-use Rattle.std.specs.Prelude.{ℤ, pos, negsuc, nat_le, nat_lt, replicate, reverse, slice_get, slice_index_or, Result, Ok, Err, if◌then◌else◌}
+use Rattle.std.proofs.Common.{◌≡◌, ℕ, zero, suc, List, [], ◌∷◌, map, Option, Some, None, Bool, true, false, refl, ap, ◌∙◌, subst, arith}
+use Rattle.std.specs.Prelude.{ℤ, pos, negsuc, nat_lt, replicate, reverse, slice_get, slice_index_or, Result, Ok, Err, if◌then◌else◌}
 use Rattle.std.specs.List.{AllByRecursion}
 use Rattle.ac_base.specs.declared.ends.Trap.{Trap}
 use Rattle.ac_base.specs.declared.ends.EndWord.TheVariants as word
@@ -9,7 +9,7 @@ use Rattle.ac_tree.specs.Weight.{total}
 use Rattle.work_item.specs.declared.ids.FrameId.{FrameId}
 use Rattle.work_item.specs.declared.cell.Cell.{Cell}
 use Rattle.work_item.specs.declared.cell.Cell.TheVariants as cell
-use Rattle.work_item.specs.Store.{no_int, next_frame, int_in, place_in, released}
+use Rattle.work_item.specs.Store.{no_int, next_frame, int_in, place_in}
 use Rattle.cancel_scope.specs.declared.operation.Asked.{Asked}
 use Rattle.core_state.specs.Arithmetic.{at_zero}
 use Rattle.core_state.specs.Frames.{begun, begun_with}
@@ -25,13 +25,13 @@ use Rattle.ac_commands.specs.declared.command.Command.TheOpen.{Command-F}
 use Rattle.ac_commands.specs.declared.program.Function.{Function}
 use Rattle.ac_commands.specs.declared.program.Resolved.{Resolved}
 use Rattle.ac_semantics.specs.Evaluation.{Acting, Ending, Context, Operands, Stops}
-use Rattle.ac_semantics.specs.Held.{Held, with_shared, with_store, stepped, next_block, entered}
+use Rattle.ac_semantics.specs.Held.{Held, with_shared, with_store, stepped, next_block}
 use Rattle.ac_semantics.specs.Work.{Work, Do, Pend, Given, CallOff, Turn, Close, Back, Leave, End, before, next_in, next_part, ahead, past_loop, at_turn, given}
 use Rattle.ac_semantics.specs.Statements.{Next, Goes, Ends, Starts, Yields, Arrives, Cancels, Operates, Dies, Stays}
 use Rattle.ac_semantics.specs.Statements.{or_trap, operands_of, put_in, returns, value_or_zero, some_body, test_or_true, last_of, loops}
 use Rattle.ac_semantics.specs.Statements.{finish, finish_form, calls, requests, place_operand, length_operand, settles, goes_on_with, if_step, next_at}
-use Rattle.ac_compile.specs.Alone.{own_nested, nested_within, command_nested, IsAlone, body_nested, function_nested, AreAlone}
-use Rattle.ac_compile.specs.Plain.{plain_row, rest_of, waits_for, ends_plainly, acts_plainly, begins_plainly, goes_plainly, plain_does, plain_goes_on}
+use Rattle.ac_compile.specs.Alone.{nested_within, command_nested, IsAlone, body_nested, function_nested, AreAlone}
+use Rattle.ac_compile.specs.Plain.{plain_row, rest_of, waits_for, ends_plainly, begins_plainly, goes_plainly, plain_does, plain_goes_on}
 use Rattle.ac_compile.specs.PlainRuns.{plain_next_at}
 use Rattle.ac_compile.proofs.Plainly.{nested_is, does_plainly, goes_on_plainly}
 

@@ -1,10 +1,9 @@
 -- What a statement does whose calls and operations stand alone is its plain step.
 -- A value without calls never stops, so it comes to what it plainly comes to whatever is round it (`same_value`, by induction on it). The
 -- first operand of a statement may be a call: it stops there with the rest of the operands round it, and what goes on is that rest.
-use Rattle.std.proofs.Common.{◌≡◌, refl, sym, ap, ◌∙◌, subst, ℕ, ◌+◌, ◌≤◌, List, [], ◌∷◌, map, Option, Some, None, arith}
+use Rattle.std.proofs.Common.{◌≡◌, refl, sym, ap, ◌∙◌, subst, ℕ, ◌+◌, ◌≤◌, List, [], ◌∷◌, map, Some, None, arith}
 use Rattle.std.specs.Prelude.{ℤ, pos, negsuc, zero, suc, Result, Ok, Err}
 use Rattle.ac_base.specs.declared.ends.Trap.{Trap}
-use Rattle.ac_base.specs.declared.ends.EndWord.TheVariants as word
 use Rattle.ac_tree.specs.Weight.{total}
 use Rattle.ac_tree.specs.declared.expr.BinaryOp.{BinaryOp}
 use Rattle.ac_tree.specs.declared.expr.BinaryOp.TheVariants as b
@@ -13,22 +12,22 @@ use Rattle.work_item.specs.declared.cell.Place as cells
 use Rattle.work_item.specs.declared.cell.Cell.{Cell}
 use Rattle.work_item.specs.declared.cell.Cell.TheVariants as cell
 use Rattle.work_item.specs.Store.{Store, int_in}
-use Rattle.core_state.specs.Arithmetic.{Computed, at_zero, truth}
+use Rattle.core_state.specs.Arithmetic.{Computed, truth}
 use Rattle.core_state.specs.Frames.{element, part_at}
 use Rattle.ac_commands.specs.declared.value.Action.{Action}
 use Rattle.ac_commands.specs.declared.value.Value.{Value, roll-Value, out-Value, out-roll-Value, map-Value, ind-Value, fold-roll-Value}
 use Rattle.ac_commands.specs.declared.value.Value.TheOpen.{Value-F, ValueLink-F}
 use Rattle.ac_commands.specs.declared.value.ValueLink.{ValueLink, fold-ValueLink, fold-roll-ValueLink}
-use Rattle.ac_commands.specs.declared.command.Command.{Command, roll-Command, out-Command, out-roll-Command, map-Command, ind-Command, fold-roll-Command}
+use Rattle.ac_commands.specs.declared.command.Command.{Command, out-Command, out-roll-Command, map-Command, ind-Command, fold-roll-Command}
 use Rattle.ac_commands.specs.declared.command.Command.TheOpen.{Command-F}
 use Rattle.ac_commands.specs.declared.program.Resolved.{Resolved}
-use Rattle.ac_semantics.specs.Evaluation.{array, unary, operate, Head, Acting, Ending, Context, ElementAt, PartAt, Operand, First, Operands, Evaluated, Comes, Traps, Stops, comes_int}
-use Rattle.ac_semantics.specs.Evaluation.{then_goes, then_int, then_part, unless_decided, goes, chain_goes, row_goes, gives, resumes}
+use Rattle.ac_semantics.specs.Evaluation.{array, operate, Head, Acting, Ending, Context, ElementAt, PartAt, Operand, First, Operands, Evaluated, Comes, Traps, Stops, comes_int}
+use Rattle.ac_semantics.specs.Evaluation.{then_goes, then_int, then_part, unless_decided, goes, chain_goes, row_goes, gives}
 use Rattle.ac_semantics.specs.Held.{Held}
 use Rattle.ac_semantics.specs.Work.{Work}
 use Rattle.ac_semantics.specs.Statements.{Next, or_trap, operands_of, finish, settles, does, goes_on_with}
 use Rattle.ac_semantics.proofs.Forms.{then_itself, form_goes, goes_form, link_goes, operand_goes}
-use Rattle.ac_compile.specs.StandAlone.{Acts, total_acts}
+use Rattle.ac_compile.specs.StandAlone.{Acts}
 use Rattle.ac_compile.specs.Alone.{acts, all_acts, after_act, own_nested, nested_within, command_step, command_nested, IsAlone}
 use Rattle.ac_compile.specs.Alone as alone
 use Rattle.ac_compile.specs.Plain.{Plain, and_then, int, part, joined, chained, value_step, link_step, plain_value, plain_row, rest_of, waits_for}

@@ -1,12 +1,11 @@
 -- A program that was accepted stays as it was.
 -- Its calls stand alone without its names too (StandingAlone); so its statements go by plain steps (Plainly), its runs are plain (PlainRuns) and
 -- so is its code (PlainCoding).
-use Rattle.ac_tree.specs.declared.item.Program.{Program}
 use Rattle.ac_commands.specs.declared.command.Command.{Command}
 use Rattle.ac_commands.specs.declared.program.Resolved.{Resolved}
 use Rattle.ac_resolve.specs.Resolution.{resolved}
 use Rattle.ac_compile.specs.Alone.{IsAlone, AreAlone}
-use Rattle.ac_compile.specs.Earlier.{IsPlainStep, StaysAsItWas, EarlierProgramsStay}
+use Rattle.ac_compile.specs.Earlier.{IsPlainStep, EarlierProgramsStay}
 use Rattle.ac_compile.proofs.Plainly.{does_plainly, goes_on_plainly}
 use Rattle.ac_compile.proofs.PlainRuns.{runs_plainly}
 use Rattle.ac_compile.proofs.PlainCoding.{plainly_coded}

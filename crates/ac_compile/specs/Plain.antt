@@ -1,6 +1,6 @@
 -- What a statement did where each call and each operation stood alone: an expression comes to a cell or to the first trap, from left to
 -- right, and only a whole operand waits for a value. Nothing here knows of what is round an open place.
-use Rattle.std.specs.Prelude.{ℤ, pos, List, [], ◌∷◌, map, Result, Ok, Err}
+use Rattle.std.specs.Prelude.{ℤ, pos, List, [], ◌∷◌, Result, Ok, Err}
 use Rattle.ac_base.specs.declared.ends.Trap.{Trap}
 use Rattle.ac_tree.specs.declared.expr.BinaryOp.{BinaryOp}
 use Rattle.ac_tree.specs.declared.expr.BinaryOp.TheVariants as b

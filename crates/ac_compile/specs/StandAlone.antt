@@ -1,6 +1,6 @@
 -- How many calls and operations of a program are nested, which each once had to stand alone: as a statement, or as the whole of what is
 -- assigned, of what an int begins with, or of the operand of a `return`. A group round one makes it nested.
-use Rattle.std.specs.Prelude.{◌≡◌, ℕ, ◌+◌, List, [], ◌∷◌, map, Option, None, Some}
+use Rattle.std.specs.Prelude.{◌≡◌, ℕ, ◌+◌, List, map, Option, None, Some}
 use Rattle.ac_tree.specs.Weight.{total, total_some}
 use Rattle.ac_tree.specs.declared.expr.Expr.{Expr, fold-Expr}
 use Rattle.ac_tree.specs.declared.expr.Expr.TheOpen.{Expr-F, Link-F}
