@@ -20,43 +20,48 @@ import run
 HERE = pathlib.Path(__file__).resolve().parent
 TOOL = HERE.parent / "tools" / "ac-where"
 PAGE = HERE.parent / "docs" / "LANGUAGE.md"
-# Writes the words that it was given, a line each, and answers; `later` is what the source becomes meanwhile.
+# Writes the words that it was given, a line each, and an empty line, and answers; `later` is what the source becomes meanwhile.
 STAND_IN = """#!/bin/sh
 cd "$(dirname "$0")"
-printf '%s\\n' "$@" > words
+printf '%s\\n' "$@" '' >> words
 if [ -e later ]; then cat later > "$(cat source)"; fi
-cat answer
+if [ "$1" = trace ] && [ -e trace ]; then cat trace; else cat answer; fi
 exit STATUS
 """
-PARTS = ("source", "later", "answer", "place")
+PARTS = ("source", "later", "answer", "trace", "place")
 
 
 def read(path):
     """The test of a file."""
-    test = {"option": "", "words": "run x.ac", "name": "x.ac", "status": None, "stand-in": False}
+    test = {"option": "", "words": "run x.ac", "name": "x.ac", "status": None, "stand-in": False, "asked": [], "before": {}}
     test.update(dict.fromkeys(PARTS))
-    part = None
+    into = part = None
     for line in path.read_text().splitlines():
         key, _, rest = line.partition(" ")
         if line.startswith("#") or not line:
             continue
         if key in ("option", "words", "name", "status"):
             test[key], part = rest, None
+        elif key == "asked":
+            test[key].append(rest)
         elif line == "stand-in":
             test[line] = True
-        elif line in PARTS:
-            test[line], part = b"", line
+        elif key == "before" or line in PARTS:
+            into, part = (test[key], rest) if key == "before" else (test, line)
+            into[part] = b""
         else:
-            test[part] += run.piece(line)
+            into[part] += run.piece(line)
     if None in (test["status"], test["answer"], test["place"]):
         raise ValueError(f"{path.name} has no status, no answer or no place")
     return test
 
 
-def stand_in(folder, status, answer):
+def stand_in(folder, status, answer, trace=None):
     """A script in place of `ac`, in a new folder."""
     folder.mkdir(parents=True)
     (folder / "answer").write_bytes(answer)
+    if trace is not None:
+        (folder / "trace").write_bytes(trace)
     script = folder / "ac"
     script.write_text(STAND_IN.replace("STATUS", str(status)))
     script.chmod(0o755)
@@ -77,7 +82,9 @@ def differs(test, program, folder):
     work.mkdir(parents=True)
     if test["source"] is not None:
         (work / test["name"]).write_bytes(test["source"])
-    path = program or stand_in(folder / "stand-in", test["status"], test["answer"])
+    for name, held in test["before"].items():
+        (work / name).write_bytes(held)
+    path = program or stand_in(folder / "stand-in", test["status"], test["answer"], test["trace"])
     if test["later"] is not None:
         (folder / "stand-in" / "later").write_bytes(test["later"])
         (folder / "stand-in" / "source").write_text(str(work / test["name"]))
@@ -86,7 +93,8 @@ def differs(test, program, folder):
     wanted = (int(test["status"]), test["answer"], test["place"])
     if came != wanted:
         return f"  wanted {wanted}\n  came   {came}"
-    if not program and (folder / "stand-in" / "words").read_text() != "".join(word + "\n" for word in words):
+    asked = [shlex.split(line) for line in test["asked"]] or [words]
+    if not program and (folder / "stand-in" / "words").read_text() != "".join("\n".join([*words, "", ""]) for words in asked):
         return "  other words came to ac"
     return None
 
@@ -183,6 +191,56 @@ def a_file_of_a_name_that_is_no_text(folder):
     assert called([b"run", name], folder, AC=str(script)) == (2, b"bad byte at 0\n", said)
 
 
+TWO_CORES = b"core a(f); core b(g); channel c(b, a, 1);\nasync void f() { int x; Recv(c, &x); }\nasync void g() { }\n"
+STALLED = b"a: stalled after 2 steps, 6 instructions\nb: finished after 0 steps, 2 instructions\n"
+STALLED_TRACE = b"ac-trace 1\nsteps 100000\nend 0 stalled 2 -\nend 1 finished 0 -\n"
+STALLED_AT = b"x.ac:2:25: a: stalled: Recv(c, &x): core b has ended\nasync void f() { int x; Recv(c, &x); }\n" + b" " * 24 + b"^\n"
+
+
+def without_its_modules_a_run_passes_as_it_is(folder):
+    tool, path = a_copy(folder)
+    script = stand_in(folder / "stand-in", 5, STALLED, STALLED_TRACE)
+    (folder / "x.ac").write_bytes(TWO_CORES)
+    assert called(["run", "x.ac"], folder, tool=tool, PATH=path, AC=str(script)) == (5, STALLED, b"")
+    assert (folder / "stand-in" / "words").read_text() == "run\nx.ac\n\n"
+
+
+def without_its_modules_a_broken_rule_is_told_by_its_words(folder):
+    tool, path = a_copy(folder)
+    script = stand_in(folder / "stand-in", 3, b"rule C4 at 28\n")
+    (folder / "x.ac").write_bytes(b"core a(f); async void f() { f = 1; }")
+    status, output, said = called(["run", "x.ac"], folder, tool=tool, PATH=path, AC=str(script))
+    assert (status, output) == (3, b"rule C4 at 28\n")
+    assert said.startswith(b"x.ac:1:29: rule C4 at 28: a name is used only as what it means: an int, an array, ")
+
+
+def the_commands_of_the_readme_install_what_it_needs(folder):
+    root = HERE.parent
+    block = re.search(r"^## Install\n.*?^```\n(.*?)^```$", (root / "README.md").read_text(), re.M | re.S).group(1)
+    tree, home = folder / "tree", folder / "home"
+    tree.mkdir()
+    home.mkdir()
+    for name in ("tools", "docs", "bench"):
+        (tree / name).symlink_to(root / name)
+    stand_in(tree / "crates" / "ac" / "out", 5, STALLED, STALLED_TRACE)
+    subprocess.run(["sh", "-ec", block], cwd=tree, env={**os.environ, "HOME": str(home)}, check=True, timeout=run.SECONDS)
+    script = stand_in(folder / "stand-in", 5, STALLED, STALLED_TRACE)
+    (folder / "x.ac").write_bytes(TWO_CORES)
+    tool = home / ".local" / "bin" / "ac-where"
+    assert os.access(tool, os.X_OK) and os.access(home / ".local" / "bin" / "ac", os.X_OK)
+    assert called(["run", "x.ac"], folder, tool=tool, AC=str(script)) == (5, STALLED, STALLED_AT)
+    diagram = [sys.executable, home / ".local" / "bin" / "ac-diagram", root / "examples" / "race.ac", root / "docs" / "race.trace"]
+    done = subprocess.run(diagram, stdout=subprocess.PIPE, timeout=run.SECONDS)
+    assert done.stdout == (root / "docs" / "race.svg").read_bytes()
+
+
+def a_run_that_is_told_by_its_trace_has_the_status_of_a_full_disk(folder):
+    script = stand_in(folder / "stand-in", 5, b"", STALLED_TRACE)
+    (folder / "x.ac").write_bytes(TWO_CORES)
+    with open("/dev/full", "wb") as full:
+        assert called(["run", "x.ac"], folder, stdout=full, AC=str(script)) == (8, None, b"")
+
+
 def help_says_what_a_column_counts(folder):
     status, output, said = called(["--help"], folder)
     assert (status, said) == (0, b"") and b"--columns=UNIT" in output and b"A tab counts as one" in output
@@ -224,6 +282,10 @@ CALLS = (
     an_output_that_nobody_reads_is_status_8,
     a_pipe_is_not_read_again,
     a_file_of_a_name_that_is_no_text,
+    without_its_modules_a_run_passes_as_it_is,
+    without_its_modules_a_broken_rule_is_told_by_its_words,
+    the_commands_of_the_readme_install_what_it_needs,
+    a_run_that_is_told_by_its_trace_has_the_status_of_a_full_disk,
     help_says_what_a_column_counts,
     a_unit_that_is_none_is_status_1,
     each_rule_and_each_answer_with_a_place_has_a_test,

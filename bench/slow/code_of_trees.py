@@ -2,6 +2,7 @@
 from collections import deque
 
 from source import Cut
+from tokens_and_trees import N
 
 LIMIT = 4_194_304
 MIN, SPAN = -(1 << 63), 1 << 64
@@ -10,6 +11,7 @@ MIN, SPAN = -(1 << 63), 1 << 64
 class Compiled:
     def __init__(self, names, program):
         self.c = []
+        self.nodes = []               # of each instruction the part of the text that it does
         self.loops = []
         self.calls = []
         self.texts = names.texts
@@ -20,6 +22,7 @@ class Compiled:
         self.at = {}
         for f in names.funcs:
             self.at[f] = len(self.c)
+            self.node = f
             for s in f.body:
                 self.stmt(s)
             self.put("Push", 0)
@@ -29,6 +32,7 @@ class Compiled:
 
     def put(self, *instr):
         self.c.append(instr)
+        self.nodes.append(self.node)
         return len(self.c) - 1
 
     def patch(self, k):
@@ -45,6 +49,7 @@ class Compiled:
 
     def reference(self, p):
         """To the one element into which a receive goes."""
+        self.node = p
         if p.kind == "Index":
             self.array(p)
             self.expr(p.index)
@@ -55,6 +60,11 @@ class Compiled:
             self.put("Arr", p.level, p.decl.slot, 1)
 
     def expr(self, e):
+        outer, self.node = self.node, e
+        self.value(e)
+        self.node = outer
+
+    def value(self, e):
         k = e.kind
         if k == "Number":
             self.put("Push", e.value)
@@ -83,6 +93,7 @@ class Compiled:
             self.put("Send", e.link)
         elif k == "Recv":
             self.reference(e.place)
+            self.node = e
             self.put("Recv", e.link)
         elif k in ("Read", "Write"):
             self.expr(e.frm)
@@ -91,7 +102,8 @@ class Compiled:
             self.put(k, e.number)
         else:
             self.expr(e.first)
-            for op, right in e.rest:
+            for (op, right), sign in zip(e.rest, e.signs):
+                self.node = N("Sign", sign)
                 if op in ("And", "Or"):
                     j = self.put("Jz" if op == "And" else "Jnz", None)
                     self.expr(right)
@@ -105,6 +117,11 @@ class Compiled:
                     self.put(op)
 
     def stmt(self, s):
+        outer, self.node = self.node, s
+        self.statement(s)
+        self.node = outer
+
+    def statement(self, s):
         k = s.kind
         if k == "Block":
             for x in s.body:
@@ -113,8 +130,9 @@ class Compiled:
         if k == "For" and s.init:
             self.stmt(s.init)
         if k in ("While", "For"):
+            self.node = s if s.test is None else s.test
             top = self.put("Step")
-            out = None
+            self.node, out = s, None
             if s.test is not None:
                 self.expr(s.test)
                 out = self.put("Jz", None)
@@ -184,6 +202,7 @@ class Compiled:
             self.put("Enter", s.slot)
             for x in s.body:
                 self.stmt(x)
+            self.node = N("Finish", s.finish)
             self.put("Step")
             self.put("Finish", s.slot)
         elif k == "Async":
@@ -238,6 +257,8 @@ class CodeCore:
         self.receives = [deque() for _ in range(links)]
         self.offers, self.begun = {}, {}
         self.births = 0
+        self.stood = None             # the thread that ran last, and its instruction, where it met a trap or called off a block
+        self.told = ()                # numbers that say more of a trap
         self.outcome = None
         self.limit = limit
         self.g = [0] * names.slots
@@ -346,6 +367,10 @@ class CodeCore:
         self.turn += 1
         self.thread(self.ready.popleft())
 
+    def stops(self, word, t, pc, *told):
+        """Ends the core at the instruction before this address."""
+        self.word, self.stood, self.told = word, (t, pc - 1), told
+
     def end(self):
         """How it ended, with what is seen of it."""
         waiting = [(o[0], link, "waiting") for q in (self.sends, self.receives) for link, ops in enumerate(q) for o in ops]
@@ -361,8 +386,7 @@ class CodeCore:
             op = ins[0]
             if op == "Step":
                 if self.steps == self.limit:
-                    self.word = "out-of-steps"
-                    return
+                    return self.stops("out-of-steps", t, pc + 1)
                 self.steps += 1
                 self.instructions += 1
                 pc += 1
@@ -396,16 +420,14 @@ class CodeCore:
                 i = st.pop()
                 home, s, n = st.pop()
                 if i < 0 or i >= n:
-                    self.word = "index"
-                    return
+                    return self.stops("index", t, pc, i, n)
                 st.append(home[s + i])
             elif op == "SetElem":
                 i = st.pop()
                 home, s, n = st.pop()
                 v = st.pop()
                 if i < 0 or i >= n:
-                    self.word = "index"
-                    return
+                    return self.stops("index", t, pc, i, n)
                 home[s + i] = v
             elif op == "Clear":
                 for k in range(ins[1], ins[1] + ins[2]):
@@ -445,14 +467,12 @@ class CodeCore:
                     done.append(s)
                 text = b"%".join(done)
                 if len(self.out) + len(text) > LIMIT:
-                    self.word = "output-full"
-                    return
+                    return self.stops("output-full", t, pc)
                 self.out += text
             elif op == "Call":
                 _, a, k, w = ins
                 if self.live + w + 4 > LIMIT:
-                    self.word = "stack-full"
-                    return
+                    return self.stops("stack-full", t, pc)
                 self.live += w + 4
                 f = F(w, None)
                 if k:
@@ -484,8 +504,7 @@ class CodeCore:
             elif op == "Async":
                 w = ins[1]
                 if self.live + w + 4 > LIMIT:
-                    self.word = "stack-full"
-                    return
+                    return self.stops("stack-full", t, pc)
                 self.live += w + 4
                 t.pc, t.frame = ins[2], fr
                 self.ready.appendleft(t)
@@ -506,13 +525,13 @@ class CodeCore:
                 i = st.pop()
                 home, s, n = st.pop()
                 if i < 0 or i >= n:
-                    self.word = "index"
-                    return
+                    return self.stops("index", t, pc, i, n)
                 st.append((home, s + i, 1))
             elif op == "Cancel":
                 f = fr
                 for _ in range(ins[1]):
                     f = f.up
+                self.stood = t, pc - 1
                 if not self.cancel(f.slots[ins[2]]):
                     return
             elif op in ("Send", "Recv") and any(b.marked for b in around(t.block)):
@@ -527,8 +546,7 @@ class CodeCore:
                 home, s, n = st.pop()
                 length, place = st.pop(), st.pop()
                 if not (place >= 0 and length >= 0 and length <= 256 and length <= n and place + length <= 1_048_576):
-                    self.word = "file-range"
-                    return
+                    return self.stops("file-range", t, pc, place, length, n)
                 if any(b.marked for b in around(t.block)):
                     st.append(-1)
                     continue
@@ -549,8 +567,7 @@ class CodeCore:
                     v = a * b
                 elif op in ("Div", "Rem"):
                     if b == 0:
-                        self.word = "zero-divisor"
-                        return
+                        return self.stops("zero-divisor", t, pc)
                     r = abs(a) % abs(b)
                     if a < 0:
                         r = -r

@@ -4,6 +4,7 @@ At a dispatch point of a core any arrival may come that its links allow, and the
 next is free too. The run is over where nothing can come and no thread is ready. What came is the journal of each core.
 """
 import random
+from collections import Counter
 
 from code_of_trees import CodeCore, Compiled
 from disk import Disk
@@ -187,24 +188,39 @@ class Run:
                 able.remove(k)
 
 
+class Before:
+    """What came to a core before: how many offers it has made on each link, and those that it has withdrawn and whose room is not
+    back."""
+
+    def __init__(self):
+        self.made, self.withdrawn = Counter(), set()
+
+    def note(self, e):
+        if e.event == "offer":
+            self.made[e.link] += 1
+        elif e.event == "withdraw":
+            self.withdrawn.add((e.link, e.number))
+        elif e.event == "room":
+            self.withdrawn.discard((e.link, e.number))
+
+
 def fits(core, e, before):
     """Whether the entry may come to the core now, to which these came before."""
     if e.event == "offer":
-        made = sum((b.event, b.link) == ("offer", e.link) for b in before)
-        return e.number == made and core.to_offer(e.link) == e.value is not None
+        return e.number == before.made[e.link] and core.to_offer(e.link) == e.value is not None
     if e.event == "know":
         return core.has_offered(e.link, e.number)
     if e.event == "room":
-        its = [b.event for b in before if (b.link, b.number) == (e.link, e.number)]
-        return "withdraw" in its and "room" not in its
+        return (e.link, e.number) in before.withdrawn
     if e.event == "reply":
         return core.has_begun(e.link, e.number)
     return e.event in ("got", "pass") and core.wants(e.link)
 
 
-def replay(core, journal):
-    """Runs a core under a journal; the first place that does not fit, or None."""
-    at = 0
+def replay(core, journal, sees=None):
+    """Runs a core under a journal; the first place that does not fit, or None. Just before an entry comes in, `sees` is called with its
+    place in the journal, the entry, and whether a `cancel` asked for it."""
+    at, before = 0, Before()
 
     def outcome(link, number):
         nonlocal at
@@ -213,6 +229,9 @@ def replay(core, journal):
         e = journal[at]
         if e.event not in ("withdraw", "know") or (e.turn, e.link, e.number) != (core.turn, link, number):
             raise Cut()
+        if sees:
+            sees(at, e, True)
+        before.note(e)
         at += 1
         return e.event == "withdraw"
 
@@ -220,9 +239,12 @@ def replay(core, journal):
     while core.word is None:
         if at < len(journal) and journal[at].turn == core.turn:
             e = journal[at]
-            if not fits(core, e, journal[:at] if e.event in ("offer", "room") else []):
+            if not fits(core, e, before):
                 return at
+            if sees:
+                sees(at, e, False)
             comes(core, e)
+            before.note(e)
             at += 1
         elif core.ready:
             core.go()

@@ -7,8 +7,11 @@ class Broken(Exception):
 
 
 class Rules:
+    """`misused` has for each place where rule 4 is broken the name that stands there, what it is, and what is wanted."""
+
     def __init__(self, program):
         self.program = program
+        self.misused, self.misuse = {}, None
         self.found = []           # (order, rule, at)
         self.order = 0
         self.top = {}
@@ -45,6 +48,14 @@ class Rules:
         for r in rules:
             if r:
                 self.found.append((self.order, r, at))
+        if self.misuse:
+            self.misused.setdefault(at, self.misuse)
+            self.misuse = None
+
+    def misuses(self, name, found, wanted):
+        """Rule 4, of the next node; of several uses in it the first is told."""
+        self.misuse = self.misuse or (name, found, wanted)
+        return 4
 
     def walk(self):
         items = self.program.items
@@ -57,7 +68,9 @@ class Rules:
                 self.node(i.at, dup, 13 if i.size is not None and not 1 <= i.size <= 4096 else 0)
             elif i.kind == "Channel":
                 ends = [self.top.get(i.frm), self.top.get(i.to)]
-                self.node(i.at, dup, 2 if None in ends else 0, 4 if any(e is not None and e.kind != "Core" for e in ends) else 0,
+                wrong = [e for e in ends if e is not None and e.kind != "Core"]
+                self.node(i.at, dup, 2 if None in ends else 0,
+                          self.misuses(wrong[0].name, self.sort(wrong[0]), "Core") if wrong else 0,
                           14 if (i.frm == i.to) or not 1 <= i.cap <= 64 or channels >= 64 else 0)
                 channels += 1
             elif i.kind == "File":
@@ -66,7 +79,8 @@ class Rules:
                 paths.add(i.path)
             elif i.kind == "Core":
                 e = self.top.get(i.entry)
-                self.node(i.at, dup, 2 if e is None else 0, 4 if e is not None and e.kind != "Function" else 0,
+                self.node(i.at, dup, 2 if e is None else 0,
+                          self.misuses(i.entry, self.sort(e), "Function") if e is not None and e.kind != "Function" else 0,
                           10 if e is not None and e.kind == "Function" and (not e.is_async or e.params) else 0)
             else:
                 self.node(i.at, dup)
@@ -104,12 +118,12 @@ class Rules:
             return "array" if d.is_array else "int"
         return {"Int": "int", "Array": "array"}.get(d.kind, d.kind)
 
-    def use(self, name, *sorts):
+    def use(self, name, wanted):
         """The rules that a use of a name breaks."""
         d = self.find(name)
         if d is None:
             return 2
-        return 0 if self.sort(d) in sorts else 4
+        return 0 if self.sort(d) == wanted else self.misuses(name, self.sort(d), wanted)
 
     def stmt(self, s):
         k = s.kind
@@ -215,7 +229,7 @@ class Rules:
         elif k == "Call":
             d = self.find(e.name)
             if d is None or d.kind != "Function":
-                self.node(e.at, 2 if d is None else 4)
+                self.node(e.at, 2 if d is None else self.misuses(e.name, self.sort(d), "Function"))
                 for a in e.args:
                     self.expr(a)
                 return
@@ -227,7 +241,7 @@ class Rules:
                     if a.kind == "Name":
                         self.node(a.at, self.use(a.name, "array"))
                     else:
-                        self.node(a.at, 4)
+                        self.node(a.at, self.misuses(None, None, "array"))
                         # its parts come later and cannot be the first broken, but what is called in them is reached
                         self.expr(a)
                 else:

@@ -368,8 +368,9 @@ class Parser:
     def do(self, at, label):
         self.want("do")
         body = self.block()
+        finish = self.at()
         self.want("finish"); self.want(";")
-        return N("Do", at, label=label, body=body)
+        return N("Do", at, label=label, body=body, finish=finish)
 
     def call(self):
         at = self.at()
@@ -395,6 +396,7 @@ class Parser:
         else:
             a = self.expr(); self.want(","); b = self.expr(); self.want(","); arr = self.name()
             r = N(w, at, file=name, frm=a, len=b, array=arr)
+        r.end = self.at() + 1
         self.close(")")
         return r
 
@@ -424,11 +426,12 @@ class Parser:
             self.bad()
         at = self.at()
         first = self.expr(level + 1)
-        rest = []
+        rest, signs = [], []
         while self.see(*LEVELS[level - 1]):
+            signs.append(self.at())
             op = OPS[self.move()[1]]
             rest.append((op, self.expr(level + 1)))
-        return N("Chain", at, first=first, rest=rest) if rest else first
+        return N("Chain", at, first=first, rest=rest, signs=signs) if rest else first
 
 
 def parse(text):
