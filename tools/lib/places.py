@@ -7,10 +7,10 @@ from collections import Counter, namedtuple
 import rules
 import tokens_and_trees as lang
 from code_of_trees import CodeCore, Compiled, around
-from cores import replay
+from cores import capacities, replay
+from history import FILE, Illegal, Links, unrest
 
-OPERATIONS = ("Send", "Recv", "Read", "Write")
-LONGEST = 40
+LONGEST, FILES = 40, 16
 # Where a thread stands, or where its core ended: the place, what stands there, why it goes no further, the places of the calls in
 # which it stands, the innermost first, and how many threads are there.
 Standing = namedtuple("Standing", "at what why calls threads")
@@ -40,19 +40,37 @@ class Followed:
         program = rules.refusal(text, trace.steps)
         self.names = lang.Names(program)
         self.compiled = Compiled(self.names, program)
-        parties, links = len(self.names.cores) + 1, len(self.names.channels) + len(self.names.cores)
-        for place, e in enumerate(trace.entries):
-            if e.party >= parties or e.link >= links:
-                raise Misfit(place)
         self.operations, self.cancels = [None] * len(trace.entries), [None] * len(trace.entries)
         self.offered = {}
-        self.cores = [self.core(item, trace.entries) for item in self.names.cores]
+        taken, self.cores = self.legal(trace), []
+        least = taken
+        for item in self.names.cores:
+            try:
+                self.cores.append(self.core(item, taken))
+            except Misfit as misfit:
+                least = min(least, misfit.args[0])
+        if least < len(trace.entries):
+            raise Misfit(least)
         for place, e in enumerate(trace.entries):
-            self.operations[place] = self.operations[place] or self.offered.get((e.link, e.number))
+            self.operations[place] = self.operations[place] or self.offered[e.link, e.number]
 
-    def core(self, item, entries, count=None):
-        """The core of this item after the first so many of its entries, or after all."""
+    def legal(self, trace):
+        """How many entries the links, the stamps and the files take; `links` are those after them."""
+        files = list(trace.start) + [b""] * (FILES - len(trace.start))
+        after, taken = Links(capacities(self.names), len(self.names.cores), files), 0
+        self.links = after.links
+        for e in trace.entries:
+            try:
+                after.take(e)
+            except Illegal:
+                break
+            taken += 1
+        return taken
+
+    def core(self, item, taken, count=None):
+        """The core of this item after so many of its entries, or after all, of so many of the trace that are taken."""
         core = CodeCore(self.compiled, self.names, item, self.trace.steps)
+        entries = self.trace.entries[:taken]
         places = [place for place, e in enumerate(entries) if e.party == item.number][:count]
 
         def sees(at, e, asked):
@@ -87,12 +105,15 @@ class Followed:
         return self.compiled.nodes[thread.pc - 1]
 
     def is_told(self):
-        """Whether the cores have come to the ends that the trace tells."""
-        return [core.end()[:3] for core in self.cores] == list(self.trace.ends)
+        """Whether the run is over, and the cores have come to the ends that the trace tells, with files as the program has them."""
+        start = self.trace.start
+        files = len(start) == len(self.names.files) and all(len(held) <= FILE for held in start)
+        ends = [core.end()[:3] for core in self.cores] == list(self.trace.ends)
+        return files and ends and unrest(self.cores, self.names, self.links) is None
 
     def cut(self, counts):
         """The cores after so many entries of each."""
-        return [self.core(item, self.trace.entries, count) for item, count in zip(self.names.cores, counts)]
+        return [self.core(item, len(self.trace.entries), count) for item, count in zip(self.names.cores, counts)]
 
     # ---- where a core stands
 
