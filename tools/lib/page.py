@@ -11,7 +11,7 @@ legend { color: #555; font-size: 12px; }
 label { margin-right: 8px; white-space: nowrap; }
 main { flex: 1; display: flex; min-height: 0; }
 #picture { flex: 3; overflow: auto; }
-aside { flex: 2; display: flex; flex-direction: column; border-left: 1px solid #ccc; min-width: 260px; }
+aside { flex: 1.4; display: flex; flex-direction: column; border-left: 1px solid #ccc; min-width: 260px; }
 #told { min-height: 116px; margin: 0; padding: 8px 12px; border-bottom: 1px solid #ccc; white-space: pre-wrap; font: 13px monospace; }
 #source { flex: 1; overflow: auto; margin: 0; padding: 8px 0; font: 13px monospace; }
 #source div { padding: 0 12px; white-space: pre; }
@@ -69,7 +69,7 @@ function show(place) {
   told.textContent = e.label + '\\n' + e.party + ', stamp ' + e.stamp + ', turn ' + e.turn
     + (e.answers === null ? '' : ', answers entry ' + e.answers) + line(place)
     + '\\n' + past.size + ' before it, ' + later.size + ' after it, ' + (entries.length - 1 - past.size - later.size) + ' concurrent with it'
-    + (pinned === null ? '' : '\\n' + pinned + ' ' + order(pinned, place) + ' ' + place);
+    + (pinned === null || pinned === place ? '' : '\\n' + pinned + ' ' + order(pinned, place) + ' ' + place);
 }
 function rest() {
   clear();
@@ -135,7 +135,8 @@ def page_data(plan, causes):
 
 
 def source_lines(names):
-    return [line.decode("utf-8", "replace") for line in names.text.split(b"\n")] if names.text is not None else []
+    """The lines of the program, where there is one."""
+    return names.text.decode("utf-8", "replace").removesuffix("\n").split("\n") if names.text is not None else []
 
 
 def choices(title, name, values):
@@ -147,8 +148,9 @@ def choices(title, name, values):
 def page(plan, causes, title, picture):
     """One page with the picture, the filters, the program and what an entry is about."""
     data = page_data(plan, causes)
-    filters = "".join(choices(legend, name, list(dict.fromkeys(e[name] for e in data["entries"])))
-                      for legend, name in (("parties", "party"), ("links", "link"), ("events", "kind")))
+    links = [plan.names.link(link) for link in sorted({e.link for e in plan.trace.entries})]
+    filters = choices("parties", "party", map(plan.names.party, plan.parties)) + choices("links", "link", links)
+    filters += choices("events", "kind", dict.fromkeys(e.kind for e in plan.trace.entries))
     source = "".join(f"<div><b>{number}</b>{escape(line)}</div>" for number, line in enumerate(data["source"], 1))
     told = json.dumps(data).replace("<", "\\u003c")
     policy = "default-src 'none'; style-src 'unsafe-inline'; script-src 'unsafe-inline'"
