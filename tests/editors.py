@@ -5,7 +5,8 @@
 - each regular expression of the grammar for VS Code is made of what all engines read alike, and some lines come out as they should;
 - each group of the Vim file has its colour, and where Vim is installed it colours those lines as the grammar does;
 - what the editors look for in the lines of ac-where finds the place of every test of tests/where, and nothing in other lines;
-- where Vim is installed, its list of errors has what stands without a place, and nothing else besides places;
+- where Vim is installed, its list of errors has what stands without a place, and nothing else besides places; and `:AcRun` fills it
+  with the places of a run, and leaves `:make` what it was;
 - the settings of the page are those of the files.
 
 Run from anywhere: python3 tests/editors.py. It prints what it finds, and ends with status 1 where it finds anything.
@@ -287,22 +288,26 @@ def place_faults():
         test = where.read(path)
         said = test["place"].decode().splitlines()
         lines = test["answer"].decode("latin-1").splitlines() + said
-        leads = len(said) == 3
+        wanted = [line for line in said if re.match(re.escape(test["name"]) + r":\d+:\d+: ", line)]
+        if len(wanted) != sum(line.lstrip("\t \u3000\u0301") == "^" for line in said):
+            yield f"{path.name}: {len(wanted)} places, and not as many carets"
         for engine in (vim_pattern(), re.compile(pattern["regexp"])):
             found = [match for match in map(engine.fullmatch, lines) if match]
-            if len(found) != leads or (leads and found[0].group() != said[0]):
+            if [match.group() for match in found] != wanted:
                 yield f"{path.name}: {engine.pattern} finds {[match.group() for match in found]}"
-            elif leads and found[0].group(1) != test["name"]:
+            elif any(match.group(1) != test["name"] for match in found):
                 yield f"{path.name}: {engine.pattern} takes {found[0].group(1)} for the file"
 
 
 # Lines without a place: those that Vim has in its list of errors, and those that it leaves out.
 KEPT = (
     "x.ac: library fault: No such file or directory", "ac-where: there is no ac: set AC to its path", "limit: source", "limit: steps",
+    "ac-where: x.ac: it cannot be read again, or has changed since", "ac-where: x.ac: a waits at 22 places",
     "limit: file 0", "limit: file 15", "disk fault", "usage: ac run|trace FILE [--steps N]",
 )
 LEFT_OUT = (
     "library fault", "accepted", "a: finished after 1 steps, 9 instructions", "7", "", "rule C2 at 32", "limit: nesting at 281",
+    "a: stalled after 2 steps, 6 instructions", "ac-trace 1", "end 0 stalled 2 -",
     "    x = 1;", "    ^", "no disk fault", "disk faults",
 )
 # Reads the lines as those of :make, and writes the list of errors, one line for each.
@@ -336,6 +341,42 @@ def vim_list_faults():
     yield from (f"Vim has in its list of errors: {line}" for line in found if line not in wanted)
 
 
+# A script in place of ac-where, which says with which words it was called and where a run ended.
+STAND_IN = """#!/bin/sh
+echo "$@" >> words
+printf 'a: stalled after 2 steps, 6 instructions\\n'
+printf 'x.ac:6:5: a: stalled: Recv(c, &x): core b has ended\\n    Recv(c, &x);\\n    ^\\n' >&2
+exit 5
+"""
+VIM_RUN_SCRIPT = """let &runtimepath = $AC_VIM . ',' . &runtimepath
+filetype plugin on
+edit x.ac
+silent AcRun
+call writefile(map(getqflist(), 'v:val.lnum . ":" . v:val.col . ": " . v:val.text'), 'found')
+silent make!
+qall!
+"""
+
+
+def vim_run_faults():
+    if not has_vim():
+        return
+    with tempfile.TemporaryDirectory() as name:
+        folder = pathlib.Path(name)
+        (folder / "ac-where").write_text(STAND_IN)
+        (folder / "ac-where").chmod(0o755)
+        (folder / "x.ac").write_text("core a(f);\n" * 9)
+        (folder / "script.vim").write_text(VIM_RUN_SCRIPT)
+        words = ["vim", "-N", "-u", "NONE", "-i", "NONE", "-n", "-e", "-s", "-S", "script.vim"]
+        variables = dict(os.environ, AC_VIM=str(VIM), PATH=f"{folder}:{os.environ['PATH']}")
+        subprocess.run(words, cwd=folder, env=variables, stdin=subprocess.DEVNULL, stdout=subprocess.DEVNULL, timeout=120)
+        found, called = (folder / "found").read_text().splitlines(), (folder / "words").read_text().splitlines()
+    if found != ["6:5: a: stalled: Recv(c, &x): core b has ended"]:
+        yield f":AcRun lists {found}"
+    if called != ["--columns=bytes run -- x.ac", "--columns=bytes check -- x.ac"]:
+        yield f":AcRun and then :make call ac-where with {called}"
+
+
 # The page
 
 
@@ -366,7 +407,7 @@ def file_faults():
 
 
 def main():
-    parts = (vim_faults, grammar_faults, sample_faults, vim_sample_faults, place_faults, vim_list_faults, page_faults,
+    parts = (vim_faults, grammar_faults, sample_faults, vim_sample_faults, place_faults, vim_list_faults, vim_run_faults, page_faults,
              file_faults)
     found = [fault for part in parts for fault in part()]
     for fault in found:
