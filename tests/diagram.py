@@ -128,8 +128,9 @@ FILES_TRACE = lines(
     "4 0 4 room 0 0", "4 1 0 did 0 1 count 2", "5 0 4 know 0 1", "6 0 4 reply 0 1 count 2", "end 0 finished 7 -",
 )
 FILES_LABELS = [
-    "0: offer a.0 write log at 0, 1 byte, line 6", "1: withdraw a.0, line 6 (cancel, line 7)", "2: offer a.1 write log at 7, 2 bytes, line 9",
-    "3: pass a.0, line 6", "4: room a.0, line 6", "5: did a.1 count 2, line 9", "6: know a.1, line 9", "7: reply a.1 count 2, line 9",
+    "0: offer a.0 write log at 0, 1 byte, line 6", "1: withdraw a.0, line 6 (cancel, line 7)",
+    "2: offer a.1 write log at 7, 2 bytes, line 9", "3: pass a.0, line 6", "4: room a.0, line 6", "5: did a.1 count 2, line 9",
+    "6: know a.1, line 9", "7: reply a.1 count 2, line 9",
 ]
 RACE = ROOT / "examples" / "race.ac", ROOT / "docs" / "race.trace"
 RACE_LABELS = [
@@ -187,7 +188,9 @@ def refusals(folder, swap, trace):
 
 
 def orders(swap, trace):
-    for i, j, note in (0, 1, "0 concurrent 1"), (0, 3, "0 before 3: 0, 3"), (4, 3, "4 after 3: 3, 4"), (0, 5, "0 before 5: 0, 2, 5"), (2, 2, "2 same 2"):
+    wanted = ((0, 1, "0 concurrent 1"), (0, 3, "0 before 3: 0, 3"), (4, 3, "4 after 3: 3, 4"), (0, 5, "0 before 5: 0, 2, 5"),
+              (2, 2, "2 same 2"))
+    for i, j, note in wanted:
         status, picture, _ = drawn("--order", i, j, swap, trace)
         check(f"order {i} {j}", (status, notes(picture)[1:]), (0, [note]))
     picture = drawn("--order", 0, 5, swap, trace)[1]
@@ -212,7 +215,8 @@ def cuts(swap, trace):
     at = marks(picture)
     check("an open cut", (status, notes(picture)[1:], points(picture, "closed")), (0, ["cut 2,0,0: open at 1"], None))
     check("an open cut is behind its last entries", [y for _, y in points(picture, "torn")[1:3]], [at[2][1] + 15, at[0][1] - 15])
-    check("the entry that is missing has a ring", re.findall(r'cx="(\d+)" cy="(\d+)" r="8" class="ring"/>', picture), [tuple(map(str, at[1]))])
+    rings = re.findall(r'cx="(\d+)" cy="(\d+)" r="8" class="ring"/>', picture)
+    check("the entry that is missing has a ring", rings, [tuple(map(str, at[1]))])
     check("the whole run is closed", notes(drawn("--cut", "3,3,0", trace)[1])[1:], ["cut 3,3,0: closed"])
 
 
@@ -238,7 +242,7 @@ def answers(first, second):
 def hops(entries):
     """From each pair of entries of which one was before the other the fewest steps between them, by trying all ways."""
     n = len(entries)
-    direct = [[j for j in range(n) if i < j and (entries[i].party == entries[j].party or answers(entries[i], entries[j]))] for i in range(n)]
+    direct = [[j for j in range(i + 1, n) if entries[i].party == entries[j].party or answers(entries[i], entries[j])] for i in range(n)]
     found = {}
     for i in range(n):
         front, steps = {i}, 0
@@ -248,28 +252,46 @@ def hops(entries):
     return direct, found
 
 
-def random_runs(folder):
-    """Pairs, chains and cuts of random runs: what differs from the order that is computed the slow way."""
-    module, wrong, tried = tool(), [], 0
+def some_runs():
+    """Runs of random programs whose cores race, and of small programs with a withdrawn offer."""
     for seed in range(12):
         text, steps = races.program(seed, (2, 4)[seed % 2])
         run = slow.deep(lambda: slow.trace(text.encode(), steps, seed, seed % 4 < 2))[1]
-        if not 6 <= len(run.entries) <= 90:
-            continue
+        if 6 <= len(run.entries) <= 90:
+            yield seed, run
+    yield "files", traces.read(FILES_TRACE.encode())
+    for path in sorted(FOLDER.glob("*.trace")):
+        yield path.stem, traces.read(path.read_bytes())
+
+
+def wrong_orders(name, run, causes):
+    """The pairs whose order or chain is another than that which is computed the slow way."""
+    direct, found = hops(run.entries)
+    for i in range(len(run.entries)):
+        for j in range(len(run.entries)):
+            wanted = "same" if i == j else "before" if (i, j) in found else "after" if (j, i) in found else "concurrent"
+            answer, chain = causes.order(i, j)
+            links = all(b in direct[a] for a, b in zip(chain, chain[1:]))
+            ends = [] if wanted == "concurrent" else [min(i, j), max(i, j)]
+            length = found.get((min(i, j), max(i, j)), -1) + 1
+            if answer != wanted or not links or len(chain) != length or chain[:1] + chain[-1:] != ends:
+                yield name, i, j, answer, chain
+
+
+def orders_of_runs():
+    """Pairs, chains and cuts of some runs: what differs from the order that is computed the slow way."""
+    module, wrong, tried, open_ones = tool(), [], 0, 0
+    for name, run in some_runs():
         trace = module.Trace(traces.written(run).decode())
-        causes, (direct, found) = module.Causes(trace.entries), hops(run.entries)
-        for i in range(len(run.entries)):
-            for j in range(len(run.entries)):
-                tried += 1
-                wanted = "same" if i == j else "before" if (i, j) in found else "after" if (j, i) in found else "concurrent"
-                answer, chain = causes.order(i, j)
-                links = all(b in direct[a] for a, b in zip(chain, chain[1:]))
-                ends = [min(i, j), max(i, j)] if wanted in ("before", "after") else chain[:1] + chain[-1:]
-                length = found.get((min(i, j), max(i, j)), -1) + 1
-                if answer != wanted or not links or len(chain) != length or chain[:1] + chain[-1:] != ends:
-                    wrong.append((seed, i, j, answer, chain))
-        wrong += [(seed, counts) for counts in some_counts(run, seed) if open_at(run.entries, counts) != module.Cut(trace, causes, counts).open_at]
-    check("orders and cuts of random runs", (wrong[:3], tried > 1_000), ([], True))
+        causes = module.Causes(trace.entries)
+        wrong += wrong_orders(name, run, causes)
+        tried += len(run.entries) ** 2
+        for counts in some_counts(run, len(run.entries)):
+            wanted = open_at(run.entries, counts)
+            open_ones += wanted is not None
+            if module.Cut(trace, causes, counts).open_at != wanted:
+                wrong.append((name, counts, wanted))
+    check("orders and cuts of random runs", (wrong[:3], tried > 1_000, open_ones > 20), ([], True, True))
 
 
 def some_counts(run, seed):
@@ -299,7 +321,8 @@ def page_data(page):
 def pages(folder):
     status, page, said = drawn("--html", *RACE)
     check("a page", (status, said, page.count("<svg "), page.count("<script>")), (0, "", 1, 1))
-    loads = re.findall(r"""\b(?:src|href|action|data)=|url\((?!#head\d\))|@import|\bimport\b|fetch\(|XMLHttp|https?:(?!//www\.w3\.org/2000/svg")""", page)
+    loads = re.findall(r"""\b(?:src|href|action|data)=|url\((?!#head\d\))|@import|\bimport\b|fetch\(|XMLHttp"""
+                       r"""|https?:(?!//www\.w3\.org/2000/svg")""", page)
     check("a page loads nothing", loads, [])
     check("and forbids it", "default-src 'none'; style-src 'unsafe-inline'; script-src 'unsafe-inline'" in page, True)
     data = page_data(page)
@@ -365,8 +388,8 @@ def in_browser(folder):
         return
     page = folder / "page.html"
     page.write_text(drawn("--html", *RACE)[1].replace("</script>\n</body>", f"{BROWSER}</script>\n</body>"))
-    words = [browser, "--headless", "--no-sandbox", "--disable-gpu", "--disable-dev-shm-usage", f"--user-data-dir={folder}/browser", "--dump-dom", page.as_uri()]
-    done = subprocess.run(words, stdout=subprocess.PIPE, stderr=subprocess.DEVNULL, timeout=600)
+    words = ["--headless", "--no-sandbox", "--disable-gpu", "--disable-dev-shm-usage", f"--user-data-dir={folder}/browser", "--dump-dom"]
+    done = subprocess.run([browser, *words, page.as_uri()], stdout=subprocess.PIPE, stderr=subprocess.DEVNULL, timeout=600)
     found = re.search(r'<pre id="seen">(.*?)</pre>', done.stdout.decode(), re.S)
     check("a page in a browser", found and json.loads(found.group(1).replace("&lt;", "<").replace("&gt;", ">").replace("&amp;", "&")), SEEN)
 
@@ -397,11 +420,11 @@ def main():
         refusals(Path(folder), swap, trace)
         orders(swap, trace)
         cuts(swap, trace)
-        random_runs(Path(folder))
+        orders_of_runs()
         pages(Path(folder))
     usage = (1, "", "usage: ac-diagram [--html] [--from=STAMP] [--to=STAMP] [--cut COUNTS] [--order I J] [FILE.ac] FILE.trace\n")
-    for words in ([], ["a", "b", "c"], ["--from=x", "a"], ["-x"], ["--order", "0", "a"], ["--order", "00", "1", "a"], ["--cut", "1,,0", "a"],
-                  ["a", "--cut"], ["--order", "1234567890", "0", "a"]):
+    for words in ([], ["a", "b", "c"], ["--from=x", "a"], ["-x"], ["--order", "0", "a"], ["--order", "00", "1", "a"],
+                  ["--cut", "1,,0", "a"], ["a", "--cut"], ["--order", "1234567890", "0", "a"]):
         check(f"words {words}", drawn(*words), usage)
     print(f"{passed} passed, {len(failed)} failed")
     return 1 if failed else 0

@@ -57,7 +57,8 @@ function clear() {
 function show(place) {
   clear();
   const past = reached(place, before), later = reached(place, next), e = entries[place];
-  marks.forEach((mark, k) => mark && mark.classList.add(k === place ? 'here' : past.has(k) ? 'past' : later.has(k) ? 'later' : 'beside'));
+  const kind = k => k === place ? 'here' : past.has(k) ? 'past' : later.has(k) ? 'later' : 'beside';
+  marks.forEach((mark, k) => mark && mark.classList.add(kind(k)));
   for (const arrow of arrows) {
     const ends = [Number(arrow.dataset.from), Number(arrow.dataset.to)];
     arrow.classList.toggle('beside', !ends.every(k => k === place || past.has(k)) && !ends.every(k => k === place || later.has(k)));
@@ -68,7 +69,8 @@ function show(place) {
   }
   told.textContent = e.label + '\\n' + e.party + ', stamp ' + e.stamp + ', turn ' + e.turn
     + (e.answers === null ? '' : ', answers entry ' + e.answers) + line(place)
-    + '\\n' + past.size + ' before it, ' + later.size + ' after it, ' + (entries.length - 1 - past.size - later.size) + ' concurrent with it'
+    + '\\n' + past.size + ' before it, ' + later.size + ' after it, '
+    + (entries.length - 1 - past.size - later.size) + ' concurrent with it'
     + (pinned === null || pinned === place ? '' : '\\n' + pinned + ' ' + order(pinned, place) + ' ' + place);
 }
 function rest() {
@@ -141,7 +143,8 @@ def source_lines(names):
 
 def choices(title, name, values):
     """The boxes of a filter."""
-    boxes = "".join(f'<label><input type="checkbox" name="{name}" value="{escape(value)}" checked> {escape(value)}</label>' for value in values)
+    box = '<label><input type="checkbox" name="{}" value="{}" checked> {}</label>'
+    boxes = "".join(box.format(name, escape(value), escape(value)) for value in values)
     return f"<fieldset><legend>{title}</legend>{boxes}</fieldset>"
 
 
