@@ -389,8 +389,11 @@ def in_browser(folder):
     page = folder / "page.html"
     page.write_text(drawn("--html", *RACE)[1].replace("</script>\n</body>", f"{BROWSER}</script>\n</body>"))
     words = ["--headless", "--no-sandbox", "--disable-gpu", "--disable-dev-shm-usage", f"--user-data-dir={folder}/browser", "--dump-dom"]
-    done = subprocess.run([browser, *words, page.as_uri()], stdout=subprocess.PIPE, stderr=subprocess.DEVNULL, timeout=600)
-    found = re.search(r'<pre id="seen">(.*?)</pre>', done.stdout.decode(), re.S)
+    try:
+        shown = subprocess.run([browser, *words, page.as_uri()], stdout=subprocess.PIPE, stderr=subprocess.DEVNULL, timeout=600).stdout
+    except subprocess.TimeoutExpired:
+        shown = b""
+    found = re.search(r'<pre id="seen">(.*?)</pre>', shown.decode(), re.S)
     check("a page in a browser", found and json.loads(found.group(1).replace("&lt;", "<").replace("&gt;", ">").replace("&amp;", "&")), SEEN)
 
 
