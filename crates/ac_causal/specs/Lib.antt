@@ -1,0 +1,4 @@
+pub mod Before
+pub mod Laws
+pub mod Run
+pub mod inner

@@ -1,0 +1,12 @@
+//! Which entries of a run came before which, whatever the schedule was.
+#![tactic(auto)]
+
+mod causal;
+mod law;
+mod marks;
+mod order;
+mod table;
+
+pub use causal::Causal;
+pub use law::stamps_rise;
+pub use order::Order;
