@@ -38,24 +38,24 @@ equal_both k m l n p q = and_true (k == l) (m == n) (eq-eqb k l p) (eq-eqb m n q
 
 offering_brought : (l n : ℕ) (e : Event) → is_offering l n e ≡ true → Brought l n 1 e
 offering_brought l n (Offer k m payload) h = let p = both_equal k m l n h in record { link = p.0; number = p.1; rung_is = refl }
-offering_brought l n _ h = let no : false ≡ true = h in absurd (cc)
+offering_brought l n _ h = let bad : false ≡ true = h in absurd (cc)
 
 withdrawal_brought : (l n : ℕ) (e : Event) → is_withdrawal l n e ≡ true → Brought l n 2 e
 withdrawal_brought l n (Withdraw k m) h = let p = both_equal k m l n h in record { link = p.0; number = p.1; rung_is = refl }
-withdrawal_brought l n _ h = let no : false ≡ true = h in absurd (cc)
+withdrawal_brought l n _ h = let bad : false ≡ true = h in absurd (cc)
 
 taking_brought : (l n : ℕ) (e : Event) → is_taking l n e ≡ true → Brought l n 3 e
 taking_brought l n (Got k m value) h = let p = both_equal k m l n h in record { link = p.0; number = p.1; rung_is = refl }
 taking_brought l n (Did k m answer) h = let p = both_equal k m l n h in record { link = p.0; number = p.1; rung_is = refl }
-taking_brought l n _ h = let no : false ≡ true = h in absurd (cc)
+taking_brought l n _ h = let bad : false ≡ true = h in absurd (cc)
 
 passing_brought : (l n : ℕ) (e : Event) → is_passing l n e ≡ true → Brought l n 4 e
 passing_brought l n (Pass k m) h = let p = both_equal k m l n h in record { link = p.0; number = p.1; rung_is = refl }
-passing_brought l n _ h = let no : false ≡ true = h in absurd (cc)
+passing_brought l n _ h = let bad : false ≡ true = h in absurd (cc)
 
 doing_brought : (l n : ℕ) (e : Event) → is_doing l n e ≡ true → Brought l n 3 e
 doing_brought l n (Did k m answer) h = let p = both_equal k m l n h in record { link = p.0; number = p.1; rung_is = refl }
-doing_brought l n _ h = let no : false ≡ true = h in absurd (cc)
+doing_brought l n _ h = let bad : false ≡ true = h in absurd (cc)
 
 brought_offering : (l n : ℕ) (e : Event) → Brought l n 1 e → is_offering l n e ≡ true
 brought_offering l n (Offer k m payload) b = equal_both k m l n b.link b.number
@@ -76,7 +76,7 @@ brought_passing l n _ b = let r = b.rung_is in absurd (omega (arith, r))
 
 brought_doing : (l n : ℕ) (e : Event) → Brought l n 3 e → is_did e ≡ true → is_doing l n e ≡ true
 brought_doing l n (Did k m answer) b d = equal_both k m l n b.link b.number
-brought_doing l n _ b d = let no : false ≡ true = d in absurd (cc)
+brought_doing l n _ b d = let bad : false ≡ true = d in absurd (cc)
 
 pub record Answered (e x : Event) : Type 0 where
   pub positive : 0 < wants e
@@ -84,8 +84,8 @@ pub record Answered (e x : Event) : Type 0 where
 
 -- an event that answers another wants its rung of the same offer
 pub answers_means : (e x : Event) → answers e x ≡ true → Answered e x
-answers_means (Offer l n payload) x h = let no : false ≡ true = h in absurd (cc)
-answers_means (Withdraw l n) x h = let no : false ≡ true = h in absurd (cc)
+answers_means (Offer l n payload) x h = let bad : false ≡ true = h in absurd (cc)
+answers_means (Withdraw l n) x h = let bad : false ≡ true = h in absurd (cc)
 answers_means (Know l n) x h = record { positive = omega arith; brought = taking_brought l n x h }
 answers_means (Room l n) x h = record { positive = omega arith; brought = passing_brought l n x h }
 answers_means (Got l n value) x h = record { positive = omega arith; brought = offering_brought l n x h }
@@ -179,11 +179,11 @@ module _ (capacities : List ℕ) (cores : ℕ) (es : List Stamped) (legal : IsLe
   -- the mark that is seen is that of an entry before, which is answered
   seen_by : (j w : ℕ) (e : Stamped) → slice_get es j ≡ Some e → seen_mark (marks j) e ≡ suc w → (wants e.entry.event ≡ 0) ⊎ (0 < wants e.entry.event)
       → (w < j) × Answers es w j
-  seen_by j w e is h (inl none) =
-      let no = sees_none (marks_of (marks j) (link_of e.entry.event)) e.entry.event none in
-      absurd (omega (arith, no, h))
-  seen_by j w e is h (inr some) =
-      let s = sees j e is some in
+  seen_by j w e is h (inl without) =
+      let zero_mark = sees_none (marks_of (marks j) (link_of e.entry.event)) e.entry.event without in
+      absurd (omega (arith, zero_mark, h))
+  seen_by j w e is h (inr positive) =
+      let s = sees j e is positive in
       let mark = s.by.mark_is in
       let below = s.by.below in
       let same : s.by.place ≡ w = omega (arith, mark, h) in (
@@ -193,7 +193,7 @@ module _ (capacities : List ℕ) (cores : ℕ) (es : List Stamped) (legal : IsLe
           answering = e;
           asks = ap (λ x. slice_get es x) (sym same) ∙ s.by.stands;
           answers_it = is;
-          answer = means_answers e.entry.event s.by.entry.entry.event some (held_brought j e s) (λ r. s.by.did (s.has_answer r));
+          answer = means_answers e.entry.event s.by.entry.entry.event positive (held_brought j e s) (λ r. s.by.did (s.has_answer r));
         },
       )
 

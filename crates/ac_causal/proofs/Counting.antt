@@ -42,10 +42,10 @@ module _ (test : ℕ → Bool) where
   flat_step : (k m : ℕ) → NoneFrom k (suc m) → (k ≤ m → NoneFrom k m → count_below test m ≤ count_below test k)
       → (k ≡ suc m) ⊎ (k ≤ m) → (test m ≡ true) ⊎ (test m ≡ false) → count_below test (suc m) ≤ count_below test k
   flat_step k m none before (inl same) b = let e : count_below test k ≡ count_below test (suc m) = ap (λ x. count_below test x) same in omega (arith, e)
-  flat_step k m none before (inr le) (inl yes) = absurd (none m le (omega arith) yes)
-  flat_step k m none before (inr le) (inr no) =
+  flat_step k m none before (inr le) (inl holds) = absurd (none m le (omega arith) holds)
+  flat_step k m none before (inr le) (inr fails) =
       let a = before le (λ i from lt. none i from (omega (arith, lt))) in
-      let b : count_below test (suc m) ≡ count_below test m + 0 = ap (λ c. count_below test m + cond c 1 0) no in
+      let b : count_below test (suc m) ≡ count_below test m + 0 = ap (λ c. count_below test m + cond c 1 0) fails in
       omega (arith, a, b)
 
   count_flat : (k m : ℕ) → k ≤ m → NoneFrom k m → count_below test m ≤ count_below test k
@@ -53,15 +53,12 @@ module _ (test : ℕ → Bool) where
   count_flat k (suc m) h none = flat_step k m none (count_flat k m) (le_or k m h) (cases_Bool (test m))
 
 of_some : (q : ℕ) (o : Option Stamped) → is_of q o ≡ true → (a : Stamped) × (o ≡ Some a) × (a.party ≡ q)
-of_some q None h = let no : false ≡ true = h in absurd (cc)
+of_some q None h = let bad : false ≡ true = h in absurd (cc)
 of_some q (Some a) h = (a, refl, eqb-true a.party q h)
 
 both_false : (x y : Bool) → y ≡ false → x && y ≡ false
 both_false true y h = h
 both_false false y h = refl
-
-other_way : (p q : ℕ) → (p == q) ≡ false → (q == p) ≡ true → ⊥
-other_way p q h k = let yes : (p == q) ≡ true = eq-eqb p q (sym (eqb-true q p k)) in let no : false ≡ true = sym h ∙ yes in cc
 
 module _ (es : List Stamped) (parties : ℕ) (at : ℕ → ℕ → ℕ) (last seen : ℕ → Stamped → ℕ) (t : Ticks es parties at last seen) where
   -- how many of the first k entries are of the party
@@ -158,21 +155,21 @@ module _ (es : List Stamped) (parties : ℕ) (at : ℕ → ℕ → ℕ) (last se
       → counted j p (suc k) ≡ counted j p k + cond (nat_le (at k a.party) (at j a.party) && (a.party == p)) 1 0
       → ((nat_le (at k p) (at j p) ≡ true) × (at k p ≤ at j p)) ⊎ ((nat_le (at k p) (at j p) ≡ false) × (at j p < at k p))
       → counted j p (suc k) ≡ min (at j p) (of_party p (suc k))
-  count_own j p k a is same before next (inl yes) =
+  count_own j p k a is same before next (inl holds) =
       let test : (nat_le (at k a.party) (at j a.party) && (a.party == p)) ≡ true =
-          ap (λ q. nat_le (at k q) (at j q) && (a.party == p)) same ∙ ap (λ b. b && (a.party == p)) yes.0 ∙ eq-eqb a.party p same in
+          ap (λ q. nat_le (at k q) (at j q) && (a.party == p)) same ∙ ap (λ b. b && (a.party == p)) holds.0 ∙ eq-eqb a.party p same in
       let one : counted j p (suc k) ≡ counted j p k + 1 = next ∙ ap (λ b. counted j p k + cond b 1 0) test in
       let own : at k p ≡ suc (of_party p k) = subst (λ q. at k q ≡ suc (of_party q k)) same (own_count k a is) in
       let more = one_more p k a is same in
-      let le = yes.1 in
+      let le = holds.1 in
       omega (arith, before, one, own, more, le)
-  count_own j p k a is same before next (inr no) =
+  count_own j p k a is same before next (inr fails) =
       let test : (nat_le (at k a.party) (at j a.party) && (a.party == p)) ≡ false =
-          ap (λ q. nat_le (at k q) (at j q) && (a.party == p)) same ∙ ap (λ b. b && (a.party == p)) no.0 in
+          ap (λ q. nat_le (at k q) (at j q) && (a.party == p)) same ∙ ap (λ b. b && (a.party == p)) fails.0 in
       let none : counted j p (suc k) ≡ counted j p k + 0 = next ∙ ap (λ b. counted j p k + cond b 1 0) test in
       let own : at k p ≡ suc (of_party p k) = subst (λ q. at k q ≡ suc (of_party q k)) same (own_count k a is) in
       let more = one_more p k a is same in
-      let lt = no.1 in
+      let lt = fails.1 in
       omega (arith, before, none, own, more, lt)
 
   count_some : (j p k : ℕ) (a : Stamped) → slice_get es k ≡ Some a → counted j p k ≡ min (at j p) (of_party p k)
@@ -208,20 +205,20 @@ module _ (es : List Stamped) (parties : ℕ) (at : ℕ → ℕ → ℕ) (last se
       omega (arith, a, b, c)
 
   told_by : (j i : ℕ) (e : Stamped) → slice_get es j ≡ Some e → (o : Option Stamped) → slice_get es i ≡ o → is_past_by j i o ≡ true → (i ≡ j) ⊎ IsBefore es i j
-  told_by j i e is None is_i h = let no : false ≡ true = h in absurd (cc)
+  told_by j i e is None is_i h = let bad : false ≡ true = h in absurd (cc)
   told_by j i e is (Some a) is_i h = told es parties at last seen t i j a e is_i is (le_of (at i a.party) (at j a.party) (leb_tells (at i a.party) (at j a.party)) h)
     where
       le_of : (x y : ℕ) → ((nat_le x y ≡ true) × (x ≤ y)) ⊎ ((nat_le x y ≡ false) × (y < x)) → nat_le x y ≡ true → x ≤ y
-      le_of x y (inl yes) h = yes.1
-      le_of x y (inr no) h = let bad : false ≡ true = sym no.0 ∙ h in absurd (cc)
+      le_of x y (inl holds) h = holds.1
+      le_of x y (inr fails) h = let bad : false ≡ true = sym fails.0 ∙ h in absurd (cc)
 
   tells_by : (j i : ℕ) → (a : Stamped) × (slice_get es i ≡ Some a) → (i ≡ j) ⊎ IsBefore es i j → is_past j i ≡ true
   tells_by j i a h =
       ap (λ o. is_past_by j i o) a.1 ∙ yes_of (at i a.0.party) (at j a.0.party) (leb_tells (at i a.0.party) (at j a.0.party)) (tells es parties at last seen t i j a.0 a.1 h)
     where
       yes_of : (x y : ℕ) → ((nat_le x y ≡ true) × (x ≤ y)) ⊎ ((nat_le x y ≡ false) × (y < x)) → x ≤ y → nat_le x y ≡ true
-      yes_of x y (inl yes) h = yes.0
-      yes_of x y (inr no) h = let lt = no.1 in absurd (omega (arith, lt, h))
+      yes_of x y (inl holds) h = holds.0
+      yes_of x y (inr fails) h = let lt = fails.1 in absurd (omega (arith, lt, h))
 
   pub is_vector : (j : ℕ) (counts : List ℕ) → j < length es → length counts ≡ parties → ((p : ℕ) → p < parties → slice_index counts p ≡ at j p)
       → IsVector es parties j counts

@@ -61,7 +61,7 @@ pub it_does_not_answer_the_second : Answers entries 1 3 → ⊥
 it_does_not_answer_the_second h =
     let a : by 1 1 2 (Offer 1 0 (Int (pos 6))) ≡ h.asking = some_same _ _ h.asks in
     let b : by 1 2 2 (Got 0 0 (pos 5)) ≡ h.answering = some_same _ _ h.answers_it in
-    let no : false ≡ true = ap (λ (x : Stamped). answers (Got 0 0 (pos 5)) x.entry.event) a ∙ ap (λ (x : Stamped). answers x.entry.event h.asking.entry.event) b ∙ h.answer in
+    let bad : false ≡ true = ap (λ (x : Stamped). answers (Got 0 0 (pos 5)) x.entry.event) a ∙ ap (λ (x : Stamped). answers x.entry.event h.asking.entry.event) b ∙ h.answer in
     cc
 
 pub the_third_is_later_than_the_first : IsEarlier entries 0 2
@@ -78,8 +78,8 @@ pub not_of_another_party : IsEarlier entries 0 1 → ⊥
 not_of_another_party h =
     let a : by 0 1 2 (Offer 0 0 (Int (pos 5))) ≡ h.one = some_same _ _ h.is_one in
     let b : by 1 1 2 (Offer 1 0 (Int (pos 6))) ≡ h.next = some_same _ _ h.is_next in
-    let no : 0 ≡ 1 = ap (λ (x : Stamped). x.party) a ∙ h.party ∙ sym (ap (λ (x : Stamped). x.party) b) in
-    omega (arith, no)
+    let bad : 0 ≡ 1 = ap (λ (x : Stamped). x.party) a ∙ h.party ∙ sym (ap (λ (x : Stamped). x.party) b) in
+    omega (arith, bad)
 
 pub the_first_is_before_the_fourth : IsOrder entries 0 3 Before
 the_first_is_before_the_fourth = by_answer 0 3 the_fourth_answers_the_first
@@ -110,7 +110,7 @@ earlier_at i j x y p q h = subst (λ k. IsEarlier entries k y) p (subst (λ k. I
 answers_no : (j : ℕ) (e : Stamped) → slice_get entries j ≡ Some e → ((x : Stamped) → answers e.entry.event x.entry.event ≡ false) → (i : ℕ) → Answers entries i j → ⊥
 answers_no j e is none i h =
     let b : e ≡ h.answering = some_same _ _ (sym is ∙ h.answers_it) in
-    let no : false ≡ true = sym (none h.asking) ∙ ap (λ (x : Stamped). answers x.entry.event h.asking.entry.event) b ∙ h.answer in
+    let bad : false ≡ true = sym (none h.asking) ∙ ap (λ (x : Stamped). answers x.entry.event h.asking.entry.event) b ∙ h.answer in
     cc
 
 -- of an offer that is the first entry of its party
@@ -163,13 +163,13 @@ module _ (law : BeforeIsEarlier) where
       let e = earlier_at i j 2 3 p q h in
       let a : by 0 2 2 (Got 1 0 (pos 6)) ≡ e.one = some_same _ _ e.is_one in
       let b : by 1 2 2 (Got 0 0 (pos 5)) ≡ e.next = some_same _ _ e.is_next in
-      let no : 0 ≡ 1 = ap (λ (x : Stamped). x.party) a ∙ e.party ∙ sym (ap (λ (x : Stamped). x.party) b) in
-      omega (arith, no)
+      let bad : 0 ≡ 1 = ap (λ (x : Stamped). x.party) a ∙ e.party ∙ sym (ap (λ (x : Stamped). x.party) b) in
+      omega (arith, bad)
   the_third_is_not_before_the_fourth i j (by_answer _ _ h) p q =
       let e = answers_at i j 2 3 p q h in
       let a : by 0 2 2 (Got 1 0 (pos 6)) ≡ e.asking = some_same _ _ e.asks in
       let b : by 1 2 2 (Got 0 0 (pos 5)) ≡ e.answering = some_same _ _ e.answers_it in
-      let no : false ≡ true = ap (λ (x : Stamped). answers (Got 0 0 (pos 5)) x.entry.event) a
+      let bad : false ≡ true = ap (λ (x : Stamped). answers (Got 0 0 (pos 5)) x.entry.event) a
           ∙ ap (λ (x : Stamped). answers x.entry.event e.asking.entry.event) b ∙ e.answer in
       cc
   the_third_is_not_before_the_fourth i j (by_way _ k _ f g) p q = let a = earlier i k f in let b = earlier k j g in omega (arith, a, b, p, q)
@@ -178,9 +178,9 @@ module _ (law : BeforeIsEarlier) where
   in_it : (i : ℕ) → i < 6 → in_its_past i ≡ true → (i ≡ 3) ⊎ IsBefore entries i 3
   in_it zero lt h = inr the_first_is_before_the_fourth
   in_it (suc zero) lt h = inr the_second_is_before_the_fourth
-  in_it (suc (suc zero)) lt h = let no : false ≡ true = h in absurd (cc)
+  in_it (suc (suc zero)) lt h = let bad : false ≡ true = h in absurd (cc)
   in_it (suc (suc (suc zero))) lt h = inl refl
-  in_it (suc (suc (suc (suc n)))) lt h = let no : false ≡ true = h in absurd (cc)
+  in_it (suc (suc (suc (suc n)))) lt h = let bad : false ≡ true = h in absurd (cc)
 
   all_of_it : (i : ℕ) → i < 6 → (i ≡ 3) ⊎ IsBefore entries i 3 → in_its_past i ≡ true
   all_of_it zero lt h = refl
@@ -246,16 +246,16 @@ of_one_party_alone i j (of_one_party _ _ h) = known i h.one h.is_one ∙ h.party
     known zero e is = ap (λ (x : Stamped). x.party) (some_same _ _ is)
     known (suc zero) e is = ap (λ (x : Stamped). x.party) (some_same _ _ is)
     known (suc (suc zero)) e is = ap (λ (x : Stamped). x.party) (some_same _ _ is)
-    known (suc (suc (suc n))) e is = let no : ◌≡◌ {A = Option Stamped} None (Some e) = is in absurd (cc)
+    known (suc (suc (suc n))) e is = let bad : ◌≡◌ {A = Option Stamped} None (Some e) = is in absurd (cc)
 of_one_party_alone i j (by_answer _ _ h) = absurd (offers_alone j h.answering h.answers_it h.answer)
   where
     offers_alone : (j : ℕ) (e : Stamped) → slice_get apart j ≡ Some e → answers e.entry.event h.asking.entry.event ≡ true → ⊥
-    offers_alone zero e is a = let no : false ≡ true = ap (λ (x : Stamped). answers x.entry.event h.asking.entry.event) (some_same _ _ is) ∙ a in cc
-    offers_alone (suc zero) e is a = let no : false ≡ true = ap (λ (x : Stamped). answers x.entry.event h.asking.entry.event) (some_same _ _ is) ∙ a in cc
-    offers_alone (suc (suc zero)) e is a = let no : false ≡ true = ap (λ (x : Stamped). answers x.entry.event h.asking.entry.event) (some_same _ _ is) ∙ a in cc
-    offers_alone (suc (suc (suc n))) e is a = let no : ◌≡◌ {A = Option Stamped} None (Some e) = is in cc
+    offers_alone zero e is a = let bad : false ≡ true = ap (λ (x : Stamped). answers x.entry.event h.asking.entry.event) (some_same _ _ is) ∙ a in cc
+    offers_alone (suc zero) e is a = let bad : false ≡ true = ap (λ (x : Stamped). answers x.entry.event h.asking.entry.event) (some_same _ _ is) ∙ a in cc
+    offers_alone (suc (suc zero)) e is a = let bad : false ≡ true = ap (λ (x : Stamped). answers x.entry.event h.asking.entry.event) (some_same _ _ is) ∙ a in cc
+    offers_alone (suc (suc (suc n))) e is a = let bad : ◌≡◌ {A = Option Stamped} None (Some e) = is in cc
 of_one_party_alone i j (by_way _ k _ f g) = of_one_party_alone i k f ∙ of_one_party_alone k j g
 
 pub a_lesser_stamp_is_not_before : IsOrder apart 1 2 Concurrent
 a_lesser_stamp_is_not_before =
-    ((λ e. omega (arith, e)), (λ h. let no : 1 ≡ 0 = of_one_party_alone 1 2 h in omega (arith, no)), (λ h. let no : 0 ≡ 1 = of_one_party_alone 2 1 h in omega (arith, no)))
+    ((λ e. omega (arith, e)), (λ h. let bad : 1 ≡ 0 = of_one_party_alone 1 2 h in omega (arith, bad)), (λ h. let bad : 0 ≡ 1 = of_one_party_alone 2 1 h in omega (arith, bad)))

@@ -158,7 +158,7 @@ module _ (es : List Stamped) (k : ℕ) (P : Past) (M : Marked) (e : Stamped) (wa
   mark_other l h = get_or-set_other M.links l0 l ps' [] h
 
   sound : (q : Option LinkOffer) → slice_get os n0 ≡ q → IsSound q
-  sound None g a = let no : false ≡ true = a in absurd (cc)
+  sound None g a = let bad : false ≡ true = a in absurd (cc)
   sound (Some o) g a = let h = was.held l0 n0 o g in sym h.gave ∙ did_gives h.entry.entry.event (h.did a)
 
   pub own : Step ev e.entry.stamp (slice_get os n0) (slice_get os' n0)
@@ -343,7 +343,7 @@ past_cons P x es zero = refl
 past_cons P x es (suc k) = ap (λ q. after_one q (slice_get es k)) (past_cons P x es k)
 
 pub fits_at : (P : Past) (es : List Stamped) → IsLegal P es → (k : ℕ) (e : Stamped) → slice_get es k ≡ Some e → fits (past_at P es k) e ≡ true
-fits_at P [] h k e is = let no : ◌≡◌ {A = Option Stamped} None (Some e) = is in absurd (cc)
+fits_at P [] h k e is = let bad : ◌≡◌ {A = Option Stamped} None (Some e) = is in absurd (cc)
 fits_at P (x ∷ es) h zero e is = subst (λ y. fits P y ≡ true) (same_Some x e is) h.0
 fits_at P (x ∷ es) h (suc k) e is = subst (λ q. fits q e ≡ true) (sym (past_cons P x es k)) (fits_at (after P x) es h.1 k e is)
 
@@ -352,7 +352,7 @@ empty_at zero l = refl
 empty_at (suc k) zero = refl
 empty_at (suc k) (suc l) = empty_at k l
 
-pub zero_at : (k p : ℕ) → get_or (replicate k 0) p 0 ≡ 0
+pub zero_at : (k p : ℕ) → get_or {A = ℕ} (replicate k 0) p 0 ≡ 0
 zero_at zero p = refl
 zero_at (suc k) zero = refl
 zero_at (suc k) (suc p) = zero_at k p
@@ -371,7 +371,7 @@ begins capacities cores es = record {
   where
     none : (l n : ℕ) (o : LinkOffer) → slice_get (link_at (start capacities cores) l) n ≡ Some o → ⊥
     none l n o g =
-        let no : ◌≡◌ {A = Option LinkOffer} None (Some o) = sym (ap (λ x. slice_get x n) (empty_at {X = LinkOffer} (length capacities) l)) ∙ g in cc
+        let bad : ◌≡◌ {A = Option LinkOffer} None (Some o) = sym (ap (λ x. slice_get x n) (empty_at {X = LinkOffer} (length capacities) l)) ∙ g in cc
 
 goes_by : (es : List Stamped) (k : ℕ) (P : Past) (M : Marked) → Kept es k P M → ((e : Stamped) → slice_get es k ≡ Some e → fits P e ≡ true)
     → (q : Option Stamped) → slice_get es k ≡ q → Kept es (suc k) (after_one P q) (marked_by M (suc k) q)
@@ -391,7 +391,7 @@ goes_by es k P M was fit None is = record {
     before i x lt g (inl b) = b
     before i x lt g (inr b) =
         let same : k ≡ i = omega arith in
-        let no : ◌≡◌ {A = Option Stamped} None (Some x) = sym is ∙ ap (λ j. slice_get es j) same ∙ g in
+        let bad : ◌≡◌ {A = Option Stamped} None (Some x) = sym is ∙ ap (λ j. slice_get es j) same ∙ g in
         absurd (cc)
 
 pub kept_at : (capacities : List ℕ) (cores : ℕ) (es : List Stamped) → IsLegal (start capacities cores) es

@@ -64,7 +64,7 @@ is_reply _ = false
 
 pub did_gives : (e : Event) → is_did e ≡ true → gives e ≡ 3
 did_gives (Did l n answer) h = refl
-did_gives _ h = let no : false ≡ true = h in absurd (cc)
+did_gives _ h = let bad : false ≡ true = h in absurd (cc)
 
 abbrev pub has_answer_at : Option LinkOffer → Bool
 has_answer_at None = false
@@ -72,36 +72,36 @@ has_answer_at (Some o) = is_some o.answer
 
 offered_level : (s : Standing) → is_offered s ≡ true → level s ≡ 1
 offered_level Offered h = refl
-offered_level Taken h = let no : false ≡ true = h in absurd (cc)
-offered_level Withdrawn h = let no : false ≡ true = h in absurd (cc)
-offered_level Passed h = let no : false ≡ true = h in absurd (cc)
+offered_level Taken h = let bad : false ≡ true = h in absurd (cc)
+offered_level Withdrawn h = let bad : false ≡ true = h in absurd (cc)
+offered_level Passed h = let bad : false ≡ true = h in absurd (cc)
 
 withdrawn_level : (s : Standing) → is_withdrawn s ≡ true → level s ≡ 2
-withdrawn_level Offered h = let no : false ≡ true = h in absurd (cc)
-withdrawn_level Taken h = let no : false ≡ true = h in absurd (cc)
+withdrawn_level Offered h = let bad : false ≡ true = h in absurd (cc)
+withdrawn_level Taken h = let bad : false ≡ true = h in absurd (cc)
 withdrawn_level Withdrawn h = refl
-withdrawn_level Passed h = let no : false ≡ true = h in absurd (cc)
+withdrawn_level Passed h = let bad : false ≡ true = h in absurd (cc)
 
 taken_level : (s : Standing) → is_taken s ≡ true → level s ≡ 3
-taken_level Offered h = let no : false ≡ true = h in absurd (cc)
+taken_level Offered h = let bad : false ≡ true = h in absurd (cc)
 taken_level Taken h = refl
-taken_level Withdrawn h = let no : false ≡ true = h in absurd (cc)
-taken_level Passed h = let no : false ≡ true = h in absurd (cc)
+taken_level Withdrawn h = let bad : false ≡ true = h in absurd (cc)
+taken_level Passed h = let bad : false ≡ true = h in absurd (cc)
 
 passed_level : (s : Standing) → is_passed s ≡ true → level s ≡ 4
-passed_level Offered h = let no : false ≡ true = h in absurd (cc)
-passed_level Taken h = let no : false ≡ true = h in absurd (cc)
-passed_level Withdrawn h = let no : false ≡ true = h in absurd (cc)
+passed_level Offered h = let bad : false ≡ true = h in absurd (cc)
+passed_level Taken h = let bad : false ≡ true = h in absurd (cc)
+passed_level Withdrawn h = let bad : false ≡ true = h in absurd (cc)
 passed_level Passed h = refl
 
 answered_some : (answer : Answer) (q : Option Answer) → has_answer answer q ≡ true → is_some q ≡ true
-answered_some answer None h = let no : false ≡ true = h in absurd (cc)
+answered_some answer None h = let bad : false ≡ true = h in absurd (cc)
 answered_some answer (Some it) h = refl
 
 -- ---- one element of a list
 
 pub get_set_same : {X : Type 0} (xs : List X) (n : ℕ) (x y : X) → slice_get xs n ≡ Some x → slice_get (slice_set xs n y) n ≡ Some y
-get_set_same [] n x y h = let no : None ≡ Some x = h in absurd (cc)
+get_set_same [] n x y h = let bad : None ≡ Some x = h in absurd (cc)
 get_set_same (z ∷ xs) zero x y h = refl
 get_set_same (z ∷ xs) (suc n) x y h = get_set_same xs n x y h
 
@@ -153,7 +153,7 @@ length_changed os k f (Some o) = length-set os k (f o)
 
 some_of : (test : Option LinkOffer → Bool) → test None ≡ false → (q : Option LinkOffer) → test q ≡ true
     → (o : LinkOffer) × (q ≡ Some o) × (test (Some o) ≡ true)
-some_of test none None h = let no : false ≡ true = sym none ∙ h in absurd (cc)
+some_of test none None h = let bad : false ≡ true = sym none ∙ h in absurd (cc)
 some_of test none (Some o) h = (o, refl, h)
 
 -- it stands as it stood
@@ -190,13 +190,13 @@ unanswered before o is sound other a = other (sym (ap level_at is) ∙ sound (ap
 raise : (e : Event) (s : ℕ) (before after : Option LinkOffer) (o new : LinkOffer) → before ≡ Some o → after ≡ Some new
     → level o.standing < gives e → level new.standing ≡ gives e → new.stamp ≡ s → (is_some new.answer ≡ true → is_did e ≡ true)
     → (0 < wants e → level o.standing ≡ wants e) → is_reply e ≡ false → Step e s before after
-raise e s before after o new is now below up stamp answer wanted no_reply = record {
+raise e s before after o new is now below up stamp answer wanted other = record {
   new = new;
   is_new = now;
   rises = λ g. record { below = (let k : level_at before ≡ level o.standing = ap level_at is in omega (arith, k)); up = up; stamp = stamp; answer = answer };
   stays = λ g. absurd (omega (arith, g));
   wanted = λ w. ap level_at is ∙ wanted w;
-  replied = λ r. (let no : false ≡ true = sym no_reply ∙ r in absurd (cc));
+  replied = λ r. (let bad : false ≡ true = sym other ∙ r in absurd (cc));
 }
 
 keep : (e : Event) (s : ℕ) (before after : Option LinkOffer) (o new : LinkOffer) → before ≡ Some o → after ≡ Some new → gives e ≡ 0
@@ -211,8 +211,8 @@ keep e s before after o new is now none standing stamp answer wanted replied = r
   replied = λ r. ap has_answer_at is ∙ replied r;
 }
 
-no_reply : (P : Type 0) → false ≡ true → P
-no_reply P no = absurd (cc)
+impossible : (P : Type 0) → false ≡ true → P
+impossible P h = absurd (cc)
 
 module _ (terms : Terms) (os : List LinkOffer) (s : ℕ) where
   abbrev own_before : Event → Option LinkOffer
@@ -237,10 +237,10 @@ module _ (terms : Terms) (os : List LinkOffer) (s : ℕ) where
       record {
         new = new;
         is_new = subst (λ k. slice_get (os ++ new ∷ []) k ≡ Some new) (sym next) (get_pushed_last os new);
-        rises = λ g. record { below = omega (arith, low); up = refl; stamp = refl; answer = λ a. no_reply _ a };
+        rises = λ g. record { below = omega (arith, low); up = refl; stamp = refl; answer = λ a. impossible _ a };
         stays = λ g. absurd (omega (arith, g));
         wanted = λ w. absurd (omega (arith, w));
-        replied = λ r. no_reply _ r;
+        replied = λ r. impossible _ r;
       }
   own_step (Withdraw l n) fits sound =
       let q = some_of withdraws refl (slice_get os n) fits in
@@ -250,17 +250,17 @@ module _ (terms : Terms) (os : List LinkOffer) (s : ℕ) where
   own_step (Know l n) fits sound =
       let q = some_of knows refl (slice_get os n) fits in
       let three = taken_level q.0.standing (and_parts (is_taken q.0.standing) (not q.0.known) q.2).0 in
-      keep (Know l n) s _ _ q.0 (now_known q.0) q.1 (own_changed os n now_known q.0 q.1) refl refl refl refl (λ w. three) (λ r. no_reply _ r)
+      keep (Know l n) s _ _ q.0 (now_known q.0) q.1 (own_changed os n now_known q.0 q.1) refl refl refl refl (λ w. three) (λ r. impossible _ r)
   own_step (Room l n) fits sound =
       let q = some_of frees refl (slice_get os n) fits in
       let four = passed_level q.0.standing (and_parts (is_passed q.0.standing) (not q.0.known) q.2).0 in
-      keep (Room l n) s _ _ q.0 (now_known q.0) q.1 (own_changed os n now_known q.0 q.1) refl refl refl refl (λ w. four) (λ r. no_reply _ r)
+      keep (Room l n) s _ _ q.0 (now_known q.0) q.1 (own_changed os n now_known q.0 q.1) refl refl refl refl (λ w. four) (λ r. impossible _ r)
   own_step (Got l n value) fits sound =
       let t = (and_parts (n == front_of os) (takes (Message value) (slice_get os n)) fits).1 in
       let q = some_of (takes (Message value)) refl (slice_get os n) t in
       let one = offered_level q.0.standing (and_parts (is_offered q.0.standing) (carries (Message value) q.0.payload) q.2).0 in
       raise (Got l n value) s _ _ q.0 (now_taken (Message value) s q.0) q.1 (own_changed os n (now_taken (Message value) s) q.0 q.1) (omega (arith, one)) refl refl
-      (λ a. no_reply _ a) (λ w. one) refl
+      (λ a. impossible _ a) (λ w. one) refl
   own_step (Pass l n) fits sound =
       let t = (and_parts (n == front_of os) (passes (slice_get os n)) fits).1 in
       let q = some_of passes refl (slice_get os n) t in

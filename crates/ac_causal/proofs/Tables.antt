@@ -1,6 +1,6 @@
 -- The table of the vectors: one row more, and that its rows are the counts of the order's proof.
 -- A row is made of the rows of two marks, which are of entries before: so a longer table has the same rows, and no count is above the number of rows.
-use Rattle.std.proofs.Common.{◌≡◌, ℕ, zero, suc, ◌+◌, ◌-◌, ◌*◌, ◌<◌, ◌≤◌, List, [], ◌∷◌, ◌++◌, length, Option, Some, None, Bool, true, false, refl, sym, ap, ◌∙◌, subst, arith, get_or, set, ◌⊎◌, inl, inr, take, length-append, append_assoc}
+use Rattle.std.proofs.Common.{◌≡◌, ℕ, zero, suc, ◌+◌, ◌-◌, ◌*◌, ◌<◌, ◌≤◌, List, [], ◌∷◌, ◌++◌, length, Option, Some, None, Bool, true, false, refl, sym, ap, ◌∙◌, subst, arith, get_or, set, ◌⊎◌, inl, inr, take, length-append, append_assoc, add-one}
 use Rattle.std.specs.Prelude.{◌==◌, slice_get, slice_index, replicate, max}
 use Rattle.std.proofs.Math.ListN.{get_or-append}
 use Rattle.std.proofs.Math.Nat.{mul_comm}
@@ -102,8 +102,8 @@ row_begins parties party last seen old = record {
     no_more [] = refl
     no_more (x ∷ xs) = ap (λ ys. x ∷ ys) (no_more xs)
 
-each_pushed : (row : List ℕ) (count columns : ℕ) (f : ℕ → ℕ) → length row ≡ columns → ((p : ℕ) → p < columns → slice_index row p ≡ f p) → count ≡ f columns
-    → (p : ℕ) → p < suc columns → (p < columns) ⊎ (columns ≤ p) → slice_index (row ++ count ∷ []) p ≡ f p
+pub each_pushed : (row : List ℕ) (count columns : ℕ) (f : ℕ → ℕ) → length row ≡ columns → ((p : ℕ) → p < columns → slice_index row p ≡ f p) → count ≡ f columns
+    → (p : ℕ) → p < columns + 1 → (p < columns) ⊎ (columns ≤ p) → slice_index (row ++ count ∷ []) p ≡ f p
 each_pushed row count columns f as_many each is p lt (inl before) =
     let in_row : p < length row = omega (arith, as_many, before) in
     get_or-append row (count ∷ []) 0 p in_row ∙ each p before
@@ -113,13 +113,16 @@ each_pushed row count columns f as_many each is p lt (inr last_one) =
     ap (λ i. get_or (row ++ count ∷ []) i 0) here ∙ get_or-append-add row (count ∷ []) 0 0 ∙ is ∙ ap f same
 
 pub row_goes_on : (parties party last seen count : ℕ) (old new : List ℕ) (columns : ℕ) → HasRow parties party last seen old new columns
-    → count ≡ new_count parties old party last seen columns → HasRow parties party last seen old (new ++ count ∷ []) (suc columns)
+    → count ≡ new_count parties old party last seen columns → HasRow parties party last seen old (new ++ count ∷ []) (columns + 1)
 row_goes_on parties party last seen count old new columns h is = record {
   row = h.row ++ count ∷ [];
   form = ap (λ xs. xs ++ count ∷ []) h.form ∙ append_assoc old h.row (count ∷ []);
   columns_are = (let a = length-append h.row (count ∷ []) in let b = h.columns_are in omega (arith, a, b));
   each = λ p lt. each_pushed h.row count columns (λ q. new_count parties old party last seen q) h.columns_are h.each is p lt (cases_lt p columns);
 }
+
+pub rows_fit : (parties party last seen : ℕ) (old new : List ℕ) (columns : ℕ) → HasRow parties party last seen old new columns → length old ≤ length new
+rows_fit parties party last seen old new columns h = let a = ap length h.form in let b = length-append old h.row in omega (arith, a, b)
 
 -- the rows before are as they were
 pub rows_before : (parties party last seen rows : ℕ) (old new : List ℕ) (columns : ℕ) → HasRow parties party last seen old new columns → rows ≡ length old → take rows new ≡ old
@@ -211,6 +214,23 @@ module _ (links parties : ℕ) (es : List Stamped) (k : ℕ) (table new : List �
     small = λ i. small_by_place i (cases_lt i (length table));
     row = λ j p x le lt is_x. row_by j p x le lt is_x (cases_lt j k);
   }
+
+-- as the code has it
+pub marks_go_on : (es : List Stamped) (first M : Marked) (k : ℕ) (e : Stamped) → M ≡ marked_at es first k → slice_get es k ≡ Some e
+    → marked_after M (k + 1) e ≡ marked_at es first (k + 1)
+marks_go_on es first M k e h is =
+    ap (λ m. marked_after m (k + 1) e) h ∙ ap (λ n. marked_after (marked_at es first k) n e) (add-one k)
+    ∙ ap (λ q. marked_by (marked_at es first k) (suc k) q) (sym is) ∙ sym (ap (λ n. marked_at es first n) (add-one k))
+
+pub table_by : (links parties k last seen : ℕ) (es : List Stamped) (table new : List ℕ) (e : Stamped) (M : Marked) → IsTable parties (no_marks links parties) es k table
+    → slice_get es k ≡ Some e → M ≡ marked_at es (no_marks links parties) k → last ≡ last_mark M e → seen ≡ seen_mark M e
+    → HasRow parties e.party last seen table new parties → IsTable parties (no_marks links parties) es (k + 1) new
+table_by links parties k last seen es table new e M was is marks at_last at_seen has =
+    let l : last ≡ last_mark (marked_at es (no_marks links parties) k) e = at_last ∙ ap (λ m. last_mark m e) marks in
+    let s : seen ≡ seen_mark (marked_at es (no_marks links parties) k) e = at_seen ∙ ap (λ m. seen_mark m e) marks in
+    let h = subst (λ x. HasRow parties e.party x (seen_mark (marked_at es (no_marks links parties) k) e) table new parties) l
+        (subst (λ y. HasRow parties e.party last y table new parties) s has) in
+    subst (λ n. IsTable parties (no_marks links parties) es n new) (sym (add-one k)) (table_goes_on links parties es k table new e was is h)
 
 -- ---- its counts
 

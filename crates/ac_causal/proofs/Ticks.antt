@@ -26,15 +26,15 @@ pub record Ticks (es : List Stamped) (parties : ℕ) (at : ℕ → ℕ → ℕ) 
   pub seen_made : (j w : ℕ) (e : Stamped) → slice_get es j ≡ Some e → seen j e ≡ suc w → (w < j) × Answers es w j
   pub seen_all : (i j : ℕ) (a : Answers es i j) → seen j a.answering ≡ suc i
 
-own_tick : (b : Bool) (n m : ℕ) → b ≡ true → m ≡ ticked b n → m ≡ suc n
+pub own_tick : (b : Bool) (n m : ℕ) → b ≡ true → m ≡ ticked b n → m ≡ suc n
 own_tick true n m h e = e
-own_tick false n m h e = let no : false ≡ true = h in absurd (cc)
+own_tick false n m h e = let bad : false ≡ true = h in absurd (cc)
 
-other_tick : (b : Bool) (n m : ℕ) → b ≡ false → m ≡ ticked b n → m ≡ n
-other_tick true n m h e = let no : true ≡ false = h in absurd (cc)
+pub other_tick : (b : Bool) (n m : ℕ) → b ≡ false → m ≡ ticked b n → m ≡ n
+other_tick true n m h e = let bad : true ≡ false = h in absurd (cc)
 other_tick false n m h e = e
 
-any_tick : (b : Bool) (n m : ℕ) → m ≡ ticked b n → n ≤ m
+pub any_tick : (b : Bool) (n m : ℕ) → m ≡ ticked b n → n ≤ m
 any_tick true n m e = let k : m ≡ suc n = e in omega (arith, k)
 any_tick false n m e = let k : m ≡ n = e in omega (arith, k)
 
@@ -57,11 +57,11 @@ module _ (es : List Stamped) (parties : ℕ) (at : ℕ → ℕ → ℕ) (last se
       → at j p ≡ suc (max (mark_count at (last j e) p) (mark_count at (seen j e) p))
   own_row j p e is same =
       let lt = t.party j e is in
-      own_tick (p == e.party) _ (at j p) (eq-eqb p e.party same) (t.row j p e is (omega (arith, lt, same)))
+      own_tick (p == e.party) (max (mark_count at (last j e) p) (mark_count at (seen j e) p)) (at j p) (eq-eqb p e.party same) (t.row j p e is (omega (arith, lt, same)))
 
   pub other_row : (j p : ℕ) (e : Stamped) → slice_get es j ≡ Some e → p < parties → (p == e.party) ≡ false
       → at j p ≡ max (mark_count at (last j e) p) (mark_count at (seen j e) p)
-  other_row j p e is lt other = other_tick (p == e.party) _ (at j p) other (t.row j p e is lt)
+  other_row j p e is lt other = other_tick (p == e.party) (max (mark_count at (last j e) p) (mark_count at (seen j e) p)) (at j p) other (t.row j p e is lt)
 
   -- ---- along a party
 
@@ -140,8 +140,8 @@ module _ (es : List Stamped) (parties : ℕ) (at : ℕ → ℕ → ℕ) (last se
   told_last : (i j : ℕ) (a e : Stamped) → slice_get es i ≡ Some a → slice_get es j ≡ Some e → 0 < at i a.party
       → ((w : ℕ) (x : Stamped) → w < j → slice_get es w ≡ Some x → at i a.party ≤ at w a.party → IsUpTo i w)
       → (m : ℕ) → last j e ≡ m → at i a.party ≤ mark_count at m a.party → IsBefore es i j
-  told_last i j a e is_a is_e some before zero h le = absurd (omega (arith, some, le))
-  told_last i j a e is_a is_e some before (suc w) h le =
+  told_last i j a e is_a is_e above before zero h le = absurd (omega (arith, above, le))
+  told_last i j a e is_a is_e above before (suc w) h le =
       let m = t.last_made j w e is_e h in
       then_of_party i w j (before w m.1.0 m.0 m.1.1 le)
       (record { one = m.1.0; next = e; is_one = m.1.1; is_next = is_e; party = m.1.2; earlier = m.0 })
@@ -149,8 +149,8 @@ module _ (es : List Stamped) (parties : ℕ) (at : ℕ → ℕ → ℕ) (last se
   told_seen : (i j : ℕ) (a e : Stamped) → slice_get es i ≡ Some a → slice_get es j ≡ Some e → 0 < at i a.party
       → ((w : ℕ) (x : Stamped) → w < j → slice_get es w ≡ Some x → at i a.party ≤ at w a.party → IsUpTo i w)
       → (m : ℕ) → seen j e ≡ m → at i a.party ≤ mark_count at m a.party → IsBefore es i j
-  told_seen i j a e is_a is_e some before zero h le = absurd (omega (arith, some, le))
-  told_seen i j a e is_a is_e some before (suc w) h le =
+  told_seen i j a e is_a is_e above before zero h le = absurd (omega (arith, above, le))
+  told_seen i j a e is_a is_e above before (suc w) h le =
       let m = t.seen_made j w e is_e h in
       then_answers i w j (before w m.1.asking m.0 m.1.asks le) m.1
 

@@ -62,9 +62,11 @@ impl<'a> Causal<'a> {
         requires { entry < length self.now.entries }
         ensures { IfOk result (λ it. IsVector self.now.entries self.now.parties entry it) }
     {
+        let parties = self.parties;
+        let table = self.table.as_slice();
         let mut counts = List::new(alloc);
-        for party in 0..self.parties {
-            counts.push(count_at(self.table.as_slice(), self.parties, entry as u32 + 1, party))?;
+        for party in 0..parties {
+            counts.push(count_at(table, parties, entry as u32 + 1, party))?;
         }
         Ok(counts)
     }
