@@ -8,5 +8,5 @@ mod order;
 mod table;
 
 pub use causal::Causal;
-pub use law::stamps_rise;
+pub use law::{runs_are_legal, stamps_rise};
 pub use order::Order;
