@@ -132,7 +132,7 @@ module _ (es : List Stamped) (parties : ℕ) (at : ℕ → ℕ → ℕ) (last se
           → ((x : Stamped) → w < j → slice_get es w ≡ Some x → of_party x.party (suc w) ≤ at w x.party) → of_party e.party (suc w) ≤ at w e.party
       least_at w m ih = subst (λ q. of_party q (suc w) ≤ at w q) m.1.2 (ih m.1.0 m.0 m.1.1)
 
-  own_count : (j : ℕ) (e : Stamped) → slice_get es j ≡ Some e → at j e.party ≡ suc (of_party e.party j)
+  pub own_count : (j : ℕ) (e : Stamped) → slice_get es j ≡ Some e → at j e.party ≡ suc (of_party e.party j)
   own_count j e is =
       let a = most j e.party e is (t.party j e is) in
       let b = least_within (suc j) j e (omega arith) is in

@@ -3,32 +3,42 @@
 -- What holds is built from its parts. That the offers are concurrent: of an offer that is its party's first entry, nothing is before it.
 use Rattle.std.proofs.Common.{◌≡◌, ◌≢◌, ℕ, zero, suc, ◌+◌, ◌<◌, ◌≤◌, List, [], ◌∷◌, length, Option, Some, None, Bool, true, false, cond, refl, sym, ap, ◌∙◌, subst, arith, ◌⊎◌, inl, inr}
 use Rattle.std.specs.Prelude.{◌&&◌, pos, slice_get, slice_index}
+use Rattle.std.proofs.lemmas.Bool.{and_parts}
 use Rattle.ac_base.specs.declared.entry.Payload.TheVariants.{Int}
 use Rattle.ac_base.specs.declared.entry.Answer.TheVariants.{Count}
 use Rattle.ac_base.specs.declared.entry.Event.TheVariants.{Offer, Withdraw, Know, Room, Got, Pass, Did, Reply}
 use Rattle.ac_base.specs.declared.entry.Stamped.{Stamped}
-use Rattle.ac_history.specs.History.{IsLegal, start}
+use Rattle.ac_commands.specs.declared.program.Resolved.{Resolved}
+use Rattle.ac_translation.specs.Translation.{code_of}
+use Rattle.ac_links.specs.Link.{link_fits}
+use Rattle.ac_history.specs.History.{Past, IsLegal, start, in_range, is_later, has_stamp, may_make, terms_of, link_at}
+use Rattle.trace_text.specs.declared.trace.Trace.{Trace}
+use Rattle.trace_audit.specs.RunTrace.{IsRunTrace}
 use Rattle.ac_history.proofs.Examples.{by}
 use Rattle.ac_causal.specs.Before.{is_offering, is_passing, is_doing, answers, Answers, IsEarlier, IsBefore, of_one_party, by_answer, by_way, IsOrder, count_below, is_of, IsVector}
 use Rattle.ac_causal.specs.declared.order.Order.TheVariants.{Same, Before, After, Concurrent}
-use Rattle.ac_causal.specs.Laws.{BeforeIsEarlier, StampsRise}
+use Rattle.ac_causal.specs.Laws.{BeforeIsEarlier, StampsRise, RunsAreLegal}
 use Rattle.ac_causal.specs.Run.{CausalRun}
 
 -- ---- events
 
-pub an_offer_is_taken : answers (Got 0 2 (pos 5)) (Offer 0 2 (Int (pos 5))) ∷ answers (Got 0 2 (pos 5)) (Offer 1 2 (Int (pos 5))) ∷ answers (Got 0 2 (pos 5)) (Offer 0 3 (Int (pos 5))) ∷ [] ≡ true ∷ false ∷ false ∷ []
+pub an_offer_is_taken : answers (Got 0 2 (pos 5)) (Offer 0 2 (Int (pos 5))) ∷ answers (Got 0 2 (pos 5)) (Offer 1 2 (Int (pos 5))) ∷ answers (Got 0 2 (pos 5)) (Offer 0 3 (Int (pos 5))) ∷ []
+    ≡ true ∷ false ∷ false ∷ []
 an_offer_is_taken = refl
 
 pub nothing_is_answered_by_an_offer : answers (Offer 0 2 (Int (pos 5))) (Got 0 1 (pos 5)) ∷ answers (Withdraw 0 2) (Offer 0 2 (Int (pos 5))) ∷ [] ≡ false ∷ false ∷ []
 nothing_is_answered_by_an_offer = refl
 
-pub its_room_comes_back : answers (Pass 0 2) (Withdraw 0 2) ∷ answers (Pass 0 2) (Offer 0 2 (Int (pos 5))) ∷ answers (Room 0 2) (Pass 0 2) ∷ answers (Room 0 2) (Got 0 2 (pos 5)) ∷ [] ≡ true ∷ false ∷ true ∷ false ∷ []
+pub its_room_comes_back : answers (Pass 0 2) (Withdraw 0 2) ∷ answers (Pass 0 2) (Offer 0 2 (Int (pos 5))) ∷ answers (Room 0 2) (Pass 0 2) ∷ answers (Room 0 2) (Got 0 2 (pos 5)) ∷ []
+    ≡ true ∷ false ∷ true ∷ false ∷ []
 its_room_comes_back = refl
 
-pub a_request_has_its_reply : answers (Did 3 0 (Count 1)) (Offer 3 0 (Int (pos 5))) ∷ answers (Know 3 0) (Did 3 0 (Count 1)) ∷ answers (Reply 3 0 (Count 1)) (Did 3 0 (Count 1)) ∷ answers (Reply 3 0 (Count 1)) (Offer 3 0 (Int (pos 5))) ∷ [] ≡ true ∷ true ∷ true ∷ false ∷ []
+pub a_request_has_its_reply : answers (Did 3 0 (Count 1)) (Offer 3 0 (Int (pos 5))) ∷ answers (Know 3 0) (Did 3 0 (Count 1)) ∷ answers (Reply 3 0 (Count 1)) (Did 3 0 (Count 1)) ∷ answers (Reply 3 0
+    (Count 1)) (Offer 3 0 (Int (pos 5))) ∷ [] ≡ true ∷ true ∷ true ∷ false ∷ []
 a_request_has_its_reply = refl
 
-pub by_number_and_link : is_offering 0 1 (Offer 0 1 (Int (pos 5))) ∷ is_offering 0 1 (Offer 1 1 (Int (pos 5))) ∷ is_passing 0 1 (Pass 0 1) ∷ is_passing 0 1 (Pass 0 0) ∷ is_doing 0 1 (Did 0 1 (Count 1)) ∷ is_doing 0 1 (Got 0 1 (pos 5)) ∷ []
+pub by_number_and_link : is_offering 0 1 (Offer 0 1 (Int (pos 5))) ∷ is_offering 0 1 (Offer 1 1 (Int (pos 5))) ∷ is_passing 0 1 (Pass 0 1) ∷ is_passing 0 1 (Pass 0 0) ∷ is_doing 0 1 (Did 0 1
+    (Count 1)) ∷ is_doing 0 1 (Got 0 1 (pos 5)) ∷ []
     ≡ true ∷ false ∷ true ∷ false ∷ true ∷ false ∷ []
 by_number_and_link = refl
 
@@ -131,7 +141,8 @@ the_offers_are_concurrent = ((λ e. omega (arith, e)), (λ h. nothing_is_before_
 
 -- ---- vectors
 
-pub three_are_of_the_first_party : count_below (λ i. is_of 0 (slice_get entries i)) 6 ∷ count_below (λ i. is_of 0 (slice_get entries i)) 2 ∷ count_below (λ i. is_of 2 (slice_get entries i)) 6 ∷ [] ≡ 3 ∷ 1 ∷ 0 ∷ []
+pub three_are_of_the_first_party : count_below (λ i. is_of 0 (slice_get entries i)) 6 ∷ count_below (λ i. is_of 0 (slice_get entries i)) 2 ∷ count_below (λ i. is_of 2 (slice_get entries i)) 6 ∷ []
+    ≡ 3 ∷ 1 ∷ 0 ∷ []
 three_are_of_the_first_party = refl
 
 -- what is in the past of the fourth entry: the first two, and itself
@@ -259,3 +270,26 @@ of_one_party_alone i j (by_way _ k _ f g) = of_one_party_alone i k f ∙ of_one_
 pub a_lesser_stamp_is_not_before : IsOrder apart 1 2 Concurrent
 a_lesser_stamp_is_not_before =
     ((λ e. omega (arith, e)), (λ h. let bad : 1 ≡ 0 = of_one_party_alone 1 2 h in omega (arith, bad)), (λ h. let bad : 0 ≡ 1 = of_one_party_alone 2 1 h in omega (arith, bad)))
+
+pub nothing_later_is_before : BeforeIsEarlier → IsBefore entries 3 1 → ⊥
+nothing_later_is_before law h = let lt = law capacities 2 entries 3 1 they_are_legal h in omega (arith, lt)
+
+-- ---- a trace that is a run
+
+-- its first entry has a stamp that is not the first
+abbrev no_run : Trace
+no_run = record { steps = 100; start = []; entries = by 0 2 1 (Offer 0 0 (Int (pos 5))) ∷ []; ends = [] }
+
+stamp_of_five : (a b c d f : Bool) → a && b && c && d && f ≡ true → c ≡ true
+stamp_of_five a b c d f h = (and_parts (a && b) c (and_parts (a && b && c) d (and_parts (a && b && c && d) f h).0).0).1
+
+no_first_entry : (capacities : List ℕ) (cores : ℕ) → IsLegal (start capacities cores) no_run.entries → ⊥
+no_first_entry capacities cores h =
+    let e : Stamped = by 0 2 1 (Offer 0 0 (Int (pos 5))) in
+    let P : Past = start capacities cores in
+    let bad : false ≡ true = stamp_of_five (in_range P e) (is_later P.stamp P.party e) (has_stamp P e) (may_make P.channels P.cores e)
+        (link_fits (terms_of P.capacities P.channels 0) (link_at P 0) e.entry.event) h.0 in
+    cc
+
+pub an_audit_says_no_to_it : RunsAreLegal → (program : Resolved) → IsRunTrace program no_run → ⊥
+an_audit_says_no_to_it law program run = no_first_entry (code_of program).capacities (length (code_of program).entries) (law program no_run run)

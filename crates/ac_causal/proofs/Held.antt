@@ -14,7 +14,8 @@ use Rattle.ac_links.specs.declared.payloads.Terms.{Terms}
 use Rattle.ac_links.specs.Link.{link_fits, link_after, link_of, number_of, answered, standing_stamp}
 use Rattle.ac_history.specs.History.{Past, link_at, is_later, has_stamp, in_range, may_make, terms_of, fits, after, IsLegal, start}
 use Rattle.ac_causal.specs.inner.Marks.{Marked, no_marks, marks_of, link_marks_after, marked_after, marked_by, marked_at, answered_mark}
-use Rattle.ac_causal.proofs.Steps.{level, level_at, gives, wants, is_did, is_reply, did_gives, has_answer_at, IsSound, Step, Stays, Rises, own_step, other_step, marks_length, other_mark, own_mark, same_marks}
+use Rattle.ac_causal.proofs.Steps.{level, level_at, gives, wants, is_did, is_reply, did_gives, has_answer_at, IsSound}
+use Rattle.ac_causal.proofs.Steps.{Step, Stays, Rises, own_step, other_step, marks_length, other_mark, own_mark, same_marks}
 
 -- ---- one entry that fits
 

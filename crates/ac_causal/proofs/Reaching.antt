@@ -14,14 +14,14 @@ use Rattle.ac_causal.proofs.Ticks.{Ticks, told, tells}
 use Rattle.ac_causal.proofs.Tables.{at_row, ticks_of}
 use Rattle.ac_causal.proofs.Counting.{get_some, is_vector}
 
-count_same : (parties cores : ℕ) (table : List ℕ) (entry party q : ℕ) → parties ≡ suc cores → party ≡ q
+pub count_same : (parties cores : ℕ) (table : List ℕ) (entry party q : ℕ) → parties ≡ suc cores → party ≡ q
     → count_at parties table (entry + 1) party ≡ at_row (suc cores) table entry q
 count_same parties cores table entry party q p same =
     ap (λ m. count_at parties table m party) (add-one entry) ∙ ap (λ x. slice_index table (entry * x + party)) p
     ∙ ap (λ x. slice_index table (entry * suc cores + x)) same
 
 module _ (es : List Stamped) (parties : ℕ) (table : List ℕ) (k : IsKept es parties table) where
-  ticks : Ticks es (suc k.cores) (at_row (suc k.cores) table) (λ j e. last_mark (marks k.capacities k.cores es k.legal j) e) (λ j e. seen_mark (marks k.capacities k.cores es k.legal j) e)
+  pub ticks : Ticks es (suc k.cores) (at_row (suc k.cores) table) (λ j e. last_mark (marks k.capacities k.cores es k.legal j) e) (λ j e. seen_mark (marks k.capacities k.cores es k.legal j) e)
   ticks = ticks_of k.capacities k.cores es table k.legal (subst (λ p. IsTable p (no_marks (length k.capacities) p) es (length es) table) k.parties_are k.rows)
 
   pub party_within : (one : ℕ) (a : Stamped) → slice_get es one ≡ Some a → a.party < parties
@@ -52,7 +52,7 @@ module _ (es : List Stamped) (parties : ℕ) (table : List ℕ) (k : IsKept es p
 
 -- ---- as contracts see it
 
-le_true : (x y : ℕ) → x ≤ y → nat_le x y ≡ true
+pub le_true : (x y : ℕ) → x ≤ y → nat_le x y ≡ true
 le_true x y h = grind (arith, nat_tests)
 
 pub reaches_by : (es : List Stamped) (parties : ℕ) (table : List ℕ) (k : IsKept es parties table) (r : CausalRun) → record { entries = es; parties = parties } ≡ r

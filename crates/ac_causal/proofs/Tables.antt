@@ -1,6 +1,7 @@
 -- The table of the vectors: one row more, and that its rows are the counts of the order's proof.
 -- A row is made of the rows of two marks, which are of entries before: so a longer table has the same rows, and no count is above the number of rows.
-use Rattle.std.proofs.Common.{◌≡◌, ℕ, zero, suc, ◌+◌, ◌-◌, ◌*◌, ◌<◌, ◌≤◌, List, [], ◌∷◌, ◌++◌, length, Option, Some, None, Bool, true, false, refl, sym, ap, ◌∙◌, subst, arith, get_or, set, ◌⊎◌, inl, inr, take, length-append, append_assoc, add-one}
+use Rattle.std.proofs.Common.{◌≡◌, ℕ, zero, suc, ◌+◌, ◌-◌, ◌*◌, ◌<◌, ◌≤◌, List, [], ◌∷◌, ◌++◌, length, Option, Some, None, Bool}
+use Rattle.std.proofs.Common.{true, false, refl, sym, ap, ◌∙◌, subst, arith, get_or, set, ◌⊎◌, inl, inr, take, length-append, append_assoc, add-one}
 use Rattle.std.specs.Prelude.{◌==◌, slice_get, slice_index, replicate, max}
 use Rattle.std.proofs.Math.ListN.{get_or-append}
 use Rattle.std.proofs.Math.Nat.{mul_comm}
@@ -16,6 +17,7 @@ use Rattle.ac_links.specs.Link.{link_of}
 use Rattle.ac_history.specs.History.{IsLegal, start}
 use Rattle.ac_causal.specs.inner.Marks.{Marked, no_marks, marks_of, link_marks_after, answered_mark, last_mark, seen_mark, marked_after, marked_by, marked_at}
 use Rattle.ac_causal.specs.inner.Marks.{count_at, ticked, new_count, HasRow, IsTable}
+use Rattle.ac_causal.specs.inner.Opening.{AreSeen}
 use Rattle.ac_causal.proofs.Held.{empty_at, zero_at, same_entry}
 use Rattle.ac_causal.proofs.Answered.{marks, seen_made, seen_all, last_made, last_reach, party_in}
 use Rattle.ac_causal.proofs.Ticks.{mark_count, Ticks}
@@ -231,6 +233,26 @@ table_by links parties k last seen es table new e M was is marks at_last at_seen
     let h = subst (λ x. HasRow parties e.party x (seen_mark (marked_at es (no_marks links parties) k) e) table new parties) l
         (subst (λ y. HasRow parties e.party last y table new parties) s has) in
     subst (λ n. IsTable parties (no_marks links parties) es n new) (sym (add-one k)) (table_goes_on links parties es k table new e was is h)
+
+-- the marks that are seen
+pub seen_goes_on : (first : Marked) (es : List Stamped) (k mark : ℕ) (seen : List ℕ) (e : Stamped) (M : Marked) → AreSeen first es k seen
+    → slice_get es k ≡ Some e → M ≡ marked_at es first k → mark ≡ seen_mark M e → AreSeen first es (k + 1) (seen ++ mark ∷ [])
+seen_goes_on first es k mark seen e M was is marks at_mark = record {
+  so_many = (let a = length-append seen (mark ∷ []) in let b = was.so_many in omega (arith, a, b));
+  each = λ j x lt is_x. each_by j x lt is_x (cases_lt j k);
+}
+  where
+    each_by : (j : ℕ) (x : Stamped) → j < k + 1 → slice_get es j ≡ Some x → (j < k) ⊎ (k ≤ j) → slice_index (seen ++ mark ∷ []) j ≡ seen_mark (marked_at es first j) x
+    each_by j x lt is_x (inl before) =
+        let b = was.so_many in
+        let in_it : j < length seen = omega (arith, b, before) in
+        get_or-append seen (mark ∷ []) 0 j in_it ∙ was.each j x before is_x
+    each_by j x lt is_x (inr last_one) =
+        let b = was.so_many in
+        let here : j ≡ length seen + 0 = omega (arith, b, last_one, lt) in
+        let same : j ≡ k = omega (arith, last_one, lt) in
+        ap (λ i. get_or (seen ++ mark ∷ []) i 0) here ∙ get_or-append-add seen (mark ∷ []) 0 0 ∙ at_mark ∙ ap (λ m. seen_mark m e) marks
+        ∙ ap (λ y. seen_mark (marked_at es first k) y) (same_entry es j k e x same is is_x) ∙ ap (λ i. seen_mark (marked_at es first i) x) (sym same)
 
 -- ---- its counts
 

@@ -1,39 +1,36 @@
-//! The entries of a run with their vectors.
+//! The entries of a run in their causal order.
 
+use crate::cut::{CutAnswer, lesser};
 use crate::order::Order;
-use crate::table::{count_at, table_of};
+use crate::vectors::Vectors;
 use ac_base::{List, NoMemory};
 use stack_code::Code;
 use std::alloc::Global;
 use std::marker::Model;
 use trace_text::Trace;
 
-/// The entries of a run with their vectors: which of them came before which, whatever the schedule
+/// The entries of a run in their causal order: which of them came before which, whatever the schedule
 /// was.
 ///
 /// Contracts see the entries, and how many parties there are.
 #[derive(Drop)]
 pub struct Causal<'a> {
-    trace: &'a Trace,
-    parties: u32,
-    table: Vec<u32>,
+    vectors: Vectors<'a>,
 }
 
 impl<'a> Model for Causal<'a> {
     ghost use Rattle.ac_causal.specs.Run.{CausalRun};
-    ghost use Rattle.ac_causal.specs.inner.Kept.{IsKept};
 
     ghost Value = { CausalRun };
 
-    ghost view = { λ c. record { entries = c.trace.now.entries; parties = c.parties } };
-
-    ghost invariant = { λ c. IsKept c.trace.now.entries c.parties c.table.items };
+    ghost view = { λ c. c.vectors };
 }
 
 impl<'a> Causal<'a> {
-    ghost use Rattle.std.specs.Prelude.{◌≡◌, ℕ, suc, ◌<◌, ◌^◌, ◌⊎◌, ◌↔◌, length, IfOk, IsTrue};
+    ghost use Rattle.std.specs.Prelude.{◌≡◌, suc, ◌<◌, ◌^◌, length, IfOk};
     ghost use Rattle.ac_history.specs.History.{IsLegal, start};
-    ghost use Rattle.ac_causal.specs.Before.{IsBefore, IsOrder, IsVector};
+    ghost use Rattle.ac_causal.specs.Before.{IsOrder, IsVector};
+    ghost use Rattle.ac_causal.specs.Cuts.{IsCut, IsCutAnswer};
 
     /// The entries of a trace, of a program that has this code.
     ///
@@ -45,16 +42,8 @@ impl<'a> Causal<'a> {
         ensures entries { IfOk result (λ it. it.entries ≡ trace.now.entries) }
         ensures parties { IfOk result (λ it. it.parties ≡ suc (length code.now.entries)) }
     {
-        // A code is valid, so its cores are few.
-        let _instrs = code.instrs();
-        let parties = code.entries().len() as u32 + 1;
-        let links = code.capacities().len();
-        let table = table_of(alloc, links, parties, trace.entries.as_slice())?;
-        Ok(Causal {
-            trace,
-            parties,
-            table,
-        })
+        let vectors = Vectors::new(alloc, code, trace)?;
+        Ok(Causal { vectors })
     }
 
     /// For each party how many of its entries are this one or came before it.
@@ -62,29 +51,10 @@ impl<'a> Causal<'a> {
         requires { entry < length self.now.entries }
         ensures { IfOk result (λ it. IsVector self.now.entries self.now.parties entry it) }
     {
-        let parties = self.parties;
-        let table = self.table.as_slice();
-        let mut counts = List::new(alloc);
-        for party in 0..parties {
-            counts.push(count_at(table, parties, entry as u32 + 1, party))?;
-        }
-        Ok(counts)
+        self.vectors.vector(alloc, entry)
     }
 
-    // Whether one entry is the other or came before it.
-    fn reaches(&self, one: u64, other: u64) -> bool
-        requires one { one < length self.now.entries }
-        requires other { other < length self.now.entries }
-        ensures { IsTrue result ↔ ((one ≡ other) ⊎ IsBefore self.now.entries one other) }
-    {
-        let party = self.trace.entries.get(one).party;
-        let table = self.table.as_slice();
-        let own = count_at(table, self.parties, one as u32 + 1, party);
-        let seen = count_at(table, self.parties, other as u32 + 1, party);
-        own <= seen
-    }
-
-    /// How one entry stands to the other. It takes no memory.
+    /// How one entry stands to the other. It takes no memory, and goes over no entries.
     pub fn order(&self, one: u64, other: u64) -> Order
         requires one { one < length self.now.entries }
         requires other { other < length self.now.entries }
@@ -92,12 +62,35 @@ impl<'a> Causal<'a> {
     {
         if one == other {
             Order::Same
-        } else if self.reaches(one, other) {
+        } else if self.vectors.reaches(one, other) {
             Order::Before
-        } else if self.reaches(other, one) {
+        } else if self.vectors.reaches(other, one) {
             Order::After
         } else {
             Order::Concurrent
+        }
+    }
+
+    /// Whether what each entry of a cut answers is in the cut, too, or the first entry that is not.
+    /// It takes no memory.
+    ///
+    /// Condition: they are a cut: a count for each party, of no more entries than it has.
+    pub fn cut(&self, counts: &List<u32>) -> CutAnswer
+        requires { IsCut self.now.entries self.now.parties counts.now }
+        ensures { IsCutAnswer self.now.entries counts.now result }
+    {
+        let vectors = &self.vectors;
+        let counts = counts.as_slice();
+        let mut least = 0;
+        for entry in 0..vectors.len() {
+            least = lesser(least, vectors.open_mark(counts, entry));
+        }
+        if least == 0 {
+            CutAnswer::Closed
+        } else {
+            CutAnswer::Open {
+                entry: u64::from(least - 1),
+            }
         }
     }
 }

@@ -2,6 +2,7 @@
 
 ghost use Rattle.std.specs.Prelude.{◌≡◌, ℕ, ◌+◌, ◌-◌, ◌*◌, ◌<◌, ◌≤◌, ◌^◌, length, IfOk, slice_index};
 ghost use Rattle.ac_causal.specs.inner.Marks.{count_at, new_count, no_marks, HasRow, IsTable};
+ghost use Rattle.ac_causal.specs.inner.Opening.{AreSeen};
 
 use crate::marks::Marks;
 use ac_base::{NoMemory, Stamped};
@@ -54,23 +55,34 @@ fn add_row(
     Ok(())
 }
 
-/// The vectors of the entries, one row after the other, each with a count for each party.
-pub fn table_of(
+/// The vectors of the entries, one row after the other, each with a count for each party; and the
+/// mark of what each entry answers.
+#[derive(Debug, Drop)]
+pub struct Rows {
+    pub table: Vec<u32>,
+    pub seen: Vec<u32>,
+}
+
+/// The vectors of entries on so many links.
+pub fn rows_of(
     alloc: Global,
     links: u64,
     parties: u32,
     entries: &[Stamped],
-) -> Result<Vec<u32>, NoMemory>
+) -> Result<Rows, NoMemory>
     requires { length entries.now < 2 ^ 32 }
-    ensures { IfOk result (λ it. IsTable parties (no_marks links parties) entries.now (length entries.now) it.items) }
+    ensures rows { IfOk result (λ it. IsTable parties (no_marks links parties) entries.now (length entries.now) it.table.items) }
+    ensures marks { IfOk result (λ it. AreSeen (no_marks links parties) entries.now (length entries.now) it.seen.items) }
 {
     let mut marks = Marks::new(alloc, links, u64::from(parties))?;
     let mut table = Vec::new(alloc);
+    let mut seen = Vec::new(alloc);
     for (place, stamped) in entries.iter().enumerate() {
         let last = marks.last(stamped);
-        let seen = marks.seen(stamped);
-        add_row(&mut table, parties, stamped.party, last, seen)?;
+        let answered = marks.seen(stamped);
+        add_row(&mut table, parties, stamped.party, last, answered)?;
+        seen.push(answered)?;
         marks.add(place as u32 + 1, stamped)?;
     }
-    Ok(table)
+    Ok(Rows { table, seen })
 }

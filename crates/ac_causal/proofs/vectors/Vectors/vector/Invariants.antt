@@ -1,6 +1,6 @@
 use Rattle.std.proofs.Common.{◌≡◌, ℕ, ◌+◌, ◌<◌, length, get_or}
 use Rattle.ac_causal.specs.inner.Marks.{count_at}
-use Rattle.ac_causal.proofs.causal.Causal.vector.Given as goal
+use Rattle.ac_causal.proofs.vectors.Vectors.vector.Given as goal
 
 abbrev pub invariant-loop-party : goal.invariant-loop-party
 invariant-loop-party l = record {
