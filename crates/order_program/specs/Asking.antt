@@ -19,7 +19,7 @@ use Rattle.program_reading.specs.Both.{AreBoth, RefusesBoth, halt_line, halt_sta
 use Rattle.program_reading.specs.Lines.{no_at_line, no_at_end_line}
 use Rattle.program_reading.specs.Source.{names_of}
 use Rattle.order_program.specs.Lines.{no_cut_line, no_entry_line, open_line, order_line, states_text}
-use Rattle.order_program.specs.Words.{Question, Orders, Cuts}
+use Rattle.order_words.specs.Words.{Question, Orders, Cuts}
 
 -- Of two entries of these: the first number that is not that of an entry, or how the one stands to the other.
 pub data IsDueOfEntries (entries : List Stamped) (one other : ℕ) (status : ℕ) (text : List ℕ) : Type 0 where

@@ -3,7 +3,7 @@
 use Rattle.std.specs.Prelude.{◌≡◌, ℕ, ◌⊎◌, List, []}
 use Rattle.ac_outside.specs.Told.{LibraryTold, SinkTold, GrewBy}
 use Rattle.program_reading.specs.Files.{AreRead}
-use Rattle.order_program.specs.Words.{Asked, IsCall}
+use Rattle.order_words.specs.Words.{Asked, IsCall}
 use Rattle.order_program.specs.Lines.{usage_line}
 use Rattle.order_program.specs.Asking.{IsDueOfFiles}
 

@@ -1,16 +1,16 @@
 //! What is written of two files.
 
-ghost use Rattle.std.specs.Prelude.{◌≡◌};
+ghost use Rattle.std.specs.Prelude.{◌≡◌, ◌<◌, ◌^◌, length};
 ghost use Rattle.program_reading.specs.Failures.{TellsLibrary};
 ghost use Rattle.program_reading.specs.Files.{AreRead};
-ghost use Rattle.program_reading.specs.Both.{AreBoth};
-ghost use Rattle.order_program.specs.inner.Calling.{HasMeaning, IsDueFor};
+ghost use Rattle.order_words.specs.Called.{HasMeaning};
+ghost use Rattle.order_program.specs.inner.Calling.{IsDueFor};
 ghost use Rattle.order_program.specs.inner.Telling.{IsAnswered, IsDueOfBoth};
 
 use crate::asking::told_of;
-use crate::words::{Call, Question};
 use ac_base::{NoMemory, Status};
 use ac_outside::{Library, Sink};
+use order_words::{Call, Question};
 use program_reading::{Both, BothFault, answer, answer_halt, read_both};
 use std::alloc::Global;
 

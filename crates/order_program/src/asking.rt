@@ -1,18 +1,22 @@
 //! What is told of a run.
 
-ghost use Rattle.std.specs.Prelude.{◌≡◌, ◌<◌, ◌≤◌, ◌^◌, length, IfOk};
+ghost use Rattle.std.specs.Prelude.{◌<◌, ◌^◌, length, IfOk};
 ghost use Rattle.ac_causal.specs.Run.{IsAudited};
-ghost use Rattle.order_program.specs.inner.Calling.{HasMeaning};
+ghost use Rattle.ac_compile.specs.Compiled.{IsCodeOf};
+ghost use Rattle.ac_resolve.specs.Resolution.{resolved};
+ghost use Rattle.ac_translation.specs.Same.{IsSame};
+ghost use Rattle.trace_audit.specs.Judged.{Judges};
+ghost use Rattle.order_words.specs.Called.{HasMeaning};
 ghost use Rattle.order_program.specs.inner.Telling.{IsToldOf, IsToldOfRun};
 
 use crate::entries::told_of_entries;
-use crate::numbers::read_numbers;
 use crate::states::told_of_cut;
 use crate::told::{Told, say, say_place};
-use crate::words::Question;
 use ac_base::NoMemory;
 use ac_causal::Causal;
 use ac_compile::compile;
+use ac_types::Checked;
+use order_words::{Question, read_numbers};
 use program_reading::Both;
 use stack_code::Code;
 use std::alloc::Global;
@@ -43,6 +47,20 @@ fn told_of_run(
     }
 }
 
+// The verdict on a trace.
+fn judge(
+    alloc: Global,
+    code: &Code,
+    program: &Checked,
+    trace: &Trace,
+) -> Result<Verdict, NoMemory>
+    requires code { IsCodeOf program.now code.now }
+    requires same { IsSame code.now (resolved program.now) }
+    ensures { IfOk result (Judges (resolved program.now) trace.now) }
+{
+    audit(alloc, code, u64::from(program.files()), trace)
+}
+
 /// What is told of a trace: that it is no run of the program, or what is asked of the run.
 pub fn told_of(alloc: Global, both: &Both, question: Question<'_>) -> Result<Told, NoMemory>
     requires few { length both.now.trace.entries < 2 ^ 32 }
@@ -50,7 +68,7 @@ pub fn told_of(alloc: Global, both: &Both, question: Question<'_>) -> Result<Tol
     ensures { IfOk result (IsToldOf both.now.program both.now.trace question) }
 {
     let code = compile(alloc, &both.program)?;
-    match audit(alloc, &code, u64::from(both.program.files()), &both.trace)? {
+    match judge(alloc, &code, &both.program, &both.trace)? {
         Verdict::NoAt { entry } => say_place(alloc, 13, b"no at ", entry),
         Verdict::NoAtEnd => say(alloc, 13, "no at end\n"),
         Verdict::Yes => told_of_run(alloc, &code, &both.trace, question),

@@ -9,17 +9,15 @@ ghost use Rattle.order_program.specs.Headline.{IsDue, GaveUp, TellsUsage};
 mod answering;
 mod asking;
 mod entries;
-mod numbers;
 mod states;
 mod told;
-mod words;
 
 use ac_base::Status;
 use ac_outside::{Library, Sink};
 use answering::answer_files;
+use order_words::read_words;
 use program_reading::answer;
 use std::alloc::Global;
-use words::read_words;
 
 // The line of words that call for nothing.
 const USAGE: &str = "usage: ac_order order FILE TRACE I J, ac_order cut FILE TRACE COUNTS\n";

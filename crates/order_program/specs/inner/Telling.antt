@@ -10,10 +10,10 @@ use Rattle.trace_text.specs.declared.trace.Trace.{Trace}
 use Rattle.program_reading.specs.Failures.{TellsSink}
 use Rattle.program_reading.specs.Writing.{TookAll, TookSome}
 use Rattle.order_program.specs.declared.told.Told.{Told}
-use Rattle.order_program.specs.declared.words.Question.{Question as Given}
+use Rattle.order_words.specs.declared.words.Question.{Question as Given}
 use Rattle.order_program.specs.Asking.{IsDueOfTrace, IsDueOfRun}
-use Rattle.order_program.specs.Words.{Question}
-use Rattle.order_program.specs.inner.Calling.{Means}
+use Rattle.order_words.specs.Words.{Question}
+use Rattle.order_words.specs.Called.{Means}
 
 -- this text with this status
 pub record IsSaid (number : ℕ) (text : List ℕ) (told : Told) : Type 0 where

@@ -1,8 +1,8 @@
 //! Numbers, as words give them.
 
 ghost use Rattle.std.specs.Prelude.{◌≡◌, ℕ, List, false, IsNone, IfSome, IfOk, IsTrue};
-ghost use Rattle.order_program.specs.Words.{IsNumber, IsNumbers};
-ghost use Rattle.order_program.specs.inner.Counting.{GoesOn, IsOfNumbers};
+ghost use Rattle.order_words.specs.Words.{IsNumber, IsNumbers, IsOfNumbers};
+ghost use Rattle.order_words.specs.inner.Counting.{GoesOn};
 
 use ac_base::{List, NoMemory};
 use std::alloc::Global;

@@ -2,8 +2,9 @@
 
 ghost use Rattle.std.specs.Prelude.{◌↔◌, [], ◌∷◌, map, string_bytes, IsNone, IfSome, IsTrue};
 ghost use Rattle.ac_words.specs.Words.{IsPlain};
-ghost use Rattle.order_program.specs.Words.{Asked, IsCall};
-ghost use Rattle.order_program.specs.inner.Calling.{AsksFor, IsQuestion, NoneAsked};
+ghost use Rattle.order_words.specs.Words.{Asked, IsCall};
+ghost use Rattle.order_words.specs.Called.{AsksFor};
+ghost use Rattle.order_words.specs.inner.Operands.{IsQuestion, NoneAsked};
 
 use crate::numbers::{are_numbers, read_number};
 

@@ -1,13 +1,8 @@
 -- What the first of some numbers leaves of their text.
 use Rattle.std.specs.Prelude.{◌≡◌, ℕ, ◌<◌, List, [], ◌∷◌, ◌↔◌, length}
-use Rattle.order_program.specs.declared.numbers.First.{First}
-use Rattle.order_program.specs.declared.numbers.First.TheVariants.{Last, More}
-use Rattle.order_program.specs.Words.{IsNumbers}
-
--- the text is numbers
-pub record IsOfNumbers (text : List ℕ) : Type 0 where
-  pub numbers : List ℕ
-  pub are : IsNumbers text numbers
+use Rattle.order_words.specs.declared.numbers.First.{First}
+use Rattle.order_words.specs.declared.numbers.First.TheVariants.{Last, More}
+use Rattle.order_words.specs.Words.{IsNumbers}
 
 -- this number, and those of the text behind it
 pub record IsJoined (number : ℕ) (others : List ℕ) (numbers : List ℕ) : Type 0 where

@@ -13,9 +13,14 @@ pub record IsNumber (word : List ℕ) (number : ℕ) : Type 0 where
 
 -- the word is these numbers, joined by commas
 pub data IsNumbers : List ℕ → List ℕ → Type 0 where
-  one : (word : List ℕ) (number : ℕ) → IsNumber word number → IsNumbers word (number ∷ [])
-  more : (word rest : List ℕ) (number : ℕ) (numbers : List ℕ) → IsNumber word number → IsNumbers rest numbers →
-      IsNumbers (word ++ (44 ∷ rest)) (number ∷ numbers)
+  one_number : (word numbers : List ℕ) (number : ℕ) → numbers ≡ number ∷ [] → IsNumber word number → IsNumbers word numbers
+  and_others : (word numbers front rest : List ℕ) (number : ℕ) (others : List ℕ) → word ≡ front ++ (44 ∷ rest) →
+      numbers ≡ number ∷ others → IsNumber front number → IsNumbers rest others → IsNumbers word numbers
+
+-- the word is some numbers
+pub record IsOfNumbers (word : List ℕ) : Type 0 where
+  pub numbers : List ℕ
+  pub are : IsNumbers word numbers
 
 -- What is asked of a run: how one entry stands to another, or how the cores end at the cut of these counts.
 pub data Question : Type 0 where
@@ -38,7 +43,7 @@ pub record AreCounts (operands : List (List ℕ)) (counts : List ℕ) : Type 0 w
 
 -- the command asks this with these operands behind the two files
 abbrev pub Asks : List ℕ → List (List ℕ) → Question → Type 0
-Asks command operands (Orders one other) = (command ≡ codes "order") × AreEntries operands one other
+Asks command operands (Orders i j) = (command ≡ codes "order") × AreEntries operands i j
 Asks command operands (Cuts counts) = (command ≡ codes "cut") × AreCounts operands counts
 
 -- what words ask of the program of a file and of the run that the trace of another tells
