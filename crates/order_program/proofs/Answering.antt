@@ -1,15 +1,15 @@
 -- What an answer gives: the whole text that is due, or a front of it, or nothing where memory was refused. What refuses the two files is
 -- answered with its status, and 7 stands for a failed library.
-use Rattle.std.proofs.Common.{◌≡◌, ◌≢◌, ℕ, ◌≤◌, List, [], length, Option, None, Some, refl, sym, ap, ◌∙◌, subst, append-nil, arith}
+use Rattle.std.proofs.Common.{◌≡◌, ◌≢◌, ◌⊎◌, inl, inr, ℕ, List, [], Option, None, Some, refl, sym, append-nil, arith}
+use Rattle.std.proofs.lemmas.Bool.{cases_lt}
 use Rattle.ac_outside.specs.Told.{LibraryTold, SinkTold, GrewBy}
 use Rattle.ac_tree.specs.declared.item.Program.{Program}
 use Rattle.trace_text.specs.declared.trace.Trace.{Trace}
 use Rattle.program_reading.specs.declared.halt.Halt.{Halt}
 use Rattle.program_reading.specs.Failures.{TellsSink}
 use Rattle.program_reading.specs.Writing.{TookFront}
-use Rattle.program_reading.specs.Both.{AreBoth, RefusesBoth, halt_line, halt_status}
+use Rattle.program_reading.specs.TwoFiles.{AreBoth, RefusesBoth, halt_line, halt_status}
 use Rattle.order_words.specs.declared.words.Call.{Call}
-use Rattle.order_words.specs.Words.{Question}
 use Rattle.order_words.specs.Called.{HasMeaning}
 use Rattle.order_program.specs.Asking.{refused, read}
 use Rattle.order_program.specs.inner.Calling.{IsDueFor}
@@ -69,3 +69,14 @@ answered_both call before after program run sink later status b a =
       tells = a.tells;
       usage = a.usage;
     }
+
+-- a status that is 1 unless it is 8
+pub one_or_eight : (status : ℕ) → (status ≢ 8 → status ≡ 1) → (status ≡ 1) ⊎ (status ≡ 8)
+one_or_eight status is =
+    elim (cases_lt status 8) [
+      | inl below ↦ inl (is (λ e. omega (arith, e, below)))
+      | inr from ↦ elim (cases_lt 8 status) [
+        | inl above ↦ inl (is (λ e. omega (arith, e, above)))
+        | inr to ↦ inr (omega (arith, from, to))
+      ]
+    ]

@@ -1,5 +1,5 @@
 -- The cores of a program are those of its code: both are lists over the same declarations.
-use Rattle.std.proofs.Common.{◌≡◌, ℕ, List, length, ap, ◌∙◌}
+use Rattle.std.proofs.Common.{◌≡◌, ℕ, length, ap, ◌∙◌}
 use Rattle.std.specs.Prelude.{suc}
 use Rattle.std.proofs.lemmas.List.{length-map}
 use Rattle.ac_commands.specs.declared.program.Core.{Core}

@@ -1,12 +1,12 @@
 -- What is due of a run of two cores that send to one another, as `ac_order` answers: its two offers are concurrent, and at the cut of just
 -- these both cores wait. Beside each answer stands one that is not due.
-use Rattle.std.proofs.Common.{◌≡◌, ◌⊎◌, inl, refl, sym, ap, ◌∙◌, subst, ℕ, List, [], ◌∷◌, ◌++◌, length, codes, Option, None, Some, arith}
+use Rattle.std.proofs.Common.{◌≡◌, inl, refl, sym, ap, subst, ℕ, List, [], ◌∷◌, length, codes, arith}
 use Rattle.std.specs.Prelude.{suc}
 use Rattle.std.proofs.lemmas.Fmt.{decimal_digit}
 use Rattle.ac_base.specs.declared.ends.CoreEnd.{CoreEnd}
 use Rattle.ac_base.specs.declared.ends.EndWord.TheVariants.{Stalled}
 use Rattle.ac_causal.specs.declared.order.Order.TheVariants.{Same, Before, After, Concurrent}
-use Rattle.ac_causal.specs.Cuts.{IsCut, IsClosed}
+use Rattle.ac_causal.specs.Cuts.{IsCut}
 use Rattle.ac_causal.specs.States.{AreStates}
 use Rattle.ac_causal.proofs.Examples.{entries, the_offers_are_concurrent, the_first_is_before_the_fourth, the_fifth_is_after_the_fourth}
 use Rattle.ac_causal.proofs.CutExamples.{the_two_offers, more_than_there_are, they_are_closed, it_is_open_at_the_second_offer, it_is_not_closed}
@@ -18,10 +18,9 @@ use Rattle.trace_audit.specs.Judged.{Judges}
 use Rattle.trace_audit.specs.RunTrace.{IsRunTrace}
 use Rattle.trace_text.specs.declared.trace.Trace.{Trace}
 use Rattle.program_reading.specs.declared.halt.Halt.TheVariants as h
-use Rattle.program_reading.specs.Both.{AreBoth, RefusesBoth}
-use Rattle.program_reading.specs.Files.{AreRead}
+use Rattle.program_reading.specs.TwoFiles.{AreBoth, RefusesBoth}
 use Rattle.program_reading.specs.Source.{names_of}
-use Rattle.order_words.specs.Words.{Asked, IsCall, Orders, Cuts}
+use Rattle.order_words.specs.Words.{Orders}
 use Rattle.order_words.proofs.Examples.{the_order, an_order, no_words_are_no_call}
 use Rattle.order_program.specs.Lines.{usage_line, no_entry_line, no_cut_line, open_line, order_line, ending_of, states_text}
 use Rattle.order_program.specs.Asking.{IsDueOfEntries, IsDueOfCut, IsDueOfRun, IsDueOfTrace, IsDueOfFiles}

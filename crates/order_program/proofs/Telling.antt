@@ -1,6 +1,6 @@
 -- What is told of a trace is due of it: from the verdict of the audit, and of a run from its entries and its states, whatever program has its
 -- code. The statuses of what is told are 0 and some above 12.
-use Rattle.std.proofs.Common.{Bor, ◌≡◌, ◌≢◌, ◌⊎◌, inl, inr, ℕ, ◌≤◌, List, length, refl, sym, ap, ◌∙◌, subst, arith}
+use Rattle.std.proofs.Common.{Bor, ◌≡◌, ◌≢◌, ◌⊎◌, inl, inr, ℕ, ◌≤◌, List, length, refl, sym, subst, arith}
 use Rattle.std.specs.Prelude.{suc}
 use Rattle.ac_base.specs.declared.entry.Stamped.{Stamped}
 use Rattle.ac_causal.specs.Cuts.{IsCut, IsClosed, IsCutAnswer}

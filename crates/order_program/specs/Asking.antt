@@ -15,7 +15,7 @@ use Rattle.trace_audit.specs.declared.verdict.Verdict.TheVariants.{NoAt, NoAtEnd
 use Rattle.trace_audit.specs.Judged.{Judges}
 use Rattle.trace_audit.specs.RunTrace.{IsRunTrace}
 use Rattle.program_reading.specs.declared.halt.Halt.{Halt}
-use Rattle.program_reading.specs.Both.{AreBoth, RefusesBoth, halt_line, halt_status}
+use Rattle.program_reading.specs.TwoFiles.{AreBoth, RefusesBoth, halt_line, halt_status}
 use Rattle.program_reading.specs.Lines.{no_at_line, no_at_end_line}
 use Rattle.program_reading.specs.Source.{names_of}
 use Rattle.order_program.specs.Lines.{no_cut_line, no_entry_line, open_line, order_line, states_text}

@@ -48,12 +48,7 @@ fn told_of_run(
 }
 
 // The verdict on a trace.
-fn judge(
-    alloc: Global,
-    code: &Code,
-    program: &Checked,
-    trace: &Trace,
-) -> Result<Verdict, NoMemory>
+fn judge(alloc: Global, code: &Code, program: &Checked, trace: &Trace) -> Result<Verdict, NoMemory>
     requires code { IsCodeOf program.now code.now }
     requires same { IsSame code.now (resolved program.now) }
     ensures { IfOk result (Judges (resolved program.now) trace.now) }

@@ -1,6 +1,6 @@
 //! A text that is written, and the status that goes with it.
 
-ghost use Rattle.std.specs.Prelude.{◌≡◌, IfOk};
+ghost use Rattle.std.specs.Prelude.{IfOk};
 ghost use Rattle.program_reading.specs.Lines.{place_line};
 ghost use Rattle.order_program.specs.inner.Telling.{IsSaid};
 

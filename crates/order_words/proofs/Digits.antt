@@ -1,6 +1,6 @@
 -- Less than nine digits write less than a hundred millions, so that one more stays within the machine's numbers. Among the digits of a number
 -- there is no comma, and one word is one number.
-use Rattle.std.proofs.Common.{◌≡◌, ◌≢◌, ℕ, ◌^◌, ◌<◌, ◌≤◌, List, length, get_or, take, zero, suc, sym, ◌∙◌, arith, subst}
+use Rattle.std.proofs.Common.{◌≡◌, ◌≢◌, ℕ, ◌^◌, ◌<◌, List, length, get_or, take, zero, suc, sym, ◌∙◌, arith, subst}
 use Rattle.std.specs.Str.Parse.{AllDigits, digits_value}
 use Rattle.std.proofs.lemmas.Int.Digits.{digits_value-lt}
 use Rattle.std.proofs.lemmas.List.{length-take-le}

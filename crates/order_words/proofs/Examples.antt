@@ -1,9 +1,9 @@
 -- Words of calls, and words that are no call: an entry is a number without a leading nought, and the counts of a cut have commas between them.
 -- What holds is built from its parts; what does not is refused by the part that asks for it.
-use Rattle.std.proofs.Common.{Bor, ◌≡◌, refl, ap, ℕ, List, [], ◌∷◌, ◌++◌, length, codes, arith}
+use Rattle.std.proofs.Common.{◌≡◌, refl, ap, ℕ, List, [], ◌∷◌, length, codes, arith}
 use Rattle.order_words.specs.declared.words.Question.TheVariants as q
 use Rattle.order_words.specs.declared.words.Call.{Call}
-use Rattle.order_words.specs.Words.{IsNumber, IsNumbers, IsOfNumbers, Question, Orders, Cuts, AreEntries, AreCounts, Asks, Asked, IsCall, one_number, and_others}
+use Rattle.order_words.specs.Words.{IsNumber, IsNumbers, IsOfNumbers, Orders, Cuts, AreEntries, AreCounts, Asks, Asked, IsCall, one_number, and_others}
 use Rattle.order_words.specs.Called.{Means, HasMeaning, AsksFor}
 
 -- ---- numbers

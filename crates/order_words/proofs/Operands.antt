@@ -1,5 +1,5 @@
 -- What `order` asks with two numbers, and `cut` with counts: just what they are, as each word is one number and one list of counts is meant.
-use Rattle.std.proofs.Common.{Bor, ◌≡◌, ℕ, List, [], ◌∷◌, codes, refl, sym, ◌∙◌, subst}
+use Rattle.std.proofs.Common.{Bor, ◌≡◌, ℕ, List, [], ◌∷◌, codes, refl, sym, subst}
 use Rattle.order_words.specs.declared.words.Question.TheVariants as q
 use Rattle.order_words.specs.Words.{IsNumber, IsNumbers, IsOfNumbers, Question, Orders, Cuts, Asks}
 use Rattle.order_words.specs.Called.{Means}

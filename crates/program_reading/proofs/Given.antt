@@ -1,6 +1,6 @@
 -- What one part of reading a program and a trace gives is what the part round it gives: case by case, a trace, a refusal, or nothing where
 -- memory was refused.
-use Rattle.std.proofs.Common.{◌≡◌, ◌⊎◌, inl, inr, ℕ, ◌≤◌, List, length, Result, Ok, Err}
+use Rattle.std.proofs.Common.{◌≡◌, inr, ℕ, ◌≤◌, List, length, Result, Ok, Err}
 use Rattle.ac_tree.specs.declared.item.Program.{Program}
 use Rattle.ac_outside.specs.Told.{LibraryTold}
 use Rattle.ac_words.specs.declared.task.Task.TheVariants as t
@@ -11,12 +11,12 @@ use Rattle.program_reading.specs.declared.halt.BothFault.{BothFault}
 use Rattle.program_reading.specs.declared.halt.BothFault.TheVariants as f
 use Rattle.program_reading.specs.Source.{IsReady}
 use Rattle.program_reading.specs.Reading.{Gave, IsReadWhole, IsShort}
-use Rattle.program_reading.specs.Both.{GivesBoth}
-use Rattle.program_reading.specs.Both.RefusesTrace.{told}
-use Rattle.program_reading.specs.Both.RefusesSource.{ready}
-use Rattle.program_reading.specs.Both.RefusesBoth.{source}
+use Rattle.program_reading.specs.TwoFiles.{GivesBoth}
+use Rattle.program_reading.specs.TwoFiles.RefusesTrace.{told}
+use Rattle.program_reading.specs.TwoFiles.RefusesSource.{ready}
+use Rattle.program_reading.specs.TwoFiles.RefusesBoth.{source}
 use Rattle.program_reading.specs.inner.Traces.{GivesTraced, GivesTrace, GivesSource}
-use Rattle.program_reading.proofs.Both.{files_read}
+use Rattle.program_reading.proofs.TwoFiles.{files_read}
 
 pub trace_given : (program : Program) (trace : List ℕ) (before after : LibraryTold) (traced : List ℕ) → IsReadWhole before after trace traced → Gave (before.text_at trace) traced
     → length traced ≤ trace_limit → (result : Result Trace BothFault) → GivesTraced program traced result → GivesTrace program trace before after result

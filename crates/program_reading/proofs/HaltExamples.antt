@@ -1,7 +1,7 @@
 -- What refuses two files, by small values: each line and status as it is written, an empty text that is no trace, and a library that failed.
-use Rattle.std.proofs.Common.{◌≡◌, inl, refl, ap, ℕ, List, [], ◌∷◌, length, codes, Option, None, Some, Ok, Err, arith}
+use Rattle.std.proofs.Common.{◌≡◌, inl, refl, ap, ℕ, List, [], ◌∷◌, length, codes, None, Some, Err, arith}
 use Rattle.std.proofs.lemmas.Fmt.{decimal_digit}
-use Rattle.ac_outside.specs.Told.{LibraryTold}
+use Rattle.ac_outside.specs.Told.{LibraryTold, SinkTold}
 use Rattle.ac_tree.specs.declared.item.Program.{Program}
 use Rattle.trace_text.specs.declared.trace.Trace.{Trace}
 use Rattle.trace_text.specs.Spelling.{IsFirstWrong}
@@ -10,12 +10,13 @@ use Rattle.trace_text.proofs.Whole.{read_stops}
 use Rattle.program_reading.specs.declared.halt.BothFault.TheVariants as f
 use Rattle.program_reading.specs.declared.halt.Halt.TheVariants as h
 use Rattle.program_reading.specs.declared.refusal.Refusal.TheVariants as r
-use Rattle.program_reading.specs.Both.{halt_line, halt_status, RefusesTraced, RefusesTrace, RefusesSource, RefusesBoth, IsTraceFor, HasTrace, AreBoth, GivesBoth}
-use Rattle.program_reading.specs.Both.RefusesTraced.{wrong, too_many}
-use Rattle.program_reading.specs.Both.RefusesTrace.{library_fault as trace_fault, too_long as trace_too_long, told}
-use Rattle.program_reading.specs.Both.RefusesSource.{refused, ready as is_ready}
-use Rattle.program_reading.specs.Both.RefusesBoth.{library_fault}
+use Rattle.program_reading.specs.TwoFiles.{halt_line, halt_status, RefusesTraced, RefusesTrace, RefusesSource, RefusesBoth, IsTraceFor, HasTrace, AreBoth, GivesBoth}
+use Rattle.program_reading.specs.TwoFiles.RefusesTraced.{wrong, too_many}
+use Rattle.program_reading.specs.TwoFiles.RefusesTrace.{library_fault as trace_fault, too_long as trace_too_long, told}
+use Rattle.program_reading.specs.TwoFiles.RefusesSource.{refused, ready as is_ready}
+use Rattle.program_reading.specs.TwoFiles.RefusesBoth.{library_fault}
 use Rattle.program_reading.specs.Lines.{no_at_line, no_at_end_line}
+use Rattle.program_reading.specs.Writing.{TookAll, TookSome}
 
 pub the_lines : halt_line h.LibraryFault ∷ halt_line h.LongSource ∷ halt_line (h.Source (r.Unexpected 9)) ∷ halt_line h.LongTrace ∷ halt_line (h.WrongLine 9) ∷ halt_line h.TooManySteps ∷ []
     ≡ codes "library fault\n" ∷ codes "limit: source\n" ∷ codes "unexpected token at 9\n" ∷ codes "limit: trace\n" ∷ codes "trace fault at line 9\n" ∷ codes "limit: steps\n" ∷ []
@@ -78,3 +79,20 @@ there_is_no_program program run b =
 
 pub there_is_no_trace : (program : Program) (run : Trace) → HasTrace program (codes "x") ready failed run → ⊥
 there_is_no_trace program run b = let one = b.read.read.well in omega (arith, one)
+
+-- ---- what a sink took
+
+abbrev sink : SinkTold
+sink = record { held = Some []; faults = 0 }
+
+abbrev written : List ℕ → SinkTold
+written bytes = record { held = Some bytes; faults = 0 }
+
+pub all_of_it : (Due : ℕ → List ℕ → Type 0) → Due 7 (codes "ab") → TookAll Due 7 sink (written (codes "ab"))
+all_of_it Due due = record { text = codes "ab"; due = due; taken = refl }
+
+pub not_a_front : (Due : ℕ → List ℕ → Type 0) → ((text : List ℕ) → Due 7 text → length text ≡ 2) → TookAll Due 7 sink (written (codes "a")) → ⊥
+not_a_front Due two h = let long = two h.text h.due in let n = ap length h.taken in omega (arith, long, n)
+
+pub a_front : (Due : ℕ → List ℕ → Type 0) → Due 7 (codes "ab") → TookSome Due sink (written (codes "a"))
+a_front Due due = record { status = 7; text = codes "ab"; due = due; taken = record { front = codes "a"; rest = codes "b"; cut = refl; short = omega arith; taken = refl } }

@@ -1,16 +1,15 @@
 -- Which status stands for a failed library where two files are refused: 7 is that of no other refusal, and where the line of another could not
 -- be made, no call of the library had failed.
 use Rattle.std.proofs.Common.{◌≡◌, ◌≢◌, ℕ, List, refl, sym, ◌∙◌, subst, arith}
-use Rattle.ac_outside.specs.Causes.{Rose}
 use Rattle.ac_outside.specs.Told.{LibraryTold}
 use Rattle.program_reading.specs.declared.halt.Halt.{Halt}
 use Rattle.program_reading.specs.declared.halt.Halt.TheVariants as h
 use Rattle.program_reading.specs.declared.refusal.Refusal.{Refusal}
 use Rattle.program_reading.specs.declared.refusal.Refusal.TheVariants as r
-use Rattle.program_reading.specs.Both.{RefusesBoth, halt_status}
+use Rattle.program_reading.specs.TwoFiles.{RefusesBoth, halt_status}
 use Rattle.program_reading.specs.Failures.{TellsLibrary}
 use Rattle.program_reading.specs.Lines.{refusal_status}
-use Rattle.program_reading.proofs.Both.{read_well, refused_read, refused_rose}
+use Rattle.program_reading.proofs.TwoFiles.{read_well, refused_read, refused_rose}
 
 not_seven : (refusal : Refusal) → refusal_status refusal ≢ 7
 not_seven r.TooLong e = omega (arith, e)

@@ -1,5 +1,5 @@
 pub mod Answered
-pub mod Both
+pub mod TwoFiles
 pub mod Faults
 pub mod Given
 pub mod Halting

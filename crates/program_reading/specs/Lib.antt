@@ -1,4 +1,4 @@
-pub mod Both
+pub mod TwoFiles
 pub mod Failures
 pub mod Files
 pub mod Lines

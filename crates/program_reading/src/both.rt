@@ -3,7 +3,7 @@
 ghost use Rattle.std.specs.Prelude.{◌≤◌, ℕ, List};
 ghost use Rattle.ac_words.specs.declared.task.Task.TheVariants as t;
 ghost use Rattle.trace_text.specs.Spelling.{IsTheTrace};
-ghost use Rattle.program_reading.specs.Both.{GivesBoth};
+ghost use Rattle.program_reading.specs.TwoFiles.{GivesBoth};
 ghost use Rattle.program_reading.specs.Reading.{IsShort};
 ghost use Rattle.program_reading.specs.Source.{IsReady};
 ghost use Rattle.program_reading.specs.inner.Traces.{GivesSource, GivesTrace, GivesTraced};

@@ -5,7 +5,7 @@ ghost use Rattle.ac_outside.specs.Causes.{HasCause};
 ghost use Rattle.ac_outside.specs.Told.{GrewBy};
 ghost use Rattle.program_reading.specs.Writing.{TookFront};
 ghost use Rattle.program_reading.specs.Failures.{TellsSink};
-ghost use Rattle.program_reading.specs.Both.{halt_line, halt_status};
+ghost use Rattle.program_reading.specs.TwoFiles.{halt_line, halt_status};
 ghost use Rattle.program_reading.specs.Lines.{refusal_line, refusal_status, trace_fault_line};
 ghost use Rattle.program_reading.specs.declared.halt.Halt.TheVariants as h;
 

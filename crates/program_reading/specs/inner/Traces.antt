@@ -7,7 +7,7 @@ use Rattle.trace_text.specs.declared.trace.Trace.{Trace}
 use Rattle.program_reading.specs.declared.both.Both.{Both}
 use Rattle.program_reading.specs.declared.halt.BothFault.{BothFault}
 use Rattle.program_reading.specs.declared.halt.BothFault.TheVariants as f
-use Rattle.program_reading.specs.Both.{RefusesTraced, RefusesTrace, RefusesSource, IsTraceFor, HasTrace}
+use Rattle.program_reading.specs.TwoFiles.{RefusesTraced, RefusesTrace, RefusesSource, IsTraceFor, HasTrace}
 use Rattle.program_reading.specs.Source.{IsReady}
 use Rattle.program_reading.specs.Reading.{IsRead}
 use Rattle.program_reading.specs.Files.{IsTraceRead}

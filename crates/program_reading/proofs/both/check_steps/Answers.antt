@@ -1,6 +1,6 @@
 use Rattle.std.proofs.Common.{◌≡◌, ◌*◌, length, refl, arith}
 use Rattle.ac_names.specs.Numbered.{core_names}
-use Rattle.program_reading.specs.Both.RefusesTraced.{too_many}
+use Rattle.program_reading.specs.TwoFiles.RefusesTraced.{too_many}
 use Rattle.program_reading.proofs.both.check_steps.Goals as goal
 
 pub returns-then-from-trace-gt-MOST_STEPS : goal.returns-then-from-trace-gt-MOST_STEPS

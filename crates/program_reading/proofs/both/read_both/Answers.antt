@@ -1,5 +1,5 @@
 use Rattle.std.proofs.Common.{Err, refl, ap, subst}
-use Rattle.program_reading.specs.Both.RefusesBoth.{library_fault, too_long}
+use Rattle.program_reading.specs.TwoFiles.RefusesBoth.{library_fault, too_long}
 use Rattle.program_reading.specs.Files.{first}
 use Rattle.program_reading.specs.inner.Traces.{GivesSource}
 use Rattle.program_reading.proofs.Given.{both_given}
@@ -21,5 +21,6 @@ pub returns-in-Ok : goal.returns-in-Ok
 returns-in-Ok g c = let r = c.in-Ok in
     both_given c.args.file.now c.args.trace.now _ _ r.source (g.L.Library.told c.read_text.new.library)
     (record { read = record { just = r.ensures.just; well = r.ensures.well (λ e. cc (e)); reads = r.ensures.took (λ e. cc (e)) }; few = r.ensures.few }) r.ensures.whole r.ensures.short r.ensures.same
-    c.read_source.result (subst (λ bytes. GivesSource bytes c.args.trace.now (g.L.Library.told c.read_text.new.library) (g.L.Library.told c.read_source.new.library) c.read_source.result) c.as_slice.ensures
+    c.read_source.result
+    (subst (λ bytes. GivesSource bytes c.args.trace.now (g.L.Library.told c.read_text.new.library) (g.L.Library.told c.read_source.new.library) c.read_source.result) c.as_slice.ensures
     c.read_source.ensures)

@@ -1,7 +1,7 @@
 use Rattle.std.proofs.Common.{refl, subst, inl}
 use Rattle.ac_words.specs.declared.task.Task.TheVariants.{Check}
 use Rattle.program_reading.specs.Source.{Stops}
-use Rattle.program_reading.specs.Both.RefusesSource.{refused}
+use Rattle.program_reading.specs.TwoFiles.RefusesSource.{refused}
 use Rattle.program_reading.proofs.both.read_source.Goals as goal
 
 pub returns-in-Err-NoMemory : goal.returns-in-Err-NoMemory

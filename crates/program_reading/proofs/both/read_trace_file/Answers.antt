@@ -1,5 +1,5 @@
 use Rattle.std.proofs.Common.{Err, refl, ap, subst}
-use Rattle.program_reading.specs.Both.RefusesTrace.{library_fault, too_long}
+use Rattle.program_reading.specs.TwoFiles.RefusesTrace.{library_fault, too_long}
 use Rattle.program_reading.specs.inner.Traces.{GivesTraced}
 use Rattle.program_reading.proofs.Given.{trace_given}
 use Rattle.program_reading.proofs.both.read_trace_file.Goals as goal

@@ -1,6 +1,6 @@
 use Rattle.std.proofs.Common.{Err, refl, subst}
 use Rattle.trace_text.specs.Outcomes.{Reads}
-use Rattle.program_reading.specs.Both.RefusesTraced.{wrong}
+use Rattle.program_reading.specs.TwoFiles.RefusesTraced.{wrong}
 use Rattle.program_reading.proofs.both.read_traced.Goals as goal
 
 pub returns-in-Err-Line : goal.returns-in-Err-Line

@@ -1,21 +1,19 @@
 -- What refuses two files but for a failed library leaves them read: just the first was opened, or both were. No call of the library failed
 -- then, and where one did, the count of its faults rose: by cases, over the two calls that read.
-use Rattle.std.proofs.Common.{◌≡◌, ◌≢◌, ◌⊎◌, inl, inr, ℕ, List, refl, sym, ◌∙◌, subst}
+use Rattle.std.proofs.Common.{◌≡◌, ◌≢◌, ◌⊎◌, inl, inr, ℕ, List, sym, ◌∙◌, subst}
 use Rattle.ac_tree.specs.declared.item.Program.{Program}
 use Rattle.ac_outside.specs.Causes.{Rose}
 use Rattle.ac_outside.specs.Told.{LibraryTold}
-use Rattle.ac_words.specs.declared.task.Task.TheVariants as t
 use Rattle.trace_text.specs.declared.trace.Trace.{Trace}
 use Rattle.program_reading.specs.declared.halt.Halt.{Halt}
 use Rattle.program_reading.specs.declared.halt.Halt.TheVariants as h
-use Rattle.program_reading.specs.Source.{IsReady}
 use Rattle.program_reading.specs.Reading.{Gave, IsRead, IsReadWhole, IsShort}
 use Rattle.program_reading.specs.Files.{AreRead, IsTraceRead, first, both}
-use Rattle.program_reading.specs.Both.{RefusesTrace, RefusesSource, RefusesBoth, AreBoth}
-use Rattle.program_reading.specs.Both.RefusesTrace.{library_fault as trace_fault, too_long as trace_too_long, told}
-use Rattle.program_reading.specs.Both.RefusesTraced.{wrong, too_many}
-use Rattle.program_reading.specs.Both.RefusesSource.{refused, ready}
-use Rattle.program_reading.specs.Both.RefusesBoth.{library_fault, too_long, source}
+use Rattle.program_reading.specs.TwoFiles.{RefusesTrace, RefusesSource, RefusesBoth, AreBoth}
+use Rattle.program_reading.specs.TwoFiles.RefusesTrace.{library_fault as trace_fault, too_long as trace_too_long, told}
+use Rattle.program_reading.specs.TwoFiles.RefusesTraced.{wrong, too_many}
+use Rattle.program_reading.specs.TwoFiles.RefusesSource.{refused, ready}
+use Rattle.program_reading.specs.TwoFiles.RefusesBoth.{library_fault, too_long, source}
 
 -- ---- which were opened
 
