@@ -42,7 +42,7 @@ ORDERS, MOST_ORDERS = 40, 2_000
 
 class Test(typing.NamedTuple):
     """The words, and the source with the name of its file; what is wanted; files beside it, before and after, of which None is no
-    file; and each right answer, where there are several: its status and its output."""
+    file; each right answer, where there are several: its status and its output; and the program, where it is not `ac`."""
 
     words: list
     name: str
@@ -52,6 +52,7 @@ class Test(typing.NamedTuple):
     before: dict = {}
     after: dict = {}
     answers: tuple = ()
+    program: str | None = None
 
 
 def unescaped(text, number):
@@ -93,13 +94,13 @@ def answers_beside(path):
 
 def read(path):
     """The test of a file."""
-    test = {"words": "run x.ac", "name": "x.ac", "source": None, "status": None, "output": None, "before": {}, "after": {}}
+    test = {"words": "run x.ac", "name": "x.ac", "program": None, "source": None, "status": None, "output": None, "before": {}, "after": {}}
     into = part = None
     for line in path.read_text().splitlines():
         key, _, rest = line.partition(" ")
         if line.startswith("#") or not line:
             continue
-        if key in ("words", "name", "status"):
+        if key in ("words", "name", "program", "status"):
             test[key], into = rest, None
         elif line in ("source", "output"):
             into, part = test, line
@@ -117,7 +118,7 @@ def read(path):
         raise ValueError(f"{path.name} has no status or no output")
     words, status = shlex.split(test["words"]), int(test["status"])
     answers = answers_beside(path)
-    return Test(words, test["name"], test["source"], status, test["output"], test["before"], test["after"], answers)
+    return Test(words, test["name"], test["source"], status, test["output"], test["before"], test["after"], answers, test["program"])
 
 
 def status_of(answer):
@@ -329,10 +330,12 @@ def trace_failure(program, test):
 
 
 def failure(program, test):
-    """What differs, or nothing."""
+    """What differs, or nothing. A program of another name stands beside `ac`, in its own crate."""
     if isinstance(test, Session):
         return session_failure(program, test.commands)
     test = Test(*test)
+    if test.program:
+        program = ROOT / "crates" / test.program / "out" / test.program
     output, answers = test.output, test.answers or ((test.status, test.output),)
     with tempfile.TemporaryDirectory() as folder:
         folder = pathlib.Path(folder)
@@ -393,7 +396,7 @@ def write_cases(folder, tests):
     folder.mkdir(parents=True)
     tests = [(name, Test(*test)) for name, test in tests if not isinstance(test, Session)]
     tests = [(name, test) for name, test in tests
-             if test.name == "x.ac" and not (test.before or test.after or test.answers or isinstance(test.output, Front))]
+             if test.name == "x.ac" and not (test.program or test.before or test.after or test.answers or isinstance(test.output, Front))]
     for number, (name, (words, file, source, _, output, *_)) in enumerate(tests):
         case = re.sub(r"\W+", "_", f"{number:04} {name.removesuffix('.txt')}")
         (folder / case).write_bytes(source or b"")

@@ -1,0 +1,24 @@
+-- What holds of the causal order of all histories that are legal.
+use Rattle.std.specs.Prelude.{◌≡◌, ℕ, ◌<◌, List, length, slice_get, Some}
+use Rattle.ac_base.specs.declared.entry.Stamped.{Stamped}
+use Rattle.ac_commands.specs.declared.program.Resolved.{Resolved}
+use Rattle.ac_translation.specs.Translation.{code_of}
+use Rattle.ac_history.specs.History.{IsLegal, start}
+use Rattle.trace_text.specs.declared.trace.Trace.{Trace}
+use Rattle.trace_audit.specs.RunTrace.{IsRunTrace}
+use Rattle.ac_causal.specs.Before.{IsBefore}
+
+-- what is before an entry stands before it in the history
+abbrev pub BeforeIsEarlier : Type 0
+BeforeIsEarlier = (capacities : List ℕ) (cores : ℕ) (es : List Stamped) (i j : ℕ) → IsLegal (start capacities cores) es
+    → IsBefore es i j → i < j
+
+-- and has a lesser stamp
+abbrev pub StampsRise : Type 0
+StampsRise = (capacities : List ℕ) (cores : ℕ) (es : List Stamped) (i j : ℕ) (a b : Stamped) → IsLegal (start capacities cores) es
+    → slice_get es i ≡ Some a → slice_get es j ≡ Some b → IsBefore es i j → a.entry.stamp < b.entry.stamp
+
+-- what an audit says yes to is a legal history, with the links and the cores of the program's code
+abbrev pub RunsAreLegal : Type 0
+RunsAreLegal = (program : Resolved) (t : Trace) → IsRunTrace program t
+    → IsLegal (start (code_of program).capacities (length (code_of program).entries)) t.entries

@@ -1,0 +1,120 @@
+//! The entries of a run with the table of their vectors.
+
+use crate::table::{Rows, count_at, rows_of};
+use ac_base::{List, NoMemory};
+use stack_code::Code;
+use std::alloc::Global;
+use std::marker::Model;
+use trace_text::Trace;
+
+/// The entries of a run with the table of their vectors.
+#[derive(Drop)]
+pub struct Vectors<'a> {
+    trace: &'a Trace,
+    parties: u32,
+    table: Vec<u32>,
+    seen: Vec<u32>,
+}
+
+impl<'a> Model for Vectors<'a> {
+    ghost use Rattle.ac_causal.specs.Run.{CausalRun};
+    ghost use Rattle.ac_causal.specs.inner.Opening.{IsWhole};
+
+    ghost Value = { CausalRun };
+
+    ghost view = { λ c. record { entries = c.trace.now.entries; parties = c.parties } };
+
+    ghost invariant = { λ c. IsWhole c.trace.now.entries c.parties c.table.items c.seen.items };
+}
+
+impl<'a> Vectors<'a> {
+    ghost use Rattle.std.specs.Prelude.{◌≡◌, ℕ, suc, ◌<◌, ◌^◌, ◌⊎◌, ◌↔◌, length, IfOk, IsTrue};
+    ghost use Rattle.ac_history.specs.History.{IsLegal, start};
+    ghost use Rattle.ac_causal.specs.Before.{IsBefore, IsVector};
+    ghost use Rattle.ac_causal.specs.Cuts.{IsInside};
+    ghost use Rattle.ac_causal.specs.inner.Opening.{IsOpenMark};
+
+    /// The entries of a trace, of a program that has this code.
+    pub fn new(alloc: Global, code: &Code, trace: &'a Trace) -> Result<Vectors<'a>, NoMemory>
+        requires legal { IsLegal (start code.now.capacities (length code.now.entries)) trace.now.entries }
+        requires few { length trace.now.entries < 2 ^ 32 }
+        ensures entries { IfOk result (λ it. it.entries ≡ trace.now.entries) }
+        ensures parties { IfOk result (λ it. it.parties ≡ suc (length code.now.entries)) }
+    {
+        // A code is valid, so its cores are few.
+        let _instrs = code.instrs();
+        let parties = code.entries().len() as u32 + 1;
+        let links = code.capacities().len();
+        let Rows { table, seen } = rows_of(alloc, links, parties, trace.entries.as_slice())?;
+        Ok(Vectors {
+            trace,
+            parties,
+            table,
+            seen,
+        })
+    }
+
+    /// How many there are.
+    pub fn len(&self) -> u64
+        ensures { result ≡ length self.now.entries }
+    {
+        self.trace.entries.len()
+    }
+
+    /// For each party how many of its entries are this one or came before it.
+    pub fn vector(&self, alloc: Global, entry: u64) -> Result<List<u32>, NoMemory>
+        requires { entry < length self.now.entries }
+        ensures { IfOk result (λ it. IsVector self.now.entries self.now.parties entry it) }
+    {
+        let parties = self.parties;
+        let table = self.table.as_slice();
+        let mut counts = List::new(alloc);
+        for party in 0..parties {
+            counts.push(count_at(table, parties, entry as u32 + 1, party))?;
+        }
+        Ok(counts)
+    }
+
+    /// Whether one entry is the other or came before it.
+    pub fn reaches(&self, one: u64, other: u64) -> bool
+        requires one { one < length self.now.entries }
+        requires other { other < length self.now.entries }
+        ensures { IsTrue result ↔ ((one ≡ other) ⊎ IsBefore self.now.entries one other) }
+    {
+        let party = self.trace.entries.get(one).party;
+        let table = self.table.as_slice();
+        let own = count_at(table, self.parties, one as u32 + 1, party);
+        let seen = count_at(table, self.parties, other as u32 + 1, party);
+        own <= seen
+    }
+
+    // Whether the entry is among the first so many of its party.
+    fn is_inside(&self, counts: &[u32], entry: u64) -> bool
+        requires entry { entry < length self.now.entries }
+        requires counts { length counts.now ≡ self.now.parties }
+        ensures { IsTrue result ↔ IsInside self.now.entries counts.now entry }
+    {
+        let party = self.trace.entries.get(entry).party;
+        let own = count_at(self.table.as_slice(), self.parties, entry as u32 + 1, party);
+        own <= counts[party as usize]
+    }
+
+    /// The mark of what the entry answers, if the entry is in the cut and that is not; else 0.
+    pub fn open_mark(&self, counts: &[u32], entry: u64) -> u32
+        requires entry { entry < length self.now.entries }
+        requires counts { length counts.now ≡ self.now.parties }
+        ensures { IsOpenMark self.now.entries counts.now entry result }
+    {
+        let mark = self.seen[entry as usize];
+        if mark == 0 {
+            return 0;
+        }
+        if !self.is_inside(counts, entry) {
+            return 0;
+        }
+        if self.is_inside(counts, u64::from(mark - 1)) {
+            return 0;
+        }
+        mark
+    }
+}

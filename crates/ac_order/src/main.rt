@@ -1,0 +1,43 @@
+//! The program `ac_order`: makes the adapters to the system, calls `order_main` with the words after the
+//! program's name, and ends with its status.
+#![tactic(auto)]
+
+use ac_adapters::{FileLibrary, StandardSink};
+use order_program::order_main;
+use std::process::ExitCode;
+use std::{env, fs, io};
+
+// The status where memory is refused before the call.
+const NO_MEMORY: u8 = 11;
+
+// A file that nobody reads or writes here.
+const NOWHERE: &str = "/dev/null";
+
+fn main(rt: HostRuntime) -> ExitCode {
+    // Where a standard stream is closed, the next file that is opened takes its place. These do, only to
+    // be read, so that no answer goes into a file that was to be read.
+    let _places = [
+        fs::open(&rt, NOWHERE),
+        fs::open(&rt, NOWHERE),
+        fs::open(&rt, NOWHERE),
+    ];
+    let mut words = Vec::new(rt.alloc());
+    match env::args(&rt) {
+        Ok(given) => {
+            for word in given.skip(1) {
+                if words.push(word).is_err() {
+                    return ExitCode::from(NO_MEMORY);
+                }
+            }
+        }
+        Err(error) if error.kind() == io::ErrorKind::OutOfMemory => {
+            return ExitCode::from(NO_MEMORY);
+        }
+        // A word that is no text: no words, and so the usage line.
+        Err(_) => {}
+    }
+    let mut library = FileLibrary::new(&rt);
+    let mut sink = StandardSink::new(&rt);
+    let status = order_main(rt.alloc(), words.as_slice(), &mut library, &mut sink);
+    ExitCode::from(status.number)
+}

@@ -1,0 +1,5 @@
+pub mod Answering
+pub mod Cores
+pub mod Few
+pub mod Telling
+pub mod Examples

@@ -1,0 +1,5 @@
+pub mod Asking
+pub mod Headline
+pub mod Lines
+pub mod Words
+pub mod inner
