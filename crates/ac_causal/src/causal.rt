@@ -3,7 +3,7 @@
 use crate::cut::{CutAnswer, lesser};
 use crate::order::Order;
 use crate::vectors::Vectors;
-use ac_base::{List, NoMemory};
+use ac_base::{CoreEnd, List, NoMemory};
 use stack_code::Code;
 use std::alloc::Global;
 use std::marker::Model;
@@ -29,8 +29,12 @@ impl<'a> Model for Causal<'a> {
 impl<'a> Causal<'a> {
     ghost use Rattle.std.specs.Prelude.{◌≡◌, suc, ◌<◌, ◌^◌, ◌↔◌, length, IfOk, IsTrue};
     ghost use Rattle.ac_causal.specs.Before.{IsOrder, IsVector};
-    ghost use Rattle.ac_causal.specs.Cuts.{IsCut, IsCutAnswer};
+    ghost use Rattle.ac_commands.specs.declared.program.Resolved.{Resolved};
+    ghost use Rattle.ac_translation.specs.Translation.{code_of};
+    ghost use Rattle.ac_translation.specs.Same.{IsSame};
+    ghost use Rattle.ac_causal.specs.Cuts.{IsCut, IsClosed, IsCutAnswer};
     ghost use Rattle.ac_causal.specs.Run.{IsAudited};
+    ghost use Rattle.ac_causal.specs.States.{AreStates};
 
     /// The entries of a trace, of a program that has this code.
     ///
@@ -108,5 +112,15 @@ impl<'a> Causal<'a> {
                 entry: u64::from(least - 1),
             }
         }
+    }
+
+    /// How each core ends under its entries of a closed cut, by the program whose run it is.
+    pub fn states(&self, alloc: Global, counts: &List<u32>) -> Result<List<CoreEnd>, NoMemory>
+        requires cut { IsCut self.now.entries self.now.parties counts.now }
+        requires closed { IsClosed self.now.entries counts.now }
+        ensures { IfOk result (λ ends. (program : Resolved) → self.now.code ≡ code_of program → IsSame self.now.code program
+            → AreStates program self.now.steps self.now.entries counts.now ends) }
+    {
+        self.vectors.states(alloc, counts.as_slice())
     }
 }

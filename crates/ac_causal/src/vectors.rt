@@ -1,8 +1,9 @@
 //! The entries of a run with the table of their vectors.
 
 use crate::cut::is_cut;
+use crate::states::states_of;
 use crate::table::{Rows, count_at, rows_of};
-use ac_base::{List, NoMemory};
+use ac_base::{CoreEnd, List, NoMemory};
 use stack_code::Code;
 use std::alloc::Global;
 use std::marker::Model;
@@ -40,6 +41,7 @@ impl<'a> Vectors<'a> {
     ghost use Rattle.ac_causal.specs.Cuts.{IsCut, IsInside};
     ghost use Rattle.ac_causal.specs.Run.{IsAudited};
     ghost use Rattle.ac_causal.specs.inner.Opening.{IsOpenMark};
+    ghost use Rattle.ac_causal.specs.inner.Standing.{AreRunsTo};
 
     /// The entries of a trace, of a program that has this code.
     pub fn new(alloc: Global, code: &'a Code, trace: &'a Trace) -> Result<Vectors<'a>, NoMemory>
@@ -133,5 +135,13 @@ impl<'a> Vectors<'a> {
             return 0;
         }
         mark
+    }
+
+    /// How each core ends under its first so many entries.
+    pub fn states(&self, alloc: Global, counts: &[u32]) -> Result<List<CoreEnd>, NoMemory>
+        requires { length counts.now ≡ self.now.parties }
+        ensures { IfOk result (λ ends. AreRunsTo self.now.code self.now.steps self.now.entries counts.now (length self.now.code.entries) ends) }
+    {
+        states_of(alloc, self.code, self.trace, counts)
     }
 }
