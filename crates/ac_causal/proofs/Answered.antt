@@ -138,7 +138,7 @@ module _ (capacities : List ℕ) (cores : ℕ) (es : List Stamped) (legal : IsLe
     pub has_answer : is_reply e.entry.event ≡ true → is_some offer.answer ≡ true
     pub by : Held es j (link_of e.entry.event) (number_of e.entry.event) offer (seen_mark (marks j) e)
 
-  sees : (j : ℕ) (e : Stamped) → slice_get es j ≡ Some e → 0 < wants e.entry.event → Sees j e
+  pub sees : (j : ℕ) (e : Stamped) → slice_get es j ≡ Some e → 0 < wants e.entry.event → Sees j e
   sees j e is w =
       let step = own es j (past j) (marks j) e (kept j) is (fit j e is) in
       let at : level_at (slice_get (link_at (past j) (link_of e.entry.event)) (number_of e.entry.event)) ≡ wants e.entry.event = step.wanted w in

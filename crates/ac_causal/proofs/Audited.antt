@@ -10,9 +10,11 @@ use Rattle.ac_commands.specs.declared.program.Resolved.{Resolved}
 use Rattle.ac_translation.specs.Translation.{code_of}
 use Rattle.ac_history.specs.History.{IsLegal, start, fits}
 use Rattle.ac_history.specs.Files.{deeds_at}
+use Rattle.stack_code.specs.Parts.{Parts}
 use Rattle.ac_history.specs.Served.{HistoryState, serves_all, state_after, after_all}
 use Rattle.trace_text.specs.declared.trace.Trace.{Trace}
 use Rattle.trace_audit.specs.RunTrace.{nothing_yet, AllFit, IsRunTrace}
+use Rattle.ac_causal.specs.Run.{IsAudited}
 
 one_more : (h : HistoryState) (before : List Stamped) (s : Stamped) → after_all h (before ++ s ∷ []) ≡ state_after (after_all h before) s
 one_more h [] s = refl
@@ -30,3 +32,6 @@ pub is_legal : (program : Resolved) (t : Trace) → IsRunTrace program t → IsL
 is_legal program t run =
     subst (λ n. IsLegal (start (code_of program).capacities n) t.entries) (sym (length-map program.cores (λ (core : Core). core.entry)))
     (legal_from program t [] t.entries run.entries)
+
+pub audited_legal : (code : Parts) (t : Trace) → IsAudited code t → IsLegal (start code.capacities (length code.entries)) t.entries
+audited_legal code t a = subst (λ (c : Parts). IsLegal (start c.capacities (length c.entries)) t.entries) (sym a.code_is) (is_legal a.program t a.run)

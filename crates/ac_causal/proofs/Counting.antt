@@ -32,7 +32,7 @@ module _ (test : ℕ → Bool) where
   le_step k m before (inl same) = let e : count_below test k ≡ count_below test (suc m) = ap (λ x. count_below test x) same in omega (arith, e)
   le_step k m before (inr le) = let a = count_more m in let b = before le in omega (arith, a, b)
 
-  count_le : (k m : ℕ) → k ≤ m → count_below test k ≤ count_below test m
+  pub count_le : (k m : ℕ) → k ≤ m → count_below test k ≤ count_below test m
   count_le k zero h = let z : k ≡ 0 = omega (arith, h) in let e : count_below test k ≡ count_below test 0 = ap (λ x. count_below test x) z in omega (arith, e)
   count_le k (suc m) h = le_step k m (count_le k m) (le_or k m h)
 

@@ -64,10 +64,10 @@ pub they_are_closed : IsClosed entries (1 ∷ 1 ∷ 0 ∷ [])
 they_are_closed = closed_at
 
 -- the first core has taken the second's offer, which is not there
-the_second_offer_is_outside : IsInside entries (2 ∷ 0 ∷ 0 ∷ []) 1 → ⊥
+pub the_second_offer_is_outside : IsInside entries (2 ∷ 0 ∷ 0 ∷ []) 1 → ⊥
 the_second_offer_is_outside h = let lt = place_of (2 ∷ 0 ∷ 0 ∷ []) 1 (by 1 1 2 (Offer 1 0 (Int (pos 6)))) refl h in omega (arith, lt)
 
-pub its_offer_is_not_there : IsOpenAt entries (2 ∷ 0 ∷ 0 ∷ []) 1
+abbrev pub its_offer_is_not_there : IsOpenAt entries (2 ∷ 0 ∷ 0 ∷ []) 1
 its_offer_is_not_there = record {
   by = 2;
   answers = record {

@@ -5,6 +5,7 @@ use Rattle.std.specs.Prelude.{◌↔◌, IsTrue, slice_get, slice_index, nat_le,
 use Rattle.std.proofs.lemmas.Bool.{leb-true, cases_lt}
 use Rattle.std.proofs.lemmas.Option.{same_Some, slice_get_within}
 use Rattle.ac_base.specs.declared.entry.Stamped.{Stamped}
+use Rattle.stack_code.specs.Parts.{Parts}
 use Rattle.ac_causal.specs.Before.{Answers}
 use Rattle.ac_causal.specs.Run.{CausalRun}
 use Rattle.ac_causal.specs.Cuts.{made_by, IsCut, IsInside, IsClosed, IsOpenAt, IsCutAnswer}
@@ -20,7 +21,7 @@ use Rattle.ac_causal.proofs.Reaching.{count_same, ticks, le_true}
 
 -- ---- inside
 
-pub inside_by : (es : List Stamped) (parties : ℕ) (table : List ℕ) (k : IsKept es parties table) (r : CausalRun) → record { entries = es; parties = parties } ≡ r
+pub inside_by : {code : Parts} {steps : ℕ} (es : List Stamped) (parties : ℕ) (table : List ℕ) (k : IsKept es parties table) (r : CausalRun) → record { code = code; steps = steps; entries = es; parties = parties } ≡ r
     → (counts : List ℕ) (entry own : ℕ) (a : Stamped) → slice_get es entry ≡ Some a → own ≡ count_at parties table (entry + 1) a.party
     → (nat_le own (slice_index counts a.party) ≡ true → IsInside r.entries counts entry) × (IsInside r.entries counts entry → nat_le own (slice_index counts a.party) ≡ true)
 inside_by es parties table k r view counts entry own a is p =
@@ -90,7 +91,7 @@ module _ (es : List Stamped) (parties : ℕ) (table seen : List ℕ) (k : IsWhol
 
 -- ---- as contracts see it
 
-module _ (es : List Stamped) (parties : ℕ) (table seen : List ℕ) (k : IsWhole es parties table seen) (r : CausalRun) (view : record { entries = es; parties = parties } ≡ r)
+module _ {code : Parts} {steps : ℕ} (es : List Stamped) (parties : ℕ) (table seen : List ℕ) (k : IsWhole es parties table seen) (r : CausalRun) (view : record { code = code; steps = steps; entries = es; parties = parties } ≡ r)
     (counts : List ℕ) (j mark : ℕ) (lt : j < length r.entries) (is : mark ≡ slice_index seen j) where
   same : es ≡ r.entries
   same = ap (λ (x : CausalRun). x.entries) view
@@ -119,7 +120,7 @@ module _ (es : List Stamped) (parties : ℕ) (table seen : List ℕ) (k : IsWhol
   is_open_at positive a b h d g e = of_these mark (open_there es parties table seen k counts j mark within is positive (subst (λ x. IsInside x counts j) (sym same) (d.0 h))
       (λ i. (let bad : false ≡ true = sym g ∙ e.1 (subst (λ x. IsInside x counts (mark - 1)) same i) in cc)))
 
-pub in_seen : (es : List Stamped) (parties : ℕ) (table seen : List ℕ) (k : IsWhole es parties table seen) (r : CausalRun) → record { entries = es; parties = parties } ≡ r
+pub in_seen : {code : Parts} {steps : ℕ} (es : List Stamped) (parties : ℕ) (table seen : List ℕ) (k : IsWhole es parties table seen) (r : CausalRun) → record { code = code; steps = steps; entries = es; parties = parties } ≡ r
     → (j : ℕ) → j < length r.entries → j < length seen
 in_seen es parties table seen k r view j lt =
     let a = k.marks.so_many in

@@ -10,6 +10,7 @@ use Rattle.ac_base.specs.declared.entry.Event.TheVariants.{Offer, Withdraw, Know
 use Rattle.ac_base.specs.declared.entry.Stamped.{Stamped}
 use Rattle.ac_commands.specs.declared.program.Resolved.{Resolved}
 use Rattle.ac_translation.specs.Translation.{code_of}
+use Rattle.stack_code.specs.Parts.{Parts}
 use Rattle.ac_links.specs.Link.{link_fits}
 use Rattle.ac_history.specs.History.{Past, IsLegal, start, in_range, is_later, has_stamp, may_make, terms_of, link_at}
 use Rattle.trace_text.specs.declared.trace.Trace.{Trace}
@@ -230,11 +231,11 @@ pub stamps_rise_to_the_fifth : StampsRise → 1 < 3
 stamps_rise_to_the_fifth law =
     law capacities 2 entries 0 4 (by 0 1 2 (Offer 0 0 (Int (pos 5)))) (by 0 3 2 (Know 0 0)) they_are_legal refl refl the_first_is_before_the_fifth
 
-abbrev run : CausalRun
-run = record { entries = entries; parties = 3 }
+abbrev run : Parts → CausalRun
+run code = record { code = code; steps = 100; entries = entries; parties = 3 }
 
-pub three_parties_made_six_entries : length run.entries ∷ run.parties ∷ [] ≡ 6 ∷ 3 ∷ []
-three_parties_made_six_entries = refl
+pub three_parties_made_six_entries : (code : Parts) → length (run code).entries ∷ (run code).parties ∷ [] ≡ 6 ∷ 3 ∷ []
+three_parties_made_six_entries code = refl
 
 -- ---- stamps alone do not tell the order: a core offers twice, and another once, which nobody answers
 
@@ -277,7 +278,7 @@ nothing_later_is_before law h = let lt = law capacities 2 entries 3 1 they_are_l
 -- ---- a trace that is a run
 
 -- its first entry has a stamp that is not the first
-abbrev no_run : Trace
+abbrev pub no_run : Trace
 no_run = record { steps = 100; start = []; entries = by 0 2 1 (Offer 0 0 (Int (pos 5))) ∷ []; ends = [] }
 
 stamp_of_five : (a b c d f : Bool) → a && b && c && d && f ≡ true → c ≡ true

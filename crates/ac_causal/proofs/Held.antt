@@ -146,16 +146,16 @@ module _ (es : List Stamped) (k : ℕ) (P : Past) (M : Marked) (e : Stamped) (wa
   pub its_stamp : e.entry.stamp ≡ next_stamp (slice_index P.lasts e.party) (answered os ev)
   its_stamp = eqb-true e.entry.stamp (next_stamp (slice_index P.lasts e.party) (answered os ev)) parts.2
 
-  link_same : link_at P' l0 ≡ os'
+  pub link_same : link_at P' l0 ≡ os'
   link_same = get_or-set_same P.links l0 os' [] in_links
 
-  link_other : (l : ℕ) → (l ≡ l0 → ⊥) → link_at P' l ≡ link_at P l
+  pub link_other : (l : ℕ) → (l ≡ l0 → ⊥) → link_at P' l ≡ link_at P l
   link_other l h = get_or-set_other P.links l0 l os' [] h
 
-  mark_same : marks_of M' l0 ≡ ps'
+  pub mark_same : marks_of M' l0 ≡ ps'
   mark_same = let wide = was.wide in let lt : l0 < length M.links = omega (arith, in_links, wide) in get_or-set_same M.links l0 ps' [] lt
 
-  mark_other : (l : ℕ) → (l ≡ l0 → ⊥) → marks_of M' l ≡ marks_of M l
+  pub mark_other : (l : ℕ) → (l ≡ l0 → ⊥) → marks_of M' l ≡ marks_of M l
   mark_other l h = get_or-set_other M.links l0 l ps' [] h
 
   sound : (q : Option LinkOffer) → slice_get os n0 ≡ q → IsSound q
@@ -182,7 +182,7 @@ module _ (es : List Stamped) (k : ℕ) (P : Past) (M : Marked) (e : Stamped) (wa
   went_by l n (inl p) = went_near l n p (cases_eq n n0)
   went_by l n (inr apart) = inl (ap (λ x. slice_get x n) (link_other l apart), ap (λ x. slice_index x n) (mark_other l apart))
 
-  went : (l n : ℕ) → Went l n
+  pub went : (l n : ℕ) → Went l n
   went l n = went_by l n (cases_eq l l0)
 
   -- no offer goes down the ladder, and this one stands at least where the entry brought it

@@ -4,11 +4,14 @@ use Rattle.std.specs.Prelude.{slice_get, slice_index, nat_le}
 use Rattle.std.proofs.lemmas.Bool.{leb-true}
 use Rattle.std.proofs.lemmas.Bool.Decides.{nat_tests}
 use Rattle.ac_base.specs.declared.entry.Stamped.{Stamped}
-use Rattle.ac_history.specs.History.{IsLegal, start}
+use Rattle.stack_code.specs.Parts.{Parts}
+use Rattle.trace_text.specs.declared.trace.Trace.{Trace}
 use Rattle.ac_causal.specs.Before.{IsBefore, IsVector}
-use Rattle.ac_causal.specs.Run.{CausalRun}
+use Rattle.ac_causal.specs.Run.{CausalRun, IsAudited}
 use Rattle.ac_causal.specs.inner.Kept.{IsKept}
 use Rattle.ac_causal.specs.inner.Marks.{no_marks, count_at, last_mark, seen_mark, IsTable}
+use Rattle.ac_causal.specs.inner.Opening.{AreSeen, AreVectors}
+use Rattle.ac_causal.proofs.Audited.{audited_legal}
 use Rattle.ac_causal.proofs.Answered.{marks, party_in}
 use Rattle.ac_causal.proofs.Ticks.{Ticks, told, tells}
 use Rattle.ac_causal.proofs.Tables.{at_row, ticks_of}
@@ -55,7 +58,7 @@ module _ (es : List Stamped) (parties : ℕ) (table : List ℕ) (k : IsKept es p
 pub le_true : (x y : ℕ) → x ≤ y → nat_le x y ≡ true
 le_true x y h = grind (arith, nat_tests)
 
-pub reaches_by : (es : List Stamped) (parties : ℕ) (table : List ℕ) (k : IsKept es parties table) (r : CausalRun) → record { entries = es; parties = parties } ≡ r
+pub reaches_by : {code : Parts} {steps : ℕ} (es : List Stamped) (parties : ℕ) (table : List ℕ) (k : IsKept es parties table) (r : CausalRun) → record { code = code; steps = steps; entries = es; parties = parties } ≡ r
     → (one other party own seen : ℕ) (a : Stamped) → slice_get es one ≡ Some a → other < length r.entries → party ≡ a.party
     → own ≡ count_at parties table (one + 1) party → seen ≡ count_at parties table (other + 1) party
     → (nat_le own seen ≡ true → (one ≡ other) ⊎ IsBefore r.entries one other) × ((one ≡ other) ⊎ IsBefore r.entries one other → nat_le own seen ≡ true)
@@ -66,7 +69,7 @@ reaches_by es parties table k r view one other party own seen a is lt same p q =
       (λ h. le_true own seen (reaches_tells es parties table k one other party own seen a is same p q (subst (λ x. (one ≡ other) ⊎ IsBefore x one other) (sym e) h))),
     )
 
-pub vector_by : (es : List Stamped) (parties : ℕ) (table : List ℕ) (k : IsKept es parties table) (r : CausalRun) → record { entries = es; parties = parties } ≡ r
+pub vector_by : {code : Parts} {steps : ℕ} (es : List Stamped) (parties : ℕ) (table : List ℕ) (k : IsKept es parties table) (r : CausalRun) → record { code = code; steps = steps; entries = es; parties = parties } ≡ r
     → (entry : ℕ) (counts : List ℕ) → entry < length r.entries → length counts ≡ parties
     → ((p : ℕ) → p < parties → slice_index counts p ≡ count_at parties table (entry + 1) p) → IsVector r.entries r.parties entry counts
 vector_by es parties table k r view entry counts lt as_many each =
@@ -74,13 +77,24 @@ vector_by es parties table k r view entry counts lt as_many each =
     let within : entry < length es = subst (λ x. entry < length x) (sym e) lt in
     subst (λ (x : CausalRun). IsVector x.entries x.parties entry counts) view (vector_is es parties table k entry counts within as_many each)
 
-pub is_kept : (capacities : List ℕ) (cores links parties : ℕ) (es : List Stamped) (table : List ℕ) → IsLegal (start capacities cores) es → length es < 2 ^ 32
-    → parties ≡ suc cores → links ≡ length capacities → IsTable parties (no_marks links parties) es (length es) table → IsKept es parties table
-is_kept capacities cores links parties es table legal few as_many all rows = record {
-  capacities = capacities;
-  cores = cores;
-  legal = legal;
-  parties_are = as_many;
-  few = few;
-  rows = subst (λ l. IsTable parties (no_marks l parties) es (length es) table) all rows;
+-- what is made of a trace that is a run
+pub are_vectors : (code : Parts) (t : Trace) (links parties : ℕ) (es : List Stamped) (table seen : List ℕ) → IsAudited code t → length t.entries < 2 ^ 32 → es ≡ t.entries
+    → parties ≡ suc (length code.entries) → links ≡ length code.capacities → IsTable parties (no_marks links parties) es (length es) table
+    → AreSeen (no_marks links parties) es (length es) seen → AreVectors code t parties table seen
+are_vectors code t links parties es table seen audited few is many all rows marks = record {
+  audited = audited;
+  parties_are = many;
+  whole = record {
+    kept = record {
+      capacities = code.capacities;
+      cores = length code.entries;
+      legal = audited_legal code t audited;
+      parties_are = many;
+      few = few;
+      rows = subst (λ l. IsTable parties (no_marks l parties) t.entries (length t.entries) table) all
+          (subst (λ xs. IsTable parties (no_marks links parties) xs (length xs) table) is rows);
+    };
+    marks = subst (λ l. AreSeen (no_marks l parties) t.entries (length t.entries) seen) all
+        (subst (λ xs. AreSeen (no_marks links parties) xs (length xs) seen) is marks);
+  };
 }

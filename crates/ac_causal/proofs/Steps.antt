@@ -70,7 +70,7 @@ abbrev pub has_answer_at : Option LinkOffer → Bool
 has_answer_at None = false
 has_answer_at (Some o) = is_some o.answer
 
-offered_level : (s : Standing) → is_offered s ≡ true → level s ≡ 1
+pub offered_level : (s : Standing) → is_offered s ≡ true → level s ≡ 1
 offered_level Offered h = refl
 offered_level Taken h = let bad : false ≡ true = h in absurd (cc)
 offered_level Withdrawn h = let bad : false ≡ true = h in absurd (cc)
@@ -138,7 +138,7 @@ length_pushed (x ∷ xs) y = ap suc (length_pushed xs y)
 
 -- ---- the offer that an event is about
 
-own_changed : (os : List LinkOffer) (n : ℕ) (f : LinkOffer → LinkOffer) (o : LinkOffer) → slice_get os n ≡ Some o
+pub own_changed : (os : List LinkOffer) (n : ℕ) (f : LinkOffer → LinkOffer) (o : LinkOffer) → slice_get os n ≡ Some o
     → slice_get (changed os n f (slice_get os n)) n ≡ Some (f o)
 own_changed os n f o is = ap (λ q. slice_get (changed os n f q) n) is ∙ get_set_same os n o (f o) is
 
@@ -151,7 +151,7 @@ length_changed : (os : List LinkOffer) (k : ℕ) (f : LinkOffer → LinkOffer) (
 length_changed os k f None = refl
 length_changed os k f (Some o) = length-set os k (f o)
 
-some_of : (test : Option LinkOffer → Bool) → test None ≡ false → (q : Option LinkOffer) → test q ≡ true
+pub some_of : (test : Option LinkOffer → Bool) → test None ≡ false → (q : Option LinkOffer) → test q ≡ true
     → (o : LinkOffer) × (q ≡ Some o) × (test (Some o) ≡ true)
 some_of test none None h = let bad : false ≡ true = sym none ∙ h in absurd (cc)
 some_of test none (Some o) h = (o, refl, h)
@@ -222,7 +222,7 @@ module _ (terms : Terms) (os : List LinkOffer) (s : ℕ) where
   own_after e = slice_get (link_after os s e) (number_of e)
 
   -- the number of a new offer is the next one
-  offers_next : (l n : ℕ) (payload : Payload) → link_fits terms os (Offer l n payload) ≡ true → n ≡ length os
+  pub offers_next : (l n : ℕ) (payload : Payload) → link_fits terms os (Offer l n payload) ≡ true → n ≡ length os
   offers_next l n payload fits =
       let room = nat_lt (length os - known_lead os) terms.capacity in
       let p = and_parts ((n == length os) && room) (is_payload terms.requests payload) fits in

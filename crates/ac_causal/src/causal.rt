@@ -3,7 +3,7 @@
 use crate::cut::{CutAnswer, lesser};
 use crate::order::Order;
 use crate::vectors::Vectors;
-use ac_base::{List, NoMemory};
+use ac_base::{CoreEnd, List, NoMemory};
 use stack_code::Code;
 use std::alloc::Global;
 use std::marker::Model;
@@ -12,7 +12,7 @@ use trace_text::Trace;
 /// The entries of a run in their causal order: which of them came before which, whatever the schedule
 /// was.
 ///
-/// Contracts see the entries, and how many parties there are.
+/// Contracts see the code, the bound on steps, the entries, and how many parties there are.
 #[derive(Drop)]
 pub struct Causal<'a> {
     vectors: Vectors<'a>,
@@ -27,23 +27,35 @@ impl<'a> Model for Causal<'a> {
 }
 
 impl<'a> Causal<'a> {
-    ghost use Rattle.std.specs.Prelude.{◌≡◌, suc, ◌<◌, ◌^◌, length, IfOk};
-    ghost use Rattle.ac_history.specs.History.{IsLegal, start};
+    ghost use Rattle.std.specs.Prelude.{◌≡◌, suc, ◌<◌, ◌^◌, ◌↔◌, length, IfOk, IsTrue};
     ghost use Rattle.ac_causal.specs.Before.{IsOrder, IsVector};
-    ghost use Rattle.ac_causal.specs.Cuts.{IsCut, IsCutAnswer};
+    ghost use Rattle.ac_commands.specs.declared.program.Resolved.{Resolved};
+    ghost use Rattle.ac_translation.specs.Translation.{code_of};
+    ghost use Rattle.ac_translation.specs.Same.{IsSame};
+    ghost use Rattle.ac_causal.specs.Cuts.{IsCut, IsClosed, IsCutAnswer};
+    ghost use Rattle.ac_causal.specs.Run.{IsAudited};
+    ghost use Rattle.ac_causal.specs.States.{AreStates};
 
     /// The entries of a trace, of a program that has this code.
     ///
-    /// Conditions: they are a legal history, as those of each trace are to which an audit says yes;
-    /// and they are fewer than 2^32.
-    pub fn new(alloc: Global, code: &Code, trace: &'a Trace) -> Result<Causal<'a>, NoMemory>
-        requires legal { IsLegal (start code.now.capacities (length code.now.entries)) trace.now.entries }
+    /// Conditions: an audit of the trace says yes; and they are fewer than 2^32.
+    pub fn new(alloc: Global, code: &'a Code, trace: &'a Trace) -> Result<Causal<'a>, NoMemory>
+        requires audited { IsAudited code.now trace.now }
         requires few { length trace.now.entries < 2 ^ 32 }
+        ensures code { IfOk result (λ it. it.code ≡ code.now) }
+        ensures steps { IfOk result (λ it. it.steps ≡ trace.now.steps) }
         ensures entries { IfOk result (λ it. it.entries ≡ trace.now.entries) }
         ensures parties { IfOk result (λ it. it.parties ≡ suc (length code.now.entries)) }
     {
         let vectors = Vectors::new(alloc, code, trace)?;
         Ok(Causal { vectors })
+    }
+
+    /// How many entries there are.
+    pub fn len(&self) -> u64
+        ensures { result ≡ length self.now.entries }
+    {
+        self.vectors.len()
     }
 
     /// For each party how many of its entries are this one or came before it.
@@ -71,6 +83,14 @@ impl<'a> Causal<'a> {
         }
     }
 
+    /// Whether the counts are a cut: one for each party, of no more entries than it has. It takes no
+    /// memory.
+    pub fn is_cut(&self, counts: &List<u32>) -> bool
+        ensures { IsTrue result ↔ IsCut self.now.entries self.now.parties counts.now }
+    {
+        self.vectors.is_cut(counts.as_slice())
+    }
+
     /// Whether what each entry of a cut answers is in the cut, too, or the first entry that is not.
     /// It takes no memory.
     ///
@@ -92,5 +112,15 @@ impl<'a> Causal<'a> {
                 entry: u64::from(least - 1),
             }
         }
+    }
+
+    /// How each core ends under its entries of a closed cut, by the program whose run it is.
+    pub fn states(&self, alloc: Global, counts: &List<u32>) -> Result<List<CoreEnd>, NoMemory>
+        requires cut { IsCut self.now.entries self.now.parties counts.now }
+        requires closed { IsClosed self.now.entries counts.now }
+        ensures { IfOk result (λ ends. (program : Resolved) → self.now.code ≡ code_of program → IsSame self.now.code program
+            → AreStates program self.now.steps self.now.entries counts.now ends) }
+    {
+        self.vectors.states(alloc, counts.as_slice())
     }
 }

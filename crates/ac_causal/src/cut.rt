@@ -1,6 +1,9 @@
-//! What is said of a cut.
+//! Cuts: which counts are one, and what is said of one.
 
-ghost use Rattle.std.specs.Prelude.{◌≡◌, ◌<◌, min};
+ghost use Rattle.std.specs.Prelude.{◌≡◌, ◌<◌, ◌↔◌, length, min, IsTrue};
+ghost use Rattle.ac_causal.specs.Cuts.{made_by, IsCut};
+
+use ac_base::Stamped;
 
 /// A cut is closed where each entry that an entry of it answers is in it, too; else it is open at an
 /// entry that is not, counted from 0.
@@ -8,6 +11,34 @@ ghost use Rattle.std.specs.Prelude.{◌≡◌, ◌<◌, min};
 pub enum CutAnswer {
     Closed,
     Open { entry: u64 },
+}
+
+// How many of the entries the party made.
+fn made_by(entries: &[Stamped], party: u32) -> u64
+    ensures { result ≡ made_by entries.now party (length entries.now) }
+{
+    let mut count = 0;
+    for stamped in entries {
+        if stamped.party == party {
+            count += 1;
+        }
+    }
+    count
+}
+
+/// Whether the counts are a cut of entries of so many parties.
+pub fn is_cut(entries: &[Stamped], parties: u32, counts: &[u32]) -> bool
+    ensures { IsTrue result ↔ IsCut entries.now parties counts.now }
+{
+    if counts.len() != parties as usize {
+        return false;
+    }
+    for (party, count) in counts.iter().enumerate() {
+        if u64::from(*count) > made_by(entries, party as u32) {
+            return false;
+        }
+    }
+    true
 }
 
 /// The lesser of two marks, of which 0 is none.

@@ -1,7 +1,9 @@
 //! The entries of a run with the table of their vectors.
 
+use crate::cut::is_cut;
+use crate::states::states_of;
 use crate::table::{Rows, count_at, rows_of};
-use ac_base::{List, NoMemory};
+use ac_base::{CoreEnd, List, NoMemory};
 use stack_code::Code;
 use std::alloc::Global;
 use std::marker::Model;
@@ -10,6 +12,7 @@ use trace_text::Trace;
 /// The entries of a run with the table of their vectors.
 #[derive(Drop)]
 pub struct Vectors<'a> {
+    code: &'a Code,
     trace: &'a Trace,
     parties: u32,
     table: Vec<u32>,
@@ -18,26 +21,34 @@ pub struct Vectors<'a> {
 
 impl<'a> Model for Vectors<'a> {
     ghost use Rattle.ac_causal.specs.Run.{CausalRun};
-    ghost use Rattle.ac_causal.specs.inner.Opening.{IsWhole};
+    ghost use Rattle.ac_causal.specs.inner.Opening.{AreVectors};
 
     ghost Value = { CausalRun };
 
-    ghost view = { λ c. record { entries = c.trace.now.entries; parties = c.parties } };
+    ghost view = { λ c. record {
+      code = c.code.now;
+      steps = c.trace.now.steps;
+      entries = c.trace.now.entries;
+      parties = c.parties;
+    } };
 
-    ghost invariant = { λ c. IsWhole c.trace.now.entries c.parties c.table.items c.seen.items };
+    ghost invariant = { λ c. AreVectors c.code.now c.trace.now c.parties c.table.items c.seen.items };
 }
 
 impl<'a> Vectors<'a> {
     ghost use Rattle.std.specs.Prelude.{◌≡◌, ℕ, suc, ◌<◌, ◌^◌, ◌⊎◌, ◌↔◌, length, IfOk, IsTrue};
-    ghost use Rattle.ac_history.specs.History.{IsLegal, start};
     ghost use Rattle.ac_causal.specs.Before.{IsBefore, IsVector};
-    ghost use Rattle.ac_causal.specs.Cuts.{IsInside};
+    ghost use Rattle.ac_causal.specs.Cuts.{IsCut, IsInside};
+    ghost use Rattle.ac_causal.specs.Run.{IsAudited};
     ghost use Rattle.ac_causal.specs.inner.Opening.{IsOpenMark};
+    ghost use Rattle.ac_causal.specs.inner.Standing.{AreRunsTo};
 
     /// The entries of a trace, of a program that has this code.
-    pub fn new(alloc: Global, code: &Code, trace: &'a Trace) -> Result<Vectors<'a>, NoMemory>
-        requires legal { IsLegal (start code.now.capacities (length code.now.entries)) trace.now.entries }
+    pub fn new(alloc: Global, code: &'a Code, trace: &'a Trace) -> Result<Vectors<'a>, NoMemory>
+        requires audited { IsAudited code.now trace.now }
         requires few { length trace.now.entries < 2 ^ 32 }
+        ensures code { IfOk result (λ it. it.code ≡ code.now) }
+        ensures steps { IfOk result (λ it. it.steps ≡ trace.now.steps) }
         ensures entries { IfOk result (λ it. it.entries ≡ trace.now.entries) }
         ensures parties { IfOk result (λ it. it.parties ≡ suc (length code.now.entries)) }
     {
@@ -47,6 +58,7 @@ impl<'a> Vectors<'a> {
         let links = code.capacities().len();
         let Rows { table, seen } = rows_of(alloc, links, parties, trace.entries.as_slice())?;
         Ok(Vectors {
+            code,
             trace,
             parties,
             table,
@@ -88,6 +100,13 @@ impl<'a> Vectors<'a> {
         own <= seen
     }
 
+    /// Whether the counts are a cut.
+    pub fn is_cut(&self, counts: &[u32]) -> bool
+        ensures { IsTrue result ↔ IsCut self.now.entries self.now.parties counts.now }
+    {
+        is_cut(self.trace.entries.as_slice(), self.parties, counts)
+    }
+
     // Whether the entry is among the first so many of its party.
     fn is_inside(&self, counts: &[u32], entry: u64) -> bool
         requires entry { entry < length self.now.entries }
@@ -116,5 +135,13 @@ impl<'a> Vectors<'a> {
             return 0;
         }
         mark
+    }
+
+    /// How each core ends under its first so many entries.
+    pub fn states(&self, alloc: Global, counts: &[u32]) -> Result<List<CoreEnd>, NoMemory>
+        requires { length counts.now ≡ self.now.parties }
+        ensures { IfOk result (λ ends. AreRunsTo self.now.code self.now.steps self.now.entries counts.now (length self.now.code.entries) ends) }
+    {
+        states_of(alloc, self.code, self.trace, counts)
     }
 }

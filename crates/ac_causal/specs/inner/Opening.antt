@@ -1,10 +1,13 @@
 -- Where a cut is open, entry by entry, by marks: places counted from 1, and 0 for none.
 use Rattle.std.specs.Prelude.{◌≡◌, ℕ, suc, ◌<◌, ◌≤◌, List, slice_get, slice_index, length, Some}
 use Rattle.ac_base.specs.declared.entry.Stamped.{Stamped}
+use Rattle.stack_code.specs.Parts.{Parts}
+use Rattle.trace_text.specs.declared.trace.Trace.{Trace}
 use Rattle.ac_causal.specs.Before.{Answers}
 use Rattle.ac_causal.specs.Cuts.{IsInside, IsOpenAt}
 use Rattle.ac_causal.specs.inner.Marks.{Marked, no_marks, seen_mark, marked_at}
 use Rattle.ac_causal.specs.inner.Kept.{IsKept}
+use Rattle.ac_causal.specs.Run.{IsAudited}
 
 -- the marks that the first so many entries see
 pub record AreSeen (first : Marked) (es : List Stamped) (rows : ℕ) (seen : List ℕ) : Type 0 where
@@ -14,6 +17,12 @@ pub record AreSeen (first : Marked) (es : List Stamped) (rows : ℕ) (seen : Lis
 pub record IsWhole (es : List Stamped) (parties : ℕ) (table seen : List ℕ) : Type 0 where
   pub kept : IsKept es parties table
   pub marks : AreSeen (no_marks (length kept.capacities) parties) es (length es) seen
+
+-- of a trace that is a run of a program with this code
+pub record AreVectors (code : Parts) (t : Trace) (parties : ℕ) (table seen : List ℕ) : Type 0 where
+  pub audited : IsAudited code t
+  pub parties_are : parties ≡ suc (length code.entries)
+  pub whole : IsWhole t.entries parties table seen
 
 -- the mark of what entry j answers, if j is in the cut and that is not
 pub record IsOpenMark (es : List Stamped) (counts : List ℕ) (j mark : ℕ) : Type 0 where
