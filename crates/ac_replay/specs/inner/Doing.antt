@@ -1,0 +1,27 @@
+-- What each part of the work on a trace that is a run gives.
+use Rattle.std.specs.Prelude.{◌≡◌, ℕ, List, Result, Ok, Err}
+use Rattle.ac_outside.specs.Disks.{DiskTold}
+use Rattle.ac_resolve.specs.Resolution.{resolved}
+use Rattle.ac_tree.specs.declared.item.Program.{Program}
+use Rattle.starting_files.specs.Starting.{AreStarted, AreStopped}
+use Rattle.trace_text.specs.declared.trace.Trace.{Trace}
+use Rattle.trace_writes.specs.declared.write.FileWrite.{FileWrite}
+use Rattle.trace_writes.specs.Doing.{DidAll, DidSome}
+use Rattle.ac_replay.specs.declared.doing.Halt.{Halt}
+use Rattle.ac_replay.specs.declared.doing.Halt.TheVariants.{Stopped, Differs, Torn}
+use Rattle.ac_replay.specs.declared.running.Redo.{Redo}
+use Rattle.ac_replay.specs.Due.{IsFirstOther}
+use Rattle.ac_replay.specs.Replaying.{IsReplayedReport, writes_in}
+
+-- the report that is written in the end, and the writes that are done before
+pub record IsRedo (program : Program) (t : Trace) (redo : Redo) : Type 0 where
+  pub report : IsReplayedReport program t redo.status.number redo.report
+  pub writes : redo.writes ≡ writes_in (resolved program) t
+
+-- the files of these paths held what is told, and all writes were done on them; or one was not had, or held other bytes, or a write failed
+abbrev pub IsDoneAgain : {T : Type 0} → List (List ℕ) → List (List ℕ) → List FileWrite → DiskTold → DiskTold → Result T Halt → Type 0
+IsDoneAgain paths told ws disk later (Ok done) = (between : DiskTold) × AreStarted paths told disk between × DidAll ws between later
+IsDoneAgain paths told ws disk later (Err (Stopped fault)) = AreStopped paths fault disk later
+IsDoneAgain paths told ws disk later (Err (Differs file)) =
+    (start : List (List ℕ)) × AreStarted paths start disk later × IsFirstOther start told file
+IsDoneAgain paths told ws disk later (Err Torn) = (between : DiskTold) × AreStarted paths told disk between × DidSome ws between later

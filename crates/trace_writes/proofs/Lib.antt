@@ -1,0 +1,4 @@
+pub mod Contents
+pub mod Doing
+pub mod Finding
+pub mod Requests
