@@ -14,14 +14,14 @@ use Rattle.trace_audit.specs.RunTrace.{IsRunTrace}
 use Rattle.trace_audit.specs.Judged.{Judges}
 use Rattle.ac_words.specs.declared.task.Task.TheVariants as t
 use Rattle.ac_program.specs.Lines.{verdict_line, verdict_status}
-use Rattle.ac_program.specs.Source.{IsReady, most_steps}
-use Rattle.ac_program.specs.Reading.{IsShort}
+use Rattle.program_reading.specs.Source.{IsReady, most_steps}
+use Rattle.program_reading.specs.Reading.{IsShort}
 use Rattle.ac_program.specs.Auditing.{AuditCallsFor, IsJudged}
 use Rattle.ac_program.specs.Auditing.IsDueOfRun.{too_many, judged}
 use Rattle.ac_program.specs.Auditing.IsDueOfTraced.{wrong, spelled}
 use Rattle.ac_program.specs.Auditing.AuditCallsFor.{over_long, refused, long_trace, told}
 use Rattle.ac_program.proofs.Reasons.{gave_is}
-use Rattle.ac_program.proofs.Refusals.{some_status}
+use Rattle.program_reading.proofs.Refusals.{some_status}
 
 -- the two texts are within their limits, the first spells a program that breaks no rule, and the second a trace that is a run of it, in which
 -- its cores together may go no more steps than there may be

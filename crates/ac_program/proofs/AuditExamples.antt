@@ -19,12 +19,14 @@ use Rattle.ac_words.specs.declared.task.Task.{Task}
 use Rattle.ac_words.specs.declared.task.Task.TheVariants as t
 use Rattle.ac_words.specs.declared.task.Telling.TheVariants as tell
 use Rattle.ac_words.specs.Words.{Does, Audits, StandsFor, IsCall, no_more, operand}
-use Rattle.ac_program.specs.declared.refusal.Refusal.TheVariants as r
-use Rattle.ac_program.specs.Source.{IsReady}
-use Rattle.ac_program.specs.Reading.{IsRead, IsReadWhole}
-use Rattle.ac_program.specs.Lines.{library_line, limit_source_line, limit_trace_line, limit_steps_line, trace_fault_line, verdict_line, verdict_status}
+use Rattle.program_reading.specs.declared.refusal.Refusal.TheVariants as r
+use Rattle.program_reading.specs.Source.{IsReady}
+use Rattle.program_reading.specs.Reading.{IsRead, IsReadWhole}
+use Rattle.program_reading.specs.Lines.{library_line, limit_source_line, limit_trace_line, limit_steps_line, trace_fault_line}
+use Rattle.ac_program.specs.Lines.{verdict_line, verdict_status}
 use Rattle.ac_program.specs.Making.{TellsTrace, Tells, whole, long_trace}
-use Rattle.ac_program.specs.Auditing.{IsDueOfRun, IsDueOfTraced, IsDueOfTrace, IsDueOfSource, IsDueOfAudit, AreRead, IsTraceRead, AuditCallsFor, IsJudged, first, both}
+use Rattle.program_reading.specs.Files.{AreRead, IsTraceRead, first, both}
+use Rattle.ac_program.specs.Auditing.{IsDueOfRun, IsDueOfTraced, IsDueOfTrace, IsDueOfSource, IsDueOfAudit, AuditCallsFor, IsJudged}
 use Rattle.ac_program.specs.Auditing.IsDueOfRun.{too_many, judged}
 use Rattle.ac_program.specs.Auditing.IsDueOfTraced.{wrong, spelled}
 use Rattle.ac_program.specs.Auditing.IsDueOfTrace.{library_fault as trace_fault, too_long as trace_too_long, read}
@@ -35,7 +37,7 @@ use Rattle.ac_program.specs.Headline.{IsCutShort, IsDue, of_task, of_audit, of_l
 use Rattle.ac_program.specs.Headline.IsDue.{usage, call, audit, load}
 use Rattle.ac_program.proofs.AuditConsequences.{AreARun, only_yes}
 use Rattle.ac_program.proofs.Judging.{one_status}
-use Rattle.ac_program.proofs.Refusals.{refused_not, some_status}
+use Rattle.program_reading.proofs.Refusals.{refused_not, some_status}
 use Rattle.ac_program.proofs.Statuses.{not_above}
 use Rattle.ac_program.proofs.TwoRules.{two_tree, two_is_clean}
 use Rattle.ac_program.proofs.Examples.{no_disk, its_end, its_run, it_is_a_run, it_is_spelled, its_sink, sink_with, it_has_a_fault}

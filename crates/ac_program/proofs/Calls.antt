@@ -7,23 +7,23 @@ use Rattle.ac_parser.proofs.Shaped.{spelled_shape}
 use Rattle.ac_commands.specs.declared.program.Channel.{Channel}
 use Rattle.ac_resolve.specs.Resolution.{resolved}
 use Rattle.ac_tree.specs.declared.item.Program.{Program}
-use Rattle.ac_program.specs.declared.refusal.Refusal.{Refusal}
-use Rattle.ac_program.specs.declared.refusal.Refusal.TheVariants as r
+use Rattle.program_reading.specs.declared.refusal.Refusal.{Refusal}
+use Rattle.program_reading.specs.declared.refusal.Refusal.TheVariants as r
 use Rattle.ac_lexer.specs.declared.fault.LexFault.TheVariants as l
-use Rattle.ac_program.specs.Lines.{refusal_status}
+use Rattle.program_reading.specs.Lines.{refusal_status}
 use Rattle.ac_words.specs.declared.task.Task.{Task}
 use Rattle.ac_words.specs.declared.task.Task.TheVariants as t
 use Rattle.std.specs.Prelude.{All, Contains, IfSome, IsTrue, is_some}
 use Rattle.ac_outside.specs.Disks.{DiskTold, Held}
 use Rattle.starting_files.specs.Starting.{bytes_at}
-use Rattle.ac_program.specs.Source.{IsReady, Refuses, needed}
+use Rattle.program_reading.specs.Source.{IsReady, Refuses, needed}
 use Rattle.ac_words.specs.declared.task.Telling.{Telling}
-use Rattle.ac_program.specs.Reading.{IsShort}
+use Rattle.program_reading.specs.Reading.{IsShort}
 use Rattle.ac_program.specs.Headline.{HasRun, GivesStatus, CallsFor, AreOfRuns, AreShort, HasLong, KnowsFiles}
 use Rattle.ac_program.specs.Headline.CallsFor.{bad_token, unexpected, broken, over_long, too_deep, too_many, long_file, made}
-use Rattle.ac_program.proofs.Faults.{fault_refuses}
+use Rattle.program_reading.proofs.Faults.{fault_refuses}
 use Rattle.ac_program.proofs.OneRun.{same_told}
-use Rattle.ac_program.proofs.Refusals.{refused_once, refused_not, same_program}
+use Rattle.program_reading.proofs.Refusals.{refused_once, refused_not, same_program}
 
 -- ---- the four ways in which a text calls for a status
 

@@ -34,7 +34,7 @@ use Rattle.program_run.specs.declared.ended.Ended.{Ended}
 use Rattle.program_run.specs.Run.{nothing_yet, IsCoreRun, IsRunOf}
 use Rattle.ac_words.specs.declared.task.Task.TheVariants as t
 use Rattle.ac_words.specs.declared.task.Telling.TheVariants as tell
-use Rattle.ac_program.specs.Source.{HasTokens, IsAccepted, IsReady}
+use Rattle.program_reading.specs.Source.{HasTokens, IsAccepted, IsReady}
 use Rattle.ac_program.specs.Headline.{HasRun, AreOfRuns}
 use Rattle.ac_program.proofs.Examples.{no_disk}
 use Rattle.ac_program.proofs.Examples.{journal}

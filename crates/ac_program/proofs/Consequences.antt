@@ -6,7 +6,7 @@ use Rattle.ac_outside.specs.Told.{LibraryTold, SinkTold, CountsOne, GrewBy}
 use Rattle.ac_outside.specs.Disks.{DiskTold}
 use Rattle.starting_files.specs.declared.fault.StartFault.TheVariants as f
 use Rattle.starting_files.specs.Starting.{AreStopped}
-use Rattle.ac_program.specs.declared.refusal.Refusal.{Refusal}
+use Rattle.program_reading.specs.declared.refusal.Refusal.{Refusal}
 use Rattle.program_run.specs.declared.ended.Ended.{Ended}
 use Rattle.ac_program.specs.declared.execute.Done.{Done}
 use Rattle.ac_words.specs.declared.task.Task.{Task}
@@ -14,7 +14,8 @@ use Rattle.ac_words.specs.declared.task.Task.TheVariants as t
 use Rattle.ac_resolve.specs.Resolution.{resolved}
 use Rattle.ac_translation.specs.Translation.{code_of}
 use Rattle.code_listing.specs.Listing.{listing}
-use Rattle.ac_program.specs.Lines.{accepted_line, refusal_status}
+use Rattle.program_reading.specs.Lines.{refusal_status}
+use Rattle.ac_program.specs.Lines.{accepted_line}
 use Rattle.ac_words.specs.declared.task.Telling.{Telling}
 use Rattle.ac_words.specs.declared.task.Telling.TheVariants as way
 use Rattle.ac_words.specs.Words.{Asked, Does, Audits, Loads, IsCall}
@@ -22,9 +23,9 @@ use Rattle.ac_file_server.specs.ServerText.{load_text}
 use Rattle.trace_text.specs.Text.{trace_text}
 use Rattle.trace_text.specs.Outcomes.{trace_limit}
 use Rattle.trace_audit.specs.Laws.{trace_of}
-use Rattle.ac_program.specs.Reading.{Gave, TookBytes, IsRead, IsShort}
+use Rattle.program_reading.specs.Reading.{Gave, TookBytes, IsRead, IsShort}
 use Rattle.program_run.specs.Run.{IsRunOf}
-use Rattle.ac_program.specs.Source.{IsAccepted, IsTooMany, IsReady, Refuses, needed}
+use Rattle.program_reading.specs.Source.{IsAccepted, IsTooMany, IsReady, Refuses, needed}
 use Rattle.ac_program.proofs.OneStatus.{one_status}
 use Rattle.ac_program.specs.Headline.{IsCutShort, of_task, of_audit, of_load, IsOfCores, IsDue, IsDueOfFile, TookWhole, GaveUp, TellsUsage}
 use Rattle.ac_program.specs.Headline.{IsOfText, AreOfRuns, IsCalledFor, IsDecided, IsLoaded, summed, GivesStatus, CallsFor, KnowsFiles, AreShort}
@@ -35,7 +36,7 @@ use Rattle.ac_program.specs.Headline.IsDueOfFile.{library_fault, too_long, sourc
 use Rattle.ac_program.specs.Headline.IsDue.{usage, call, audit, load}
 use Rattle.ac_program.specs.Headline.CallsFor.{made}
 use Rattle.ac_program.proofs.Statuses.{IsOfRefusal, IsOfMade, of_cores, made_status, told_status, not_above, not_made, not_one, of_refusal, apart, apart_made, one, seven, eight, nine, eleven}
-use Rattle.ac_program.proofs.Refusals.{refused_once, refused_not, some_status}
+use Rattle.program_reading.proofs.Refusals.{refused_once, refused_not, some_status}
 use Rattle.ac_program.proofs.Calls.{IsRefusedAs, IsFiled, IsMadeAs, Way, is_long, is_refused, is_filed, is_made, way_of, calls_refused, not_filed}
 use Rattle.ac_program.proofs.Reasons.{none_long}
 

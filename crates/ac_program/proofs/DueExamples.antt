@@ -11,15 +11,15 @@ use Rattle.starting_files.specs.Starting.{bytes_at}
 use Rattle.ac_words.specs.declared.task.Task.{Task}
 use Rattle.ac_words.specs.declared.task.Task.TheVariants as t
 use Rattle.ac_words.specs.declared.task.Telling.TheVariants as tell
-use Rattle.ac_program.specs.declared.refusal.Refusal.TheVariants as r
-use Rattle.ac_program.specs.Lines.{disk_line, library_line}
+use Rattle.program_reading.specs.declared.refusal.Refusal.TheVariants as r
+use Rattle.program_reading.specs.Lines.{disk_line, library_line}
 use Rattle.ac_program.specs.Making.{IsDueOf, IsDueOfProgram}
 use Rattle.ac_program.specs.Making.IsDueOf.{refused, ready}
 use Rattle.ac_program.specs.Making.IsDueOfProgram.{disk_fault, long_file, made}
 use Rattle.ac_program.specs.Headline.{HasLong, IsDueOfFile}
 use Rattle.ac_program.specs.Headline.IsDueOfFile.{library_fault, too_long, source}
 use Rattle.ac_program.proofs.Reasons.{has_long}
-use Rattle.ac_program.proofs.Refusals.{refused_not, some_status}
+use Rattle.program_reading.proofs.Refusals.{refused_not, some_status}
 use Rattle.ac_program.proofs.Statuses.{made_status, not_above, not_made, of_cores, of_refusal, seven}
 use Rattle.ac_program.proofs.Examples.{it_has_a_fault, its_fault_refuses_it, its_library, its_library_after, its_report, no_disk, not_opened}
 use Rattle.ac_program.proofs.FileExamples.{a_disk, filing_tree, its_disk, nothing_stops_it}

@@ -4,7 +4,7 @@ use Rattle.std.proofs.Common.{◌≡◌, ◌≢◌, ℕ, List}
 use Rattle.std.specs.declared.option.Option.{Option}
 use Rattle.ac_outside.specs.Told.{SinkTold, GrewBy}
 use Rattle.program_run.specs.declared.ended.Ended.{Ended}
-use Rattle.ac_program.specs.Writing.{TookFront}
+use Rattle.program_reading.specs.Writing.{TookFront}
 use Rattle.ac_program.specs.Headline.{TookWhole, TookPart}
 
 module _ (Due : ℕ → List ℕ → Option Ended → Type 0) (number status : ℕ) (text : List ℕ) (given run : Option Ended) (sink later : SinkTold) (due : Due number text given) (same : run ≡ given) where

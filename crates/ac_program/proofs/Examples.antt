@@ -33,8 +33,8 @@ use Rattle.ac_types.proofs.Judging.{program_told}
 use Rattle.ac_reach.specs.declared.reached.Reached.TheVariants as row
 use Rattle.ac_reach.specs.Reached.{AreRows}
 use Rattle.ac_reach.proofs.Examples.{one_row}
-use Rattle.ac_program.specs.declared.refusal.BrokenRule.{BrokenRule}
-use Rattle.ac_program.proofs.Answered.{not_unexpected, not_deep}
+use Rattle.program_reading.specs.declared.refusal.BrokenRule.{BrokenRule}
+use Rattle.program_reading.proofs.Answered.{not_unexpected, not_deep}
 use Rattle.ac_program.proofs.Calls.{calls_both}
 use Rattle.ac_program.proofs.Statuses.{apart_made, told_status}
 use Rattle.ac_base.specs.declared.entry.Entry.{Entry}
@@ -59,7 +59,8 @@ use Rattle.stack_code.specs.Parts.{Parts}
 use Rattle.code_meaning.specs.Machine.{exec, first_flat, Runs}
 use Rattle.ac_translation.specs.Translation.{code_of}
 use Rattle.ac_compile.proofs.Examples.{two, two_parts, two_is_compiled}
-use Rattle.ac_program.specs.declared.refusal.Refusal.TheVariants as r
+use Rattle.program_reading.specs.declared.refusal.Refusal.TheVariants as r
+use Rattle.program_reading.specs.declared.refusal.Stop.TheVariants as stop
 use Rattle.ac_program.specs.declared.execute.Done.{Done}
 use Rattle.program_run.specs.declared.ended.Ended.{Ended}
 use Rattle.ac_words.specs.declared.task.Task.TheVariants as t
@@ -73,19 +74,21 @@ use Rattle.program_run.specs.Parties.{owner_of, peer_of}
 use Rattle.program_run.specs.Run.{history_of, nothing_yet, EndsQuiet, IsRunOf}
 use Rattle.program_run.specs.DiskLeft.{deeds_of, LeavesDisk}
 use Rattle.program_run.specs.Naming.{AreNamed}
-use Rattle.ac_program.specs.Source.{HasTokens, HasFault, IsUnexpected, IsTooDeep, IsAccepted, IsBroken, IsTooMany, Refuses}
-use Rattle.ac_program.specs.Source.{IsSpelled, IsReady, all_steps, most_steps, names_of, needed}
-use Rattle.ac_program.specs.Lines.{accepted_line, disk_line, library_line, limit_file_line, limit_source_line, refusal_line, refusal_status, usage_line}
+use Rattle.program_reading.specs.Source.{HasTokens, HasFault, IsUnexpected, IsTooDeep, IsAccepted, IsBroken, IsTooMany, Refuses}
+use Rattle.program_reading.specs.Source.{IsSpelled, IsReady, GivesReady, all_steps, most_steps, names_of, needed}
+use Rattle.program_reading.specs.Lines.{disk_line, library_line, limit_file_line, limit_source_line, refusal_line, refusal_status}
+use Rattle.ac_program.specs.Lines.{accepted_line, usage_line}
 use Rattle.ac_outside.specs.Told.{LibraryTold, SinkTold}
-use Rattle.ac_program.specs.Reading.{Gave, TookBytes, TookByReads, IsRead, IsReadWhole, IsTried, IsShort}
-use Rattle.ac_program.specs.Writing.{TookFront}
+use Rattle.program_reading.specs.Reading.{Gave, TookBytes, TookByReads, IsRead, IsReadWhole, IsTried, IsShort}
+use Rattle.program_reading.specs.Writing.{TookFront}
 use Rattle.starting_files.specs.Starting.{AreStarted}
 use Rattle.ac_program.specs.Making.{IsReported, IsDueOf, made as is_made, ready}
 use Rattle.ac_program.specs.Headline.{IsNoCall, IsCutShort, IsDue, IsDueOfFile, source, of_task, of_audit, of_load, TookWhole, TookPart, GaveUp}
 use Rattle.ac_program.specs.Headline.IsDue.{usage, call, audit, load}
 use Rattle.ac_program.specs.Headline.IsDueOfFile.{library_fault, too_long}
 use Rattle.ac_program.specs.Headline.{alone, AreServed, KnowsFiles}
-use Rattle.ac_program.specs.Headline.{TellsUsage, TellsLibrary, TellsSink, IsOfText, AreOfRuns, CallsFor, made, bad_token, unexpected, broken, over_long, too_deep, too_many}
+use Rattle.program_reading.specs.Failures.{TellsLibrary, TellsSink}
+use Rattle.ac_program.specs.Headline.{TellsUsage, IsOfText, AreOfRuns, CallsFor, made, bad_token, unexpected, broken, over_long, too_deep, too_many}
 use Rattle.ac_tree.specs.declared.stmt.Stmt.{Stmt}
 use Rattle.ac_tree.specs.declared.stmt.Stmt.TheVariants as s
 use Rattle.ac_resolve.specs.Resolution.{resolved}
@@ -397,6 +400,15 @@ too_many_steps_call_for_10 = too_many refl (omega arith) too_many_steps
 
 pub it_is_not_ready : IsReady two_text (t.Run 4000001 tell.Report) two_tree → ⊥
 it_is_not_ready h = let le = h.within in omega (arith, le)
+
+pub a_program_is_given : GivesReady two_text (t.Run 4000000 tell.Report) (Ok two_tree)
+a_program_is_given = record { is_accepted = it_is_ready.is_accepted; within = omega arith }
+
+pub not_where_it_is_refused : GivesReady two_text (t.Run 4000001 tell.Report) (Ok two_tree) → ⊥
+not_where_it_is_refused = it_is_not_ready
+
+pub its_refusal_is_given : GivesReady two_text (t.Run 4000001 tell.Report) (Err (stop.Refused r.TooManySteps))
+its_refusal_is_given = too_many_steps
 
 -- core a(f); async void f() { t: do { cancel t; } finish; } is ready too
 abbrev pub cancelling_text : List ℕ

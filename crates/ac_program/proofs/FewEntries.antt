@@ -23,8 +23,8 @@ use Rattle.ac_words.specs.declared.task.Task.TheVariants as t
 use Rattle.ac_words.proofs.Bounded.{load_bounded}
 use Rattle.ac_file_server.specs.ServerText.{load_text}
 use Rattle.ac_program.specs.declared.execute.Done.{Done}
-use Rattle.ac_program.specs.Reading.{IsShort}
-use Rattle.ac_program.specs.Source.{IsAccepted, IsReady}
+use Rattle.program_reading.specs.Reading.{IsShort}
+use Rattle.program_reading.specs.Source.{IsAccepted, IsReady}
 use Rattle.ac_program.specs.Making.{Makes, IsDueOf}
 use Rattle.ac_program.specs.Making.IsDueOf.{refused, ready}
 use Rattle.ac_program.specs.Making.IsDueOfProgram.{disk_fault, long_file, made}

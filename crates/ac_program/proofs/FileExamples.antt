@@ -36,8 +36,9 @@ use Rattle.ac_outside.proofs.Examples.{named}
 use Rattle.starting_files.specs.declared.fault.StartFault.TheVariants as fault
 use Rattle.ac_words.specs.declared.task.Task.TheVariants as t
 use Rattle.ac_words.specs.declared.task.Telling.TheVariants as tell
-use Rattle.ac_program.specs.Source.{HasTokens, IsAccepted, IsReady, needed}
-use Rattle.ac_program.specs.Lines.{accepted_line, disk_line, limit_file_line}
+use Rattle.program_reading.specs.Source.{HasTokens, IsAccepted, IsReady, needed}
+use Rattle.program_reading.specs.Lines.{disk_line, limit_file_line}
+use Rattle.ac_program.specs.Lines.{accepted_line}
 use Rattle.starting_files.specs.Starting.{AreStarted, AreStopped}
 use Rattle.ac_program.specs.Making.{AreLeft, IsDueOfProgram, IsTold, begun, disk_fault, untouched, stopped as halted}
 use Rattle.ac_program.specs.Making.IsDueOfProgram.{long_file as long_file_due}

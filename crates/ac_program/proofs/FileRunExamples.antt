@@ -35,7 +35,7 @@ use Rattle.ac_program.specs.declared.execute.Done.{Done}
 use Rattle.ac_program.specs.Headline.{AreOfRuns, AreShort, CallsFor, HasRun, IsCalledFor, KnowsFiles, made}
 use Rattle.ac_program.specs.Making.{IsDueOf, IsReported, made as is_made, ready}
 use Rattle.ac_program.proofs.Calls.{calls_both}
-use Rattle.ac_program.specs.Source.{names_of}
+use Rattle.program_reading.specs.Source.{names_of}
 use Rattle.ac_program.proofs.Statuses.{apart_made, not_made, told_status}
 use Rattle.ac_program.proofs.Examples.{journal}
 use Rattle.ac_program.proofs.FileExamples.{a_disk, a_file_is_ready, filing_text, filing_tree, its_disk, its_file_is_started, its_files}

@@ -15,12 +15,13 @@ use Rattle.trace_audit.specs.Judged.{IsFirstMisfit, Judges}
 use Rattle.ac_words.specs.declared.task.Task.TheVariants as t
 use Rattle.ac_words.specs.Words.{Audits}
 use Rattle.ac_program.specs.declared.outcome.Outcome.{Outcome}
-use Rattle.ac_program.specs.Source.{IsReady}
-use Rattle.ac_program.specs.Reading.{Gave, TookBytes, IsRead, IsReadWhole, IsShort}
+use Rattle.program_reading.specs.Source.{IsReady}
+use Rattle.program_reading.specs.Reading.{Gave, TookBytes, IsRead, IsReadWhole, IsShort}
 use Rattle.ac_program.specs.Lines.{verdict_status}
 use Rattle.ac_program.specs.Headline.{IsOfText}
-use Rattle.ac_program.specs.Auditing.{IsDueOfRun, IsDueOfTraced, IsDueOfTrace, IsDueOfAudit, AreRead, AuditCallsFor, IsJudged}
-use Rattle.ac_program.specs.Auditing.{first, both}
+use Rattle.program_reading.specs.Files.{AreRead}
+use Rattle.ac_program.specs.Auditing.{IsDueOfRun, IsDueOfTraced, IsDueOfTrace, IsDueOfAudit, AuditCallsFor, IsJudged}
+use Rattle.program_reading.specs.Files.{first, both}
 use Rattle.ac_program.specs.Auditing.IsDueOfRun.{too_many, judged}
 use Rattle.ac_program.specs.Auditing.IsDueOfTraced.{wrong, spelled}
 use Rattle.ac_program.specs.Auditing.IsDueOfTrace.{library_fault as trace_fault, too_long as trace_too_long, read}
@@ -28,7 +29,7 @@ use Rattle.ac_program.specs.Auditing.IsDueOfSource.{refused as is_refused, ready
 use Rattle.ac_program.specs.Auditing.IsDueOfAudit.{library_fault, too_long, source}
 use Rattle.ac_program.specs.Auditing.AuditCallsFor.{over_long, refused, long_trace, told}
 use Rattle.ac_program.specs.inner.Answers.{IsAnswered}
-use Rattle.ac_program.proofs.Refusals.{refused_once, refused_not, same_program}
+use Rattle.program_reading.proofs.Refusals.{refused_once, refused_not, same_program}
 use Rattle.ac_program.proofs.Reasons.{gave_is}
 
 -- ---- one verdict

@@ -11,7 +11,7 @@ use Rattle.ac_program.specs.declared.execute.Done.{Done}
 use Rattle.ac_words.specs.declared.task.Task.{Task}
 use Rattle.ac_words.specs.declared.task.Task.TheVariants as t
 use Rattle.ac_program.specs.Making.{AreLeft, Makes, stopped}
-use Rattle.ac_program.specs.Reading.{Gave}
+use Rattle.program_reading.specs.Reading.{Gave}
 use Rattle.program_run.specs.declared.ended.Ended.{Ended}
 use Rattle.ac_program.specs.Headline.{IsLeft, TellsDisk, alone, of_program}
 

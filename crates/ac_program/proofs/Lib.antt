@@ -1,10 +1,8 @@
-pub mod Answered
 pub mod Said
 pub mod AuditConsequences
 pub mod Calls
 pub mod Consequences
 pub mod Endings
-pub mod Faults
 pub mod FewActions
 pub mod FewEntries
 pub mod Filing
@@ -16,15 +14,10 @@ pub mod Loads
 pub mod Names
 pub mod OneRun
 pub mod OneStatus
-pub mod Paths
 pub mod ReadBack
-mod Readings
 pub mod Reasons
-pub mod Refusals
 pub mod RunHistories
 pub mod Statuses
-pub mod Stopping
-pub mod Streams
 pub mod Tellings
 pub mod ToldTraces
 pub mod TwoRules

@@ -2,7 +2,8 @@
 -- Both sides are computed; only the digits of a number are known by a law.
 use Rattle.std.proofs.Common.{◌≡◌, refl, codes, arith}
 use Rattle.std.proofs.lemmas.Fmt.{decimal_digit}
-use Rattle.ac_program.specs.Lines.{usage_line, place_line, rule_line}
+use Rattle.program_reading.specs.Lines.{place_line, rule_line}
+use Rattle.ac_program.specs.Lines.{usage_line}
 
 pub the_usage : usage_line ≡ codes "usage: ac run|trace FILE [--steps N], ac code|check FILE, ac audit FILE TRACE, ac load N [--steps N]\n"
 the_usage = refl

@@ -3,7 +3,7 @@
 use Rattle.std.proofs.Common.{ℕ, ◌≤◌, arith, length}
 use Rattle.ac_file_server.specs.ServerText.{load_text}
 use Rattle.ac_file_server.proofs.Length.{the_text_is_short}
-use Rattle.ac_program.specs.Reading.{IsShort}
+use Rattle.program_reading.specs.Reading.{IsShort}
 
 pub far_below : (count : ℕ) → count ≤ 2131 → count ≤ 1048576
 far_below count le = omega (arith, le)

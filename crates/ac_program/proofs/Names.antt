@@ -14,7 +14,7 @@ use Rattle.stack_code.specs.Parts.{Parts}
 use Rattle.ac_compile.specs.Compiled.{IsCodeOf}
 use Rattle.program_run.specs.declared.ended.Ended.{Ended}
 use Rattle.program_run.specs.Run.{IsRunOf}
-use Rattle.ac_program.specs.Source.{names_of}
+use Rattle.program_reading.specs.Source.{names_of}
 
 abbrev name_in : Core → List ℕ
 name_in core = core.name

@@ -8,7 +8,7 @@ use Rattle.ac_words.specs.declared.task.Task.{Task}
 use Rattle.ac_words.specs.declared.task.Task.TheVariants as t
 use Rattle.ac_outside.specs.Disks.{DiskTold}
 use Rattle.ac_words.specs.declared.task.Telling.{Telling}
-use Rattle.ac_program.specs.Source.{IsReady}
+use Rattle.program_reading.specs.Source.{IsReady}
 use Rattle.ac_program.specs.Headline.{CallsFor, AreOfRuns, IsCalledFor}
 
 module _ (text : List ℕ) (task : Task) (disk : DiskTold) (status : ℕ) (called : IsCalledFor text task disk status)

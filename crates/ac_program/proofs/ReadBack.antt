@@ -15,14 +15,14 @@ use Rattle.ac_words.specs.declared.task.Task.TheVariants as t
 use Rattle.ac_words.specs.declared.task.Telling.TheVariants as w
 use Rattle.ac_words.specs.Words.{Does}
 use Rattle.ac_program.specs.declared.execute.Done.{Done}
-use Rattle.ac_program.specs.Source.{IsReady}
-use Rattle.ac_program.specs.Reading.{Gave}
+use Rattle.program_reading.specs.Source.{IsReady}
+use Rattle.program_reading.specs.Reading.{Gave}
 use Rattle.ac_program.specs.Making.{IsReported, TellsTrace, whole, long_trace}
 use Rattle.ac_program.specs.Making.IsDueOf.{refused, ready}
 use Rattle.ac_program.specs.Making.IsDueOfProgram.{disk_fault, long_file, made}
 use Rattle.ac_program.specs.Headline.{IsDueOfFile, TookWhole, IsOfCores, ReadsBack}
 use Rattle.ac_program.specs.Headline.IsDueOfFile.{library_fault, too_long, source}
-use Rattle.ac_program.specs.Lines.{refusal_status}
+use Rattle.program_reading.specs.Lines.{refusal_status}
 use Rattle.ac_program.proofs.Statuses.{not_above, apart, of_refusal}
 
 -- the trace of a run whose status is that of its cores is written whole

@@ -22,9 +22,9 @@ use Rattle.ac_file_server.specs.ServerText.{load_text}
 use Rattle.ac_tree.specs.declared.item.Program.{Program}
 use Rattle.ac_program.specs.declared.execute.Done.{Done}
 use Rattle.ac_words.specs.declared.task.Task.TheVariants as t
-use Rattle.ac_program.specs.Source.{needed}
+use Rattle.program_reading.specs.Source.{needed}
 use Rattle.ac_program.specs.Making.{Makes, IsDueOf, Tells}
-use Rattle.ac_program.specs.Reading.{Gave, TookBytes, IsRead, IsShort}
+use Rattle.program_reading.specs.Reading.{Gave, TookBytes, IsRead, IsShort}
 use Rattle.ac_program.specs.Headline.{IsDueOfFile, TookWhole, GivesStatus, CallsFor, IsCalledFor, IsOfText, IsDecided, IsLoaded, summed, AreShort, HasLong, KnowsFiles}
 use Rattle.ac_program.specs.Making.IsDueOf.{refused, ready}
 use Rattle.ac_program.specs.Making.IsDueOfProgram.{disk_fault, long_file as is_filed, made as is_made}

@@ -2,14 +2,17 @@
 -- audit has, and which of its files were opened.
 use Rattle.std.proofs.Common.{◌≡◌, ◌≢◌, ℕ, ◌*◌, ◌≤◌, ◌⊎◌, inl, inr, List, [], length, Option, None, Some, refl, sym, ap, ◌∙◌, subst, append-nil, arith}
 use Rattle.ac_outside.specs.Told.{LibraryTold, SinkTold, GrewBy}
-use Rattle.ac_program.specs.Reading.{Gave, IsRead, IsReadWhole, IsShort}
+use Rattle.program_reading.specs.Reading.{Gave, IsRead, IsReadWhole, IsShort}
 use Rattle.program_run.specs.declared.ended.Ended.{Ended}
 use Rattle.ac_program.specs.declared.outcome.Outcome.{Outcome}
-use Rattle.ac_program.specs.declared.refusal.Refusal.{Refusal}
-use Rattle.ac_program.specs.Lines.{refusal_line, refusal_status, trace_fault_line, verdict_line, verdict_status}
-use Rattle.ac_program.specs.Writing.{TookFront}
-use Rattle.ac_program.specs.Headline.{TellsSink, TookWhole, TookPart}
-use Rattle.ac_program.specs.Auditing.{IsDueOfRun, IsDueOfTraced, AreRead, IsTraceRead, too_many, judged, wrong, spelled, first, both}
+use Rattle.program_reading.specs.declared.refusal.Refusal.{Refusal}
+use Rattle.program_reading.specs.Lines.{refusal_line, refusal_status, trace_fault_line}
+use Rattle.ac_program.specs.Lines.{verdict_line, verdict_status}
+use Rattle.program_reading.specs.Writing.{TookFront}
+use Rattle.program_reading.specs.Failures.{TellsSink}
+use Rattle.ac_program.specs.Headline.{TookWhole, TookPart}
+use Rattle.program_reading.specs.Files.{AreRead, IsTraceRead, first, both}
+use Rattle.ac_program.specs.Auditing.{IsDueOfRun, IsDueOfTraced, too_many, judged, wrong, spelled}
 use Rattle.ac_program.specs.inner.Answers.{IsAnswered}
 use Rattle.ac_program.specs.inner.Parts.{GivesVerdict, GivesAnswer}
 use Rattle.ac_program.specs.declared.execute.Done.{Done}

@@ -4,10 +4,10 @@ use Rattle.std.proofs.Common.{◌≢◌, ◌≡◌, ℕ, ◌≤◌, ◌⊎◌, i
 use Rattle.std.proofs.lemmas.Bool.{cases_lt}
 use Rattle.ac_base.specs.Report.{any_ends, is_trapped, is_out_of_steps, is_stalled, status_of}
 use Rattle.ac_base.specs.declared.ends.MachineEnd.{MachineEnd}
-use Rattle.ac_program.specs.declared.refusal.Refusal.{Refusal}
-use Rattle.ac_program.specs.declared.refusal.Refusal.TheVariants as r
+use Rattle.program_reading.specs.declared.refusal.Refusal.{Refusal}
+use Rattle.program_reading.specs.declared.refusal.Refusal.TheVariants as r
 use Rattle.ac_program.specs.declared.execute.Done.{Done}
-use Rattle.ac_program.specs.Lines.{refusal_status}
+use Rattle.program_reading.specs.Lines.{refusal_status}
 use Rattle.ac_tree.specs.declared.item.Program.{Program}
 use Rattle.ac_words.specs.declared.task.Task.{Task}
 use Rattle.ac_words.specs.declared.task.Task.TheVariants as t

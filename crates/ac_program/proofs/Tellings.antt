@@ -24,7 +24,7 @@ use Rattle.trace_audit.proofs.Traced.{is_traced}
 use Rattle.ac_words.specs.declared.task.Telling.{Telling}
 use Rattle.ac_words.specs.declared.task.Telling.TheVariants as w
 use Rattle.ac_program.specs.declared.telling.Told.{Told}
-use Rattle.ac_program.specs.Source.{names_of}
+use Rattle.program_reading.specs.Source.{names_of}
 use Rattle.ac_program.specs.Making.{Tells}
 use Rattle.ac_program.specs.inner.Parts.{IsTellable, GivesTelling}
 use Rattle.ac_program.proofs.Names.{entries_are}

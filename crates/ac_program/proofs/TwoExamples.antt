@@ -19,7 +19,7 @@ use Rattle.ac_words.specs.declared.task.Task.{Task}
 use Rattle.ac_words.specs.declared.task.Task.TheVariants as t
 use Rattle.ac_words.specs.declared.task.Telling.TheVariants as tell
 use Rattle.ac_words.specs.declared.task.Telling.{Telling}
-use Rattle.ac_program.specs.Source.{IsReady}
+use Rattle.program_reading.specs.Source.{IsReady}
 use Rattle.ac_program.specs.Lines.{accepted_line}
 use Rattle.ac_program.specs.Making.{IsDueOf, IsTold, Makes, made as is_made, ready}
 use Rattle.ac_program.specs.Headline.{source}

@@ -11,11 +11,12 @@ use Rattle.trace_text.specs.Spelling.{IsTheTrace, IsFirstWrong}
 use Rattle.trace_text.specs.Outcomes.{trace_limit}
 use Rattle.trace_audit.specs.declared.verdict.Verdict.{Verdict}
 use Rattle.trace_audit.specs.Judged.{Judges}
-use Rattle.ac_program.specs.declared.refusal.Refusal.{Refusal}
-use Rattle.ac_program.specs.Source.{IsReady, Refuses, most_steps}
-use Rattle.ac_program.specs.Reading.{Gave, TookBytes, IsRead, IsReadWhole, IsTried, IsShort}
-use Rattle.ac_program.specs.Lines.{library_line, limit_source_line, limit_trace_line, limit_steps_line, refusal_line, refusal_status}
-use Rattle.ac_program.specs.Lines.{trace_fault_line, verdict_line, verdict_status}
+use Rattle.program_reading.specs.declared.refusal.Refusal.{Refusal}
+use Rattle.program_reading.specs.Source.{IsReady, Refuses, most_steps}
+use Rattle.program_reading.specs.Reading.{Gave, TookBytes, IsRead, IsReadWhole, IsTried, IsShort}
+use Rattle.program_reading.specs.Lines.{library_line, limit_source_line, limit_trace_line, limit_steps_line, refusal_line, refusal_status}
+use Rattle.program_reading.specs.Lines.{trace_fault_line}
+use Rattle.ac_program.specs.Lines.{verdict_line, verdict_status}
 
 -- ---- what is due
 
@@ -58,21 +59,6 @@ pub data IsDueOfAudit (file trace : List ℕ) (before after : LibraryTold) (stat
       IsShort bytes →
       between.text_at ≡ before.text_at → IsDueOfSource bytes trace between after status text →
       IsDueOfAudit file trace before after status text
-
--- ---- which files were opened
-
--- nothing refuses a check of the source, and just the file of the trace was opened
-pub record IsTraceRead (source trace : List ℕ) (before after : LibraryTold) : Type 0 where
-  pub program : Program
-  pub is_ready : IsReady source t.Check program
-  pub read : IsRead before after trace
-
--- just the first of the files was opened; or it was read whole, nothing refuses a check of it, and then the second was; and no call of the
--- library failed
-pub data AreRead (file trace : List ℕ) (before after : LibraryTold) : Type 0 where
-  first : IsRead before after file → AreRead file trace before after
-  both : (bytes : List ℕ) (between : LibraryTold) → IsReadWhole before between file bytes → Gave (before.text_at file) bytes →
-      IsShort bytes → IsTraceRead bytes trace between after → AreRead file trace before after
 
 -- ---- what the texts decide
 

@@ -8,7 +8,7 @@ use Rattle.ac_lexer.specs.declared.fault.LexFault.{LexFault}
 use Rattle.ac_tree.specs.declared.item.Program.{Program}
 use Rattle.ac_names.specs.Numbered.{file_paths}
 use Rattle.ac_resolve.specs.Resolution.{resolved}
-use Rattle.ac_program.specs.declared.refusal.BrokenRule.{BrokenRule}
+use Rattle.program_reading.specs.declared.refusal.BrokenRule.{BrokenRule}
 use Rattle.ac_outside.specs.Causes.{Rose}
 use Rattle.ac_outside.specs.Told.{LibraryTold, SinkTold, GrewBy}
 use Rattle.ac_outside.specs.Disks.{DiskTold}
@@ -23,15 +23,17 @@ use Rattle.ac_file_server.specs.ServerText.{load_text}
 use Rattle.trace_text.specs.Spelling.{IsTheTrace}
 use Rattle.trace_audit.specs.RunTrace.{IsRunTrace}
 use Rattle.trace_audit.specs.Laws.{trace_of}
-use Rattle.ac_program.specs.Reading.{Gave, TookBytes, IsRead, IsReadWhole, IsTried, IsShort}
-use Rattle.ac_program.specs.Writing.{TookFront}
-use Rattle.ac_program.specs.Source.{HasFault, IsUnexpected, IsTooDeep, IsBroken, IsTooMany, IsReady, needed}
+use Rattle.program_reading.specs.Reading.{Gave, TookBytes, IsRead, IsReadWhole, IsTried, IsShort}
+use Rattle.program_reading.specs.Writing.{TookFront}
+use Rattle.program_reading.specs.Source.{HasFault, IsUnexpected, IsTooDeep, IsBroken, IsTooMany, IsReady, needed}
 use Rattle.ac_history.specs.Files.{padded, IsServed}
 use Rattle.program_run.specs.Run.{IsRunOf, history_of}
 use Rattle.program_run.specs.DiskLeft.{deeds_of}
 use Rattle.ac_program.specs.Making.{IsDueOf, AreLeft, Tells}
-use Rattle.ac_program.specs.Auditing.{IsDueOfAudit, AreRead}
-use Rattle.ac_program.specs.Lines.{usage_line, library_line, limit_source_line}
+use Rattle.program_reading.specs.Files.{AreRead}
+use Rattle.ac_program.specs.Auditing.{IsDueOfAudit}
+use Rattle.program_reading.specs.Lines.{library_line, limit_source_line}
+use Rattle.ac_program.specs.Lines.{usage_line}
 
 -- the words are not `run`, `trace`, `check` or `code` with one file, `audit` with two or `load` with a number of turns, where after `run`,
 -- `trace` and `load` there may be one bound on steps
@@ -109,16 +111,6 @@ pub record GaveUp (words : List (List ℕ)) (before after : LibraryTold) (disk l
 pub record TellsUsage (words : List (List ℕ)) (status : ℕ) : Type 0 where
   pub told : status ≡ 1 → IsNoCall words
   pub only : IsNoCall words → (status ≡ 1) ⊎ (status ≡ 8)
-
--- 7 where a call of the library failed, unless one of the sink did too, and at no other time
-pub record TellsLibrary (before after : LibraryTold) (status : ℕ) : Type 0 where
-  pub told : status ≡ 7 → Rose before.faults after.faults
-  pub only : status ≢ 7 → status ≢ 8 → after.faults ≡ before.faults
-
--- 8 exactly where a call of the sink failed
-pub record TellsSink (sink written : SinkTold) (status : ℕ) : Type 0 where
-  pub told : status ≡ 8 → Rose sink.faults written.faults
-  pub only : status ≢ 8 → written.faults ≡ sink.faults
 
 -- 9 where a call of the disk failed, unless one of the sink did too, and at no other time but in a run: what failed there is answered to
 -- its requests (`LeavesDisk` of program_run)

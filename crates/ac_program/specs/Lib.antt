@@ -2,8 +2,5 @@ pub mod Auditing
 pub mod Headline
 pub mod Lines
 pub mod Making
-pub mod Reading
-pub mod Source
 pub mod Summary
-pub mod Writing
 pub mod inner

@@ -21,13 +21,14 @@ use Rattle.trace_audit.specs.Laws.{trace_of}
 use Rattle.trace_audit.specs.RunTrace.{IsRunTrace}
 use Rattle.ac_program.specs.declared.execute.Done.{Done}
 use Rattle.program_run.specs.declared.ended.Ended.{Ended}
-use Rattle.ac_program.specs.declared.refusal.Refusal.{Refusal}
-use Rattle.ac_program.specs.Source.{IsReady, Refuses, names_of, needed}
+use Rattle.program_reading.specs.declared.refusal.Refusal.{Refusal}
+use Rattle.program_reading.specs.Source.{IsReady, Refuses, names_of, needed}
 use Rattle.program_run.specs.Run.{IsRunOf}
 use Rattle.program_run.specs.DiskLeft.{deeds_of, LeavesDisk}
 use Rattle.program_run.specs.Naming.{AreNamed}
 use Rattle.ac_program.specs.Summary.{summary_of}
-use Rattle.ac_program.specs.Lines.{accepted_line, disk_line, limit_file_line, limit_trace_line, refusal_line, refusal_status}
+use Rattle.program_reading.specs.Lines.{disk_line, limit_file_line, limit_trace_line, refusal_line, refusal_status}
+use Rattle.ac_program.specs.Lines.{accepted_line}
 
 -- ---- files: `disk` and `later` are what the disk tells before and after
 

@@ -5,23 +5,24 @@ ghost use Rattle.std.specs.Str.{IsUtf8};
 ghost use Rattle.ac_names.specs.Numbered.{file_paths};
 ghost use Rattle.ac_outside.specs.Told.{OpenedJust, GrewBy};
 ghost use Rattle.ac_words.specs.Words.{IsBounded};
-ghost use Rattle.ac_program.specs.Reading.{TookByReads};
-ghost use Rattle.ac_program.specs.Writing.{TookFront};
-ghost use Rattle.ac_program.specs.Lines.{limit_file_line, refusal_line, refusal_status};
-ghost use Rattle.ac_program.specs.Headline.{IsDueOfFile, IsLeft, TookWhole, TookPart, TellsDisk, TellsLibrary, TellsSink};
+ghost use Rattle.program_reading.specs.Reading.{TookByReads};
+ghost use Rattle.program_reading.specs.Writing.{TookFront};
+ghost use Rattle.program_reading.specs.Lines.{limit_file_line, refusal_line, refusal_status};
+ghost use Rattle.program_reading.specs.Failures.{TellsLibrary, TellsSink};
+ghost use Rattle.ac_program.specs.Headline.{IsDueOfFile, IsLeft, TookWhole, TookPart, TellsDisk};
 ghost use Rattle.ac_program.specs.Making.{AreLeft, IsDueOf, IsDueOfProgram};
-ghost use Rattle.ac_program.specs.Source.{all_steps, most_steps, needed};
+ghost use Rattle.program_reading.specs.Source.{all_steps, most_steps, needed};
 
-use crate::building::build;
 use crate::execute::{Done, make};
 use crate::outcome::Outcome;
-use crate::reading::{ReadFault, SOURCE_LIMIT, read_text};
-use crate::refusal::{LIMIT_SOURCE, Refusal, Stop, place_line};
-use crate::writing::answer;
 use ac_base::Status;
 use ac_outside::{Disk, Gate, Library, Sink};
 use ac_types::Checked;
 use ac_words::Task;
+use program_reading::{
+    LIMIT_SOURCE, ReadFault, Refusal, SOURCE_LIMIT, Stop, answer, answer_refusal, build,
+    place_line, read_text,
+};
 use starting_files::StartFault;
 use std::alloc::Global;
 use std::thread::Threads;
@@ -76,9 +77,9 @@ pub fn refuse_source<K: Sink>(alloc: Global, sink: &mut K, refusal: Refusal) -> 
     ensures sink { TellsSink (K.told sink.old) (K.told sink.new) result.status.number }
     ensures other { (result.status.number ≢ 1) × ((result.status.number ≢ 7) × (result.status.number ≢ 9)) }
 {
-    match refusal.line(alloc) {
-        Err(_) => no_memory(),
-        Ok(line) => refuse_with(sink, refusal.status(), line.as_slice()),
+    Outcome {
+        status: answer_refusal(alloc, sink, refusal),
+        run: None,
     }
 }
 

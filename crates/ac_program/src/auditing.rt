@@ -1,27 +1,28 @@
 //! The audit of a trace against the program of a file.
 
-ghost use Rattle.std.specs.Prelude.{◌≡◌, ◌≤◌, ◌⊎◌, length, IfOk, None};
+ghost use Rattle.std.specs.Prelude.{◌≡◌, ◌≤◌, ◌⊎◌, IfOk, None};
 ghost use Rattle.ac_resolve.specs.Resolution.{resolved};
 ghost use Rattle.trace_audit.specs.Judged.{Judges};
-ghost use Rattle.ac_program.specs.Auditing.{AreRead, IsDueOfAudit, IsDueOfSource, IsDueOfTrace, IsDueOfTraced, IsTraceRead};
-ghost use Rattle.ac_program.specs.Headline.{TellsLibrary, TellsSink};
+ghost use Rattle.program_reading.specs.Files.{AreRead, IsTraceRead};
+ghost use Rattle.ac_program.specs.Auditing.{IsDueOfAudit, IsDueOfSource, IsDueOfTrace, IsDueOfTraced};
+ghost use Rattle.program_reading.specs.Failures.{TellsLibrary};
 ghost use Rattle.ac_program.specs.Lines.{verdict_line, verdict_status};
-ghost use Rattle.ac_program.specs.Reading.{IsRead, IsShort};
+ghost use Rattle.program_reading.specs.Reading.{IsRead, IsShort};
 ghost use Rattle.ac_program.specs.inner.Parts.{GivesAnswer, GivesVerdict};
 ghost use Rattle.ac_program.specs.inner.Answers.{IsAnswered};
 
 use crate::answering::{give, no_memory, refuse, refuse_source};
-use crate::building::{MOST_STEPS, build};
 use crate::execute::Done;
 use crate::outcome::Outcome;
-use crate::reading::{ReadFault, SOURCE_LIMIT, TRACE_LIMIT, read_text};
-use crate::refusal::{LIMIT_SOURCE, LIMIT_STEPS, Stop, place_line};
-use crate::telling::LIMIT_TRACE;
 use ac_base::{Bytes, List, NoMemory, Status};
 use ac_compile::compile;
 use ac_outside::{Library, Sink};
 use ac_types::Checked;
 use ac_words::Task;
+use program_reading::{
+    LIMIT_SOURCE, LIMIT_STEPS, LIMIT_TRACE, MOST_STEPS, ReadFault, SOURCE_LIMIT, Stop, TRACE_LIMIT,
+    build, place_line, read_text,
+};
 use std::alloc::Global;
 use trace_audit::{Verdict, audit};
 use trace_text::{Trace, TraceFault, read_trace};

@@ -9,7 +9,7 @@ ghost use Rattle.code_listing.specs.Listing.{listing};
 ghost use Rattle.ac_words.specs.declared.task.Task.TheVariants as t;
 ghost use Rattle.ac_words.specs.Words.{IsBounded};
 ghost use Rattle.ac_program.specs.Lines.{accepted_line};
-ghost use Rattle.ac_program.specs.Source.{all_steps, most_steps};
+ghost use Rattle.program_reading.specs.Source.{all_steps, most_steps};
 ghost use Rattle.ac_program.specs.inner.Parts.{GivesDone, GivesText};
 
 use crate::telling::tell;

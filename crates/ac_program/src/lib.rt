@@ -8,20 +8,16 @@ ghost use Rattle.ac_words.specs.declared.task.Telling.TheVariants.{Trace};
 ghost use Rattle.ac_words.specs.Words.{Does, Audits, Loads, IsCall};
 ghost use Rattle.ac_program.specs.Auditing.{IsJudged};
 ghost use Rattle.ac_program.specs.Headline.{IsDue, TookWhole, TookPart, GaveUp, IsOfText, IsDecided, IsLoaded, IsOfCores, ReadsBack};
-ghost use Rattle.ac_program.specs.Headline.{TellsUsage, TellsLibrary, TellsDisk, TellsSink, HasFewEntries};
+ghost use Rattle.program_reading.specs.Failures.{TellsLibrary, TellsSink};
+ghost use Rattle.ac_program.specs.Headline.{TellsUsage, TellsDisk, HasFewEntries};
 
 mod answering;
 mod auditing;
-mod building;
 mod execute;
-mod front;
 mod loading;
 mod outcome;
-mod reading;
-mod refusal;
 mod summary;
 mod telling;
-mod writing;
 
 use ac_outside::{Disk, Gate, Library, Sink};
 use ac_words::{Call, read_words};

@@ -4,7 +4,8 @@ ghost use Rattle.std.specs.Prelude.{◌≡◌, ◌≢◌, ◌≤◌, [], IsTrue,
 ghost use Rattle.ac_file_server.specs.ServerText.{load_text};
 ghost use Rattle.ac_outside.specs.Told.{GrewBy};
 ghost use Rattle.ac_words.specs.Words.{IsBounded};
-ghost use Rattle.ac_program.specs.Headline.{IsLeft, TookWhole, TookPart, TellsDisk, TellsSink, summed};
+ghost use Rattle.program_reading.specs.Failures.{TellsSink};
+ghost use Rattle.ac_program.specs.Headline.{IsLeft, TookWhole, TookPart, TellsDisk, summed};
 ghost use Rattle.ac_program.specs.Making.{IsDueOf};
 
 use crate::answering::{do_source, no_memory};

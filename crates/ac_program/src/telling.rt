@@ -2,19 +2,17 @@
 
 ghost use Rattle.std.specs.Prelude.{◌≡◌, length, IfOk};
 ghost use Rattle.ac_base.specs.Report.{status_of};
-ghost use Rattle.ac_program.specs.Lines.{limit_trace_line};
+ghost use Rattle.program_reading.specs.Lines.{limit_trace_line};
 ghost use Rattle.ac_program.specs.inner.Parts.{GivesTelling, GivesTraced, IsTellable};
 
 use crate::summary::summary;
 use ac_base::{Bytes, List, NoMemory, Status, report, status};
 use ac_words::Telling;
+use program_reading::LIMIT_TRACE;
 use program_run::Ended;
 use std::alloc::Global;
 use trace_audit::trace_of;
 use trace_text::{WriteFault, write_trace};
-
-/// The line of a trace whose text is too long.
-pub const LIMIT_TRACE: &str = "limit: trace\n";
 
 /// A text, and the status that goes with it.
 #[derive(Drop)]

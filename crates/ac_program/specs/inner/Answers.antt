@@ -2,8 +2,8 @@
 use Rattle.std.specs.Prelude.{◌≡◌, ◌≢◌, ℕ, List, [], None}
 use Rattle.ac_outside.specs.Told.{SinkTold, GrewBy}
 use Rattle.ac_program.specs.declared.outcome.Outcome.{Outcome}
-use Rattle.ac_program.specs.Writing.{TookFront}
-use Rattle.ac_program.specs.Headline.{TellsSink}
+use Rattle.program_reading.specs.Writing.{TookFront}
+use Rattle.program_reading.specs.Failures.{TellsSink}
 
 -- all of a text that is due with this status
 pub record TookAll (Due : ℕ → List ℕ → Type 0) (status : ℕ) (sink written : SinkTold) : Type 0 where

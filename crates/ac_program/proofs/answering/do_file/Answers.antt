@@ -1,6 +1,6 @@
 use Rattle.std.proofs.Common.{Err, None, refl, ap, subst}
 use Rattle.std.specs.Prelude.{Some}
-use Rattle.ac_program.specs.Lines.{library_line, limit_source_line}
+use Rattle.program_reading.specs.Lines.{library_line, limit_source_line}
 use Rattle.ac_program.specs.Headline.{IsDueOfFile, IsLeft}
 use Rattle.ac_program.specs.Making.{IsDueOf}
 use Rattle.ac_program.specs.Headline.IsDueOfFile.{library_fault, too_long, source}

@@ -1,8 +1,8 @@
 use Rattle.std.proofs.Common.{None, refl, sym, ap, Err, ◌∙◌, subst, arith}
-use Rattle.ac_program.specs.Lines.{disk_line, limit_file_line}
+use Rattle.program_reading.specs.Lines.{disk_line, limit_file_line}
 use Rattle.ac_program.specs.Making.{IsDueOfProgram}
 use Rattle.ac_program.specs.Making.IsDueOfProgram.{disk_fault, long_file, made}
-use Rattle.ac_program.specs.Source.{needed}
+use Rattle.program_reading.specs.Source.{needed}
 use Rattle.ac_program.specs.declared.outcome.Outcome.{Outcome}
 use Rattle.ac_program.specs.inner.Parts.{GivesDone}
 use Rattle.ac_program.proofs.Endings.{whole_of, part_of}

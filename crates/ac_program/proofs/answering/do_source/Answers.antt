@@ -1,11 +1,11 @@
 use Rattle.std.proofs.Common.{None, refl, subst}
-use Rattle.ac_program.specs.Lines.{refusal_line, refusal_status}
-use Rattle.ac_program.specs.inner.Parts.{Stops}
+use Rattle.program_reading.specs.Lines.{refusal_line, refusal_status}
+use Rattle.program_reading.specs.Source.{Stops}
 use Rattle.ac_program.specs.Making.{IsDueOf, IsDueOfProgram}
 use Rattle.ac_program.specs.Making.IsDueOf.{refused, ready}
 use Rattle.ac_program.specs.Headline.IsLeft.{of_program}
 use Rattle.ac_program.proofs.Endings.{whole_of, part_of, whole_as, part_as}
-use Rattle.ac_program.proofs.Paths.{few_paths, paths_are_texts, paths_differ}
+use Rattle.program_reading.proofs.Paths.{few_paths, paths_are_texts, paths_differ}
 use Rattle.ac_program.proofs.answering.do_source.Goals as goal
 
 pub returns-in-Err-Refused-clause-whole : goal.returns-in-Err-Refused-clause-whole

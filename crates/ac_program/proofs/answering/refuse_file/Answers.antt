@@ -1,6 +1,6 @@
 use Rattle.std.proofs.Common.{ap, ◌∙◌, codes, subst}
 use Rattle.ac_outside.specs.Told.{GrewBy}
-use Rattle.ac_program.specs.Lines.{place_line}
+use Rattle.program_reading.specs.Lines.{place_line}
 use Rattle.ac_program.proofs.answering.refuse_file.Goals as goal
 
 pub returns-in-Ok-clause-whole : goal.returns-in-Ok-clause-whole

@@ -1,6 +1,7 @@
 use Rattle.std.proofs.Common.{◌≡◌, ◌⊎◌, Err, refl, ap, subst, arith}
-use Rattle.ac_program.specs.Lines.{library_line, limit_source_line}
-use Rattle.ac_program.specs.Auditing.{IsDueOfAudit, IsDueOfSource, IsTraceRead}
+use Rattle.program_reading.specs.Lines.{library_line, limit_source_line}
+use Rattle.program_reading.specs.Files.{IsTraceRead}
+use Rattle.ac_program.specs.Auditing.{IsDueOfAudit, IsDueOfSource}
 use Rattle.ac_program.specs.Auditing.IsDueOfAudit.{library_fault, too_long, source}
 use Rattle.ac_program.proofs.Said.{answered, answered_as, files_read}
 use Rattle.ac_program.proofs.auditing.audit_files.Goals as goal

@@ -1,6 +1,6 @@
 use Rattle.std.proofs.Common.{refl, subst, inr}
 use Rattle.ac_words.specs.declared.task.Task.TheVariants.{Check}
-use Rattle.ac_program.specs.inner.Parts.{Stops}
+use Rattle.program_reading.specs.Source.{Stops}
 use Rattle.ac_program.specs.Auditing.{IsDueOfSource, IsDueOfTrace}
 use Rattle.ac_program.specs.Auditing.IsDueOfSource.{refused, ready}
 use Rattle.ac_program.proofs.Said.{answered_refusal, answered_as}

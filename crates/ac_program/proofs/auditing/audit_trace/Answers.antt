@@ -1,5 +1,5 @@
 use Rattle.std.proofs.Common.{Err, refl, ap, subst, arith}
-use Rattle.ac_program.specs.Lines.{library_line, limit_trace_line}
+use Rattle.program_reading.specs.Lines.{library_line, limit_trace_line}
 use Rattle.ac_program.specs.Auditing.{IsDueOfTrace, IsDueOfTraced}
 use Rattle.ac_program.specs.Auditing.IsDueOfTrace.{library_fault, too_long, read}
 use Rattle.ac_program.proofs.Said.{answered, answered_as}

@@ -2,7 +2,7 @@ use Rattle.std.proofs.Common.{List, ℕ, length, sym, ◌∙◌, subst}
 use Rattle.std.specs.Prelude.{Some}
 use Rattle.ac_program.specs.Headline.{IsLeft, TookWhole, TookPart, summed}
 use Rattle.ac_program.specs.Making.{IsDueOf}
-use Rattle.ac_program.specs.Reading.{IsShort}
+use Rattle.program_reading.specs.Reading.{IsShort}
 use Rattle.ac_program.proofs.Loads.{far_below}
 use Rattle.ac_program.proofs.loading.load.Goals as goal
 

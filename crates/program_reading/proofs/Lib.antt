@@ -1,0 +1,7 @@
+pub mod Answered
+pub mod Faults
+pub mod Paths
+mod Readings
+pub mod Refusals
+pub mod Stopping
+pub mod Streams
