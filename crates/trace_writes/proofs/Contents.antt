@@ -4,7 +4,6 @@ use Rattle.std.specs.Prelude.{map, slice_get, slice_set}
 use Rattle.std.specs.List.{AllByRecursion}
 use Rattle.std.proofs.lemmas.List.{length-set}
 use Rattle.std.proofs.lemmas.Option.{get_or_from_slice_get}
-use Rattle.ac_base.specs.declared.entry.Answer.{Answer}
 use Rattle.ac_base.specs.declared.entry.Payload.{Payload}
 use Rattle.ac_base.specs.declared.entry.Payload.TheVariants.{Int, Read, Write}
 use Rattle.ac_history.specs.Files.{Deed, bytes_in, contents, files_done}

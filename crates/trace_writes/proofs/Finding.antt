@@ -5,7 +5,6 @@ use Rattle.std.specs.Prelude.{replicate}
 use Rattle.ac_base.specs.declared.entry.Stamped.{Stamped}
 use Rattle.ac_history.specs.Files.{Deed, deeds, deeds_at}
 use Rattle.ac_history.specs.History.{Past, after, start}
-use Rattle.trace_writes.specs.declared.write.FileWrite.{FileWrite}
 use Rattle.trace_writes.specs.Writes.{write_of, writes_of}
 use Rattle.trace_writes.specs.inner.Finding.{writes_at, writes_from}
 

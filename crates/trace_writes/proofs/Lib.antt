@@ -1,4 +1,4 @@
 pub mod Contents
-pub mod Doing
+pub mod Done
 pub mod Finding
 pub mod Requests

@@ -1,7 +1,7 @@
 -- Each write of a legal history ends within the greatest length of a file: what is done was offered, and a link for requests takes no other
 -- offer. Each link keeps that of its offers, an offer brings it, and no other entry changes what was offered.
-use Rattle.std.proofs.Common.{◌≡◌, ℕ, ◌+◌, ◌<◌, ◌≤◌, List, [], ◌∷◌, ◌++◌, length, take, Option, Some, None, Bool, true, false, refl, sym, ap, ◌∙◌, subst, inl, inr, arith}
-use Rattle.std.specs.Prelude.{All, ◌&&◌, ◌||◌, ◌==◌, ◌-◌, nat_le, nat_lt, slice_get, slice_index_or, if◌then◌else◌}
+use Rattle.std.proofs.Common.{◌≡◌, ℕ, ◌+◌, ◌≤◌, List, [], ◌∷◌, ◌++◌, length, Option, Some, None, Bool, true, false, refl, sym, subst, inl, inr, arith}
+use Rattle.std.specs.Prelude.{All, ◌&&◌, ◌||◌, ◌==◌, ◌-◌, nat_le, nat_lt, slice_get, slice_index_or}
 use Rattle.std.specs.List.{AllByRecursion}
 use Rattle.std.proofs.lemmas.Bool.{and_parts}
 use Rattle.std.proofs.lemmas.Bool.Decides.{leb_tells, nat_tests}
@@ -16,11 +16,10 @@ use Rattle.ac_base.specs.declared.entry.Payload.{Payload}
 use Rattle.ac_base.specs.declared.entry.Payload.TheVariants.{Int, Read, Write}
 use Rattle.ac_base.specs.declared.entry.Stamped.{Stamped}
 use Rattle.ac_links.specs.declared.offer.LinkOffer.{LinkOffer}
-use Rattle.ac_links.specs.Link.{asked, can_take, changed, front_of, is_offered, known_lead, link_after, link_fits, link_of, new_offer, offered_payload, takes}
-use Rattle.ac_links.specs.Payloads.{answer_fits, is_int, is_payload, is_request}
-use Rattle.ac_links.specs.Payloads.Taking.{Done}
+use Rattle.ac_links.specs.Link.{asked, changed, known_lead, link_after, link_fits, link_of, new_offer, offered_payload}
+use Rattle.ac_links.specs.Payloads.{is_int, is_payload, is_request}
 use Rattle.ac_history.specs.Files.{Deed, bytes_in, deed_of, deeds, deeds_at}
-use Rattle.ac_history.specs.History.{Past, after, fits, has_stamp, in_range, is_later, link_at, makes, may_make, start, terms_of, IsLegal}
+use Rattle.ac_history.specs.History.{Past, after, fits, has_stamp, in_range, is_later, link_at, may_make, start, terms_of, IsLegal}
 use Rattle.ac_history.proofs.Parts.{each_append}
 use Rattle.trace_writes.specs.declared.write.FileWrite.{FileWrite}
 use Rattle.trace_writes.specs.Writes.{write_of, writes_of}

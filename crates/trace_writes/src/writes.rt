@@ -83,8 +83,9 @@ fn add_entry(
 fn enter(alloc: Global, links: &mut [Link], entry: &Stamped) -> Result<(), NoMemory>
     ensures { OnOk result (links.new ≡ entered links.old entry.now) }
 {
-    if let Some(link) = links.get_mut(link_of(&entry.entry.event) as usize) {
-        link.add(alloc, entry.entry.stamp, &entry.entry.event)?;
+    let link = link_of(&entry.entry.event) as usize;
+    if link < links.len() {
+        links[link].add(alloc, entry.entry.stamp, &entry.entry.event)?;
     }
     Ok(())
 }

@@ -1,8 +1,8 @@
 -- Writes are done one after the other: what a disk tells after some of them and one more.
-use Rattle.std.proofs.Common.{◌≡◌, ℕ, suc, zero, ◌+◌, ◌<◌, ◌≤◌, List, [], ◌∷◌, ◌++◌, take, drop, Option, Some, None, refl, sym, ap, ◌∙◌, subst, arith, length}
+use Rattle.std.proofs.Common.{◌≡◌, ℕ, suc, zero, ◌≤◌, List, [], ◌∷◌, ◌++◌, take, drop, Option, Some, None, refl, sym, ap, ◌∙◌, subst, length}
 use Rattle.std.specs.Prelude.{IfSome, slice_get}
 use Rattle.ac_outside.specs.Causes.{Rose}
-use Rattle.ac_outside.specs.Disks.{Held, DiskTold, with_written}
+use Rattle.ac_outside.specs.Disks.{Held, DiskTold, BindsNone, with_written}
 use Rattle.trace_writes.specs.declared.write.FileWrite.{FileWrite}
 use Rattle.trace_writes.specs.Doing.{DidAll, DidSome, FailedAt, with_writes}
 
@@ -77,3 +77,19 @@ some_of ws k w old new here f = record {
   form = split_at ws k w here;
   failed_at = f;
 }
+
+-- ---- one write that fails
+
+module _ (w : FileWrite) (bytes : List ℕ) (taken : ℕ) (old new : DiskTold) (same : bytes ≡ w.bytes) (none : BindsNone old new) where
+  pub fails_at : taken ≤ length bytes → old.faults ≤ new.faults → Rose old.faults new.faults → new.earlier ≡ old.faults
+      → IfSome old.held (λ held. new.held ≡ Some (with_written held w.file w.from (take taken bytes))) → (old.held ≡ None → new.held ≡ None) → FailedAt [] w old new
+  fails_at part later failed latest told silent = record {
+    taken = taken;
+    part = subst (λ bs. taken ≤ length bs) same part;
+    none = none;
+    later = later;
+    failed = failed;
+    latest = latest;
+    told = subst (λ bs. IfSome old.held (λ held. new.held ≡ Some (with_written held w.file w.from (take taken bs)))) same told;
+    silent = silent;
+  }
