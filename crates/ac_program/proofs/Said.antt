@@ -1,8 +1,7 @@
 -- What an answer gives where no run is kept: the whole text or a front of it, or nothing where memory was refused. Then which statuses an
 -- audit has, and which of its files were opened.
 use Rattle.std.proofs.Common.{◌≡◌, ◌≢◌, ℕ, ◌*◌, ◌≤◌, ◌⊎◌, inl, inr, List, [], length, Option, None, Some, refl, sym, ap, ◌∙◌, subst, append-nil, arith}
-use Rattle.ac_outside.specs.Told.{LibraryTold, SinkTold, GrewBy}
-use Rattle.program_reading.specs.Reading.{Gave, IsRead, IsReadWhole, IsShort}
+use Rattle.ac_outside.specs.Told.{SinkTold, GrewBy}
 use Rattle.program_run.specs.declared.ended.Ended.{Ended}
 use Rattle.ac_program.specs.declared.outcome.Outcome.{Outcome}
 use Rattle.program_reading.specs.declared.refusal.Refusal.{Refusal}
@@ -11,7 +10,6 @@ use Rattle.ac_program.specs.Lines.{verdict_line, verdict_status}
 use Rattle.program_reading.specs.Writing.{TookFront}
 use Rattle.program_reading.specs.Failures.{TellsSink}
 use Rattle.ac_program.specs.Headline.{TookWhole, TookPart}
-use Rattle.program_reading.specs.Files.{AreRead, IsTraceRead, first, both}
 use Rattle.ac_program.specs.Auditing.{IsDueOfRun, IsDueOfTraced, too_many, judged, wrong, spelled}
 use Rattle.ac_program.specs.inner.Answers.{IsAnswered}
 use Rattle.ac_program.specs.inner.Parts.{GivesVerdict, GivesAnswer}
@@ -150,10 +148,3 @@ wrong_as program traced line done text e l w = record { no_run = ap run_in e; du
 
 pub spelled_as : (program : Program) (traced : List ℕ) (trace : Trace) → IsTheTrace traced trace → (done : Done) → GivesVerdict program trace done → GivesAnswer program traced done
 spelled_as program traced trace is done g = record { no_run = g.no_run; due = spelled trace is g.due }
-
--- ---- which files were opened
-
-pub files_read : (file trace bytes : List ℕ) (before between after : LibraryTold) → IsReadWhole before between file bytes → Gave (before.text_at file) bytes → IsShort bytes
-    → (after ≡ between) ⊎ IsTraceRead bytes trace between after → AreRead file trace before after
-files_read file trace bytes before between after h g s (inl e) = first (subst (λ (l : LibraryTold). IsRead before l file) (sym e) h.read)
-files_read file trace bytes before between after h g s (inr k) = both bytes between h g s k

@@ -1,8 +1,9 @@
 -- The cores of a trace that is a run of a program: each has a run under its journal, in the code as in the source, and so each comes to one end
 -- there.
-use Rattle.std.proofs.Common.{◌≡◌, ℕ, zero, suc, ◌+◌, ◌<◌, ◌≤◌, List, [], ◌∷◌, ◌++◌, Some, refl, sym, ap, ◌∙◌, subst, arith, length}
+use Rattle.std.proofs.Common.{◌≡◌, ℕ, zero, suc, ◌+◌, ◌<◌, ◌≤◌, List, [], ◌∷◌, ◌++◌, Some, refl, sym, ap, ◌∙◌, subst, inl, inr, arith, length}
 use Rattle.std.specs.Prelude.{slice_get}
-use Rattle.std.proofs.lemmas.List.{length-map}
+use Rattle.std.proofs.lemmas.Bool.Decides.{leb_tells}
+use Rattle.std.proofs.lemmas.List.{length-append, length-map}
 use Rattle.ac_base.specs.declared.ends.CoreEnd.{CoreEnd}
 use Rattle.ac_base.specs.declared.ends.MachineEnd.{MachineEnd}
 use Rattle.ac_commands.specs.declared.program.Core.{Core}
@@ -65,6 +66,25 @@ get_new [] x y zero h g = (refl, cc)
 get_new [] x y (suc k) h g = cc
 get_new (z ∷ zs) x y zero h g = absurd (omega arith)
 get_new (z ∷ zs) x y (suc k) h g = let r = get_new zs x y k (omega arith) g in (ap suc r.0, r.1)
+
+pub first_none : (code : Parts) (t : Trace) → AreFirst code t [] 0
+first_none code t = record { count = refl; each = λ core end there. absurd (cc (there)) }
+
+pub first_more : (code : Parts) (t : Trace) (ends : List MachineEnd) (end : MachineEnd) (n : ℕ) → AreFirst code t ends n
+    → Runs code n t.steps (journal_of n t.entries) (record { core = Some end.core; count = end.instructions }) → AreFirst code t (ends ++ end ∷ []) (n + 1)
+first_more code t ends end n first runs = record {
+  count = length-append ends (end ∷ []) ∙ ap (λ k. k + 1) first.count;
+  each = λ core e there. elim (leb_tells (length ends) core) [
+    | inl q ↦
+        let new = get_new ends end e core q.1 there in
+        let number : n ≡ core = sym first.count ∙ sym new.0 in
+        subst (λ k. Ends k e) number (subst (Ends n) new.1 runs)
+    | inr q ↦ first.each core e (sym (get_old ends end core q.1) ∙ there)
+  ];
+}
+  where
+    Ends : ℕ → MachineEnd → Type 0
+    Ends k x = Runs code k t.steps (journal_of k t.entries) (record { core = Some x.core; count = x.instructions })
 
 pub all_replayed : (program : Resolved) (code : Parts) (t : Trace) (ends : List MachineEnd) → code ≡ code_of program → AreFirst code t ends (length code.entries) → AreReplayed program t ends
 all_replayed program code t ends is h = record {

@@ -1,2 +1,11 @@
+pub mod Again
+pub mod Answered
 pub mod Calls
+pub mod Comparing
 pub mod Ending
+pub mod Faults
+pub mod Leaving
+pub mod NamedFiles
+pub mod Repeating
+pub mod Statuses
+pub mod Writable

@@ -8,16 +8,17 @@ use Rattle.ac_outside.specs.Told.{LibraryTold}
 use Rattle.ac_resolve.specs.Resolution.{resolved}
 use Rattle.ac_tree.specs.declared.item.Program.{Program}
 use Rattle.program_reading.specs.Both.{AreBoth, RefusesBoth, halt_line, halt_status}
-use Rattle.program_reading.specs.Lines.{disk_line, limit_file_line}
+use Rattle.program_reading.specs.Lines.{disk_line, limit_file_line, no_at_line, no_at_end_line}
 use Rattle.program_reading.specs.declared.halt.Halt.{Halt}
+use Rattle.program_run.specs.Naming.{AreNamed}
 use Rattle.starting_files.specs.declared.fault.StartFault.TheVariants as f
 use Rattle.starting_files.specs.Starting.{AreStarted, AreStopped}
 use Rattle.trace_audit.specs.Judged.{IsFirstMisfit}
 use Rattle.trace_audit.specs.RunTrace.{AllFit, EndsWell, IsRunTrace}
 use Rattle.trace_text.specs.declared.trace.Trace.{Trace}
 use Rattle.trace_writes.specs.Doing.{DidAll, DidSome}
-use Rattle.ac_replay.specs.Lines.{usage_line, misfit_line, end_line, differs_line}
-use Rattle.ac_replay.specs.Replaying.{IsReplayedReport, writes_in}
+use Rattle.ac_replay.specs.Lines.{usage_line, differs_line}
+use Rattle.ac_replay.specs.Replaying.{IsReplayedReport, deeds_in, writes_in}
 use Rattle.ac_replay.specs.Words.{IsCall, IsNoCall}
 
 -- ---- the files of the disk
@@ -29,7 +30,8 @@ pub record IsFirstOther (start told : List (List ℕ)) (file : ℕ) : Type 0 whe
   pub other : file_of start file ≢ file_of told file
 
 -- Of a trace that is a run of the program: its files are bound and read, and the first that fails, is too long, or differs stops the work
--- there; else the writes of the trace are done, up to the first that fails; and if none does, the report is written.
+-- there; else the writes of the trace, which are of these files, are done, up to the first that fails; and if none does, the report is
+-- written.
 pub data IsDueOfFiles (program : Program) (trace : Trace) (disk later : DiskTold) (status : ℕ) (text : List ℕ) : Type 0 where
   disk_fault : status ≡ 9 → text ≡ disk_line → AreStopped (file_paths program.items) f.Failed disk later →
       IsDueOfFiles program trace disk later status text
@@ -41,6 +43,7 @@ pub data IsDueOfFiles (program : Program) (trace : Trace) (disk later : DiskTold
   torn : (between : DiskTold) → status ≡ 9 → text ≡ disk_line → AreStarted (file_paths program.items) trace.start disk between →
       DidSome (writes_in (resolved program) trace) between later → IsDueOfFiles program trace disk later status text
   repeated : (between : DiskTold) → AreStarted (file_paths program.items) trace.start disk between →
+      AreNamed (length (file_paths program.items)) (deeds_in (resolved program) trace) →
       DidAll (writes_in (resolved program) trace) between later → IsReplayedReport program trace status text →
       IsDueOfFiles program trace disk later status text
 
@@ -49,9 +52,9 @@ pub data IsDueOfFiles (program : Program) (trace : Trace) (disk later : DiskTold
 -- Of a program and a trace of which the texts are right: an entry may not come after those before it, or the end is not that of the run;
 -- then the disk is left alone; or the trace is a run.
 pub data IsDueOfRun (program : Program) (trace : Trace) (disk later : DiskTold) (status : ℕ) (text : List ℕ) : Type 0 where
-  misfit : (entry : ℕ) → status ≡ 13 → text ≡ misfit_line entry → IsFirstMisfit (resolved program) trace entry → later ≡ disk →
+  misfit : (entry : ℕ) → status ≡ 13 → text ≡ no_at_line entry → IsFirstMisfit (resolved program) trace entry → later ≡ disk →
       IsDueOfRun program trace disk later status text
-  other_end : status ≡ 13 → text ≡ end_line → AllFit (resolved program) trace [] trace.entries →
+  other_end : status ≡ 13 → text ≡ no_at_end_line → AllFit (resolved program) trace [] trace.entries →
       (EndsWell (resolved program) trace → ⊥) → later ≡ disk → IsDueOfRun program trace disk later status text
   run : IsRunTrace (resolved program) trace → IsDueOfFiles program trace disk later status text →
       IsDueOfRun program trace disk later status text

@@ -12,7 +12,6 @@ use Rattle.ac_words.specs.declared.task.Task.TheVariants as t
 use Rattle.program_reading.specs.Files.{AreRead}
 use Rattle.program_reading.specs.Reading.{Gave}
 use Rattle.program_reading.specs.Source.{IsReady}
-use Rattle.program_reading.specs.Writing.{TookFront}
 use Rattle.starting_files.specs.declared.fault.StartFault.TheVariants as f
 use Rattle.starting_files.specs.Starting.{AreStarted, AreStopped, bytes_at}
 use Rattle.trace_audit.specs.RunTrace.{IsRunTrace}
@@ -20,21 +19,6 @@ use Rattle.trace_text.specs.declared.trace.Trace.{Trace}
 use Rattle.trace_text.specs.Spelling.{IsTheTrace}
 use Rattle.ac_replay.specs.Replaying.{IsReplayedReport, HoldsContents}
 use Rattle.ac_replay.specs.Words.{IsCall, IsNoCall}
-
--- ---- what the sink has taken
-
--- all of a text that is due with this status
-pub record TookWhole (Due : ℕ → List ℕ → Type 0) (status : ℕ) (sink written : SinkTold) : Type 0 where
-  pub text : List ℕ
-  pub due : Due status text
-  pub taken : GrewBy sink.held written.held text
-
--- a front, and not the whole, of a text that is due with some status
-pub record TookPart (Due : ℕ → List ℕ → Type 0) (sink written : SinkTold) : Type 0 where
-  pub status : ℕ
-  pub text : List ℕ
-  pub due : Due status text
-  pub taken : TookFront sink.held written.held text
 
 -- ---- want of memory
 

@@ -1,5 +1,5 @@
 -- What a trace that is a run is run to again: the ends of its cores in the compiled code, the report of them, and the files.
-use Rattle.std.specs.Prelude.{◌≡◌, ℕ, ◌+◌, List, ◌++◌, length, map, slice_get, sum_by, Some}
+use Rattle.std.specs.Prelude.{◌≡◌, ℕ, List, ◌++◌, length, map, slice_get, sum_by, Some}
 use Rattle.ac_base.specs.Report.{report_of, status_of}
 use Rattle.ac_base.specs.declared.ends.MachineEnd.{MachineEnd}
 use Rattle.ac_commands.specs.declared.program.Resolved.{Resolved}
@@ -49,5 +49,5 @@ pub record HoldsContents (program : Program) (t : Trace) (held left : Held) : Ty
   pub files : padded (texts left) ≡ contents (padded t.start) (deeds_in (resolved program) t)
   pub paths : map (λ f. f.name) left.files ≡ map (λ f. f.name) held.files ++ file_paths program.items
   pub others : left.found ≡ held.found
-  pub calls : left.calls ≡ more_calls held.calls
-      (sum_by (calls_of held) (file_paths program.items) + length (writes_in (resolved program) t))
+  pub calls : left.calls ≡ more_calls (more_calls held.calls (sum_by (calls_of held) (file_paths program.items)))
+      (length (writes_in (resolved program) t))

@@ -4,16 +4,16 @@ ghost use Rattle.std.specs.Prelude.{◌≡◌, ◌≢◌, IsTrue};
 ghost use Rattle.ac_replay.specs.Due.{IsDueOfCall, IsDueOfRun};
 ghost use Rattle.ac_replay.specs.Headline.{AreUnwritten, IsLeft};
 ghost use Rattle.ac_replay.specs.inner.Answers.{IsAnswered};
+ghost use Rattle.ac_replay.specs.inner.Doing.{HasPaths};
 ghost use Rattle.ac_names.specs.Numbered.{file_paths};
 ghost use Rattle.program_reading.specs.Failures.{TellsLibrary};
 ghost use Rattle.program_reading.specs.Files.{AreRead};
-ghost use Rattle.program_reading.specs.Source.{IsAccepted};
 
 use crate::running::judge_and_run;
 use ac_base::{NoMemory, Status};
 use ac_outside::{Disk, Library, Sink};
 use ac_types::Checked;
-use program_reading::{BothFault, Halt, LIBRARY_FAULT, answer, answer_halt, read_both};
+use program_reading::{BothFault, answer, answer_halt, read_both};
 use std::alloc::Global;
 use trace_text::Trace;
 
@@ -28,9 +28,11 @@ fn replay_both<K: Sink, D: Disk>(
     sink: &mut K,
     disk: &mut D,
 ) -> Status
+    requires paths { HasPaths program.now }
     requires ready { IsTrue (D.told disk.old).is_ready }
     requires none { (D.told disk.old).bound ≡ 0 }
-    ensures answered { IsAnswered (IsDueOfRun program.now trace.now (D.told disk.old) (D.told disk.new)) (K.told sink.old) (K.told sink.new) result.number }
+    ensures answered { IsAnswered (IsDueOfRun program.now trace.now (D.told disk.old) (D.told disk.new))
+        (K.told sink.old) (K.told sink.new) result.number }
     ensures left { result.number ≡ 11 → AreUnwritten (file_paths program.now.items) (D.told disk.old) (D.told disk.new) }
 {
     match judge_and_run(alloc, program, trace, disk) {
@@ -54,15 +56,11 @@ pub fn replay_files<L: Library, K: Sink, D: Disk>(
     ensures answered { IsAnswered (IsDueOfCall file.now trace.now (L.told library.old) (L.told library.new) (D.told disk.old) (D.told disk.new))
         (K.told sink.old) (K.told sink.new) result.number }
     ensures read { result.number ≡ 11 → AreRead file.now trace.now (L.told library.old) (L.told library.new) }
+    ensures library { TellsLibrary (L.told library.old) (L.told library.new) result.number }
     ensures left { result.number ≡ 11 → IsLeft ((L.told library.old).text_at file.now) (D.told disk.old) (D.told disk.new) }
 {
     match read_both(alloc, file, trace, library) {
         Err(BothFault::NoMemory) => Status { number: NO_MEMORY },
-        Err(BothFault::Halted(Halt::LibraryFault)) => answer(
-            sink,
-            Status { number: 7 },
-            LIBRARY_FAULT.as_bytes(),
-        ),
         Err(BothFault::Halted(halt)) => answer_halt(alloc, sink, halt),
         Ok(both) => replay_both(alloc, &both.program, &both.trace, sink, disk),
     }

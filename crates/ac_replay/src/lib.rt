@@ -3,9 +3,10 @@
 
 ghost use Rattle.std.specs.Prelude.{◌≡◌, ◌≢◌, ℕ, List, map, string_bytes, IsTrue};
 ghost use Rattle.ac_replay.specs.Due.{IsDue};
-ghost use Rattle.ac_replay.specs.Headline.{GaveUp, IsOfCores, IsRunAgain, TellsDisk, TellsUsage, TookPart, TookWhole};
+ghost use Rattle.ac_replay.specs.Headline.{GaveUp, IsOfCores, IsRunAgain, TellsDisk, TellsUsage};
 ghost use Rattle.ac_replay.specs.Words.{IsCall};
 ghost use Rattle.program_reading.specs.Failures.{TellsLibrary, TellsSink};
+ghost use Rattle.program_reading.specs.Writing.{TookAll, TookSome};
 
 mod answering;
 mod doing;
@@ -60,12 +61,12 @@ pub fn replay_main<L: Library, K: Sink, D: Disk>(
     // But for a failed sink and want of memory, the status and the text that the sink has taken are those
     // due for these words and what the library and the disk did.
     ensures whole { result.number ≢ 8 → result.number ≢ 11 →
-        TookWhole (IsDue (map string_bytes words.now) (L.told library.old) (L.told library.new) (D.told disk.old) (D.told disk.new))
+        TookAll (IsDue (map string_bytes words.now) (L.told library.old) (L.told library.new) (D.told disk.old) (D.told disk.new))
         result.number (K.told sink.old) (K.told sink.new) }
 
     // Where the sink failed, it has taken a front of a text that is due, and not the whole.
     ensures part { result.number ≡ 8 →
-        TookPart (IsDue (map string_bytes words.now) (L.told library.old) (L.told library.new) (D.told disk.old) (D.told disk.new))
+        TookSome (IsDue (map string_bytes words.now) (L.told library.old) (L.told library.new) (D.told disk.old) (D.told disk.new))
         (K.told sink.old) (K.told sink.new) }
 
     // Where memory was refused, the words are a call, just its files were opened, and the second only

@@ -1,7 +1,6 @@
 //! A trace, judged, and where it is a run, run again.
 
-ghost use Rattle.std.specs.Prelude.{◌≡◌, ◌≢◌, ◌≤◌, All, AllPairs, length, IfOk, IsTrue, OnErr};
-ghost use Rattle.std.specs.Str.{IsUtf8};
+ghost use Rattle.std.specs.Prelude.{◌≡◌, IfOk, IsTrue, OnErr};
 ghost use Rattle.ac_commands.specs.declared.program.Resolved.{Resolved};
 ghost use Rattle.ac_compile.specs.Compiled.{IsCodeOf};
 ghost use Rattle.ac_names.specs.Numbered.{file_paths};
@@ -11,7 +10,7 @@ ghost use Rattle.ac_translation.specs.Translation.{code_of};
 ghost use Rattle.ac_tree.specs.declared.item.Program.{Program};
 ghost use Rattle.ac_replay.specs.Due.{IsDueOfFiles, IsDueOfRun};
 ghost use Rattle.ac_replay.specs.Headline.{AreUnwritten};
-ghost use Rattle.ac_replay.specs.inner.Doing.{IsRedo};
+ghost use Rattle.ac_replay.specs.inner.Doing.{HasPaths, IsRedo};
 ghost use Rattle.trace_audit.specs.RunTrace.{IsRunTrace};
 
 use crate::doing::{Halt, do_again};
@@ -81,9 +80,7 @@ fn run_again<D: Disk>(
     requires code { IsCodeOf checked.now code.now }
     requires same { IsSame code.now (resolved checked.now) }
     requires run { IsRunTrace (resolved checked.now) trace.now }
-    requires files { length (file_paths checked.now.items) ≤ 16 }
-    requires texts { All IsUtf8 (file_paths checked.now.items) }
-    requires differ { AllPairs (λ path other. path ≢ other) (file_paths checked.now.items) }
+    requires paths { HasPaths checked.now }
     requires ready { IsTrue (D.told disk.old).is_ready }
     requires none { (D.told disk.old).bound ≡ 0 }
     ensures due { IfOk result (λ it. IsDueOfFiles checked.now trace.now (D.told disk.old) (D.told disk.new) it.status.number it.text) }
@@ -125,9 +122,7 @@ pub fn judge_and_run<D: Disk>(
     trace: &Trace,
     disk: &mut D,
 ) -> Result<Said, NoMemory>
-    requires files { length (file_paths checked.now.items) ≤ 16 }
-    requires texts { All IsUtf8 (file_paths checked.now.items) }
-    requires differ { AllPairs (λ path other. path ≢ other) (file_paths checked.now.items) }
+    requires paths { HasPaths checked.now }
     requires ready { IsTrue (D.told disk.old).is_ready }
     requires none { (D.told disk.old).bound ≡ 0 }
     ensures due { IfOk result (λ it. IsDueOfRun checked.now trace.now (D.told disk.old) (D.told disk.new) it.status.number it.text) }

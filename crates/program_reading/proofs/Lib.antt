@@ -1,4 +1,5 @@
 pub mod Answered
+pub mod Both
 pub mod Faults
 pub mod Paths
 mod Readings

@@ -1,3 +1,4 @@
+pub mod Both
 pub mod Failures
 pub mod Files
 pub mod Lines

@@ -57,3 +57,10 @@ refusal_status r.TooManySteps = 10
 -- a line of a text that tells no trace, counted from 1
 abbrev pub trace_fault_line : ℕ → List ℕ
 trace_fault_line line = place_line (codes "trace fault at line ") line
+
+-- where a trace is no run: an entry, counted from 0, that may not come after those before it, or an end that is not that of the run
+abbrev pub no_at_line : ℕ → List ℕ
+no_at_line entry = place_line (codes "no at ") entry
+
+abbrev pub no_at_end_line : List ℕ
+no_at_end_line = codes "no at end" ++ 10 ∷ []

@@ -5,9 +5,12 @@ ghost use Rattle.ac_outside.specs.Causes.{HasCause};
 ghost use Rattle.ac_outside.specs.Told.{GrewBy};
 ghost use Rattle.program_reading.specs.Writing.{TookFront};
 ghost use Rattle.program_reading.specs.Failures.{TellsSink};
-ghost use Rattle.program_reading.specs.Lines.{refusal_line, refusal_status};
+ghost use Rattle.program_reading.specs.Both.{halt_line, halt_status};
+ghost use Rattle.program_reading.specs.Lines.{refusal_line, refusal_status, trace_fault_line};
+ghost use Rattle.program_reading.specs.declared.halt.Halt.TheVariants as h;
 
-use crate::refusal::Refusal;
+use crate::halt::{Halt, LIBRARY_FAULT};
+use crate::refusal::{LIMIT_SOURCE, LIMIT_STEPS, LIMIT_TRACE, Refusal, place_line};
 use ac_base::Status;
 use ac_outside::{Failed, Sink};
 use std::alloc::Global;
@@ -65,5 +68,41 @@ pub fn answer_refusal<K: Sink>(alloc: Global, sink: &mut K, refusal: Refusal) ->
             },
             line.as_slice(),
         ),
+    }
+}
+
+// Writes the line of a trace that is none.
+fn answer_line<K: Sink>(alloc: Global, sink: &mut K, line: u64) -> Status
+    ensures status { result.number ≢ 8 → result.number ≢ 11 → result.number ≡ 14 }
+    ensures whole { result.number ≢ 8 → result.number ≢ 11 →
+        GrewBy (K.told sink.old).held (K.told sink.new).held (trace_fault_line line) }
+    ensures part { result.number ≡ 8 → TookFront (K.told sink.old).held (K.told sink.new).held (trace_fault_line line) }
+    ensures memory { result.number ≡ 11 → GrewBy (K.told sink.old).held (K.told sink.new).held [] }
+    ensures sink { TellsSink (K.told sink.old) (K.told sink.new) result.number }
+{
+    match place_line(alloc, b"trace fault at line ", line) {
+        Err(_) => Status { number: NO_MEMORY },
+        Ok(line) => answer(sink, Status { number: 14 }, line.as_slice()),
+    }
+}
+
+/// Writes the line of what refuses two files, and gives its status. That of a failed library takes no
+/// memory.
+pub fn answer_halt<K: Sink>(alloc: Global, sink: &mut K, halt: Halt) -> Status
+    ensures status { result.number ≢ 8 → result.number ≢ 11 → result.number ≡ halt_status halt }
+    ensures whole { result.number ≢ 8 → result.number ≢ 11 → GrewBy (K.told sink.old).held (K.told sink.new).held (halt_line halt) }
+    ensures part { result.number ≡ 8 → TookFront (K.told sink.old).held (K.told sink.new).held (halt_line halt) }
+    ensures memory { result.number ≡ 11 → GrewBy (K.told sink.old).held (K.told sink.new).held [] }
+    ensures failed { result.number ≡ 11 → halt ≢ h.LibraryFault }
+    ensures sink { TellsSink (K.told sink.old) (K.told sink.new) result.number }
+    ensures other { (result.number ≢ 1) × (result.number ≢ 9) }
+{
+    match halt {
+        Halt::LibraryFault => answer(sink, Status { number: 7 }, LIBRARY_FAULT.as_bytes()),
+        Halt::LongSource => answer(sink, Status { number: 10 }, LIMIT_SOURCE.as_bytes()),
+        Halt::Source(refusal) => answer_refusal(alloc, sink, refusal),
+        Halt::LongTrace => answer(sink, Status { number: 10 }, LIMIT_TRACE.as_bytes()),
+        Halt::WrongLine { line } => answer_line(alloc, sink, line),
+        Halt::TooManySteps => answer(sink, Status { number: 10 }, LIMIT_STEPS.as_bytes()),
     }
 }

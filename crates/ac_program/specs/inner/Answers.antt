@@ -2,21 +2,8 @@
 use Rattle.std.specs.Prelude.{◌≡◌, ◌≢◌, ℕ, List, [], None}
 use Rattle.ac_outside.specs.Told.{SinkTold, GrewBy}
 use Rattle.ac_program.specs.declared.outcome.Outcome.{Outcome}
-use Rattle.program_reading.specs.Writing.{TookFront}
+use Rattle.program_reading.specs.Writing.{TookAll, TookSome}
 use Rattle.program_reading.specs.Failures.{TellsSink}
-
--- all of a text that is due with this status
-pub record TookAll (Due : ℕ → List ℕ → Type 0) (status : ℕ) (sink written : SinkTold) : Type 0 where
-  pub text : List ℕ
-  pub due : Due status text
-  pub taken : GrewBy sink.held written.held text
-
--- a front of a text that is due with some status
-pub record TookSome (Due : ℕ → List ℕ → Type 0) (sink written : SinkTold) : Type 0 where
-  pub status : ℕ
-  pub text : List ℕ
-  pub due : Due status text
-  pub taken : TookFront sink.held written.held text
 
 -- the whole, or a front where the sink failed, or nothing where memory was refused
 pub record IsAnswered (Due : ℕ → List ℕ → Type 0) (sink written : SinkTold) (outcome : Outcome) : Type 0 where

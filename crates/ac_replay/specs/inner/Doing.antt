@@ -1,5 +1,7 @@
 -- What each part of the work on a trace that is a run gives.
-use Rattle.std.specs.Prelude.{◌≡◌, ℕ, List, Result, Ok, Err}
+use Rattle.std.specs.Prelude.{◌≡◌, ◌≢◌, ◌≤◌, ℕ, All, AllPairs, List, Result, Ok, Err, length}
+use Rattle.std.specs.Str.{IsUtf8}
+use Rattle.ac_names.specs.Numbered.{file_paths}
 use Rattle.ac_outside.specs.Disks.{DiskTold}
 use Rattle.ac_resolve.specs.Resolution.{resolved}
 use Rattle.ac_tree.specs.declared.item.Program.{Program}
@@ -12,6 +14,12 @@ use Rattle.ac_replay.specs.declared.doing.Halt.TheVariants.{Stopped, Differs, To
 use Rattle.ac_replay.specs.declared.running.Redo.{Redo}
 use Rattle.ac_replay.specs.Due.{IsFirstOther}
 use Rattle.ac_replay.specs.Replaying.{IsReplayedReport, writes_in}
+
+-- the paths of the files of a program that is accepted
+pub record HasPaths (program : Program) : Type 0 where
+  pub few : length (file_paths program.items) ≤ 16
+  pub texts : All IsUtf8 (file_paths program.items)
+  pub differ : AllPairs (λ path other. path ≢ other) (file_paths program.items)
 
 -- the report that is written in the end, and the writes that are done before
 pub record IsRedo (program : Program) (t : Trace) (redo : Redo) : Type 0 where
