@@ -1,6 +1,6 @@
 -- What a call of the program promises. `before` and `after` are what the library tells before and after the call, `disk` and `later` what
 -- the disk does, and `sink` and `written` what the sink does.
-use Rattle.std.specs.Prelude.{◌≡◌, ◌≢◌, ℕ, ◌⊎◌, List, [], map, IfSome, Some}
+use Rattle.std.specs.Prelude.{◌≡◌, ◌≢◌, ℕ, ◌≤◌, ◌⊎◌, List, [], length, map, IfSome, Some}
 use Rattle.std.specs.declared.option.Option.{Option}
 use Rattle.ac_names.specs.Numbered.{file_paths}
 use Rattle.ac_outside.specs.Causes.{Rose}
@@ -10,12 +10,14 @@ use Rattle.ac_resolve.specs.Resolution.{resolved}
 use Rattle.ac_tree.specs.declared.item.Program.{Program}
 use Rattle.ac_words.specs.declared.task.Task.TheVariants as t
 use Rattle.program_reading.specs.Files.{AreRead}
-use Rattle.program_reading.specs.Reading.{Gave}
+use Rattle.program_reading.specs.Both.{IsTraceFor}
+use Rattle.program_reading.specs.Reading.{Gave, IsShort}
 use Rattle.program_reading.specs.Source.{IsReady}
 use Rattle.starting_files.specs.declared.fault.StartFault.TheVariants as f
 use Rattle.starting_files.specs.Starting.{AreStarted, AreStopped, bytes_at}
 use Rattle.trace_audit.specs.RunTrace.{IsRunTrace}
 use Rattle.trace_text.specs.declared.trace.Trace.{Trace}
+use Rattle.trace_text.specs.Outcomes.{trace_limit}
 use Rattle.trace_text.specs.Spelling.{IsTheTrace}
 use Rattle.ac_replay.specs.Replaying.{IsReplayedReport, HoldsContents}
 use Rattle.ac_replay.specs.Words.{IsCall, IsNoCall}
@@ -61,6 +63,24 @@ pub record TellsDisk (disk later : DiskTold) (status : ℕ) : Type 0 where
 -- the status of a report
 abbrev pub IsOfCores : ℕ → Type 0
 IsOfCores status = (status ≡ 0) ⊎ (status ≡ 4) ⊎ (status ≡ 5) ⊎ (status ≡ 6)
+
+-- The library tells a program, a check of which nothing refuses, and the text of a trace that is a run of it, and the disk tells its files,
+-- of which those of the program are as they were when the run began.
+pub record IsToRunAgain (file trace : List ℕ) (before : LibraryTold) (disk : DiskTold) : Type 0 where
+  pub source : List ℕ
+  pub traced : List ℕ
+  pub program : Program
+  pub told : Trace
+  pub held : Held
+  pub has_source : before.text_at file ≡ Some source
+  pub short_source : IsShort source
+  pub is_ready : IsReady source t.Check program
+  pub has_trace : before.text_at trace ≡ Some traced
+  pub short_trace : length traced ≤ trace_limit
+  pub is_trace : IsTraceFor program traced told
+  pub is_run : IsRunTrace (resolved program) told
+  pub holds : disk.held ≡ Some held
+  pub start : told.start ≡ map (bytes_at held) (file_paths program.items)
 
 -- The trace of the one file is a run of the program of the other, from the files of the program as the disk held them; the report of its
 -- cores' ends in the code was written, with their status; and the disk holds what its history has made of the files.

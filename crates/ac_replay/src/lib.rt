@@ -3,7 +3,7 @@
 
 ghost use Rattle.std.specs.Prelude.{◌≡◌, ◌≢◌, ℕ, List, map, string_bytes, IsTrue};
 ghost use Rattle.ac_replay.specs.Due.{IsDue};
-ghost use Rattle.ac_replay.specs.Headline.{GaveUp, IsOfCores, IsRunAgain, TellsDisk, TellsUsage};
+ghost use Rattle.ac_replay.specs.Headline.{GaveUp, IsOfCores, IsRunAgain, IsToRunAgain, TellsDisk, TellsUsage};
 ghost use Rattle.ac_replay.specs.Words.{IsCall};
 ghost use Rattle.program_reading.specs.Failures.{TellsLibrary, TellsSink};
 ghost use Rattle.program_reading.specs.Writing.{TookAll, TookSome};
@@ -91,6 +91,11 @@ pub fn replay_main<L: Library, K: Sink, D: Disk>(
     // the report of that run, and its history has made the files what they are then.
     ensures again { IsOfCores result.number → (file trace : List ℕ) → IsCall (map string_bytes words.now) file trace →
         IsRunAgain file trace (L.told library.old) (D.told disk.old) (D.told disk.new) result.number (K.told sink.old) (K.told sink.new) }
+
+    // And a report is written of each such trace, where nothing fails.
+    ensures each { (file trace : List ℕ) → IsCall (map string_bytes words.now) file trace →
+        IsToRunAgain file trace (L.told library.old) (D.told disk.old) →
+        result.number ≢ 7 → result.number ≢ 8 → result.number ≢ 9 → result.number ≢ 11 → IsOfCores result.number }
 {
     match read_pair(words) {
         None => answer(sink, Status { number: 1 }, USAGE.as_bytes()),

@@ -3,6 +3,7 @@
 ghost use Rattle.std.specs.Prelude.{◌≡◌, ◌↔◌, ℕ, List, [], ◌∷◌, map, string_bytes, IsNone, IsTrue, IfSome};
 ghost use Rattle.ac_words.specs.Words.{IsPlain};
 ghost use Rattle.ac_replay.specs.Words.{IsCall, IsNoCall};
+ghost use Rattle.ac_replay.specs.inner.Calling.{IsOnlyCall};
 
 /// The two operands of a call.
 #[derive(Clone, Copy)]
@@ -21,6 +22,7 @@ fn is_plain(word: &str) -> bool
 fn two<'a>(first: &'a str, second: &'a str) -> Option<Pair<'a>>
     ensures none { IsNone result → IsNoCall (first.now ∷ second.now ∷ []) }
     ensures some { IfSome result (λ pair. IsCall (first.now ∷ second.now ∷ []) pair.file.now pair.trace.now) }
+    ensures only { IfSome result (λ pair. IsOnlyCall (first.now ∷ second.now ∷ []) pair.file.now pair.trace.now) }
 {
     if is_plain(first) && is_plain(second) {
         Some(Pair {
@@ -36,6 +38,7 @@ fn two<'a>(first: &'a str, second: &'a str) -> Option<Pair<'a>>
 fn three<'a>(first: &'a str, second: &'a str, third: &'a str) -> Option<Pair<'a>>
     ensures none { IsNone result → IsNoCall (first.now ∷ second.now ∷ third.now ∷ []) }
     ensures some { IfSome result (λ pair. IsCall (first.now ∷ second.now ∷ third.now ∷ []) pair.file.now pair.trace.now) }
+    ensures only { IfSome result (λ pair. IsOnlyCall (first.now ∷ second.now ∷ third.now ∷ []) pair.file.now pair.trace.now) }
 {
     if first == "--" && second != "-" && third != "-" {
         return Some(Pair {
@@ -63,6 +66,7 @@ fn three<'a>(first: &'a str, second: &'a str, third: &'a str) -> Option<Pair<'a>
 pub fn read_pair(words: &[String]) -> Option<Pair<'_>>
     ensures none { IsNone result → IsNoCall (map string_bytes words.now) }
     ensures some { IfSome result (λ pair. IsCall (map string_bytes words.now) pair.file.now pair.trace.now) }
+    ensures only { IfSome result (λ pair. IsOnlyCall (map string_bytes words.now) pair.file.now pair.trace.now) }
 {
     match words {
         [first, second] => two(first.as_str(), second.as_str()),
