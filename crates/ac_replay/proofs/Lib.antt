@@ -6,6 +6,7 @@ pub mod DueExamples
 pub mod Ending
 pub mod Exactly
 pub mod Faults
+pub mod Halts
 pub mod Leaving
 pub mod NamedFiles
 pub mod Repeating

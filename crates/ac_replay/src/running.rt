@@ -11,6 +11,7 @@ ghost use Rattle.ac_tree.specs.declared.item.Program.{Program};
 ghost use Rattle.ac_replay.specs.Due.{IsDueOfFiles, IsDueOfRun};
 ghost use Rattle.ac_replay.specs.Headline.{AreUnwritten};
 ghost use Rattle.ac_replay.specs.inner.Doing.{HasPaths, IsRedo};
+ghost use Rattle.trace_audit.specs.Judged.{Judges};
 ghost use Rattle.trace_audit.specs.RunTrace.{IsRunTrace};
 
 use crate::doing::{Halt, do_again};
@@ -115,6 +116,15 @@ fn run_again<D: Disk>(
     }
 }
 
+// The verdict on a trace.
+fn judge(alloc: Global, checked: &Checked, code: &Code, trace: &Trace) -> Result<Verdict, NoMemory>
+    requires code { IsCodeOf checked.now code.now }
+    requires same { IsSame code.now (resolved checked.now) }
+    ensures { IfOk result (Judges (resolved checked.now) trace.now) }
+{
+    audit(alloc, code, u64::from(checked.files()), trace)
+}
+
 /// Judges a trace of a program, and where it is a run, runs it again.
 pub fn judge_and_run<D: Disk>(
     alloc: Global,
@@ -129,9 +139,10 @@ pub fn judge_and_run<D: Disk>(
     ensures left { OnErr result (AreUnwritten (file_paths checked.now.items) (D.told disk.old) (D.told disk.new)) }
 {
     let code = compile(alloc, checked)?;
-    match audit(alloc, &code, u64::from(checked.files()), trace)? {
-        Verdict::Yes => run_again(alloc, checked, &code, trace, disk),
-        Verdict::NoAt { entry } => Ok(said(13, place_line(alloc, b"no at ", entry)?)),
-        Verdict::NoAtEnd => Ok(said(13, line_of(alloc, "no at end\n")?)),
+    match judge(alloc, checked, &code, trace) {
+        Err(NoMemory) => Err(NoMemory),
+        Ok(Verdict::Yes) => run_again(alloc, checked, &code, trace, disk),
+        Ok(Verdict::NoAt { entry }) => Ok(said(13, place_line(alloc, b"no at ", entry)?)),
+        Ok(Verdict::NoAtEnd) => Ok(said(13, line_of(alloc, "no at end\n")?)),
     }
 }
