@@ -1,5 +1,5 @@
 -- What an answer gives: the text that is due, whole, or a front of it, or nothing.
-use Rattle.std.proofs.Common.{◌≡◌, ◌≢◌, ℕ, List, [], sym, ◌∙◌, subst, refl}
+use Rattle.std.proofs.Common.{◌≡◌, ◌≢◌, ℕ, List, [], Option, None, Some, sym, ◌∙◌, subst, refl, append-nil, arith}
 use Rattle.ac_outside.specs.Told.{SinkTold, GrewBy}
 use Rattle.program_reading.specs.Failures.{TellsSink}
 use Rattle.program_reading.specs.Writing.{TookFront, TookAll, TookSome}
@@ -26,6 +26,19 @@ module _ (Due : ℕ → List ℕ → Type 0) (sink written : SinkTold) where
     nothing = memory;
     tells = tells;
   }
+
+-- nothing, where memory was refused before
+grew_none : (held : Option (List ℕ)) → GrewBy held held []
+grew_none None = tt
+grew_none (Some bytes) = sym (append-nil bytes)
+
+pub answered_none : (Due : ℕ → List ℕ → Type 0) (sink : SinkTold) → IsAnswered Due sink sink 11
+answered_none Due sink = record {
+  whole = λ well kept. absurd (kept refl);
+  part = λ failed. absurd (omega (arith, failed));
+  nothing = λ _. grew_none sink.held;
+  tells = record { told = λ failed. absurd (omega (arith, failed)); only = λ _. refl };
+}
 
 -- what is due of a part is due of the whole
 pub answered_as : (Due Other : ℕ → List ℕ → Type 0) (sink written : SinkTold) (number : ℕ) → ((n : ℕ) (text : List ℕ) → Due n text → Other n text)

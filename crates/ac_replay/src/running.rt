@@ -10,7 +10,7 @@ ghost use Rattle.ac_translation.specs.Translation.{code_of};
 ghost use Rattle.ac_tree.specs.declared.item.Program.{Program};
 ghost use Rattle.ac_replay.specs.Due.{IsDueOfFiles, IsDueOfRun};
 ghost use Rattle.ac_replay.specs.Headline.{AreUnwritten};
-ghost use Rattle.ac_replay.specs.inner.Doing.{HasPaths, IsRedo};
+ghost use Rattle.ac_replay.specs.inner.Doing.{HasPaths, IsRedo, TellsHalt};
 ghost use Rattle.trace_audit.specs.Judged.{Judges};
 ghost use Rattle.trace_audit.specs.RunTrace.{IsRunTrace};
 
@@ -69,6 +69,22 @@ fn redo_of(alloc: Global, code: &Code, trace: &Trace) -> Result<Redo, NoMemory>
     })
 }
 
+// What is said where not all was done again; the line of a failed disk is made before.
+fn said_of(alloc: Global, halt: Halt, fault: Bytes) -> Result<Said, NoMemory>
+    ensures { TellsHalt halt fault result }
+{
+    match halt {
+        Halt::Torn => Ok(said(9, fault)),
+        Halt::Differs { file } => Ok(said(19, differs_line(alloc, file)?)),
+        Halt::Stopped(StartFault::Failed) => Ok(said(9, fault)),
+        Halt::Stopped(StartFault::NoMemory) => Err(NoMemory),
+        Halt::Stopped(StartFault::TooLong { file }) => Ok(said(
+            10,
+            place_line(alloc, b"limit: file ", u64::from(file))?,
+        )),
+    }
+}
+
 // Runs a trace again that is a run of the program. All that takes memory is made before a file is
 // written.
 fn run_again<D: Disk>(
@@ -105,14 +121,7 @@ fn run_again<D: Disk>(
             status: redo.status,
             text: redo.report,
         }),
-        Err(Halt::Torn) => Ok(said(9, fault)),
-        Err(Halt::Stopped(StartFault::Failed)) => Ok(said(9, fault)),
-        Err(Halt::Stopped(StartFault::NoMemory)) => Err(NoMemory),
-        Err(Halt::Stopped(StartFault::TooLong { file })) => Ok(said(
-            10,
-            place_line(alloc, b"limit: file ", u64::from(file))?,
-        )),
-        Err(Halt::Differs { file }) => Ok(said(19, differs_line(alloc, file)?)),
+        Err(halt) => said_of(alloc, halt, fault),
     }
 }
 

@@ -11,8 +11,12 @@ use Rattle.trace_writes.specs.declared.write.FileWrite.{FileWrite}
 use Rattle.trace_writes.specs.Doing.{DidAll, DidSome}
 use Rattle.ac_replay.specs.declared.doing.Halt.{Halt}
 use Rattle.ac_replay.specs.declared.doing.Halt.TheVariants.{Stopped, Differs, Torn}
+use Rattle.ac_replay.specs.declared.lines.Said.{Said}
 use Rattle.ac_replay.specs.declared.running.Redo.{Redo}
+use Rattle.program_reading.specs.Lines.{limit_file_line}
+use Rattle.starting_files.specs.declared.fault.StartFault.TheVariants.{Failed, TooLong, NoMemory}
 use Rattle.ac_replay.specs.Due.{IsFirstOther}
+use Rattle.ac_replay.specs.Lines.{differs_line}
 use Rattle.ac_replay.specs.Replaying.{IsReplayedReport, writes_in}
 
 -- the paths of the files of a program that is accepted
@@ -33,3 +37,23 @@ IsDoneAgain paths told ws disk later (Err (Stopped fault)) = AreStopped paths fa
 IsDoneAgain paths told ws disk later (Err (Differs file)) =
     (start : List (List ℕ)) × AreStarted paths start disk later × IsFirstOther start told file
 IsDoneAgain paths told ws disk later (Err Torn) = (between : DiskTold) × AreStarted paths told disk between × DidSome ws between later
+
+-- what is said of it, with this line of a failed disk
+abbrev pub IsSaidOf : Halt → List ℕ → ℕ → List ℕ → Type 0
+IsSaidOf Torn fault status text = (status ≡ 9) × (text ≡ fault)
+IsSaidOf (Differs file) fault status text = (status ≡ 19) × (text ≡ differs_line file)
+IsSaidOf (Stopped Failed) fault status text = (status ≡ 9) × (text ≡ fault)
+IsSaidOf (Stopped NoMemory) fault status text = ⊥
+IsSaidOf (Stopped (TooLong file)) fault status text = (status ≡ 10) × (text ≡ limit_file_line file)
+
+-- it takes no memory to say that the disk failed
+abbrev pub TakesMemory : Halt → Type 0
+TakesMemory Torn = ⊥
+TakesMemory (Differs file) = Unit {0}
+TakesMemory (Stopped Failed) = ⊥
+TakesMemory (Stopped NoMemory) = Unit {0}
+TakesMemory (Stopped (TooLong file)) = Unit {0}
+
+abbrev pub TellsHalt : {E : Type 0} → Halt → List ℕ → Result Said E → Type 0
+TellsHalt halt fault (Ok said) = IsSaidOf halt fault said.status.number said.text
+TellsHalt halt fault (Err e) = TakesMemory halt
