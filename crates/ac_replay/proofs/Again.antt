@@ -15,6 +15,7 @@ use Rattle.ac_replay.specs.Due.IsDueOfCall.{refused, both}
 use Rattle.ac_replay.specs.Due.IsDueOfFiles.{disk_fault, long_file, differs, torn, repeated}
 use Rattle.ac_replay.specs.Due.IsDueOfRun.{misfit, other_end, run}
 use Rattle.ac_replay.specs.Headline.{IsOfCores, IsRunAgain}
+use Rattle.ac_replay.specs.Replaying.{deeds_in}
 use Rattle.ac_replay.proofs.Leaving.{is_left, is_started}
 use Rattle.ac_replay.proofs.Statuses.{cores_not, halts_not_cores}
 use Rattle.ac_replay.proofs.Writable.{all_within}
@@ -33,7 +34,7 @@ module _ (file trace : List ℕ) (before after : LibraryTold) (disk later : Disk
   of_files program told b is (differs start number e x s o) = absurd (cores_not status 19 cores e (omega arith))
   of_files program told b is (torn between e x s d) = absurd (cores_not status 9 cores e (omega arith))
   of_files program told b is (repeated between s m d r) =
-      let within = all_within (length (file_paths program.items)) _ m in
+      let within = all_within (length (file_paths program.items)) (deeds_in (resolved program) told) m in
       record {
         source = b.bytes;
         traced = b.has_trace.traced;

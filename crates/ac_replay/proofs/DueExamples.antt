@@ -104,7 +104,7 @@ pub usage_is_told : TellsUsage [] 1
 usage_is_told = record { told = λ e. no_call_of_none; only = λ n. inl refl }
 
 pub and_not_by_another : TellsUsage [] 0 → ⊥
-and_not_by_another u = elim (u.only no_call_of_none) [ | inl e ↦ omega (arith, e) | inr e ↦ omega (arith, e) ]
+and_not_by_another u = elim (u.only no_call_of_none) [ inl e ↦ omega (arith, e) | inr e ↦ omega (arith, e) ]
 
 pub a_failed_disk_is_told : TellsDisk still failed 9
 a_failed_disk_is_told = record { told = λ e. omega arith; only = λ n. absurd (n refl) }

@@ -115,7 +115,7 @@ module _ (file trace : List ℕ) (before after : LibraryTold) (disk later : Disk
       let same = is.is_trace.spelled.only told (subst (λ (bytes : List ℕ). SpellsTrace bytes told) e s.spells) in
       let most = is.is_trace.within in
       let more = subst (λ (q : Program). most_steps < length (core_names q.items) * is.told.steps) p
-          (subst (λ (u : Trace). most_steps < length (core_names program.items) * u.steps) same over) in
+      (subst (λ (u : Trace). most_steps < length (core_names program.items) * u.steps) same over) in
       omega (arith, most, more)
 
   no_trace : (program : Program) (between : LibraryTold) (halt : Halt) → status ≡ halt_status halt → program ≡ is.program → between.text_at ≡ before.text_at

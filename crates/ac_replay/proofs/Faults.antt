@@ -88,7 +88,7 @@ left_well told disk later (of_program text program g k u) = unwritten_well (file
 -- ---- from an answer
 
 eleven_or_not : (n : ℕ) → (n ≡ 11) ⊎ (n ≢ 11)
-eleven_or_not n = elim (eqb_tells n 11) [ | inl w ↦ inl w.1 | inr w ↦ inr w.1 ]
+eleven_or_not n = elim (eqb_tells n 11) [ inl w ↦ inl w.1 | inr w ↦ inr w.1 ]
 
 module _ (file trace : List ℕ) (before after : LibraryTold) (disk later : DiskTold) (sink written : SinkTold) (status : ℕ)
     (a : IsAnswered (IsDueOfCall file trace before after disk later) sink written status) where

@@ -125,9 +125,6 @@ cores_not status n (inr (inl e)) is le = omega (arith, e, is, le)
 cores_not status n (inr (inr (inl e))) is le = omega (arith, e, is, le)
 cores_not status n (inr (inr (inr e))) is le = omega (arith, e, is, le)
 
-pub cores_not_one : (status : ℕ) → IsOfCores status → status ≡ 1 → ⊥
-cores_not_one status c is = not_one status (cores c) is
-
 pub halts_not_cores : (halt : Halt) (status : ℕ) → status ≡ halt_status halt → IsOfCores status → ⊥
 halts_not_cores halt status is c = by (of_halt halt) where
   by : IsOfHalt (halt_status halt) → ⊥

@@ -95,7 +95,8 @@ const SENDS: &str =
 const SENT: &str =
     "ac-trace 1\nsteps 100000\n1 0 1 offer 0 0 int 5\n2 1 1 got 0 0 5\n3 0 1 know 0 0\nend 0 finished 1 -\nend 1 finished 3 350a\n";
 
-const SENT_REPORT: &str = "a: finished after 1 steps, 6 instructions\nb: finished after 3 steps, 12 instructions\n5\n";
+const SENT_REPORT: &str =
+    "a: finished after 1 steps, 6 instructions\nb: finished after 3 steps, 12 instructions\n5\n";
 
 // Its first two entries exchanged, its last output changed, and its text cut.
 const EXCHANGED: &str =
@@ -139,25 +140,124 @@ type Row = (Outside<'static>, u8, &'static str, &'static str, u64);
 // read, and one for each write.
 const ROWS: [Row; 13] = [
     (WELL, 0, SENT_REPORT, "", 0),
-    (Outside { trace: EXCHANGED, ..WELL }, 13, "no at 0\n", "", 0),
-    (Outside { trace: OTHER_END, ..WELL }, 13, "no at end\n", "", 0),
-    (Outside { trace: CUT, ..WELL }, 14, "trace fault at line 4\n", "", 0),
-    (Outside { library_fails: 3, ..WELL }, 7, "library fault\n", "", 0),
-    (Outside { room: 9, ..WELL }, 8, "a: finish", "", 0),
-    (Outside { program: READS, trace: READ, ..WELL }, 0, READ_REPORT, "0123456789\0\0A", 3),
-    (Outside { program: READS, trace: READ, file: "012345678", ..WELL }, 19, "file 0 differs\n", "012345678", 2),
-    (Outside { program: READS, trace: READ, file: "0123456780", ..WELL }, 19, "file 0 differs\n", "0123456780", 2),
-    (Outside { program: READS, trace: READ, disk_fails: 0, ..WELL }, 9, "disk fault\n", "", 1),
-    (Outside { program: READS, trace: READ, disk_fails: 2, ..WELL }, 9, "disk fault\n", "0123456789", 3),
     (
-        Outside { program: WRITES, trace: WROTE, file: "", ..WELL },
+        Outside {
+            trace: EXCHANGED,
+            ..WELL
+        },
+        13,
+        "no at 0\n",
+        "",
+        0,
+    ),
+    (
+        Outside {
+            trace: OTHER_END,
+            ..WELL
+        },
+        13,
+        "no at end\n",
+        "",
+        0,
+    ),
+    (
+        Outside { trace: CUT, ..WELL },
+        14,
+        "trace fault at line 4\n",
+        "",
+        0,
+    ),
+    (
+        Outside {
+            library_fails: 3,
+            ..WELL
+        },
+        7,
+        "library fault\n",
+        "",
+        0,
+    ),
+    (Outside { room: 9, ..WELL }, 8, "a: finish", "", 0),
+    (
+        Outside {
+            program: READS,
+            trace: READ,
+            ..WELL
+        },
+        0,
+        READ_REPORT,
+        "0123456789\0\0A",
+        3,
+    ),
+    (
+        Outside {
+            program: READS,
+            trace: READ,
+            file: "012345678",
+            ..WELL
+        },
+        19,
+        "file 0 differs\n",
+        "012345678",
+        2,
+    ),
+    (
+        Outside {
+            program: READS,
+            trace: READ,
+            file: "0123456780",
+            ..WELL
+        },
+        19,
+        "file 0 differs\n",
+        "0123456780",
+        2,
+    ),
+    (
+        Outside {
+            program: READS,
+            trace: READ,
+            disk_fails: 0,
+            ..WELL
+        },
+        9,
+        "disk fault\n",
+        "",
+        1,
+    ),
+    (
+        Outside {
+            program: READS,
+            trace: READ,
+            disk_fails: 2,
+            ..WELL
+        },
+        9,
+        "disk fault\n",
+        "0123456789",
+        3,
+    ),
+    (
+        Outside {
+            program: WRITES,
+            trace: WROTE,
+            file: "",
+            ..WELL
+        },
         0,
         WROTE_REPORT,
         "AAAAAAAAAAAAAAAAAAAAA\0\0\0AAAAAAAA",
         5,
     ),
     (
-        Outside { program: WRITES, trace: WROTE, file: "", disk_fails: 2, taken: 3, ..WELL },
+        Outside {
+            program: WRITES,
+            trace: WROTE,
+            file: "",
+            disk_fails: 2,
+            taken: 3,
+            ..WELL
+        },
         9,
         "disk fault\n",
         "AAAAAAAAAAA",
@@ -171,7 +271,10 @@ fn traces_are_run_again(rt: HostRuntime) -> Result<(), Fail> {
         let left = call(rt.alloc(), &["x.ac", "x.trace"], outside)?;
         let said = left.status == *status && left.taken.as_slice() == line.as_bytes();
         assert!(rt; said, "row {at}");
-        assert!(rt; left.file.as_slice() == file.as_bytes() && left.calls == *calls, "row {at}");
+        assert!(rt;
+            left.file.as_slice() == file.as_bytes() && left.calls == *calls,
+            "row {at}"
+        );
     }
     Ok(())
 }
@@ -195,8 +298,15 @@ const WORDS: [(&[&str], u8); 11] = [
 fn two_words_are_a_call(rt: HostRuntime) -> Result<(), Fail> {
     for (at, (words, status)) in WORDS.iter().enumerate() {
         let left = call(rt.alloc(), words, &WELL)?;
-        let line = if *status == 1 { "usage: ac_again FILE TRACE\n" } else { SENT_REPORT };
-        assert!(rt; left.status == *status && left.taken.as_slice() == line.as_bytes(), "row {at}");
+        let line = if *status == 1 {
+            "usage: ac_again FILE TRACE\n"
+        } else {
+            SENT_REPORT
+        };
+        assert!(rt;
+            left.status == *status && left.taken.as_slice() == line.as_bytes(),
+            "row {at}"
+        );
         assert!(rt; left.opens == if *status == 1 { 0 } else { 2 }, "row {at}");
     }
     Ok(())

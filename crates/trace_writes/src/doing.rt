@@ -4,7 +4,7 @@ ghost use Rattle.std.specs.Prelude.{◌≡◌, ◌≤◌, ◌<◌, ◌+◌, [], 
 ghost use Rattle.trace_writes.specs.Doing.{CanDo, DidAll, DidSome, FailedAt};
 
 use crate::write::FileWrite;
-use ac_outside::{Disk, Failed, FILE_BYTES};
+use ac_outside::{Disk, FILE_BYTES, Failed};
 
 fn do_write<D: Disk>(disk: &mut D, write: &FileWrite) -> Result<(), Failed>
     requires ready { IsTrue (D.told disk.old).is_ready }
