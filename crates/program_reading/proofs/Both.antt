@@ -40,8 +40,8 @@ refused_read file trace before after halt (library_fault e x r) n = absurd (n e)
 refused_read file trace before after halt (too_long e r took) n = first r
 refused_read file trace before after halt (source bytes between r g s same w) n = files_read file trace bytes before between after r g s (source_read bytes trace between after halt w n)
 
-pub both_read : (file trace : List ℕ) (before after : LibraryTold) (program : Program) (told : Trace) → AreBoth file trace before after program told → AreRead file trace before after
-both_read file trace before after program told b =
+pub both_read : (file trace : List ℕ) (before after : LibraryTold) (program : Program) (run : Trace) → AreBoth file trace before after program run → AreRead file trace before after
+both_read file trace before after program run b =
     both b.bytes b.between b.read b.gave b.short (record { program = program; is_ready = b.is_ready; read = b.has_trace.read.read })
 
 -- ---- whether a call failed
@@ -54,7 +54,7 @@ trace_rose : (program : Program) (trace : List ℕ) (before after : LibraryTold)
 trace_rose program trace before after (trace_fault e x r) = r
 trace_rose program trace before after (trace_too_long e r took) = absurd (cc (e))
 trace_rose program trace before after (told traced r g s (wrong line e w)) = absurd (cc (e))
-trace_rose program trace before after (told traced r g s (too_many t e i o)) = absurd (cc (e))
+trace_rose program trace before after (told traced r g s (too_many u e i o)) = absurd (cc (e))
 
 source_rose : (text trace : List ℕ) (before after : LibraryTold) → RefusesSource text trace before after h.LibraryFault → Rose before.faults after.faults
 source_rose text trace before after (refused refusal e r same) = absurd (cc (e))

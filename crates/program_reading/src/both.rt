@@ -1,12 +1,11 @@
 //! The program of one file and the trace of another.
 
-ghost use Rattle.std.specs.Prelude.{◌≢◌, Err, IsErrOf};
-ghost use Rattle.ac_outside.specs.Causes.{Rose};
+ghost use Rattle.std.specs.Prelude.{◌≤◌, ℕ, List};
+ghost use Rattle.ac_words.specs.declared.task.Task.TheVariants as t;
+ghost use Rattle.trace_text.specs.Spelling.{IsTheTrace};
 ghost use Rattle.program_reading.specs.Both.{GivesBoth};
-ghost use Rattle.program_reading.specs.Files.{AreRead};
-ghost use Rattle.program_reading.specs.declared.halt.BothFault.TheVariants as f;
-ghost use Rattle.program_reading.specs.declared.halt.Halt.TheVariants as h;
 ghost use Rattle.program_reading.specs.Reading.{IsShort};
+ghost use Rattle.program_reading.specs.Source.{IsReady};
 ghost use Rattle.program_reading.specs.inner.Traces.{GivesSource, GivesTrace, GivesTraced};
 
 use crate::building::{MOST_STEPS, build};
@@ -26,6 +25,17 @@ pub struct Both {
     pub trace: Trace,
 }
 
+// The trace, where all cores together may not take too many steps in it.
+fn check_steps(program: &Checked, trace: Trace) -> Result<Trace, BothFault>
+    requires { trace.steps ≤ 2000000 }
+    ensures { (text : List ℕ) → IsTheTrace text trace → GivesTraced program.now text result }
+{
+    if u64::from(program.cores()) * trace.steps > MOST_STEPS {
+        return Err(BothFault::Halted(Halt::TooManySteps));
+    }
+    Ok(trace)
+}
+
 // The trace that a text spells.
 fn read_traced(alloc: Global, program: &Checked, text: &[u8]) -> Result<Trace, BothFault>
     ensures { GivesTraced program.now text.now result }
@@ -33,12 +43,7 @@ fn read_traced(alloc: Global, program: &Checked, text: &[u8]) -> Result<Trace, B
     match read_trace(alloc, text) {
         Err(TraceFault::NoMemory) => Err(BothFault::NoMemory),
         Err(TraceFault::Line { line }) => Err(BothFault::Halted(Halt::WrongLine { line })),
-        Ok(trace) => {
-            if u64::from(program.cores()) * trace.steps > MOST_STEPS {
-                return Err(BothFault::Halted(Halt::TooManySteps));
-            }
-            Ok(trace)
-        }
+        Ok(trace) => check_steps(program, trace),
     }
 }
 
@@ -59,6 +64,22 @@ fn read_trace_file<L: Library>(
     }
 }
 
+// The program, and the trace of a file.
+fn with_trace<L: Library>(
+    alloc: Global,
+    program: Checked,
+    trace: &str,
+    library: &mut L,
+) -> Result<Both, BothFault>
+    ensures { (source : List ℕ) → IsReady source t.Check program →
+        GivesSource source trace.now (L.told library.old) (L.told library.new) result }
+{
+    match read_trace_file(alloc, &program, trace, library) {
+        Err(fault) => Err(fault),
+        Ok(trace) => Ok(Both { program, trace }),
+    }
+}
+
 // The program of a source, and the trace of a file.
 fn read_source<L: Library>(
     alloc: Global,
@@ -72,10 +93,7 @@ fn read_source<L: Library>(
     match build(alloc, source, Task::Check) {
         Err(Stop::NoMemory) => Err(BothFault::NoMemory),
         Err(Stop::Refused(refusal)) => Err(BothFault::Halted(Halt::Source(refusal))),
-        Ok(program) => match read_trace_file(alloc, &program, trace, library) {
-            Err(fault) => Err(fault),
-            Ok(trace) => Ok(Both { program, trace }),
-        },
+        Ok(program) => with_trace(alloc, program, trace, library),
     }
 }
 
@@ -87,9 +105,7 @@ pub fn read_both<L: Library>(
     trace: &str,
     library: &mut L,
 ) -> Result<Both, BothFault>
-    ensures both { GivesBoth file.now trace.now (L.told library.old) (L.told library.new) result }
-    ensures failed { IsErrOf result (f.Halted h.LibraryFault) → Rose (L.told library.old).faults (L.told library.new).faults }
-    ensures read { result ≢ Err (f.Halted h.LibraryFault) → AreRead file.now trace.now (L.told library.old) (L.told library.new) }
+    ensures { GivesBoth file.now trace.now (L.told library.old) (L.told library.new) result }
 {
     match read_text(alloc, library, file, SOURCE_LIMIT) {
         Err(ReadFault::NoMemory) => Err(BothFault::NoMemory),
