@@ -1,7 +1,8 @@
 -- How far a core follows a journal. It has a run under what it has taken, and under no journal that goes on with the entry that it refused,
 -- since each front of a journal that has a run has one.
-use Rattle.std.proofs.Common.{◌≡◌, ℕ, zero, suc, ◌<◌, ◌≤◌, List, [], ◌∷◌, ◌++◌, take, Some, refl, sym, ap, ◌∙◌, subst, arith, length}
+use Rattle.std.proofs.Common.{◌≡◌, ℕ, zero, suc, ◌+◌, ◌<◌, ◌≤◌, List, [], ◌∷◌, ◌++◌, take, Some, refl, sym, ap, ◌∙◌, subst, inl, inr, arith, length}
 use Rattle.std.specs.Prelude.{slice_get}
+use Rattle.std.proofs.lemmas.Bool.Decides.{leb_tells}
 use Rattle.std.proofs.lemmas.Option.{slice_get_within}
 use Rattle.ac_base.specs.declared.entry.Entry.{Entry}
 use Rattle.stack_code.specs.Kept.{IsRanked}
@@ -37,7 +38,12 @@ followed_none r journal h = record {
 }
 
 pub followed_more : (r : Replayed) (journal : List Entry) (n : ℕ) → HasFollowed r journal n → HasRun r.code r.core r.bound (take (n + 1) journal) → HasFollowed r journal (n + 1)
-followed_more r journal n h more = ?
+followed_more r journal n h more = record {
+  runs = λ k le. elim (leb_tells (n + 1) k) [
+    | inl q ↦ let same : n + 1 ≡ k = omega arith in subst (λ i. HasRun r.code r.core r.bound (take i journal)) same more
+    | inr q ↦ h.runs k (omega arith)
+  ];
+}
 
 module _ (r : Replayed) (ranks : List ℕ) (valid : IsValid r.code) (ranked : IsRanked r.code ranks) (journal : List Entry) (place : ℕ) (e : Entry)
     (here : slice_get journal place ≡ Some e) (refused : HasRun r.code r.core r.bound (take place journal ++ e ∷ []) → ⊥) where

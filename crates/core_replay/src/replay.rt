@@ -147,10 +147,11 @@ impl<'a> Replay<'a> {
         let _ending = machine.ending();
         let _turn = machine.turns();
         let asks = machine.tried().is_some();
-        let MachineEnd { core, instructions } = machine.end(alloc)?;
+        let end = machine.end(alloc)?;
+        let instructions = begun(end.instructions, asks);
         Ok(MachineEnd {
-            core,
-            instructions: begun(instructions, asks),
+            core: end.core,
+            instructions,
         })
     }
 
