@@ -17,7 +17,7 @@ use Rattle.core_replay.specs.Standing.{IsNumbered, IsPlayed, IsReplayed, StandsA
 
 -- ---- which core it is
 
-abbrev late : Entry
+abbrev pub late : Entry
 late = record { stamp = 1; turn = 5; event = event.Know 0 0 }
 
 module _ (r : Replayed) where

@@ -4,5 +4,8 @@ pub mod Deciding
 pub mod Going
 pub mod Ends
 pub mod Examples
+pub mod FollowExamples
+pub mod Following
+pub mod Fronts
 pub mod OfferEntries
 pub mod OfferExamples

@@ -1,4 +1,5 @@
 pub mod inner
+pub mod Following
 pub mod Offering
 pub mod Replayed
 pub mod Standing

@@ -8,4 +8,4 @@ mod prospects;
 mod replay;
 mod search;
 
-pub use replay::Replay;
+pub use replay::{Followed, Replay};

@@ -1,12 +1,34 @@
 //! A core that takes the entries of a journal, one after the other.
 
+ghost use Rattle.std.specs.Prelude.{◌≡◌, if◌then◌else◌};
+ghost use Rattle.code_meaning.specs.Machine.{counted};
+
 use crate::own_offers::OwnOffers;
 use crate::search::{run_on, take_next};
-use ac_base::{CoreEnd, Entry, NoMemory};
+use ac_base::{CoreEnd, Entry, Journal, MachineEnd, NoMemory};
 use core_machine::CoreMachine;
 use stack_code::Code;
 use std::alloc::Global;
 use std::marker::Model;
+
+/// Whether a core has followed a journal to its end, or at which place, counted from 0, stands the
+/// first entry with which it has no run.
+#[derive(Clone, Copy, Debug, PartialEq, Eq)]
+pub enum Followed {
+    Done,
+    Misfit { place: u64 },
+}
+
+// How many instructions were begun, with the cancel of a core that asks for an outcome.
+fn begun(instructions: u64, asks: bool) -> u64
+    ensures { result ≡ (if asks then counted instructions else instructions) }
+{
+    if asks {
+        instructions.saturating_add(1)
+    } else {
+        instructions
+    }
+}
 
 /// A core under a journal that is given.
 ///
@@ -40,6 +62,7 @@ impl<'a> Replay<'a> {
     ghost use Rattle.std.specs.Prelude.{◌≡◌, ℕ, ◌<◌, ◌++◌, ◌∷◌, [], length, true, false, IfOk, OnErr, Some};
     ghost use Rattle.code_meaning.specs.Machine.{Runs};
     ghost use Rattle.replay_laws.specs.Given.{HasRun};
+    ghost use Rattle.core_replay.specs.Following.{Follows, IsFront};
     ghost use Rattle.core_replay.specs.Replayed.{IsSameCore};
 
     /// A core that has taken no entry.
@@ -86,17 +109,58 @@ impl<'a> Replay<'a> {
         Ok(took)
     }
 
-    /// How the core ends, where no more entries come.
-    pub fn end(self, alloc: Global) -> Result<CoreEnd, NoMemory>
-        ensures { IfOk result (λ end. (count : ℕ) × Runs self.entry.code self.entry.core self.entry.bound self.entry.journal
-            (record { core = Some end; count = count })) }
+    /// Takes the entries of a journal in their order, up to the first that it refuses: it has a run
+    /// under as many of them as it took, and under no more. After want of memory it has taken some of
+    /// the first ones.
+    ///
+    /// Condition: it has taken no entry.
+    pub fn follow(&mut self, journal: &Journal) -> Result<Followed, NoMemory>
+        requires took_all { self.old.took_all ≡ true }
+        requires new { self.old.journal ≡ [] }
+        ensures same { IsSameCore self.old self.new }
+        ensures follows { IfOk result (λ it. Follows self.old journal.now.entries it self.new.journal) }
+        ensures err { OnErr result (IsFront journal.now.entries self.new.journal) }
+        ensures runs { HasRun self.new.code self.new.core self.new.bound self.new.journal }
+    {
+        // They are there for the proof alone that the journals have runs, and that no longer one has.
+        let _ending = self.machine.ending();
+        let _instrs = self.machine.code().instrs();
+        let _ranks = self.machine.code().ranks();
+        for (place, entry) in journal.as_slice().iter().enumerate() {
+            if !self.take(entry)? {
+                return Ok(Followed::Misfit {
+                    place: place as u64,
+                });
+            }
+        }
+        Ok(Followed::Done)
+    }
+
+    /// How the core ends, where no more entries come, and how many instructions it has begun.
+    pub fn machine_end(self, alloc: Global) -> Result<MachineEnd, NoMemory>
+        ensures { IfOk result (λ end. Runs self.entry.code self.entry.core self.entry.bound self.entry.journal
+            (record { core = Some end.core; count = end.instructions })) }
     {
         let Replay { mut machine, .. } = self;
         run_on(&mut machine)?;
         // Both are there for the proof alone that this is the end of a run.
         let _ending = machine.ending();
         let _turn = machine.turns();
+        let asks = machine.tried().is_some();
         let end = machine.end(alloc)?;
+        let instructions = begun(end.instructions, asks);
+        Ok(MachineEnd {
+            core: end.core,
+            instructions,
+        })
+    }
+
+    /// How the core ends, where no more entries come.
+    pub fn end(self, alloc: Global) -> Result<CoreEnd, NoMemory>
+        ensures { IfOk result (λ end. (count : ℕ) × Runs self.entry.code self.entry.core self.entry.bound self.entry.journal
+            (record { core = Some end; count = count })) }
+    {
+        let end = self.machine_end(alloc)?;
         Ok(end.core)
     }
 }

@@ -1,6 +1,5 @@
 pub mod Comparing
 pub mod Ending
-pub mod Fronts
 pub mod Histories
 pub mod LawExamples
 pub mod Linking

@@ -26,7 +26,7 @@ use Rattle.trace_audit.specs.RunTrace.{journal_of, HasReplay, nothing_yet, AllFi
 use Rattle.trace_audit.specs.Laws.{told_of, trace_of, IsSound}
 use Rattle.trace_audit.proofs.Merging.{its_stamp, journal_append, part_is_journal}
 use Rattle.trace_audit.proofs.Histories.{past_after, history_fits}
-use Rattle.trace_audit.proofs.Fronts.{front_runs}
+use Rattle.core_replay.proofs.Fronts.{front_runs}
 
 abbrev core_of : MachineEnd → CoreEnd
 core_of end = end.core

@@ -3,7 +3,7 @@ use Rattle.program_reading.specs.Lines.{library_line, limit_source_line}
 use Rattle.program_reading.specs.Files.{IsTraceRead}
 use Rattle.ac_program.specs.Auditing.{IsDueOfAudit, IsDueOfSource}
 use Rattle.ac_program.specs.Auditing.IsDueOfAudit.{library_fault, too_long, source}
-use Rattle.program_reading.proofs.Both.{files_read}
+use Rattle.program_reading.proofs.TwoFiles.{files_read}
 use Rattle.ac_program.proofs.Said.{answered, answered_as}
 use Rattle.ac_program.proofs.auditing.audit_files.Goals as goal
 

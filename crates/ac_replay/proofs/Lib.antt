@@ -1,0 +1,15 @@
+pub mod Again
+pub mod Answered
+pub mod Calls
+pub mod Comparing
+pub mod DueExamples
+pub mod Ending
+pub mod Exactly
+pub mod Faults
+pub mod Halts
+pub mod Leaving
+pub mod NamedFiles
+pub mod Repeating
+pub mod Statuses
+pub mod WordExamples
+pub mod Writable

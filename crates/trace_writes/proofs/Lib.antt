@@ -1,0 +1,5 @@
+pub mod Contents
+pub mod Done
+pub mod Examples
+pub mod Finding
+pub mod Requests
