@@ -162,9 +162,9 @@ module _ (capacities : List ℕ) (cores : ℕ) (es : List Stamped) (legal : IsLe
       let up = (step.rises (omega (arith, r, rung_b))).below in
       let high = (kept j).highest i a lt is_a in
       let same : level_at (slice_get (link_at (past j) (link_of a.entry.event)) (number_of a.entry.event))
-              ≡ level_at (slice_get (link_at (past j) (link_of b.entry.event)) (number_of b.entry.event)) =
-          ap (λ x. level_at (slice_get (link_at (past j) x) (number_of a.entry.event))) (of_a.link ∙ sym of_b.link)
-          ∙ ap (λ y. level_at (slice_get (link_at (past j) (link_of b.entry.event)) y)) (of_a.number ∙ sym of_b.number) in
+      ≡ level_at (slice_get (link_at (past j) (link_of b.entry.event)) (number_of b.entry.event)) =
+      ap (λ x. level_at (slice_get (link_at (past j) x) (number_of a.entry.event))) (of_a.link ∙ sym of_b.link)
+      ∙ ap (λ y. level_at (slice_get (link_at (past j) (link_of b.entry.event)) y)) (of_a.number ∙ sym of_b.number) in
       omega (arith, up, high, same, rung_a, rung_b)
 
   same_place : (i j l n rung : ℕ) (a b : Stamped) → slice_get es i ≡ Some a → slice_get es j ≡ Some b → 0 < rung
@@ -245,6 +245,6 @@ module _ (capacities : List ℕ) (cores : ℕ) (es : List Stamped) (legal : IsLe
       let one : s.by.entry ≡ a.asking = same_Some s.by.entry a.asking (sym s.by.stands ∙ ap (λ x. slice_get es x) same ∙ a.asks) in
       let stamp : a.asking.entry.stamp ≡ s.offer.stamp = ap (λ (x : Stamped). x.entry.stamp) (sym one) ∙ s.by.stamp in
       let seen : answered (link_at (past j) (link_of a.answering.entry.event)) a.answering.entry.event ≡ s.offer.stamp =
-          sees_stamp (link_at (past j) (link_of a.answering.entry.event)) a.answering.entry.event m.positive ∙ ap standing_stamp s.there in
+      sees_stamp (link_at (past j) (link_of a.answering.entry.event)) a.answering.entry.event m.positive ∙ ap standing_stamp s.there in
       let next = its_stamp es j (past j) (marks j) a.answering (kept j) a.answers_it (fit j a.answering a.answers_it) in
       omega (arith, stamp, seen, next)

@@ -128,7 +128,7 @@ module _ (code : Parts) (v : IsValid code) (keeps : KeepsEnds code) (ranks : Lis
   made_at i e is =
       let P = past_at first es i in
       let p = all_parts (in_range P e) (is_later P.stamp P.party e) (has_stamp P e) (may_make P.channels P.cores e)
-          (link_fits (terms_of P.capacities P.channels (link_of e.entry.event)) (link_at P (link_of e.entry.event)) e.entry.event) (fits_at first es legal i e is) in
+      (link_fits (terms_of P.capacities P.channels (link_of e.entry.event)) (link_at P (link_of e.entry.event)) e.entry.event) (fits_at first es legal i e is) in
       ap (λ n. may_make n (length code.entries) e) (sym (past_channels first es i)) ∙ ap (λ n. may_make P.channels n e) (sym (past_cores first es i)) ∙ p.3
 
   -- an entry of a core
@@ -141,10 +141,10 @@ module _ (code : Parts) (v : IsValid code) (keeps : KeepsEnds code) (ranks : Lis
       → (is_owners e.entry.event ≡ true → ⊥) × (is_peers e.entry.event ≡ true → peer_of code.ends (length code.entries) (link_of e.entry.event) ≡ length code.entries)
   worker_own i e is le =
       let made : makes (nat_lt e.party (length code.entries)) (e.party == length code.entries) (nat_le first.channels (link_of e.entry.event)) e.entry.event ≡ true =
-          (and_parts (makes (nat_lt e.party (length code.entries)) (e.party == length code.entries) (nat_le first.channels (link_of e.entry.event)) e.entry.event)
-          (nat_lt e.party (length code.entries) || (e.entry.turn == 0)) (made_at i e is)).0 in
+      (and_parts (makes (nat_lt e.party (length code.entries)) (e.party == length code.entries) (nat_le first.channels (link_of e.entry.event)) e.entry.event)
+      (nat_lt e.party (length code.entries) || (e.entry.turn == 0)) (made_at i e is)).0 in
       let as_worker : makes false (e.party == length code.entries) (nat_le first.channels (link_of e.entry.event)) e.entry.event ≡ true =
-          ap (λ b. makes b (e.party == length code.entries) (nat_le first.channels (link_of e.entry.event)) e.entry.event) (sym (le-ltb e.party (length code.entries) le)) ∙ made in
+      ap (λ b. makes b (e.party == length code.entries) (nat_le first.channels (link_of e.entry.event)) e.entry.event) (sym (le-ltb e.party (length code.entries) le)) ∙ made in
       let w = worker_makes (e.party == length code.entries) (nat_le first.channels (link_of e.entry.event)) e.entry.event as_worker in
       (w.0, λ g. request_peer (link_of e.entry.event) (le_of first.channels (link_of e.entry.event) (w.1 g)))
     where
@@ -255,7 +255,7 @@ module _ (owner peer : ℕ → ℕ) (capacities : List ℕ) (cores : ℕ) (es : 
       parts_of : (P : Past) (e : Stamped) → fits P e ≡ true → (in_range P e ≡ true) × (is_later P.stamp P.party e ≡ true)
       parts_of P e f =
           let p = all_parts (in_range P e) (is_later P.stamp P.party e) (has_stamp P e) (may_make P.channels P.cores e)
-              (link_fits (terms_of P.capacities P.channels (link_of e.entry.event)) (link_at P (link_of e.entry.event)) e.entry.event) f in
+          (link_fits (terms_of P.capacities P.channels (link_of e.entry.event)) (link_at P (link_of e.entry.event)) e.entry.event) f in
           (p.0, p.1)
 
   below_from : (n : ℕ) (P : Past) (xs : List Stamped) → length P.lasts ≡ n → IsLegal P xs → AllByRecursion (λ (s : Stamped). s.party < n) xs
@@ -273,8 +273,8 @@ module _ (owner peer : ℕ → ℕ) (capacities : List ℕ) (cores : ℕ) (es : 
   cut_is_legal cut =
       let those_legal = inside_legal owner peer capacities cores es counts legal ends closed in
       let merge_is : merged (parts 0 (length counts) whole) ≡ whole =
-          parts_are_whole (length counts) whole (rising_from (start capacities cores) whole those_legal)
-          (below_from (length counts) (start capacities cores) whole (length-replicate {A = ℕ} (suc cores) 0 ∙ sym cut.so_many) those_legal) in
+      parts_are_whole (length counts) whole (rising_from (start capacities cores) whole those_legal)
+      (below_from (length counts) (start capacities cores) whole (length-replicate {A = ℕ} (suc cores) 0 ∙ sym cut.so_many) those_legal) in
       let journals_are : parts 0 (length counts) whole ≡ cut_journals es 0 counts = parts_from 0 counts (λ i lt. ap (λ n. slice_index counts n) (none_more i)) in
       subst (IsLegal (start capacities cores)) (sym merge_is ∙ ap merged journals_are) those_legal
     where

@@ -157,7 +157,7 @@ module _ (es : List Stamped) (parties : ℕ) (at : ℕ → ℕ → ℕ) (last se
       → counted j p (suc k) ≡ min (at j p) (of_party p (suc k))
   count_own j p k a is same before next (inl holds) =
       let test : (nat_le (at k a.party) (at j a.party) && (a.party == p)) ≡ true =
-          ap (λ q. nat_le (at k q) (at j q) && (a.party == p)) same ∙ ap (λ b. b && (a.party == p)) holds.0 ∙ eq-eqb a.party p same in
+      ap (λ q. nat_le (at k q) (at j q) && (a.party == p)) same ∙ ap (λ b. b && (a.party == p)) holds.0 ∙ eq-eqb a.party p same in
       let one : counted j p (suc k) ≡ counted j p k + 1 = next ∙ ap (λ b. counted j p k + cond b 1 0) test in
       let own : at k p ≡ suc (of_party p k) = subst (λ q. at k q ≡ suc (of_party q k)) same (own_count k a is) in
       let more = one_more p k a is same in
@@ -165,7 +165,7 @@ module _ (es : List Stamped) (parties : ℕ) (at : ℕ → ℕ → ℕ) (last se
       omega (arith, before, one, own, more, le)
   count_own j p k a is same before next (inr fails) =
       let test : (nat_le (at k a.party) (at j a.party) && (a.party == p)) ≡ false =
-          ap (λ q. nat_le (at k q) (at j q) && (a.party == p)) same ∙ ap (λ b. b && (a.party == p)) fails.0 in
+      ap (λ q. nat_le (at k q) (at j q) && (a.party == p)) same ∙ ap (λ b. b && (a.party == p)) fails.0 in
       let none : counted j p (suc k) ≡ counted j p k + 0 = next ∙ ap (λ b. counted j p k + cond b 1 0) test in
       let own : at k p ≡ suc (of_party p k) = subst (λ q. at k q ≡ suc (of_party q k)) same (own_count k a is) in
       let more = one_more p k a is same in
@@ -190,7 +190,7 @@ module _ (es : List Stamped) (parties : ℕ) (at : ℕ → ℕ → ℕ) (last se
       omega (arith, before, none, same)
   count_step j p k before (Some a) is =
       let next : counted j p (suc k) ≡ counted j p k + cond (nat_le (at k a.party) (at j a.party) && (a.party == p)) 1 0 =
-          ap (λ o. counted j p k + cond (is_past_by j k o && is_of p o) 1 0) is in
+      ap (λ o. counted j p k + cond (is_past_by j k o && is_of p o) 1 0) is in
       count_some j p k a is before next (cases_Bool (a.party == p))
 
   count_all : (j p k : ℕ) → counted j p k ≡ min (at j p) (of_party p k)

@@ -251,10 +251,10 @@ module _ (owner peer : ℕ → ℕ) (capacities : List ℕ) (cores : ℕ) (es : 
 
       not_inside : {A : Type 0} → (place : ℕ) → place ≡ k → IsInside es counts place → A
       not_inside place same h = absurd (
-        let lt = subst (λ j. made_by es h.entry.party j < slice_index counts h.entry.party) same h.first in
-        let there : slice_get es k ≡ Some h.entry = ap (λ j. slice_get es j) (sym same) ∙ h.there in
-        let here = subst (λ (x : Stamped). made_by es x.party k < slice_index counts x.party) (same_Some h.entry e (sym there ∙ is)) lt in
-        omega (arith, here, outside))
+          let lt = subst (λ j. made_by es h.entry.party j < slice_index counts h.entry.party) same h.first in
+          let there : slice_get es k ≡ Some h.entry = ap (λ j. slice_get es j) (sym same) ∙ h.there in
+          let here = subst (λ (x : Stamped). made_by es x.party k < slice_index counts x.party) (same_Some h.entry e (sym there ∙ is)) lt in
+          omega (arith, here, outside))
 
       own_outside : AlikeAt P' M' Q l0 n0
       own_outside place o there mark inside = by (zero_or (gives ev))

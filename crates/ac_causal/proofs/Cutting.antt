@@ -27,7 +27,7 @@ pub inside_by : {code : Parts} {steps : ℕ} (es : List Stamped) (parties : ℕ)
 inside_by es parties table k r view counts entry own a is p =
     let e : es ≡ r.entries = ap (λ (x : CausalRun). x.entries) view in
     let x : own ≡ suc (made_by es a.party entry) = p ∙ count_same parties k.cores table entry a.party a.party k.parties_are (ap (λ (y : Stamped). y.party) (same_Some a a (sym is ∙ is)))
-        ∙ own_count es (suc k.cores) (at_row (suc k.cores) table) _ _ (ticks es parties table k) entry a is in (
+    ∙ own_count es (suc k.cores) (at_row (suc k.cores) table) _ _ (ticks es parties table k) entry a is in (
       (λ h. subst (λ y. IsInside y counts entry) e (record { entry = a; there = is; first = (let le = leb-true own (slice_index counts a.party) h in omega (arith, x, le)) })),
       (λ h. le_true own (slice_index counts a.party) (first_of (subst (λ y. IsInside y counts entry) (sym e) h) x)),
     )

@@ -182,7 +182,7 @@ module _ (law : BeforeIsEarlier) where
       let a : by 0 2 2 (Got 1 0 (pos 6)) ≡ e.asking = some_same _ _ e.asks in
       let b : by 1 2 2 (Got 0 0 (pos 5)) ≡ e.answering = some_same _ _ e.answers_it in
       let bad : false ≡ true = ap (λ (x : Stamped). answers (Got 0 0 (pos 5)) x.entry.event) a
-          ∙ ap (λ (x : Stamped). answers x.entry.event e.asking.entry.event) b ∙ e.answer in
+      ∙ ap (λ (x : Stamped). answers x.entry.event e.asking.entry.event) b ∙ e.answer in
       cc
   the_third_is_not_before_the_fourth i j (by_way _ k _ f g) p q = let a = earlier i k f in let b = earlier k j g in omega (arith, a, b, p, q)
 
@@ -289,7 +289,7 @@ no_first_entry capacities cores h =
     let e : Stamped = by 0 2 1 (Offer 0 0 (Int (pos 5))) in
     let P : Past = start capacities cores in
     let bad : false ≡ true = stamp_of_five (in_range P e) (is_later P.stamp P.party e) (has_stamp P e) (may_make P.channels P.cores e)
-        (link_fits (terms_of P.capacities P.channels 0) (link_at P 0) e.entry.event) h.0 in
+    (link_fits (terms_of P.capacities P.channels 0) (link_at P 0) e.entry.event) h.0 in
     cc
 
 pub an_audit_says_no_to_it : RunsAreLegal → (program : Resolved) → IsRunTrace program no_run → ⊥

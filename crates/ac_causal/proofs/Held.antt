@@ -173,9 +173,9 @@ module _ (es : List Stamped) (k : ℕ) (P : Past) (M : Marked) (e : Stamped) (wa
   went_near l n p (inl q) = inr (p, q)
   went_near l n p (inr other) = inl (
     subst (λ x. slice_get (link_at P' x) n ≡ slice_get (link_at P x) n) (sym p)
-    (ap (λ x. slice_get x n) link_same ∙ other_step terms os e.entry.stamp ev n parts.3 (λ q. other (sym q))),
+        (ap (λ x. slice_get x n) link_same ∙ other_step terms os e.entry.stamp ev n parts.3 (λ q. other (sym q))),
     subst (λ x. slice_index (marks_of M' x) n ≡ slice_index (marks_of M x) n) (sym p)
-    (ap (λ x. slice_index x n) mark_same ∙ other_mark terms os e.entry.stamp ps (suc k) (was.lengths l0) ev n parts.3 (λ q. other (sym q))),
+        (ap (λ x. slice_index x n) mark_same ∙ other_mark terms os e.entry.stamp ps (suc k) (was.lengths l0) ev n parts.3 (λ q. other (sym q))),
   )
 
   went_by : (l n : ℕ) → (l ≡ l0) ⊎ (l ≡ l0 → ⊥) → Went l n

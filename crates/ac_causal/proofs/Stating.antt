@@ -55,7 +55,7 @@ module _ (code : Parts) (core bound count : ℕ) (es : List Stamped) (n : ℕ) (
       by (inl same) = absurd (other (eqb-true s.party core same))
       by (inr apart) =
           let long : length (front es core (suc n)) ≡ length (front es core n ++ []) =
-              ap length (front_more es core n s is ∙ ap (λ xs. front es core n ++ xs) (none_of core s apart)) in
+          ap length (front_more es core n s is ∙ ap (λ xs. front es core n ++ xs) (none_of core s apart)) in
           let more = length-append (front es core n) [] in
           let before = h.left_is in
           later r left (record {
@@ -100,7 +100,7 @@ module _ (code : Parts) (core bound count : ℕ) (es : List Stamped) (n : ℕ) (
     pub runs_next : (ranks : List ℕ) → IsValid code → IsRanked code ranks → HasRun code core bound (journal_of core es) → HasRun r.code r.core r.bound (r.journal ++ s.entry ∷ [])
     runs_next ranks valid ranked whole =
         let parted : journal_of core es ≡ front es core (suc n) ++ journal_of core (drop (suc n) es) =
-            ap (journal_of core) (sym (take-append-drop (suc n) es)) ∙ journal_append core (take (suc n) es) (drop (suc n) es) in
+        ap (journal_of core) (sym (take-append-drop (suc n) es)) ∙ journal_append core (take (suc n) es) (drop (suc n) es) in
         let run = front_runs code core bound ranks valid ranked (front es core (suc n)) (journal_of core (drop (suc n) es)) (subst (HasRun code core bound) parted whole) in
         subst (λ c. HasRun c r.core r.bound (r.journal ++ s.entry ∷ [])) (sym h.code_is)
         (subst (λ k. HasRun code k r.bound (r.journal ++ s.entry ∷ [])) (sym h.core_is)
@@ -116,7 +116,7 @@ module _ (code : Parts) (core bound count : ℕ) (es : List Stamped) (n : ℕ) (
         by (inr no) = absurd (refused no run)
         by (inl yes) =
             let long : length (front es core (suc n)) ≡ length (front es core n ++ s.entry ∷ []) =
-                ap length (front_more es core n s is ∙ ap (λ xs. front es core n ++ xs) (one_of core s own)) in
+            ap length (front_more es core n s is ∙ ap (λ xs. front es core n ++ xs) (one_of core s own)) in
             let more = length-append (front es core n) (s.entry ∷ []) in
             let before = h.left_is in
             let room = lt in

@@ -231,7 +231,7 @@ table_by links parties k last seen es table new e M was is marks at_last at_seen
     let l : last ≡ last_mark (marked_at es (no_marks links parties) k) e = at_last ∙ ap (λ m. last_mark m e) marks in
     let s : seen ≡ seen_mark (marked_at es (no_marks links parties) k) e = at_seen ∙ ap (λ m. seen_mark m e) marks in
     let h = subst (λ x. HasRow parties e.party x (seen_mark (marked_at es (no_marks links parties) k) e) table new parties) l
-        (subst (λ y. HasRow parties e.party last y table new parties) s has) in
+    (subst (λ y. HasRow parties e.party last y table new parties) s has) in
     subst (λ n. IsTable parties (no_marks links parties) es n new) (sym (add-one k)) (table_goes_on links parties es k table new e was is h)
 
 -- the marks that are seen
@@ -278,10 +278,10 @@ ticks_of capacities cores es table legal t = record {
   where
     row_at : (j p : ℕ) (e : Stamped) → slice_get es j ≡ Some e → p < suc cores
         → at_row (suc cores) table j p ≡ ticked (p == e.party) (max (mark_count (at_row (suc cores) table) (last_mark (marks capacities cores es legal j) e) p)
-          (mark_count (at_row (suc cores) table) (seen_mark (marks capacities cores es legal j) e) p))
+        (mark_count (at_row (suc cores) table) (seen_mark (marks capacities cores es legal j) e) p))
     row_at j p e is lt =
         t.row j p e (slice_get_within es j e is) lt is
         ∙ ap (λ x. ticked (p == e.party) (max x (count_at (suc cores) table (seen_mark (marks capacities cores es legal j) e) p)))
-          (same_count (suc cores) table (last_mark (marks capacities cores es legal j) e) p)
+        (same_count (suc cores) table (last_mark (marks capacities cores es legal j) e) p)
         ∙ ap (λ y. ticked (p == e.party) (max (mark_count (at_row (suc cores) table) (last_mark (marks capacities cores es legal j) e) p) y))
-          (same_count (suc cores) table (seen_mark (marks capacities cores es legal j) e) p)
+        (same_count (suc cores) table (seen_mark (marks capacities cores es legal j) e) p)

@@ -43,9 +43,9 @@ answered_none Due sink = record {
 -- what is due of a part is due of the whole
 pub answered_as : (Due Other : ℕ → List ℕ → Type 0) (sink written : SinkTold) (number : ℕ) → ((n : ℕ) (text : List ℕ) → Due n text → Other n text)
     → IsAnswered Due sink written number → IsAnswered Other sink written number
-answered_as Due Other sink written number as a = record {
-  whole = λ well kept. let w = a.whole well kept in record { text = w.text; due = as number w.text w.due; taken = w.taken };
-  part = λ failed. let p = a.part failed in record { status = p.status; text = p.text; due = as p.status p.text p.due; taken = p.taken };
+answered_as Due Other sink written number goes a = record {
+  whole = λ well kept. let w = a.whole well kept in record { text = w.text; due = goes number w.text w.due; taken = w.taken };
+  part = λ failed. let p = a.part failed in record { status = p.status; text = p.text; due = goes p.status p.text p.due; taken = p.taken };
   nothing = a.nothing;
   tells = a.tells;
 }

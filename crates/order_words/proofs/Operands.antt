@@ -8,13 +8,16 @@ use Rattle.order_words.proofs.Digits.{same_number}
 
 module _ (command first second : List ℕ) (i j : ℕ) (named : command ≡ codes "order") (is_first : IsNumber first i) (is_second : IsNumber second j) where
   asks_order : (question : Question) → Means (q.Order i j) question → Asks command (first ∷ second ∷ []) question
-  asks_order (Orders a b) m = (named, record {
-    first = first;
-    second = second;
-    two = refl;
-    is_one = subst (λ (n : ℕ). IsNumber first n) (sym m.0) is_first;
-    is_other = subst (λ (n : ℕ). IsNumber second n) (sym m.1) is_second;
-  })
+  asks_order (Orders a b) m = (
+    named,
+    record {
+      first = first;
+      second = second;
+      two = refl;
+      is_one = subst (λ (n : ℕ). IsNumber first n) (sym m.0) is_first;
+      is_other = subst (λ (n : ℕ). IsNumber second n) (sym m.1) is_second;
+    },
+  )
   asks_order (Cuts numbers) m = absurd m
 
   order_only : (question : Question) → Asks command (first ∷ second ∷ []) question → Means (q.Order i j) question

@@ -14,9 +14,9 @@ returns c =
     let v = c.self.inside.vectors in
     let counts = c.as_slice.result.now in
     subst (λ (r : CausalRun). IfOk c.states.result (λ ends. (program : Resolved) → r.code ≡ code_of program → IsSame r.code program
-        → AreStates program r.steps r.entries c.args.counts.now ends)) c.self.view_is
+    → AreStates program r.steps r.entries c.args.counts.now ends)) c.self.view_is
     (subst (λ (xs : List ℕ). IfOk c.states.result (λ ends. (program : Resolved) → v.code ≡ code_of program → IsSame v.code program
-        → AreStates program v.steps v.entries xs ends)) c.as_slice.ensures
+    → AreStates program v.steps v.entries xs ends)) c.as_slice.ensures
     (if_ok_by c.states.result (λ ends. AreRunsTo v.code v.steps v.entries counts (length v.code.entries) ends)
     (λ ends. (program : Resolved) → v.code ≡ code_of program → IsSame v.code program → AreStates program v.steps v.entries counts ends)
     (λ ends h program is same. are_states v.code v.steps v.entries counts ends h program is same) c.states.ensures))

@@ -22,7 +22,7 @@ is_inside-requires-2-clause-entry c =
     let within = mark_within c.self.inside.trace.now.entries c.self.inside.parties c.self.inside.table.items c.self.inside.seen.items c.self.invariant.whole c.args.self.now c.self.view_is
     c.args.counts.now c.args.entry c.index-mark.result.now c.requires.entry
     (get_or_read c.self.inside.seen.items _ _ (in_seen c.self.inside.trace.now.entries c.self.inside.parties c.self.inside.table.items c.self.inside.seen.items c.self.invariant.whole c.args.self.now c.self.view_is c.args.entry c.requires.entry) c.index-mark.ensures 0)
-        (positive c.index-mark.result.now c.if-mark-eq0.false) in
+    (positive c.index-mark.result.now c.if-mark-eq0.false) in
     let from = c.from.ensures in
     omega (arith, within, from)
 

@@ -9,4 +9,4 @@ returns c =
     vector_by c.self.inside.trace.now.entries c.self.inside.parties c.self.inside.table.items c.self.invariant.whole.kept c.args.self.now c.self.view_is
     c.args.entry c.loop-party.counts c.requires (omega arith)
     (λ p lt. (let lower : p < c.loop-party.party = omega arith in c.loop-party.invariant.each p lower)
-      ∙ ap (λ (table : List ℕ). count_at c.self.inside.parties table (c.args.entry + 1) p) c.as_slice-table.ensures.value)
+    ∙ ap (λ (table : List ℕ). count_at c.self.inside.parties table (c.args.entry + 1) p) c.as_slice-table.ensures.value)
