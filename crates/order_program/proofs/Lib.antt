@@ -1,5 +1,6 @@
 pub mod Answering
 pub mod Cores
 pub mod Few
+pub mod StateLines
 pub mod Telling
 pub mod Examples

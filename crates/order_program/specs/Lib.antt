@@ -1,5 +1,4 @@
 pub mod Asking
 pub mod Headline
 pub mod Lines
-pub mod Words
 pub mod inner

@@ -1,4 +1,3 @@
 pub mod Calling
-pub mod Counting
 pub mod Cutting
 pub mod Telling

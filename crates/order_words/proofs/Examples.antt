@@ -4,6 +4,7 @@ use Rattle.std.proofs.Common.{◌≡◌, refl, ap, ℕ, List, [], ◌∷◌, len
 use Rattle.order_words.specs.declared.words.Question.TheVariants as q
 use Rattle.order_words.specs.declared.words.Call.{Call}
 use Rattle.order_words.specs.Words.{IsNumber, IsNumbers, IsOfNumbers, Orders, Cuts, AreEntries, AreCounts, Asks, Asked, IsCall, one_number, and_others}
+use Rattle.ac_words.specs.Words.{IsPlain}
 use Rattle.order_words.specs.Called.{Means, HasMeaning, AsksFor}
 
 -- ---- numbers
@@ -47,8 +48,11 @@ nothing_is_no_number h = no_empty [] h.numbers refl h.are
 
 -- ---- calls
 
-x_ac : (e : 120 ≡ 45) → ⊥
+x_ac : IsPlain (codes "x.ac")
 x_ac e = cc
+
+x_trace : IsPlain (codes "x.trace")
+x_trace e = cc
 
 pub its_entries : AreEntries (codes "0" ∷ codes "1" ∷ []) 0 1
 its_entries = record { first = codes "0"; second = codes "1"; two = refl; is_one = nought; is_other = one }
@@ -60,10 +64,10 @@ abbrev pub the_order : Asked
 the_order = record { file = codes "x.ac"; trace = codes "x.trace"; question = Orders 0 1 }
 
 pub an_order : IsCall (codes "order" ∷ codes "x.ac" ∷ codes "x.trace" ∷ codes "0" ∷ codes "1" ∷ []) the_order
-an_order = record { command = codes "order"; operands = codes "0" ∷ codes "1" ∷ []; form = refl; file_plain = λ e. x_ac e; trace_plain = λ e. x_ac e; asks = (refl, its_entries) }
+an_order = record { command = codes "order"; operands = codes "0" ∷ codes "1" ∷ []; form = refl; file_plain = x_ac; trace_plain = x_trace; asks = (refl, its_entries) }
 
 pub a_cut : IsCall (codes "cut" ∷ codes "x.ac" ∷ codes "x.trace" ∷ codes "1,1,0" ∷ []) (record { file = codes "x.ac"; trace = codes "x.trace"; question = Cuts (1 ∷ 1 ∷ 0 ∷ []) })
-a_cut = record { command = codes "cut"; operands = codes "1,1,0" ∷ []; form = refl; file_plain = λ e. x_ac e; trace_plain = λ e. x_ac e; asks = (refl, its_counts) }
+a_cut = record { command = codes "cut"; operands = codes "1,1,0" ∷ []; form = refl; file_plain = x_ac; trace_plain = x_trace; asks = (refl, its_counts) }
 
 pub no_cut_of_an_order : (counts : List ℕ) → Asks (codes "order") (codes "1" ∷ []) (Cuts counts) → ⊥
 no_cut_of_an_order counts h = let e = h.0 in cc

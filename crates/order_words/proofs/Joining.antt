@@ -1,6 +1,6 @@
 -- How a text is numbers that are joined by commas: it has no comma and is a number, or the first comma stands behind a number and the rest
 -- is numbers. Digits are no commas, so where `split_once` cuts, and where it does not, tells which.
-use Rattle.std.proofs.Common.{Bor, ◌≡◌, ℕ, ◌+◌, List, [], ◌∷◌, ◌++◌, length, None, Some, get_or, refl, sym, ap, ◌∙◌, subst, length-append, arith}
+use Rattle.std.proofs.Common.{Bor, ◌≡◌, ℕ, List, [], ◌∷◌, ◌++◌, length, None, Some, get_or, refl, sym, ap, ◌∙◌, subst, length-append, arith}
 use Rattle.std.proofs.lemmas.Str.Pattern.{IsSplitOnceResult, split_after, split_parts}
 use Rattle.order_words.specs.Words.{IsNumber, IsNumbers, one_number, and_others}
 use Rattle.order_words.specs.declared.numbers.First.TheVariants.{Last, More}
