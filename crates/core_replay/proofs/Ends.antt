@@ -84,18 +84,18 @@ abbrev pub begun_by : Bool → ℕ → ℕ
 begun_by asks count = if asks then counted count else count
 
 -- the machine, which has gone on to there
-pub ends_so : (start m : Machine) (end : MachineEnd) (asks : Bool) → IsSameCore start m → IsOnItsWay m → ComesToEnd m → (turn : ℕ) → IsOfTurn m turn → has_rested m.code m.state ≡ true
-    → asks ≡ is_some (tried_of m.code m.state) → IsSeen m.state end → EndsBy start end.core (begun_by asks end.instructions)
-ends_so start m end asks same run comes turn now rested asked seen = at (subst (λ (b : Bool). EndsBy m end.core (begun_by b end.instructions)) (sym asked) (by (has_stopped m.state) refl rested))
+pub ends_so : (start m : Machine) (end : MachineEnd) (asking : Bool) → IsSameCore start m → IsOnItsWay m → ComesToEnd m → (turn : ℕ) → IsOfTurn m turn → has_rested m.code m.state ≡ true
+    → asking ≡ is_some (tried_of m.code m.state) → IsSeen m.state end → EndsBy start end.core (begun_by asking end.instructions)
+ends_so start m end asking same run comes turn now rested asked seen = at (subst (λ (b : Bool). EndsBy m end.core (begun_by b end.instructions)) (sym asked) (by (has_stopped m.state) refl rested))
   where
     by : (b : Bool) → has_stopped m.state ≡ b → (b || is_some (tried_of m.code m.state)) ≡ true → EndsBy m end.core (begun_by (is_some (tried_of m.code m.state)) end.instructions)
     by true is h =
         subst (λ (b : Bool). EndsBy m end.core (begun_by b end.instructions)) (sym (ap (λ o. is_some o) (stopped_asks_none m.code m.state is))) (stopped_ends m end comes is seen)
     by false is h = subst (λ (b : Bool). EndsBy m end.core (begun_by b end.instructions)) (sym h) (asking_ends m end run turn now h seen)
 
-    at : EndsBy m end.core (begun_by asks end.instructions) → EndsBy start end.core (begun_by asks end.instructions)
+    at : EndsBy m end.core (begun_by asking end.instructions) → EndsBy start end.core (begun_by asking end.instructions)
     at h =
-        let told = record { core = Some end.core; count = begun_by asks end.instructions } in
+        let told : FlatEnd = record { core = Some end.core; count = begun_by asking end.instructions } in
         subst (λ (code : Parts). Runs code start.core start.bound start.journal told) same.code
         (subst (λ (n : ℕ). Runs m.code n start.bound start.journal told) same.core
         (subst (λ (n : ℕ). Runs m.code m.core n start.journal told) same.bound

@@ -1,5 +1,5 @@
 -- How far a core follows a journal, by example: one that ends in its first turn follows none, and misfits at an entry of a later turn.
-use Rattle.std.proofs.Common.{◌≡◌, ◌<◌, ◌≤◌, ℕ, zero, suc, List, [], ◌∷◌, Some, take, pos, codes, true, false, refl, ap, arith, subst}
+use Rattle.std.proofs.Common.{◌≡◌, ◌<◌, ℕ, zero, suc, [], ◌∷◌, take, pos, true, false, refl, ap, arith, subst}
 use Rattle.ac_base.specs.declared.entry.Entry.{Entry}
 use Rattle.ac_base.specs.declared.entry.Event.TheVariants as event
 use Rattle.ac_base.specs.declared.ends.EndWord.TheVariants.{Finished}

@@ -126,7 +126,8 @@ impl<'a> Replay<'a> {
         let _ending = self.machine.ending();
         let _instrs = self.machine.code().instrs();
         let _ranks = self.machine.code().ranks();
-        for (place, entry) in journal.as_slice().iter().enumerate() {
+        let entries = journal.as_slice();
+        for (place, entry) in entries.iter().enumerate() {
             if !self.take(entry)? {
                 return Ok(Followed::Misfit {
                     place: place as u64,
