@@ -1,5 +1,5 @@
 -- Which two operands words give: of two words each is one, of three one is `--`, and no other number of words gives two.
-use Rattle.std.proofs.Common.{◌≡◌, ◌≢◌, ℕ, List, [], ◌∷◌, None, codes, refl, subst}
+use Rattle.std.proofs.Common.{◌≡◌, ◌≢◌, ℕ, ◌<◌, List, [], ◌∷◌, None, codes, refl, subst, length, arith}
 use Rattle.std.specs.Prelude.{All}
 use Rattle.std.proofs.lemmas.List.Elements.{All-from_recursion, recursion_from_All}
 use Rattle.ac_words.specs.Words.{IsArguments, IsPlain}
@@ -7,7 +7,7 @@ use Rattle.ac_words.specs.Words.IsArguments.{no_more, operand, bound_apart, boun
 use Rattle.ac_replay.specs.Words.{IsCall, IsNoCall}
 use Rattle.ac_replay.specs.inner.Calling.{IsOnlyCall}
 
-abbrev IsNoDash : List ℕ → Type 0
+abbrev pub IsNoDash : List ℕ → Type 0
 IsNoDash word = word ≢ codes "-"
 
 -- ---- two words
@@ -43,6 +43,9 @@ behind_second a b c p e q = operand p (only_operands e (All-from_recursion IsNoD
 pub behind_third : (a b c : List ℕ) → IsPlain a → IsPlain b → c ≡ codes "--" → IsCall (a ∷ b ∷ c ∷ []) a b
 behind_third a b c p q e = operand p (operand q (only_operands e (All-from_recursion IsNoDash [] tt)))
 
+pub no_call_of_three : (a b c : List ℕ) → (Way a b c → ⊥) → IsNoCall (a ∷ b ∷ c ∷ [])
+no_call_of_three a b c none file trace h = none (way_of a b c file trace h)
+
 -- a word that is `--` is not plain
 not_plain : (a : List ℕ) → a ≡ codes "--" → IsPlain a → ⊥
 not_plain a e p = (subst IsPlain e p) refl
@@ -72,3 +75,15 @@ no_call_of_one a file trace (operand p h) = elim h [ ]
 
 pub no_call_of_four : (a b c d : List ℕ) (words : List (List ℕ)) → IsNoCall (a ∷ b ∷ c ∷ d ∷ words)
 no_call_of_four a b c d words file trace (operand p (operand q h)) = elim h [ ]
+
+pub no_call_of_few : (words : List (List ℕ)) → length words < 2 → IsNoCall words
+no_call_of_few [] few = no_call_of_none
+no_call_of_few (a ∷ []) few = no_call_of_one a
+no_call_of_few (a ∷ b ∷ words) few = absurd (omega arith)
+
+pub no_call_of_many : (words : List (List ℕ)) → 3 < length words → IsNoCall words
+no_call_of_many [] many = absurd (omega arith)
+no_call_of_many (a ∷ []) many = absurd (omega arith)
+no_call_of_many (a ∷ b ∷ []) many = absurd (omega arith)
+no_call_of_many (a ∷ b ∷ c ∷ []) many = absurd (omega arith)
+no_call_of_many (a ∷ b ∷ c ∷ d ∷ words) many = no_call_of_four a b c d words

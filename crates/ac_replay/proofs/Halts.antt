@@ -10,9 +10,11 @@ use Rattle.program_run.specs.Naming.{AreNamed}
 use Rattle.starting_files.specs.declared.fault.StartFault.TheVariants as f
 use Rattle.trace_text.specs.declared.trace.Trace.{Trace}
 use Rattle.trace_writes.specs.declared.write.FileWrite.{FileWrite}
-use Rattle.ac_replay.specs.Due.{IsDueOfFiles}
+use Rattle.trace_audit.specs.RunTrace.{IsRunTrace}
+use Rattle.ac_replay.specs.Due.{IsDueOfFiles, IsDueOfRun}
 use Rattle.ac_replay.specs.Due.IsDueOfFiles.{disk_fault, long_file, differs, torn, repeated}
-use Rattle.ac_replay.specs.Headline.{AreUnwritten, stopped, started}
+use Rattle.ac_replay.specs.Due.IsDueOfRun.{run}
+use Rattle.ac_replay.specs.Headline.{AreUnwritten, stopped, started, untouched}
 use Rattle.ac_replay.specs.Headline.AreUnwritten.{long_file as left_long}
 use Rattle.ac_replay.specs.Lines.{differs_line}
 use Rattle.ac_replay.specs.Replaying.{IsReplayedReport, deeds_in, writes_in}
@@ -65,3 +67,14 @@ module _ (program : Program) (t : Trace) (disk later : DiskTold) (paths told : L
       → OnErr r (AreUnwritten (file_paths program.items) disk later)
   left_unsaid (Ok said) halt fault d tells = tt
   left_unsaid (Err e) halt fault d tells = left_halt halt d tells
+
+-- memory was refused before the disk was called
+pub left_alone : {T E : Type 0} (r : Result T E) (paths : List (List ℕ)) (disk later : DiskTold) → later ≡ disk → OnErr r (AreUnwritten paths disk later)
+left_alone (Ok x) paths disk later same = tt
+left_alone (Err e) paths disk later same = untouched same
+
+-- of a trace that is a run
+pub due_of_run : {E : Type 0} (r : Result Said E) (program : Program) (t : Trace) (disk later : DiskTold) → IsRunTrace (resolved program) t
+    → IfOk r (λ it. IsDueOfFiles program t disk later it.status.number it.text) → IfOk r (λ it. IsDueOfRun program t disk later it.status.number it.text)
+due_of_run (Ok said) program t disk later is due = run is due
+due_of_run (Err e) program t disk later is due = tt

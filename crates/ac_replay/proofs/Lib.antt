@@ -6,9 +6,11 @@ pub mod DueExamples
 pub mod Ending
 pub mod Exactly
 pub mod Faults
+pub mod Following
 pub mod Halts
 pub mod Leaving
 pub mod NamedFiles
+pub mod Redoing
 pub mod Repeating
 pub mod Statuses
 pub mod WordExamples

@@ -23,11 +23,9 @@ use Rattle.trace_audit.proofs.Merging.{its_stamp, part_is_journal}
 use Rattle.ac_replay.specs.Laws.{IsRepeated, RunsAreRepeated}
 use Rattle.ac_replay.specs.Replaying.{AreReplayed}
 use Rattle.ac_replay.proofs.Ending.{as_many}
+use Rattle.ac_replay.proofs.Following.{end_as}
 
 -- ---- one end
-
-abbrev end_as : MachineEnd → FlatEnd
-end_as end = record { core = Some end.core; count = end.instructions }
 
 same_ends : (x y : MachineEnd) → end_as x ≡ end_as y → x ≡ y
 same_ends x y e =

@@ -1,6 +1,6 @@
 //! The files of a trace, and its writes, on a disk.
 
-ghost use Rattle.std.specs.Prelude.{◌≡◌, ◌≢◌, ◌≤◌, All, AllPairs, length, IfSome, IsNone, IsTrue};
+ghost use Rattle.std.specs.Prelude.{◌≡◌, ◌≢◌, ◌≤◌, All, AllPairs, false, length, true, IfSome, IsNone, IsTrue};
 ghost use Rattle.std.specs.Str.{IsUtf8};
 ghost use Rattle.ac_replay.specs.Due.{IsFirstOther};
 ghost use Rattle.ac_replay.specs.inner.Doing.{IsDoneAgain};
@@ -23,6 +23,13 @@ pub enum Halt {
     Torn,
 }
 
+fn are_same(one: &Bytes, other: &Bytes) -> bool
+    ensures same { result ≡ true → one.now ≡ other.now }
+    ensures differ { result ≡ false → one.now ≢ other.now }
+{
+    one.as_slice() == other.as_slice()
+}
+
 // The first file that does not hold what is told of it.
 fn first_other(start: &[Bytes], told: &[Bytes]) -> Option<u32>
     requires many { length start.now ≡ length told.now }
@@ -31,7 +38,7 @@ fn first_other(start: &[Bytes], told: &[Bytes]) -> Option<u32>
     ensures some { IfSome result (IsFirstOther start.now told.now) }
 {
     for (file, bytes) in start.iter().enumerate() {
-        if bytes.as_slice() != told[file].as_slice() {
+        if !are_same(bytes, &told[file]) {
             return Some(file as u32);
         }
     }

@@ -1,6 +1,6 @@
 //! The cores of a code, each under its journal in a trace.
 
-ghost use Rattle.std.specs.Prelude.{◌≡◌, ◌<◌, length, IfOk, Some};
+ghost use Rattle.std.specs.Prelude.{◌≡◌, ◌<◌, ◌∷◌, ◌++◌, [], length, IfOk, OnOk, Some};
 ghost use Rattle.ac_commands.specs.declared.program.Resolved.{Resolved};
 ghost use Rattle.ac_translation.specs.Same.{IsSame};
 ghost use Rattle.ac_translation.specs.Translation.{code_of};
@@ -15,17 +15,31 @@ use stack_code::Code;
 use std::alloc::Global;
 use trace_text::Trace;
 
+// Adds the entry to the journal of a core, if it is one of the core.
+fn add_entry(
+    alloc: Global,
+    core: u32,
+    stamped: &Stamped,
+    journal: &mut Journal,
+) -> Result<(), NoMemory>
+    ensures { OnOk result (journal.new.entries ≡ journal.old.entries ++ journal_of core (stamped.now ∷ [])) }
+{
+    if stamped.party != core {
+        return Ok(());
+    }
+    let entry = stamped.entry.copy(alloc)?;
+    journal.reserve(1)?;
+    journal.push(entry);
+    Ok(())
+}
+
 // The entries of a core, in their order.
 fn journal_of(alloc: Global, core: u32, entries: &[Stamped]) -> Result<Journal, NoMemory>
     ensures { IfOk result (λ it. it.entries ≡ journal_of core entries.now) }
 {
     let mut journal = Journal::new(alloc);
     for stamped in entries {
-        if stamped.party == core {
-            let entry = stamped.entry.copy(alloc)?;
-            journal.reserve(1)?;
-            journal.push(entry);
-        }
+        add_entry(alloc, core, stamped, &mut journal)?;
     }
     Ok(journal)
 }

@@ -1,5 +1,5 @@
 -- Writes by example: those of three requests of which one failed, and what they make of a disk.
-use Rattle.std.proofs.Common.{◌≡◌, ℕ, ◌≤◌, List, [], ◌∷◌, true, None, Some, refl, arith}
+use Rattle.std.proofs.Common.{◌≡◌, ℕ, List, [], ◌∷◌, true, None, Some, ap, refl, arith}
 use Rattle.ac_base.specs.declared.entry.Answer.TheVariants.{Bytes, Count, Fault}
 use Rattle.ac_base.specs.declared.entry.Payload.TheVariants.{Read, Write}
 use Rattle.ac_outside.specs.Disks.{Held, DiskTold}
@@ -13,6 +13,10 @@ first = record { file = 0; from = 2; bytes = 7 ∷ 8 ∷ [] }
 abbrev second : FileWrite
 second = record { file = 0; from = 0; bytes = 5 ∷ [] }
 
+abbrev first_bytes : List FileWrite → List ℕ
+first_bytes [] = []
+first_bytes (w ∷ ws) = w.bytes
+
 -- ---- which there are
 
 -- a write, a read, and a write that failed after its first byte
@@ -22,7 +26,7 @@ pub the_writes : writes_of
 the_writes = refl
 
 pub not_the_whole_where_it_failed : write_of (Write 0 0 (5 ∷ 6 ∷ [])) (Fault 1) ≡ record { file = 0; from = 0; bytes = 5 ∷ 6 ∷ [] } ∷ [] → ⊥
-not_the_whole_where_it_failed e = cc (e)
+not_the_whole_where_it_failed e = let bytes : 5 ∷ [] ≡ 5 ∷ 6 ∷ [] = ap first_bytes e in cc (bytes)
 
 -- ---- what can be done
 

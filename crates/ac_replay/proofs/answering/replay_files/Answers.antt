@@ -1,12 +1,33 @@
 use Rattle.std.proofs.Common.{Err, refl, subst, arith}
 use Rattle.program_reading.specs.TwoFiles.{GivesBoth, RefusesBoth, halt_line, halt_status}
-use Rattle.program_reading.proofs.TwoFiles.{both_read, refused_read}
+use Rattle.program_reading.proofs.TwoFiles.{both_read, read_well, refused_read}
 use Rattle.program_reading.proofs.Paths.{few_paths, paths_are_texts, paths_differ}
 use Rattle.ac_replay.specs.Due.{IsDueOfCall, IsDueOfRun, refused, both}
 use Rattle.ac_replay.specs.Headline.{alone, of_program}
 use Rattle.ac_replay.proofs.Answered.{answered_as, answered_none, answered_or_not}
 use Rattle.ac_replay.proofs.Faults.{tells_library}
 use Rattle.ac_replay.proofs.answering.replay_files.Goals as goal
+
+-- ---- memory was refused
+
+pub returns-in-Err-NoMemory-clause-answered : goal.returns-in-Err-NoMemory-clause-answered
+returns-in-Err-NoMemory-clause-answered g c =
+    answered_none (IsDueOfCall c.args.file.now c.args.trace.now (g.L.Library.told c.args.library.now) (g.L.Library.told c.read_both.new.library) (g.D.Disk.told c.args.disk.now)
+    (g.D.Disk.told c.args.disk.now)) (g.K.Sink.told c.args.sink.now)
+
+pub returns-in-Err-NoMemory-clause-read : goal.returns-in-Err-NoMemory-clause-read
+returns-in-Err-NoMemory-clause-read g c =
+    let r = c.in-Err-NoMemory in
+    λ _. subst (λ fault. GivesBoth c.args.file.now c.args.trace.now (g.L.Library.told c.args.library.now) (g.L.Library.told c.read_both.new.library) (Err fault)) r.field-0-is r.ensures
+
+pub returns-in-Err-NoMemory-clause-library : goal.returns-in-Err-NoMemory-clause-library
+returns-in-Err-NoMemory-clause-library g c = record {
+  told = λ e. absurd (omega (arith, e));
+  only = λ _ _. read_well c.args.file.now c.args.trace.now (g.L.Library.told c.args.library.now) (g.L.Library.told c.read_both.new.library) (returns-in-Err-NoMemory-clause-read g c refl);
+}
+
+pub returns-in-Err-NoMemory-clause-left : goal.returns-in-Err-NoMemory-clause-left
+returns-in-Err-NoMemory-clause-left g c = λ _. alone refl
 
 -- ---- refused
 
@@ -55,7 +76,8 @@ returns-in-Ok-clause-read g c =
 
 pub returns-in-Ok-clause-library : goal.returns-in-Ok-clause-library
 returns-in-Ok-clause-library g c =
-    tells_library c.args.file.now c.args.trace.now (g.L.Library.told c.args.library.now) (g.L.Library.told c.read_both.new.library) (g.D.Disk.told c.args.disk.now) (g.D.Disk.told c.replay_both.new.disk)
+    tells_library c.args.file.now c.args.trace.now (g.L.Library.told c.args.library.now) (g.L.Library.told c.read_both.new.library) (g.D.Disk.told c.args.disk.now)
+        (g.D.Disk.told c.replay_both.new.disk)
     (g.K.Sink.told c.args.sink.now) (g.K.Sink.told c.replay_both.new.sink) c.replay_both.result.number (returns-in-Ok-clause-answered g c) (returns-in-Ok-clause-read g c)
 
 pub returns-in-Ok-clause-left : goal.returns-in-Ok-clause-left
