@@ -37,16 +37,16 @@ async void g() {
 """
 
 
-def ac(*words):
-    return subprocess.run([PROGRAM, *words], capture_output=True)
+def called(program, *words):
+    return subprocess.run([program, *words], capture_output=True)
 
 
-def best(wanted, *words, runs=5):
+def best(wanted, *words, runs=5, program=PROGRAM):
     """The least time of these words, each run of which has this status and prints what is wanted."""
     times = []
     for _ in range(runs):
         begin = time.perf_counter()
-        done = ac(*words)
+        done = called(program, *words)
         times.append(time.perf_counter() - begin)
         if (done.returncode, done.stdout) != wanted:
             sys.exit(f"{words} ended with {done.returncode} and printed {done.stdout[:400]!r}")
@@ -82,12 +82,16 @@ def long_trace():
     return "".join(lines) + "end 0 finished 0 -\n"
 
 
+def traced(file, program=PROGRAM):
+    return called(program, "trace", file, "--steps", str(STEPS)).stdout
+
+
 def times_of(folder, messages):
     """The times of a run of so many messages and of the audit of its trace, and the number of its entries."""
     file, trace = folder / "x.ac", folder / "x.trace"
     file.write_text(SOURCE % (messages, messages))
     ran = best((0, report(messages)), "run", file, "--steps", str(STEPS))
-    text = ac("trace", file, "--steps", str(STEPS)).stdout
+    text = traced(file)
     trace.write_bytes(text)
     return ran, best((0, b"yes\n"), "audit", file, trace), text.count(b"\n") - 4
 
@@ -112,4 +116,5 @@ def main():
     print(f"ratio: {read / lines:.1f}")
 
 
-main()
+if __name__ == "__main__":
+    main()

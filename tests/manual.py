@@ -1,10 +1,12 @@
 #!/usr/bin/env python3
-"""Checks the manual page docs/ac.1:
+"""Checks the manual pages docs/ac.1, docs/ac_order.1 and docs/ac_again.1:
 
-- mandoc finds no warning in it, where mandoc is installed;
-- its statuses are those of docs/LANGUAGE.md, each with the lines that are written; any other says that it is not built;
+- mandoc finds no warning in them, where mandoc is installed;
+- the statuses of `ac` are those of docs/LANGUAGE.md, each with the lines that are written; any other says that it is not built;
 - its limits are those of docs/LANGUAGE.md;
-- its commands and its usage line are those of the program.
+- the statuses of the two others are those of their texts in tests/, each with the lines that are written, or are said to be those of
+  an audit; what no text can show are a failed output and refused memory;
+- the commands and the usage line of each are those of the program.
 
 Run from anywhere: python3 tests/manual.py. It prints what it finds, and ends with status 1 where it finds anything.
 """
@@ -16,8 +18,11 @@ import sys
 
 ROOT = pathlib.Path(__file__).resolve().parent.parent
 MANUAL = ROOT / "docs" / "ac.1"
+# The manual page of each program beside `ac`, and the folder of its texts.
+BESIDE = {ROOT / "docs" / "ac_order.1": ROOT / "tests" / "order", ROOT / "docs" / "ac_again.1": ROOT / "tests" / "again"}
 PAGE = (ROOT / "docs" / "LANGUAGE.md").read_text()
-USAGE = ROOT / "tests" / "words" / "no_words_at_all.txt"
+USAGE = "no_words_at_all.txt"
+WITHOUT_TEXT = {"8", "11"}
 # Each limit of the manual, with what docs/LANGUAGE.md says of it; the groups are its numbers, and `..` stands for anything.
 LIMITS = {
     "source": (r"FILE has more than (\S+) bytes",),
@@ -39,14 +44,14 @@ LIMITS = {
 }
 
 
-def section(name):
-    return re.search(rf"^\.Sh {name}\n(.*?)(?=^\.Sh |\Z)", MANUAL.read_text(), re.M | re.S).group(1)
+def section(name, manual=MANUAL):
+    return re.search(rf"^\.Sh {name}\n(.*?)(?=^\.Sh |\Z)", manual.read_text(), re.M | re.S).group(1)
 
 
-def items(name):
+def items(name, manual=MANUAL):
     """From each item of a section's list to its words, without the macros in front of them."""
     found = {}
-    for tag, text in re.findall(r"^\.It (.*)\n((?:(?!\.It |\.El).*\n)*)", section(name), re.M):
+    for tag, text in re.findall(r"^\.It (.*)\n((?:(?!\.It |\.El).*\n)*)", section(name, manual), re.M):
         found[tag] = " ".join(re.sub(r"^\.[A-Z][a-z] ?", "", text, flags=re.M).split())
     return found
 
@@ -54,9 +59,9 @@ def items(name):
 def lint_faults():
     mandoc = shutil.which("mandoc")
     if mandoc is None:
-        print("manual: mandoc is not installed, and did not look at docs/ac.1")
+        print("manual: mandoc is not installed, and did not look at the pages")
         return
-    done = subprocess.run([mandoc, "-T", "lint", "-W", "warning", MANUAL], stdout=subprocess.PIPE, stderr=subprocess.STDOUT)
+    done = subprocess.run([mandoc, "-T", "lint", "-W", "warning", MANUAL, *BESIDE], stdout=subprocess.PIPE, stderr=subprocess.STDOUT)
     yield from done.stdout.decode().splitlines()
 
 
@@ -104,21 +109,59 @@ def limit_faults():
             yield f"the limit {name} is {manual.get(name)}, and not {', '.join(sorted(wanted))}"
 
 
-def command_faults():
-    text = MANUAL.read_text()
-    usage = re.search(r"^\| (usage: .*)$", USAGE.read_text(), re.M).group(1)
-    if usage not in text.splitlines():
+def usage_of(folder):
+    return re.search(r"^\| (usage: .*)$", (folder / USAGE).read_text(), re.M).group(1)
+
+
+def command_faults(manual=MANUAL, folder=ROOT / "tests" / "words"):
+    usage = usage_of(folder)
+    if usage not in manual.read_text().splitlines():
         yield f"there is no line: {usage}"
-    all_commands = {word for words in re.findall(r"ac ([a-z|]+) ", usage) for word in words.split("|")}
-    built = set(re.findall(r"^\.Cm (\w+)$", section("SYNOPSIS"), re.M))
-    not_built = set(re.findall(r"^\.Cm (\w+)", section("CAVEATS"), re.M))
+    all_commands = {word for words in re.findall(rf"{manual.stem} ([a-z|]+) ", usage) for word in words.split("|")}
+    built = set(re.findall(r"^\.Cm (\w+)$", section("SYNOPSIS", manual), re.M))
+    not_built = set(re.findall(r"^\.Cm (\w+)", section("CAVEATS"), re.M)) if manual == MANUAL else set()
     if built & not_built or built | not_built != all_commands:
         yield f"of the commands {sorted(all_commands)}, it has {sorted(built)}, and {sorted(not_built)} as not built"
+
+
+# ---- the programs beside `ac`
+
+
+def shape(line):
+    """A line without its numbers, and without the letters that stand for them."""
+    return re.sub(r"\bC(n|\d+)\b|\b([A-Z]|\d+)\b", "#", line)
+
+
+def shown(folder):
+    """From each status of the texts of a folder to the shapes of its answers, but for reports."""
+    found = {}
+    for path in sorted(folder.glob("*.txt")):
+        status, line = re.search(r"^status (\d+)\noutput\n\| (.*)$", path.read_text(), re.M).groups()
+        shapes = found.setdefault(status, set())
+        if status not in ("0", "4", "5", "6"):
+            shapes.add(shape(line))
+    return found
+
+
+def faults_beside(manual, folder):
+    texts, told, of_audit = shown(folder), {}, set()
+    for tag, text in items("EXIT STATUS", manual).items():
+        if "As those of" in text:
+            of_audit |= set(tag.split(", "))
+        told.update(dict.fromkeys(tag.split(", "), shape(text)))
+    yield from (f"no status {status}" for status in sorted(set(texts) - set(told), key=int))
+    yield from (f"no text has status {status}" for status in told if status not in {*texts, *of_audit, *WITHOUT_TEXT})
+    yield from (f"docs/LANGUAGE.md has no status {status}" for status in of_audit if status not in answers())
+    for status, shapes in texts.items():
+        text = told.get(status, "") if status not in of_audit else shape(" ".join(answers()[status]))
+        yield from (f"status {status} does not write {line}" for line in sorted(shapes) if line not in text)
+    yield from command_faults(manual, folder)
 
 
 def main():
     parts = (lint_faults, status_faults, limit_faults, command_faults)
     found = [f"docs/ac.1: {fault}" for part in parts for fault in part()]
+    found += [f"docs/{manual.name}: {fault}" for manual, folder in BESIDE.items() for fault in faults_beside(manual, folder)]
     for fault in found:
         print(fault)
     print(f"manual: {len(found)} faults")

@@ -30,8 +30,9 @@ import traces  # noqa: E402
 PAGE = ROOT / "docs" / "LANGUAGE.md"
 GUIDE = ROOT / "docs" / "GUIDE.md"
 PAGES = [ROOT / "README.md", GUIDE, PAGE]
-# The commands of `ac`. Those of other programs that the pages show are passed over.
+# The commands of `ac`. Those of other programs that the pages show are passed over, but for the ones that are built beside it.
 BUILT = ("run", "trace", "check", "code", "audit", "load")
+BESIDE = ("ac_order", "ac_again")
 PIECE = re.compile(r'(?:(\d+) \* )?"((?:[^"\\]|\\.)*)"')
 ESCAPE = re.compile(r"\\(x[0-9a-f]{2}|.)")
 PLAIN = {"n": "\n", "t": "\t", "r": "\r", "\\": "\\", '"': '"'}
@@ -289,15 +290,21 @@ def with_tools(program):
     return {**os.environ, "AC": str(program), "PATH": f"{ROOT / 'tools'}{os.pathsep}{os.environ['PATH']}"}
 
 
+def built(name):
+    """The program of this name, which stands beside `ac`, in its own crate."""
+    return ROOT / "crates" / name / "out" / name
+
+
 def session_failure(program, commands):
     """The first command that differs, or nothing. They run beside docs, examples, tests and tools, and `ac` is the program."""
+    named = {"ac": program} | {name: built(name) for name in BESIDE}
+    found = "".join(f'{name}() {{ {shlex.quote(str(path))} "$@"; }}\n' for name, path in named.items())
     with tempfile.TemporaryDirectory() as folder:
         for name in ("docs", "examples", "tests", "tools"):
             (pathlib.Path(folder) / name).symlink_to(ROOT / name)
         for command, output, status in commands:
-            text = f'ac() {{ {shlex.quote(program)} "$@"; }}\n{command}'
             try:
-                done = subprocess.run(["sh", "-c", text], cwd=folder, env=with_tools(program), stdout=subprocess.PIPE,
+                done = subprocess.run(["sh", "-c", found + command], cwd=folder, env=with_tools(program), stdout=subprocess.PIPE,
                                       stderr=subprocess.STDOUT, timeout=SECONDS)
             except subprocess.TimeoutExpired:
                 return f"  {command}\n  not done after {SECONDS} seconds"
@@ -330,12 +337,12 @@ def trace_failure(program, test):
 
 
 def failure(program, test):
-    """What differs, or nothing. A program of another name stands beside `ac`, in its own crate."""
+    """What differs, or nothing."""
     if isinstance(test, Session):
         return session_failure(program, test.commands)
     test = Test(*test)
     if test.program:
-        program = ROOT / "crates" / test.program / "out" / test.program
+        program = built(test.program)
     output, answers = test.output, test.answers or ((test.status, test.output),)
     with tempfile.TemporaryDirectory() as folder:
         folder = pathlib.Path(folder)

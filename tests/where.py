@@ -223,11 +223,16 @@ def the_commands_of_the_readme_install_what_it_needs(folder):
     for name in ("tools", "docs", "bench"):
         (tree / name).symlink_to(root / name)
     stand_in(tree / "crates" / "ac" / "out", 5, STALLED, STALLED_TRACE)
+    for name in run.BESIDE:
+        out = tree / "crates" / name / "out"
+        out.mkdir(parents=True)
+        (out / name).write_text("#!/bin/sh\n")
     subprocess.run(["sh", "-ec", block], cwd=tree, env={**os.environ, "HOME": str(home)}, check=True, timeout=run.SECONDS)
     script = stand_in(folder / "stand-in", 5, STALLED, STALLED_TRACE)
     (folder / "x.ac").write_bytes(TWO_CORES)
     tool = home / ".local" / "bin" / "ac-where"
-    assert os.access(tool, os.X_OK) and os.access(home / ".local" / "bin" / "ac", os.X_OK)
+    assert all(os.access(home / ".local" / "bin" / name, os.X_OK) for name in ("ac-where", "ac", *run.BESIDE))
+    assert all((home / ".local" / "share" / "man" / "man1" / f"{name}.1").is_file() for name in ("ac", *run.BESIDE))
     assert called(["run", "x.ac"], folder, tool=tool, AC=str(script)) == (5, STALLED, STALLED_AT)
     diagram = [sys.executable, home / ".local" / "bin" / "ac-diagram", root / "examples" / "race.ac", root / "docs" / "race.trace"]
     done = subprocess.run(diagram, stdout=subprocess.PIPE, timeout=run.SECONDS)
