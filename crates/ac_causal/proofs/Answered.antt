@@ -1,22 +1,21 @@
 -- What an entry of a legal history answers: the one entry whose mark its offer has, which stands before it and has a lesser stamp.
 -- An event answers another exactly where that one brought the same offer to the rung that it wants. No two entries bring an offer to one rung:
 -- the later would find it there already, or above.
-use Rattle.std.proofs.Common.{◌≡◌, ℕ, zero, suc, ◌+◌, ◌<◌, ◌≤◌, List, [], ◌∷◌, length, Option, Some, None, Bool, true, false, refl, sym, ap, ◌∙◌, subst, arith, get_or, ◌⊎◌, inl, inr, eq-eqb}
-use Rattle.std.specs.Prelude.{◌==◌, ◌&&◌, slice_get, slice_index, is_some, max}
+use Rattle.std.proofs.Common.{◌≡◌, ℕ, zero, suc, ◌<◌, List, length, Option, Some, None, Bool, true, false, refl, sym, ap, ◌∙◌, subst, arith, ◌⊎◌, inl, inr, eq-eqb}
+use Rattle.std.specs.Prelude.{◌==◌, ◌&&◌, slice_get, slice_index, is_some}
 use Rattle.std.proofs.lemmas.Bool.{and_parts, eqb-true, cases_order}
 use Rattle.std.proofs.lemmas.Option.{same_Some}
 use Rattle.std.proofs.lemmas.List.{length-set, length-replicate}
 use Rattle.ac_base.specs.declared.entry.Event.{Event}
 use Rattle.ac_base.specs.declared.entry.Event.TheVariants.{Offer, Withdraw, Know, Room, Got, Pass, Did, Reply}
 use Rattle.ac_base.specs.declared.entry.Stamped.{Stamped}
-use Rattle.ac_base.specs.Stamps.{next_stamp}
 use Rattle.ac_links.specs.declared.offer.LinkOffer.{LinkOffer}
 use Rattle.ac_links.specs.Link.{link_of, number_of, answered, standing_stamp}
 use Rattle.ac_history.specs.Outcomes.{is_withdrawal, is_taking}
 use Rattle.ac_history.specs.History.{Past, link_at, fits, IsLegal, start}
 use Rattle.ac_causal.specs.Before.{is_offering, is_passing, is_doing, answers, Answers}
 use Rattle.ac_causal.specs.inner.Marks.{Marked, no_marks, marks_of, last_mark, seen_mark, marked_by, marked_at}
-use Rattle.ac_causal.proofs.Steps.{level, level_at, gives, wants, is_did, is_reply, did_gives, has_answer_at, Step, Rises, sees_mark, sees_none, sees_stamp}
+use Rattle.ac_causal.proofs.Steps.{level, level_at, gives, wants, is_did, is_reply, has_answer_at, sees_mark, sees_none, sees_stamp}
 use Rattle.ac_causal.proofs.Held.{zero_or, Held, MadeBy, NotAfter, Kept, own, in_parties, comes_later, its_stamp, past_at, fits_at, kept_at}
 
 and_true : (a b : Bool) → a ≡ true → b ≡ true → a && b ≡ true

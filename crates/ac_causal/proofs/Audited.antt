@@ -1,7 +1,6 @@
 -- The entries of a trace that is a run are a legal history. For `runs_are_legal`.
 -- Each entry fits after those before it, by links, stamps and files; the links and stamps alone are what makes a history legal.
-use Rattle.std.proofs.Common.{◌≡◌, ℕ, List, [], ◌∷◌, ◌++◌, length, true, refl, sym, ap, subst}
-use Rattle.std.specs.Prelude.{◌&&◌}
+use Rattle.std.proofs.Common.{◌≡◌, List, [], ◌∷◌, ◌++◌, length, refl, sym, subst}
 use Rattle.std.proofs.lemmas.Bool.{and_parts}
 use Rattle.std.proofs.lemmas.List.{length-map}
 use Rattle.ac_base.specs.declared.entry.Stamped.{Stamped}

@@ -1,12 +1,11 @@
 -- The entries of a closed cut of a run, merged, are legal. Each entry of a run is made at its party's own end of its link: a core's by its code, the
 -- worker's by what it may make. So those inside are legal in their order (CutLegal); and since they rise, they are the merge of the cut's journals.
-use Rattle.std.proofs.Common.{◌≡◌, ℕ, zero, suc, ◌+◌, ◌<◌, ◌≤◌, List, [], ◌∷◌, ◌++◌, length, Option, Some, None, Bool, true, false, cond, refl, sym, ap, ◌∙◌, subst, arith, take, get_or, append-nil, ◌⊎◌, inl, inr}
-use Rattle.std.specs.Prelude.{◌==◌, ◌&&◌, ◌||◌, ◌-◌, not, nat_eq, nat_le, nat_lt, slice_get, slice_index, if◌then◌else◌}
+use Rattle.std.proofs.Common.{◌≡◌, ℕ, zero, suc, ◌+◌, ◌<◌, ◌≤◌, List, [], ◌∷◌, ◌++◌, length, Option, Some, None, Bool, true, false, refl, sym, ap, ◌∙◌, subst, arith, take, append-nil, ◌⊎◌, inl, inr}
+use Rattle.std.specs.Prelude.{◌==◌, ◌||◌, ◌-◌, nat_eq, nat_le, nat_lt, slice_get, slice_index, if◌then◌else◌}
 use Rattle.std.specs.List.{AllByRecursion}
 use Rattle.std.proofs.lemmas.Bool.{and_parts, cases_lt, cases_Bool, eqb-true, eq-eqb, lt-ltb, le-ltb, leb-true, ltb-true}
-use Rattle.std.proofs.lemmas.Bool.Decides.{nat_tests}
-use Rattle.std.proofs.lemmas.List.{length-append, length-map, length-replicate, length-set, take-append-le}
-use Rattle.std.proofs.lemmas.Option.{same_Some, slice_get_past, slice_get_within}
+use Rattle.std.proofs.lemmas.List.{length-map, length-replicate, length-set}
+use Rattle.std.proofs.lemmas.Option.{same_Some, slice_get_past}
 use Rattle.ac_base.specs.declared.entry.Entry.{Entry}
 use Rattle.ac_base.specs.declared.entry.Event.{Event}
 use Rattle.ac_base.specs.declared.entry.Event.TheVariants.{Offer, Withdraw, Know, Room, Got, Pass, Did, Reply}
@@ -23,7 +22,7 @@ use Rattle.stack_code.specs.Kept.{IsRanked}
 use Rattle.stack_code.specs.Valid.{IsValid}
 use Rattle.code_safety.specs.KeptEnds.{KeepsEnds}
 use Rattle.replay_laws.specs.Given.{HasRun}
-use Rattle.ac_links.specs.Link.{link_of, link_fits, link_after}
+use Rattle.ac_links.specs.Link.{link_of, link_fits}
 use Rattle.ac_history.specs.Merged.{merged}
 use Rattle.ac_history.specs.History.{Past, IsLegal, start, after, fits, makes, may_make, in_range, is_later, has_stamp, terms_of, link_at}
 use Rattle.ac_history.proofs.Parts.{IsRising}
@@ -32,10 +31,8 @@ use Rattle.trace_text.specs.declared.trace.Trace.{Trace}
 use Rattle.trace_text.specs.declared.trace.TraceEnd.{TraceEnd}
 use Rattle.trace_audit.specs.Laws.{IsSound}
 use Rattle.trace_audit.specs.RunTrace.{journal_of, AllEndAsTold, IsRunTrace}
-use Rattle.trace_audit.proofs.Fronts.{front_runs}
 use Rattle.trace_audit.proofs.Merging.{parts, journal_append, parts_are_whole}
 use Rattle.ac_causal.specs.Cuts.{made_by, IsCut, IsClosed}
-use Rattle.ac_causal.specs.Before.{count_below, is_of}
 use Rattle.ac_causal.specs.States.{cut_journal, cut_journals, cut_history}
 use Rattle.ac_causal.proofs.Answered.{party_in}
 use Rattle.ac_causal.proofs.Audited.{is_legal}
@@ -43,7 +40,7 @@ use Rattle.ac_causal.proofs.Counting.{get_some}
 use Rattle.ac_causal.proofs.Fronts.{take_all, one_of, none_of, front_long, front_takes, front_full, front_other}
 use Rattle.ac_causal.proofs.Held.{after_one, past_at, fits_at}
 use Rattle.ac_causal.proofs.Alike.{is_owners, is_peers}
-use Rattle.ac_causal.proofs.OwnEntries.{IsOwn, AllOwn, own_entries}
+use Rattle.ac_causal.proofs.OwnEntries.{IsOwn, own_entries}
 use Rattle.ac_causal.proofs.CutLegal.{AreAtEnds, added_if, all_parts, no_true, inside_to, inside_legal}
 
 -- ---- a core's journal in a run

@@ -5,10 +5,9 @@ use Rattle.std.proofs.Common.{◌≡◌, ℕ, zero, suc, ◌+◌, ◌<◌, ◌�
 use Rattle.std.specs.Prelude.{◌==◌, ◌&&◌, slice_get, slice_index, nat_le, max, min}
 use Rattle.std.proofs.lemmas.Bool.{eqb-true, cases_lt, cases_Bool}
 use Rattle.std.proofs.lemmas.Bool.Decides.{leb_tells}
-use Rattle.std.proofs.lemmas.Option.{same_Some}
 use Rattle.ac_base.specs.declared.entry.Stamped.{Stamped}
 use Rattle.ac_causal.specs.Before.{IsBefore, count_below, is_of, IsVector}
-use Rattle.ac_causal.proofs.Ticks.{mark_count, Ticks, own_row, any_tick, other_tick, own_tick, told, tells}
+use Rattle.ac_causal.proofs.Ticks.{mark_count, Ticks, own_row, other_tick, told, tells}
 
 -- ---- counts
 

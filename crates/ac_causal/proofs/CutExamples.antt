@@ -1,6 +1,6 @@
 -- Cuts of the small run: one that is closed, one that is open at the second offer, and counts that are none.
 -- That a cut is closed is seen entry by entry: those inside answer nothing, and the others are not inside.
-use Rattle.std.proofs.Common.{◌≡◌, ℕ, zero, suc, ◌+◌, ◌<◌, ◌≤◌, List, [], ◌∷◌, length, Option, Some, None, Bool, true, false, refl, sym, ap, ◌∙◌, subst, arith}
+use Rattle.std.proofs.Common.{◌≡◌, ℕ, zero, suc, ◌<◌, ◌≤◌, List, [], ◌∷◌, Option, Some, None, true, false, refl, sym, ap, ◌∙◌, subst, arith}
 use Rattle.std.specs.Prelude.{pos, slice_get, slice_index}
 use Rattle.ac_base.specs.declared.entry.Payload.TheVariants.{Int}
 use Rattle.ac_base.specs.declared.entry.Event.TheVariants.{Offer, Got, Know}

@@ -1,8 +1,9 @@
 -- The entries of a closed cut are legal, where each link is used by its two parties alone. By induction on the whole history: the links after those
 -- of its entries that are inside stand beside the links after all of them. An offer stands alike in both where the entry that gave it its standing
 -- is inside; and where a party has no entry outside so far, what it alone makes of a link is the same in both.
-use Rattle.std.proofs.Common.{◌≡◌, ℕ, zero, suc, ◌+◌, ◌<◌, ◌≤◌, List, [], ◌∷◌, ◌++◌, length, Option, Some, None, Bool, true, false, refl, sym, ap, ◌∙◌, subst, arith, get_or, cond, eq-eqb, ◌⊎◌, inl, inr}
-use Rattle.std.specs.Prelude.{◌==◌, ◌&&◌, ◌||◌, slice_get, slice_set, slice_index, nat_lt, replicate}
+use Rattle.std.proofs.Common.{◌≡◌, ℕ, zero, suc, ◌+◌, ◌<◌, ◌≤◌, List, [], ◌∷◌, ◌++◌, length, Option, Some, None}
+use Rattle.std.proofs.Common.{Bool, true, false, refl, sym, ap, ◌∙◌, subst, arith, get_or, cond, eq-eqb, ◌⊎◌, inl, inr}
+use Rattle.std.specs.Prelude.{◌==◌, ◌&&◌, ◌||◌, slice_get, slice_index, nat_lt}
 use Rattle.std.proofs.lemmas.Bool.{and_parts, cases_eq, cases_lt, cases_Bool, lt-ltb, le-ltb, ltb-true}
 use Rattle.std.proofs.lemmas.Option.{same_Some, slice_get_within}
 use Rattle.std.proofs.lemmas.List.{get_or-set_same, get_or-set_other, length-set, append-nil}
@@ -14,15 +15,16 @@ use Rattle.ac_links.specs.declared.payloads.Terms.{Terms}
 use Rattle.ac_links.specs.Link.{link_fits, link_after, link_of, number_of, answered, standing_stamp, is_decided}
 use Rattle.ac_history.specs.History.{Past, link_at, is_later, has_stamp, in_range, may_make, terms_of, fits, after, IsLegal, start}
 use Rattle.ac_history.specs.Quiet.{after_all_of}
-use Rattle.ac_causal.specs.Before.{Answers, count_below, is_of}
+use Rattle.ac_causal.specs.Before.{is_of}
 use Rattle.ac_causal.specs.Cuts.{made_by, IsInside, IsClosed}
-use Rattle.ac_causal.specs.inner.Marks.{Marked, no_marks, marks_of, link_marks_after, marked_after, marked_by, marked_at, seen_mark}
-use Rattle.ac_causal.proofs.Steps.{gives, wants, Step, Stays, own_step, other_step, other_mark, own_mark, same_marks, sees_mark, sees_stamp}
+use Rattle.ac_causal.specs.inner.Marks.{Marked, marks_of, link_marks_after, marked_after, marked_by, seen_mark}
+use Rattle.ac_causal.proofs.Steps.{gives, wants, Step, other_step, other_mark, own_mark, same_marks, sees_mark, sees_stamp}
 use Rattle.ac_causal.proofs.Held.{zero_or, Held, Kept, link_same, link_other, mark_same, mark_other, own, comes_later, after_one, past_at, fits_at, kept_at}
-use Rattle.ac_causal.proofs.Answered.{marks, seen_made, sees}
+use Rattle.ac_causal.proofs.Answered.{marks, seen_made}
 use Rattle.ac_causal.proofs.Counting.{count_le, get_some}
-use Rattle.ac_causal.proofs.Alike.{is_owners, is_peers, is_new, gives_owners, gives_peers, wants_old, decided_level, answers_no_stamp, both_true, knowns, replieds, knowns_after, knowns_go_on, knowns_stay}
-use Rattle.ac_causal.proofs.Alike.{RepliedToo, replieds_after, replieds_go_on, replied_more, replied_both, many_replieds, StandsAlike, old_offer, withdraws_offered, fits_too, alike_after, new_alike, alike_stays}
+use Rattle.ac_causal.proofs.Alike.{is_owners, is_peers, is_new, gives_owners, gives_peers, wants_old, decided_level}
+use Rattle.ac_causal.proofs.Alike.{answers_no_stamp, both_true, knowns, replieds, knowns_after, knowns_go_on, knowns_stay}
+use Rattle.ac_causal.proofs.Alike.{RepliedToo, replieds_go_on, replied_more, replied_both, many_replieds, StandsAlike, old_offer, withdraws_offered, fits_too, alike_after, new_alike, alike_stays}
 
 -- each entry is made by that party of its link which makes such entries; a reply may be any party's
 pub record AreAtEnds (owner peer : ℕ → ℕ) (es : List Stamped) : Type 0 where
@@ -483,7 +485,8 @@ module _ (owner peer : ℕ → ℕ) (capacities : List ℕ) (cores : ℕ) (es : 
       by (inl inside) =
           subst (Then k e) (sym (lt-ltb (made_by es e.party k) (slice_index counts e.party) inside)) (record {
             legal_to = legal_more first (inside_to k) e h.legal_to (fits_inside k e is (after_all_of first (inside_to k)) h.beside inside);
-            beside = subst (Beside (suc k) (after (past k) e) (marked_after (marked k) (suc k) e)) (sym (after_more first (inside_to k) e)) (goes_on_inside k e is (after_all_of first (inside_to k)) h.beside inside);
+            beside = subst (Beside (suc k) (after (past k) e) (marked_after (marked k) (suc k) e)) (sym (after_more first (inside_to k) e)) (goes_on_inside k e is (after_all_of first
+                (inside_to k)) h.beside inside);
           })
       by (inr outside) =
           subst (Then k e) (sym (le-ltb (made_by es e.party k) (slice_index counts e.party) outside)) (record {

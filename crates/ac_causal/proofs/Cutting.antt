@@ -1,6 +1,6 @@
 -- Where a cut is open: by own counts an entry is seen to be in it, and by its mark what it answers.
 -- Entry by entry, the least mark of an entry outside that one inside answers is kept.
-use Rattle.std.proofs.Common.{◌≡◌, ℕ, zero, suc, ◌+◌, ◌-◌, ◌*◌, ◌<◌, ◌≤◌, List, length, Some, Bool, true, false, sym, ap, ◌∙◌, subst, arith, ◌⊎◌, inl, inr}
+use Rattle.std.proofs.Common.{◌≡◌, ℕ, suc, ◌+◌, ◌-◌, ◌<◌, ◌≤◌, List, length, Some, Bool, true, false, sym, ap, ◌∙◌, subst, arith, ◌⊎◌, inl, inr}
 use Rattle.std.specs.Prelude.{◌↔◌, IsTrue, slice_get, slice_index, nat_le, min}
 use Rattle.std.proofs.lemmas.Bool.{leb-true, cases_lt}
 use Rattle.std.proofs.lemmas.Option.{same_Some, slice_get_within}
@@ -8,11 +8,11 @@ use Rattle.ac_base.specs.declared.entry.Stamped.{Stamped}
 use Rattle.stack_code.specs.Parts.{Parts}
 use Rattle.ac_causal.specs.Before.{Answers}
 use Rattle.ac_causal.specs.Run.{CausalRun}
-use Rattle.ac_causal.specs.Cuts.{made_by, IsCut, IsInside, IsClosed, IsOpenAt, IsCutAnswer}
+use Rattle.ac_causal.specs.Cuts.{made_by, IsInside, IsOpenAt, IsCutAnswer}
 use Rattle.ac_causal.specs.declared.cut.CutAnswer.TheVariants.{Closed, Open}
 use Rattle.ac_causal.specs.inner.Kept.{IsKept}
 use Rattle.ac_causal.specs.inner.Marks.{no_marks, count_at, seen_mark, marked_at}
-use Rattle.ac_causal.specs.inner.Opening.{AreSeen, IsWhole, IsOpenMark, IsLeastMark}
+use Rattle.ac_causal.specs.inner.Opening.{IsWhole, IsOpenMark, IsLeastMark}
 use Rattle.ac_causal.proofs.Held.{zero_or}
 use Rattle.ac_causal.proofs.Answered.{seen_made, seen_all}
 use Rattle.ac_causal.proofs.Counting.{get_some, own_count}
@@ -21,7 +21,8 @@ use Rattle.ac_causal.proofs.Reaching.{count_same, ticks, le_true}
 
 -- ---- inside
 
-pub inside_by : {code : Parts} {steps : ℕ} (es : List Stamped) (parties : ℕ) (table : List ℕ) (k : IsKept es parties table) (r : CausalRun) → record { code = code; steps = steps; entries = es; parties = parties } ≡ r
+pub inside_by : {code : Parts} {steps : ℕ} (es : List Stamped) (parties : ℕ) (table : List ℕ) (k : IsKept es parties table) (r : CausalRun)
+    → record { code = code; steps = steps; entries = es; parties = parties } ≡ r
     → (counts : List ℕ) (entry own : ℕ) (a : Stamped) → slice_get es entry ≡ Some a → own ≡ count_at parties table (entry + 1) a.party
     → (nat_le own (slice_index counts a.party) ≡ true → IsInside r.entries counts entry) × (IsInside r.entries counts entry → nat_le own (slice_index counts a.party) ≡ true)
 inside_by es parties table k r view counts entry own a is p =
@@ -65,13 +66,6 @@ module _ (es : List Stamped) (parties : ℕ) (table seen : List ℕ) (k : IsWhol
       only = λ i a inside out. absurd (let m = answers_mark i j mark is a in omega (arith, m, z));
     }
 
-    pub not_in_it : (IsInside es counts j → ⊥) → IsOpenMark es counts j 0
-    not_in_it out = record {
-      none = λ o i a inside. absurd (out inside);
-      some = λ i h. absurd (omega (arith, h));
-      only = λ i a inside outside. absurd (out inside);
-    }
-
     pub both_in_it : 0 < mark → IsInside es counts (mark - 1) → IsOpenMark es counts j 0
     both_in_it positive there = record {
       none = λ o i a inside. in_it i a;
@@ -91,7 +85,8 @@ module _ (es : List Stamped) (parties : ℕ) (table seen : List ℕ) (k : IsWhol
 
 -- ---- as contracts see it
 
-module _ {code : Parts} {steps : ℕ} (es : List Stamped) (parties : ℕ) (table seen : List ℕ) (k : IsWhole es parties table seen) (r : CausalRun) (view : record { code = code; steps = steps; entries = es; parties = parties } ≡ r)
+module _ {code : Parts} {steps : ℕ} (es : List Stamped) (parties : ℕ) (table seen : List ℕ) (k : IsWhole es parties table seen) (r : CausalRun)
+    (view : record { code = code; steps = steps; entries = es; parties = parties } ≡ r)
     (counts : List ℕ) (j mark : ℕ) (lt : j < length r.entries) (is : mark ≡ slice_index seen j) where
   same : es ≡ r.entries
   same = ap (λ (x : CausalRun). x.entries) view
@@ -108,10 +103,6 @@ module _ {code : Parts} {steps : ℕ} (es : List Stamped) (parties : ℕ) (table
   pub sees_none : mark ≡ 0 → IsOpenMark r.entries counts j 0
   sees_none z = of_these 0 (answers_none es parties table seen k counts j mark within is z)
 
-  pub is_outside : (b : Bool) → b ≡ false → IsTrue b ↔ IsInside r.entries counts j → IsOpenMark r.entries counts j 0
-  is_outside b h d = of_these 0 (not_in_it es parties table seen k counts j mark within is
-      (λ i. (let bad : false ≡ true = sym h ∙ d.1 (subst (λ x. IsInside x counts j) same i) in cc)))
-
   pub both_inside : 0 < mark → (b : Bool) → b ≡ true → IsTrue b ↔ IsInside r.entries counts (mark - 1) → IsOpenMark r.entries counts j 0
   both_inside positive b h d = of_these 0 (both_in_it es parties table seen k counts j mark within is positive (subst (λ x. IsInside x counts (mark - 1)) (sym same) (d.0 h)))
 
@@ -120,7 +111,8 @@ module _ {code : Parts} {steps : ℕ} (es : List Stamped) (parties : ℕ) (table
   is_open_at positive a b h d g e = of_these mark (open_there es parties table seen k counts j mark within is positive (subst (λ x. IsInside x counts j) (sym same) (d.0 h))
       (λ i. (let bad : false ≡ true = sym g ∙ e.1 (subst (λ x. IsInside x counts (mark - 1)) same i) in cc)))
 
-pub in_seen : {code : Parts} {steps : ℕ} (es : List Stamped) (parties : ℕ) (table seen : List ℕ) (k : IsWhole es parties table seen) (r : CausalRun) → record { code = code; steps = steps; entries = es; parties = parties } ≡ r
+pub in_seen : {code : Parts} {steps : ℕ} (es : List Stamped) (parties : ℕ) (table seen : List ℕ) (k : IsWhole es parties table seen) (r : CausalRun)
+    → record { code = code; steps = steps; entries = es; parties = parties } ≡ r
     → (j : ℕ) → j < length r.entries → j < length seen
 in_seen es parties table seen k r view j lt =
     let a = k.marks.so_many in
@@ -128,13 +120,6 @@ in_seen es parties table seen k r view j lt =
     omega (arith, a, b, lt)
 
 -- ---- the least mark
-
-pub least_begins : (es : List Stamped) (counts : List ℕ) → IsLeastMark es counts 0 0
-least_begins es counts = record {
-  none = λ z i j lt. absurd (omega (arith, lt));
-  some = λ i h. absurd (omega (arith, h));
-  least = λ i j lt. absurd (omega (arith, lt));
-}
 
 module _ (es : List Stamped) (counts : List ℕ) (n least mark r : ℕ) (first : least ≡ 0 → r ≡ mark) (second : 0 < least → mark ≡ 0 → r ≡ least)
     (both : 0 < least → 0 < mark → r ≡ min least mark) (was : IsLeastMark es counts n least) (now : IsOpenMark es counts n mark) where

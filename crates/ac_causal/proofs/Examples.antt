@@ -1,7 +1,7 @@
 -- What the definitions of the causal order say of a small run: two cores, each of which sends on a channel and receives on the other.
 -- The two offers come first and are concurrent; each core takes the other's message, and then learns that its own was taken.
 -- What holds is built from its parts. That the offers are concurrent: of an offer that is its party's first entry, nothing is before it.
-use Rattle.std.proofs.Common.{◌≡◌, ◌≢◌, ℕ, zero, suc, ◌+◌, ◌<◌, ◌≤◌, List, [], ◌∷◌, length, Option, Some, None, Bool, true, false, cond, refl, sym, ap, ◌∙◌, subst, arith, ◌⊎◌, inl, inr}
+use Rattle.std.proofs.Common.{◌≡◌, ℕ, zero, suc, ◌+◌, ◌<◌, ◌≤◌, List, [], ◌∷◌, length, Option, Some, None, Bool, true, false, cond, refl, sym, ap, ◌∙◌, subst, arith, ◌⊎◌, inl, inr}
 use Rattle.std.specs.Prelude.{◌&&◌, pos, slice_get, slice_index}
 use Rattle.std.proofs.lemmas.Bool.{and_parts}
 use Rattle.ac_base.specs.declared.entry.Payload.TheVariants.{Int}

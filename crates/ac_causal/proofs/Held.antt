@@ -1,8 +1,8 @@
 -- Where the marks point: for each offer to the entry by which it stands, for each party to its last entry.
 -- By induction on a legal history: an entry that gives an offer its standing is from then on the one of its mark, and no earlier one gave that
 -- standing; so what an entry answers is the one entry of the mark, and its stamp is less.
-use Rattle.std.proofs.Common.{◌≡◌, ℕ, zero, suc, ◌+◌, ◌<◌, ◌≤◌, List, [], ◌∷◌, ◌++◌, length, Option, Some, None, Bool, true, false, refl, sym, ap, ◌∙◌, subst, arith, get_or, set, ◌⊎◌, inl, inr}
-use Rattle.std.specs.Prelude.{◌==◌, ◌&&◌, ◌||◌, slice_get, slice_set, slice_index, is_some, replicate, nat_lt, max}
+use Rattle.std.proofs.Common.{◌≡◌, ℕ, zero, suc, ◌<◌, ◌≤◌, List, [], ◌∷◌, length, Option, Some, None, Bool, true, false, refl, sym, ap, ◌∙◌, subst, arith, get_or, ◌⊎◌, inl, inr}
+use Rattle.std.specs.Prelude.{◌==◌, ◌&&◌, ◌||◌, slice_get, slice_index, is_some, replicate, nat_lt}
 use Rattle.std.proofs.lemmas.Bool.{and_parts, eqb-true, ltb-true, cases_eq, cases_lt}
 use Rattle.std.proofs.lemmas.Option.{same_Some}
 use Rattle.std.proofs.lemmas.List.{get_or-set_same, get_or-set_other, length-set, length-replicate}
@@ -11,11 +11,11 @@ use Rattle.ac_base.specs.declared.entry.Stamped.{Stamped}
 use Rattle.ac_base.specs.Stamps.{next_stamp}
 use Rattle.ac_links.specs.declared.offer.LinkOffer.{LinkOffer}
 use Rattle.ac_links.specs.declared.payloads.Terms.{Terms}
-use Rattle.ac_links.specs.Link.{link_fits, link_after, link_of, number_of, answered, standing_stamp}
+use Rattle.ac_links.specs.Link.{link_fits, link_after, link_of, number_of, answered}
 use Rattle.ac_history.specs.History.{Past, link_at, is_later, has_stamp, in_range, may_make, terms_of, fits, after, IsLegal, start}
-use Rattle.ac_causal.specs.inner.Marks.{Marked, no_marks, marks_of, link_marks_after, marked_after, marked_by, marked_at, answered_mark}
-use Rattle.ac_causal.proofs.Steps.{level, level_at, gives, wants, is_did, is_reply, did_gives, has_answer_at, IsSound}
-use Rattle.ac_causal.proofs.Steps.{Step, Stays, Rises, own_step, other_step, marks_length, other_mark, own_mark, same_marks}
+use Rattle.ac_causal.specs.inner.Marks.{Marked, no_marks, marks_of, link_marks_after, marked_after, marked_by, marked_at}
+use Rattle.ac_causal.proofs.Steps.{level, level_at, gives, is_did, did_gives, IsSound}
+use Rattle.ac_causal.proofs.Steps.{Step, own_step, other_step, marks_length, other_mark, own_mark, same_marks}
 
 -- ---- one entry that fits
 

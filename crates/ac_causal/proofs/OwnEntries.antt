@@ -1,17 +1,17 @@
 -- Each entry of a core's journal is made at the core's own end of its link, where the code keeps to its ends. By induction on the moves of a run: an
 -- entry comes in for an operation that has not ended, which is at an end of the core (`keeps_on`), and only what sends, reads or writes is offered;
 -- room is given back for what the core has withdrawn before.
-use Rattle.std.proofs.Common.{◌≡◌, ℕ, zero, suc, ◌+◌, ◌<◌, ◌≤◌, List, [], ◌∷◌, ◌++◌, length, Option, Some, None, Result, Ok, Err, Bool, true, false, refl, sym, ap, ◌∙◌, subst, arith, append-nil, append_assoc, if◌then◌else◌}
-use Rattle.std.specs.Prelude.{◌&&◌, ◌||◌, ◌-◌, ◌^◌, ℤ, All, find, not, nat_eq, nat_lt, replicate, slice_get, slice_set}
+use Rattle.std.proofs.Common.{◌≡◌, ℕ, zero, suc, ◌+◌, ◌<◌, List, [], ◌∷◌, ◌++◌, length, Option, Some, None, Result}
+use Rattle.std.proofs.Common.{Ok, Err, Bool, true, false, refl, sym, ap, ◌∙◌, subst, arith, append-nil, append_assoc, if◌then◌else◌}
+use Rattle.std.specs.Prelude.{◌&&◌, ◌||◌, ◌-◌, ◌^◌, All, find, not, nat_eq, nat_lt, replicate, slice_get, slice_set}
 use Rattle.std.specs.List.{list_any, AllByRecursion}
 use Rattle.std.proofs.lemmas.Bool.{and_parts, eqb-true}
 use Rattle.std.proofs.lemmas.List.{length-append}
 use Rattle.std.proofs.lemmas.List.Elements.{All-nil, All-push}
-use Rattle.std.proofs.lemmas.Option.{same_Some, slice_get_within, slice_get_past}
+use Rattle.std.proofs.lemmas.Option.{slice_get_past}
 use Rattle.ac_base.specs.declared.ends.Trap.{Trap}
 use Rattle.ac_base.specs.declared.ends.EndWord.TheVariants as word
 use Rattle.ac_base.specs.declared.ends.CoreEnd.{CoreEnd}
-use Rattle.ac_base.specs.declared.entry.Answer.{Answer}
 use Rattle.ac_base.specs.declared.entry.Entry.{Entry}
 use Rattle.ac_base.specs.declared.entry.Event.{Event}
 use Rattle.ac_base.specs.declared.entry.Event.TheVariants as event
@@ -20,30 +20,30 @@ use Rattle.work_item.specs.declared.ids.Item.{Item}
 use Rattle.work_item.specs.declared.ids.BlockId.{BlockId}
 use Rattle.work_item.specs.declared.cell.Cell.{Cell}
 use Rattle.work_item.specs.declared.cell.Cell.TheVariants as cell
-use Rattle.work_item.specs.declared.cell.Place.{Place}
 use Rattle.work_item.specs.Store.{Store, cell_at, no_int, int_in, place_in}
 use Rattle.cancel_scope.specs.declared.operation.Asked.{Asked}
 use Rattle.cancel_scope.specs.declared.operation.Asked.TheVariants as asked
 use Rattle.cancel_scope.specs.declared.operation.Progress.{Progress}
 use Rattle.cancel_scope.specs.declared.operation.Progress.TheVariants as progress
 use Rattle.cancel_scope.specs.declared.operation.Operation.{Operation}
-use Rattle.cancel_scope.specs.Outstanding.{started, is_outgoing, is_waiting, is_under, is_to_offer, is_offered, is_to_receive, is_begun, is_request, offered_as, past_offer, as_begun, change_first, without_first}
+use Rattle.cancel_scope.specs.Outstanding.{started, is_outgoing, is_waiting, is_under, is_to_offer, is_offered, is_to_receive}
+use Rattle.cancel_scope.specs.Outstanding.{is_request, offered_as, past_offer, as_begun, change_first, without_first}
 use Rattle.core_state.specs.Moves.{Move, On, Over, moves, and_then}
 use Rattle.core_state.specs.Frames.{block_in, begun as begun_store, first_store}
 use Rattle.core_state.specs.Arrivals as arrivals
 use Rattle.core_state.specs.Arrivals.{Arrival, at_point, comes_in, offers, offers_on, is_known, ends_received, passes_over, gives_room, keeps_room, is_answered}
 use Rattle.core_state.specs.Cancelling.{Fate, NeverHappens, IsTaken, by_outcome, tried, tries, is_to_try, goes_by, decided, outcome}
 use Rattle.core_state.specs.Requests.{bytes_at, if_in_range}
-use Rattle.core_state.specs.Shared.{Shared, with_turn, with_entry, seen, begins_with, request_link}
+use Rattle.core_state.specs.Shared.{Shared, with_turn, with_entry, seen, begins_with}
 use Rattle.stack_code.specs.declared.instr.Instr.{Instr}
 use Rattle.stack_code.specs.declared.instr.Instr.TheVariants as i
 use Rattle.stack_code.specs.declared.parts.ChannelEnds.{ChannelEnds}
-use Rattle.stack_code.specs.declared.parts.Entered.{Entered}
-use Rattle.stack_code.specs.Parts.{Parts, Begins}
+use Rattle.stack_code.specs.Parts.{Parts}
 use Rattle.stack_code.specs.Valid.{IsValid}
 use Rattle.stack_code.specs.Kept.{IsRanked}
 use Rattle.code_meaning.specs.Machine as flat
-use Rattle.code_meaning.specs.Machine.{Flat, FlatEnd, nobody, arrived, resumed, begin, exec, exec_of, dispatched, told, asks, operates, requests, on_top, on_three, first_flat, first_core, first_globals, shared_at_first, thread_at}
+use Rattle.code_meaning.specs.Machine.{Flat, FlatEnd, nobody, arrived, resumed, begin, exec, exec_of, dispatched, told}
+use Rattle.code_meaning.specs.Machine.{asks, operates, requests, on_top, on_three, first_flat, first_core, first_globals, shared_at_first, thread_at}
 use Rattle.code_safety.specs.KeptEnds.{KeepsEnds, IsAtEnd, AreAtEnds, KeepsOwnEnds}
 use Rattle.code_safety.proofs.Alike.{Alike, begin_alike, more_to_come}
 use Rattle.code_safety.proofs.Arriving.{Comes, offered, known, begun, answered, received, passed, comes_of}
@@ -543,9 +543,12 @@ own_entries code v keeps ranks ranked core bound lt [] r = tt
 own_entries code v keeps ranks ranked core bound lt (e ∷ es) r =
     from (begun_store (first_store (first_globals code)) None (replicate r.runs.function.words no_int)) (keeps_first code v keeps core r.runs.function r.runs.begins (e ∷ es)) r.runs.comes.1
   where
-    from : (b : Result Store Trap) → Onward (KeepsOwnEnds code core) (begins_with (told 0) (first_globals code) (shared_at_first code core (e ∷ es)) b (λ store. On (first_core r.runs.function (shared_at_first code core (e ∷ es)) store)))
-        → Over (record { core = Some r.end; count = r.count }) ≡ and_then (begins_with (told 0) (first_globals code) (shared_at_first code core (e ∷ es)) b (λ store. On (first_core r.runs.function (shared_at_first code core (e ∷ es)) store))) (moves (exec code bound) r.runs.comes.0) → AllOwn code core (e ∷ es)
+    from : (b : Result Store Trap) → Onward (KeepsOwnEnds code core) (begins_with (told 0) (first_globals code) (shared_at_first code core (e ∷ es)) b (λ store. On (first_core r.runs.function
+        (shared_at_first code core (e ∷ es)) store)))
+        → Over (record { core = Some r.end; count = r.count }) ≡ and_then (begins_with (told 0) (first_globals code) (shared_at_first code core (e ∷ es)) b (λ store. On (first_core r.runs.function
+        (shared_at_first code core (e ∷ es)) store))) (moves (exec code bound) r.runs.comes.0) → AllOwn code core (e ∷ es)
     from (Ok store) ends h =
-        run_own code v keeps ranks ranked core bound lt (e ∷ es) e r.runs.comes.0 (first_core r.runs.function (shared_at_first code core (e ∷ es)) store) (record { core = Some r.end; count = r.count })
+        run_own code v keeps ranks ranked core bound lt (e ∷ es) e r.runs.comes.0 (first_core r.runs.function (shared_at_first code core (e ∷ es)) store)
+        (record { core = Some r.end; count = r.count })
         (record { whole = refl; own = tt; sounds = All-nil IsSound; ends = ends }) (sym h) r.end refl
     from (Err trap) ends h = some_none r.end (ap (λ (y : FlatEnd). y.core) (over_same (record { core = Some r.end; count = r.count }) (told 0 None) h))

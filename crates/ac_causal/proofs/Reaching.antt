@@ -1,5 +1,5 @@
 -- What is kept of a run tells its order and its vectors: the theorem on vectors, for the numbers that the calls read in the table.
-use Rattle.std.proofs.Common.{◌≡◌, ℕ, zero, suc, ◌+◌, ◌*◌, ◌^◌, ◌<◌, ◌≤◌, List, length, Some, true, sym, ap, ◌∙◌, subst, arith, ◌⊎◌, add-one, refl}
+use Rattle.std.proofs.Common.{◌≡◌, ℕ, suc, ◌+◌, ◌*◌, ◌^◌, ◌<◌, ◌≤◌, List, length, Some, true, sym, ap, ◌∙◌, subst, arith, ◌⊎◌, add-one, refl}
 use Rattle.std.specs.Prelude.{slice_get, slice_index, nat_le}
 use Rattle.std.proofs.lemmas.Bool.{leb-true}
 use Rattle.std.proofs.lemmas.Bool.Decides.{nat_tests}
@@ -58,7 +58,8 @@ module _ (es : List Stamped) (parties : ℕ) (table : List ℕ) (k : IsKept es p
 pub le_true : (x y : ℕ) → x ≤ y → nat_le x y ≡ true
 le_true x y h = grind (arith, nat_tests)
 
-pub reaches_by : {code : Parts} {steps : ℕ} (es : List Stamped) (parties : ℕ) (table : List ℕ) (k : IsKept es parties table) (r : CausalRun) → record { code = code; steps = steps; entries = es; parties = parties } ≡ r
+pub reaches_by : {code : Parts} {steps : ℕ} (es : List Stamped) (parties : ℕ) (table : List ℕ) (k : IsKept es parties table) (r : CausalRun)
+    → record { code = code; steps = steps; entries = es; parties = parties } ≡ r
     → (one other party own seen : ℕ) (a : Stamped) → slice_get es one ≡ Some a → other < length r.entries → party ≡ a.party
     → own ≡ count_at parties table (one + 1) party → seen ≡ count_at parties table (other + 1) party
     → (nat_le own seen ≡ true → (one ≡ other) ⊎ IsBefore r.entries one other) × ((one ≡ other) ⊎ IsBefore r.entries one other → nat_le own seen ≡ true)
@@ -69,7 +70,8 @@ reaches_by es parties table k r view one other party own seen a is lt same p q =
       (λ h. le_true own seen (reaches_tells es parties table k one other party own seen a is same p q (subst (λ x. (one ≡ other) ⊎ IsBefore x one other) (sym e) h))),
     )
 
-pub vector_by : {code : Parts} {steps : ℕ} (es : List Stamped) (parties : ℕ) (table : List ℕ) (k : IsKept es parties table) (r : CausalRun) → record { code = code; steps = steps; entries = es; parties = parties } ≡ r
+pub vector_by : {code : Parts} {steps : ℕ} (es : List Stamped) (parties : ℕ) (table : List ℕ) (k : IsKept es parties table) (r : CausalRun)
+    → record { code = code; steps = steps; entries = es; parties = parties } ≡ r
     → (entry : ℕ) (counts : List ℕ) → entry < length r.entries → length counts ≡ parties
     → ((p : ℕ) → p < parties → slice_index counts p ≡ count_at parties table (entry + 1) p) → IsVector r.entries r.parties entry counts
 vector_by es parties table k r view entry counts lt as_many each =

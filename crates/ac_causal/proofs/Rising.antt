@@ -1,11 +1,11 @@
 -- The causal order of a legal history goes forward: in places and in stamps. For `stamps_rise`.
 -- By induction on the order: along a party both rise, and what is answered is before what answers it.
-use Rattle.std.proofs.Common.{◌≡◌, ℕ, ◌<◌, List, Some, sym, ◌∙◌, ap, subst, arith}
+use Rattle.std.proofs.Common.{◌≡◌, ℕ, ◌<◌, List, Some, sym, ◌∙◌, ap, arith}
 use Rattle.std.specs.Prelude.{slice_get}
 use Rattle.std.proofs.lemmas.Option.{same_Some}
 use Rattle.ac_base.specs.declared.entry.Stamped.{Stamped}
 use Rattle.ac_history.specs.History.{IsLegal, start}
-use Rattle.ac_causal.specs.Before.{Answers, IsBefore, of_one_party, by_answer, by_way}
+use Rattle.ac_causal.specs.Before.{IsBefore, of_one_party, by_answer, by_way}
 use Rattle.ac_causal.proofs.Answered.{seen_made, seen_all, stamp_of_party, stamp_of_answer}
 
 stamp_same : (a b : Stamped) → a ≡ b → a.entry.stamp ≡ b.entry.stamp

@@ -1,13 +1,12 @@
 -- What the definitions say of states: of a run whose one entry is the offer of a core that then waits, while the other core has ended at once; and of
 -- the histories of cuts of the small run of two offers.
-use Rattle.std.proofs.Common.{◌≡◌, ℕ, zero, suc, ◌<◌, ◌≤◌, List, [], ◌∷◌, Option, Some, None, pos, true, false, refl, sym, ap, ◌∙◌, subst, arith, length}
+use Rattle.std.proofs.Common.{◌≡◌, ℕ, zero, suc, ◌<◌, ◌≤◌, [], ◌∷◌, Some, None, pos, true, false, refl, ap, ◌∙◌, subst, arith}
 use Rattle.std.specs.Prelude.{slice_get, slice_index}
 use Rattle.std.proofs.lemmas.Option.{same_Some}
 use Rattle.ac_base.specs.declared.ends.CoreEnd.{CoreEnd}
 use Rattle.ac_base.specs.declared.entry.Event.TheVariants.{Offer, Got}
 use Rattle.ac_base.specs.declared.entry.Payload.TheVariants.{Int}
 use Rattle.ac_base.specs.declared.entry.Stamped.{Stamped}
-use Rattle.ac_commands.specs.declared.program.Resolved.{Resolved}
 use Rattle.ac_semantics.proofs.OperationExamples.{two_cores}
 use Rattle.ac_semantics.specs.Replay.{Replays}
 use Rattle.ac_translation.specs.Translation.{code_of}
@@ -20,7 +19,7 @@ use Rattle.program_run.proofs.RunExamples.{its_offer as offered, it_waits, it_ha
 use Rattle.trace_audit.specs.Laws.{IsSound}
 use Rattle.trace_audit.proofs.TraceExamples.{its_offer, its_trace, it_is_a_run}
 use Rattle.ac_causal.specs.Before.{answers, Answers}
-use Rattle.ac_causal.specs.Cuts.{made_by, IsCut, IsInside, IsClosed}
+use Rattle.ac_causal.specs.Cuts.{made_by, IsInside}
 use Rattle.ac_causal.specs.Laws.{RunsAreLegal, ClosedCutsAreLegal}
 use Rattle.ac_causal.specs.Run.{IsAudited}
 use Rattle.ac_causal.specs.States.{cut_journal, AreStates, cut_journals, cut_history}

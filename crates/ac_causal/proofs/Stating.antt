@@ -1,12 +1,12 @@
 -- A core under its first so many entries of a run: it never refuses one, since each front of a journal that has a run has one; and the end to which it
 -- comes is that of the program, whose code has the same runs.
-use Rattle.std.proofs.Common.{◌≡◌, ℕ, zero, suc, ◌+◌, ◌-◌, ◌<◌, ◌≤◌, List, [], ◌∷◌, ◌++◌, length, Option, Some, None, Result, Ok, Err, Bool, true, false, refl, sym, ap, ◌∙◌, subst, arith, take, drop, add-one, ◌⊎◌, inl, inr}
+use Rattle.std.proofs.Common.{◌≡◌, ℕ, suc, ◌+◌, ◌-◌, ◌<◌, ◌≤◌, List, [], ◌∷◌, ◌++◌, length, Some, None, Result, Ok}
+use Rattle.std.proofs.Common.{Err, Bool, true, false, refl, sym, ap, ◌∙◌, subst, arith, take, drop, add-one, ◌⊎◌, inl, inr}
 use Rattle.std.specs.Prelude.{IfOk, nat_eq, slice_get, slice_index}
-use Rattle.std.proofs.lemmas.Bool.{cases_Bool, cases_lt, eqb-true, eq-eqb}
+use Rattle.std.proofs.lemmas.Bool.{cases_Bool, cases_lt, eqb-true}
 use Rattle.std.proofs.lemmas.List.{length-append, length-map, take-append-drop}
 use Rattle.std.proofs.lemmas.Option.{same_Some, slice_get_within}
 use Rattle.ac_base.specs.declared.ends.CoreEnd.{CoreEnd}
-use Rattle.ac_base.specs.declared.entry.Entry.{Entry}
 use Rattle.ac_base.specs.declared.entry.Stamped.{Stamped}
 use Rattle.ac_commands.specs.declared.program.Core.{Core}
 use Rattle.ac_commands.specs.declared.program.Resolved.{Resolved}
@@ -15,17 +15,16 @@ use Rattle.ac_translation.specs.Same.{IsSame}
 use Rattle.stack_code.specs.Parts.{Parts}
 use Rattle.stack_code.specs.Kept.{IsRanked}
 use Rattle.stack_code.specs.Valid.{IsValid}
-use Rattle.code_meaning.specs.Machine.{Runs}
 use Rattle.core_replay.specs.Replayed.{Replayed, IsSameCore}
 use Rattle.replay_laws.specs.Given.{HasRun}
 use Rattle.trace_text.specs.declared.trace.Trace.{Trace}
 use Rattle.trace_audit.specs.RunTrace.{journal_of}
-use Rattle.trace_audit.proofs.Fronts.{front_runs}
+use Rattle.core_replay.proofs.Fronts.{front_runs}
 use Rattle.trace_audit.proofs.Merging.{journal_append}
 use Rattle.ac_causal.specs.Run.{IsAudited}
 use Rattle.ac_causal.specs.States.{cut_journal, AreStates}
 use Rattle.ac_causal.specs.inner.Standing.{RunsTo, AreRunsTo, HasTaken}
-use Rattle.ac_causal.proofs.Fronts.{take_all, one_of, none_of, front, front_more, front_takes, front_full, front_other}
+use Rattle.ac_causal.proofs.Fronts.{take_all, one_of, none_of, front, front_more, front_full, front_other}
 use Rattle.ac_causal.proofs.ClosedCuts.{journal_runs}
 use Rattle.ac_causal.proofs.Steps.{get_pushed_last, get_pushed_other}
 
@@ -113,19 +112,19 @@ module _ (code : Parts) (core bound count : ℕ) (es : List Stamped) (n : ℕ) (
     taken_by b after less refused run same took all less_is = by (cases_Bool b)
       where
         by : (b ≡ true) ⊎ (b ≡ false) → HasTaken code core bound count es (n + 1) after less
-        by (inr no) = absurd (refused no run)
-        by (inl yes) =
+        by (inr fails) = absurd (refused fails run)
+        by (inl holds) =
             let long : length (front es core (suc n)) ≡ length (front es core n ++ s.entry ∷ []) =
             ap length (front_more es core n s is ∙ ap (λ xs. front es core n ++ xs) (one_of core s own)) in
             let more = length-append (front es core n) (s.entry ∷ []) in
             let before = h.left_is in
             let room = lt in
             later after less (record {
-              took_all = all ∙ yes;
+              took_all = all ∙ holds;
               code_is = same.code ∙ h.code_is;
               core_is = same.core ∙ h.core_is;
               bound_is = same.bound ∙ h.bound_is;
-              journal_is = took yes ∙ one_more ∙ sym (take_all (front es core (suc n)) count (omega (arith, long, more, room)));
+              journal_is = took holds ∙ one_more ∙ sym (take_all (front es core (suc n)) count (omega (arith, long, more, room)));
               left_is = omega (arith, long, more, before, less_is);
             })
 

@@ -1,7 +1,7 @@
 -- What one entry of a link makes of the offers and of their marks.
 -- An offer goes up a ladder: offered, withdrawn, taken, passed. An entry that brings it to a rung (`gives`) finds it on a lower one, and one
 -- that answers finds it on the rung to which the answered entry brought it (`wants`). So no two entries bring one offer to the same rung.
-use Rattle.std.proofs.Common.{◌≡◌, ℕ, zero, suc, ◌+◌, ◌-◌, ◌<◌, ◌≤◌, List, [], ◌∷◌, ◌++◌, length, Option, Some, None, Bool, true, false, refl, sym, ap, ◌∙◌, subst, arith, get_or, set}
+use Rattle.std.proofs.Common.{◌≡◌, ℕ, zero, suc, ◌-◌, ◌<◌, List, [], ◌∷◌, ◌++◌, length, Option, Some, None, Bool, true, false, refl, sym, ap, ◌∙◌, subst, arith, get_or}
 use Rattle.std.specs.Prelude.{◌==◌, ◌&&◌, not, slice_get, slice_set, is_some, nat_lt}
 use Rattle.std.proofs.lemmas.Bool.{and_parts, eqb-true}
 use Rattle.std.proofs.lemmas.Option.{slice_get_within, slice_get_past}
@@ -14,7 +14,7 @@ use Rattle.ac_links.specs.declared.offer.Standing.{Standing}
 use Rattle.ac_links.specs.declared.offer.Standing.TheVariants.{Offered, Taken, Withdrawn, Passed}
 use Rattle.ac_links.specs.declared.offer.LinkOffer.{LinkOffer}
 use Rattle.ac_links.specs.declared.payloads.Terms.{Terms}
-use Rattle.ac_links.specs.Payloads.{Taking, carries, has_answer, is_payload}
+use Rattle.ac_links.specs.Payloads.{carries, has_answer, is_payload}
 use Rattle.ac_links.specs.Payloads.Taking.{Message, Done}
 use Rattle.ac_links.specs.Link.{is_offered, is_taken, is_withdrawn, is_passed, front_of, known_lead, takes, knows, withdraws, passes, frees, replies, link_fits, link_after, number_of}
 use Rattle.ac_links.specs.Link.{changed, stands, now_taken, now_known, now_replied, new_offer, answered, standing_stamp}

@@ -1,14 +1,13 @@
 -- The table of the vectors: one row more, and that its rows are the counts of the order's proof.
 -- A row is made of the rows of two marks, which are of entries before: so a longer table has the same rows, and no count is above the number of rows.
 use Rattle.std.proofs.Common.{◌≡◌, ℕ, zero, suc, ◌+◌, ◌-◌, ◌*◌, ◌<◌, ◌≤◌, List, [], ◌∷◌, ◌++◌, length, Option, Some, None, Bool}
-use Rattle.std.proofs.Common.{true, false, refl, sym, ap, ◌∙◌, subst, arith, get_or, set, ◌⊎◌, inl, inr, take, length-append, append_assoc, add-one}
-use Rattle.std.specs.Prelude.{◌==◌, slice_get, slice_index, replicate, max}
+use Rattle.std.proofs.Common.{true, false, refl, sym, ap, ◌∙◌, subst, arith, get_or, set, ◌⊎◌, inl, inr, length-append, add-one}
+use Rattle.std.specs.Prelude.{◌==◌, slice_get, slice_index, max}
 use Rattle.std.proofs.Math.ListN.{get_or-append}
 use Rattle.std.proofs.Math.Nat.{mul_comm}
-use Rattle.std.proofs.Math.Seq.{take-append_seam}
 use Rattle.std.proofs.lemmas.Bool.{cases_lt}
 use Rattle.std.proofs.lemmas.Nat.{mul-add-lt}
-use Rattle.std.proofs.lemmas.Option.{same_Some, slice_get_within}
+use Rattle.std.proofs.lemmas.Option.{slice_get_within}
 use Rattle.std.proofs.lemmas.List.{get_or-append-add, get_or_past}
 use Rattle.ac_base.specs.declared.entry.Event.{Event}
 use Rattle.ac_base.specs.declared.entry.Event.TheVariants.{Offer, Withdraw, Know, Room, Got, Pass, Did, Reply}
@@ -90,46 +89,6 @@ seen_small : (links parties : ℕ) (es : List Stamped) (k : ℕ) (e : Stamped) �
 seen_small links parties es k e =
     seen_up k (marks_of (marked_at es (no_marks links parties) k) (link_of e.entry.event)) e.entry.event ((small_at links parties es k).links (link_of e.entry.event))
 
--- ---- one place of a row more
-
-pub row_begins : (parties party last seen : ℕ) (old : List ℕ) → HasRow parties party last seen old old 0
-row_begins parties party last seen old = record {
-  row = [];
-  form = sym (no_more old);
-  columns_are = refl;
-  each = λ p lt. absurd (omega (arith, lt));
-}
-  where
-    no_more : (xs : List ℕ) → xs ++ [] ≡ xs
-    no_more [] = refl
-    no_more (x ∷ xs) = ap (λ ys. x ∷ ys) (no_more xs)
-
-pub each_pushed : (row : List ℕ) (count columns : ℕ) (f : ℕ → ℕ) → length row ≡ columns → ((p : ℕ) → p < columns → slice_index row p ≡ f p) → count ≡ f columns
-    → (p : ℕ) → p < columns + 1 → (p < columns) ⊎ (columns ≤ p) → slice_index (row ++ count ∷ []) p ≡ f p
-each_pushed row count columns f as_many each is p lt (inl before) =
-    let in_row : p < length row = omega (arith, as_many, before) in
-    get_or-append row (count ∷ []) 0 p in_row ∙ each p before
-each_pushed row count columns f as_many each is p lt (inr last_one) =
-    let here : p ≡ length row + 0 = omega (arith, as_many, last_one, lt) in
-    let same : columns ≡ p = omega (arith, last_one, lt) in
-    ap (λ i. get_or (row ++ count ∷ []) i 0) here ∙ get_or-append-add row (count ∷ []) 0 0 ∙ is ∙ ap f same
-
-pub row_goes_on : (parties party last seen count : ℕ) (old new : List ℕ) (columns : ℕ) → HasRow parties party last seen old new columns
-    → count ≡ new_count parties old party last seen columns → HasRow parties party last seen old (new ++ count ∷ []) (columns + 1)
-row_goes_on parties party last seen count old new columns h is = record {
-  row = h.row ++ count ∷ [];
-  form = ap (λ xs. xs ++ count ∷ []) h.form ∙ append_assoc old h.row (count ∷ []);
-  columns_are = (let a = length-append h.row (count ∷ []) in let b = h.columns_are in omega (arith, a, b));
-  each = λ p lt. each_pushed h.row count columns (λ q. new_count parties old party last seen q) h.columns_are h.each is p lt (cases_lt p columns);
-}
-
-pub rows_fit : (parties party last seen : ℕ) (old new : List ℕ) (columns : ℕ) → HasRow parties party last seen old new columns → length old ≤ length new
-rows_fit parties party last seen old new columns h = let a = ap length h.form in let b = length-append old h.row in omega (arith, a, b)
-
--- the rows before are as they were
-pub rows_before : (parties party last seen rows : ℕ) (old new : List ℕ) (columns : ℕ) → HasRow parties party last seen old new columns → rows ≡ length old → take rows new ≡ old
-rows_before parties party last seen rows old new columns h is = ap (λ n. take n new) is ∙ ap (λ xs. take (length old) xs) h.form ∙ take-append_seam old h.row
-
 -- ---- one row more
 
 in_rows : (w p k parties : ℕ) → w < k → p < parties → w * parties + p < k * parties
@@ -142,9 +101,6 @@ count_small parties k table (suc w) p h = h (w * parties + p)
 ticked_small : (b : Bool) (n k : ℕ) → n ≤ k → ticked b n ≤ suc k
 ticked_small true n k h = let a : n ≤ k = h in omega (arith, a)
 ticked_small false n k h = omega (arith, h)
-
-pub table_begins : (parties : ℕ) (first : Marked) (es : List Stamped) → IsTable parties first es 0 []
-table_begins parties first es = record { length_is = omega arith; small = λ i. omega arith; row = λ j p e lt. absurd (omega (arith, lt)) }
 
 module _ (links parties : ℕ) (es : List Stamped) (k : ℕ) (table new : List ℕ) (e : Stamped) (was : IsTable parties (no_marks links parties) es k table)
     (is : slice_get es k ≡ Some e)

@@ -1,11 +1,9 @@
 -- Vectors tell the causal order: entry i is entry j or before it exactly where j's count of i's party is at least i's own.
 -- An entry's count of its own party is above that of its party's last entry, and all its counts are at least those of that entry and of the
 -- one that it answers, so counts rise along the order. Back: a count of another party comes from one of these two, and so on.
-use Rattle.std.proofs.Common.{◌≡◌, ℕ, zero, suc, ◌+◌, ◌<◌, ◌≤◌, List, length, Option, Some, None, Bool, true, false, refl, sym, ap, ◌∙◌, subst, arith, ◌⊎◌, inl, inr, eq-eqb, cond}
+use Rattle.std.proofs.Common.{◌≡◌, ℕ, zero, suc, ◌<◌, ◌≤◌, List, Some, Bool, true, false, refl, sym, ap, ◌∙◌, subst, arith, ◌⊎◌, inl, inr, eq-eqb}
 use Rattle.std.specs.Prelude.{◌==◌, slice_get, max}
-use Rattle.std.proofs.lemmas.Bool.{eqb-true, cases_eq, cases_lt, cases_order, cases_Bool}
-use Rattle.std.proofs.lemmas.Bool.Decides.{eqb_tells}
-use Rattle.std.proofs.lemmas.Option.{same_Some}
+use Rattle.std.proofs.lemmas.Bool.{eqb-true, cases_lt, cases_order, cases_Bool}
 use Rattle.ac_base.specs.declared.entry.Stamped.{Stamped}
 use Rattle.ac_causal.specs.Before.{Answers, IsEarlier, IsBefore, of_one_party, by_answer, by_way}
 use Rattle.ac_causal.specs.inner.Marks.{ticked}

@@ -1,4 +1,4 @@
-use Rattle.std.proofs.Common.{◌≡◌, List, ℕ, length, ap, subst, sym}
+use Rattle.std.proofs.Common.{◌≡◌, List, ℕ, length, subst}
 use Rattle.std.specs.Prelude.{IfOk}
 use Rattle.ac_commands.specs.declared.program.Resolved.{Resolved}
 use Rattle.ac_translation.specs.Translation.{code_of}

@@ -14,14 +14,16 @@ pub returns-then-mark-eq0 : goal.returns-then-mark-eq0
 returns-then-mark-eq0 c =
     sees_none c.self.inside.trace.now.entries c.self.inside.parties c.self.inside.table.items c.self.inside.seen.items c.self.invariant.whole c.args.self.now c.self.view_is
     c.args.counts.now c.args.entry c.index-mark.result.now c.requires.entry
-    (get_or_read c.self.inside.seen.items _ _ (in_seen c.self.inside.trace.now.entries c.self.inside.parties c.self.inside.table.items c.self.inside.seen.items c.self.invariant.whole c.args.self.now c.self.view_is c.args.entry c.requires.entry) c.index-mark.ensures 0)
+    (get_or_read c.self.inside.seen.items _ _ (in_seen c.self.inside.trace.now.entries c.self.inside.parties c.self.inside.table.items c.self.inside.seen.items c.self.invariant.whole
+    c.args.self.now c.self.view_is c.args.entry c.requires.entry) c.index-mark.ensures 0)
     c.if-mark-eq0.true
 
 pub is_inside-requires-2-clause-entry : goal.is_inside-requires-2-clause-entry
 is_inside-requires-2-clause-entry c =
     let within = mark_within c.self.inside.trace.now.entries c.self.inside.parties c.self.inside.table.items c.self.inside.seen.items c.self.invariant.whole c.args.self.now c.self.view_is
     c.args.counts.now c.args.entry c.index-mark.result.now c.requires.entry
-    (get_or_read c.self.inside.seen.items _ _ (in_seen c.self.inside.trace.now.entries c.self.inside.parties c.self.inside.table.items c.self.inside.seen.items c.self.invariant.whole c.args.self.now c.self.view_is c.args.entry c.requires.entry) c.index-mark.ensures 0)
+    (get_or_read c.self.inside.seen.items _ _ (in_seen c.self.inside.trace.now.entries c.self.inside.parties c.self.inside.table.items c.self.inside.seen.items c.self.invariant.whole
+    c.args.self.now c.self.view_is c.args.entry c.requires.entry) c.index-mark.ensures 0)
     (positive c.index-mark.result.now c.if-mark-eq0.false) in
     let from = c.from.ensures in
     omega (arith, within, from)
@@ -30,7 +32,8 @@ pub returns-then-is_inside : goal.returns-then-is_inside
 returns-then-is_inside c =
     both_inside c.self.inside.trace.now.entries c.self.inside.parties c.self.inside.table.items c.self.inside.seen.items c.self.invariant.whole c.args.self.now c.self.view_is
     c.args.counts.now c.args.entry c.index-mark.result.now c.requires.entry
-    (get_or_read c.self.inside.seen.items _ _ (in_seen c.self.inside.trace.now.entries c.self.inside.parties c.self.inside.table.items c.self.inside.seen.items c.self.invariant.whole c.args.self.now c.self.view_is c.args.entry c.requires.entry) c.index-mark.ensures 0)
+    (get_or_read c.self.inside.seen.items _ _ (in_seen c.self.inside.trace.now.entries c.self.inside.parties c.self.inside.table.items c.self.inside.seen.items c.self.invariant.whole
+    c.args.self.now c.self.view_is c.args.entry c.requires.entry) c.index-mark.ensures 0)
     (positive c.index-mark.result.now c.if-mark-eq0.false) c.is_inside-2.result c.if-is_inside.true
     (subst (λ x. IsTrue c.is_inside-2.result ↔ IsInside c.args.self.now.entries c.args.counts.now x) c.from.ensures c.is_inside-2.ensures)
 
@@ -38,6 +41,7 @@ pub returns : goal.returns
 returns c =
     is_open_at c.self.inside.trace.now.entries c.self.inside.parties c.self.inside.table.items c.self.inside.seen.items c.self.invariant.whole c.args.self.now c.self.view_is
     c.args.counts.now c.args.entry c.index-mark.result.now c.requires.entry
-    (get_or_read c.self.inside.seen.items _ _ (in_seen c.self.inside.trace.now.entries c.self.inside.parties c.self.inside.table.items c.self.inside.seen.items c.self.invariant.whole c.args.self.now c.self.view_is c.args.entry c.requires.entry) c.index-mark.ensures 0)
+    (get_or_read c.self.inside.seen.items _ _ (in_seen c.self.inside.trace.now.entries c.self.inside.parties c.self.inside.table.items c.self.inside.seen.items c.self.invariant.whole
+    c.args.self.now c.self.view_is c.args.entry c.requires.entry) c.index-mark.ensures 0)
     (positive c.index-mark.result.now c.if-mark-eq0.false) c.is_inside.result c.is_inside-2.result c.if-not-is_inside.false c.is_inside.ensures c.if-is_inside.false
     (subst (λ x. IsTrue c.is_inside-2.result ↔ IsInside c.args.self.now.entries c.args.counts.now x) c.from.ensures c.is_inside-2.ensures)

@@ -1,4 +1,4 @@
-use Rattle.std.proofs.Common.{◌≡◌, ◌∙◌, suc, length, ap, subst, sym}
+use Rattle.std.proofs.Common.{◌∙◌, length, ap, subst, sym}
 use Rattle.std.specs.Prelude.{IfOk}
 use Rattle.ac_causal.specs.Run.{CausalRun}
 use Rattle.ac_causal.specs.inner.Standing.{AreRunsTo}
