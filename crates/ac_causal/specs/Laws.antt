@@ -29,6 +29,6 @@ RunsAreLegal = (program : Resolved) (t : Trace) → IsRunTrace program t
 
 -- of a run of a program whose cores use channels at their own ends alone, the entries of a closed cut, merged, are legal
 abbrev pub ClosedCutsAreLegal : Type 0
-ClosedCutsAreLegal = (program : Resolved) (t : Trace) (counts : List ℕ) → IsSound program → KeepsEnds (code_of program) → IsRunTrace program t
-    → IsCut t.entries (suc (length program.cores)) counts → IsClosed t.entries counts
+ClosedCutsAreLegal = (program : Resolved) (t : Trace) (counts : List ℕ) → IsSound program → KeepsEnds (code_of program)
+    → IsRunTrace program t → IsCut t.entries (suc (length program.cores)) counts → IsClosed t.entries counts
     → IsLegal (start (code_of program).capacities (length program.cores)) (cut_history t.entries counts)

@@ -140,7 +140,8 @@ impl<'a> Vectors<'a> {
     /// How each core ends under its first so many entries.
     pub fn states(&self, alloc: Global, counts: &[u32]) -> Result<List<CoreEnd>, NoMemory>
         requires { length counts.now ≡ self.now.parties }
-        ensures { IfOk result (λ ends. AreRunsTo self.now.code self.now.steps self.now.entries counts.now (length self.now.code.entries) ends) }
+        ensures { IfOk result (λ ends. AreRunsTo self.now.code self.now.steps self.now.entries counts.now
+            (length self.now.code.entries) ends) }
     {
         states_of(alloc, self.code, self.trace, counts)
     }
