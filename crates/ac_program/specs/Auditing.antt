@@ -14,6 +14,7 @@ use Rattle.trace_audit.specs.Judged.{Judges}
 use Rattle.program_reading.specs.declared.refusal.Refusal.{Refusal}
 use Rattle.program_reading.specs.Source.{IsReady, Refuses, most_steps}
 use Rattle.program_reading.specs.Reading.{Gave, TookBytes, IsRead, IsReadWhole, IsTried, IsShort}
+use Rattle.program_reading.specs.Files.{AreRead}
 use Rattle.program_reading.specs.Lines.{library_line, limit_source_line, limit_trace_line, limit_steps_line, refusal_line, refusal_status}
 use Rattle.program_reading.specs.Lines.{trace_fault_line}
 use Rattle.ac_program.specs.Lines.{verdict_line, verdict_status}
