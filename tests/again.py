@@ -32,8 +32,8 @@ import report as slow
 import traces
 
 RACES, ORDERS = 300, 100
-CHANGES = 5
-STEPS = (40, 400, 20_000)
+CHANGES = 3
+STEPS = (40, 400, 2_000)
 DUE = ("run", "order", "text", "other file", "no at", "no at end", "trace fault", "run still")
 
 
