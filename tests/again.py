@@ -32,8 +32,8 @@ import report as slow
 import traces
 
 RACES, ORDERS = 300, 100
-CHANGES = 5
-STEPS = (40, 400, 20_000)
+CHANGES = 3
+STEPS = (40, 400, 2_000)
 DUE = ("run", "order", "text", "other file", "no at", "no at end", "trace fault", "run still")
 
 
@@ -155,8 +155,8 @@ def of_other_files(again, r, seen, folder, run):
 def raced(programs, r, seen, wrong, number):
     again, ac = programs
     count, needs_file = racing.CORES[number % 3], number % 2 == 0
-    texts_of = (races.program(seed, count)[0].encode() for seed in itertools.count(1000 * number))
-    source = next(text for text in texts_of if trials.FILE in text or not needs_file)
+    programs_of = (races.program(seed, count)[0].encode() for seed in itertools.count(1000 * number))
+    source = next(text for text in programs_of if trials.FILE in text or not needs_file)
     with tempfile.TemporaryDirectory() as top:
         top = pathlib.Path(top)
         live = folder_of(top, "live", {})

@@ -12,6 +12,7 @@ import run
 import cancels
 import cores
 import disk as outside
+import history
 import networks
 import races
 import report as slow
@@ -54,7 +55,7 @@ def of_an_order(r, source, steps, before):
     start = disk.held()[:len(disk.bound)]
     ended, journals = cores.Program(names, program, steps).run(r.randrange(1, 1 << 30), False, disk)
     ends = [core.end()[:3] for core in ended]
-    text = traces.written(traces.Trace(steps, start, slow.history.merged(journals), ends))
+    text = traces.written(traces.Trace(steps, start, history.merged(journals), ends))
     return of_trace(source, before, text), slow.of(names, ended), disk
 
 
