@@ -11,7 +11,7 @@ returns-then-not-is_cut c =
     (λ told s. told_no_cut c.args.code.now c.args.causal.now c.args.counts.now told c.requires.parties (λ cut. cc (c.if-not-is_cut.true, c.is_cut.ensures.1 cut)) s) c.say.ensures
 
 pub told_of_closed-requires-clause-closed : goal.told_of_closed-requires-clause-closed
-told_of_closed-requires-clause-closed c κs within = subst (IsCutAnswer c.args.causal.now.entries c.args.counts.now) c.in-Closed.is c.cut.ensures
+told_of_closed-requires-clause-closed c = subst (IsCutAnswer c.args.causal.now.entries c.args.counts.now) c.in-Closed.is c.cut.ensures
 
 pub returns-in-Open : goal.returns-in-Open
 returns-in-Open c =
