@@ -14,7 +14,8 @@ pub returns-in-NoAt : goal.returns-in-NoAt
 returns-in-NoAt c =
     let b = c.args.both.now in
     IfOk-weaker c.say_place.result _ _
-    (λ told s. told_misfit b.program b.trace c.args.question c.requires.meant told c.in-NoAt.entry s (subst (Judges (resolved b.program) b.trace) c.in-NoAt.is c.in_ok-judge.ensures)) c.say_place.ensures
+    (λ told s. told_misfit b.program b.trace c.args.question c.requires.meant told c.in-NoAt.entry s
+    (subst (Judges (resolved b.program) b.trace) c.in-NoAt.is c.in_ok-judge.ensures)) c.say_place.ensures
 
 pub returns-in-NoAtEnd : goal.returns-in-NoAtEnd
 returns-in-NoAtEnd c =
