@@ -1,5 +1,5 @@
 -- What refuses two files, by small values: each line and status as it is written, an empty text that is no trace, and a library that failed.
-use Rattle.std.proofs.Common.{◌≡◌, inl, refl, ap, ℕ, List, [], ◌∷◌, length, codes, None, Some, Err, arith}
+use Rattle.std.proofs.Common.{◌≡◌, inl, refl, ap, ℕ, List, [], ◌∷◌, length, codes, None, Some, Err, false, arith}
 use Rattle.std.proofs.lemmas.Fmt.{decimal_digit}
 use Rattle.ac_outside.specs.Told.{LibraryTold, SinkTold}
 use Rattle.ac_tree.specs.declared.item.Program.{Program}
