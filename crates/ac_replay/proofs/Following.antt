@@ -26,6 +26,13 @@ gathered party front after whole s left rest next added h =
 
 -- ---- a core
 
+-- the same of the core that follows
+pub runs_as : (r : Replayed) (code : Parts) (core bound : ℕ) (journal es : List Entry) → r.code ≡ code → r.core ≡ core → r.bound ≡ bound → es ≡ journal → HasRun code core bound journal
+    → HasRun r.code r.core r.bound es
+runs_as r code core bound journal es a b c d run =
+    subst (λ (x : Parts). HasRun x r.core r.bound es) (sym a) (subst (λ n. HasRun code n r.bound es) (sym b) (subst (λ n. HasRun code core n es) (sym c)
+    (subst (λ xs. HasRun code core bound xs) (sym d) run)))
+
 pub never_misfits : (r : Replayed) (journal taken : List Entry) (place : ℕ) → HasRun r.code r.core r.bound journal → Follows r journal (Misfit place) taken → ⊥
 never_misfits r journal taken place run f =
     f.0.none (length journal) f.0.within (subst (HasRun r.code r.core r.bound) (sym (take_all (length journal) journal (omega arith))) run)
