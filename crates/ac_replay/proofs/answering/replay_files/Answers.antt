@@ -57,7 +57,7 @@ returns-in-Err-Halted-clause-left g c = λ _. alone refl
 -- ---- both
 
 pub replay_both-requires-clause-paths : goal.replay_both-requires-clause-paths
-replay_both-requires-clause-paths g c κs within =
+replay_both-requires-clause-paths g c =
     let b = c.in-Ok.ensures in
     let a = b.is_ready.is_accepted in
     record { few = few_paths b.bytes c.in-Ok.both.program a; texts = paths_are_texts b.bytes c.in-Ok.both.program a; differ = paths_differ b.bytes c.in-Ok.both.program a }

@@ -14,8 +14,8 @@ unreachable-requires c =
     never_misfits r c.in_ok-journal.journal.entries c.follow.new.self.journal c.in-Misfit.place run
     (subst (λ it. Follows r c.in_ok-journal.journal.entries it c.follow.new.self.journal) c.in-Misfit.is c.in_ok-follow.ensures.follows)
 
-pub returns-in-Done : goal.returns-in-Done
-returns-in-Done c =
+pub returns : goal.returns
+returns c =
     let made = c.in_ok-new.ensures in
     let r = c.in_ok-new.field-0 in
     let gathered = c.in_ok-journal.ensures ∙ ap (λ es. journal_of c.args.core es) c.as_slice.ensures in

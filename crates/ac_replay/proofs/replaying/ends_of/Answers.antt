@@ -4,7 +4,8 @@ use Rattle.ac_replay.proofs.Ending.{AreFirst, all_replayed, first_more, first_no
 use Rattle.ac_replay.proofs.replaying.ends_of.Goals as goal
 
 pub loop-core-init : goal.loop-core-init
-loop-core-init c = first_none c.args.code.now c.args.trace.now
+loop-core-init c =
+    subst (λ (ends : List MachineEnd). AreFirst c.args.code.now c.args.trace.now ends 0) (sym {A = List MachineEnd} c.new-ends.ensures) (first_none c.args.code.now c.args.trace.now)
 
 pub end_of-requires-clause-run : goal.end_of-requires-clause-run
 end_of-requires-clause-run c =
