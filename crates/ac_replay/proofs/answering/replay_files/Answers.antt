@@ -77,7 +77,7 @@ returns-in-Ok-clause-read g c =
 pub returns-in-Ok-clause-library : goal.returns-in-Ok-clause-library
 returns-in-Ok-clause-library g c =
     tells_library c.args.file.now c.args.trace.now (g.L.Library.told c.args.library.now) (g.L.Library.told c.read_both.new.library) (g.D.Disk.told c.args.disk.now)
-        (g.D.Disk.told c.replay_both.new.disk)
+    (g.D.Disk.told c.replay_both.new.disk)
     (g.K.Sink.told c.args.sink.now) (g.K.Sink.told c.replay_both.new.sink) c.replay_both.result.number (returns-in-Ok-clause-answered g c) (returns-in-Ok-clause-read g c)
 
 pub returns-in-Ok-clause-left : goal.returns-in-Ok-clause-left

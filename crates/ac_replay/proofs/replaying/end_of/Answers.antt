@@ -6,8 +6,8 @@ use Rattle.ac_replay.proofs.replaying.end_of.Goals as goal
 
 pub unreachable-requires : goal.unreachable-requires
 unreachable-requires c =
-    let made = c.in_ok-new.ensures in
-    let r = c.in_ok-new.field-0 in
+    let made = c.in_ok-replay.ensures in
+    let r = c.in_ok-replay.replay in
     let gathered = c.in_ok-journal.ensures ∙ ap (λ es. journal_of c.args.core es) c.as_slice.ensures in
     let run = runs_as r c.args.code.now c.args.core c.args.trace.now.steps (journal_of c.args.core c.args.trace.now.entries) c.in_ok-journal.journal.entries made.code made.core made.bound gathered
     c.requires.run in
@@ -16,8 +16,8 @@ unreachable-requires c =
 
 pub returns : goal.returns
 returns c =
-    let made = c.in_ok-new.ensures in
-    let r = c.in_ok-new.field-0 in
+    let made = c.in_ok-replay.ensures in
+    let r = c.in_ok-replay.replay in
     let gathered = c.in_ok-journal.ensures ∙ ap (λ es. journal_of c.args.core es) c.as_slice.ensures in
     let follows = subst (λ it. Follows r c.in_ok-journal.journal.entries it c.follow.new.self.journal) c.in-Done.is c.in_ok-follow.ensures.follows in
     ends_under c.machine_end.result r c.follow.new.self c.args.code.now c.args.core c.args.trace.now.steps (journal_of c.args.core c.args.trace.now.entries) c.follow.ensures.same made.code
