@@ -2,7 +2,7 @@
 use Rattle.std.proofs.Common.{◌≡◌, ◌≢◌, ℕ, List, [], Option, None, Some, sym, ◌∙◌, subst, refl, append-nil, arith}
 use Rattle.ac_outside.specs.Told.{SinkTold, GrewBy}
 use Rattle.program_reading.specs.Failures.{TellsSink}
-use Rattle.program_reading.specs.Writing.{TookFront, TookAll, TookSome}
+use Rattle.program_reading.specs.Writing.{TookFront}
 use Rattle.ac_replay.specs.inner.Answers.{IsAnswered}
 
 module _ (Due : ℕ → List ℕ → Type 0) (sink written : SinkTold) where

@@ -1,9 +1,8 @@
 -- Which two operands words give: of two words each is one, of three one is `--`, and no other number of words gives two.
-use Rattle.std.proofs.Common.{◌≡◌, ◌≢◌, ℕ, ◌<◌, List, [], ◌∷◌, None, codes, length, arith}
-use Rattle.std.specs.Prelude.{All}
+use Rattle.std.proofs.Common.{◌≡◌, ◌≢◌, ℕ, ◌<◌, List, [], ◌∷◌, codes, length, arith}
 use Rattle.std.proofs.lemmas.List.Elements.{All-from_recursion, recursion_from_All}
-use Rattle.ac_words.specs.Words.{IsArguments, IsPlain}
-use Rattle.ac_words.specs.Words.IsArguments.{no_more, operand, bound_apart, bound_joined, only_operands}
+use Rattle.ac_words.specs.Words.{IsPlain}
+use Rattle.ac_words.specs.Words.IsArguments.{no_more, operand, only_operands}
 use Rattle.ac_replay.specs.Words.{IsCall, IsNoCall}
 
 abbrev pub IsNoDash : List ℕ → Type 0

@@ -1,6 +1,6 @@
 -- The journal of a core is gathered entry by entry; and a core that has a run under its journal follows it to the end, so that what it comes to
 -- then is what it comes to under the journal.
-use Rattle.std.proofs.Common.{◌≡◌, ℕ, List, [], ◌∷◌, ◌++◌, length, take, Result, Ok, Err, Some, sym, ap, ◌∙◌, subst, append_assoc, arith}
+use Rattle.std.proofs.Common.{◌≡◌, ℕ, List, [], ◌∷◌, ◌++◌, length, Result, Ok, Err, Some, sym, ap, ◌∙◌, subst, append_assoc, arith}
 use Rattle.std.specs.Prelude.{IfOk}
 use Rattle.std.proofs.lemmas.List.{take_all}
 use Rattle.ac_base.specs.declared.ends.MachineEnd.{MachineEnd}

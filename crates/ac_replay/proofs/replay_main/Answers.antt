@@ -1,4 +1,4 @@
-use Rattle.std.proofs.Common.{Global, List, ℕ, map, string_bytes, refl, ap, subst, sym, ◌∙◌, arith}
+use Rattle.std.proofs.Common.{List, ℕ, refl, ap, subst, sym, arith}
 use Rattle.ac_base.specs.declared.ends.Status.{Status}
 use Rattle.ac_outside.specs.Told.{GrewBy}
 use Rattle.program_reading.specs.Writing.{TookFront}

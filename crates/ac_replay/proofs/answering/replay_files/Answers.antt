@@ -1,5 +1,5 @@
 use Rattle.std.proofs.Common.{Err, refl, subst, arith}
-use Rattle.program_reading.specs.TwoFiles.{GivesBoth, RefusesBoth, halt_line, halt_status}
+use Rattle.program_reading.specs.TwoFiles.{GivesBoth, halt_line, halt_status}
 use Rattle.program_reading.proofs.TwoFiles.{both_read, read_well, refused_read}
 use Rattle.program_reading.proofs.Paths.{few_paths, paths_are_texts, paths_differ}
 use Rattle.ac_replay.specs.Due.{IsDueOfCall, IsDueOfRun, refused, both}

@@ -2,7 +2,7 @@ use Rattle.std.proofs.Common.{refl, ap, ◌∙◌, subst}
 use Rattle.ac_names.specs.Numbered.{file_paths}
 use Rattle.ac_resolve.specs.Resolution.{resolved}
 use Rattle.trace_audit.specs.Judged.{Judges}
-use Rattle.ac_replay.specs.Due.IsDueOfRun.{misfit, other_end}
+use Rattle.ac_replay.specs.Due.IsDueOfRun.{misfit}
 use Rattle.ac_replay.specs.Headline.AreUnwritten.{untouched}
 use Rattle.ac_replay.specs.declared.lines.Said.{Said}
 use Rattle.ac_replay.proofs.Halts.{due_of_run, left_alone}

@@ -1,4 +1,4 @@
-use Rattle.std.proofs.Common.{◌≡◌, ◌≢◌, ◌≤◌, ℕ, List, refl, sym, ap, ◌∙◌, subst, length}
+use Rattle.std.proofs.Common.{◌≢◌, ◌≤◌, ℕ, List, refl, sym, ap, ◌∙◌, subst, length}
 use Rattle.std.specs.Prelude.{All, AllPairs}
 use Rattle.std.specs.Str.{IsUtf8}
 use Rattle.ac_names.specs.Numbered.{file_paths}
