@@ -1,5 +1,5 @@
 -- Where a report is due, the trace was run again: of all that may be due, only this has the status of ended cores.
-use Rattle.std.proofs.Common.{◌≡◌, ℕ, List, Option, Some, None, refl, sym, ap, ◌∙◌, subst, arith, length}
+use Rattle.std.proofs.Common.{◌≡◌, ℕ, List, Option, Some, None, sym, ◌∙◌, subst, arith, length}
 use Rattle.std.specs.Prelude.{IfSome}
 use Rattle.ac_names.specs.Numbered.{file_paths}
 use Rattle.ac_outside.specs.Disks.{DiskTold, Held}

@@ -2,17 +2,17 @@
 use Rattle.std.proofs.Common.{◌≡◌, ◌≢◌, ℕ, List, [], Option, None, Some, sym, ◌∙◌, subst, refl, append-nil, arith}
 use Rattle.ac_outside.specs.Told.{SinkTold, GrewBy}
 use Rattle.program_reading.specs.Failures.{TellsSink}
-use Rattle.program_reading.specs.Writing.{TookFront, TookAll, TookSome}
+use Rattle.program_reading.specs.Writing.{TookFront}
 use Rattle.ac_replay.specs.inner.Answers.{IsAnswered}
 
 module _ (Due : ℕ → List ℕ → Type 0) (sink written : SinkTold) where
   -- a text that was made
   pub answered : (due : ℕ) (text : List ℕ) (number : ℕ) → Due due text → (due ≡ 11 → ⊥) → (number ≢ 8 → number ≡ due) → (number ≢ 8 → GrewBy sink.held written.held text)
-      → (number ≡ 8 → TookFront sink.held written.held text) → TellsSink sink written number → (11 ≡ 8 → ⊥) → IsAnswered Due sink written number
-  answered due text number d not status whole part tells apart = record {
+      → (number ≡ 8 → TookFront sink.held written.held text) → TellsSink sink written number → IsAnswered Due sink written number
+  answered due text number d not status whole part tells = record {
     whole = λ well kept. record { text = text; due = subst (λ n. Due n text) (sym (status well)) d; taken = whole well };
     part = λ failed. record { status = due; text = text; due = d; taken = part failed };
-    nothing = λ none. absurd (not (sym (status (λ e. apart (sym none ∙ e))) ∙ none));
+    nothing = λ none. absurd (not (sym (status (λ e. omega (arith, e, none))) ∙ none));
     tells = tells;
   }
 

@@ -1,25 +1,17 @@
 -- Which two operands words give: of two words each is one, of three one is `--`, and no other number of words gives two.
-use Rattle.std.proofs.Common.{◌≡◌, ◌≢◌, ℕ, ◌<◌, List, [], ◌∷◌, None, codes, refl, subst, length, arith}
-use Rattle.std.specs.Prelude.{All}
+use Rattle.std.proofs.Common.{◌≡◌, ◌≢◌, ℕ, ◌<◌, List, [], ◌∷◌, codes, length, arith}
 use Rattle.std.proofs.lemmas.List.Elements.{All-from_recursion, recursion_from_All}
-use Rattle.ac_words.specs.Words.{IsArguments, IsPlain}
-use Rattle.ac_words.specs.Words.IsArguments.{no_more, operand, bound_apart, bound_joined, only_operands}
+use Rattle.ac_words.specs.Words.{IsPlain}
+use Rattle.ac_words.specs.Words.IsArguments.{no_more, operand, only_operands}
 use Rattle.ac_replay.specs.Words.{IsCall, IsNoCall}
-use Rattle.ac_replay.specs.inner.Calling.{IsOnlyCall}
 
 abbrev pub IsNoDash : List ℕ → Type 0
 IsNoDash word = word ≢ codes "-"
 
 -- ---- two words
 
-pub both_plain : (a b file trace : List ℕ) → IsCall (a ∷ b ∷ []) file trace → IsPlain a × IsPlain b
-both_plain a b file trace (operand p (operand q h)) = (p, q)
-
 pub two_operands : (a b : List ℕ) → IsPlain a → IsPlain b → IsCall (a ∷ b ∷ []) a b
 two_operands a b p q = operand p (operand q no_more)
-
-pub two_only : (a b : List ℕ) → IsOnlyCall (a ∷ b ∷ []) a b
-two_only a b file trace (operand p (operand q h)) = (refl, refl)
 
 -- ---- three
 
@@ -45,25 +37,6 @@ behind_third a b c p q e = operand p (operand q (only_operands e (All-from_recur
 
 pub no_call_of_three : (a b c : List ℕ) → (Way a b c → ⊥) → IsNoCall (a ∷ b ∷ c ∷ [])
 no_call_of_three a b c none file trace h = none (way_of a b c file trace h)
-
--- a word that is `--` is not plain
-not_plain : (a : List ℕ) → a ≡ codes "--" → IsPlain a → ⊥
-not_plain a e p = (subst IsPlain e p) refl
-
-pub only_first : (a b c : List ℕ) → a ≡ codes "--" → IsOnlyCall (a ∷ b ∷ c ∷ []) b c
-only_first a b c e file trace (only_operands h all) = (refl, refl)
-only_first a b c e file trace (operand p (only_operands h all)) = absurd (not_plain a e p)
-only_first a b c e file trace (operand p (operand q (only_operands h all))) = absurd (not_plain a e p)
-
-pub only_second : (a b c : List ℕ) → IsPlain a → b ≡ codes "--" → IsOnlyCall (a ∷ b ∷ c ∷ []) a c
-only_second a b c k e file trace (only_operands h all) = absurd (not_plain a h k)
-only_second a b c k e file trace (operand p (only_operands h all)) = (refl, refl)
-only_second a b c k e file trace (operand p (operand q (only_operands h all))) = absurd (not_plain b e q)
-
-pub only_third : (a b c : List ℕ) → IsPlain a → IsPlain b → IsOnlyCall (a ∷ b ∷ c ∷ []) a b
-only_third a b c k l file trace (only_operands h all) = absurd (not_plain a h k)
-only_third a b c k l file trace (operand p (only_operands h all)) = absurd (not_plain b h l)
-only_third a b c k l file trace (operand p (operand q (only_operands h all))) = (refl, refl)
 
 -- ---- others
 

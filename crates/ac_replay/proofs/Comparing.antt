@@ -1,7 +1,6 @@
 -- The first of the files that holds other bytes than are told: those before it are as they are told.
-use Rattle.std.proofs.Common.{◌≡◌, ◌≢◌, ℕ, zero, suc, ◌+◌, ◌<◌, ◌≤◌, List, [], ◌∷◌, ◌++◌, take, get_or, length, refl, sym, ap, ◌∙◌, subst, arith}
+use Rattle.std.proofs.Common.{◌≡◌, ◌≢◌, ℕ, ◌+◌, ◌<◌, ◌≤◌, List, [], ◌∷◌, ◌++◌, take, get_or, length, sym, ap, ◌∙◌, arith}
 use Rattle.std.proofs.lemmas.List.{get_or_read, take_all, take_more}
-use Rattle.std.specs.Prelude.{slice_index_or}
 use Rattle.ac_replay.specs.Due.{IsFirstOther}
 
 -- the first so many are as they are told

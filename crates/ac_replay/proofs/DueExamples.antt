@@ -1,5 +1,5 @@
 -- What is due, and what is not, by example: each way to it is refused by its status, or by what it says of the library or of the disk.
-use Rattle.std.proofs.Common.{◌≡◌, ◌≢◌, ℕ, ◌<◌, ◌≤◌, List, [], ◌∷◌, length, true, Option, None, Some, refl, sym, ap, ◌∙◌, subst, inl, inr, arith}
+use Rattle.std.proofs.Common.{◌≡◌, ℕ, List, [], ◌∷◌, length, true, Option, None, Some, refl, sym, ap, ◌∙◌, subst, inl, inr, arith}
 use Rattle.ac_base.specs.Report.{report_of, status_of}
 use Rattle.ac_base.specs.declared.ends.MachineEnd.{MachineEnd}
 use Rattle.ac_commands.specs.declared.program.Resolved.{Resolved}
@@ -8,7 +8,7 @@ use Rattle.ac_outside.specs.Told.{LibraryTold}
 use Rattle.ac_resolve.specs.Resolution.{resolved}
 use Rattle.ac_tree.specs.declared.item.Program.{Program}
 use Rattle.program_reading.specs.TwoFiles.{RefusesBoth, halt_line}
-use Rattle.program_reading.specs.Lines.{disk_line, no_at_line}
+use Rattle.program_reading.specs.Lines.{no_at_line}
 use Rattle.program_reading.specs.Source.{names_of}
 use Rattle.program_reading.specs.declared.halt.Halt.TheVariants as h
 use Rattle.program_run.specs.declared.ended.Ended.{Ended}
@@ -18,7 +18,7 @@ use Rattle.trace_audit.specs.Laws.{IsSound, trace_of}
 use Rattle.trace_audit.specs.RunTrace.{IsRunTrace}
 use Rattle.trace_text.specs.declared.trace.Trace.{Trace}
 use Rattle.ac_replay.specs.Due.{IsDue, IsDueOfCall, IsDueOfFiles, IsDueOfRun, IsFirstOther, usage, call}
-use Rattle.ac_replay.specs.Due.IsDueOfCall.{refused, both}
+use Rattle.ac_replay.specs.Due.IsDueOfCall.{refused}
 use Rattle.ac_replay.specs.Due.IsDueOfFiles.{disk_fault, long_file, differs, torn, repeated}
 use Rattle.ac_replay.specs.Due.IsDueOfRun.{misfit, other_end, run}
 use Rattle.ac_replay.specs.Headline.{AreUnwritten, GaveUp, IsLeft, IsOfCores, IsRunAgain, IsToRunAgain, TellsDisk, TellsUsage, untouched, alone}

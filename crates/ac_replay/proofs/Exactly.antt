@@ -2,7 +2,6 @@
 -- their texts spell, the trace is a run, no file is too long, and none differs.
 use Rattle.std.proofs.Common.{◌≡◌, ◌≢◌, ℕ, zero, suc, ◌+◌, ◌*◌, ◌<◌, ◌≤◌, List, [], ◌∷◌, ◌++◌, length, map, Option, None, Some, refl, sym, ap, ◌∙◌, subst, append_assoc, length-append, arith}
 use Rattle.std.specs.Prelude.{All, IfSome, slice_get}
-use Rattle.std.proofs.lemmas.List.{length-map}
 use Rattle.std.proofs.lemmas.Option.{get_or_from_slice_get, slice_get_within}
 use Rattle.ac_base.specs.declared.entry.Stamped.{Stamped}
 use Rattle.ac_commands.specs.declared.program.Resolved.{Resolved}
@@ -13,7 +12,7 @@ use Rattle.ac_outside.specs.Told.{LibraryTold}
 use Rattle.ac_resolve.specs.Resolution.{resolved}
 use Rattle.ac_tree.specs.declared.item.Program.{Program}
 use Rattle.ac_words.specs.declared.task.Task.TheVariants as t
-use Rattle.program_reading.specs.TwoFiles.{AreBoth, HasTrace, IsTraceFor, RefusesBoth, RefusesSource, RefusesTrace, RefusesTraced, halt_status}
+use Rattle.program_reading.specs.TwoFiles.{IsTraceFor, RefusesBoth, RefusesSource, RefusesTrace, RefusesTraced, halt_status}
 use Rattle.program_reading.specs.TwoFiles.RefusesBoth.{library_fault, too_long, source}
 use Rattle.program_reading.specs.TwoFiles.RefusesSource.{refused as is_refused, ready}
 use Rattle.program_reading.specs.TwoFiles.RefusesTrace.{library_fault as trace_fault, too_long as trace_too_long, told as is_told}
@@ -21,12 +20,11 @@ use Rattle.program_reading.specs.TwoFiles.RefusesTraced.{wrong, too_many}
 use Rattle.program_reading.specs.Reading.{Gave, TookBytes}
 use Rattle.program_reading.specs.Source.{IsReady, Refuses, most_steps}
 use Rattle.program_reading.specs.declared.halt.Halt.{Halt}
-use Rattle.program_reading.specs.declared.halt.Halt.TheVariants as h
 use Rattle.program_reading.proofs.Refusals.{refused_not, same_program}
 use Rattle.starting_files.specs.declared.fault.StartFault.TheVariants as f
 use Rattle.starting_files.specs.Starting.{AreStarted, AreStopped, StartsFiles, StopsAtFile, bytes_at}
 use Rattle.trace_audit.specs.Judged.{IsFirstMisfit}
-use Rattle.trace_audit.specs.RunTrace.{AllFit, Fits, IsRunTrace}
+use Rattle.trace_audit.specs.RunTrace.{AllFit, Fits}
 use Rattle.trace_text.specs.declared.trace.Trace.{Trace}
 use Rattle.trace_text.specs.Outcomes.{trace_limit}
 use Rattle.trace_text.specs.Spelling.{SpellsTrace}

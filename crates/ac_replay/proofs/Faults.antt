@@ -1,5 +1,5 @@
 -- When a call of the library or of the disk has failed, by the status: by cases over what is due.
-use Rattle.std.proofs.Common.{◌≡◌, ◌≢◌, ℕ, ◌≤◌, ◌⊎◌, inl, inr, List, Option, length, refl, sym, ap, ◌∙◌, subst, arith}
+use Rattle.std.proofs.Common.{◌≡◌, ◌≢◌, ℕ, ◌⊎◌, inl, inr, List, Option, length, sym, ap, ◌∙◌, subst, arith}
 use Rattle.std.specs.Prelude.{IfSome}
 use Rattle.std.proofs.lemmas.Bool.Decides.{eqb_tells}
 use Rattle.ac_names.specs.Numbered.{file_paths}
@@ -10,8 +10,6 @@ use Rattle.ac_tree.specs.declared.item.Program.{Program}
 use Rattle.program_reading.specs.TwoFiles.{RefusesBoth, halt_status}
 use Rattle.program_reading.specs.Failures.{TellsLibrary}
 use Rattle.program_reading.specs.Files.{AreRead}
-use Rattle.program_reading.specs.declared.halt.Halt.{Halt}
-use Rattle.program_reading.specs.declared.halt.Halt.TheVariants as h
 use Rattle.program_reading.proofs.TwoFiles.{both_read, read_well, refused_read, refused_rose}
 use Rattle.trace_text.specs.declared.trace.Trace.{Trace}
 use Rattle.ac_replay.specs.Due.{IsDueOfCall, IsDueOfFiles, IsDueOfRun}

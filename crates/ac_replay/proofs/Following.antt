@@ -1,6 +1,6 @@
 -- The journal of a core is gathered entry by entry; and a core that has a run under its journal follows it to the end, so that what it comes to
 -- then is what it comes to under the journal.
-use Rattle.std.proofs.Common.{◌≡◌, ℕ, List, [], ◌∷◌, ◌++◌, length, take, Result, Ok, Err, Some, sym, ap, ◌∙◌, subst, append_assoc, arith}
+use Rattle.std.proofs.Common.{◌≡◌, ℕ, List, [], ◌∷◌, ◌++◌, length, Result, Ok, Err, Some, sym, ap, ◌∙◌, subst, append_assoc, arith}
 use Rattle.std.specs.Prelude.{IfOk}
 use Rattle.std.proofs.lemmas.List.{take_all}
 use Rattle.ac_base.specs.declared.ends.MachineEnd.{MachineEnd}
@@ -25,6 +25,13 @@ gathered party front after whole s left rest next added h =
     ∙ ap (λ es. front ++ es) (sym (journal_append party (s ∷ []) rest)) ∙ ap (λ ss. front ++ journal_of party ss) (sym next) ∙ h
 
 -- ---- a core
+
+-- the same of the core that follows
+pub runs_as : (r : Replayed) (code : Parts) (core bound : ℕ) (journal es : List Entry) → r.code ≡ code → r.core ≡ core → r.bound ≡ bound → es ≡ journal → HasRun code core bound journal
+    → HasRun r.code r.core r.bound es
+runs_as r code core bound journal es a b c d run =
+    subst (λ (x : Parts). HasRun x r.core r.bound es) (sym a) (subst (λ n. HasRun code n r.bound es) (sym b) (subst (λ n. HasRun code core n es) (sym c)
+    (subst (λ xs. HasRun code core bound xs) (sym d) run)))
 
 pub never_misfits : (r : Replayed) (journal taken : List Entry) (place : ℕ) → HasRun r.code r.core r.bound journal → Follows r journal (Misfit place) taken → ⊥
 never_misfits r journal taken place run f =

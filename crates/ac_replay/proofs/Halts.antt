@@ -1,11 +1,11 @@
 -- What doing a trace again on a disk comes to is what is due of its files: by cases on why it was not all done.
-use Rattle.std.proofs.Common.{◌≡◌, ℕ, List, Result, Ok, Err, refl, sym, ap, ◌∙◌, subst, length}
+use Rattle.std.proofs.Common.{◌≡◌, ℕ, List, Result, Ok, Err, ◌∙◌, subst, length}
 use Rattle.std.specs.Prelude.{IfOk, OnErr}
 use Rattle.ac_names.specs.Numbered.{file_paths}
 use Rattle.ac_outside.specs.Disks.{DiskTold}
 use Rattle.ac_resolve.specs.Resolution.{resolved}
 use Rattle.ac_tree.specs.declared.item.Program.{Program}
-use Rattle.program_reading.specs.Lines.{disk_line, limit_file_line}
+use Rattle.program_reading.specs.Lines.{disk_line}
 use Rattle.program_run.specs.Naming.{AreNamed}
 use Rattle.starting_files.specs.declared.fault.StartFault.TheVariants as f
 use Rattle.trace_text.specs.declared.trace.Trace.{Trace}
@@ -16,7 +16,6 @@ use Rattle.ac_replay.specs.Due.IsDueOfFiles.{disk_fault, long_file, differs, tor
 use Rattle.ac_replay.specs.Due.IsDueOfRun.{run}
 use Rattle.ac_replay.specs.Headline.{AreUnwritten, stopped, started, untouched}
 use Rattle.ac_replay.specs.Headline.AreUnwritten.{long_file as left_long}
-use Rattle.ac_replay.specs.Lines.{differs_line}
 use Rattle.ac_replay.specs.Replaying.{IsReplayedReport, deeds_in, writes_in}
 use Rattle.ac_replay.specs.declared.doing.Halt.{Halt}
 use Rattle.ac_replay.specs.declared.doing.Halt.TheVariants.{Stopped, Differs, Torn}

@@ -1,6 +1,6 @@
 -- What a disk holds on which a trace was run again: its start bound the files of the program after none, and then their writes were done.
-use Rattle.std.proofs.Common.{◌≡◌, ℕ, zero, suc, ◌<◌, List, [], ◌∷◌, ◌++◌, length, map, Option, Some, None, refl, sym, ap, ◌∙◌, subst, arith}
-use Rattle.std.specs.Prelude.{IfSome, sum_by}
+use Rattle.std.proofs.Common.{◌≡◌, ℕ, zero, suc, List, [], ◌∷◌, ◌++◌, length, map, Option, Some, None, refl, sym, ap, ◌∙◌, subst, arith}
+use Rattle.std.specs.Prelude.{IfSome}
 use Rattle.std.proofs.lemmas.List.{length-map, length-append, map-append}
 use Rattle.ac_history.specs.Files.{contents, padded}
 use Rattle.ac_names.specs.Numbered.{file_paths}
@@ -10,8 +10,7 @@ use Rattle.ac_outside.specs.Files.{file_at}
 use Rattle.ac_outside.specs.Told.{one_more}
 use Rattle.ac_resolve.specs.Resolution.{resolved}
 use Rattle.ac_tree.specs.declared.item.Program.{Program}
-use Rattle.file_ops.specs.Asked.{texts}
-use Rattle.starting_files.specs.Starting.{AreStarted, StartsFiles, bytes_at, calls_of, more_calls, with_started}
+use Rattle.starting_files.specs.Starting.{AreStarted, StartsFiles, bytes_at, more_calls, with_started}
 use Rattle.trace_text.specs.declared.trace.Trace.{Trace}
 use Rattle.trace_writes.specs.declared.write.FileWrite.{FileWrite}
 use Rattle.trace_writes.specs.Doing.{DidAll, with_writes}

@@ -1,13 +1,11 @@
 -- A run whose trace is run again: each core has one journal in the run and in its trace, and under it one end in the code.
 use Rattle.std.proofs.Common.{◌≡◌, ℕ, zero, suc, ◌+◌, ◌<◌, List, [], ◌∷◌, Some, refl, sym, ap, ◌∙◌, subst, arith, length, get_or}
 use Rattle.std.specs.Prelude.{map, slice_get}
-use Rattle.std.proofs.lemmas.List.{length-map}
 use Rattle.std.proofs.lemmas.Option.{slice_get_within}
 use Rattle.ac_base.specs.Log.{Log}
 use Rattle.ac_base.specs.declared.ends.CoreEnd.{CoreEnd}
 use Rattle.ac_base.specs.declared.ends.MachineEnd.{MachineEnd}
 use Rattle.ac_base.specs.declared.entry.Entry.{Entry}
-use Rattle.ac_commands.specs.declared.program.Core.{Core}
 use Rattle.ac_commands.specs.declared.program.Resolved.{Resolved}
 use Rattle.ac_history.specs.Merged.{entries_of}
 use Rattle.ac_links.specs.Order.{Rises}
@@ -16,7 +14,6 @@ use Rattle.code_meaning.specs.Machine.{FlatEnd, Runs}
 use Rattle.code_safety.proofs.OneEnd.{ends_only_so}
 use Rattle.program_run.specs.declared.ended.Ended.{Ended}
 use Rattle.program_run.specs.Run.{AreCoreRuns, AreInOrder, IsRunOf, history_of}
-use Rattle.stack_code.specs.Parts.{Parts}
 use Rattle.trace_audit.specs.Laws.{IsSound, trace_of}
 use Rattle.trace_audit.specs.RunTrace.{journal_of}
 use Rattle.trace_audit.proofs.Merging.{its_stamp, part_is_journal}

@@ -53,8 +53,8 @@ pub fn replay_files<L: Library, K: Sink, D: Disk>(
 ) -> Status
     requires ready { IsTrue (D.told disk.old).is_ready }
     requires none { (D.told disk.old).bound ≡ 0 }
-    ensures answered { IsAnswered (IsDueOfCall file.now trace.now (L.told library.old) (L.told library.new) (D.told disk.old) (D.told disk.new))
-        (K.told sink.old) (K.told sink.new) result.number }
+    ensures answered { IsAnswered (IsDueOfCall file.now trace.now (L.told library.old) (L.told library.new)
+        (D.told disk.old) (D.told disk.new)) (K.told sink.old) (K.told sink.new) result.number }
     ensures read { result.number ≡ 11 → AreRead file.now trace.now (L.told library.old) (L.told library.new) }
     ensures library { TellsLibrary (L.told library.old) (L.told library.new) result.number }
     ensures left { result.number ≡ 11 → IsLeft ((L.told library.old).text_at file.now) (D.told disk.old) (D.told disk.new) }

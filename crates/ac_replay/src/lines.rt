@@ -14,7 +14,7 @@ pub struct Said {
 }
 
 /// A text with the number of a status.
-pub fn said(number: u8, text: Bytes) -> Said
+pub fn say(number: u8, text: Bytes) -> Said
     ensures { result ≡ record { status = record { number = number }; text = text } }
 {
     Said {

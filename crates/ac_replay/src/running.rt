@@ -15,7 +15,7 @@ ghost use Rattle.trace_audit.specs.Judged.{Judges};
 ghost use Rattle.trace_audit.specs.RunTrace.{IsRunTrace};
 
 use crate::doing::{Halt, do_again};
-use crate::lines::{Said, differs_line, line_of, said};
+use crate::lines::{Said, differs_line, line_of, say};
 use crate::replaying::ends_of;
 use ac_base::{Bytes, List, NoMemory, Status, report, status};
 use ac_compile::compile;
@@ -74,11 +74,11 @@ fn said_of(alloc: Global, halt: Halt, fault: Bytes) -> Result<Said, NoMemory>
     ensures { TellsHalt halt fault result }
 {
     match halt {
-        Halt::Torn => Ok(said(9, fault)),
-        Halt::Differs { file } => Ok(said(19, differs_line(alloc, file)?)),
-        Halt::Stopped(StartFault::Failed) => Ok(said(9, fault)),
+        Halt::Torn => Ok(say(9, fault)),
+        Halt::Differs { file } => Ok(say(19, differs_line(alloc, file)?)),
+        Halt::Stopped(StartFault::Failed) => Ok(say(9, fault)),
         Halt::Stopped(StartFault::NoMemory) => Err(NoMemory),
-        Halt::Stopped(StartFault::TooLong { file }) => Ok(said(
+        Halt::Stopped(StartFault::TooLong { file }) => Ok(say(
             10,
             place_line(alloc, b"limit: file ", u64::from(file))?,
         )),
@@ -151,7 +151,7 @@ pub fn judge_and_run<D: Disk>(
     match judge(alloc, checked, &code, trace) {
         Err(NoMemory) => Err(NoMemory),
         Ok(Verdict::Yes) => run_again(alloc, checked, &code, trace, disk),
-        Ok(Verdict::NoAt { entry }) => Ok(said(13, place_line(alloc, b"no at ", entry)?)),
-        Ok(Verdict::NoAtEnd) => Ok(said(13, line_of(alloc, "no at end\n")?)),
+        Ok(Verdict::NoAt { entry }) => Ok(say(13, place_line(alloc, b"no at ", entry)?)),
+        Ok(Verdict::NoAtEnd) => Ok(say(13, line_of(alloc, "no at end\n")?)),
     }
 }

@@ -10,18 +10,6 @@ with_append : (held : Held) (ws vs : List FileWrite) → with_writes held (ws ++
 with_append held [] vs = refl
 with_append held (w ∷ ws) vs = with_append (with_written held w.file w.from w.bytes) ws vs
 
-pub did_none : (d : DiskTold) → DidAll [] d d
-did_none d = record {
-  none = record { bound = refl; is_ready = refl; binds = refl };
-  well = refl;
-  told = by d.held refl;
-  silent = λ h. h;
-}
-  where
-    by : (h : Option Held) → d.held ≡ h → IfSome h (λ held. d.held ≡ Some held)
-    by None e = tt
-    by (Some held) e = e
-
 module _ (ws : List FileWrite) (w : FileWrite) (old mid new : DiskTold) (did : DidAll ws old mid) where
   pub did_more : DidAll (w ∷ []) mid new → DidAll (ws ++ w ∷ []) old new
   did_more one = record {

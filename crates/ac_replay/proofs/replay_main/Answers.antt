@@ -1,5 +1,7 @@
-use Rattle.std.proofs.Common.{Global, map, string_bytes, refl, ap, subst, sym, ◌∙◌, arith}
+use Rattle.std.proofs.Common.{List, ℕ, refl, ap, subst, sym, arith}
 use Rattle.ac_base.specs.declared.ends.Status.{Status}
+use Rattle.ac_outside.specs.Told.{GrewBy}
+use Rattle.program_reading.specs.Writing.{TookFront}
 use Rattle.ac_replay.specs.Due.{IsDue, IsDueOfCall, usage, call}
 use Rattle.ac_replay.specs.Headline.{IsRunAgain, IsToRunAgain}
 use Rattle.ac_replay.specs.Lines.{usage_line}
@@ -13,15 +15,23 @@ use Rattle.ac_replay.proofs.replay_main.Goals as goal
 
 pub returns-in-None-clause-whole : goal.returns-in-None-clause-whole
 returns-in-None-clause-whole g c =
-    (answered (IsDue _ _ _ _ _) (g.K.Sink.told c.args.sink.now) (g.K.Sink.told c.answer.new.sink) 1 usage_line c.answer.result.number
-    (usage refl refl (c.in-None.ensures.none refl) refl refl) (λ e. omega (arith, e)) (λ well. ap (λ (s : Status). s.number) (c.answer.ensures.status well))
-    c.answer.ensures.whole c.answer.ensures.part c.answer.ensures.sink (λ e. omega (arith, e))).whole
+    let a = c.answer in
+    let held = (g.K.Sink.told c.args.sink.now).held in
+    let later = (g.K.Sink.told a.new.sink).held in
+    (answered (IsDue _ _ _ _ _) (g.K.Sink.told c.args.sink.now) (g.K.Sink.told a.new.sink) 1 usage_line a.result.number
+    (usage refl refl (c.in-None.ensures.none refl) refl refl) (λ e. omega (arith, e)) (λ well. ap (λ (s : Status). s.number) (a.ensures.status well))
+    (λ well. subst (λ (text : List ℕ). GrewBy held later text) c.as_bytes.ensures.value (a.ensures.whole well))
+    (λ failed. subst (λ (text : List ℕ). TookFront held later text) c.as_bytes.ensures.value (a.ensures.part failed)) a.ensures.sink).whole
 
 pub returns-in-None-clause-part : goal.returns-in-None-clause-part
 returns-in-None-clause-part g c =
-    (answered (IsDue _ _ _ _ _) (g.K.Sink.told c.args.sink.now) (g.K.Sink.told c.answer.new.sink) 1 usage_line c.answer.result.number
-    (usage refl refl (c.in-None.ensures.none refl) refl refl) (λ e. omega (arith, e)) (λ well. ap (λ (s : Status). s.number) (c.answer.ensures.status well))
-    c.answer.ensures.whole c.answer.ensures.part c.answer.ensures.sink (λ e. omega (arith, e))).part
+    let a = c.answer in
+    let held = (g.K.Sink.told c.args.sink.now).held in
+    let later = (g.K.Sink.told a.new.sink).held in
+    (answered (IsDue _ _ _ _ _) (g.K.Sink.told c.args.sink.now) (g.K.Sink.told a.new.sink) 1 usage_line a.result.number
+    (usage refl refl (c.in-None.ensures.none refl) refl refl) (λ e. omega (arith, e)) (λ well. ap (λ (s : Status). s.number) (a.ensures.status well))
+    (λ well. subst (λ (text : List ℕ). GrewBy held later text) c.as_bytes.ensures.value (a.ensures.whole well))
+    (λ failed. subst (λ (text : List ℕ). TookFront held later text) c.as_bytes.ensures.value (a.ensures.part failed)) a.ensures.sink).part
 
 pub returns-in-None-clause-memory : goal.returns-in-None-clause-memory
 returns-in-None-clause-memory g c = λ none.
@@ -94,9 +104,11 @@ returns-in-Some-clause-again g c = λ cores file trace asked.
     let p = c.in-Some.pair in
     let same = c.in-Some.ensures.only file trace asked in
     let held = (g.D.Disk.told c.args.disk.now).held in
-    let none = holds_none held (g.D.Disk.told c.args.disk.now).bound c.requires.none ((g.met.D.Disk g.world.𝓛 g.world.𝓜 g.world.𝓡
-        (λ s h. h, λ p. p, λ n s. n s, λ x. x)).tells_bound c.args.disk.now) in
-    subst (λ f. IsRunAgain f trace _ _ _ _ _ _) (sym same.0) (subst (λ f. IsRunAgain p.file.now f _ _ _ _ _ _) (sym same.1)
+    let none = holds_none held (g.D.Disk.told c.args.disk.now).bound c.requires.none (g.met.D.Disk.tells_bound c.args.disk.now) in
+    subst (λ f. IsRunAgain f trace (g.L.Library.told c.args.library.now) (g.D.Disk.told c.args.disk.now) (g.D.Disk.told c.replay_files.new.disk) c.replay_files.result.number
+    (g.K.Sink.told c.args.sink.now) (g.K.Sink.told c.replay_files.new.sink)) (sym same.0)
+    (subst (λ f. IsRunAgain p.file.now f (g.L.Library.told c.args.library.now) (g.D.Disk.told c.args.disk.now) (g.D.Disk.told c.replay_files.new.disk) c.replay_files.result.number
+    (g.K.Sink.told c.args.sink.now) (g.K.Sink.told c.replay_files.new.sink)) (sym same.1)
     (is_again p.file.now p.trace.now (g.L.Library.told c.args.library.now) (g.L.Library.told c.replay_files.new.library) (g.D.Disk.told c.args.disk.now)
     (g.D.Disk.told c.replay_files.new.disk) (g.K.Sink.told c.args.sink.now) (g.K.Sink.told c.replay_files.new.sink) c.replay_files.result.number c.replay_files.ensures.answered cores none))
 

@@ -27,7 +27,7 @@ returns-in-Ok-clause-answered g c =
     said.status.number said.text a.result.number c.in-Ok.ensures.due
     (not_eleven said.status.number (kind_of_run c.args.program.now c.args.trace.now _ _ said.status.number said.text c.in-Ok.ensures.due))
     (λ well. ap (λ (s : Status). s.number) (a.ensures.status well)) (λ well. rw c.as_slice.ensures at (a.ensures.whole well)) (λ failed. rw c.as_slice.ensures at (a.ensures.part failed))
-    a.ensures.sink (λ e. omega (arith, e))
+    a.ensures.sink
 
 pub returns-in-Ok-clause-left : goal.returns-in-Ok-clause-left
 returns-in-Ok-clause-left g c = λ is.

@@ -1,5 +1,5 @@
 use Rattle.std.proofs.Common.{Err, refl, subst, arith}
-use Rattle.program_reading.specs.TwoFiles.{GivesBoth, RefusesBoth, halt_line, halt_status}
+use Rattle.program_reading.specs.TwoFiles.{GivesBoth, halt_line, halt_status}
 use Rattle.program_reading.proofs.TwoFiles.{both_read, read_well, refused_read}
 use Rattle.program_reading.proofs.Paths.{few_paths, paths_are_texts, paths_differ}
 use Rattle.ac_replay.specs.Due.{IsDueOfCall, IsDueOfRun, refused, both}
@@ -57,7 +57,7 @@ returns-in-Err-Halted-clause-left g c = λ _. alone refl
 -- ---- both
 
 pub replay_both-requires-clause-paths : goal.replay_both-requires-clause-paths
-replay_both-requires-clause-paths g c κs within =
+replay_both-requires-clause-paths g c =
     let b = c.in-Ok.ensures in
     let a = b.is_ready.is_accepted in
     record { few = few_paths b.bytes c.in-Ok.both.program a; texts = paths_are_texts b.bytes c.in-Ok.both.program a; differ = paths_differ b.bytes c.in-Ok.both.program a }
@@ -77,7 +77,7 @@ returns-in-Ok-clause-read g c =
 pub returns-in-Ok-clause-library : goal.returns-in-Ok-clause-library
 returns-in-Ok-clause-library g c =
     tells_library c.args.file.now c.args.trace.now (g.L.Library.told c.args.library.now) (g.L.Library.told c.read_both.new.library) (g.D.Disk.told c.args.disk.now)
-        (g.D.Disk.told c.replay_both.new.disk)
+    (g.D.Disk.told c.replay_both.new.disk)
     (g.K.Sink.told c.args.sink.now) (g.K.Sink.told c.replay_both.new.sink) c.replay_both.result.number (returns-in-Ok-clause-answered g c) (returns-in-Ok-clause-read g c)
 
 pub returns-in-Ok-clause-left : goal.returns-in-Ok-clause-left

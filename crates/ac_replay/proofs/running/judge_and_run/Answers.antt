@@ -2,7 +2,7 @@ use Rattle.std.proofs.Common.{refl, ap, ◌∙◌, subst}
 use Rattle.ac_names.specs.Numbered.{file_paths}
 use Rattle.ac_resolve.specs.Resolution.{resolved}
 use Rattle.trace_audit.specs.Judged.{Judges}
-use Rattle.ac_replay.specs.Due.IsDueOfRun.{misfit, other_end}
+use Rattle.ac_replay.specs.Due.IsDueOfRun.{misfit}
 use Rattle.ac_replay.specs.Headline.AreUnwritten.{untouched}
 use Rattle.ac_replay.specs.declared.lines.Said.{Said}
 use Rattle.ac_replay.proofs.Halts.{due_of_run, left_alone}
@@ -19,7 +19,7 @@ returns-in-Err-clause-left g c = untouched refl
 -- ---- a run
 
 pub run_again-requires-clause-run : goal.run_again-requires-clause-run
-run_again-requires-clause-run g c κs within =
+run_again-requires-clause-run g c =
     let r = c.in-Ok-Yes in subst (λ verdict. Judges (resolved c.args.checked.now) c.args.trace.now verdict) r.field-0-is r.ensures
 
 pub returns-in-Ok-Yes-clause-due : goal.returns-in-Ok-Yes-clause-due
@@ -34,16 +34,4 @@ pub returns-in-Ok-NoAt-clause-due : goal.returns-in-Ok-NoAt-clause-due
 returns-in-Ok-NoAt-clause-due g c =
     let r = c.in-Ok-NoAt in
     let first = subst (λ verdict. Judges (resolved c.args.checked.now) c.args.trace.now verdict) r.field-0-is r.ensures in
-    misfit r.entry (ap (λ (s : Said). s.status.number) c.said.ensures) (ap (λ (s : Said). s.text) c.said.ensures ∙ c.in_ok-place_line.ensures) first refl
-
-pub returns-in-Ok-NoAtEnd-clause-due : goal.returns-in-Ok-NoAtEnd-clause-due
-returns-in-Ok-NoAtEnd-clause-due g c =
-    let r = c.in-Ok-NoAtEnd in
-    let no = subst (λ verdict. Judges (resolved c.args.checked.now) c.args.trace.now verdict) r.field-0-is r.ensures in
-    other_end (ap (λ (s : Said). s.status.number) c.said-2.ensures) (ap (λ (s : Said). s.text) c.said-2.ensures ∙ c.in_ok-line_of.ensures) no.0 no.1 refl
-
-pub returns-in_err-place_line-clause-left : goal.returns-in_err-place_line-clause-left
-returns-in_err-place_line-clause-left g c = left_alone _ (file_paths c.args.checked.now.items) _ _ refl
-
-pub returns-in_err-line_of-clause-left : goal.returns-in_err-line_of-clause-left
-returns-in_err-line_of-clause-left g c = left_alone _ (file_paths c.args.checked.now.items) _ _ refl
+    misfit r.entry (ap (λ (s : Said). s.status.number) c.say.ensures) (ap (λ (s : Said). s.text) c.say.ensures ∙ c.in_ok-place_line-in-Ok-NoAt.ensures) first refl

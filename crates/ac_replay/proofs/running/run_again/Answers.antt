@@ -1,4 +1,4 @@
-use Rattle.std.proofs.Common.{◌≡◌, ◌≢◌, ◌≤◌, ℕ, List, refl, sym, ap, ◌∙◌, subst, length}
+use Rattle.std.proofs.Common.{◌≢◌, ◌≤◌, ℕ, List, refl, sym, ap, ◌∙◌, subst, length}
 use Rattle.std.specs.Prelude.{All, AllPairs}
 use Rattle.std.specs.Str.{IsUtf8}
 use Rattle.ac_names.specs.Numbered.{file_paths}
@@ -27,23 +27,23 @@ returns-in_err-paths-clause-left g c = left_alone _ (file_paths c.args.checked.n
 -- ---- what is handed on
 
 pub do_again-requires-clause-few : goal.do_again-requires-clause-few
-do_again-requires-clause-few g c κs within =
+do_again-requires-clause-few g c =
     subst (λ (ps : List (List ℕ)). length ps ≤ 16) (sym (c.as_slice.ensures ∙ c.in_ok-paths.ensures)) c.requires.paths.few
 
 pub do_again-requires-clause-texts : goal.do_again-requires-clause-texts
-do_again-requires-clause-texts g c κs within =
+do_again-requires-clause-texts g c =
     subst (λ (ps : List (List ℕ)). All IsUtf8 ps) (sym (c.as_slice.ensures ∙ c.in_ok-paths.ensures)) c.requires.paths.texts
 
 pub do_again-requires-clause-differ : goal.do_again-requires-clause-differ
-do_again-requires-clause-differ g c κs within =
+do_again-requires-clause-differ g c =
     subst (λ (ps : List (List ℕ)). AllPairs (λ path other. path ≢ other) ps) (sym (c.as_slice.ensures ∙ c.in_ok-paths.ensures)) c.requires.paths.differ
 
 pub do_again-requires-clause-many : goal.do_again-requires-clause-many
-do_again-requires-clause-many g c κs within =
+do_again-requires-clause-many g c =
     ap length c.as_slice-2.ensures ∙ c.requires.run.end.files ∙ ap length (sym (c.as_slice.ensures ∙ c.in_ok-paths.ensures))
 
 pub do_again-requires-clause-can : goal.do_again-requires-clause-can
-do_again-requires-clause-can g c κs within =
+do_again-requires-clause-can g c =
     let p = c.args.checked.now in
     let sound = is_sound (resolved p) c.args.code.now c.ranks.result.now c.instrs.ensures.valid c.ranks.ensures c.requires.code c.requires.same in
     let names = names_its_files p c.tree.ensures.clean c.tree.ensures.shaped in

@@ -2,8 +2,9 @@ use Rattle.std.proofs.Common.{◌≡◌, ◌≢◌, codes, rules}
 use Rattle.ac_words.specs.Words.{IsPlain}
 use Rattle.ac_replay.proofs.Calls.{behind_first, behind_second, behind_third, first, no_call_of_three, second, third}
 use Rattle.ac_replay.proofs.words.three.Goals as goal
-use Rattle.ac_replay.proofs.words.three.Goals.{else-eq-via-then-eq+then-ne+else-ne-2, else-eq-via-then-eq+else-ne, else-eq-via-else-eq, else-is_plain-via-then-is_plain+then-eq-2+else-ne-3, else-is_plain-via-then-is_plain+else-eq-2}
-use Rattle.ac_replay.proofs.words.three.Goals.{else-is_plain-via-else-is_plain, else-is_plain-2-via-then-is_plain-2+then-is_plain-3+else-eq-3, else-is_plain-2-via-then-is_plain-2+else-is_plain-3, else-is_plain-2-via-else-is_plain-2}
+use Rattle.ac_replay.proofs.words.three.Goals.{else-eq-via-then-eq+then-ne+else-ne-2, else-eq-via-then-eq+else-ne, else-eq-via-else-eq}
+use Rattle.ac_replay.proofs.words.three.Goals.{else-is_plain-via-then-is_plain+then-eq-2+else-ne-3, else-is_plain-via-then-is_plain+else-eq-2, else-is_plain-via-else-is_plain}
+use Rattle.ac_replay.proofs.words.three.Goals.{else-is_plain-2-via-then-is_plain-2+then-is_plain-3+else-eq-3, else-is_plain-2-via-then-is_plain-2+else-is_plain-3, else-is_plain-2-via-else-is_plain-2}
 
 pub returns-then-ne-2-clause-some : goal.returns-then-ne-2-clause-some
 returns-then-ne-2-clause-some c =
