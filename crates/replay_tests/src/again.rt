@@ -89,28 +89,34 @@ fn call(alloc: Global, words: &[&str], outside: &Outside) -> Result<Left, Fail> 
     })
 }
 
-const SENDS: &str = "core a(f); core b(g); channel c(a, b, 1); async void f() { Send(c, 5); } async void g() { int x; \
+const SENDS: &str =
+    "core a(f); core b(g); channel c(a, b, 1); async void f() { Send(c, 5); } async void g() { int x; \
     Recv(c, &x); printf(\"%d\\n\", x); }";
 
-const SENT: &str = "ac-trace 1\nsteps 100000\n1 0 1 offer 0 0 int 5\n2 1 1 got 0 0 5\n3 0 1 know 0 0\n\
+const SENT: &str =
+    "ac-trace 1\nsteps 100000\n1 0 1 offer 0 0 int 5\n2 1 1 got 0 0 5\n3 0 1 know 0 0\n\
     end 0 finished 1 -\nend 1 finished 3 350a\n";
 
 const SENT_REPORT: &str =
     "a: finished after 1 steps, 6 instructions\nb: finished after 3 steps, 12 instructions\n5\n";
 
 // Its first two entries exchanged, its last output changed, and its text cut.
-const EXCHANGED: &str = "ac-trace 1\nsteps 100000\n2 1 1 got 0 0 5\n1 0 1 offer 0 0 int 5\n3 0 1 know 0 0\n\
+const EXCHANGED: &str =
+    "ac-trace 1\nsteps 100000\n2 1 1 got 0 0 5\n1 0 1 offer 0 0 int 5\n3 0 1 know 0 0\n\
     end 0 finished 1 -\nend 1 finished 3 350a\n";
 
-const OTHER_END: &str = "ac-trace 1\nsteps 100000\n1 0 1 offer 0 0 int 5\n2 1 1 got 0 0 5\n3 0 1 know 0 0\n\
+const OTHER_END: &str =
+    "ac-trace 1\nsteps 100000\n1 0 1 offer 0 0 int 5\n2 1 1 got 0 0 5\n3 0 1 know 0 0\n\
     end 0 finished 1 -\nend 1 finished 3 360a\n";
 
 const CUT: &str = "ac-trace 1\nsteps 100000\n1 0 1 offer 0 0 int 5\n2 1 1 got\n";
 
-const READS: &str = "core a(f); file p(\"p.dat\"); async void f() { int b[256]; int r; r = Read(p, 4, 256, b); \
+const READS: &str =
+    "core a(f); file p(\"p.dat\"); async void f() { int b[256]; int r; r = Read(p, 4, 256, b); \
     printf(\"%d %d %d\\n\", r, b[0], b[5]); b[0] = 65; r = Write(p, 12, 1, b); }";
 
-const READ: &str = "ac-trace 1\nsteps 100000\nfile 0 30313233343536373839\n1 0 1 offer 0 0 read 0 4 256\n\
+const READ: &str =
+    "ac-trace 1\nsteps 100000\nfile 0 30313233343536373839\n1 0 1 offer 0 0 read 0 4 256\n\
     2 1 0 did 0 0 bytes 343536373839\n3 0 1 know 0 0\n4 0 1 reply 0 0 bytes 343536373839\n\
     5 0 2 offer 0 1 write 0 12 41\n6 1 0 did 0 1 count 1\n7 0 2 know 0 1\n8 0 2 reply 0 1 count 1\n\
     end 0 finished 6 362035322035370a\n";
@@ -118,11 +124,13 @@ const READ: &str = "ac-trace 1\nsteps 100000\nfile 0 30313233343536373839\n1 0 1
 const READ_REPORT: &str = "a: finished after 6 steps, 33 instructions\n6 52 57\n";
 
 // Four writes of eight bytes, of which the third failed after five: the writes of the trace are those.
-const WRITES: &str = "core a(f); file p(\"p.dat\"); async void f() { int b[8]; int i; int r; for (i = 0; i < 8; \
+const WRITES: &str =
+    "core a(f); file p(\"p.dat\"); async void f() { int b[8]; int i; int r; for (i = 0; i < 8; \
     i = i + 1) b[i] = 65; for (i = 0; i < 4; i = i + 1) { r = Write(p, i * 8, 8, b); \
     printf(\"%d \", r); } }";
 
-const WROTE: &str = "ac-trace 1\nsteps 100000\nfile 0 -\n1 0 1 offer 0 0 write 0 0 4141414141414141\n\
+const WROTE: &str =
+    "ac-trace 1\nsteps 100000\nfile 0 -\n1 0 1 offer 0 0 write 0 0 4141414141414141\n\
     2 1 0 did 0 0 count 8\n3 0 1 know 0 0\n4 0 1 reply 0 0 count 8\n\
     5 0 2 offer 0 1 write 0 8 4141414141414141\n6 1 0 did 0 1 count 8\n7 0 2 know 0 1\n\
     8 0 2 reply 0 1 count 8\n9 0 3 offer 0 2 write 0 16 4141414141414141\n10 1 0 did 0 2 fault 5\n\
