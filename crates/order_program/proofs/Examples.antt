@@ -48,7 +48,7 @@ pub not_before : IsDueOfEntries entries 0 1 0 (codes "before\n") → ⊥
 not_before (no_one e x l) = omega (arith, e)
 not_before (no_other e x l m) = omega (arith, e)
 not_before (stands Same e x l m o) = cc (x)
-not_before (stands Before e x l m o) = the_offers_are_concurrent.1.0 o
+not_before (stands Before e x l m o) = the_offers_are_concurrent.1 o
 not_before (stands After e x l m o) = cc (x)
 not_before (stands Concurrent e x l m o) = cc (x)
 

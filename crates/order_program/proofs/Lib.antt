@@ -1,4 +1,4 @@
-pub mod Answering
+pub mod AnsweredFiles
 pub mod Cores
 pub mod Few
 pub mod StateLines

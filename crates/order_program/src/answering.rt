@@ -21,7 +21,7 @@ const NO_MEMORY: u8 = 11;
 fn answer_both<K: Sink>(alloc: Global, both: &Both, question: Question<'_>, sink: &mut K) -> Status
     requires few { length both.now.trace.entries < 2 ^ 32 }
     requires meant { HasMeaning question }
-    ensures answered { IsAnswered (IsDueOfBoth both.now.program both.now.trace question) (K.told sink.old) (K.told sink.new) result.number }
+    ensures answered { IsAnswered (IsDueOfBoth both.now.program both.now.trace question.entry) (K.told sink.old) (K.told sink.new) result.number }
     ensures seven { result.number ≢ 7 }
 {
     match told_of(alloc, both, question) {
@@ -39,9 +39,9 @@ pub fn answer_files<L: Library, K: Sink>(
     sink: &mut K,
 ) -> Status
     requires { HasMeaning call.question }
-    ensures answered { IsAnswered (IsDueFor call (L.told library.old) (L.told library.new))
+    ensures answered { IsAnswered (IsDueFor call.entry (L.told library.old) (L.told library.new))
         (K.told sink.old) (K.told sink.new) result.number }
-    ensures read { result.number ≡ 11 → AreRead call.file.now call.trace.now (L.told library.old) (L.told library.new) }
+    ensures read { result.number ≡ 11 → AreRead call.entry.file.now call.entry.trace.now (L.told library.old) (L.told library.new) }
     ensures library { TellsLibrary (L.told library.old) (L.told library.new) result.number }
 {
     match read_both(alloc, call.file, call.trace, library) {

@@ -33,7 +33,7 @@ fn told_of_run(
     requires audited { IsAudited code.now trace.now }
     requires few { length trace.now.entries < 2 ^ 32 }
     requires meant { HasMeaning question }
-    ensures { IfOk result (IsToldOfRun code.now trace.now question) }
+    ensures { IfOk result (IsToldOfRun code.now trace.now question.entry) }
 {
     let causal = Causal::new(alloc, code, trace)?;
     match question {
@@ -60,7 +60,7 @@ fn judge(alloc: Global, code: &Code, program: &Checked, trace: &Trace) -> Result
 pub fn told_of(alloc: Global, both: &Both, question: Question<'_>) -> Result<Told, NoMemory>
     requires few { length both.now.trace.entries < 2 ^ 32 }
     requires meant { HasMeaning question }
-    ensures { IfOk result (IsToldOf both.now.program both.now.trace question) }
+    ensures { IfOk result (IsToldOf both.now.program both.now.trace question.entry) }
 {
     let code = compile(alloc, &both.program)?;
     match judge(alloc, &code, &both.program, &both.trace)? {

@@ -1,19 +1,21 @@
-use Rattle.std.proofs.Common.{map, string_bytes, Global, refl, ap, arith}
+use Rattle.std.proofs.Common.{map, string_bytes, Global, refl, ap, subst, arith}
+use Rattle.ac_outside.specs.Told.{GrewBy}
+use Rattle.program_reading.specs.Writing.{TookFront}
 use Rattle.ac_base.specs.declared.ends.Status.{Status}
 use Rattle.order_words.specs.Words.{Asked}
 use Rattle.order_program.specs.Headline.{usage, call}
 use Rattle.order_program.specs.Lines.{usage_line}
-use Rattle.order_program.proofs.Answering.{one_or_eight}
+use Rattle.order_program.proofs.AnsweredFiles.{one_or_eight}
 use Rattle.order_program.proofs.order_main.Goals as goal
 
 -- ---- no call
 
 pub returns-in-None-clause-whole : goal.returns-in-None-clause-whole
 returns-in-None-clause-whole g c = λ well _. let e = ap (λ (s : Status). s.number) (c.answer.ensures.status well) in
-    record { text = usage_line; due = usage e refl (c.in-None.ensures.usage refl) refl; taken = c.answer.ensures.whole well }
+    record { text = usage_line; due = usage e refl (c.in-None.ensures.usage refl) refl; taken = subst (GrewBy (g.K.Sink.told c.args.sink.now).held (g.K.Sink.told c.answer.new.sink).held) c.as_bytes.ensures.value (c.answer.ensures.whole well) }
 
 pub returns-in-None-clause-part : goal.returns-in-None-clause-part
-returns-in-None-clause-part g c = λ failed. record { status = 1; text = usage_line; due = usage refl refl (c.in-None.ensures.usage refl) refl; taken = c.answer.ensures.part failed }
+returns-in-None-clause-part g c = λ failed. record { status = 1; text = usage_line; due = usage refl refl (c.in-None.ensures.usage refl) refl; taken = subst (TookFront (g.K.Sink.told c.args.sink.now).held (g.K.Sink.told c.answer.new.sink).held) c.as_bytes.ensures.value (c.answer.ensures.part failed) }
 
 pub returns-in-None-clause-memory : goal.returns-in-None-clause-memory
 returns-in-None-clause-memory g c = λ is. absurd (let e = ap (λ (s : Status). s.number) (c.answer.ensures.status (λ f. omega (arith, is, f))) in omega (arith, is, e))
@@ -31,7 +33,7 @@ returns-in-None-clause-library g c = record {
 -- ---- a call
 
 pub answer_files-requires : goal.answer_files-requires
-answer_files-requires g c κs within = c.in-Some.ensures.call.meant
+answer_files-requires g c = c.in-Some.ensures.call.meant
 
 pub returns-in-Some-clause-whole : goal.returns-in-Some-clause-whole
 returns-in-Some-clause-whole g c = λ well kept. let x = c.answer_files.ensures.answered.whole well kept in let d = x.due in record {

@@ -1,7 +1,7 @@
 use Rattle.std.proofs.Common.{ap, arith}
 use Rattle.ac_base.specs.declared.ends.Status.{Status}
 use Rattle.order_program.specs.inner.Telling.{IsDueOfBoth}
-use Rattle.order_program.proofs.Answering.{answered, answered_none}
+use Rattle.order_program.proofs.AnsweredFiles.{answered, answered_none}
 use Rattle.order_program.proofs.Telling.{of_trace, not_other}
 use Rattle.order_program.proofs.answering.answer_both.Goals as goal
 

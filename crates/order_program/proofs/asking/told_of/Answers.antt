@@ -8,24 +8,24 @@ use Rattle.order_program.proofs.asking.told_of.Goals as goal
 pub told_of_run-requires-clause-audited : goal.told_of_run-requires-clause-audited
 told_of_run-requires-clause-audited c =
     let b = c.args.both.now in
-    audited b.program c.in_ok-code.code b.trace c.in_ok-code.ensures.code c.in_ok-code.ensures.same (subst (Judges (resolved b.program) b.trace) c.in-Yes.is c.in_ok-judge.ensures)
+    audited b.program c.in_ok-code.code b.trace c.in_ok-code.ensures.code c.in_ok-code.ensures.same (subst (Judges (resolved b.program) b.trace) c.in-Yes.is c.in_ok-entry.ensures)
 
 pub returns-in-NoAt : goal.returns-in-NoAt
 returns-in-NoAt c =
     let b = c.args.both.now in
     IfOk-weaker c.say_place.result _ _
     (λ told s. told_misfit b.program b.trace c.args.question c.requires.meant told c.in-NoAt.entry s
-    (subst (Judges (resolved b.program) b.trace) c.in-NoAt.is c.in_ok-judge.ensures)) c.say_place.ensures
+    (subst (Judges (resolved b.program) b.trace) c.in-NoAt.is c.in_ok-entry.ensures)) c.say_place.ensures
 
 pub returns-in-NoAtEnd : goal.returns-in-NoAtEnd
 returns-in-NoAtEnd c =
     let b = c.args.both.now in
     IfOk-weaker c.say.result _ _
-    (λ told s. told_wrong_end b.program b.trace c.args.question c.requires.meant told s (subst (Judges (resolved b.program) b.trace) c.in-NoAtEnd.is c.in_ok-judge.ensures)) c.say.ensures
+    (λ told s. told_wrong_end b.program b.trace c.args.question c.requires.meant told s (subst (Judges (resolved b.program) b.trace) c.in-NoAtEnd.is c.in_ok-entry.ensures)) c.say.ensures
 
-pub returns-in-Yes : goal.returns-in-Yes
-returns-in-Yes c =
+pub returns : goal.returns
+returns c =
     let b = c.args.both.now in
     IfOk-weaker c.told_of_run.result _ _
     (λ told t. told_run b.program c.in_ok-code.code b.trace c.args.question told c.in_ok-code.ensures.code c.in_ok-code.ensures.same
-    (subst (Judges (resolved b.program) b.trace) c.in-Yes.is c.in_ok-judge.ensures) t) c.told_of_run.ensures
+    (subst (Judges (resolved b.program) b.trace) c.in-Yes.is c.in_ok-entry.ensures) t) c.told_of_run.ensures

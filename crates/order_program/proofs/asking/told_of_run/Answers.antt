@@ -12,10 +12,10 @@ pub returns-in-Order : goal.returns-in-Order
 returns-in-Order c = let m = c.in_ok-causal.ensures in
     IfOk-weaker c.told_of_entries.result _ _
     (λ told d. subst (λ given. IsToldOfRun c.args.code.now c.args.trace.now given told) (sym c.in-Order.is)
-    (told_entries c.args.code.now c.args.trace.now _ c.from.result c.from-2.result c.in-Order.one c.in-Order.other told m.entries c.from.ensures c.from-2.ensures d)) c.told_of_entries.ensures
+    (told_entries c.args.code.now c.args.trace.now _ c.from.result c.from-in-Order.result c.in-Order.one c.in-Order.other told m.entries c.from.ensures c.from-in-Order.ensures d)) c.told_of_entries.ensures
 
-pub returns-in_ok-counts : goal.returns-in_ok-counts
-returns-in_ok-counts c = let m = c.in_ok-causal.ensures in
+pub returns : goal.returns
+returns c = let m = c.in_ok-causal.ensures in
     IfOk-weaker c.told_of_cut.result _ _
     (λ told d. subst (λ given. IsToldOfRun c.args.code.now c.args.trace.now given told) (sym c.in-Cut.is)
-    (told_counts c.args.code.now c.args.trace.now c.in_ok-causal.causal c.in-Cut.counts c.in_ok-counts.counts told m.steps m.entries c.in_ok-counts.ensures d)) c.told_of_cut.ensures
+    (told_counts c.args.code.now c.args.trace.now c.in_ok-causal.causal c.in-Cut.counts c.in_ok-counts-in-Cut.counts told m.steps m.entries c.in_ok-counts-in-Cut.ensures d)) c.told_of_cut.ensures
