@@ -21,7 +21,8 @@ const NO_MEMORY: u8 = 11;
 fn answer_both<K: Sink>(alloc: Global, both: &Both, question: Question<'_>, sink: &mut K) -> Status
     requires few { length both.now.trace.entries < 2 ^ 32 }
     requires meant { HasMeaning question }
-    ensures answered { IsAnswered (IsDueOfBoth both.now.program both.now.trace question.entry) (K.told sink.old) (K.told sink.new) result.number }
+    ensures answered { IsAnswered (IsDueOfBoth both.now.program both.now.trace question.entry) (K.told sink.old) (K.told sink.new)
+        result.number }
     ensures seven { result.number ≢ 7 }
 {
     match told_of(alloc, both, question) {

@@ -12,10 +12,21 @@ use Rattle.order_program.proofs.order_main.Goals as goal
 
 pub returns-in-None-clause-whole : goal.returns-in-None-clause-whole
 returns-in-None-clause-whole g c = λ well _. let e = ap (λ (s : Status). s.number) (c.answer.ensures.status well) in
-    record { text = usage_line; due = usage e refl (c.in-None.ensures.usage refl) refl; taken = subst (GrewBy (g.K.Sink.told c.args.sink.now).held (g.K.Sink.told c.answer.new.sink).held) c.as_bytes.ensures.value (c.answer.ensures.whole well) }
+    record {
+      text = usage_line;
+      due = usage e refl (c.in-None.ensures.usage refl) refl;
+      taken = subst (GrewBy (g.K.Sink.told c.args.sink.now).held
+          (g.K.Sink.told c.answer.new.sink).held) c.as_bytes.ensures.value (c.answer.ensures.whole well);
+    }
 
 pub returns-in-None-clause-part : goal.returns-in-None-clause-part
-returns-in-None-clause-part g c = λ failed. record { status = 1; text = usage_line; due = usage refl refl (c.in-None.ensures.usage refl) refl; taken = subst (TookFront (g.K.Sink.told c.args.sink.now).held (g.K.Sink.told c.answer.new.sink).held) c.as_bytes.ensures.value (c.answer.ensures.part failed) }
+returns-in-None-clause-part g c = λ failed. record {
+  status = 1;
+  text = usage_line;
+  due = usage refl refl (c.in-None.ensures.usage refl) refl;
+  taken = subst (TookFront
+      (g.K.Sink.told c.args.sink.now).held (g.K.Sink.told c.answer.new.sink).held) c.as_bytes.ensures.value (c.answer.ensures.part failed);
+}
 
 pub returns-in-None-clause-memory : goal.returns-in-None-clause-memory
 returns-in-None-clause-memory g c = λ is. absurd (let e = ap (λ (s : Status). s.number) (c.answer.ensures.status (λ f. omega (arith, is, f))) in omega (arith, is, e))

@@ -12,7 +12,8 @@ pub returns-in-Order : goal.returns-in-Order
 returns-in-Order c = let m = c.in_ok-causal.ensures in
     IfOk-weaker c.told_of_entries.result _ _
     (λ told d. subst (λ given. IsToldOfRun c.args.code.now c.args.trace.now given told) (sym c.in-Order.is)
-    (told_entries c.args.code.now c.args.trace.now _ c.from.result c.from-in-Order.result c.in-Order.one c.in-Order.other told m.entries c.from.ensures c.from-in-Order.ensures d)) c.told_of_entries.ensures
+    (told_entries c.args.code.now c.args.trace.now _ c.from.result c.from-in-Order.result c.in-Order.one c.in-Order.other told m.entries c.from.ensures c.from-in-Order.ensures d))
+    c.told_of_entries.ensures
 
 pub returns : goal.returns
 returns c = let m = c.in_ok-causal.ensures in
