@@ -15,7 +15,8 @@ to go on; and to do so and then to fail. What comes of it is worked out here, fr
 - the places for closed streams, and the limit of the process, may not be had.
 
 Which call of a disk a call of the system belongs to is worked out from the requests that the slow program makes of each file, and
-`ac` may make no others. Then a disk that fails for one file alone, a full disk amid `ac load 500`, and slow readers of the output.
+`ac` may make no others. Then a disk that fails for one file alone, a full disk amid `ac load 500`, threads that cannot be started, and
+slow readers of the output.
 Words pick the calls whose name has one of them in it.
 """
 import argparse
@@ -351,6 +352,32 @@ def limit_fault(program, room):
     return None if (done.returncode, done.stdout, held) == (0, summary, [front, front]) else f"status {done.returncode}, {done.stdout[:200]}"
 
 
+# ---- threads
+
+
+def threads_fault(loaded, program, words, files, answer, rules):
+    """What is wrong with a call some of whose threads cannot be started, or nothing; and how many it started or was to start."""
+    with tempfile.TemporaryDirectory() as folder:
+        folder = pathlib.Path(folder)
+        run.put(folder, files)
+        came = loaded.run(program, words, folder, threads=rules)
+    return None if (came.status, came.output) == answer else f"wanted {answer}, came {came[:2]}", came.threads
+
+
+def threads(loaded, program):
+    """Where a thread cannot be started the parties go on in those that there are."""
+    source = refusals.THREE.encode()
+    held = [server.byte(place) for place in range(21)]
+    summary = "".join(f"{line}\n" for line in ("load 7 status 0", *(sum(held[client::3]) for client in range(3)))).encode()
+    for name, words, files, answer in (("three cores", ["run", "x.ac"], {"x.ac": source}, by_slow(source, {})[0]),
+                                       ("load 7", ["load", "7"], {}, (0, summary))):
+        fault, started = threads_fault(loaded, program, words, files, answer, [])
+        yield f"{name} with {started} threads", fault
+        yield f"{name} with no thread", threads_fault(loaded, program, words, files, answer, [Rule(1, ALWAYS, errno.EAGAIN)])[0]
+        for number in range(1, min(started or 0, 30) + 1):
+            yield f"{name} without thread {number}", threads_fault(loaded, program, words, files, answer, [at(number, errno.EAGAIN)])[0]
+
+
 # ---- output
 
 
@@ -423,6 +450,7 @@ def main():
         rest = [(f"{name}.dat fails", lambda name=name: one_file_fault(loaded, program, name)) for name in refusals.NAMES]
         found = [(name, fault()) for name, fault in rest if is_picked(name)]
         found += [*loads(loaded, program)] if is_picked("load") else []
+        found += [*threads(loaded, program)] if is_picked("threads") else []
         found += [*outputs(loaded, program)] if is_picked("output") else []
         for name, fault in found:
             print(f"{name}: {fault or 'as it is due'}", flush=True)

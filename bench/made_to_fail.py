@@ -1,9 +1,9 @@
 """A built program one of whose calls of the system fails: a library of C that is loaded before it.
 
 `Loaded(folder)` compiles the library by `cc` into the folder. `run` runs a program with it, and gives its status, its output, its
-calls and the number of its growths. The calls that a program makes are numbered from 1, in the order of the whole process, and so are
-its growths: the calls by which it asks for memory. A rule says what happens to the calls of some numbers: they fail with an error, or
-take at most so many bytes.
+calls, and how many growths and threads it had. The calls that a program makes are numbered from 1, in the order of the whole process,
+and so are its growths, the calls by which it asks for memory, and the threads that it starts. A rule says what happens to the calls of
+some numbers: they fail with an error, or take at most so many bytes.
 """
 import errno
 import os
@@ -16,8 +16,10 @@ ALWAYS = 1 << 40
 
 SOURCE = r"""
 #define _GNU_SOURCE
+#include <dlfcn.h>
 #include <errno.h>
 #include <fcntl.h>
+#include <pthread.h>
 #include <stdarg.h>
 #include <stdatomic.h>
 #include <stdio.h>
@@ -30,9 +32,9 @@ SOURCE = r"""
 extern void *__libc_malloc(size_t), *__libc_calloc(size_t, size_t), *__libc_realloc(void *, size_t), *__libc_memalign(size_t, size_t);
 
 struct rule { long first, last, error, most; };
-static struct rule calls[8], growths[8];
-static int n_calls, n_growths, told = -1, begun, files[1024];
-static atomic_long call_count, growth_count;
+static struct rule calls[8], growths[8], threads[8];
+static int n_calls, n_growths, n_threads, told = -1, begun, files[1024];
+static atomic_long call_count, growth_count, thread_count;
 static const char *only;
 
 static int rules(const char *text, struct rule *into) {
@@ -52,6 +54,7 @@ static struct rule *rule_at(struct rule *all, int n, long number) {
 
 __attribute__((constructor)) static void begin(void) {
     n_calls = rules(getenv("FAILING_CALLS"), calls), n_growths = rules(getenv("FAILING_GROWTHS"), growths);
+    n_threads = rules(getenv("FAILING_THREADS"), threads);
     only = getenv("FAILING_FILE");
     const char *path = getenv("FAILING_TOLD");
     int fd = path ? syscall(SYS_openat, AT_FDCWD, path, O_WRONLY | O_CREAT | O_APPEND | O_CLOEXEC, 0600) : -1;
@@ -63,7 +66,7 @@ static void put(const char *line, int n) { if (told >= 0) syscall(SYS_write, tol
 
 __attribute__((destructor)) static void end(void) {
     char line[64];
-    put(line, snprintf(line, sizeof line, "growths %ld\n", (long)growth_count));
+    put(line, snprintf(line, sizeof line, "growths %ld %ld\n", (long)growth_count, (long)thread_count));
 }
 
 static int refused(void) {
@@ -79,6 +82,13 @@ void *realloc(void *p, size_t n) { return refused() ? NULL : __libc_realloc(p, n
 void *memalign(size_t a, size_t n) { return refused() ? NULL : __libc_memalign(a, n); }
 void *aligned_alloc(size_t a, size_t n) { return refused() ? NULL : __libc_memalign(a, n); }
 int posix_memalign(void **p, size_t a, size_t n) { return refused() ? ENOMEM : (*p = __libc_memalign(a, n)) ? 0 : ENOMEM; }
+
+int pthread_create(pthread_t *thread, const pthread_attr_t *how, void *(*work)(void *), void *with) {
+    static int (*start)(pthread_t *, const pthread_attr_t *, void *(*)(void *), void *);
+    struct rule *rule = rule_at(threads, n_threads, ++thread_count);
+    if (!start) start = dlsym(RTLD_NEXT, "pthread_create");
+    return rule ? rule->error : start(thread, how, work, with);
+}
 
 static long done(struct rule *rule, const char *name, long fd, long place, long length, long result, const char *path) {
     int error = errno;
@@ -175,17 +185,18 @@ class Came(typing.NamedTuple):
     output: bytes
     calls: list
     growths: int | None
+    threads: int | None
 
 
 def read_told(path):
-    calls, growths = [], None
+    calls, counts = [], (None, None)
     for line in path.read_text(errors="replace").splitlines() if path.exists() else ():
         if line.startswith("growths "):
-            growths = int(line.split()[1])
+            counts = tuple(map(int, line.split()[1:]))
             continue
         name, fd, place, length, result, error, changed, path = line.split(" ", 7)
         calls.append(Call(name, int(fd), int(place), int(length), int(result), int(error), changed == "1", path))
-    return calls, growths
+    return calls, counts
 
 
 class Loaded:
@@ -196,19 +207,20 @@ class Loaded:
         source.write_text(SOURCE)
         subprocess.run(["cc", "-O1", "-w", "-fPIC", "-shared", "-o", str(self.library), str(source)], check=True)
 
-    def run(self, program, words, folder, calls=(), growths=(), only=None, tell=True, **how):
+    def run(self, program, words, folder, calls=(), growths=(), threads=(), only=None, tell=True, **how):
         """What comes of a call of a program in a folder. `only` is the name of the file whose calls alone are counted."""
         told = self.library.parent / f"{pathlib.Path(folder).name}.{os.getpid()}.told"
         env = {"LD_PRELOAD": str(self.library)}
         env |= {"FAILING_CALLS": " ".join(" ".join(map(str, rule)) for rule in calls)} if calls else {}
         env |= {"FAILING_GROWTHS": " ".join(" ".join(map(str, rule)) for rule in growths)} if growths else {}
+        env |= {"FAILING_THREADS": " ".join(" ".join(map(str, rule)) for rule in threads)} if threads else {}
         env |= {"FAILING_FILE": only} if only else {}
         env |= {"FAILING_TOLD": str(told)} if tell else {}
         how = {"stdout": subprocess.PIPE, "stderr": subprocess.DEVNULL, "timeout": SECONDS} | how
         done = subprocess.run([program, *words], cwd=folder, env=env, **how)
-        made, count = read_told(told)
+        made, counts = read_told(told)
         told.unlink(missing_ok=True)
-        return Came(done.returncode, done.stdout or b"", made, count)
+        return Came(done.returncode, done.stdout or b"", made, *counts)
 
 
 def error_name(number):
