@@ -17,13 +17,14 @@ to go on; and to do so and then to fail. What comes of it is worked out here, fr
 Which call of a disk a call of the system belongs to is worked out from the requests that the slow program makes of each file, and
 `ac` may make no others. Then a disk that fails for one file alone, a full disk amid `ac load 500`, threads that cannot be started, and
 slow readers of the output.
-Words pick the calls whose name has one of them in it.
+Words pick the calls whose name has one of them in it; the rest are `one file`, `load`, `threads` and `output`.
 """
 import argparse
 import collections
 import concurrent.futures
 import errno
 import fcntl
+import itertools
 import os
 import pathlib
 import subprocess
@@ -298,6 +299,11 @@ def one_file_fault(loaded, program, name):
     return None if (came.status, came.output, held) == (*answer, files) else f"wanted {answer} and {files}, came {came[:2]} and {held}"
 
 
+def one_files(loaded, program):
+    for name in refusals.NAMES:
+        yield f"{name}.dat fails", one_file_fault(loaded, program, name)
+
+
 def may_be_read(place, written):
     """What a client may get where these places were written of the two files."""
     values = set()
@@ -311,7 +317,7 @@ def load_fault(loaded, program, turns, rules, only=None):
     with tempfile.TemporaryDirectory() as folder:
         folder = pathlib.Path(folder)
         came = loaded.run(program, ["load", str(turns)], folder, calls=rules, only=only)
-        held = [(folder / name).read_bytes() for name in ("one.dat", "two.dat")]
+        held = [run.held_by(folder / name) or b"" for name in ("one.dat", "two.dat")]
     written = [{call.place for call, path in paths_of(came.calls) if path == name and call.name == "pwrite" and call.result == 1}
                for name in ("one.dat", "two.dat")]
     for bytes_, places in zip(held, written):
@@ -345,7 +351,7 @@ def limit_fault(program, room):
     with tempfile.TemporaryDirectory() as folder:
         folder = pathlib.Path(folder)
         done = subprocess.run([program, "load", "500"], cwd=folder, stdout=subprocess.PIPE, timeout=60, preexec_fn=killed.limited(room))
-        held = [(folder / name).read_bytes() for name in ("one.dat", "two.dat")]
+        held = [run.held_by(folder / name) or b"" for name in ("one.dat", "two.dat")]
     front = bytes(server.byte(place) for place in range(room))
     sums = [sum(server.byte(place) if place < room else -2 for place in range(client, 1500, 3)) for client in range(3)]
     summary = "".join(f"{line}\n" for line in ("load 500 status 0", *sums)).encode()
@@ -407,9 +413,10 @@ def bytewise(loaded, program, number, error):
         folder = pathlib.Path(folder)
         run.put(folder, {"x.ac": refusals.THREE.encode()})
         usual = by_slow(refusals.THREE.encode(), {})[0]
-        first = next(n for n, (_, path) in enumerate(paths_of(loaded.run(program, ["run", "x.ac"], folder).calls), 1) if path == OUTPUT)
+        calls = paths_of(loaded.run(program, ["run", "x.ac"], folder).calls)
+        first = next((n for n, (_, path) in enumerate(calls, 1) if path == OUTPUT), len(calls) + 1)
         for name in refusals.NAMES:
-            (folder / f"{name}.dat").unlink()
+            (folder / f"{name}.dat").unlink(missing_ok=True)
         rules = [at(first + number, error)] if error else []
         came = loaded.run(program, ["run", "x.ac"], folder, calls=[*rules, Rule(first, ALWAYS, 0, 1)])
     is_failed = error and error != errno.EINTR and number < len(usual[1])
@@ -431,7 +438,7 @@ def main():
     words.add_argument("program")
     words.add_argument("--jobs", type=int, default=4)
     words.add_argument("picks", nargs="*", metavar="WORD")
-    words = words.parse_args()
+    words = words.parse_intermixed_args()
     program = str(pathlib.Path(words.program).resolve())
     total, failed = 0, 0
 
@@ -447,15 +454,11 @@ def main():
             told = ", ".join(f"{count} {name}" for name, count in counts.items())
             print(f"{test.name}: {calls} calls of the system; {told}; {len(faults)} wrong", flush=True)
             total, failed = total + sum(counts.values()), failed + len(faults)
-        rest = [(f"{name}.dat fails", lambda name=name: one_file_fault(loaded, program, name)) for name in refusals.NAMES]
-        found = [(name, fault()) for name, fault in rest if is_picked(name)]
-        found += [*loads(loaded, program)] if is_picked("load") else []
-        found += [*threads(loaded, program)] if is_picked("threads") else []
-        found += [*outputs(loaded, program)] if is_picked("output") else []
-        for name, fault in found:
+        kinds = (("one file", one_files), ("load", loads), ("threads", threads), ("output", outputs))
+        for name, fault in itertools.chain.from_iterable(tried_of(loaded, program) for kind, tried_of in kinds if is_picked(kind)):
             print(f"{name}: {fault or 'as it is due'}", flush=True)
             failed += fault is not None
-        total += len(found)
+            total += 1
     print(f"failing calls: {total} runs, {failed} wrong")
     return 1 if failed or not total else 0
 

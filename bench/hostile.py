@@ -492,7 +492,7 @@ def main():
     words.add_argument("--seconds", type=int, default=0)
     words.add_argument("--jobs", type=int, default=os.cpu_count() or 2)
     words.add_argument("picks", nargs="*", metavar="WORD")
-    words = words.parse_args()
+    words = words.parse_intermixed_args()
     program = str(pathlib.Path(words.program).resolve())
 
     def is_picked(name):

@@ -164,7 +164,7 @@ def main():
     words.add_argument("program")
     words.add_argument("--jobs", type=int, default=4)
     words.add_argument("picks", nargs="*", metavar="WORD")
-    words = words.parse_args()
+    words = words.parse_intermixed_args()
     program = str(pathlib.Path(words.program).resolve())
     total, failed = collections.Counter(), 0
     with tempfile.TemporaryDirectory() as folder:
