@@ -30,7 +30,6 @@ import pathlib
 import subprocess
 import sys
 import tempfile
-import threading
 import time
 import typing
 
