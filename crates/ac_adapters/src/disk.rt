@@ -3,11 +3,12 @@
 ghost use Rattle.std.specs.Prelude.{◌≡◌, ◌≤◌, [], ◌∷◌, ◌++◌, ◌-◌, min, length, IfErr, OnOk, None, Some, true};
 ghost use Rattle.std.specs.Io.{ReadsAtMost, WritesAtMost};
 
+use crate::again;
 use crate::limits::most_bytes;
 use ac_base::{Bytes, List, NoMemory};
 use ac_outside::{BindFault, Disk, FILE_BYTES, Failed, Torn};
 use std::alloc::Global;
-use std::fs::{OpenFile, OpenOptions};
+use std::fs::OpenOptions;
 use std::io;
 use std::marker::Model;
 use std::os::unix::fs::FileExt;
@@ -86,7 +87,7 @@ fn open_at<R: Files>(files: &R, path: &str) -> io::Result<(R::File, u64)> {
     let mut how = OpenOptions::new();
     how.read(true).write(true).create(true);
     let file = how.open(files, path)?;
-    let len = file.metadata()?.len();
+    let len = again::length(&file)?;
     Ok((file, len))
 }
 
@@ -97,7 +98,7 @@ fn read_all<F: FileExt>(file: &F, from: u32, into: &mut [u8]) -> io::Result<usiz
 {
     let mut at = 0;
     while at < into.len() {
-        let count = file.read_at(&mut into[at..], u64::from(from) + at as u64)?;
+        let count = again::read_at(file, &mut into[at..], u64::from(from) + at as u64)?;
         if count == 0 {
             break;
         }
@@ -118,7 +119,7 @@ fn write_below<F: FileExt>(file: &F, limit: u64, from: u64, bytes: &[u8]) -> io:
     ensures { WritesAtMost result bytes.now }
 {
     let room = room_below(limit, from, bytes.len());
-    file.write_at(&bytes[..room], from)
+    again::write_at(file, &bytes[..room], from)
 }
 
 // Writes until all bytes have gone in, or the system or the limit takes none.

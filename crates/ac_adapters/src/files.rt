@@ -2,9 +2,9 @@
 
 ghost use Rattle.std.specs.Prelude.{◌≡◌, None, false};
 
+use crate::again;
 use ac_outside::{Failed, Library};
 use std::fs;
-use std::io::Read;
 use std::marker::Model;
 use std::rt::Files;
 
@@ -73,7 +73,7 @@ impl<R: Files> Library for FileLibrary<'_, R> {
         let Some(file) = &mut self.file else {
             unreachable!();
         };
-        match file.read(into) {
+        match again::read(file, into) {
             Ok(count) => Ok(count),
             Err(_) => {
                 self.faults = self.faults.saturating_add(1);

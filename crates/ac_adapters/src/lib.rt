@@ -2,6 +2,7 @@
 //! contents; the disk tells the paths that it was to bind.
 #![tactic(auto)]
 
+mod again;
 mod disk;
 mod files;
 mod gate;

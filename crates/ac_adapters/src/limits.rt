@@ -2,7 +2,7 @@
 
 ghost use Rattle.std.specs.Io.{ReadsAtMost};
 
-use std::io::Read;
+use crate::again;
 use std::rt::Files;
 use std::{fs, io};
 
@@ -29,7 +29,7 @@ fn read_front<R: Files>(files: &R, into: &mut [u8]) -> io::Result<usize>
     let mut file = fs::open(files, LIMITS)?;
     let mut at = 0;
     while at < into.len() {
-        let count = file.read(&mut into[at..])?;
+        let count = again::read(&mut file, &mut into[at..])?;
         if count == 0 {
             break;
         }

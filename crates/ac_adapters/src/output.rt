@@ -2,6 +2,7 @@
 
 ghost use Rattle.std.specs.Prelude.{◌≡◌, None};
 
+use crate::again;
 use ac_outside::{Failed, Sink};
 use std::marker::Model;
 
@@ -40,7 +41,7 @@ impl<R: Print> Sink for StandardSink<'_, R> {
     ghost told = { λ s. record { held = None; faults = s } };
 
     fn write(&mut self, piece: &[u8]) -> Result<usize, Failed> {
-        match self.to.write_some(piece) {
+        match again::print(self.to, piece) {
             Ok(count) if count > 0 || piece.is_empty() => Ok(count),
             _ => {
                 self.faults = self.faults.saturating_add(1);

@@ -44,7 +44,8 @@ fn a_file_stays_open_where_another_is_refused(rt: HostRuntime) -> Result<(), Fai
     Ok(())
 }
 
-// An output of which the first call takes one byte, the second none, and the third fails.
+// An output of which the first call takes one byte, the second none, the third fails, and the fourth is
+// interrupted.
 #[derive(Drop)]
 struct Script {
     calls: Cell<u64>,
@@ -70,12 +71,13 @@ impl Print for Script {
             0 => Ok(bytes.len().min(1)),
             1 => Ok(0),
             2 => Err(io::Error::from(io::ErrorKind::BrokenPipe)),
+            3 => Err(io::Error::from(io::ErrorKind::Interrupted)),
             _ => Ok(bytes.len()),
         }
     }
 }
 
-// Output that takes nothing has failed, as one that says so has.
+// Output that takes nothing has failed, as one that says so has; one that was interrupted has not.
 #[test]
 fn an_output_takes_what_it_can(rt: HostRuntime) -> Result<(), Fail> {
     let script = Script {
