@@ -311,11 +311,11 @@ def may_be_read(place, written):
     return values or {-2}
 
 
-def load_fault(loaded, program, turns, rules, only=None):
+def load_fault(loaded, program, turns, rules, only=None, kind=None):
     """What is wrong with a load some of whose writes have no room, or nothing: each client gets what was written, from either file."""
     with tempfile.TemporaryDirectory() as folder:
         folder = pathlib.Path(folder)
-        came = loaded.run(program, ["load", str(turns)], folder, calls=rules, only=only)
+        came = loaded.run(program, ["load", str(turns)], folder, calls=rules, only=only, kind=kind)
         held = [run.held_by(folder / name) or b"" for name in ("one.dat", "two.dat")]
     written = [{call.place for call, path in paths_of(came.calls) if path == name and call.name == "pwrite" and call.result == 1}
                for name in ("one.dat", "two.dat")]
@@ -338,7 +338,7 @@ def load_fault(loaded, program, turns, rules, only=None):
 
 def loads(loaded, program):
     for number in (500, 1500, 2999):
-        yield f"load 500, full behind call {number}", load_fault(loaded, program, 500, [Rule(number, ALWAYS, errno.ENOSPC)])
+        yield f"load 500, full behind write {number}", load_fault(loaded, program, 500, [Rule(number + 1, ALWAYS, errno.ENOSPC)], kind="pwrite")
     for name in ("one.dat", "two.dat"):
         yield f"load 500, {name} fails", load_fault(loaded, program, 500, [Rule(3, ALWAYS, errno.EIO)], name)
     for room in (0, 1, 700, 1499):

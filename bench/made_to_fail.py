@@ -35,7 +35,7 @@ struct rule { long first, last, error, most; };
 static struct rule calls[8], growths[8], threads[8];
 static int n_calls, n_growths, n_threads, told = -1, begun, files[1024];
 static atomic_long call_count, growth_count, thread_count;
-static const char *only;
+static const char *only, *kind;
 
 static int rules(const char *text, struct rule *into) {
     int n = 0;
@@ -55,7 +55,7 @@ static struct rule *rule_at(struct rule *all, int n, long number) {
 __attribute__((constructor)) static void begin(void) {
     n_calls = rules(getenv("FAILING_CALLS"), calls), n_growths = rules(getenv("FAILING_GROWTHS"), growths);
     n_threads = rules(getenv("FAILING_THREADS"), threads);
-    only = getenv("FAILING_FILE");
+    only = getenv("FAILING_FILE"), kind = getenv("FAILING_KIND");
     const char *path = getenv("FAILING_TOLD");
     int fd = path ? syscall(SYS_openat, AT_FDCWD, path, O_WRONLY | O_CREAT | O_APPEND | O_CLOEXEC, 0600) : -1;
     if (fd >= 0) told = syscall(SYS_fcntl, fd, F_DUPFD_CLOEXEC, 900), syscall(SYS_close, fd);
@@ -64,9 +64,15 @@ __attribute__((constructor)) static void begin(void) {
 
 static void put(const char *line, int n) { if (told >= 0) syscall(SYS_write, told, line, n); }
 
+/* A program ends by a return from its main, or by _exit. */
 __attribute__((destructor)) static void end(void) {
     char line[64];
     put(line, snprintf(line, sizeof line, "growths %ld %ld\n", (long)growth_count, (long)thread_count));
+}
+
+void _exit(int status) {
+    end();
+    for (;;) syscall(SYS_exit_group, status);
 }
 
 static int refused(void) {
@@ -98,8 +104,8 @@ static long done(struct rule *rule, const char *name, long fd, long place, long 
     return result;
 }
 
-static struct rule *due(int is_counted) {
-    return begun && is_counted ? rule_at(calls, n_calls, ++call_count) : NULL;
+static struct rule *due(const char *name, int is_counted) {
+    return begun && is_counted && (!kind || !strcmp(kind, name)) ? rule_at(calls, n_calls, ++call_count) : NULL;
 }
 
 static int is_counted(int fd) { return !only || (fd >= 0 && fd < 1024 && files[fd]); }
@@ -110,7 +116,7 @@ static int is_counted(int fd) { return !only || (fd >= 0 && fd < 1024 && files[f
 static int opened(const char *name, const char *path, int flags, int mode) {
     const char *last = strrchr(path, '/');
     int is_it = only && !strcmp(last ? last + 1 : path, only);
-    struct rule *rule = due(!only || is_it);
+    struct rule *rule = due(name, !only || is_it);
     int fd = FAILS(rule) ? -1 : (int)syscall(SYS_openat, AT_FDCWD, path, flags, mode);
     if (fd >= 0 && fd < 1024) files[fd] = is_it;
     return done(rule, name, fd, -1, flags, fd, path);
@@ -121,34 +127,34 @@ int open(const char *path, int flags, ...) { MODE return opened("open", path, fl
 int open64(const char *path, int flags, ...) { MODE return opened("open", path, flags, mode); }
 
 ssize_t read(int fd, void *to, size_t n) {
-    struct rule *rule = due(is_counted(fd));
+    struct rule *rule = due("read", is_counted(fd));
     return done(rule, "read", fd, -1, n, FAILS(rule) ? -1 : syscall(SYS_read, fd, to, FEWER(rule, n)), "");
 }
 
 ssize_t write(int fd, const void *from, size_t n) {
-    struct rule *rule = due(is_counted(fd));
+    struct rule *rule = due("write", is_counted(fd));
     return done(rule, "write", fd, -1, n, FAILS(rule) ? -1 : syscall(SYS_write, fd, from, FEWER(rule, n)), "");
 }
 
 ssize_t pread(int fd, void *to, size_t n, off_t at) {
-    struct rule *rule = due(is_counted(fd));
+    struct rule *rule = due("pread", is_counted(fd));
     return done(rule, "pread", fd, at, n, FAILS(rule) ? -1 : syscall(SYS_pread64, fd, to, FEWER(rule, n), at), "");
 }
 ssize_t pread64(int fd, void *to, size_t n, off_t at) { return pread(fd, to, n, at); }
 
 ssize_t pwrite(int fd, const void *from, size_t n, off_t at) {
-    struct rule *rule = due(is_counted(fd));
+    struct rule *rule = due("pwrite", is_counted(fd));
     return done(rule, "pwrite", fd, at, n, FAILS(rule) ? -1 : syscall(SYS_pwrite64, fd, from, FEWER(rule, n), at), "");
 }
 ssize_t pwrite64(int fd, const void *from, size_t n, off_t at) { return pwrite(fd, from, n, at); }
 
 int statx(int fd, const char *restrict path, int flags, unsigned mask, struct statx *restrict to) {
-    struct rule *rule = due(is_counted(fd));
+    struct rule *rule = due("statx", is_counted(fd));
     return done(rule, "statx", fd, -1, 0, FAILS(rule) ? -1 : (int)syscall(SYS_statx, fd, path, flags, mask, to), "");
 }
 
 int fstat(int fd, struct stat *to) {
-    struct rule *rule = due(is_counted(fd));
+    struct rule *rule = due("fstat", is_counted(fd));
     return done(rule, "fstat", fd, -1, 0, FAILS(rule) ? -1 : (int)syscall(SYS_fstat, fd, to), "");
 }
 """
@@ -207,14 +213,16 @@ class Loaded:
         source.write_text(SOURCE)
         subprocess.run(["cc", "-O1", "-w", "-fPIC", "-shared", "-o", str(self.library), str(source)], check=True)
 
-    def run(self, program, words, folder, calls=(), growths=(), threads=(), only=None, tell=True, **how):
-        """What comes of a call of a program in a folder. `only` is the name of the file whose calls alone are counted."""
+    def run(self, program, words, folder, calls=(), growths=(), threads=(), only=None, kind=None, tell=True, **how):
+        """What comes of a call of a program in a folder. `only` is the name of the file whose calls alone are counted, `kind` that of the
+        calls that alone are counted."""
         told = self.library.parent / f"{pathlib.Path(folder).name}.{os.getpid()}.told"
         env = {"LD_PRELOAD": str(self.library)}
         env |= {"FAILING_CALLS": " ".join(" ".join(map(str, rule)) for rule in calls)} if calls else {}
         env |= {"FAILING_GROWTHS": " ".join(" ".join(map(str, rule)) for rule in growths)} if growths else {}
         env |= {"FAILING_THREADS": " ".join(" ".join(map(str, rule)) for rule in threads)} if threads else {}
         env |= {"FAILING_FILE": only} if only else {}
+        env |= {"FAILING_KIND": kind} if kind else {}
         env |= {"FAILING_TOLD": str(told)} if tell else {}
         how = {"stdout": subprocess.PIPE, "stderr": subprocess.DEVNULL, "timeout": SECONDS} | how
         done = subprocess.run([program, *words], cwd=folder, env=env, **how)
