@@ -110,7 +110,8 @@ MARKS = ("(", ")", "{", "}", "[", "]", ";", ",", ":", "=", "+", "-", "*", "/", "
          "==", "!=", "&&", "||", '"', "'", "/*", "*/", "//", "\\", "\n", "\t", "\0", "\x7f", "\xff", "0", "00", "9223372036854775807",
          "9223372036854775808", "x", "f", "a", "\"%d\\n\"", "@", "#", "$", "?", ".")
 # Names and words, numbers, operators.
-KINDS_OF_TOKENS = (rb"[A-Za-z_]\w*", rb"[A-Za-z_]\w*", rb"[A-Za-z_]\w*", rb"\d+", rb"[-+*/%&|^<>=!]+")
+NAME = re.compile(rb"[A-Za-z_]\w*")
+KINDS_OF_TOKENS = (NAME, NAME, NAME, re.compile(rb"\d+"), re.compile(rb"[-+*/%&|^<>=!]+"))
 TOKEN = re.compile(rb'\s+|[A-Za-z_]\w*|\d+|"[^"\n]*"|<<|>>|<=|>=|==|!=|&&|\|\||.', re.S)
 
 
@@ -162,7 +163,7 @@ def other_tokens(r, text):
         return b";"
     if r.random() < 0.6:
         kind = r.choice(KINDS_OF_TOKENS)
-        places = [n for n, token in enumerate(tokens) if re.fullmatch(kind, token)]
+        places = [n for n, token in enumerate(tokens) if kind.fullmatch(token)]
         if places:
             tokens[r.choice(places)] = r.choice([tokens[n] for n in places])
         return b"".join(tokens)

@@ -3,6 +3,8 @@ import re
 
 WORDS = set("int void async do finish cancel yield if else while for break continue return core channel file printf Send Recv Read Write OK CANCELLED FAULT".split())
 MARKS = ["||", "&&", "==", "!=", "<=", ">=", "<<", ">>"] + list("+-*/%<>&|^!~=()[]{},;:")
+MARK = re.compile(b"|".join(re.escape(mark.encode()) for mark in MARKS))
+WORD, DIGITS, BLANKS = re.compile(rb"[A-Za-z_0-9]+"), re.compile(rb"[0-9]+"), re.compile(rb"[ \t\r\n]+")
 GREATEST = 9223372036854775807
 
 
@@ -28,7 +30,7 @@ def lex(text):
     while i < n:
         c = text[i:i + 1]
         if c in b" \t\r\n":
-            i += 1
+            i = BLANKS.match(text, i).end()
             continue
         if text[i:i + 2] == b"//":
             j = text.find(b"\n", i)
@@ -41,17 +43,13 @@ def lex(text):
             i = j + 2
             continue
         if c in letters:
-            j = i
-            while j < n and (text[j:j + 1] in letters or text[j:j + 1] in digits):
-                j += 1
+            j = WORD.match(text, i).end()
             word = text[i:j].decode()
             out.append(("word" if word in WORDS else "name", word, i))
             i = j
             continue
         if c in digits:
-            j = i
-            while j < n and text[j:j + 1] in digits:
-                j += 1
+            j = DIGITS.match(text, i).end()
             if int(text[i:j]) > GREATEST:
                 raise Fault(2, f"number too large at {i}")
             if c == b"0" and j > i + 1:
@@ -88,13 +86,11 @@ def lex(text):
             out.append(("text", bytes(value), i))
             i = j + 1
             continue
-        for m in MARKS:
-            if text.startswith(m.encode(), i):
-                out.append(("mark", m, i))
-                i += len(m)
-                break
-        else:
+        mark = MARK.match(text, i)
+        if not mark:
             raise Fault(2, f"bad byte at {i}")
+        out.append(("mark", mark[0].decode(), i))
+        i = mark.end()
     return out
 
 
