@@ -1,0 +1,159 @@
+//! A relay that merges the messages of several channels into one.
+
+ghost use Rattle.std.specs.Prelude.{◌≡◌, ◌<◌, ◌≤◌, ◌^◌, All, length, slice_get, Some};
+ghost use Rattle.channel_ends.specs.Sending.{AreWithin};
+ghost use Rattle.channel_ends.specs.Settled.{AreEnds};
+ghost use Rattle.ac_choice.specs.Relaying.{Carries};
+ghost use Rattle.ac_choice.specs.Steps.{Steps, OffersAsTold, IsSameRelay};
+ghost use Rattle.ac_choice.specs.Settling.{HasDecidedNone, HasOfferedNone, new_relay, SettlesEnd, SettlesOut};
+ghost use Rattle.ac_choice.specs.inner.Offering.{Puts};
+
+use crate::answers::{Any, Relayed, Tagged};
+use crate::choosing::{end_after, take_any};
+use ac_base::Clock;
+use channel_ends::{RecvEnd, SendEnd, settle};
+use core_channels::{Learning, Offering};
+use rtrb::AnyItems;
+use std::marker::Model;
+
+/// Takes the messages of several channels and offers each on another one, with the number of the end at
+/// which it was taken. It is the one party of all these ends, and holds at most one message.
+///
+/// Contracts see its ends, the message that it holds, which end it asks first, and the stamp of its last
+/// entry. None of its calls waits or takes memory.
+#[derive(Drop)]
+pub struct Relay<'a> {
+    ins: Vec<RecvEnd<'a, i64, AnyItems>>,
+    out: SendEnd<'a, Tagged, AnyItems>,
+    held: Option<Tagged>,
+    first: u32,
+    clock: Clock,
+}
+
+impl<'a> Model for Relay<'a> {
+    ghost use Rattle.ac_choice.specs.Relaying.{Relaying};
+
+    ghost Value = { Relaying };
+
+    ghost use Rattle.ac_choice.specs.inner.Inside.{relaying_of, IsRelaying};
+
+    ghost view = { relaying_of };
+
+    ghost invariant = { IsRelaying };
+}
+
+// Offers a message, and gives it back where it was not offered.
+fn offer_one(
+    out: &mut SendEnd<'_, Tagged, AnyItems>,
+    message: Tagged,
+    clock: &mut Clock,
+) -> (Relayed, Option<Tagged>)
+    requires { AreWithin clock.old out.old.notes.offers }
+    ensures { Puts out.old message clock.old result.0 result.1 out.new clock.new }
+{
+    match out.offer(message, clock) {
+        Offering::Offered { .. } => (Relayed::Moved { end: message.end }, None),
+        Offering::NoRoom(back) => (Relayed::NoRoom, Some(back)),
+        Offering::NotYet(back) => (Relayed::NotYet, Some(back)),
+        Offering::ClockFull(back) => (Relayed::ClockFull, Some(back)),
+    }
+}
+
+impl<'a> Relay<'a> {
+    /// A relay between these ends, with a new clock.
+    ///
+    /// Conditions: there is at least one end to take at, there are fewer than 2^32, and no end has made an
+    /// entry.
+    pub fn new(
+        ins: Vec<RecvEnd<'a, i64, AnyItems>>,
+        out: SendEnd<'a, Tagged, AnyItems>,
+    ) -> Relay<'a>
+        requires some { 0 < length ins.items }
+        requires few { length ins.items < 2 ^ 32 }
+        requires undecided { All HasDecidedNone ins.items }
+        requires unoffered { HasOfferedNone out }
+        ensures { result ≡ new_relay ins.entry.items out.entry }
+    {
+        Relay {
+            ins,
+            out,
+            held: None,
+            first: 0,
+            clock: Clock::new(0),
+        }
+    }
+
+    /// Learns at the end on which it offers, and then offers the message that it holds, or takes one, from
+    /// the first end in turn that has one to give, and offers that. What it could not offer it holds. The
+    /// end after the one that took or passed is the first to be asked from then on.
+    ///
+    /// `Moved` comes exactly where an offer of this call was made; `Passed` and `Nothing` only where it
+    /// held no message, and its ends answered so; `NoRoom` only where its offer was answered so; `NotYet`
+    /// and `ClockFull` only where an offer, the ends or, for `ClockFull`, the learning was.
+    pub fn step(&mut self) -> Relayed
+        ensures step { Steps self.old result self.new }
+
+        // At any moment what it has offered and then what it holds is, of each end, what it has taken there.
+        ensures carries { Carries self.new }
+        ensures offers { OffersAsTold self.old.out.payloads result self.new.out.payloads }
+        ensures rises { self.old.clock ≤ self.new.clock }
+        ensures same { IsSameRelay self.old self.new }
+    {
+        if let Learning::ClockFull = self.out.learn(&mut self.clock) {
+            return Relayed::ClockFull;
+        }
+        if let Some(message) = self.held {
+            let (answer, held) = offer_one(&mut self.out, message, &mut self.clock);
+            self.held = held;
+            return answer;
+        }
+        let count = self.ins.len() as u32;
+        match take_any(self.ins.as_mut_slice(), self.first, &mut self.clock) {
+            Any::Took { end, value, .. } => {
+                self.first = end_after(count, end);
+                let message = Tagged { end, value };
+                let (answer, held) = offer_one(&mut self.out, message, &mut self.clock);
+                self.held = held;
+                answer
+            }
+            Any::Passed { end, .. } => {
+                self.first = end_after(count, end);
+                Relayed::Passed
+            }
+            Any::Nothing => Relayed::Nothing,
+            Any::NotYet { .. } => Relayed::NotYet,
+            Any::ClockFull => Relayed::ClockFull,
+        }
+    }
+
+    /// Lets the end of this number, and the end that sends to it, know all that the other has done.
+    ///
+    /// Condition: the two are of one pair.
+    pub fn settle_end(&mut self, end: u32, send: &mut SendEnd<'_, i64, AnyItems>)
+        requires end { end < length self.old.ins }
+        requires pair { (r : _) → slice_get self.old.ins end ≡ Some r → AreEnds send.old r }
+        ensures { SettlesEnd self.old end send.old send.new self.new }
+    {
+        settle(send, &mut self.ins[end as usize]);
+    }
+
+    /// Lets the end on which it offers, and the one that receives from it, know all that the other has
+    /// done.
+    ///
+    /// Condition: the two are of one pair.
+    pub fn settle_out(&mut self, recv: &mut RecvEnd<'_, Tagged, AnyItems>)
+        requires { AreEnds self.old.out recv.old }
+        ensures { SettlesOut self.old recv.old recv.new self.new }
+    {
+        settle(&mut self.out, recv);
+    }
+
+    /// The stamp of its last entry. At any moment nothing that it has taken is lost or made twice.
+    pub fn last(&self) -> u64
+        ensures same { result ≡ self.now.clock }
+        ensures bound { result < 2 ^ 60 }
+        ensures carries { Carries self.now }
+    {
+        self.clock.last()
+    }
+}
