@@ -8,9 +8,9 @@ use Rattle.ac_choice.specs.AnyOf.{IsLeft, SoAt}
 use Rattle.ac_choice.specs.declared.answers.Tagged.{Tagged}
 use Rattle.ac_choice.specs.Relaying.{Relaying}
 
--- nothing was decided at the end, and nothing taken out of its ring
-abbrev pub HasDecidedNone : Receiving ℤ → Type 0
-HasDecidedNone r = (r.peer.decisions ≡ []) × (r.popped ≡ [])
+-- nothing was decided at any end, and nothing taken out of its ring
+abbrev pub HaveDecidedNone : List (Receiving ℤ) → Type 0
+HaveDecidedNone ins = (k : ℕ) (r : Receiving ℤ) → slice_get ins k ≡ Some r → (r.peer.decisions ≡ []) × (r.popped ≡ [])
 
 -- nothing was offered
 abbrev pub HasOfferedNone : Sending Tagged → Type 0

@@ -1,3 +1,3 @@
 pub mod Asking
-pub mod Offering
 pub mod Inside
+pub mod Offering

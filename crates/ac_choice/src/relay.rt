@@ -1,12 +1,13 @@
 //! A relay that merges the messages of several channels into one.
 
-ghost use Rattle.std.specs.Prelude.{◌≡◌, ◌<◌, ◌≤◌, ◌^◌, All, length, slice_get, Some};
+ghost use Rattle.std.specs.Prelude.{◌≡◌, ◌<◌, ◌≤◌, ◌^◌, length, slice_get, Some, None};
 ghost use Rattle.channel_ends.specs.Sending.{AreWithin};
 ghost use Rattle.channel_ends.specs.Settled.{AreEnds};
 ghost use Rattle.ac_choice.specs.Relaying.{Carries};
-ghost use Rattle.ac_choice.specs.Steps.{Steps, OffersAsTold, IsSameRelay};
-ghost use Rattle.ac_choice.specs.Settling.{HasDecidedNone, HasOfferedNone, new_relay, SettlesEnd, SettlesOut};
-ghost use Rattle.ac_choice.specs.inner.Offering.{Puts};
+ghost use Rattle.ac_choice.specs.Steps.{Steps, OffersAsTold, IsSameRelay, is_full};
+ghost use Rattle.ac_choice.specs.Settling.{HaveDecidedNone, HasOfferedNone, new_relay, SettlesEnd, SettlesOut};
+ghost use Rattle.ac_choice.specs.inner.Inside.{IsRelay};
+ghost use Rattle.ac_choice.specs.inner.Offering.{Puts, Fetches, relay_of};
 
 use crate::answers::{Any, Relayed, Tagged};
 use crate::choosing::{end_after, take_any};
@@ -42,6 +43,13 @@ impl<'a> Model for Relay<'a> {
     ghost invariant = { IsRelaying };
 }
 
+// Whether all stamps are used.
+fn is_full(answer: Learning) -> bool
+    ensures { result ≡ is_full answer }
+{
+    matches!(answer, Learning::ClockFull)
+}
+
 // Offers a message, and gives it back where it was not offered.
 fn offer_one(
     out: &mut SendEnd<'_, Tagged, AnyItems>,
@@ -59,6 +67,33 @@ fn offer_one(
     }
 }
 
+// Takes a message from the first of the ends in turn that has one to give, and offers it.
+fn fetch_one(
+    ins: &mut [RecvEnd<'_, i64, AnyItems>],
+    first: &mut u32,
+    out: &mut SendEnd<'_, Tagged, AnyItems>,
+    clock: &mut Clock,
+) -> (Relayed, Option<Tagged>)
+    requires { IsRelay (relay_of ins.old out.old None first.old clock.old) }
+    ensures { Fetches (relay_of ins.old out.old None first.old clock.old) result.0
+        (relay_of ins.new out.new result.1 first.new clock.new) }
+{
+    let count = ins.len() as u32;
+    match take_any(ins, *first, clock) {
+        Any::Took { end, value, .. } => {
+            *first = end_after(count, end);
+            offer_one(out, Tagged { end, value }, clock)
+        }
+        Any::Passed { end, .. } => {
+            *first = end_after(count, end);
+            (Relayed::Passed, None)
+        }
+        Any::Nothing => (Relayed::Nothing, None),
+        Any::NotYet { .. } => (Relayed::NotYet, None),
+        Any::ClockFull => (Relayed::ClockFull, None),
+    }
+}
+
 impl<'a> Relay<'a> {
     /// A relay between these ends, with a new clock.
     ///
@@ -70,7 +105,7 @@ impl<'a> Relay<'a> {
     ) -> Relay<'a>
         requires some { 0 < length ins.items }
         requires few { length ins.items < 2 ^ 32 }
-        requires undecided { All HasDecidedNone ins.items }
+        requires undecided { HaveDecidedNone ins.items }
         requires unoffered { HasOfferedNone out }
         ensures { result ≡ new_relay ins.entry.items out.entry }
     {
@@ -99,30 +134,25 @@ impl<'a> Relay<'a> {
         ensures rises { self.old.clock ≤ self.new.clock }
         ensures same { IsSameRelay self.old self.new }
     {
-        if let Learning::ClockFull = self.out.learn(&mut self.clock) {
+        if is_full(self.out.learn(&mut self.clock)) {
             return Relayed::ClockFull;
         }
-        if let Some(message) = self.held {
-            let (answer, held) = offer_one(&mut self.out, message, &mut self.clock);
-            self.held = held;
-            return answer;
-        }
-        let count = self.ins.len() as u32;
-        match take_any(self.ins.as_mut_slice(), self.first, &mut self.clock) {
-            Any::Took { end, value, .. } => {
-                self.first = end_after(count, end);
-                let message = Tagged { end, value };
+        match self.held {
+            Some(message) => {
                 let (answer, held) = offer_one(&mut self.out, message, &mut self.clock);
                 self.held = held;
                 answer
             }
-            Any::Passed { end, .. } => {
-                self.first = end_after(count, end);
-                Relayed::Passed
+            None => {
+                let (answer, held) = fetch_one(
+                    self.ins.as_mut_slice(),
+                    &mut self.first,
+                    &mut self.out,
+                    &mut self.clock,
+                );
+                self.held = held;
+                answer
             }
-            Any::Nothing => Relayed::Nothing,
-            Any::NotYet { .. } => Relayed::NotYet,
-            Any::ClockFull => Relayed::ClockFull,
         }
     }
 

@@ -1,0 +1,6 @@
+mod Places
+mod InTurn
+mod Asked
+mod Lists
+mod Carrying
+mod Fetching
