@@ -1,17 +1,17 @@
 -- The ends that were asked so far, in turn: none has given anything, and the others are as they were. So the first that gives is the answer,
 -- and where all were asked there is none.
-use Rattle.std.proofs.Common.{◌≡◌, ℕ, zero, suc, ◌+◌, ◌<◌, ◌≤◌, List, Option, Some, None, length, slice_set, refl, sym, ap, ◌∙◌, subst, arith, inl, inr, ⊎_elim}
+use Rattle.std.proofs.Common.{◌≡◌, ℕ, ◌+◌, ◌<◌, ◌≤◌, List, Option, Some, None, length, slice_set, refl, sym, ap, ◌∙◌, subst, arith, inl, inr, ⊎_elim}
 use Rattle.std.specs.Prelude.{slice_get, ◌⊎◌}
 use Rattle.std.specs.Option.{option_or}
-use Rattle.std.proofs.lemmas.Option.{slice_get-get_or, slice_get_within}
+use Rattle.std.proofs.lemmas.Option.{slice_get-get_or}
 use Rattle.std.proofs.lemmas.List.{length-set}
 use Rattle.std.proofs.lemmas.Bool.{cases_lt, cases_eq}
-use Rattle.std.proofs.Common.{get_or, []}
+use Rattle.std.proofs.Common.{get_or}
 use Rattle.completion_word.specs.Link.{decision}
 use Rattle.completion_word.specs.declared.views.DecisionKind.TheVariants as outcome
 use Rattle.core_channels.specs.declared.answers.Receiving.{Receiving as Received}
 use Rattle.core_channels.specs.declared.answers.Receiving.TheVariants as received
-use Rattle.channel_ends.specs.Receiving.{Receiving, Receives, Decides}
+use Rattle.channel_ends.specs.Receiving.{Receiving, Receives}
 use Rattle.channel_ends.specs.Pairs.{IsSameRecv}
 use Rattle.ac_choice.specs.Turns.{turn}
 use Rattle.ac_choice.specs.AnyOf.{SoAt, SeesNothing, Waits, GivesNone, IsLeft, Answers, WaitsAt, SeeNothing, DecidesOne, SameList, DecidesAtMostOne, AreSameEnds}
@@ -215,9 +215,9 @@ module _ {M : Type 0} where
     others_same k apart =
         elim (cases_lt k (length old)) [
           | inl w ↦ elim (turns_apart (length old) first k e some w h.within apart) [
-              | inl less ↦ λ a b from to. decides_nothing last a b (h.before k w less a b from to)
-              | inr more ↦ λ a b from to. let is : b ≡ a = h.after k w more a b from to in subst (λ z. SameList a z) (sym is) (refl, refl)
-            ]
+            | inl less ↦ λ a b from to. decides_nothing last a b (h.before k w less a b from to)
+            | inr more ↦ λ a b from to. let is : b ≡ a = h.after k w more a b from to in subst (λ z. SameList a z) (sym is) (refl, refl)
+          ]
           | inr past ↦ so_beyond SameList old new k past
         ]
 

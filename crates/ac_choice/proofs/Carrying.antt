@@ -1,7 +1,6 @@
 -- What a relay has offered and then what it holds is, of each end, what it has taken there: after each call on its ends as before it.
-use Rattle.std.proofs.Common.{◌≡◌, ℕ, ℤ, zero, suc, ◌<◌, ◌≤◌, ◌^◌, List, [], ◌∷◌, ◌++◌, Option, Some, None, length, refl, sym, ap, ◌∙◌, subst, arith, inl, inr, ⊎_elim}
+use Rattle.std.proofs.Common.{◌≡◌, ℕ, ℤ, zero, suc, ◌<◌, ◌≤◌, List, [], ◌∷◌, ◌++◌, Some, None, length, refl, sym, ap, ◌∙◌, subst, arith, inl, inr, ⊎_elim}
 use Rattle.std.specs.Prelude.{slice_get, ◌⊎◌}
-use Rattle.std.specs.Option.{ForSome}
 use Rattle.std.proofs.lemmas.List.{append-nil}
 use Rattle.std.proofs.lemmas.Bool.{cases_eq}
 use Rattle.completion_word.specs.declared.views.DecisionKind.TheVariants as outcome
@@ -14,17 +13,15 @@ use Rattle.core_channels.specs.declared.answers.Learning.{Learning}
 use Rattle.core_channels.specs.declared.answers.Learning.TheVariants as learning
 use Rattle.core_channels.specs.Learns.{learning_clock}
 use Rattle.core_channels.proofs.Stamping.{stamp_rises}
-use Rattle.channel_ends.specs.Sending.{Sending, OwnerNotes, MadeOffer, AreWithin, made_at}
+use Rattle.channel_ends.specs.Sending.{Sending, OwnerNotes, MadeOffer, AreWithin}
 use Rattle.channel_ends.specs.Receiving.{Receiving, Receives, Decides}
 use Rattle.channel_ends.specs.Offers.{Offers, offering_clock}
 use Rattle.channel_ends.specs.Learns.{Learns}
 use Rattle.ac_choice.specs.declared.answers.Any.{Any}
 use Rattle.ac_choice.specs.declared.answers.Any.TheVariants as any
 use Rattle.ac_choice.specs.declared.answers.Tagged.{Tagged}
-use Rattle.ac_choice.specs.declared.answers.Relayed.{Relayed}
-use Rattle.ac_choice.specs.declared.answers.Relayed.TheVariants as relayed
-use Rattle.ac_choice.specs.AnyOf.{SoAt, SameList, DecidesOne, DecidesAtMostOne, Answers, TakesAny, any_clock, decided_end}
-use Rattle.ac_choice.specs.Relaying.{Relaying, of_end, if_taken, taken_by, taken_of, taken_at, held_list, carried, Carries}
+use Rattle.ac_choice.specs.AnyOf.{SameList, DecidesOne, DecidesAtMostOne, Answers, TakesAny, any_clock, decided_end}
+use Rattle.ac_choice.specs.Relaying.{of_end, if_taken, taken_of, taken_at, held_list, carried}
 use Rattle.ac_choice.specs.Steps.{kept_of_offer, told_of_offer, OffersAsTold}
 use Rattle.ac_choice.specs.inner.Inside.{AreOneEach}
 use Rattle.ac_choice.proofs.Lists.{both_at, taken_same, taken_there, of_more, of_it, of_other}

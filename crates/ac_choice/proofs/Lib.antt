@@ -4,3 +4,5 @@ mod Asked
 mod Lists
 mod Carrying
 mod Fetching
+mod Examples
+mod RelayExamples

@@ -11,11 +11,17 @@ pub enum Any<M> {
         stamp: u64,
     },
     /// This end passed over its first offer that was not decided, since it was withdrawn.
-    Passed { end: u32, number: u64, stamp: u64 },
+    Passed {
+        end: u32,
+        number: u64,
+        stamp: u64,
+    },
     /// No end saw an offer.
     Nothing,
     /// This end, and no end before it in turn, saw an offer, which as yet cannot be had.
-    NotYet { end: u32 },
+    NotYet {
+        end: u32,
+    },
     /// All stamps are used.
     ClockFull,
 }

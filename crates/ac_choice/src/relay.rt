@@ -1,7 +1,7 @@
 //! A relay that merges the messages of several channels into one.
 
 ghost use Rattle.std.specs.Prelude.{◌≡◌, ◌<◌, ◌≤◌, ◌^◌, length, slice_get, Some, None};
-ghost use Rattle.channel_ends.specs.Sending.{AreWithin};
+ghost use Rattle.channel_ends.specs.Sending.{AreWithin, known_lead};
 ghost use Rattle.channel_ends.specs.Settled.{AreEnds};
 ghost use Rattle.ac_choice.specs.Relaying.{Carries};
 ghost use Rattle.ac_choice.specs.Steps.{Steps, OffersAsTold, IsSameRelay, is_full};
@@ -176,6 +176,35 @@ impl<'a> Relay<'a> {
         ensures { SettlesOut self.old recv.old recv.new self.new }
     {
         settle(&mut self.out, recv);
+    }
+
+    /// How many ends it takes at.
+    pub fn ends(&self) -> u32
+        ensures { result ≡ length self.now.ins }
+    {
+        self.ins.len() as u32
+    }
+
+    /// How many offers are decided at the end of this number.
+    pub fn decided(&self, end: u32) -> u64
+        requires { end < length self.now.ins }
+        ensures { (r : _) → slice_get self.now.ins end ≡ Some r → result ≡ length r.peer.decisions }
+    {
+        self.ins[end as usize].decided()
+    }
+
+    /// How many messages it has offered.
+    pub fn offered(&self) -> u64
+        ensures { result ≡ length self.now.out.notes.offers }
+    {
+        self.out.offered()
+    }
+
+    /// How many of its offers there are before the first that is not known.
+    pub fn known(&self) -> u64
+        ensures { result ≡ known_lead self.now.out.notes.offers }
+    {
+        self.out.known()
     }
 
     /// The stamp of its last entry. At any moment nothing that it has taken is lost or made twice.

@@ -1,0 +1,3 @@
+mod Sublists
+mod Positions
+mod Whole
