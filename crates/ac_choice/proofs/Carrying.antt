@@ -1,6 +1,6 @@
 -- What a relay has offered and then what it holds is, of each end, what it has taken there: after each call on its ends as before it.
 use Rattle.std.proofs.Common.{◌≡◌, ℕ, ℤ, zero, suc, ◌<◌, ◌≤◌, List, [], ◌∷◌, ◌++◌, Some, None, length, refl, sym, ap, ◌∙◌, subst, arith, inl, inr, ⊎_elim}
-use Rattle.std.specs.Prelude.{slice_get, ◌⊎◌}
+use Rattle.std.specs.Prelude.{slice_get}
 use Rattle.std.proofs.lemmas.List.{append-nil}
 use Rattle.std.proofs.lemmas.Bool.{cases_eq}
 use Rattle.completion_word.specs.declared.views.DecisionKind.TheVariants as outcome
@@ -21,7 +21,7 @@ use Rattle.ac_choice.specs.declared.answers.Any.{Any}
 use Rattle.ac_choice.specs.declared.answers.Any.TheVariants as any
 use Rattle.ac_choice.specs.declared.answers.Tagged.{Tagged}
 use Rattle.ac_choice.specs.AnyOf.{SameList, DecidesOne, DecidesAtMostOne, Answers, TakesAny, any_clock, decided_end}
-use Rattle.ac_choice.specs.Relaying.{of_end, if_taken, taken_of, taken_at, held_list, carried}
+use Rattle.ac_choice.specs.Relaying.{of_end, if_taken, taken_of, taken_at, held_list}
 use Rattle.ac_choice.specs.Steps.{kept_of_offer, told_of_offer, OffersAsTold}
 use Rattle.ac_choice.specs.inner.Inside.{AreOneEach}
 use Rattle.ac_choice.proofs.Lists.{both_at, taken_same, taken_there, of_more, of_it, of_other}

@@ -1,5 +1,5 @@
 -- What a step of a relay is: one learning, and one offer of what it holds or of what it takes.
-use Rattle.std.specs.Prelude.{◌≡◌, ◌⊎◌, ℕ, ℤ, List, [], ◌∷◌, ◌++◌, length, Option, Some, None, Bool, true, false}
+use Rattle.std.specs.Prelude.{◌≡◌, ℕ, ℤ, List, [], ◌∷◌, ◌++◌, length, Option, Some, None, Bool, true, false}
 use Rattle.core_channels.specs.declared.answers.Offering.{Offering}
 use Rattle.core_channels.specs.declared.answers.Offering.TheVariants as offering
 use Rattle.core_channels.specs.declared.answers.Learning.{Learning}

@@ -2,6 +2,7 @@
 use Rattle.std.proofs.Common.{◌≡◌, ℕ, ℤ, zero, suc, ◌+◌, ◌*◌, ◌≤◌, ◌<◌, List, [], ◌∷◌, ◌++◌, Bool, true, false, cond, length, map, refl, sym, ap, ◌∙◌, subst, arith, inl, inr, ⊎_elim, pos}
 use Rattle.std.specs.Prelude.{◌==◌, ◌⊎◌}
 use Rattle.std.specs.List.{filter}
+use mathlib.Core.List.{IsPrefix}
 use Rattle.std.proofs.lemmas.List.{length-append}
 use Rattle.std.proofs.lemmas.Bool.{cases_lt}
 use Rattle.completion_word.specs.declared.views.Decision.{Decision}
@@ -109,3 +110,6 @@ pub series_count : (n width tag : ℕ) → length (series n width tag) ≡ n
 series_count zero width tag = refl
 series_count (suc n) width tag =
     let a = length-append (series n width tag) (pos (n * width + tag) ∷ []) in let b = series_count n width tag in omega (arith, a, b)
+
+pub part_prefix : {X : Type 0} (xs ys : List X) → IsPrefix xs ys → IsPartOf xs ys
+part_prefix xs ys h = subst (λ zs. IsPartOf xs zs) h.1 (part_front xs h.0)
