@@ -1,3 +1,4 @@
 mod Sublists
 mod Positions
 mod Whole
+mod Made

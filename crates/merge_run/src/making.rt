@@ -38,10 +38,12 @@ pub(crate) fn all_words(alloc: Global, count: u32) -> Result<(Vec<Words>, Vec<Se
 {
     let mut words = Vec::new(alloc);
     let mut seats = Vec::new(alloc);
-    for _ in 0..count {
+    let mut done = 0;
+    while done < count {
         let (made, own) = new_words(alloc)?;
         words.push(made)?;
         seats.push(own)?;
+        done += 1;
     }
     Ok((words, seats))
 }
@@ -92,9 +94,9 @@ pub(crate) fn new_parties<'a>(
     let mut parties = Vec::new(alloc);
     let mut ins = Vec::new(alloc);
     let mut tag = 0;
-    for pair_of in seats {
+    for place in seats {
         let (producer, recv) =
-            new_producer(alloc, &words[tag as usize], pair_of, tag, width, count)?;
+            new_producer(alloc, &words[tag as usize], place, tag, width, count)?;
         parties.push(MergeParty::Produces(producer))?;
         ins.push(recv)?;
         tag += 1;
@@ -117,9 +119,9 @@ pub(crate) fn ways_of(alloc: Global, width: u32) -> Result<Vec<Way>, NoMemory>
     ensures { IfOk result (λ r. AreWaysOf width r.items) }
 {
     let mut ways = Vec::new(alloc);
-    for producer in 0..width {
+    for tag in 0..width {
         ways.push(Way {
-            from: producer,
+            from: tag,
             to: width,
         })?;
     }

@@ -73,7 +73,6 @@ impl<'a> MergeParty<'a> {
 }
 
 impl<'a> Party for MergeParty<'a> {
-    ghost use Rattle.std.specs.Prelude.{tt};
     ghost use Rattle.merge_run.specs.inner.Parties.{clock_of, IsLater, IsGoing, HaveEnds, AreSettledAt, KeepsLists};
     ghost use Rattle.merge_run.specs.inner.Keeping.{later_self, later_then, going_stays, keeps_self, ends_stay, settled_keeps};
 

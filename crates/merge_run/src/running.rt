@@ -28,7 +28,13 @@ impl Gate for OpenGate {
 fn count_of(messages: &[Tagged], tag: u32) -> usize
     ensures { result ≡ length (of_end tag messages.now) }
 {
-    messages.iter().filter(|message| message.end == tag).count()
+    let mut count = 0;
+    for message in messages {
+        if message.end == tag {
+            count += 1;
+        }
+    }
+    count
 }
 
 // Whether there are so many messages of each producer.

@@ -11,8 +11,8 @@ use Rattle.ac_choice.specs.Steps.{IsSameRelay}
 use Rattle.merge_run.specs.declared.producer.Producer.{Producer}
 use Rattle.merge_run.specs.declared.party.MergeParty.{MergeParty}
 use Rattle.merge_run.specs.declared.party.MergeParty.TheVariants.{Produces, Relays, Consumes}
-use Rattle.merge_run.specs.inner.Parties.{IsProducing, IsSameProducer, IsGoing, IsLater, HaveEnds, AreEndsAt, AreSettledAt, IsPrefixAt,
-HasPopped, KeepsRelay, KeepsLists}
+use Rattle.merge_run.specs.inner.Parties.{IsProducing, IsSameProducer, IsGoing, IsLater, HaveEnds, AreEndsAt, AreSettledAt, IsPrefixAt}
+use Rattle.merge_run.specs.inner.Parties.{HasPopped, KeepsRelay, KeepsLists}
 
 -- ---- lists of ends
 
