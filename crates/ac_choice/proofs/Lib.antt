@@ -1,7 +1,7 @@
 mod Places
 mod InTurn
 mod Asked
-mod Lists
+pub mod Lists
 mod Carrying
 mod Fetching
 mod Examples

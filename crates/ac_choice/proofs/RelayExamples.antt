@@ -263,6 +263,7 @@ the_second_end_is_settled = record {
   sends = record { ring = refl; payloads = refl; free = omega arith; notes = refl };
   receives = record { table = refl; ring = refl; peer = refl; popped = refl; items = (pos 7 ∷ [], refl) };
   settled = they_are_settled;
+  count = refl;
   others = first_stays;
   only = refl;
 }

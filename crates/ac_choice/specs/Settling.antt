@@ -1,5 +1,5 @@
 -- A relay as it is made, and what a settling of one of its ends leaves.
-use Rattle.std.specs.Prelude.{◌≡◌, ℕ, ℤ, List, [], Some, None, slice_get}
+use Rattle.std.specs.Prelude.{◌≡◌, ℕ, ℤ, List, [], length, Some, None, slice_get}
 use Rattle.channel_ends.specs.Sending.{Sending}
 use Rattle.channel_ends.specs.Receiving.{Receiving}
 use Rattle.channel_ends.specs.Settled.{AreEnds, AreSettled}
@@ -30,6 +30,7 @@ pub record SettlesEnd (old : Relaying) (k : ℕ) (send send' : Sending ℤ) (new
   pub sends : IsSettledSend send send'
   pub receives : IsSettledRecv before end
   pub settled : AreSettled send' end
+  pub count : length new.ins ≡ length old.ins
   pub others : (i : ℕ) → (i ≡ k → ⊥) → SoAt IsLeft old.ins i new.ins
   pub only : new ≡ record old { ins = new.ins }
 

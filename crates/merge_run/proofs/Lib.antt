@@ -1,4 +1,6 @@
 mod Sublists
 mod Positions
-mod Whole
 mod Made
+mod Started
+mod Whole
+mod Meeting

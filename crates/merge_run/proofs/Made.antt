@@ -47,8 +47,14 @@ module _ {X : Type 0} (yielded rest first all : List X) (left : yielded ++ rest 
 
 -- ---- words
 
-pub none_unused : AreUnused 0 [] []
-none_unused = record { words_count = refl; seats_count = refl; each = λ k w s a b. cc }
+abbrev no_words : List Words
+no_words = []
+
+pub none_unused : (ws : List Words) (ss : List Seats) → ws ≡ [] → ss ≡ [] → AreUnused 0 ws ss
+none_unused ws ss a b = record { words_count = ap length a; seats_count = ap length b; each = λ k w s is_w is_s. absurd (none k w (ap (λ xs. slice_get xs k) (sym a) ∙ is_w)) }
+  where
+    none : (k : ℕ) (w : Words) → slice_get no_words k ≡ Some w → ⊥
+    none k w e = cc
 
 pub one_unused : (n : ℕ) (ws : List Words) (ss : List Seats) (w : Words) (s : Seats) → AreUnused n ws ss → IsUnused w s → AreUnused (n + 1) (ws ++ w ∷ []) (ss ++ s ∷ [])
 one_unused n ws ss w s h new = record {

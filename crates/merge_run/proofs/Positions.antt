@@ -6,6 +6,11 @@ use Rattle.settled_rounds.specs.Linked.{Pointwise}
 pub same_Some : {X : Type 0} (x y : X) → Some x ≡ Some y → x ≡ y
 same_Some x y e = cc
 
+pub exists : {X : Type 0} (xs : List X) (k : ℕ) → k < length xs → (x : X) × (slice_get xs k ≡ Some x)
+exists [] k l = absurd (omega (arith, l))
+exists (x ∷ xs) zero l = (x, refl)
+exists (x ∷ xs) (suc k) l = exists xs k (omega (arith, l))
+
 module _ {X Y : Type 0} (f : X → Y) where
   -- one of the first
   pub among : (xs : List X) (ys : List Y) (k : ℕ) → k < length xs → (x : X) × (slice_get xs k ≡ Some x) × (slice_get (map f xs ++ ys) k ≡ Some (f x))
@@ -24,7 +29,7 @@ module _ {X Y : Type 0} (f : X → Y) where
   next_but_one (x ∷ xs) y z ys = next_but_one xs y z ys
 
   pub all_of : (xs : List X) (ys : List Y) → length (map f xs ++ ys) ≡ length xs + length ys
-  all_of [] ys = refl
+  all_of [] ys = omega arith
   all_of (x ∷ xs) ys = let r = all_of xs ys in omega (arith, r)
 
   -- one more

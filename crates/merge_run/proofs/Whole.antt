@@ -24,7 +24,8 @@ use Rattle.merge_run.specs.inner.Making.{IsNewProducer, AreNewProducers, AreNewP
 use Rattle.merge_run.specs.inner.Parts.{IsPartOf, ArePartOf}
 use Rattle.merge_run.specs.inner.Counting.{AreWhole}
 use Rattle.merge_run.proofs.Sublists.{part_then, part_of_none, part_whole, part_front, part_prefix, taken_part, of_part, series_part, series_count}
-use Rattle.merge_run.proofs.Positions.{same_Some, among, next, next_but_one, all_of, last_at, after_count, after_at}
+use Rattle.merge_run.proofs.Positions.{same_Some, exists, among, last_at, after_count, after_at}
+use Rattle.merge_run.proofs.Started.{parties_count, relay_at, consumer_at}
 
 less_true : (m n : ℕ) → m < n → nat_lt m n ≡ true
 less_true m n h = grind (arith, nat_tests)
@@ -79,11 +80,6 @@ pub record Owned (i width count : ℕ) (p : Producer) : Type 0 where
   pub width_is : p.width ≡ width
   pub count_is : p.count ≡ count
 
-exists : {X : Type 0} (xs : List X) (k : ℕ) → k < length xs → (x : X) × (slice_get xs k ≡ Some x)
-exists [] k l = absurd (omega (arith, l))
-exists (x ∷ xs) zero l = (x, refl)
-exists (x ∷ xs) (suc k) l = exists xs k (omega (arith, l))
-
 owned : (width count : ℕ) (ps : List Producer) (ins : List (Receiving ℤ)) → AreNewProducers width count ps ins → (i : ℕ) (p : Producer) → slice_get ps i ≡ Some p
     → i < length ins → Owned i width count p
 owned width count ps ins h i p at l =
@@ -94,31 +90,14 @@ owned width count ps ins h i p at l =
 -- ---- after a run
 
 module _ (width count : ℕ) (ps qs : List MergeParty) (ways : List Way) (new : AreNewParties width count ps) (later : Pointwise IsLater ps qs) where
-  relay_there : slice_get ps width ≡ Some (Relays new.relay)
-  relay_there =
-      subst (λ k. slice_get ps k ≡ Some (Relays new.relay)) new.producers_count
-      (subst (λ xs. slice_get xs (length new.producers) ≡ Some (Relays new.relay)) (sym new.are)
-      (next Produces new.producers (Relays new.relay) (Consumes new.consumer ∷ [])))
-
-  consumer_there : slice_get ps (suc width) ≡ Some (Consumes new.consumer)
-  consumer_there =
-      subst (λ k. slice_get ps (suc k) ≡ Some (Consumes new.consumer)) new.producers_count
-      (subst (λ xs. slice_get xs (suc (length new.producers)) ≡ Some (Consumes new.consumer)) (sym new.are)
-      (next_but_one Produces new.producers (Relays new.relay) (Consumes new.consumer) []))
-
-  pub how_many : length ps ≡ suc (suc width)
-  how_many =
-      let a = all_of Produces new.producers (Relays new.relay ∷ Consumes new.consumer ∷ []) in
-      let b = ap length new.are in let c = new.producers_count in omega (arith, a, b, c)
-
   -- the relay, after it
   relay_after : (b : MergeParty) × (slice_get qs width ≡ Some b) × IsLater (Relays new.relay) b
-  relay_after = after_at IsLater ps qs width (Relays new.relay) later relay_there
+  relay_after = after_at IsLater ps qs width (Relays new.relay) later (relay_at width count ps new)
 
   module _ (front : List MergeParty) (c : MergeParty) (last : qs ≡ front ++ c ∷ []) where
     front_count : length front ≡ suc width
     front_count =
-        let a = ap length last in let b = after_count IsLater ps qs later in let d = how_many in
+        let a = ap length last in let b = after_count IsLater ps qs later in let d = parties_count width count ps new in
         let e = length-append front (c ∷ []) in omega (arith, a, b, d, e)
 
     last_there : slice_get qs (suc width) ≡ Some c
@@ -126,7 +105,7 @@ module _ (width count : ℕ) (ps qs : List MergeParty) (ways : List Way) (new : 
 
     pub last_is_later : IsLater (Consumes new.consumer) c
     last_is_later =
-        let q = after_at IsLater ps qs (suc width) (Consumes new.consumer) later consumer_there in
+        let q = after_at IsLater ps qs (suc width) (Consumes new.consumer) later (consumer_at width count ps new) in
         subst (λ b. IsLater (Consumes new.consumer) b) (same_Some q.0 c (sym q.1 ∙ last_there)) q.2
 
     pub no_producer_last : (q : Producer) → c ≡ Produces q → ⊥

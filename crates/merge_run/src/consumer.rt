@@ -2,7 +2,7 @@
 
 ghost use Rattle.std.specs.Prelude.{◌≡◌, ◌≤◌};
 ghost use Rattle.channel_ends.specs.Pairs.{IsSameRecv};
-ghost use Rattle.merge_run.specs.inner.Parties.{IsConsuming};
+ghost use Rattle.merge_run.specs.inner.Parties.{IsConsuming, taken_value};
 
 use ac_base::{Clock, NoMemory};
 use ac_choice::Tagged;
@@ -18,6 +18,16 @@ pub(crate) struct Consumer<'a> {
     pub(crate) clock: Clock,
 }
 
+// What was taken, if anything was.
+fn taken(answer: Receiving<Tagged>) -> Option<Tagged>
+    ensures { result ≡ taken_value answer }
+{
+    match answer {
+        Receiving::Took { value, .. } => Some(value),
+        _ => None,
+    }
+}
+
 impl<'a> Consumer<'a> {
     /// Takes one.
     pub(crate) fn step(&mut self) -> Result<(), NoMemory>
@@ -27,7 +37,7 @@ impl<'a> Consumer<'a> {
         ensures rises { self.old.clock ≤ self.new.clock }
     {
         self.received.reserve(1)?;
-        if let Receiving::Took { value, .. } = self.end.take(&mut self.clock) {
+        if let Some(value) = taken(self.end.take(&mut self.clock)) {
             self.received.push_reserved(value);
         }
         Ok(())

@@ -95,14 +95,14 @@ pub(crate) fn new_parties<'a>(
     let mut ins = Vec::new(alloc);
     let mut tag = 0;
     for place in seats {
-        let (producer, recv) =
-            new_producer(alloc, &words[tag as usize], place, tag, width, count)?;
+        let (producer, recv) = new_producer(alloc, &words[tag as usize], place, tag, width, count)?;
         parties.push(MergeParty::Produces(producer))?;
         ins.push(recv)?;
         tag += 1;
     }
-    let (send, end): (SendEnd<'a, Tagged, AnyItems>, RecvEnd<'a, Tagged, AnyItems>) =
-        pair(alloc, out, own.owner, own.peer, CAPACITY)?;
+    let (send, end): (SendEnd<'a, Tagged, AnyItems>, RecvEnd<'a, Tagged, AnyItems>) = pair(
+        alloc, out, own.owner, own.peer, CAPACITY,
+    )?;
     parties.push(MergeParty::Relays(Relay::new(ins, send)))?;
     let consumer = Consumer {
         end,

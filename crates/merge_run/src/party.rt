@@ -1,7 +1,9 @@
 //! The parties of a merge, each with ends of its own.
 
-ghost use Rattle.std.specs.Prelude.{◌≡◌, ◌≤◌, ◌<◌, ◌^◌, nat_lt, IfOk};
-ghost use Rattle.merge_run.specs.inner.Parties.{clock_of, IsLater, IsGoing};
+ghost use Rattle.std.specs.Prelude.{◌≡◌, ◌≤◌, ◌<◌, ◌^◌, slice_get};
+ghost use Rattle.channel_ends.specs.Settled.{AreEnds};
+ghost use Rattle.merge_run.specs.declared.party.MergeParty.TheVariants as v;
+ghost use Rattle.merge_run.specs.inner.Parties.{clock_of, IsLater, IsGoing, AreEndsAt, HaveMet};
 
 use crate::consumer::Consumer;
 use crate::producer::Producer;
@@ -70,6 +72,27 @@ impl<'a> MergeParty<'a> {
         }
         Ok(())
     }
+}
+
+// Settles the link of a producer.
+fn settle_sender(producer: &mut Producer<'_>, relay: &mut Relay<'_>, link: u32)
+    requires { AreEndsAt producer.old.end (slice_get relay.old.ins link) }
+    ensures { HaveMet link (v.Produces producer.old) (v.Relays relay.old) (v.Produces producer.new) (v.Relays relay.new) }
+{
+    relay.settle_end(link, &mut producer.end);
+    // What holds of a relay at any time is asked for, for the proof.
+    let _last = relay.last();
+}
+
+// Settles the link of the consumer, which has this number.
+fn settle_receiver(relay: &mut Relay<'_>, consumer: &mut Consumer<'_>, link: u32)
+    requires { AreEnds relay.old.out consumer.old.end }
+    ensures { HaveMet link (v.Relays relay.old) (v.Consumes consumer.old) (v.Relays relay.new) (v.Consumes consumer.new) }
+{
+    let _link = link;
+    relay.settle_out(&mut consumer.end);
+    // What holds of a relay at any time is asked for, for the proof.
+    let _last = relay.last();
 }
 
 impl<'a> Party for MergeParty<'a> {
@@ -146,18 +169,14 @@ impl<'a> Party for MergeParty<'a> {
     fn settle_with(&mut self, other: &mut Self, link: u32) -> Result<(), NoMemory> {
         match (self, other) {
             (MergeParty::Produces(producer), MergeParty::Relays(relay)) => {
-                relay.settle_end(link, &mut producer.end);
-                // What holds of a relay at any time is asked for, for the proof.
-                let _last = relay.last();
-                Ok(())
+                settle_sender(producer, relay, link);
             }
             (MergeParty::Relays(relay), MergeParty::Consumes(consumer)) => {
-                relay.settle_out(&mut consumer.end);
-                let _last = relay.last();
-                Ok(())
+                settle_receiver(relay, consumer, link);
             }
             _ => unreachable!(),
         }
+        Ok(())
     }
 
     ghost later_self = { λ p. later_self p };

@@ -68,12 +68,7 @@ fn merge_over<'a, R: Threads + Sync>(
     let width = words.len() as u32;
     let ways = ways_of(alloc, width)?;
     let mut parties = new_parties(alloc, words, seats, out, own, count)?;
-    run(
-        rt,
-        &OpenGate,
-        ways.as_slice(),
-        parties.as_mut_slice(),
-    )?;
+    run(rt, &OpenGate, ways.as_slice(), parties.as_mut_slice())?;
     let MergeParty::Consumes(consumer) = parties.take_last() else {
         unreachable!()
     };

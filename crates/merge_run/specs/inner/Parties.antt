@@ -1,11 +1,14 @@
 -- The parties of a merge: what holds of each, and what their calls leave as it was.
 use Rattle.std.specs.Prelude.{◌≡◌, ℕ, ℤ, ◌<◌, ◌≤◌, List, length, Option, Some, None, slice_get}
 use mathlib.Core.List.{IsPrefix}
+use Rattle.core_channels.specs.declared.answers.Receiving.{Receiving as Received}
+use Rattle.core_channels.specs.declared.answers.Receiving.TheVariants as received
 use Rattle.channel_ends.specs.Sending.{Sending, AreWithin}
 use Rattle.channel_ends.specs.Receiving.{Receiving}
 use Rattle.channel_ends.specs.Settled.{AreEnds}
 use Rattle.channel_ends.specs.Pairs.{IsSameSend, IsSameRecv}
 use Rattle.ac_choice.specs.AnyOf.{SoAt}
+use Rattle.ac_choice.specs.declared.answers.Tagged.{Tagged}
 use Rattle.ac_choice.specs.Relaying.{Relaying, Carries, taken_by}
 use Rattle.ac_choice.specs.Steps.{IsSameRelay}
 use Rattle.merge_run.specs.Series.{series}
@@ -41,6 +44,14 @@ pub record IsSameProducer (p q : Producer) : Type 0 where
 pub record IsConsuming (c : Consumer) : Type 0 where
   pub received : c.received.items ≡ taken_by c.end.popped c.end.peer.decisions
   pub one_each : length c.end.popped ≡ length c.end.peer.decisions
+
+-- what an answer hands out
+abbrev pub taken_value : Received Tagged → Option Tagged
+taken_value (received.Took number value s) = Some value
+taken_value (received.Passed number s) = None
+taken_value received.Nothing = None
+taken_value received.NotYet = None
+taken_value received.ClockFull = None
 
 -- ---- any party
 
@@ -118,3 +129,11 @@ KeepsLists (Relays r) (Consumes d) = ⊥
 KeepsLists (Consumes c) (Produces q) = ⊥
 KeepsLists (Consumes c) (Relays s) = ⊥
 KeepsLists (Consumes c) (Consumes d) = d.end.popped ≡ c.end.popped
+
+-- ---- once the ends of link l were settled
+
+-- the two are the same parties, they have made no entry, and what came out of the ring is the first of what went in
+pub record HaveMet (l : ℕ) (p q p' q' : MergeParty) : Type 0 where
+  pub owner : IsLater p p' × (clock_of p' ≡ clock_of p) × KeepsLists p p'
+  pub peer : IsLater q q' × (clock_of q' ≡ clock_of q) × KeepsLists q q'
+  pub settled : AreSettledAt l p' q'
