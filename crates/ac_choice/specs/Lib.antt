@@ -1,0 +1,6 @@
+pub mod Turns
+pub mod AnyOf
+pub mod Relaying
+pub mod Steps
+pub mod Settling
+pub mod inner

@@ -1,0 +1,6 @@
+mod Sublists
+mod Positions
+mod Made
+mod Started
+mod Whole
+mod Meeting

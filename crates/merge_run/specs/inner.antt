@@ -1,0 +1,5 @@
+pub mod Parties
+pub mod Keeping
+pub mod Making
+pub mod Parts
+pub mod Counting
