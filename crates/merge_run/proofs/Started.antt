@@ -82,4 +82,4 @@ module _ (width count : ℕ) (ps : List MergeParty) (new : AreNewParties width c
       (all_produce new.producers (Relays new.relay ∷ Consumes new.consumer ∷ [])
       (λ k p at. let r = exists new.relay.ins k (let b = slice_get_within new.producers k p at in let d = new.new.same_count in omega (arith, b, d)) in
       (new.new.each k p r.0 at r.1).going)
-      (new.carries, new.consumes, tt))
+      (new.carries, (new.consumes, tt)))

@@ -66,11 +66,11 @@ later_relay r (Consumes d) h = absurd h
 later_consumer : (c d : Consumer) → IsLater (Consumes c) (Consumes d) → IsConsuming c → IsConsuming d
 later_consumer c d h k = h.1 k
 
-no_producer : (c : Consumer) (q : Producer) → IsLater (Consumes c) (Produces q) → ⊥
-no_producer c q h = h
-
-no_relay : (c : Consumer) (s : Relaying) → IsLater (Consumes c) (Relays s) → ⊥
-no_relay c s h = h
+-- the last one is the consumer
+pub last_consumes : (d : Consumer) (c : MergeParty) → IsLater (Consumes d) c → ((x : Consumer) → c ≡ Consumes x → ⊥) → ⊥
+last_consumes d (Produces q) h n = h
+last_consumes d (Relays s) h n = h
+last_consumes d (Consumes x) h n = n x refl
 
 -- ---- what is so of a new producer
 
@@ -107,12 +107,6 @@ module _ (width count : ℕ) (ps qs : List MergeParty) (ways : List Way) (new : 
     last_is_later =
         let q = after_at IsLater ps qs (suc width) (Consumes new.consumer) later (consumer_at width count ps new) in
         subst (λ b. IsLater (Consumes new.consumer) b) (same_Some q.0 c (sym q.1 ∙ last_there)) q.2
-
-    pub no_producer_last : (q : Producer) → c ≡ Produces q → ⊥
-    no_producer_last q e = no_producer new.consumer q (subst (λ b. IsLater (Consumes new.consumer) b) e last_is_later)
-
-    pub no_relay_last : (s : Relaying) → c ≡ Relays s → ⊥
-    no_relay_last s e = no_relay new.consumer s (subst (λ b. IsLater (Consumes new.consumer) b) e last_is_later)
 
   -- ---- from the consumer back to the producers
 
