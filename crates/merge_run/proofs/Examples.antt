@@ -1,5 +1,5 @@
 -- What two producers send, and what is a merge of it: both whole, in whatever order they are mixed; and no message of a third.
-use Rattle.std.proofs.Common.{◌≡◌, ◌∙◌, ◌++◌, ℕ, ℤ, zero, suc, List, [], ◌∷◌, refl, sym, ap, arith, pos}
+use Rattle.std.proofs.Common.{◌≡◌, ◌∙◌, ◌++◌, ℕ, ℤ, zero, suc, [], ◌∷◌, refl, sym, ap, arith, pos}
 use Rattle.ac_choice.specs.declared.answers.Tagged.{Tagged}
 use Rattle.ac_choice.specs.Relaying.{of_end}
 use Rattle.ac_choice.proofs.Lists.{of_more, of_other}

@@ -4,4 +4,4 @@ mod Made
 mod Started
 mod Whole
 mod Meeting
-mod Examples
+pub mod Examples

@@ -1,14 +1,12 @@
 -- What the consumer has received, once all links are settled, is of each producer some of what that sends, in order: it was taken out of what the
 -- relay has offered, and that is what the relay has taken out of what the producer has offered. Where there are as many, it is all of it.
-use Rattle.std.proofs.Common.{◌≡◌, ℕ, ℤ, zero, suc, ◌+◌, ◌<◌, ◌≤◌, List, [], ◌∷◌, ◌++◌, Option, Some, None, Bool, true, false, cond, length, map, refl, sym, ap, ◌∙◌, subst, arith, inl, inr, ⊎_elim}
-use Rattle.std.specs.Prelude.{slice_get, nat_lt, ◌⊎◌}
+use Rattle.std.proofs.Common.{◌≡◌, ℕ, ℤ, suc, ◌<◌, ◌≤◌, List, [], ◌∷◌, ◌++◌, Option, Some, None, true, false, cond, length, refl, sym, ap, ◌∙◌, subst, arith, ⊎_elim}
+use Rattle.std.specs.Prelude.{slice_get, nat_lt}
 use Rattle.std.proofs.lemmas.List.{length-append}
 use Rattle.std.proofs.lemmas.Bool.{cases_lt}
 use Rattle.std.proofs.lemmas.Bool.Decides.{nat_tests}
 use Rattle.std.proofs.lemmas.Option.{slice_get_past}
 use Rattle.channel_ends.specs.Receiving.{Receiving}
-use Rattle.channel_ends.specs.Settled.{AreEnds}
-use Rattle.channel_ends.specs.Pairs.{IsSameRecv}
 use Rattle.settled_rounds.specs.declared.party.Way.{Way}
 use Rattle.settled_rounds.specs.Linked.{Pointwise, OnLinks}
 use Rattle.ac_choice.specs.declared.answers.Tagged.{Tagged}
@@ -20,7 +18,7 @@ use Rattle.merge_run.specs.declared.party.MergeParty.{MergeParty}
 use Rattle.merge_run.specs.declared.party.MergeParty.TheVariants.{Produces, Relays, Consumes}
 use Rattle.merge_run.specs.Series.{series, sent_by, IsMerged}
 use Rattle.merge_run.specs.inner.Parties.{IsProducing, IsSameProducer, IsConsuming, IsLater, IsPrefixAt, AreSettledAt}
-use Rattle.merge_run.specs.inner.Making.{IsNewProducer, AreNewProducers, AreNewParties, AreWaysOf}
+use Rattle.merge_run.specs.inner.Making.{AreNewProducers, AreNewParties, AreWaysOf}
 use Rattle.merge_run.specs.inner.Parts.{IsPartOf, ArePartOf}
 use Rattle.merge_run.specs.inner.Counting.{AreWhole}
 use Rattle.merge_run.proofs.Sublists.{part_then, part_of_none, part_whole, part_front, part_prefix, taken_part, of_part, series_part, series_count}

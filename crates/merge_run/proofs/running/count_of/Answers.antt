@@ -1,4 +1,4 @@
-use Rattle.std.proofs.Common.{ℤ, pos, arith, ap, ◌∙◌, length}
+use Rattle.std.proofs.Common.{pos, arith, ap, ◌∙◌, length}
 use Rattle.std.proofs.lemmas.List.{take_all}
 use Rattle.ac_choice.specs.declared.answers.Tagged.{Tagged}
 use Rattle.ac_choice.specs.Relaying.{of_end}

@@ -1,4 +1,4 @@
-use Rattle.std.proofs.Common.{length, sym, ap, ◌∙◌, subst}
+use Rattle.std.proofs.Common.{length, ap, ◌∙◌, subst}
 use Rattle.merge_run.specs.inner.Parts.{ArePartOf}
 use Rattle.merge_run.specs.inner.Counting.{AreWhole}
 use Rattle.merge_run.proofs.Whole.{all_received}

@@ -3,7 +3,6 @@ use Rattle.std.proofs.lemmas.List.{with_items_is}
 use Rattle.settled_rounds.specs.Linked.{Pointwise}
 use Rattle.merge_run.specs.inner.Parties.{IsLater}
 use Rattle.merge_run.specs.inner.Making.{AreNewParties, AreWaysOf}
-use Rattle.merge_run.specs.declared.party.MergeParty.TheVariants.{Consumes}
 use Rattle.merge_run.proofs.Positions.{after_count}
 use Rattle.merge_run.proofs.Started.{all_paired, all_going}
 use Rattle.merge_run.proofs.Whole.{last_is_later, last_consumes, received_part}
