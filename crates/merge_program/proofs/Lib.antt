@@ -1,3 +1,4 @@
 mod Sums
 mod Called
 mod Answered
+mod Examples

@@ -1,9 +1,10 @@
 -- Counts and sums of messages with one more; and that a sum of so many is not too large for the machine.
-use Rattle.std.proofs.Common.{◌≡◌, ℕ, ℤ, pos, suc, ◌+◌, ◌-◌, ◌*◌, ◌^◌, ◌<◌, ◌≤◌, List, [], ◌∷◌, ◌++◌, Bool, true, false, cond, length, take, get_or, map, refl, sym, ap, ◌∙◌, subst, arith}
+use Rattle.std.proofs.Common.{◌≡◌, ℕ, ℤ, pos, suc, ◌+◌, ◌-◌, ◌*◌, ◌^◌, ◌<◌, ◌≤◌, List, [], ◌∷◌, ◌++◌, Bool, true, false, cond, length, take, get_or, map, refl, sym, ap, ◌∙◌, subst, arith, w64, to_z, of_z, SFits}
+use Rattle.std.specs.Int.{w128}
 use Rattle.std.specs.Prelude.{◌==◌, ltb, ◌+ℤ◌}
 use lib.IntN.{negsuc, sub_ℕ}
 use lib.Signed.{mag}
-use Rattle.std.proofs.lemmas.Int.{ints}
+use Rattle.std.proofs.lemmas.Int.{ints, to_z-of_z}
 use Rattle.std.proofs.lemmas.List.{take_more, map-append, length-append, append-nil}
 use Rattle.ac_choice.specs.declared.answers.Tagged.{Tagged}
 use Rattle.ac_choice.specs.Relaying.{of_end}
@@ -56,3 +57,23 @@ module _ (i : ℕ) (ms : List Tagged) (k : ℕ) (d : Tagged) (within : k < lengt
   sum_all =
       ap (λ xs. sum_of (values xs)) (take_more ms k d within) ∙ ap sum_of (map-append (λ (m : Tagged). m.value) (take k ms) (get_or ms k d ∷ []))
       ∙ sum_more (values (take k ms)) (get_or ms k d).value
+
+-- ---- one more in the machine
+
+module _ (s f v : ℤ) (k : ℕ) (small : mag s ≤ 2 ^ 63 * k) (few : k + 1 < 2 ^ 64) (fits : SFits w64 v) (is : f ≡ to_z w64 (of_z w64 v)) where
+  bits_are : to_z w128 (of_z w128 f) ≡ v
+  bits_are =
+      let narrow : mag v < 2 ^ 63 = fits.sfits in
+      ap (λ x. to_z w128 (of_z w128 x)) (is ∙ to_z-of_z w64 v fits) ∙ to_z-of_z w128 v (record { sfits = omega (arith, narrow) })
+
+  pub small_more : mag (s +ℤ v) ≤ 2 ^ 63 * (k + 1)
+  small_more = let narrow : mag v < 2 ^ 63 = fits.sfits in let h = mag_add s v in omega (arith, h, narrow, small)
+
+  sum_fits : SFits w128 (s +ℤ v)
+  sum_fits = record { sfits = (let h = small_more in omega (arith, h, few)) }
+
+  pub added_fits : SFits w128 (s +ℤ to_z w128 (of_z w128 f))
+  added_fits = subst (λ x. SFits w128 (s +ℤ x)) (sym bits_are) sum_fits
+
+  pub added_is : to_z w128 (of_z w128 (s +ℤ to_z w128 (of_z w128 f))) ≡ s +ℤ v
+  added_is = ap (λ x. to_z w128 (of_z w128 (s +ℤ x))) bits_are ∙ to_z-of_z w128 (s +ℤ v) sum_fits

@@ -35,7 +35,7 @@ returns-in-None-clause-usage g c =
 -- ---- a call
 
 pub answer_call-requires : goal.answer_call-requires
-answer_call-requires g c = may_merge _ _ _ c.in-Some.ensures.call
+answer_call-requires g c = (c.type_bounds.sync-R, may_merge _ _ _ c.in-Some.ensures.call)
 
 pub returns-in-Some-clause-whole : goal.returns-in-Some-clause-whole
 returns-in-Some-clause-whole g c = λ well kept. let x = c.answer_call.ensures in record {
