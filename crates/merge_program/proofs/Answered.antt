@@ -1,5 +1,5 @@
 -- A merge that was made is answered with its lines; want of memory, with nothing.
-use Rattle.std.proofs.Common.{◌≡◌, ◌≢◌, ℕ, List, [], Option, None, Some, refl, sym, ap, subst, append-nil, arith}
+use Rattle.std.proofs.Common.{◌≡◌, ◌≢◌, ℕ, List, [], Option, None, Some, refl, sym, subst, append-nil, arith}
 use Rattle.ac_outside.specs.Told.{SinkTold, GrewBy}
 use Rattle.program_reading.specs.Failures.{TellsSink}
 use Rattle.program_reading.specs.Writing.{TookFront}

@@ -1,6 +1,5 @@
 -- The words of a call, its lines, and what is due of it: one message of each of two producers, by the cases of the definitions.
-use Rattle.std.proofs.Common.{◌≡◌, ℕ, ℤ, pos, List, [], ◌∷◌, codes, Some, refl, sym, arith, inl}
-use Rattle.std.specs.Fmt.{decimal}
+use Rattle.std.proofs.Common.{◌≡◌, ℕ, ℤ, pos, List, [], ◌∷◌, codes, Some, refl, arith, inl}
 use Rattle.std.proofs.lemmas.Fmt.{decimal_digit}
 use Rattle.ac_outside.specs.Told.{SinkTold}
 use Rattle.ac_choice.specs.declared.answers.Tagged.{Tagged}

@@ -1,7 +1,8 @@
 -- Counts and sums of messages with one more; and that a sum of so many is not too large for the machine.
-use Rattle.std.proofs.Common.{◌≡◌, ℕ, ℤ, pos, suc, ◌+◌, ◌-◌, ◌*◌, ◌^◌, ◌<◌, ◌≤◌, List, [], ◌∷◌, ◌++◌, Bool, true, false, cond, length, take, get_or, map, refl, sym, ap, ◌∙◌, subst, arith, w64, to_z, of_z, SFits}
+use Rattle.std.proofs.Common.{◌≡◌, ℕ, ℤ, pos, suc, ◌+◌, ◌-◌, ◌*◌, ◌^◌, ◌<◌, ◌≤◌, List, [], ◌∷◌, ◌++◌, Bool, true, false, cond, length, take, get_or}
+use Rattle.std.proofs.Common.{sym, ap, ◌∙◌, subst, arith, w64, to_z, of_z, SFits}
 use Rattle.std.specs.Int.{w128}
-use Rattle.std.specs.Prelude.{◌==◌, ltb, ◌+ℤ◌}
+use Rattle.std.specs.Prelude.{ltb, ◌+ℤ◌}
 use lib.IntN.{negsuc, sub_ℕ}
 use lib.Signed.{mag}
 use Rattle.std.proofs.lemmas.Int.{ints, to_z-of_z}

@@ -1,4 +1,4 @@
-use Rattle.std.proofs.Common.{map, string_bytes, Global, refl, ap, subst, arith}
+use Rattle.std.proofs.Common.{refl, ap, subst, arith}
 use Rattle.ac_outside.specs.Told.{GrewBy}
 use Rattle.program_reading.specs.Writing.{TookFront}
 use Rattle.ac_base.specs.declared.ends.Status.{Status}

@@ -1,4 +1,4 @@
-use Rattle.std.proofs.Common.{◌≡◌, ◌+◌, ◌*◌, ◌^◌, ◌≤◌, ◌<◌, pos, get_or, length, ap, sym, ◌∙◌, subst, rules, arith, w64, to_z, SFits}
+use Rattle.std.proofs.Common.{◌+◌, ◌*◌, ◌^◌, ◌≤◌, ◌<◌, pos, get_or, length, ap, sym, ◌∙◌, subst, rules, arith, w64, to_z, SFits}
 use Rattle.std.specs.Int.{w128}
 use Rattle.std.specs.Prelude.{◌+ℤ◌}
 use lib.Signed.{mag}

@@ -34,4 +34,7 @@ pub returns-then-digit-lt48-clause-none : goal.returns-then-digit-lt48-clause-no
 returns-then-digit-lt48-clause-none c = λ _ number is_number least most.
     let within : c.loop-digit.digit-index < length c.args.word.now = omega arith in
     let range = digit_from_value (get_or c.args.word.now c.loop-digit.digit-index 0) (digit_at c.args.word.now c.loop-digit.digit-index within is_number.digits) in
-    elim c.then-digit-lt48.branch [ then-digit-lt48-via-then-digit-lt48 w ↦ omega (arith, range.0, range.1) | then-digit-lt48-via-else-digit-lt48+then-digit-gt57 w ↦ omega (arith, range.0, range.1) ]
+    elim c.then-digit-lt48.branch [
+      | then-digit-lt48-via-then-digit-lt48 w ↦ omega (arith, range.0, range.1)
+      | then-digit-lt48-via-else-digit-lt48+then-digit-gt57 w ↦ omega (arith, range.0, range.1)
+    ]
