@@ -81,11 +81,13 @@ fn of_two_ends(alloc: Global) -> Result<bool, NoMemory> {
     let none = ask(&mut ends, 0, &mut clock);
     let vain = offer_in_vain(&mut first);
     let last = ask(&mut ends, 0, &mut clock);
-    Ok(offered
-        && took(&one, (1, 0, 7, 2))
-        && matches!(none, Any::Nothing)
-        && vain == Some((0, 1, 2))
-        && passed(&last, (0, 0, 3)))
+    Ok(
+        offered
+            && took(&one, (1, 0, 7, 2))
+            && matches!(none, Any::Nothing)
+            && vain == Some((0, 1, 2))
+            && passed(&last, (0, 0, 3)),
+    )
 }
 
 // Both ends have a message: the one that is asked first gives its own, and the other keeps its.

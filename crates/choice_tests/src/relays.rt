@@ -32,10 +32,7 @@ fn offer_two(
     if !withdraws {
         return true;
     }
-    matches!(
-        send.withdraw(number, clock),
-        Withdrawing::Withdrawn { .. }
-    )
+    matches!(send.withdraw(number, clock), Withdrawing::Withdrawn { .. })
 }
 
 // Lets the relay do so many steps, and notes what it answers.

@@ -15,7 +15,8 @@ IsNoCall words = (n w : ℕ) → IsCall words n w → ⊥
 -- received.
 pub data IsDue (words : List (List ℕ)) (received : List Tagged) (status : ℕ) (text : List ℕ) : Type 0 where
   usage : status ≡ 1 → text ≡ usage_line → IsNoCall words → received ≡ [] → IsDue words received status text
-  merge : (n w : ℕ) → IsCall words n w → status ≡ 0 → IsMerged n w received → text ≡ merge_text w received → IsDue words received status text
+  merge : (n w : ℕ) → IsCall words n w → status ≡ 0 → IsMerged n w received → text ≡ merge_text w received →
+      IsDue words received status text
 
 -- memory was refused: the words are a call, nothing was received, and nothing is written
 pub record GaveUp (words : List (List ℕ)) (received : List Tagged) (sink written : SinkTold) : Type 0 where

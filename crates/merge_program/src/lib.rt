@@ -10,10 +10,9 @@ mod merging;
 mod texts;
 mod words;
 
-pub use merging::Merged;
-
 use ac_base::{List, Status};
 use ac_outside::Sink;
+pub use merging::Merged;
 use merging::answer_call;
 use program_reading::answer;
 use std::alloc::Global;

@@ -1,13 +1,8 @@
 //! A merge that was called for, and what is written of it.
 
-ghost use Rattle.std.specs.Prelude.{◌≡◌, ◌≢◌, [], IfOk};
-ghost use Rattle.ac_outside.specs.Told.{GrewBy};
-ghost use Rattle.program_reading.specs.Failures.{TellsSink};
-ghost use Rattle.program_reading.specs.Writing.{TookFront};
-ghost use Rattle.merge_run.specs.Series.{IsMerged};
-ghost use Rattle.merge_program.specs.Lines.{merge_text};
+ghost use Rattle.std.specs.Prelude.{IfOk};
 ghost use Rattle.merge_program.specs.Words.{MayMerge};
-ghost use Rattle.merge_program.specs.inner.Answering.{IsMade};
+ghost use Rattle.merge_program.specs.inner.Answering.{IsMade, IsAnswered};
 
 use crate::texts::merge_text;
 use crate::words::Call;
@@ -56,24 +51,16 @@ pub(crate) fn answer_call<K: Sink, R: Threads + Sync>(
     sink: &mut K,
 ) -> Merged
     requires { MayMerge call.messages call.producers }
-    ensures status { result.status.number ≢ 8 → result.status.number ≢ 11 → result.status.number ≡ 0 }
-    ensures merged { result.status.number ≢ 11 → IsMerged call.messages call.producers result.received }
-    ensures whole { result.status.number ≢ 8 → result.status.number ≢ 11 →
-        GrewBy (K.told sink.old).held (K.told sink.new).held (merge_text call.producers result.received) }
-    ensures part { result.status.number ≡ 8 →
-        TookFront (K.told sink.old).held (K.told sink.new).held (merge_text call.producers result.received) }
-    ensures memory { result.status.number ≡ 11 →
-        (result.received ≡ []) × GrewBy (K.told sink.old).held (K.told sink.new).held [] }
-    ensures sink { TellsSink (K.told sink.old) (K.told sink.new) result.status.number }
+    ensures { IsAnswered call.messages call.producers result.received (K.told sink.old) (K.told sink.new) result.status.number }
 {
     match make(rt, alloc, call) {
         Err(NoMemory) => Merged {
             status: Status { number: NO_MEMORY },
             received: List::new(alloc),
         },
-        Ok(Made { received, text }) => Merged {
-            status: answer(sink, Status { number: 0 }, text.as_slice()),
-            received,
+        Ok(made) => Merged {
+            status: answer(sink, Status { number: 0 }, made.text.as_slice()),
+            received: made.received,
         },
     }
 }

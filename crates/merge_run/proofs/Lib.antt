@@ -4,3 +4,4 @@ mod Made
 mod Started
 mod Whole
 mod Meeting
+pub mod Examples

@@ -1,17 +1,23 @@
 -- Words, producers and links that are made one after another: those so far, and one more.
-use Rattle.std.proofs.Common.{◌≡◌, ℕ, ℤ, zero, suc, ◌+◌, ◌<◌, List, [], ◌∷◌, ◌++◌, Some, length, map, refl, sym, ap, ◌∙◌, subst, arith, inl, inr, ⊎_elim}
+use Rattle.std.proofs.Common.{◌≡◌, ℕ, ℤ, zero, suc, ◌+◌, ◌<◌, List, [], ◌∷◌, ◌++◌, Some, length, map, refl, sym, ap, ◌∙◌, subst, append_assoc, arith, inl, inr, ⊎_elim}
 use Rattle.std.specs.Prelude.{slice_get, ◌⊎◌}
 use Rattle.std.proofs.lemmas.List.{append-nil, length-append}
 use Rattle.std.proofs.lemmas.Bool.{cases_lt}
 use Rattle.completion_word.specs.declared.words.Words.{Words}
 use Rattle.channel_ends.specs.Receiving.{Receiving}
+use Rattle.channel_ends.specs.Sending.{Sending}
+use Rattle.channel_ends.specs.Settled.{AreEnds}
 use Rattle.settled_rounds.specs.declared.party.Way.{Way}
+use Rattle.ac_choice.specs.declared.answers.Tagged.{Tagged}
+use Rattle.ac_choice.specs.Relaying.{Relaying, Carries, taken_by}
+use Rattle.ac_choice.specs.Settling.{new_relay}
 use Rattle.merge_run.specs.declared.making.Seats.{Seats}
 use Rattle.merge_run.specs.declared.producer.Producer.{Producer}
+use Rattle.merge_run.specs.declared.consumer.Consumer.{Consumer}
 use Rattle.merge_run.specs.declared.party.MergeParty.{MergeParty}
-use Rattle.merge_run.specs.declared.party.MergeParty.TheVariants.{Produces}
-use Rattle.merge_run.specs.inner.Making.{IsUnused, AreUnused, IsNewProducer, AreNewProducers, AreWaysOf}
-use Rattle.merge_run.proofs.Positions.{same_Some, one_more, get_front, last_at}
+use Rattle.merge_run.specs.declared.party.MergeParty.TheVariants.{Produces, Relays, Consumes}
+use Rattle.merge_run.specs.inner.Making.{IsUnused, AreUnused, IsNewProducer, AreNewProducers, AreNewParties, AreWaysOf}
+use Rattle.merge_run.proofs.Positions.{same_Some, exists, one_more, get_front, last_at}
 
 pub at_more : {X : Type 0} (xs : List X) (y x : X) (k : ℕ) → slice_get (xs ++ y ∷ []) k ≡ Some x → (slice_get xs k ≡ Some x) ⊎ ((k ≡ length xs) × (y ≡ x))
 at_more [] y x zero h = inr (refl, same_Some y x h)
@@ -80,12 +86,12 @@ pub record AreMade (width count n : ℕ) (parties : List MergeParty) (ins : List
   pub so_many : length producers ≡ n
   pub new : AreNewProducers width count producers ins
 
-pub none_made : (width count : ℕ) → AreMade width count 0 [] []
-none_made width count = record {
+pub none_made : (width count : ℕ) (parties : List MergeParty) (ins : List (Receiving ℤ)) → parties ≡ [] → ins ≡ [] → AreMade width count 0 parties ins
+none_made width count parties ins a b = record {
   producers = [];
-  are = refl;
+  are = a;
   so_many = refl;
-  new = record { same_count = refl; each = λ k p r a b. cc };
+  new = record { same_count = ap length b; each = λ k p r is_p is_r. cc };
 }
 
 pub one_made : (width count n : ℕ) (parties : List MergeParty) (ins : List (Receiving ℤ)) (p : Producer) (r : Receiving ℤ) → AreMade width count n parties ins
@@ -109,6 +115,32 @@ one_made width count n parties ins p r h new = record {
         (at_more ins r s k is_s))
         (at_more h.producers p q k is_q);
   };
+}
+
+-- nothing was decided at the ends that receive from them
+pub made_undecided : (width count n : ℕ) (parties : List MergeParty) (ins : List (Receiving ℤ)) → AreMade width count n parties ins → (k : ℕ) (r : Receiving ℤ)
+    → slice_get ins k ≡ Some r → (r.peer.decisions ≡ []) × (r.popped ≡ [])
+made_undecided width count n parties ins h k r at =
+    let p = exists h.producers k (let l = within ins r k at in let m = h.new.same_count in omega (arith, l, m)) in
+    (h.new.each k p.0 r p.1 at).undecided
+
+pub all_made : (width count n : ℕ) (parties more last : List MergeParty) (ins : List (Receiving ℤ)) (out : Sending Tagged) (relay : Relaying) (c : Consumer)
+    → AreMade width count n parties ins → n ≡ width → relay ≡ new_relay ins out → Carries relay → more ≡ parties ++ Relays relay ∷ [] → last ≡ more ++ Consumes c ∷ []
+    → c.received.items ≡ [] → c.end.popped ≡ [] → c.end.peer.decisions ≡ [] → AreEnds out c.end → AreNewParties width count last
+all_made width count n parties more last ins out relay c h whole is carries one two received popped decided ends = record {
+  producers = h.producers;
+  relay = relay;
+  consumer = c;
+  are = two ∙ ap (λ xs. xs ++ Consumes c ∷ []) (one ∙ ap (λ xs. xs ++ Relays relay ∷ []) h.are)
+      ∙ append_assoc (map Produces h.producers) (Relays relay ∷ []) (Consumes c ∷ []);
+  producers_count = h.so_many ∙ whole;
+  new = subst (λ (v : Relaying). AreNewProducers width count h.producers v.ins) (sym is) h.new;
+  carries = carries;
+  consumes = record {
+    received = received ∙ sym (ap (λ ps. taken_by ps c.end.peer.decisions) popped);
+    one_each = ap length popped ∙ sym (ap length decided);
+  };
+  out = subst (λ (v : Relaying). AreEnds v.out c.end) (sym is) ends;
 }
 
 -- ---- links

@@ -13,7 +13,7 @@ use Rattle.core_channels.specs.declared.answers.Receiving.TheVariants as receive
 use Rattle.core_channels.proofs.Stamping.{stamp_rises}
 use Rattle.channel_ends.specs.Sending.{Sending, OwnerNotes, AreWithin}
 use Rattle.channel_ends.specs.Receiving.{Receiving, Receives, Decides, DecidesNone, receiving_clock}
-use Rattle.channel_ends.specs.Settled.{AreEnds, AreSettled}
+use Rattle.channel_ends.specs.Settled.{AreSettled}
 use Rattle.channel_ends.specs.Pairs.{IsSameSend, IsSameRecv, IsSettledSend, IsSettledRecv}
 use Rattle.ac_choice.specs.declared.answers.Tagged.{Tagged}
 use Rattle.ac_choice.specs.AnyOf.{SoAt, AreSameEnds}
@@ -24,7 +24,7 @@ use Rattle.ac_choice.proofs.Lists.{taken_more}
 use Rattle.merge_run.specs.declared.producer.Producer.{Producer}
 use Rattle.merge_run.specs.declared.consumer.Consumer.{Consumer}
 use Rattle.merge_run.specs.declared.party.MergeParty.TheVariants.{Produces, Relays, Consumes}
-use Rattle.merge_run.specs.inner.Parties.{IsProducing, IsSameProducer, IsConsuming, IsPrefixAt, HasPopped, KeepsRelay, HaveMet, taken_value}
+use Rattle.merge_run.specs.inner.Parties.{IsPrefixAt, HasPopped, KeepsRelay, HaveMet, taken_value}
 use Rattle.merge_run.specs.inner.Keeping.{so_self}
 use Rattle.merge_run.proofs.Positions.{same_Some}
 

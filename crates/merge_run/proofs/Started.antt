@@ -1,10 +1,9 @@
 -- The parties of a merge as it begins: each may go on, and the two ends of each link are of one pair.
-use Rattle.std.proofs.Common.{◌≡◌, ℕ, ℤ, zero, suc, ◌+◌, ◌<◌, ◌≤◌, List, [], ◌∷◌, ◌++◌, Some, length, map, refl, sym, ap, ◌∙◌, subst, arith, inl, inr}
+use Rattle.std.proofs.Common.{◌≡◌, ℕ, suc, ◌<◌, List, [], ◌∷◌, ◌++◌, Some, length, map, refl, sym, ap, ◌∙◌, subst, arith, inl, inr}
 use Rattle.std.specs.Prelude.{slice_get, ◌≢◌, ◌⊎◌}
 use Rattle.std.specs.List.{AllByRecursion}
 use Rattle.std.proofs.lemmas.Bool.{cases_lt}
 use Rattle.std.proofs.lemmas.Option.{slice_get_within}
-use Rattle.channel_ends.specs.Receiving.{Receiving}
 use Rattle.settled_rounds.specs.declared.party.Way.{Way}
 use Rattle.settled_rounds.specs.Linked.{AreWays, OnLinks}
 use Rattle.merge_run.specs.declared.producer.Producer.{Producer}
@@ -82,4 +81,4 @@ module _ (width count : ℕ) (ps : List MergeParty) (new : AreNewParties width c
       (all_produce new.producers (Relays new.relay ∷ Consumes new.consumer ∷ [])
       (λ k p at. let r = exists new.relay.ins k (let b = slice_get_within new.producers k p at in let d = new.new.same_count in omega (arith, b, d)) in
       (new.new.each k p r.0 at r.1).going)
-      (new.carries, new.consumes, tt))
+      (new.carries, (new.consumes, tt)))

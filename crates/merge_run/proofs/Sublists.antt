@@ -1,15 +1,17 @@
 -- What is left of a list once some elements are taken out, and of that again, is left of it; and where it has as many elements it is all.
-use Rattle.std.proofs.Common.{◌≡◌, ℕ, ℤ, zero, suc, ◌+◌, ◌*◌, ◌≤◌, ◌<◌, List, [], ◌∷◌, ◌++◌, Bool, true, false, cond, length, map, refl, sym, ap, ◌∙◌, subst, arith, inl, inr, ⊎_elim, pos}
-use Rattle.std.specs.Prelude.{◌==◌, ◌⊎◌}
+use Rattle.std.proofs.Common.{◌≡◌, ℕ, zero, suc, ◌+◌, ◌*◌, ◌≤◌, ◌<◌, List, [], ◌∷◌, ◌++◌, Bool, true, false, cond, length, map, take, get_or}
+use Rattle.std.proofs.Common.{refl, sym, ap, ◌∙◌, subst, arith, inl, inr, ⊎_elim, pos}
+use Rattle.std.specs.Prelude.{◌==◌}
 use Rattle.std.specs.List.{filter}
 use mathlib.Core.List.{IsPrefix}
-use Rattle.std.proofs.lemmas.List.{length-append}
+use Rattle.std.proofs.lemmas.List.{length-append, append-nil, take_more}
 use Rattle.std.proofs.lemmas.Bool.{cases_lt}
 use Rattle.completion_word.specs.declared.views.Decision.{Decision}
 use Rattle.completion_word.specs.declared.views.DecisionKind.{DecisionKind}
 use Rattle.completion_word.specs.declared.views.DecisionKind.TheVariants as outcome
 use Rattle.ac_choice.specs.declared.answers.Tagged.{Tagged}
 use Rattle.ac_choice.specs.Relaying.{of_end, if_taken, taken_by}
+use Rattle.ac_choice.proofs.Lists.{of_more, of_it, of_other}
 use Rattle.merge_run.specs.Series.{series}
 use Rattle.merge_run.specs.inner.Parts.{IsPartOf}
 
@@ -113,3 +115,16 @@ series_count (suc n) width tag =
 
 pub part_prefix : {X : Type 0} (xs ys : List X) → IsPrefix xs ys → IsPartOf xs ys
 part_prefix xs ys h = subst (λ zs. IsPartOf xs zs) h.1 (part_front xs h.0)
+
+-- ---- how many messages of one end there are
+
+module _ (i : ℕ) (ms : List Tagged) (k : ℕ) (d : Tagged) (within : k < length ms) where
+  of_take : of_end i (take (k + 1) ms) ≡ of_end i (take k ms) ++ of_end i (get_or ms k d ∷ [])
+  of_take = ap (of_end i) (take_more ms k d within) ∙ of_more i (take k ms) (get_or ms k d)
+
+  pub count_it : (get_or ms k d).end ≡ i → length (of_end i (take (k + 1) ms)) ≡ length (of_end i (take k ms)) + 1
+  count_it e =
+      ap length (of_take ∙ ap (λ xs. of_end i (take k ms) ++ xs) (of_it i (get_or ms k d) e)) ∙ length-append (of_end i (take k ms)) ((get_or ms k d).value ∷ [])
+
+  pub count_other : ((get_or ms k d).end ≡ i → ⊥) → length (of_end i (take (k + 1) ms)) ≡ length (of_end i (take k ms))
+  count_other n = ap length (of_take ∙ ap (λ xs. of_end i (take k ms) ++ xs) (of_other i (get_or ms k d) n) ∙ append-nil (of_end i (take k ms)))

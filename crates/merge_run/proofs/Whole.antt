@@ -1,14 +1,12 @@
 -- What the consumer has received, once all links are settled, is of each producer some of what that sends, in order: it was taken out of what the
 -- relay has offered, and that is what the relay has taken out of what the producer has offered. Where there are as many, it is all of it.
-use Rattle.std.proofs.Common.{◌≡◌, ℕ, ℤ, zero, suc, ◌+◌, ◌<◌, ◌≤◌, List, [], ◌∷◌, ◌++◌, Option, Some, None, Bool, true, false, cond, length, map, refl, sym, ap, ◌∙◌, subst, arith, inl, inr, ⊎_elim}
-use Rattle.std.specs.Prelude.{slice_get, nat_lt, ◌⊎◌}
+use Rattle.std.proofs.Common.{◌≡◌, ℕ, ℤ, suc, ◌<◌, ◌≤◌, List, [], ◌∷◌, ◌++◌, Option, Some, None, true, false, cond, length, refl, sym, ap, ◌∙◌, subst, arith, ⊎_elim}
+use Rattle.std.specs.Prelude.{slice_get, nat_lt}
 use Rattle.std.proofs.lemmas.List.{length-append}
 use Rattle.std.proofs.lemmas.Bool.{cases_lt}
 use Rattle.std.proofs.lemmas.Bool.Decides.{nat_tests}
 use Rattle.std.proofs.lemmas.Option.{slice_get_past}
 use Rattle.channel_ends.specs.Receiving.{Receiving}
-use Rattle.channel_ends.specs.Settled.{AreEnds}
-use Rattle.channel_ends.specs.Pairs.{IsSameRecv}
 use Rattle.settled_rounds.specs.declared.party.Way.{Way}
 use Rattle.settled_rounds.specs.Linked.{Pointwise, OnLinks}
 use Rattle.ac_choice.specs.declared.answers.Tagged.{Tagged}
@@ -20,7 +18,7 @@ use Rattle.merge_run.specs.declared.party.MergeParty.{MergeParty}
 use Rattle.merge_run.specs.declared.party.MergeParty.TheVariants.{Produces, Relays, Consumes}
 use Rattle.merge_run.specs.Series.{series, sent_by, IsMerged}
 use Rattle.merge_run.specs.inner.Parties.{IsProducing, IsSameProducer, IsConsuming, IsLater, IsPrefixAt, AreSettledAt}
-use Rattle.merge_run.specs.inner.Making.{IsNewProducer, AreNewProducers, AreNewParties, AreWaysOf}
+use Rattle.merge_run.specs.inner.Making.{AreNewProducers, AreNewParties, AreWaysOf}
 use Rattle.merge_run.specs.inner.Parts.{IsPartOf, ArePartOf}
 use Rattle.merge_run.specs.inner.Counting.{AreWhole}
 use Rattle.merge_run.proofs.Sublists.{part_then, part_of_none, part_whole, part_front, part_prefix, taken_part, of_part, series_part, series_count}
@@ -66,11 +64,11 @@ later_relay r (Consumes d) h = absurd h
 later_consumer : (c d : Consumer) → IsLater (Consumes c) (Consumes d) → IsConsuming c → IsConsuming d
 later_consumer c d h k = h.1 k
 
-no_producer : (c : Consumer) (q : Producer) → IsLater (Consumes c) (Produces q) → ⊥
-no_producer c q h = h
-
-no_relay : (c : Consumer) (s : Relaying) → IsLater (Consumes c) (Relays s) → ⊥
-no_relay c s h = h
+-- the last one is the consumer
+pub last_consumes : (d : Consumer) (c : MergeParty) → IsLater (Consumes d) c → ((x : Consumer) → c ≡ Consumes x → ⊥) → ⊥
+last_consumes d (Produces q) h n = h
+last_consumes d (Relays s) h n = h
+last_consumes d (Consumes x) h n = n x refl
 
 -- ---- what is so of a new producer
 
@@ -107,12 +105,6 @@ module _ (width count : ℕ) (ps qs : List MergeParty) (ways : List Way) (new : 
     last_is_later =
         let q = after_at IsLater ps qs (suc width) (Consumes new.consumer) later (consumer_at width count ps new) in
         subst (λ b. IsLater (Consumes new.consumer) b) (same_Some q.0 c (sym q.1 ∙ last_there)) q.2
-
-    pub no_producer_last : (q : Producer) → c ≡ Produces q → ⊥
-    no_producer_last q e = no_producer new.consumer q (subst (λ b. IsLater (Consumes new.consumer) b) e last_is_later)
-
-    pub no_relay_last : (s : Relaying) → c ≡ Relays s → ⊥
-    no_relay_last s e = no_relay new.consumer s (subst (λ b. IsLater (Consumes new.consumer) b) e last_is_later)
 
   -- ---- from the consumer back to the producers
 

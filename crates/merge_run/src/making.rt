@@ -103,7 +103,10 @@ pub(crate) fn new_parties<'a>(
     let (send, end): (SendEnd<'a, Tagged, AnyItems>, RecvEnd<'a, Tagged, AnyItems>) = pair(
         alloc, out, own.owner, own.peer, CAPACITY,
     )?;
-    parties.push(MergeParty::Relays(Relay::new(ins, send)))?;
+    let relay = Relay::new(ins, send);
+    // What holds of a relay at any time is asked for, for the proof.
+    let _last = relay.last();
+    parties.push(MergeParty::Relays(relay))?;
     let consumer = Consumer {
         end,
         received: Vec::new(alloc),

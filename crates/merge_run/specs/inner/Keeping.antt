@@ -1,7 +1,7 @@
 -- What the calls of the parties leave of what holds of one, or of the two at the ends of a link.
-use Rattle.std.specs.Prelude.{◌≡◌, ℕ, zero, suc, ℤ, List, [], ◌∷◌, length, Option, Some, None, slice_get, refl, ◌⊎◌}
+use Rattle.std.specs.Prelude.{◌≡◌, ℕ, zero, suc, ℤ, List, [], ◌∷◌, length, Some, None, slice_get, refl, ◌⊎◌}
 use mathlib.Core.List.{IsPrefix}
-use Rattle.std.proofs.Common.{sym, ap, ◌∙◌, subst, arith, inl, inr, ⊎_elim}
+use Rattle.std.proofs.Common.{sym, ◌∙◌, subst, arith, inl, inr, ⊎_elim}
 use Rattle.channel_ends.specs.Sending.{Sending}
 use Rattle.channel_ends.specs.Receiving.{Receiving}
 use Rattle.channel_ends.specs.Pairs.{IsSameSend, IsSameRecv}
@@ -11,8 +11,8 @@ use Rattle.ac_choice.specs.Steps.{IsSameRelay}
 use Rattle.merge_run.specs.declared.producer.Producer.{Producer}
 use Rattle.merge_run.specs.declared.party.MergeParty.{MergeParty}
 use Rattle.merge_run.specs.declared.party.MergeParty.TheVariants.{Produces, Relays, Consumes}
-use Rattle.merge_run.specs.inner.Parties.{IsProducing, IsSameProducer, IsGoing, IsLater, HaveEnds, AreEndsAt, AreSettledAt, IsPrefixAt}
-use Rattle.merge_run.specs.inner.Parties.{HasPopped, KeepsRelay, KeepsLists}
+use Rattle.merge_run.specs.inner.Parties.{IsSameProducer, IsGoing, IsLater, HaveEnds, AreEndsAt, AreSettledAt, IsPrefixAt}
+use Rattle.merge_run.specs.inner.Parties.{HasPopped, KeepsLists}
 
 -- ---- lists of ends
 

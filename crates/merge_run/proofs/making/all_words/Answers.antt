@@ -10,4 +10,11 @@ loop-done-init c = record {
 }
 
 pub loop-done-preserved : goal.loop-done-preserved
-loop-done-preserved c = ?
+loop-done-preserved c =
+    let at = c.loop-done in
+    record {
+      unused = subst (λ ws. AreUnused (at.done + 1) ws c.push-in-loop-done.new.self.items) (sym c.in_ok-push.ensures.items)
+          (subst (λ ss. AreUnused (at.done + 1) (at.words.items ++ c.in_ok-made.made ∷ []) ss) (sym c.in_ok-push-2.ensures.items)
+          (one_unused at.done at.words.items at.seats.items c.in_ok-made.made c.in_ok-made.own at.invariant.unused c.in_ok-made.ensures));
+      most = let l = c.loop-done-test.true in omega (arith, l);
+    }

@@ -1,4 +1,4 @@
-use Rattle.std.proofs.Common.{◌≡◌, ◌-◌, ◌≤◌}
+use Rattle.std.proofs.Common.{◌-◌, ◌≤◌}
 use Rattle.merge_run.specs.inner.Making.{AreUnused}
 use Rattle.merge_run.proofs.making.all_words.Given as goal
 

@@ -1,0 +1,4 @@
+mod Sums
+mod Called
+mod Answered
+mod Examples
