@@ -265,8 +265,3 @@ module _ {M : Type 0} where
 
     pub none_by_nothing : SeeNothing old last new → DecidesAtMostOne old None new
     none_by_nothing h = none_in_vain h.count (λ k w a b from to. inl (h.each k w a b from to))
-
-  -- what one end was allowed to take
-  pub allowed_there : (allows : List M → M → Type 0) (old : List (Receiving M)) (e : ℕ) (a : Receiving M) (value : M) → slice_get old e ≡ Some a
-      → allows a.popped value → (x : Receiving M) → slice_get old e ≡ Some x → allows x.popped value
-  allowed_there allows old e a value was so x is = subst (λ (z : Receiving M). allows z.popped value) (same_Some a x (sym was ∙ is)) so

@@ -23,18 +23,11 @@ use Rattle.ac_choice.specs.declared.answers.Tagged.{Tagged}
 use Rattle.ac_choice.specs.AnyOf.{SameList, DecidesOne, DecidesAtMostOne, Answers, TakesAny, any_clock, decided_end}
 use Rattle.ac_choice.specs.Relaying.{of_end, if_taken, taken_of, taken_at, held_list}
 use Rattle.ac_choice.specs.Steps.{kept_of_offer, told_of_offer, OffersAsTold}
-use Rattle.ac_choice.specs.inner.Inside.{AreOneEach}
+use Rattle.ac_choice.specs.Inside.{AreOneEach}
 use Rattle.ac_choice.proofs.Lists.{both_at, taken_same, taken_there, of_more, of_it, of_other}
 use Rattle.ac_choice.proofs.Places.{same_Some}
 
 -- ---- clocks
-
-pub learning_rises : (old new : OwnerNotes) (last : ℕ) (l : Learning) → Learns old last l new → last ≤ learning_clock last l
-learning_rises old new last (learning.Know number s) h = let r = stamp_rises last h.3.of s h.3.next in omega (arith, r)
-learning_rises old new last (learning.Room number s) h = let r = stamp_rises last h.3.of s h.3.next in omega (arith, r)
-learning_rises old new last learning.Undecided h = omega arith
-learning_rises old new last learning.AllKnown h = omega arith
-learning_rises old new last learning.ClockFull h = omega arith
 
 pub offering_rises : (old new : Sending Tagged) (m : Tagged) (last : ℕ) (o : Offering Tagged) → Offers old m last o new → last ≤ offering_clock last o
 offering_rises old new m last (offering.Offered number s) h = let r = stamp_rises last 0 s h.1 in omega (arith, r)

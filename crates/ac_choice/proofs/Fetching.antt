@@ -16,7 +16,7 @@ use Rattle.ac_choice.specs.Turns.{first_after}
 use Rattle.ac_choice.specs.AnyOf.{TakesAny, DecidesAtMostOne, AreSameEnds, any_clock, decided_end}
 use Rattle.ac_choice.specs.Relaying.{Relaying, of_end, held_list}
 use Rattle.ac_choice.specs.Steps.{Steps, OffersOne, TakesOne, GoesOnWith, OffersAsTold, AfterLearning, Transfers, is_full, once_asked, once_learned, kept_of_offer}
-use Rattle.ac_choice.specs.inner.Inside.{IsRelay}
+use Rattle.ac_choice.specs.Inside.{IsRelay}
 use Rattle.ac_choice.specs.inner.Offering.{Puts, Fetches, relay_of}
 use Rattle.ac_choice.proofs.Carrying.{any_rises, offering_rises, within_later, offer_carries, offer_told, still_one_each, of_none, of_passed, of_took, AreOf}
 

@@ -1,6 +1,6 @@
 -- A relay of two ends: it takes 7 at the second, and offers it, or holds it where there is no room. A body that loses it, or holds it as well,
 -- is none.
-use Rattle.std.proofs.Common.{◌≡◌, ◌∙◌, ◌<◌, ℕ, zero, suc, List, [], ◌∷◌, Option, Some, None, true, false, refl, ap, sym, arith, subst, ℤ}
+use Rattle.std.proofs.Common.{◌≡◌, length, ◌∙◌, ◌<◌, ℕ, zero, suc, List, [], ◌∷◌, Option, Some, None, true, false, refl, ap, sym, arith, subst, ℤ}
 use Rattle.std.specs.Prelude.{pos}
 use Rattle.completion_word.specs.declared.standing.Standing.TheVariants as word
 use Rattle.completion_word.specs.declared.views.DecisionKind.TheVariants as outcome
@@ -20,6 +20,9 @@ use Rattle.ac_choice.specs.AnyOf.{SoAt, IsLeft}
 use Rattle.ac_choice.specs.Relaying.{Relaying, of_end, if_taken, taken_by, taken_of, taken_at, held_list, carried, Carries}
 use Rattle.ac_choice.specs.Steps.{told_of_offer, kept_of_offer, OffersOne, first_by, once_asked, GoesOnWith, TakesOne, is_full, Transfers, AfterLearning, once_learned}
 use Rattle.ac_choice.specs.Steps.{Steps, OffersAsTold, IsSameRelay}
+use Rattle.channel_ends.specs.Sending.{AreWithin}
+use Rattle.ac_choice.specs.declared.relay.Relay.TheInside.{Inside}
+use Rattle.ac_choice.specs.Inside.{relaying_of, AreOneEach, IsRelay, IsRelaying}
 use Rattle.ac_choice.specs.Settling.{HaveDecidedNone, HasOfferedNone, new_relay, SettlesEnd, SettlesOut}
 use Rattle.ac_choice.proofs.Examples.{silent, looked, gave, passed, two, the_second_gives, they_are_the_same}
 use Rattle.ac_choice.proofs.Lists.{of_other}
@@ -304,3 +307,35 @@ the_other_end_is_settled = record {
 
 pub and_it_asks_as_before : SettlesOut (relay two free None 0 0) receiver_of_none receiver_of_none (relay two free None 1 0) → ⊥
 and_it_asks_as_before h = let e = ap (λ (v : Relaying). v.first) h.only in omega (arith, e)
+
+-- ---- a relay, from its fields
+
+pub one_each : AreOneEach (looked ∷ gave ∷ [])
+one_each zero r at = subst (λ (v : Receiving ℤ). length v.popped ≡ length v.peer.decisions) (let e : looked ≡ r = cc in e) refl
+one_each (suc zero) r at = subst (λ (v : Receiving ℤ). length v.popped ≡ length v.peer.decisions) (let e : gave ≡ r = cc in e) refl
+one_each (suc (suc k)) r at = cc
+
+pub not_with_an_item_too_many : AreOneEach (record gave { popped = pos 7 ∷ pos 8 ∷ [] } ∷ []) → ⊥
+not_with_an_item_too_many h = let e = h 0 (record gave { popped = pos 7 ∷ pos 8 ∷ [] }) refl in omega (arith, e)
+
+no_later_stamp : AreWithin 3 moved.out.notes.offers
+no_later_stamp zero at = (omega arith, λ w e. absurd cc)
+no_later_stamp (suc n) at = absurd (omega (arith, at))
+
+pub it_is_a_relay : IsRelay moved
+it_is_a_relay = record { first = omega arith; few = omega arith; within = no_later_stamp; one_each = one_each; carries = what_was_taken_was_offered }
+
+pub as_its_fields_say : (it : Inside) → it.ins.items ≡ looked ∷ gave ∷ [] → it.out ≡ full 3 (tag 1 (pos 7)) → it.held ≡ None → it.first ≡ 0
+    → it.clock ≡ 3 → relaying_of it ≡ moved
+as_its_fields_say it ins out held first clock =
+    ap (λ (v : List (Receiving ℤ)). relay v it.out it.held it.first it.clock) ins
+    ∙ ap (λ (v : Sending Tagged). relay (looked ∷ gave ∷ []) v it.held it.first it.clock) out
+    ∙ ap (λ (v : Option Tagged). relay (looked ∷ gave ∷ []) (full 3 (tag 1 (pos 7))) v it.first it.clock) held
+    ∙ ap (λ (v : ℕ). relay (looked ∷ gave ∷ []) (full 3 (tag 1 (pos 7))) None v it.clock) first
+    ∙ ap (λ (v : ℕ). relay (looked ∷ gave ∷ []) (full 3 (tag 1 (pos 7))) None 0 v) clock
+
+pub and_is_one : (it : Inside) → relaying_of it ≡ moved → IsRelaying it
+and_is_one it e = subst (λ (v : Relaying). IsRelay v) (sym e) it_is_a_relay
+
+pub not_with_what_it_took_lost : (it : Inside) → relaying_of it ≡ relay (looked ∷ gave ∷ []) free None 0 2 → IsRelaying it → ⊥
+not_with_what_it_took_lost it e h = not_lost (subst (λ (v : Relaying). Carries v) e h.carries)

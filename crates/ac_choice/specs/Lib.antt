@@ -3,4 +3,5 @@ pub mod AnyOf
 pub mod Relaying
 pub mod Steps
 pub mod Settling
+pub mod Inside
 pub mod inner

@@ -6,7 +6,7 @@ ghost use Rattle.channel_ends.specs.Settled.{AreEnds};
 ghost use Rattle.ac_choice.specs.Relaying.{Carries};
 ghost use Rattle.ac_choice.specs.Steps.{Steps, OffersAsTold, IsSameRelay, is_full};
 ghost use Rattle.ac_choice.specs.Settling.{HaveDecidedNone, HasOfferedNone, new_relay, SettlesEnd, SettlesOut};
-ghost use Rattle.ac_choice.specs.inner.Inside.{IsRelay};
+ghost use Rattle.ac_choice.specs.Inside.{IsRelay};
 ghost use Rattle.ac_choice.specs.inner.Offering.{Puts, Fetches, relay_of};
 
 use crate::answers::{Any, Relayed, Tagged};
@@ -36,7 +36,7 @@ impl<'a> Model for Relay<'a> {
 
     ghost Value = { Relaying };
 
-    ghost use Rattle.ac_choice.specs.inner.Inside.{relaying_of, IsRelaying};
+    ghost use Rattle.ac_choice.specs.Inside.{relaying_of, IsRelaying};
 
     ghost view = { relaying_of };
 

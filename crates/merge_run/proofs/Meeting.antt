@@ -170,13 +170,3 @@ module _ (old new : Receiving Tagged) (last : ℕ) (each : length old.popped ≡
   none_taken received.Nothing h is = decides_none h.0
   none_taken received.NotYet h is = decides_none h.0
   none_taken received.ClockFull h is = decides_none h.0
-
-  takes_rise : (number s : ℕ) (how : DecisionKind) (x : Tagged) → Decides old last number how s x new → last ≤ s
-  takes_rise number s how x h = let l = stamp_rises last h.of s h.next in omega (arith, l)
-
-  pub clock_rises : (r : Received Tagged) → Receives old last r new → last ≤ receiving_clock last r
-  clock_rises (received.Took number value s) h = takes_rise number s (outcome.Taken s) value h
-  clock_rises (received.Passed number s) h = takes_rise number s (outcome.Passed s) h.0 h.1
-  clock_rises received.Nothing h = omega arith
-  clock_rises received.NotYet h = omega arith
-  clock_rises received.ClockFull h = omega arith

@@ -25,14 +25,6 @@ which width ways l w h at =
           inr (e, same_Some (way width (suc width)) w (sym h.last ∙ ap (slice_get ways) e ∙ at))
     ]
 
-pub ways_fit : (width n : ℕ) (ways : List Way) → AreWaysOf width ways → n ≡ suc (suc width) → AreWays n ways
-ways_fit width n ways h count l w at =
-    elim (which width ways l w h at) [
-      | inl p ↦ subst (λ (v : Way). (v.from < n) × (v.to < n) × (v.from ≢ v.to)) p.1
-          (omega (arith, count, p.0), omega (arith, count), λ q. omega (arith, q, p.0))
-      | inr p ↦ subst (λ (v : Way). (v.from < n) × (v.to < n) × (v.from ≢ v.to)) p.1 (omega (arith, count), omega (arith, count), λ q. omega (arith, q))
-    ]
-
 module _ (width count : ℕ) (ps : List MergeParty) (new : AreNewParties width count ps) where
   pub parties_count : length ps ≡ suc (suc width)
   parties_count =

@@ -9,7 +9,7 @@ use Rattle.ac_choice.specs.declared.answers.Tagged.{Tagged}
 use Rattle.ac_choice.specs.declared.answers.Relayed.{Relayed}
 use Rattle.ac_choice.specs.Relaying.{Relaying}
 use Rattle.ac_choice.specs.Steps.{told_of_offer, kept_of_offer, TakesOne, OffersAsTold, IsSameRelay}
-use Rattle.ac_choice.specs.inner.Inside.{IsRelay}
+use Rattle.ac_choice.specs.Inside.{IsRelay}
 
 -- the answer, what is held then, and the end and the clock after the offer
 pub record Puts (old : Sending Tagged) (m : Tagged) (last : ℕ) (result : Relayed) (held : Option Tagged) (new : Sending Tagged) (now : ℕ)

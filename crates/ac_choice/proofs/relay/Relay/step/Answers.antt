@@ -2,7 +2,7 @@ use Rattle.std.proofs.Common.{None, subst, sym, ◌∙◌}
 use Rattle.std.proofs.lemmas.List.{with_items_is}
 use Rattle.ac_choice.specs.Relaying.{Relaying}
 use Rattle.ac_choice.specs.Steps.{Steps}
-use Rattle.ac_choice.specs.inner.Inside.{relaying_of}
+use Rattle.ac_choice.specs.Inside.{relaying_of}
 use Rattle.ac_choice.specs.inner.Offering.{Fetches, relay_of}
 use Rattle.ac_choice.specs.declared.answers.Relayed.TheVariants as relayed
 use Rattle.ac_choice.proofs.Fetching.{steps_full, steps_held, steps_fetch}
