@@ -1,10 +1,10 @@
 #!/usr/bin/env python3
-"""Checks the manual pages docs/ac.1, docs/ac_order.1 and docs/ac_again.1:
+"""Checks the manual pages docs/ac.1, docs/ac_order.1, docs/ac_again.1 and docs/ac_merge.1:
 
 - mandoc finds no warning in them, where mandoc is installed;
 - the statuses of `ac` are those of docs/LANGUAGE.md, each with the lines that are written; any other says that it is not built;
 - its limits are those of docs/LANGUAGE.md;
-- the statuses of the two others are those of their texts in tests/, each with the lines that are written, or are said to be those of
+- the statuses of the others are those of their texts in tests/, each with the lines that are written, or are said to be those of
   an audit; what no text can show are a failed output and refused memory;
 - the commands and the usage line of each are those of the program.
 
@@ -19,7 +19,8 @@ import sys
 ROOT = pathlib.Path(__file__).resolve().parent.parent
 MANUAL = ROOT / "docs" / "ac.1"
 # The manual page of each program beside `ac`, and the folder of its texts.
-BESIDE = {ROOT / "docs" / "ac_order.1": ROOT / "tests" / "order", ROOT / "docs" / "ac_again.1": ROOT / "tests" / "again"}
+BESIDE = {ROOT / "docs" / "ac_order.1": ROOT / "tests" / "order", ROOT / "docs" / "ac_again.1": ROOT / "tests" / "again",
+          ROOT / "docs" / "ac_merge.1": ROOT / "tests" / "merge"}
 PAGE = (ROOT / "docs" / "LANGUAGE.md").read_text()
 USAGE = "no_words_at_all.txt"
 WITHOUT_TEXT = {"8", "11"}
