@@ -207,43 +207,41 @@ class Rules:
         elif k == "Yield":
             self.node(s.at, 6 if plain else 0)
 
-    def expr(self, e, dropped=False):
-        """Its value is used, but for that of a call which is a statement."""
+    def expr(self, e, dropped=False, broken=0):
+        """Its value is used, but for that of a call which is a statement. Its own node breaks the rule `broken` besides."""
         k = e.kind
         plain = 0 if self.f.is_async else 6
         if k == "Number":
-            self.node(e.at)
+            self.node(e.at, broken)
         elif k == "Name":
-            self.node(e.at, self.use(e.name, "int"))
+            self.node(e.at, broken, self.use(e.name, "int"))
         elif k == "Index":
-            self.node(e.at, self.use(e.name, "array"))
+            self.node(e.at, broken, self.use(e.name, "array"))
             self.expr(e.index)
         elif k in ("Group", "Unary"):
-            self.node(e.at)
+            self.node(e.at, broken)
             self.expr(e.inner)
         elif k == "Chain":
-            self.node(e.at)
+            self.node(e.at, broken)
             self.expr(e.first)
             for _, x in e.rest:
                 self.expr(x)
         elif k == "Call":
             d = self.find(e.name)
             if d is None or d.kind != "Function":
-                self.node(e.at, 2 if d is None else self.misuses(e.name, self.sort(d), "Function"))
+                self.node(e.at, broken, 2 if d is None else self.misuses(e.name, self.sort(d), "Function"))
                 for a in e.args:
                     self.expr(a)
                 return
             self.calls[self.f].append(d)
-            self.node(e.at, 3 if len(e.args) != len(d.params) else 0, 5 if d.is_async and not self.f.is_async else 0,
+            self.node(e.at, broken, 3 if len(e.args) != len(d.params) else 0, 5 if d.is_async and not self.f.is_async else 0,
                       0 if d.gives_int or dropped else 12)
             for n, a in enumerate(e.args):
                 if n < len(d.params) and d.params[n].is_array:
                     if a.kind == "Name":
                         self.node(a.at, self.use(a.name, "array"))
                     else:
-                        self.node(a.at, self.misuses(None, None, "array"))
-                        # its parts come later and cannot be the first broken, but what is called in them is reached
-                        self.expr(a)
+                        self.expr(a, broken=self.misuses(None, None, "array"))
                 else:
                     self.expr(a)
         elif k in ("Send", "Recv"):
@@ -253,10 +251,10 @@ class Rules:
                 d = self.find(e.channel)
                 end = self.top.get(d.frm if k == "Send" else d.to)
                 wrong = 11 if any(c is not end for c in self.reach.get(self.f, [])) else 0
-            self.node(e.at, r, plain, wrong)
+            self.node(e.at, broken, r, plain, wrong)
             self.expr(e.value if k == "Send" else e.place)
         else:
-            self.node(e.at, self.use(e.file, "File"), self.use(e.array, "array"), plain)
+            self.node(e.at, broken, self.use(e.file, "File"), self.use(e.array, "array"), plain)
             self.expr(e.frm)
             self.expr(e.len)
 
