@@ -19,7 +19,6 @@ Which call of a disk a call of the system belongs to is worked out from the requ
 slow readers of the output.
 Words pick the calls whose name has one of them in it; the rest are `one file`, `load`, `threads` and `output`.
 """
-import argparse
 import collections
 import concurrent.futures
 import errno
@@ -433,12 +432,7 @@ def outputs(loaded, program):
 
 
 def main():
-    words = argparse.ArgumentParser(description=__doc__, formatter_class=argparse.RawDescriptionHelpFormatter)
-    words.add_argument("program")
-    words.add_argument("--jobs", type=int, default=4)
-    words.add_argument("picks", nargs="*", metavar="WORD")
-    words = words.parse_intermixed_args()
-    program = str(pathlib.Path(words.program).resolve())
+    words, program = made_to_fail.read_words(__doc__)
     total, failed = 0, 0
 
     def is_picked(name):

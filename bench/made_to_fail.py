@@ -5,6 +5,7 @@ calls, and how many growths and threads it had. The calls that a program makes a
 and so are its growths, the calls by which it asks for memory, and the threads that it starts. A rule says what happens to the calls of
 some numbers: they fail with an error, or take at most so many bytes.
 """
+import argparse
 import errno
 import os
 import pathlib
@@ -229,6 +230,16 @@ class Loaded:
         made, counts = read_told(told)
         told.unlink(missing_ok=True)
         return Came(done.returncode, done.stdout or b"", made, *counts)
+
+
+def read_words(what):
+    """The words of a script that tries a program, and the path of the program."""
+    words = argparse.ArgumentParser(description=what, formatter_class=argparse.RawDescriptionHelpFormatter)
+    words.add_argument("program")
+    words.add_argument("--jobs", type=int, default=4)
+    words.add_argument("picks", nargs="*", metavar="WORD")
+    words = words.parse_intermixed_args()
+    return words, str(pathlib.Path(words.program).resolve())
 
 
 def error_name(number):

@@ -11,7 +11,6 @@ The files then have a front of what is written into them, block by block, and no
 there were, and how each was answered, is printed; the status is 1 where an answer is another one. Words pick the calls whose name
 has one of them in it.
 """
-import argparse
 import collections
 import concurrent.futures
 import pathlib
@@ -160,12 +159,7 @@ def tried(loaded, program, case, jobs):
 
 
 def main():
-    words = argparse.ArgumentParser(description=__doc__, formatter_class=argparse.RawDescriptionHelpFormatter)
-    words.add_argument("program")
-    words.add_argument("--jobs", type=int, default=4)
-    words.add_argument("picks", nargs="*", metavar="WORD")
-    words = words.parse_intermixed_args()
-    program = str(pathlib.Path(words.program).resolve())
+    words, program = made_to_fail.read_words(__doc__)
     total, failed = collections.Counter(), 0
     with tempfile.TemporaryDirectory() as folder:
         loaded = made_to_fail.Loaded(folder)
