@@ -1,0 +1,10 @@
+pub mod Calls
+pub mod Fields
+pub mod Joining
+pub mod Mirrors
+pub mod Pairs
+pub mod Prefixes
+pub mod Rebuilding
+pub mod Sides
+pub mod Sound
+pub mod inner

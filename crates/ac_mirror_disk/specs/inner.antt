@@ -1,0 +1,5 @@
+pub mod BindsNew
+pub mod Callable
+pub mod Comparing
+pub mod Copying
+pub mod Restoring
