@@ -1,0 +1,2 @@
+mod AtFirst
+pub mod Examples
