@@ -1,11 +1,12 @@
 #!/usr/bin/env python3
-"""Checks the manual pages docs/ac.1, docs/ac_order.1, docs/ac_again.1 and docs/ac_merge.1:
+"""Checks the manual pages docs/ac.1, docs/ac_order.1, docs/ac_again.1, docs/ac_merge.1 and
+docs/ac_mirror.1:
 
 - mandoc finds no warning in them, where mandoc is installed;
 - the statuses of `ac` are those of docs/LANGUAGE.md, each with the lines that are written; any other says that it is not built;
 - its limits are those of docs/LANGUAGE.md;
 - the statuses of the others are those of their texts in tests/, each with the lines that are written, or are said to be those of
-  an audit; what no text can show are a failed output and refused memory;
+  `ac`; what no text can show are a failed output and refused memory;
 - the commands and the usage line of each are those of the program.
 
 Run from anywhere: python3 tests/manual.py. It prints what it finds, and ends with status 1 where it finds anything.
@@ -20,7 +21,7 @@ ROOT = pathlib.Path(__file__).resolve().parent.parent
 MANUAL = ROOT / "docs" / "ac.1"
 # The manual page of each program beside `ac`, and the folder of its texts.
 BESIDE = {ROOT / "docs" / "ac_order.1": ROOT / "tests" / "order", ROOT / "docs" / "ac_again.1": ROOT / "tests" / "again",
-          ROOT / "docs" / "ac_merge.1": ROOT / "tests" / "merge"}
+          ROOT / "docs" / "ac_merge.1": ROOT / "tests" / "merge", ROOT / "docs" / "ac_mirror.1": ROOT / "tests" / "mirror"}
 PAGE = (ROOT / "docs" / "LANGUAGE.md").read_text()
 USAGE = "no_words_at_all.txt"
 WITHOUT_TEXT = {"8", "11"}

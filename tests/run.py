@@ -32,7 +32,7 @@ GUIDE = ROOT / "docs" / "GUIDE.md"
 PAGES = [ROOT / "README.md", GUIDE, PAGE]
 # The commands of `ac`. Those of other programs that the pages show are passed over, but for the ones that are built beside it.
 BUILT = ("run", "trace", "check", "code", "audit", "load")
-BESIDE = ("ac_order", "ac_again", "ac_merge")
+BESIDE = ("ac_order", "ac_again", "ac_merge", "ac_mirror")
 PIECE = re.compile(r'(?:(\d+) \* )?"((?:[^"\\]|\\.)*)"')
 ESCAPE = re.compile(r"\\(x[0-9a-f]{2}|.)")
 PLAIN = {"n": "\n", "t": "\t", "r": "\r", "\\": "\\", '"': '"'}
