@@ -1,4 +1,4 @@
--- What the definitions say of small runs, of stamps and of bytes: lines, reports and statuses, the stamp after two others, hexadecimal.
+-- What the definitions say of small runs, of stamps, of bytes and of messages: lines, reports and statuses, the stamp after two others, hexadecimal.
 -- All of it computes but the decimal numbers of a report: the four that occur here have a lemma each, and the texts are rewritten by them.
 use Rattle.std.proofs.Common.{◌≡◌, refl, ℕ, pos, List, true, false, [], ◌∷◌, ◌++◌, map, codes, Some, None, ap, ◌∙◌, arith}
 use Rattle.std.specs.Prelude.{negsuc}
@@ -9,6 +9,7 @@ use Rattle.ac_base.specs.declared.ends.EndWord.{EndWord}
 use Rattle.ac_base.specs.declared.ends.EndWord.TheVariants.{Finished, Trapped, OutOfSteps, Stalled}
 use Rattle.ac_base.specs.declared.ends.MachineEnd.{MachineEnd}
 use Rattle.ac_base.specs.Hexadecimal.{hex_of}
+use Rattle.ac_base.specs.Messages.{ints_eq}
 use Rattle.ac_base.specs.Report.{trap_text, word_text, ending_of, line_of, closed, report_of, is_trapped, is_out_of_steps, is_stalled, any_ends, status_of}
 use Rattle.ac_base.specs.Stamps.{next_stamp, stamp_after}
 
@@ -163,3 +164,14 @@ two_digits_a_byte = refl
 
 pub no_bytes_are_a_dash : hex_of [] ≡ codes "-"
 no_bytes_are_a_dash = refl
+
+-- ---- messages
+
+pub the_same_ints : ints_eq (pos 3 ∷ negsuc 0 ∷ []) (pos 3 ∷ negsuc 0 ∷ []) ≡ true
+the_same_ints = refl
+
+pub in_another_order : ints_eq (pos 3 ∷ pos 4 ∷ []) (pos 4 ∷ pos 3 ∷ []) ≡ false
+in_another_order = refl
+
+pub one_int_fewer : ints_eq (pos 3 ∷ []) (pos 3 ∷ pos 4 ∷ []) ≡ false
+one_int_fewer = refl

@@ -1,5 +1,6 @@
 pub mod formers
 pub mod Hexadecimal
 pub mod Log
+pub mod Messages
 pub mod Report
 pub mod Stamps

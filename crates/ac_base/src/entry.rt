@@ -1,15 +1,13 @@
 //! The events of a run, and a party's journal of them.
 
-ghost use Rattle.std.specs.Prelude.{◌≡◌, ◌+◌, [], ◌∷◌, ◌++◌, ◌<◌, ◌≤◌, length, slice_get, OnOk, IfOk, Some};
+ghost use Rattle.std.specs.Prelude.{◌≡◌, ◌+◌, [], ◌∷◌, ◌++◌, ◌<◌, ◌≤◌, length, slice_get, OnOk, Some};
 
 use crate::draft::Draft;
 use crate::list::Bytes;
 use crate::memory::NoMemory;
+use crate::message::Message;
 use std::alloc::Global;
 use std::marker::Model;
-
-/// What a channel carries.
-pub type Message = i64;
 
 /// What an offer carries: a message of a channel, or a request to the file worker. Places and
 /// lengths are in bytes.
@@ -149,17 +147,5 @@ impl Journal {
         ensures { result.now ≡ self.now.entries }
     {
         self.list.as_slice()
-    }
-
-    /// A journal with the same entries.
-    pub fn copy(&self, alloc: Global) -> Result<Journal, NoMemory>
-        ensures { IfOk result (λ it. it.entries ≡ self.now.entries) }
-    {
-        let mut list = Draft::new(alloc);
-        list.reserve(self.list.len())?;
-        for entry in self.list.as_slice() {
-            list.push(entry.copy(alloc)?);
-        }
-        Ok(Journal { list })
     }
 }

@@ -13,7 +13,7 @@ use Rattle.ac_base.specs.declared.entry.Entry.{Entry}
 use Rattle.ac_base.specs.declared.entry.Stamped.{Stamped}
 use Rattle.ac_links.specs.declared.offer.LinkOffer.{LinkOffer}
 use Rattle.ac_links.specs.declared.payloads.Terms.{Terms}
-use Rattle.ac_links.specs.Payloads.{is_payload, answer_fits, carries, answer_eq}
+use Rattle.ac_links.specs.Payloads.{is_message, is_payload, answer_fits, carries, answer_eq}
 use Rattle.ac_links.specs.Payloads.Taking.{Message, Done}
 use Rattle.ac_links.specs.Link.{front_of, known_lead, link_fits, answered, asked, link_after}
 use Rattle.ac_links.specs.Order.{stamp_of, of_party, is_of_link, in_order, Rises}
@@ -32,8 +32,14 @@ read_four = Read 0 1 4
 abbrev pub write_two : Payload
 write_two = Write 0 2 (7 ∷ 8 ∷ [])
 
-pub a_channel_carries_ints : is_payload false (Int (pos 5)) ≡ true
+pub a_channel_carries_ints : is_payload false (Int (pos 5 ∷ [])) ≡ true
 a_channel_carries_ints = refl
+
+pub of_any_number_of_ints : is_message (Int (pos 5 ∷ negsuc 6 ∷ [])) ≡ true
+of_any_number_of_ints = refl
+
+pub a_read_is_no_message : is_message read_four ≡ false
+a_read_is_no_message = refl
 
 pub and_no_requests : is_payload false read_four ≡ false
 and_no_requests = refl
@@ -73,13 +79,13 @@ no_short_write = refl
 pub a_failed_write : answer_fits (Fault 1) write_two ≡ true
 a_failed_write = refl
 
-pub no_message_is_answered : answer_fits (Count 1) (Int (pos 1)) ≡ false
+pub no_message_is_answered : answer_fits (Count 1) (Int (pos 1 ∷ [])) ≡ false
 no_message_is_answered = refl
 
-pub the_message_that_was_sent : carries (Message (pos 5)) (Int (pos 5)) ≡ true
+pub the_message_that_was_sent : carries (Message (pos 5 ∷ [])) (Int (pos 5 ∷ [])) ≡ true
 the_message_that_was_sent = refl
 
-pub no_other_message : carries (Message (negsuc 4)) (Int (pos 5)) ≡ false
+pub no_other_message : carries (Message (negsuc 4 ∷ [])) (Int (pos 5 ∷ [])) ≡ false
 no_other_message = refl
 
 pub a_count_is_no_fault : answer_eq (Count 1) (Fault 1) ≡ false
@@ -91,13 +97,13 @@ abbrev pub channel : Terms
 channel = record { capacity = 1; requests = false }
 
 abbrev pub offer_five : Event
-offer_five = Offer 0 0 (Int (pos 5))
+offer_five = Offer 0 0 (Int (pos 5 ∷ []))
 
 abbrev pub offered : List LinkOffer
 offered = link_after [] 1 offer_five
 
 abbrev pub got : List LinkOffer
-got = link_after offered 2 (Got 0 0 (pos 5))
+got = link_after offered 2 (Got 0 0 (pos 5 ∷ []))
 
 abbrev pub withdrawn : List LinkOffer
 withdrawn = link_after offered 2 (Withdraw 0 0)
@@ -108,26 +114,26 @@ passed = link_after withdrawn 3 (Pass 0 0)
 pub the_first_offer : link_fits channel [] offer_five ≡ true
 the_first_offer = refl
 
-pub offers_are_numbered_from_nought : link_fits channel [] (Offer 0 1 (Int (pos 5))) ≡ false
+pub offers_are_numbered_from_nought : link_fits channel [] (Offer 0 1 (Int (pos 5 ∷ []))) ≡ false
 offers_are_numbered_from_nought = refl
 
-pub no_room_for_a_second : link_fits channel offered (Offer 0 1 (Int (pos 6))) ≡ false
+pub no_room_for_a_second : link_fits channel offered (Offer 0 1 (Int (pos 6 ∷ []))) ≡ false
 no_room_for_a_second = refl
 
-pub what_was_offered_is_got : link_fits channel offered (Got 0 0 (pos 5)) ≡ true
+pub what_was_offered_is_got : link_fits channel offered (Got 0 0 (pos 5 ∷ [])) ≡ true
 what_was_offered_is_got = refl
 
-pub nothing_else_is_got : link_fits channel offered (Got 0 0 (pos 6)) ≡ false
+pub nothing_else_is_got : link_fits channel offered (Got 0 0 (pos 6 ∷ [])) ≡ false
 nothing_else_is_got = refl
 
-pub it_is_got_once : link_fits channel got (Got 0 0 (pos 5)) ≡ false
+pub it_is_got_once : link_fits channel got (Got 0 0 (pos 5 ∷ [])) ≡ false
 it_is_got_once = refl
 
 -- never both taken and withdrawn
 pub no_withdrawal_after_it_is_got : link_fits channel got (Withdraw 0 0) ≡ false
 no_withdrawal_after_it_is_got = refl
 
-pub none_is_got_after_its_withdrawal : link_fits channel withdrawn (Got 0 0 (pos 5)) ≡ false
+pub none_is_got_after_its_withdrawal : link_fits channel withdrawn (Got 0 0 (pos 5 ∷ [])) ≡ false
 none_is_got_after_its_withdrawal = refl
 
 pub it_is_passed_then : link_fits channel withdrawn (Pass 0 0) ≡ true
@@ -143,23 +149,23 @@ a_taking_is_known = refl
 pub an_offer_is_not_known : link_fits channel offered (Know 0 0) ≡ false
 an_offer_is_not_known = refl
 
-pub no_room_before_it_is_known : link_fits channel got (Offer 0 1 (Int (pos 6))) ≡ false
+pub no_room_before_it_is_known : link_fits channel got (Offer 0 1 (Int (pos 6 ∷ []))) ≡ false
 no_room_before_it_is_known = refl
 
-pub room_once_it_is_known : link_fits channel (link_after got 3 (Know 0 0)) (Offer 0 1 (Int (pos 6))) ≡ true
+pub room_once_it_is_known : link_fits channel (link_after got 3 (Know 0 0)) (Offer 0 1 (Int (pos 6 ∷ []))) ≡ true
 room_once_it_is_known = refl
 
 -- a withdrawn offer keeps its room until it was passed and that is known
-pub a_withdrawn_offer_keeps_its_room : link_fits channel withdrawn (Offer 0 1 (Int (pos 6))) ≡ false
+pub a_withdrawn_offer_keeps_its_room : link_fits channel withdrawn (Offer 0 1 (Int (pos 6 ∷ []))) ≡ false
 a_withdrawn_offer_keeps_its_room = refl
 
-pub also_where_it_was_passed : link_fits channel passed (Offer 0 1 (Int (pos 6))) ≡ false
+pub also_where_it_was_passed : link_fits channel passed (Offer 0 1 (Int (pos 6 ∷ []))) ≡ false
 also_where_it_was_passed = refl
 
 pub no_room_of_one_that_was_not_passed : link_fits channel withdrawn (Room 0 0) ≡ false
 no_room_of_one_that_was_not_passed = refl
 
-pub its_room_comes_back : link_fits channel (link_after passed 4 (Room 0 0)) (Offer 0 1 (Int (pos 6))) ≡ true
+pub its_room_comes_back : link_fits channel (link_after passed 4 (Room 0 0)) (Offer 0 1 (Int (pos 6 ∷ []))) ≡ true
 its_room_comes_back = refl
 
 -- no request is done on a channel
@@ -167,7 +173,7 @@ pub none_is_done : link_fits channel offered (Did 0 0 (Count 1)) ≡ false
 none_is_done = refl
 
 -- what entries answer: the offer, the withdrawal, the taking
-pub a_taking_answers_the_offer : answered offered (Got 0 0 (pos 5)) ≡ 1
+pub a_taking_answers_the_offer : answered offered (Got 0 0 (pos 5 ∷ [])) ≡ 1
 a_taking_answers_the_offer = refl
 
 pub a_passing_answers_the_withdrawal : answered withdrawn (Pass 0 0) ≡ 2
@@ -176,7 +182,7 @@ a_passing_answers_the_withdrawal = refl
 pub what_is_known_answers_the_taking : answered got (Know 0 0) ≡ 2
 what_is_known_answers_the_taking = refl
 
-pub an_offer_answers_none : answered got (Offer 0 1 (Int (pos 6))) ≡ 0
+pub an_offer_answers_none : answered got (Offer 0 1 (Int (pos 6 ∷ []))) ≡ 0
 an_offer_answers_none = refl
 
 pub the_front_is_decided_in_turn : front_of got ∷ front_of offered ∷ front_of withdrawn ∷ front_of passed ∷ [] ≡ 1 ∷ 0 ∷ 0 ∷ 1 ∷ []
@@ -205,7 +211,7 @@ with_an_answer_that_fits = refl
 pub it_is_what_was_asked : asked wanted (Did 1 0 (Count 2)) ≡ Some write_two
 it_is_what_was_asked = refl
 
-pub a_message_asks_for_nothing : asked offered (Got 0 0 (pos 5)) ≡ None
+pub a_message_asks_for_nothing : asked offered (Got 0 0 (pos 5 ∷ [])) ≡ None
 a_message_asks_for_nothing = refl
 
 pub its_answer_comes_back : link_fits asking written (Reply 1 0 (Count 2)) ≡ true
@@ -232,9 +238,9 @@ abbrev pub one_sends : List Entry
 one_sends = at 1 offer_five ∷ at 3 (Know 0 0) ∷ []
 
 abbrev pub one_receives : List Entry
-one_receives = at 2 (Got 0 0 (pos 5)) ∷ []
+one_receives = at 2 (Got 0 0 (pos 5 ∷ [])) ∷ []
 
-pub in_order_of_stamps : in_order stamp_of (of_party 0 one_sends ++ of_party 1 one_receives) ≡ by 0 1 offer_five ∷ by 1 2 (Got 0 0 (pos 5)) ∷ by 0 3 (Know 0 0) ∷ []
+pub in_order_of_stamps : in_order stamp_of (of_party 0 one_sends ++ of_party 1 one_receives) ≡ by 0 1 offer_five ∷ by 1 2 (Got 0 0 (pos 5 ∷ [])) ∷ by 0 3 (Know 0 0) ∷ []
 in_order_of_stamps = refl
 
 -- those of one stamp stay as they stood
@@ -274,10 +280,10 @@ too_low_a_stamp h = let e = h.1.0 in cc
 -- ---- the views of the two sides
 
 abbrev pub sent : OwnerOffer
-sent = record { payload = Int (pos 5); stamp = 1; withdrawn = None; known = Some 2; reply = None }
+sent = record { payload = Int (pos 5 ∷ []); stamp = 1; withdrawn = None; known = Some 2; reply = None }
 
 abbrev pub received : PeerDecision
-received = record { value = Some (Message (pos 5)); stamp = 2; answers = 1 }
+received = record { value = Some (Message (pos 5 ∷ [])); stamp = 2; answers = 1 }
 
 pub the_owner_came_to_its_view : OwnerRuns channel (owner_noted (sent ∷ [])) [] (of_party 0 one_sends) (sent ∷ [])
 the_owner_came_to_its_view = (refl, omega arith, (refl, omega arith, refl))
@@ -290,7 +296,7 @@ pub nothing_to_know : OwnerRuns channel (owner_noted (sent ∷ [])) [] (by 0 1 (
 nothing_to_know r = let e = r.0 in cc
 
 pub the_views_agree : ViewsAgree (sent ∷ []) (received ∷ [])
-the_views_agree = ((omega arith, (Message (pos 5), refl, refl, refl), refl, omega arith, tt), tt)
+the_views_agree = ((omega arith, (Message (pos 5 ∷ []), refl, refl, refl), refl, omega arith, tt), tt)
 
 -- a decision of what was not offered
 pub nothing_to_decide : ViewsAgree [] (received ∷ []) → ⊥
@@ -298,7 +304,7 @@ nothing_to_decide a = a
 
 -- a message that was withdrawn and yet taken
 abbrev pub taken_back : OwnerOffer
-taken_back = record { payload = Int (pos 5); stamp = 1; withdrawn = Some 2; known = None; reply = None }
+taken_back = record { payload = Int (pos 5 ∷ []); stamp = 1; withdrawn = Some 2; known = None; reply = None }
 
 pub withdrawn_and_yet_taken : OfferAgrees taken_back received → ⊥
 withdrawn_and_yet_taken a = let e = a.1.0 in cc
@@ -307,17 +313,17 @@ pub no_decision_is_known_before_it_is_made : ViewsAgree (sent ∷ []) [] → ⊥
 no_decision_is_known_before_it_is_made a = let e = a.0 in cc
 
 -- the views tell what each entry answers
-pub what_the_views_tell : seen_of (sent ∷ []) (received ∷ []) (Got 0 0 (pos 5)) ∷ seen_of (sent ∷ []) (received ∷ []) (Know 0 0) ∷ [] ≡ 1 ∷ 2 ∷ []
+pub what_the_views_tell : seen_of (sent ∷ []) (received ∷ []) (Got 0 0 (pos 5 ∷ [])) ∷ seen_of (sent ∷ []) (received ∷ []) (Know 0 0) ∷ [] ≡ 1 ∷ 2 ∷ []
 what_the_views_tell = refl
 
-pub no_request_on_a_channel : request_of (sent ∷ []) (Got 0 0 (pos 5)) ≡ None
+pub no_request_on_a_channel : request_of (sent ∷ []) (Got 0 0 (pos 5 ∷ [])) ≡ None
 no_request_on_a_channel = refl
 
 pub the_entries_of_the_link : LinkAgrees (seen_of (sent ∷ []) (received ∷ [])) (request_of (sent ∷ [])) channel [] (in_order stamp_of (of_party 0 one_sends ++ of_party 1 one_receives))
 the_entries_of_the_link = ((refl, refl, refl, (refl, refl, refl, (refl, refl, refl, tt))))
 
 -- the peer may not take the second before the first, nor an owner withdraw what it knows to be taken
-pub the_next_is_decided : peer_fits channel [] (Got 0 0 (pos 5)) ∷ peer_fits channel [] (Got 0 1 (pos 5)) ∷ [] ≡ true ∷ false ∷ []
+pub the_next_is_decided : peer_fits channel [] (Got 0 0 (pos 5 ∷ [])) ∷ peer_fits channel [] (Got 0 1 (pos 5 ∷ [])) ∷ [] ≡ true ∷ false ∷ []
 the_next_is_decided = refl
 
 pub what_is_known_stays : owner_fits channel (sent ∷ []) (Withdraw 0 0) ≡ false

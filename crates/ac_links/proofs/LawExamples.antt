@@ -31,16 +31,16 @@ a_message_makes_a_link law =
 -- ---- a second message, which is offered, taken, or withdrawn
 
 abbrev six : OwnerOffer
-six = record { payload = Int (pos 6); stamp = 3; withdrawn = None; known = None; reply = None }
+six = record { payload = Int (pos 6 ∷ []); stamp = 3; withdrawn = None; known = None; reply = None }
 
 abbrev six_received : PeerDecision
-six_received = record { value = Some (Message (pos 6)); stamp = 4; answers = 3 }
+six_received = record { value = Some (Message (pos 6 ∷ [])); stamp = 4; answers = 3 }
 
 pub six_is_offered : OfferKeeps → ViewsAgree (sent ∷ six ∷ []) (received ∷ [])
 six_is_offered law = law (sent ∷ []) (received ∷ []) six refl refl the_views_agree
 
 pub six_is_taken : DecideKeeps → ViewsAgree (sent ∷ six ∷ []) (received ∷ []) → ViewsAgree (sent ∷ six ∷ []) (received ∷ six_received ∷ [])
-six_is_taken law = law (sent ∷ six ∷ []) (received ∷ []) six six_received refl (omega arith, (Message (pos 6), refl, refl, refl), tt, omega arith, tt)
+six_is_taken law = law (sent ∷ six ∷ []) (received ∷ []) six six_received refl (omega arith, (Message (pos 6 ∷ []), refl, refl, refl), tt, omega arith, tt)
 
 pub six_is_withdrawn : WithdrawKeeps → ViewsAgree (sent ∷ six ∷ []) (received ∷ []) → ViewsAgree (sent ∷ record six { withdrawn = Some 4 } ∷ []) (received ∷ [])
 six_is_withdrawn law = law (sent ∷ six ∷ []) (received ∷ []) 1 4 (omega arith)

@@ -265,7 +265,7 @@ module _ (terms : Terms) (fs : List OwnerOffer) (gs : List PeerDecision) (agree 
         within = let w = x.6 in let q = length-append ds (d ∷ []) in omega arith;
       }
 
-  got_step : (l n : ℕ) (v : ℤ) → n ≡ length ds → Before s os fs → BeforeD s (ds ++ record { value = Some (Message v); stamp = s; answers = of } ∷ []) gs
+  got_step : (l n : ℕ) (v : List ℤ) → n ≡ length ds → Before s os fs → BeforeD s (ds ++ record { value = Some (Message v); stamp = s; answers = of } ∷ []) gs
       → Step terms fs gs s os ds (Got l n v) os (ds ++ record { value = Some (Message v); stamp = s; answers = of } ∷ [])
   got_step l n v e b bd = let t = take_step n (Message v) e b bd in record { fit = t.fit; answer = t.answer; asks = refl; next = t.next; short = t.within }
 

@@ -25,7 +25,7 @@ use Rattle.ac_links.proofs.Examples.{first_request, second_request, first_passed
 
 -- ---- payloads and answers
 
-pub a_read_is_a_request : is_request read_four ∷ is_request (Int (pos 5)) ∷ [] ≡ true ∷ false ∷ []
+pub a_read_is_a_request : is_request read_four ∷ is_request (Int (pos 5 ∷ [])) ∷ [] ≡ true ∷ false ∷ []
 a_read_is_a_request = refl
 
 pub a_read_of_two : fits_read 2 (Bytes (1 ∷ [])) ∷ fits_read 2 (Bytes (1 ∷ 2 ∷ 3 ∷ [])) ∷ fits_read 2 (Count 2) ∷ fits_read 2 (Fault 0) ∷ [] ≡ true ∷ false ∷ false ∷ true ∷ []
@@ -34,10 +34,10 @@ a_read_of_two = refl
 pub a_write_of_two : fits_write 2 (Count 2) ∷ fits_write 2 (Bytes []) ∷ fits_write 2 (Fault 2) ∷ fits_write 2 (Fault 3) ∷ [] ≡ true ∷ false ∷ true ∷ false ∷ []
 a_write_of_two = refl
 
-pub an_int_is_its_message : message_fits (pos 5) (Int (pos 5)) ∷ message_fits (pos 5) read_four ∷ [] ≡ true ∷ false ∷ []
+pub an_int_is_its_message : message_fits (pos 5 ∷ []) (Int (pos 5 ∷ [])) ∷ message_fits (pos 5 ∷ []) read_four ∷ [] ≡ true ∷ false ∷ []
 an_int_is_its_message = refl
 
-pub what_is_done_has_an_answer : answer_of (Done (Count 2)) ∷ answer_of (Message (pos 5)) ∷ [] ≡ Some (Count 2) ∷ None ∷ []
+pub what_is_done_has_an_answer : answer_of (Done (Count 2)) ∷ answer_of (Message (pos 5 ∷ [])) ∷ [] ≡ Some (Count 2) ∷ None ∷ []
 what_is_done_has_an_answer = refl
 
 pub the_answer_that_it_has : has_answer (Count 2) (Some (Count 2)) ∷ has_answer (Fault 2) (Some (Count 2)) ∷ has_answer (Count 2) None ∷ [] ≡ true ∷ false ∷ false ∷ []
@@ -46,7 +46,7 @@ the_answer_that_it_has = refl
 -- ---- how an offer stands
 
 abbrev five : LinkOffer
-five = new_offer (Int (pos 5)) 1
+five = new_offer (Int (pos 5 ∷ [])) 1
 
 pub a_new_offer_is_open : offered ≡ five ∷ []
 a_new_offer_is_open = refl
@@ -79,19 +79,19 @@ after_a_passing = refl
 abbrev for_two : Terms
 for_two = record { capacity = 2; requests = false }
 
-pub room_for_two : can_offer channel offered 1 (Int (pos 6)) ∷ can_offer for_two offered 1 (Int (pos 6)) ∷ [] ≡ false ∷ true ∷ []
+pub room_for_two : can_offer channel offered 1 (Int (pos 6 ∷ [])) ∷ can_offer for_two offered 1 (Int (pos 6 ∷ [])) ∷ [] ≡ false ∷ true ∷ []
 room_for_two = refl
 
 abbrev two_offered : List LinkOffer
-two_offered = link_after offered 2 (Offer 0 1 (Int (pos 6)))
+two_offered = link_after offered 2 (Offer 0 1 (Int (pos 6 ∷ [])))
 
 -- the second is not taken before the first
-pub the_first_is_taken_first : can_take two_offered 0 (Message (pos 5)) ∷ can_take two_offered 1 (Message (pos 6)) ∷ [] ≡ true ∷ false ∷ []
+pub the_first_is_taken_first : can_take two_offered 0 (Message (pos 5 ∷ [])) ∷ can_take two_offered 1 (Message (pos 6 ∷ [])) ∷ [] ≡ true ∷ false ∷ []
 the_first_is_taken_first = refl
 
 -- what the ends of a link never make and is a history all the same: a later taking is known before the room of an earlier withdrawal is back
 abbrev passed_and_got : List LinkOffer
-passed_and_got = link_after (link_after (link_after two_offered 3 (Withdraw 0 0)) 4 (Pass 0 0)) 5 (Got 0 1 (pos 6))
+passed_and_got = link_after (link_after (link_after two_offered 3 (Withdraw 0 0)) 4 (Pass 0 0)) 5 (Got 0 1 (pos 6 ∷ []))
 
 pub a_later_one_is_known_first : link_fits channel passed_and_got (Know 0 1) ∷ link_fits channel passed_and_got (Room 0 0) ∷ [] ≡ true ∷ true ∷ []
 a_later_one_is_known_first = refl
@@ -112,10 +112,10 @@ no_reply_with_another_answer = refl
 pub its_stamp_is_that_of_the_taking : standing_stamp (slice_get got 0) ∷ standing_stamp None ∷ [] ≡ 2 ∷ 0 ∷ []
 its_stamp_is_that_of_the_taking = refl
 
-pub its_payload_stays : offered_payload (slice_get got 0) ∷ offered_payload None ∷ [] ≡ Some (Int (pos 5)) ∷ None ∷ []
+pub its_payload_stays : offered_payload (slice_get got 0) ∷ offered_payload None ∷ [] ≡ Some (Int (pos 5 ∷ [])) ∷ None ∷ []
 its_payload_stays = refl
 
-pub a_message_is_taken : now_taken (Message (pos 5)) 2 five ≡ record five { standing = Taken; stamp = 2 }
+pub a_message_is_taken : now_taken (Message (pos 5 ∷ [])) 2 five ≡ record five { standing = Taken; stamp = 2 }
 a_message_is_taken = refl
 
 pub a_request_keeps_its_answer : taken_with (Some (Count 2)) 2 five ≡ record five { standing = Taken; stamp = 2; answer = Some (Count 2) }
@@ -125,7 +125,7 @@ a_request_keeps_its_answer = refl
 pub it_is_known_and_replied : now_known (now_replied five) ≡ record five { known = true; replied = true }
 it_is_known_and_replied = refl
 
-pub the_offer_of_that_number_is_changed : changed two_offered 1 now_known (slice_get two_offered 1) ≡ five ∷ now_known (new_offer (Int (pos 6)) 2) ∷ []
+pub the_offer_of_that_number_is_changed : changed two_offered 1 now_known (slice_get two_offered 1) ≡ five ∷ now_known (new_offer (Int (pos 6 ∷ [])) 2) ∷ []
 the_offer_of_that_number_is_changed = refl
 
 pub none_is_changed_where_there_is_none : changed offered 1 now_known (slice_get offered 1) ≡ offered
@@ -154,15 +154,15 @@ what_the_receiver_noted = refl
 pub when_it_was_done : response_stamp (Some its_response) ∷ reply_stamp (Some second_replied) ∷ reply_stamp (Some second_request) ∷ [] ≡ 4 ∷ 4 ∷ 0 ∷ []
 when_it_was_done = refl
 
-pub what_was_sent : offer_payload (Some sent) ∷ offer_payload None ∷ [] ≡ Some (Int (pos 5)) ∷ None ∷ []
+pub what_was_sent : offer_payload (Some sent) ∷ offer_payload None ∷ [] ≡ Some (Int (pos 5 ∷ [])) ∷ None ∷ []
 what_was_sent = refl
 
 -- ---- the views of the two sides
 
-pub a_message_fits_its_offer : DecisionFits (Int (pos 5)) 1 received None
-a_message_fits_its_offer = (Message (pos 5), refl, refl, refl)
+pub a_message_fits_its_offer : DecisionFits (Int (pos 5 ∷ [])) 1 received None
+a_message_fits_its_offer = (Message (pos 5 ∷ []), refl, refl, refl)
 
-pub none_fits_a_withdrawal : DecisionFits (Int (pos 5)) 1 received (Some 2) → ⊥
+pub none_fits_a_withdrawal : DecisionFits (Int (pos 5 ∷ [])) 1 received (Some 2) → ⊥
 none_fits_a_withdrawal d = let e = d.0 in cc
 
 pub its_reply : IsReplyTo second_done its_response
@@ -171,13 +171,13 @@ its_reply = (refl, refl)
 pub no_reply_to_a_passing : IsReplyTo first_passed its_response → ⊥
 no_reply_to_a_passing r = let e = r.0 in cc
 
-pub the_offer_of_the_sender : owner_after [] 1 0 offer_five ≡ owner_offer (Int (pos 5)) 1 ∷ []
+pub the_offer_of_the_sender : owner_after [] 1 0 offer_five ≡ owner_offer (Int (pos 5 ∷ [])) 1 ∷ []
 the_offer_of_the_sender = refl
 
-pub it_knows_of_the_taking : known_at 2 (owner_offer (Int (pos 5)) 1) ≡ sent
+pub it_knows_of_the_taking : known_at 2 (owner_offer (Int (pos 5 ∷ [])) 1) ≡ sent
 it_knows_of_the_taking = refl
 
-pub it_has_withdrawn_it : withdrawn_at 2 (owner_offer (Int (pos 5)) 1) ≡ taken_back
+pub it_has_withdrawn_it : withdrawn_at 2 (owner_offer (Int (pos 5 ∷ [])) 1) ≡ taken_back
 it_has_withdrawn_it = refl
 
 pub it_has_the_reply : replied_with (Count 2) 4 second_request ≡ second_replied
@@ -189,7 +189,7 @@ one_of_the_list_is_altered = refl
 pub none_behind_the_list_is_altered : altered (first_request ∷ []) 1 (replied_with (Count 2) 4) ≡ first_request ∷ []
 none_behind_the_list_is_altered = refl
 
-pub the_decision_of_the_receiver : decision_of 2 1 (Got 0 0 (pos 5)) ≡ received
+pub the_decision_of_the_receiver : decision_of 2 1 (Got 0 0 (pos 5 ∷ [])) ≡ received
 the_decision_of_the_receiver = refl
 
 pub one_is_known_before_the_next : owner_lead (sent ∷ not_known ∷ sent ∷ []) ≡ 1
@@ -209,10 +209,10 @@ what_may_have_a_reply = refl
 pub what_is_done_is_answered : response_of second_done ∷ response_of first_passed ∷ [] ≡ (its_response ∷ []) ∷ [] ∷ []
 what_is_done_is_answered = refl
 
-pub a_message_is_not_answered : response_at 2 (Some (Message (pos 5))) ≡ []
+pub a_message_is_not_answered : response_at 2 (Some (Message (pos 5 ∷ []))) ≡ []
 a_message_is_not_answered = refl
 
-pub a_message_is_neither_done_nor_passed : is_done_or_passed (Some (Message (pos 5))) ∷ is_done_or_passed (Some (Done (Count 2))) ∷ is_done_or_passed None ∷ [] ≡ false ∷ true ∷ true ∷ []
+pub a_message_is_neither_done_nor_passed : is_done_or_passed (Some (Message (pos 5 ∷ []))) ∷ is_done_or_passed (Some (Done (Count 2))) ∷ is_done_or_passed None ∷ [] ≡ false ∷ true ∷ true ∷ []
 a_message_is_neither_done_nor_passed = refl
 
 pub the_reply_that_was_had : reply_had (Some its_response) ∷ reply_had None ∷ [] ≡ (its_response ∷ []) ∷ [] ∷ []
@@ -233,10 +233,10 @@ each_end_takes_its_own = refl
 pub the_owner_goes_on : end_after (Owns (not_known ∷ [])) 3 2 (Know 0 0) ≡ Owns (sent ∷ [])
 the_owner_goes_on = refl
 
-pub the_peer_goes_on : end_after (Decides []) 2 1 (Got 0 0 (pos 5)) ≡ Decides (received ∷ [])
+pub the_peer_goes_on : end_after (Decides []) 2 1 (Got 0 0 (pos 5 ∷ [])) ≡ Decides (received ∷ [])
 the_peer_goes_on = refl
 
-pub what_each_end_noted : end_noted (Owns (sent ∷ [])) (Know 0 0) ∷ end_noted (Decides (received ∷ [])) (Got 0 0 (pos 5)) ∷ end_noted Absent (Know 0 0) ∷ [] ≡ 2 ∷ 1 ∷ 0 ∷ []
+pub what_each_end_noted : end_noted (Owns (sent ∷ [])) (Know 0 0) ∷ end_noted (Decides (received ∷ [])) (Got 0 0 (pos 5 ∷ [])) ∷ end_noted Absent (Know 0 0) ∷ [] ≡ 2 ∷ 1 ∷ 0 ∷ []
 what_each_end_noted = refl
 
 pub what_the_party_noted : party_noted (its_ends sent) (Know 0 0) ∷ party_noted (its_ends sent) (Know 1 0) ∷ [] ≡ 2 ∷ 0 ∷ []
@@ -246,8 +246,8 @@ pub an_absent_end_has_no_entries : EndRuns channel Absent (by 0 1 offer_five ∷
 an_absent_end_has_no_entries e = cc
 
 -- what was not offered is not got, and the second is not decided first
-pub nothing_is_got_before : LinkAgrees (seen_of (sent ∷ []) (received ∷ [])) (request_of (sent ∷ [])) channel [] (by 1 2 (Got 0 0 (pos 5)) ∷ []) → ⊥
+pub nothing_is_got_before : LinkAgrees (seen_of (sent ∷ []) (received ∷ [])) (request_of (sent ∷ [])) channel [] (by 1 2 (Got 0 0 (pos 5 ∷ [])) ∷ []) → ⊥
 nothing_is_got_before a = let e = a.0 in cc
 
-pub no_second_is_got_first : PeerRuns channel (peer_noted (received ∷ [])) [] (by 1 2 (Got 0 1 (pos 5)) ∷ []) (received ∷ []) → ⊥
+pub no_second_is_got_first : PeerRuns channel (peer_noted (received ∷ [])) [] (by 1 2 (Got 0 1 (pos 5 ∷ [])) ∷ []) (received ∷ []) → ⊥
 no_second_is_got_first r = let e = r.0 in cc

@@ -1,6 +1,6 @@
 -- What two views make of a small link, and when nothing on it waits for one of its sides.
 -- Those that hold do so by computing.
-use Rattle.std.proofs.Common.{◌≡◌, refl, List, [], ◌∷◌, ◌++◌, Some, None, true, false, arith}
+use Rattle.std.proofs.Common.{◌≡◌, refl, [], ◌∷◌, ◌++◌, Some, None, true, false, arith}
 use Rattle.std.specs.Prelude.{pos}
 use Rattle.ac_base.specs.declared.entry.Payload.TheVariants.{Int}
 use Rattle.ac_base.specs.declared.entry.Answer.TheVariants.{Count}
@@ -26,13 +26,13 @@ as_its_owner_left_it = refl
 pub when_its_owner_left_it : undecided_stamp 1 None ∷ undecided_stamp 1 (Some 2) ∷ [] ≡ 1 ∷ 2 ∷ []
 when_its_owner_left_it = refl
 
-pub as_its_peer_decided_it : decided_standing None ∷ decided_standing (Some (Message (pos 5))) ∷ [] ≡ Passed ∷ Taken ∷ []
+pub as_its_peer_decided_it : decided_standing None ∷ decided_standing (Some (Message (pos 5 ∷ []))) ∷ [] ≡ Passed ∷ Taken ∷ []
 as_its_peer_decided_it = refl
 
-pub only_a_request_is_answered : decided_answer (Some (Done (Count 2))) ∷ decided_answer (Some (Message (pos 5))) ∷ decided_answer None ∷ [] ≡ Some (Count 2) ∷ None ∷ None ∷ []
+pub only_a_request_is_answered : decided_answer (Some (Done (Count 2))) ∷ decided_answer (Some (Message (pos 5 ∷ []))) ∷ decided_answer None ∷ [] ≡ Some (Count 2) ∷ None ∷ None ∷ []
 only_a_request_is_answered = refl
 
-pub one_that_is_not_decided : link_offer_of not_known None ≡ new_offer (Int (pos 5)) 1
+pub one_that_is_not_decided : link_offer_of not_known None ≡ new_offer (Int (pos 5 ∷ [])) 1
 one_that_is_not_decided = refl
 
 pub offered_alone : combine (not_known ∷ []) [] ≡ offered
@@ -59,9 +59,9 @@ pub room_by_what_is_known : has_room channel [] ∷ has_room channel got ∷ has
 room_by_what_is_known = refl
 
 abbrev taken_five : LinkOffer
-taken_five = now_taken (Message (pos 5)) 2 (new_offer (Int (pos 5)) 1)
+taken_five = now_taken (Message (pos 5 ∷ [])) 2 (new_offer (Int (pos 5 ∷ [])) 1)
 
-pub news_until_it_is_known : is_news (new_offer (Int (pos 5)) 1) ∷ is_news taken_five ∷ is_news (now_known taken_five) ∷ [] ≡ false ∷ true ∷ false ∷ []
+pub news_until_it_is_known : is_news (new_offer (Int (pos 5 ∷ [])) 1) ∷ is_news taken_five ∷ is_news (now_known taken_five) ∷ [] ≡ false ∷ true ∷ false ∷ []
 news_until_it_is_known = refl
 
 abbrev done_write : LinkOffer

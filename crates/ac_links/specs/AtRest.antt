@@ -1,5 +1,5 @@
 -- When nothing on a link waits for one of its sides: as the link stands, and as the two views tell.
-use Rattle.std.specs.Prelude.{◌≡◌, ℕ, ◌-◌, ◌≤◌, List, [], length, Bool, true, false, not, ◌&&◌, nat_lt, is_some}
+use Rattle.std.specs.Prelude.{◌≡◌, ◌-◌, ◌≤◌, List, [], length, Bool, true, false, not, ◌&&◌, nat_lt, is_some}
 use Rattle.std.specs.List.{AllByRecursion}
 use Rattle.ac_links.specs.declared.offer.LinkOffer.{LinkOffer}
 use Rattle.ac_links.specs.declared.payloads.Terms.{Terms}

@@ -1,15 +1,16 @@
 -- What offers carry, what is taken, and the answers to requests.
-use Rattle.std.specs.Prelude.{ℕ, length, Option, Bool, true, ◌==◌, Some, None, false, ◌&&◌, nat_lt, if◌then◌else◌, ◌+◌, bytes_eq, nat_le, ℤ}
-use Rattle.std.specs.Ordering.{int_eq}
+use Rattle.std.specs.Prelude.{ℕ, length, Option, Bool, true, ◌==◌, Some, None, false}
+use Rattle.std.specs.Prelude.{◌&&◌, nat_lt, if◌then◌else◌, ◌+◌, bytes_eq, nat_le, ℤ, List}
+use Rattle.ac_base.specs.Messages.{ints_eq}
 use Rattle.ac_base.specs.declared.entry.Payload.{Payload}
 use Rattle.ac_base.specs.declared.entry.Answer.{Answer}
 use Rattle.ac_base.specs.declared.entry.Payload.TheVariants.{Int, Read, Write}
 use Rattle.ac_base.specs.declared.entry.Answer.TheVariants.{Bytes, Count, Fault}
 
-abbrev pub is_int : Payload → Bool
-is_int (Int v) = true
-is_int (Read f a n) = false
-is_int (Write f a b) = false
+abbrev pub is_message : Payload → Bool
+is_message (Int v) = true
+is_message (Read f a n) = false
+is_message (Write f a b) = false
 
 -- a read or a write that a program may ask for
 abbrev pub is_request : Payload → Bool
@@ -17,13 +18,13 @@ is_request (Int v) = false
 is_request (Read f a n) = nat_lt f 16 && nat_le n 256 && nat_le (a + n) 1048576
 is_request (Write f a b) = nat_lt f 16 && nat_le (length b) 256 && nat_le (a + length b) 1048576
 
--- a channel carries ints, and the other links requests
+-- a channel carries messages, and the other links requests
 abbrev pub is_payload : Bool → Payload → Bool
-is_payload requests payload = if requests then is_request payload else is_int payload
+is_payload requests payload = if requests then is_request payload else is_message payload
 
 -- what the peer took: a message of a channel, or a request that it has done, with the answer
 pub data Taking : Type 0 where
-  Message : (value : ℤ) → Taking
+  Message : (value : List ℤ) → Taking
   Done : (answer : Answer) → Taking
 
 -- an answer to a read of this length
@@ -43,8 +44,8 @@ answer_fits answer (Int v) = false
 answer_fits answer (Read f a n) = fits_read n answer
 answer_fits answer (Write f a b) = fits_write (length b) answer
 
-abbrev pub message_fits : ℤ → Payload → Bool
-message_fits value (Int v) = int_eq v value
+abbrev pub message_fits : List ℤ → Payload → Bool
+message_fits value (Int v) = ints_eq v value
 message_fits value (Read f a n) = false
 message_fits value (Write f a b) = false
 

@@ -3,7 +3,7 @@
 ghost use Rattle.std.specs.Prelude.{◌≡◌, ◌≤◌, ◌||◌, length, IfOk, OnErr, slice_get, Some, None, MatchOption, [], false, min};
 ghost use Rattle.std.specs.List.{list_any};
 ghost use Rattle.ac_links.specs.AtRest.{has_front, has_room, is_news, is_unreplied};
-ghost use Rattle.ac_links.specs.Payloads.Taking.{Message, Done};
+ghost use Rattle.ac_links.specs.Payloads.Taking.{Message as Carries, Done};
 ghost use Rattle.ac_links.specs.Link.{front_of, known_lead, can_offer, can_take, can_know, can_withdraw, can_pass, can_free, can_reply};
 ghost use Rattle.ac_links.specs.Link.{link_fits, answered, standing_stamp, offered_payload, link_after, number_of};
 ghost use Rattle.ac_links.specs.inner.Counting.{gives_standing, is_learned};
@@ -242,8 +242,8 @@ impl Link {
             && is_payload(terms.requests, payload)
     }
 
-    fn can_take(&self, number: u64, value: Message) -> bool
-        ensures { result ≡ can_take self.now number (Message value) }
+    fn can_take(&self, number: u64, value: &Message) -> bool
+        ensures { result ≡ can_take self.now number (Carries value.now) }
     {
         if number != self.front as u64 {
             return false;
@@ -324,7 +324,7 @@ impl Link {
                 payload,
                 ..
             } => self.can_offer(terms, *number, payload),
-            Event::Got { number, value, .. } => self.can_take(*number, *value),
+            Event::Got { number, value, .. } => self.can_take(*number, value),
             Event::Know { number, .. } => self.can_know(*number),
             Event::Withdraw { number, .. } => self.can_withdraw(*number),
             Event::Pass { number, .. } => self.can_pass(*number),

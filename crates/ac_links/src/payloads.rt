@@ -1,7 +1,7 @@
 //! What a link carries, and the answers to requests.
 
 ghost use Rattle.std.specs.Prelude.{◌≡◌, ◌+◌, ◌&&◌, nat_lt, nat_le};
-ghost use Rattle.ac_links.specs.Payloads.{is_int, is_request, is_payload, fits_read, fits_write, answer_fits, message_fits};
+ghost use Rattle.ac_links.specs.Payloads.{is_message, is_request, is_payload, fits_read, fits_write, answer_fits, message_fits};
 ghost use Rattle.ac_links.specs.Payloads.{answer_eq, has_answer};
 
 use ac_base::{Answer, Message, Payload};
@@ -13,8 +13,8 @@ pub struct Terms {
     pub requests: bool,
 }
 
-fn is_int(payload: &Payload) -> bool
-    ensures { result ≡ is_int payload.now }
+fn is_message(payload: &Payload) -> bool
+    ensures { result ≡ is_message payload.now }
 {
     matches!(payload, Payload::Int(_))
 }
@@ -42,15 +42,15 @@ pub fn is_payload(requests: bool, payload: &Payload) -> bool
     if requests {
         is_request(payload)
     } else {
-        is_int(payload)
+        is_message(payload)
     }
 }
 
-pub fn message_fits(payload: &Payload, value: Message) -> bool
-    ensures { result ≡ message_fits value payload.now }
+pub fn message_fits(payload: &Payload, value: &Message) -> bool
+    ensures { result ≡ message_fits value.now payload.now }
 {
     match payload {
-        Payload::Int(it) => *it == value,
+        Payload::Int(it) => it.equals(value),
         _ => false,
     }
 }

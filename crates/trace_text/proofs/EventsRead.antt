@@ -1,8 +1,8 @@
 -- An event is read as it is written: each of its parts, with what follows it, is read back and leaves just what follows. Where a number
 -- ends is seen from what comes next, so each part is shown to begin with no digit.
-use Rattle.std.proofs.Common.{◌≡◌, ℕ, ◌<◌, ◌≤◌, ◌^◌, List, [], ◌++◌, Some, codes, refl, sym, ap, ◌∙◌, append-nil, append_assoc, arith, false}
+use Rattle.std.proofs.Common.{◌≡◌, ℕ, ◌<◌, ◌≤◌, ◌^◌, List, [], ◌++◌, Some, None, codes, refl, sym, ap, ◌∙◌, append-nil, append_assoc, arith, false}
 use Rattle.std.specs.Prelude.{ℤ}
-use Rattle.std.specs.Fmt.{decimal, signed_decimal}
+use Rattle.std.specs.Fmt.{decimal}
 use Rattle.ac_base.specs.declared.entry.Payload.{Payload}
 use Rattle.ac_base.specs.declared.entry.Payload.TheVariants as p
 use Rattle.ac_base.specs.declared.entry.Answer.{Answer}
@@ -10,12 +10,16 @@ use Rattle.ac_base.specs.declared.entry.Answer.TheVariants as a
 use Rattle.ac_base.specs.declared.entry.Event.{Event}
 use Rattle.ac_base.specs.declared.entry.Event.TheVariants as e
 use Rattle.ac_base.specs.Hexadecimal.{hex_of}
-use Rattle.trace_text.specs.Text.{spaced, offer_name, payload_text, answer_text, event_text}
-use Rattle.trace_text.specs.Spelling.{IsValue, IsOffer, IsPayload, IsAnswer, IsEvent}
-use Rattle.trace_text.specs.inner.Reading.{is_digit, starts, number_at, spaced_at, value_at, most_small, most_large, offer_at, range_at, payload_at}
+use Rattle.trace_text.specs.declared.version.Version.{Version}
+use Rattle.trace_text.specs.declared.version.Version.TheVariants.{First, Second}
+use Rattle.trace_text.specs.Versions.{is_wide_payload, is_wide_event}
+use Rattle.trace_text.specs.Text.{spaced, offer_name, offered_word, got_word, message_text, payload_text, answer_text, event_text}
+use Rattle.trace_text.specs.Spelling.{IsOffer, IsPayload, IsAnswer, IsEvent}
+use Rattle.trace_text.specs.inner.Reading.{is_digit, starts, word_at, number_at, spaced_at, most_small, most_large, offer_at, range_at, payload_at}
 use Rattle.trace_text.specs.inner.Reading.{answer_at, bare_offer_at, taking_at, event_at}
+use Rattle.trace_text.proofs.Words.{word_is}
 use Rattle.trace_text.proofs.Numbers.{number_is}
-use Rattle.trace_text.proofs.Values.{value_is}
+use Rattle.trace_text.proofs.Ints.{Allows, message_is, ints_start}
 use Rattle.trace_text.proofs.Bytes.{bytes_are}
 
 -- ---- numbers
@@ -34,9 +38,6 @@ small_end n h = ap (number_at most_small) (sym (append-nil (decimal n))) ∙ sma
 spaced_end : (most n : ℕ) → n ≤ most → n < 2 ^ 64 → spaced_at most (spaced n) ≡ Some (n, [])
 spaced_end most n le lt = ap (number_at most) (sym (append-nil (decimal n))) ∙ number_is most n [] le lt refl
 
-value_end : (v : ℤ) → IsValue v → value_at (signed_decimal v) ≡ Some (v, [])
-value_end v h = ap value_at (sym (append-nil (signed_decimal v))) ∙ value_is v [] h refl
-
 -- ---- the number of a link and that of an offer
 
 offer_is : (link number : ℕ) (rest : List ℕ) → IsOffer link number → starts is_digit rest ≡ false → offer_at (offer_name link number ++ rest) ≡ Some ((link, number), rest)
@@ -53,11 +54,31 @@ range_is file from rest h g s = rw (small_is file (spaced from ++ rest) h refl, 
 
 -- ---- payloads and answers
 
-pub payload_is : (payload : Payload) → IsPayload payload → payload_at (payload_text payload) ≡ Some payload
+-- a request does not begin as a message does
+no_read : (version : Version) (rest : List ℕ) → word_at (offered_word version) (codes " read " ++ rest) ≡ None
+no_read First rest = refl
+no_read Second rest = refl
+
+no_write : (version : Version) (rest : List ℕ) → word_at (offered_word version) (codes " write " ++ rest) ≡ None
+no_write First rest = refl
+no_write Second rest = refl
+
+pub payload_is : (version : Version) (payload : Payload) → IsPayload payload → Allows version (is_wide_payload payload)
+    → payload_at version (payload_text version payload) ≡ Some payload
 unfolding payload_at
-payload_is (p.Int value) h = rw (value_end value h) refl
-payload_is (p.Read file from len) h = rw (range_is file from (spaced len) h.0 h.1.0 refl, spaced_end most_small len (omega (arith, h.1.1)) (omega (arith, h.1.1))) refl
-payload_is (p.Write file from bytes) h = rw (range_is file from (codes " " ++ hex_of bytes) h.0 h.1.0 refl, bytes_are bytes h.1.1) refl
+payload_is version (p.Int message) h allows = rw (word_is (offered_word version) (message_text version message), message_is version message h allows) refl
+payload_is version (p.Read file from len) h allows = rw (
+  no_read version (decimal file ++ (spaced from ++ spaced len)),
+  range_is file from (spaced len) h.0 h.1.0 refl,
+  spaced_end most_small len
+      (omega (arith, h.1.1)) (omega (arith, h.1.1)),
+) refl
+payload_is version (p.Write file from bytes) h allows = rw (
+  no_write version (decimal file ++ (spaced from ++ (codes " " ++ hex_of bytes))),
+  range_is file from
+      (codes " " ++ hex_of bytes) h.0 h.1.0 refl,
+  bytes_are bytes h.1.1,
+) refl
 
 pub answer_is : (answer : Answer) → IsAnswer answer → answer_at (answer_text answer) ≡ Some answer
 unfolding answer_at
@@ -66,25 +87,37 @@ answer_is (a.Count count) h = rw (small_end count h) refl
 answer_is (a.Fault count) h = rw (small_end count h) refl
 
 -- a payload and an answer begin with a blank
-payload_starts : (payload : Payload) → starts is_digit (payload_text payload) ≡ false
-payload_starts (p.Int value) = refl
-payload_starts (p.Read file from len) = refl
-payload_starts (p.Write file from bytes) = refl
+payload_starts : (version : Version) (payload : Payload) → starts is_digit (payload_text version payload) ≡ false
+payload_starts First (p.Int message) = refl
+payload_starts Second (p.Int message) = refl
+payload_starts version (p.Read file from len) = refl
+payload_starts version (p.Write file from bytes) = refl
 
 answer_starts : (answer : Answer) → starts is_digit (answer_text answer) ≡ false
 answer_starts (a.Bytes bytes) = refl
 answer_starts (a.Count count) = refl
 answer_starts (a.Fault count) = refl
 
+-- and so does a message that was got
+got_starts : (version : Version) (message : List ℤ) → starts is_digit (got_word version ++ message_text version message) ≡ false
+got_starts First message = ints_start message
+got_starts Second message = refl
+
 -- ---- events
 
-pub event_is : (event : Event) → IsEvent event → event_at (event_text event) ≡ Some event
+pub event_is : (version : Version) (event : Event) → IsEvent event → Allows version (is_wide_event event) → event_at version (event_text version event) ≡ Some event
 unfolding event_at taking_at
-event_is (e.Offer link number payload) h = rw (offer_is link number (payload_text payload) h.0 (payload_starts payload), payload_is payload h.1) refl
-event_is (e.Withdraw link number) h = rw (offer_end link number h) refl
-event_is (e.Know link number) h = rw (offer_end link number h) refl
-event_is (e.Room link number) h = rw (offer_end link number h) refl
-event_is (e.Got link number value) h = rw (offer_is link number (codes " " ++ signed_decimal value) h.0 refl, value_end value h.1) refl
-event_is (e.Pass link number) h = rw (offer_end link number h) refl
-event_is (e.Did link number answer) h = rw (offer_is link number (answer_text answer) h.0 (answer_starts answer), answer_is answer h.1) refl
-event_is (e.Reply link number answer) h = rw (offer_is link number (answer_text answer) h.0 (answer_starts answer), answer_is answer h.1) refl
+event_is version (e.Offer link number payload) h allows =
+    rw (offer_is link number (payload_text version payload) h.0 (payload_starts version payload), payload_is version payload h.1 allows) refl
+event_is version (e.Withdraw link number) h allows = rw (offer_end link number h) refl
+event_is version (e.Know link number) h allows = rw (offer_end link number h) refl
+event_is version (e.Room link number) h allows = rw (offer_end link number h) refl
+event_is version (e.Got link number message) h allows =
+    rw (
+      offer_is link number (got_word version ++ message_text version message) h.0 (got_starts version message),
+      word_is (got_word version) (message_text version message),
+      message_is version message h.1 allows,
+    ) refl
+event_is version (e.Pass link number) h allows = rw (offer_end link number h) refl
+event_is version (e.Did link number answer) h allows = rw (offer_is link number (answer_text answer) h.0 (answer_starts answer), answer_is answer h.1) refl
+event_is version (e.Reply link number answer) h allows = rw (offer_is link number (answer_text answer) h.0 (answer_starts answer), answer_is answer h.1) refl

@@ -17,10 +17,13 @@ use Rattle.ac_base.specs.declared.entry.Event.TheVariants as e
 use Rattle.ac_base.specs.declared.entry.Stamped.{Stamped}
 use Rattle.ac_base.specs.Hexadecimal.{hex_digit, hex_digits, hex_of}
 use Rattle.ac_base.specs.Report.{word_text}
+use Rattle.trace_text.specs.declared.version.Version.{Version}
+use Rattle.trace_text.specs.declared.version.Version.TheVariants.{First, Second}
 use Rattle.trace_text.specs.declared.trace.Trace.{Trace}
 use Rattle.trace_text.specs.declared.trace.TraceEnd.{TraceEnd}
-use Rattle.trace_text.specs.Text.{spaced, offer_name, payload_text, answer_text, event_text, file_line, entry_line, end_line, file_lines, entry_lines, end_lines, trace_lines, title, steps_line}
-use Rattle.trace_text.specs.Spelling.{IsValue, IsPayload, IsAnswer, IsOffer, IsEvent, IsEntry, IsEnd, IsTrace}
+use Rattle.trace_text.specs.Text.{spaced, offer_name, ints_text, message_text, offered_word, got_word, payload_text, answer_text, event_text, file_line, entry_line, end_line}
+use Rattle.trace_text.specs.Text.{file_lines, entry_lines, end_lines, trace_lines, title, steps_line}
+use Rattle.trace_text.specs.Spelling.{IsValue, IsMessage, IsPayload, IsAnswer, IsOffer, IsEvent, IsEntry, IsEnd, IsTrace}
 use Rattle.trace_text.specs.inner.Reading.{is_feed}
 use Rattle.trace_text.proofs.Numbers.{AreDigits, decimal_digits}
 use Rattle.trace_text.proofs.TextLines.{IsLine, AreLines}
@@ -87,13 +90,30 @@ small n h = omega (arith, h)
 offer_line : (link number : ℕ) → IsOffer link number → IsLine (offer_name link number)
 offer_line link number h = join (decimal link) (spaced number) (number_line link (small link h.0)) (spaced_line number h.1)
 
-payload_line : (payload : Payload) → IsPayload payload → IsLine (payload_text payload)
-payload_line (p.Int value) h = join (codes " int ") (signed_decimal value) (word_line (codes " int ") refl) (value_line value h)
-payload_line (p.Read file from len) h =
+ints_line : (ints : List ℤ) → All IsValue ints → IsLine (ints_text ints)
+ints_line [] h = tt
+ints_line (v ∷ ints) h = (refl, join (signed_decimal v) (ints_text ints) (value_line v (All-head IsValue v ints h)) (ints_line ints (All-tail IsValue v ints h)))
+
+message_line : (version : Version) (message : List ℤ) → IsMessage message → IsLine (message_text version message)
+message_line First message h = ints_line message h.0
+message_line Second message h =
+    join (spaced (length message)) (ints_text message) (spaced_line (length message) (omega (arith, h.1.1))) (ints_line message h.0)
+
+offered_line : (version : Version) → IsLine (offered_word version)
+offered_line First = word_line (codes " int") refl
+offered_line Second = word_line (codes " ints") refl
+
+got_line : (version : Version) → IsLine (got_word version)
+got_line First = tt
+got_line Second = word_line (codes " ints") refl
+
+payload_line : (version : Version) (payload : Payload) → IsPayload payload → IsLine (payload_text version payload)
+payload_line version (p.Int message) h = join (offered_word version) (message_text version message) (offered_line version) (message_line version message h)
+payload_line version (p.Read file from len) h =
     join (codes " read ") (decimal file ++ (spaced from ++ spaced len)) (word_line (codes " read ") refl)
     (join (decimal file) (spaced from ++ spaced len) (number_line file (small file h.0))
     (join (spaced from) (spaced len) (spaced_line from (small from h.1.0)) (spaced_line len (small len h.1.1))))
-payload_line (p.Write file from bytes) h =
+payload_line version (p.Write file from bytes) h =
     join (codes " write ") (decimal file ++ (spaced from ++ (codes " " ++ hex_of bytes))) (word_line (codes " write ") refl)
     (join (decimal file) (spaced from ++ (codes " " ++ hex_of bytes)) (number_line file (small file h.0))
     (join (spaced from) (codes " " ++ hex_of bytes) (spaced_line from (small from h.1.0)) (blank_bytes bytes)))
@@ -107,21 +127,22 @@ answer_line (a.Fault count) h = join (codes " fault ") (decimal count) (word_lin
 bare_line : (word : List ℕ) (link number : ℕ) → has_none word ≡ true → IsOffer link number → IsLine (word ++ offer_name link number)
 bare_line word link number w h = join word (offer_name link number) (word_line word w) (offer_line link number h)
 
-event_line : (event : Event) → IsEvent event → IsLine (event_text event)
-event_line (e.Offer link number payload) h =
-    join (codes " offer ") (offer_name link number ++ payload_text payload) (word_line (codes " offer ") refl)
-    (join (offer_name link number) (payload_text payload) (offer_line link number h.0) (payload_line payload h.1))
-event_line (e.Withdraw link number) h = bare_line (codes " withdraw ") link number refl h
-event_line (e.Know link number) h = bare_line (codes " know ") link number refl h
-event_line (e.Room link number) h = bare_line (codes " room ") link number refl h
-event_line (e.Got link number value) h =
-    join (codes " got ") (offer_name link number ++ (codes " " ++ signed_decimal value)) (word_line (codes " got ") refl)
-    (join (offer_name link number) (codes " " ++ signed_decimal value) (offer_line link number h.0) (refl, value_line value h.1))
-event_line (e.Pass link number) h = bare_line (codes " pass ") link number refl h
-event_line (e.Did link number answer) h =
+event_line : (version : Version) (event : Event) → IsEvent event → IsLine (event_text version event)
+event_line version (e.Offer link number payload) h =
+    join (codes " offer ") (offer_name link number ++ payload_text version payload) (word_line (codes " offer ") refl)
+    (join (offer_name link number) (payload_text version payload) (offer_line link number h.0) (payload_line version payload h.1))
+event_line version (e.Withdraw link number) h = bare_line (codes " withdraw ") link number refl h
+event_line version (e.Know link number) h = bare_line (codes " know ") link number refl h
+event_line version (e.Room link number) h = bare_line (codes " room ") link number refl h
+event_line version (e.Got link number message) h =
+    join (codes " got ") (offer_name link number ++ (got_word version ++ message_text version message)) (word_line (codes " got ") refl)
+    (join (offer_name link number) (got_word version ++ message_text version message) (offer_line link number h.0)
+    (join (got_word version) (message_text version message) (got_line version) (message_line version message h.1)))
+event_line version (e.Pass link number) h = bare_line (codes " pass ") link number refl h
+event_line version (e.Did link number answer) h =
     join (codes " did ") (offer_name link number ++ answer_text answer) (word_line (codes " did ") refl)
     (join (offer_name link number) (answer_text answer) (offer_line link number h.0) (answer_line answer h.1))
-event_line (e.Reply link number answer) h =
+event_line version (e.Reply link number answer) h =
     join (codes " reply ") (offer_name link number ++ answer_text answer) (word_line (codes " reply ") refl)
     (join (offer_name link number) (answer_text answer) (offer_line link number h.0) (answer_line answer h.1))
 
@@ -135,11 +156,11 @@ file_is_line k bytes lt =
     join (codes "file ") (decimal k ++ (codes " " ++ hex_of bytes)) (word_line (codes "file ") refl)
     (join (decimal k) (codes " " ++ hex_of bytes) (number_line k (small k lt)) (blank_bytes bytes))
 
-entry_is_line : (s : Stamped) → IsEntry s → IsLine (entry_line s)
-entry_is_line s h =
-    join (decimal s.entry.stamp) (spaced s.party ++ (spaced s.entry.turn ++ event_text s.entry.event)) (number_line s.entry.stamp (omega (arith, h.stamp_most)))
-    (join (spaced s.party) (spaced s.entry.turn ++ event_text s.entry.event) (spaced_line s.party (small s.party h.party))
-    (join (spaced s.entry.turn) (event_text s.entry.event) (spaced_line s.entry.turn h.turn) (event_line s.entry.event h.event)))
+entry_is_line : (version : Version) (s : Stamped) → IsEntry s → IsLine (entry_line version s)
+entry_is_line version s h =
+    join (decimal s.entry.stamp) (spaced s.party ++ (spaced s.entry.turn ++ event_text version s.entry.event)) (number_line s.entry.stamp (omega (arith, h.stamp_most)))
+    (join (spaced s.party) (spaced s.entry.turn ++ event_text version s.entry.event) (spaced_line s.party (small s.party h.party))
+    (join (spaced s.entry.turn) (event_text version s.entry.event) (spaced_line s.entry.turn h.turn) (event_line version s.entry.event h.event)))
 
 word_is_line : (word : EndWord) → IsLine (word_text word)
 word_is_line Finished = word_line (codes "finished") refl
@@ -165,9 +186,9 @@ files_are_lines : (k : ℕ) (files : List (List ℕ)) → k + length files ≤ 2
 files_are_lines k [] le = tt
 files_are_lines k (bytes ∷ files) le = (file_is_line k bytes (omega (arith, le)), files_are_lines (suc k) files (omega (arith, le)))
 
-entries_are_lines : (ss : List Stamped) → All IsEntry ss → AreLines (entry_lines ss)
-entries_are_lines [] h = tt
-entries_are_lines (s ∷ ss) h = (entry_is_line s (All-head IsEntry s ss h), entries_are_lines ss (All-tail IsEntry s ss h))
+entries_are_lines : (version : Version) (ss : List Stamped) → All IsEntry ss → AreLines (entry_lines version ss)
+entries_are_lines version [] h = tt
+entries_are_lines version (s ∷ ss) h = (entry_is_line version s (All-head IsEntry s ss h), entries_are_lines version ss (All-tail IsEntry s ss h))
 
 ends_are_lines : (k : ℕ) (ends : List TraceEnd) → k + length ends ≤ 2 ^ 32 → All IsEnd ends → AreLines (end_lines k ends)
 ends_are_lines k [] le h = tt
@@ -186,12 +207,17 @@ pub last_line : (a : List (List ℕ)) (l : List ℕ) → AreLines (a ++ l ∷ []
 last_line [] l h = h.0
 last_line (m ∷ a) l h = last_line a l h.1
 
-pub trace_is_lines : (t : Trace) → IsTrace t → AreLines (trace_lines t)
-trace_is_lines t h = (
-  word_line title refl,
+title_is_line : (version : Version) → IsLine (title version)
+title_is_line First = word_line (title First) refl
+title_is_line Second = word_line (title Second) refl
+
+pub trace_is_lines : (version : Version) (t : Trace) → IsTrace t → AreLines (trace_lines version t)
+trace_is_lines version t h = (
+  title_is_line version,
   (
     steps_are_line t.steps (omega (arith, h.steps_most)),
-    join_lines (file_lines 0 t.start) (entry_lines t.entries ++ end_lines 0 t.ends) (files_are_lines 0 t.start (omega (arith, h.few_files)))
-        (join_lines (entry_lines t.entries) (end_lines 0 t.ends) (entries_are_lines t.entries h.entries) (ends_are_lines 0 t.ends (omega (arith, h.few_ends)) h.ends)),
+    join_lines (file_lines 0 t.start) (entry_lines version t.entries ++ end_lines 0 t.ends) (files_are_lines 0 t.start (omega (arith, h.few_files)))
+        (join_lines (entry_lines version t.entries) (end_lines 0 t.ends) (entries_are_lines version t.entries h.entries)
+        (ends_are_lines 0 t.ends (omega (arith, h.few_ends)) h.ends)),
   ),
 )

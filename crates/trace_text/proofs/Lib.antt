@@ -4,6 +4,7 @@ pub mod Fitted
 pub mod Growing
 pub mod Bytes
 pub mod Values
+pub mod Ints
 pub mod EventsRead
 pub mod EventsWritten
 pub mod LinesRead
@@ -14,7 +15,9 @@ pub mod Stages
 pub mod Steps
 pub mod Outcome
 pub mod Whole
+pub mod Firsts
 pub mod Pairs
 pub mod Examples
 pub mod WrongExamples
 pub mod SpellingExamples
+pub mod FirstExamples

@@ -12,13 +12,16 @@ use Rattle.ac_base.specs.declared.entry.Event.TheVariants as e
 use Rattle.ac_base.specs.declared.entry.Stamped.{Stamped}
 use Rattle.ac_base.specs.Hexadecimal.{hex_of}
 use Rattle.ac_base.specs.Report.{word_text}
+use Rattle.trace_text.specs.declared.version.Version.{Version}
 use Rattle.trace_text.specs.declared.trace.TraceEnd.{TraceEnd}
+use Rattle.trace_text.specs.Versions.{is_wide_entry}
 use Rattle.trace_text.specs.Text.{spaced, event_text, steps_line, file_line, entry_line, end_line}
 use Rattle.trace_text.specs.Spelling.{AreBytes, IsEntry, IsEnd}
 use Rattle.trace_text.specs.inner.Reading.{is_digit, starts, positive_at, most_small, most_large, numbered_at, steps_at, file_at, entry_at, end_word_at, end_at}
 use Rattle.trace_text.proofs.Words.{word_is}
 use Rattle.trace_text.proofs.Numbers.{positive_is}
 use Rattle.trace_text.proofs.Bytes.{bytes_are}
+use Rattle.trace_text.proofs.Ints.{Allows}
 use Rattle.trace_text.proofs.EventsRead.{small_is, spaced_is, event_is}
 
 -- ---- the bound on steps
@@ -43,24 +46,24 @@ file_is k bytes lt all = rw (numbered_is (codes "file ") k (codes " " ++ hex_of 
 
 -- ---- entries
 
-event_starts : (event : Event) → starts is_digit (event_text event) ≡ false
-event_starts (e.Offer link number payload) = refl
-event_starts (e.Withdraw link number) = refl
-event_starts (e.Know link number) = refl
-event_starts (e.Room link number) = refl
-event_starts (e.Got link number value) = refl
-event_starts (e.Pass link number) = refl
-event_starts (e.Did link number answer) = refl
-event_starts (e.Reply link number answer) = refl
+event_starts : (version : Version) (event : Event) → starts is_digit (event_text version event) ≡ false
+event_starts version (e.Offer link number payload) = refl
+event_starts version (e.Withdraw link number) = refl
+event_starts version (e.Know link number) = refl
+event_starts version (e.Room link number) = refl
+event_starts version (e.Got link number message) = refl
+event_starts version (e.Pass link number) = refl
+event_starts version (e.Did link number answer) = refl
+event_starts version (e.Reply link number answer) = refl
 
-pub entry_is : (s : Stamped) → IsEntry s → entry_at (entry_line s) ≡ Some s
+pub entry_is : (version : Version) (s : Stamped) → IsEntry s → Allows version (is_wide_entry s) → entry_at version (entry_line version s) ≡ Some s
 unfolding entry_at
-entry_is s h =
-    let stamp = positive_is (2 ^ 60 - 1) s.entry.stamp (spaced s.party ++ (spaced s.entry.turn ++ event_text s.entry.event)) h.stamp_least
+entry_is version s h allows =
+    let stamp = positive_is (2 ^ 60 - 1) s.entry.stamp (spaced s.party ++ (spaced s.entry.turn ++ event_text version s.entry.event)) h.stamp_least
     (omega (arith, h.stamp_most)) (omega (arith, h.stamp_most)) refl in
-    let party = spaced_is most_small s.party (spaced s.entry.turn ++ event_text s.entry.event) (omega (arith, h.party)) (omega (arith, h.party)) refl in
-    let turn = spaced_is most_large s.entry.turn (event_text s.entry.event) (omega (arith, h.turn)) h.turn (event_starts s.entry.event) in
-    rw (stamp, party, turn, event_is s.entry.event h.event) refl
+    let party = spaced_is most_small s.party (spaced s.entry.turn ++ event_text version s.entry.event) (omega (arith, h.party)) (omega (arith, h.party)) refl in
+    let turn = spaced_is most_large s.entry.turn (event_text version s.entry.event) (omega (arith, h.turn)) h.turn (event_starts version s.entry.event) in
+    rw (stamp, party, turn, event_is version s.entry.event h.event allows) refl
 
 -- ---- ends
 

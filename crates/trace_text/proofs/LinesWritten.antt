@@ -11,14 +11,17 @@ use Rattle.ac_base.specs.declared.ends.EndWord.TheVariants.{Finished, Trapped, O
 use Rattle.ac_base.specs.declared.entry.Stamped.{Stamped}
 use Rattle.ac_base.specs.Hexadecimal.{hex_of}
 use Rattle.ac_base.specs.Report.{word_text}
+use Rattle.trace_text.specs.declared.version.Version.{Version}
 use Rattle.trace_text.specs.declared.trace.TraceEnd.{TraceEnd}
+use Rattle.trace_text.specs.Versions.{is_wide_entry}
 use Rattle.trace_text.specs.Text.{spaced, event_text, steps_line, file_line, entry_line, end_line}
 use Rattle.trace_text.specs.Spelling.{AreBytes, IsEntry, IsEnd}
 use Rattle.trace_text.specs.inner.Reading.{Taken, number_at, positive_at, spaced_at, word_at, ended, choice, event_at, spaced_bytes, most_small, most_large, stamped, word_is, trap_at, trace_end}
 use Rattle.trace_text.specs.inner.Reading.{numbered_at, steps_at, file_at, entry_at, end_word_at, end_at, ◌>>=◌}
-use Rattle.trace_text.proofs.Words.{bind_case, choice_case, ended_case, word_was, pair, some_same, parts_same, not_none}
+use Rattle.trace_text.proofs.Words.{bind_case, choice_case, ended_case, word_was, pair, some_same, parts_same, not_none, behind, at_end}
 use Rattle.trace_text.proofs.Numbers.{number_was, positive_was}
-use Rattle.trace_text.proofs.EventsWritten.{behind, at_end, spaced_was, spaced_were, event_was}
+use Rattle.trace_text.proofs.Ints.{Allows}
+use Rattle.trace_text.proofs.EventsWritten.{spaced_was, spaced_were, event_was}
 
 -- ---- the bound on steps
 
@@ -79,25 +82,26 @@ file_was k bytes line h =
 
 -- ---- entries
 
-pub record WasEntry (s : Stamped) (line : List ℕ) : Type 0 where
+pub record WasEntry (version : Version) (s : Stamped) (line : List ℕ) : Type 0 where
   pub fits : IsEntry s
-  pub is : line ≡ entry_line s
+  pub allows : Allows version (is_wide_entry s)
+  pub is : line ≡ entry_line version s
 
 -- stamp, party, turn and event are taken one behind the other: what each was written as, and what it left, are joined from the last back to the
 -- first
-pub entry_was : (s : Stamped) (line : List ℕ) → entry_at line ≡ Some s → WasEntry s line
+pub entry_was : (version : Version) (s : Stamped) (line : List ℕ) → entry_at version line ≡ Some s → WasEntry version s line
 unfolding entry_at
-entry_was s line h =
+entry_was version s line h =
     bind_case (positive_at (2 ^ 60 - 1) line) (λ stamp. spaced_at most_small stamp.1 >>= λ party. spaced_at most_large party.1 >>= λ turn.
-    event_at turn.1 >>= λ event. Some (stamped stamp.0 party.0 turn.0 event)) s h λ stamp first h.
+    event_at version turn.1 >>= λ event. Some (stamped stamp.0 party.0 turn.0 event)) s h λ stamp first h.
     bind_case (spaced_at most_small stamp.1) (λ party. spaced_at most_large party.1 >>= λ turn.
-    event_at turn.1 >>= λ event. Some (stamped stamp.0 party.0 turn.0 event)) s h λ party second h.
-    bind_case (spaced_at most_large party.1) (λ turn. event_at turn.1 >>= λ event. Some (stamped stamp.0 party.0 turn.0 event)) s h λ turn third h.
-    bind_case (event_at turn.1) (λ event. Some (stamped stamp.0 party.0 turn.0 event)) s h λ event fourth h.
+    event_at version turn.1 >>= λ event. Some (stamped stamp.0 party.0 turn.0 event)) s h λ party second h.
+    bind_case (spaced_at most_large party.1) (λ turn. event_at version turn.1 >>= λ event. Some (stamped stamp.0 party.0 turn.0 event)) s h λ turn third h.
+    bind_case (event_at version turn.1) (λ event. Some (stamped stamp.0 party.0 turn.0 event)) s h λ event fourth h.
     let a = positive_was (2 ^ 60 - 1) stamp.0 line stamp.1 (omega arith) first in
     let b = spaced_was most_small party.0 stamp.1 party.1 (omega arith) second in
     let c = spaced_was most_large turn.0 party.1 turn.1 (omega arith) third in
-    let d = event_was turn.1 event fourth in
+    let d = event_was version turn.1 event fourth in
     rw (sym (some_same (stamped stamp.0 party.0 turn.0 event) s h)) (record {
       fits = record {
         stamp_least = a.least;
@@ -106,9 +110,10 @@ entry_was s line h =
         turn = omega (arith, c.low);
         event = d.fits;
       };
-      is = behind line (decimal stamp.0) stamp.1 (spaced party.0 ++ (spaced turn.0 ++ event_text event)) a.was.is
-          (behind stamp.1 (spaced party.0) party.1 (spaced turn.0 ++ event_text event) b.is
-          (behind party.1 (spaced turn.0) turn.1 (event_text event) c.is d.is));
+      allows = d.allows;
+      is = behind line (decimal stamp.0) stamp.1 (spaced party.0 ++ (spaced turn.0 ++ event_text version event)) a.was.is
+          (behind stamp.1 (spaced party.0) party.1 (spaced turn.0 ++ event_text version event) b.is
+          (behind party.1 (spaced turn.0) turn.1 (event_text version event) c.is d.is));
     })
 
 -- ---- ends

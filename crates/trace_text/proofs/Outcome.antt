@@ -4,8 +4,10 @@ use Rattle.std.proofs.Common.{◌≡◌, ℕ, suc, ◌+◌, ◌<◌, List, [], �
 use Rattle.ac_base.specs.declared.entry.Stamped.{Stamped}
 use Rattle.trace_text.specs.declared.faults.WriteFault.{WriteFault}
 use Rattle.trace_text.specs.declared.faults.WriteFault.TheVariants as w
+use Rattle.trace_text.specs.declared.version.Version.{Version}
 use Rattle.trace_text.specs.declared.trace.Trace.{Trace}
 use Rattle.trace_text.specs.declared.trace.TraceEnd.{TraceEnd}
+use Rattle.trace_text.specs.Versions.{version_of}
 use Rattle.trace_text.specs.Text.{title, steps_line, file_line, file_lines, entry_line, entry_lines, end_line, end_lines, joined, trace_text}
 use Rattle.trace_text.specs.Outcomes.{Writes}
 use Rattle.trace_text.specs.inner.Adding.{Adds}
@@ -30,12 +32,13 @@ module _ (text new whole : List ℕ) (i : ℕ) where
       (one_more text new whole (file_line i now) (file_lines (suc i) (drop (suc i) files)) (file_lines i (drop i files)) added
       (ap (file_lines i) (drop-cons files i item less) ∙ ap (λ (bytes : List ℕ). file_line i bytes ∷ file_lines (suc i) (drop (suc i) files)) (sym (same ∙ is))) all)
 
-  pub one_entry_more : (entries : List Stamped) (entry item : Stamped) → i < length entries → entry ≡ get_or entries i item
-      → new ≡ text ++ joined (entry_line entry ∷ []) → text ++ joined (entry_lines (drop i entries)) ≡ whole → new ++ joined (entry_lines (drop (i + 1) entries)) ≡ whole
-  one_entry_more entries entry item less is added all =
-      subst (λ (n : ℕ). new ++ joined (entry_lines (drop n entries)) ≡ whole) next
-      (one_more text new whole (entry_line entry) (entry_lines (drop (suc i) entries)) (entry_lines (drop i entries)) added
-      (ap entry_lines (drop-cons entries i item less) ∙ ap (λ (s : Stamped). entry_line s ∷ entry_lines (drop (suc i) entries)) (sym is)) all)
+  pub one_entry_more : (version : Version) (entries : List Stamped) (entry item : Stamped) → i < length entries → entry ≡ get_or entries i item
+      → new ≡ text ++ joined (entry_line version entry ∷ []) → text ++ joined (entry_lines version (drop i entries)) ≡ whole
+      → new ++ joined (entry_lines version (drop (i + 1) entries)) ≡ whole
+  one_entry_more version entries entry item less is added all =
+      subst (λ (n : ℕ). new ++ joined (entry_lines version (drop n entries)) ≡ whole) next
+      (one_more text new whole (entry_line version entry) (entry_lines version (drop (suc i) entries)) (entry_lines version (drop i entries)) added
+      (ap (entry_lines version) (drop-cons entries i item less) ∙ ap (λ (s : Stamped). entry_line version s ∷ entry_lines version (drop (suc i) entries)) (sym is)) all)
 
   pub one_end_more : (ends : List TraceEnd) (end item : TraceEnd) → i < length ends → end ≡ get_or ends i item
       → new ≡ text ++ joined (end_line i end ∷ []) → text ++ joined (end_lines i (drop i ends)) ≡ whole → new ++ joined (end_lines (i + 1) (drop (i + 1) ends)) ≡ whole
@@ -48,13 +51,13 @@ module _ (text new whole : List ℕ) (i : ℕ) where
 
 -- the four parts of a text: its two first lines, its files, its entries, its ends
 abbrev pub head_part : Trace → List ℕ
-head_part t = joined (title ∷ steps_line t.steps ∷ [])
+head_part t = joined (title (version_of t) ∷ steps_line t.steps ∷ [])
 
 abbrev pub file_part : Trace → List ℕ
 file_part t = joined (file_lines 0 t.start)
 
 abbrev pub entry_part : Trace → List ℕ
-entry_part t = joined (entry_lines t.entries)
+entry_part t = joined (entry_lines (version_of t) t.entries)
 
 abbrev pub end_part : Trace → List ℕ
 end_part t = joined (end_lines 0 t.ends)
@@ -70,23 +73,27 @@ parts_are_text : (t : Trace) → with_entries t ++ end_part t ≡ trace_text t
 parts_are_text t =
     append_assoc (with_files t) (entry_part t) (end_part t)
     ∙ (append_assoc (head_part t) (file_part t) (entry_part t ++ end_part t)
-    ∙ (ap (λ (bs : List ℕ). head_part t ++ (file_part t ++ bs)) (sym (joined_append (entry_lines t.entries) (end_lines 0 t.ends)))
-    ∙ (ap (λ (bs : List ℕ). head_part t ++ bs) (sym (joined_append (file_lines 0 t.start) (entry_lines t.entries ++ end_lines 0 t.ends)))
-    ∙ sym (joined_append (title ∷ steps_line t.steps ∷ []) (file_lines 0 t.start ++ (entry_lines t.entries ++ end_lines 0 t.ends))))))
+    ∙ (ap (λ (bs : List ℕ). head_part t ++ (file_part t ++ bs)) (sym (joined_append (entry_lines (version_of t) t.entries) (end_lines 0 t.ends)))
+    ∙ (ap (λ (bs : List ℕ). head_part t ++ bs) (sym (joined_append (file_lines 0 t.start) (entry_lines (version_of t) t.entries ++ end_lines 0 t.ends)))
+    ∙ sym (joined_append (title (version_of t) ∷ steps_line t.steps ∷ []) (file_lines 0 t.start ++ (entry_lines (version_of t) t.entries ++ end_lines 0 t.ends))))))
 
 -- ---- what is written
 
-pub head_written : (t : Trace) (a b c : List ℕ) → a ≡ [] → b ≡ a ++ joined (title ∷ []) → c ≡ b ++ joined (steps_line t.steps ∷ []) → c ≡ head_part t
-head_written t a b c h g k =
-    k ∙ ap (λ (bs : List ℕ). bs ++ joined (steps_line t.steps ∷ [])) (g ∙ ap (λ (bs : List ℕ). bs ++ joined (title ∷ [])) h)
+pub head_written : (t : Trace) (version : Version) (a b c : List ℕ) → version ≡ version_of t → a ≡ [] → b ≡ a ++ joined (title version ∷ []) → c ≡ b ++ joined (steps_line t.steps ∷ [])
+    → c ≡ head_part t
+head_written t version a b c v h g k =
+    k ∙ (ap (λ (bs : List ℕ). bs ++ joined (steps_line t.steps ∷ [])) (g ∙ ap (λ (bs : List ℕ). bs ++ joined (title version ∷ [])) h)
+    ∙ (append_assoc (title version) (10 ∷ []) (joined (steps_line t.steps ∷ [])) ∙ ap (λ (version : Version). joined (title version ∷ steps_line t.steps ∷ [])) v))
 
 pub files_written : (t : Trace) (files : List (List ℕ)) (a b : List ℕ) → a ≡ head_part t → files ≡ t.start → b ≡ a ++ joined (file_lines 0 files) → b ≡ with_files t
 files_written t files a b h e k =
     k ∙ (ap (λ (bs : List ℕ). bs ++ joined (file_lines 0 files)) h ∙ ap (λ (fs : List (List ℕ)). head_part t ++ joined (file_lines 0 fs)) e)
 
-pub entries_written : (t : Trace) (entries : List Stamped) (a b : List ℕ) → a ≡ with_files t → entries ≡ t.entries → b ≡ a ++ joined (entry_lines entries) → b ≡ with_entries t
-entries_written t entries a b h e k =
-    k ∙ (ap (λ (bs : List ℕ). bs ++ joined (entry_lines entries)) h ∙ ap (λ (es : List Stamped). with_files t ++ joined (entry_lines es)) e)
+pub entries_written : (t : Trace) (version : Version) (entries : List Stamped) (a b : List ℕ) → version ≡ version_of t → a ≡ with_files t → entries ≡ t.entries
+    → b ≡ a ++ joined (entry_lines version entries) → b ≡ with_entries t
+entries_written t version entries a b v h e k =
+    k ∙ (ap (λ (bs : List ℕ). bs ++ joined (entry_lines version entries)) h ∙ (ap (λ (es : List Stamped). with_files t ++ joined (entry_lines version es)) e
+    ∙ ap (λ (version : Version). with_files t ++ joined (entry_lines version t.entries)) v))
 
 pub ends_written : (t : Trace) (ends : List TraceEnd) (a b : List ℕ) → a ≡ with_entries t → ends ≡ t.ends → b ≡ a ++ joined (end_lines 0 ends) → b ≡ trace_text t
 ends_written t ends a b h e k =
@@ -106,11 +113,11 @@ no_files t files old new f h e a =
     (ap (λ (bs : List ℕ). bs ++ (entry_part t ++ end_part t)) (files_written t files old (old ++ joined (file_lines 0 files)) h e refl)
     ∙ (sym (append_assoc (with_files t) (entry_part t) (end_part t)) ∙ parts_are_text t))
 
-pub no_entries : (t : Trace) (entries : List Stamped) (old new : List ℕ) (f : WriteFault) → old ≡ with_files t → entries ≡ t.entries → Adds old new (joined (entry_lines entries)) (Err f)
-    → Writes t (Err f)
-no_entries t entries old new f h e a =
-    not_written t old new (joined (entry_lines entries)) (end_part t) f a
-    (ap (λ (bs : List ℕ). bs ++ end_part t) (entries_written t entries old (old ++ joined (entry_lines entries)) h e refl) ∙ parts_are_text t)
+pub no_entries : (t : Trace) (version : Version) (entries : List Stamped) (old new : List ℕ) (f : WriteFault) → version ≡ version_of t → old ≡ with_files t → entries ≡ t.entries
+    → Adds old new (joined (entry_lines version entries)) (Err f) → Writes t (Err f)
+no_entries t version entries old new f v h e a =
+    not_written t old new (joined (entry_lines version entries)) (end_part t) f a
+    (ap (λ (bs : List ℕ). bs ++ end_part t) (entries_written t version entries old (old ++ joined (entry_lines version entries)) v h e refl) ∙ parts_are_text t)
 
 pub no_ends : (t : Trace) (ends : List TraceEnd) (old new : List ℕ) (f : WriteFault) → old ≡ with_entries t → ends ≡ t.ends → Adds old new (joined (end_lines 0 ends)) (Err f)
     → Writes t (Err f)

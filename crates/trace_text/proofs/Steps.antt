@@ -1,12 +1,14 @@
 -- One line more of a text, as the reader takes it: where it cuts the text, reading the whole lines of what is left gives the same as reading
 -- that line and going on behind it.
-use Rattle.std.proofs.Common.{◌≡◌, ◌≢◌, ℕ, zero, suc, length-drop, ◌+◌, ◌-◌, ◌<◌, ◌≤◌, List, [], ◌∷◌, length, take, drop, Option, Some, None, Result, Ok, Err, refl, sym, ap, ◌∙◌, arith}
+use Rattle.std.proofs.Common.{◌≡◌, ◌≢◌, ℕ, zero, suc, length-drop, ◌+◌, ◌-◌, ◌<◌, ◌≤◌, List, [], ◌∷◌, length, take, drop, Option, Some, None, Result, Err, refl, sym, ap, ◌∙◌, arith}
 use Rattle.std.proofs.lemmas.List.{take_all}
+use Rattle.trace_text.specs.declared.version.Version.{Version}
 use Rattle.trace_text.specs.declared.trace.Trace.{Trace}
+use Rattle.trace_text.specs.declared.faults.TraceFault.{TraceFault}
 use Rattle.trace_text.specs.declared.so_far.Stage.{Stage}
 use Rattle.trace_text.specs.declared.so_far.Stage.TheVariants as now
 use Rattle.trace_text.specs.declared.so_far.SoFar.{SoFar}
-use Rattle.trace_text.specs.inner.Reading.{Lines, line_run, lines_of, after_line, going_on, whole_at, read_lines}
+use Rattle.trace_text.specs.inner.Reading.{Lines, line_run, lines_of, after_line, going_on, told_in, whole_at, read_lines, Told}
 use Rattle.trace_text.proofs.TextLines.{line_front, no_line}
 
 -- reading the lines of a text on
@@ -97,16 +99,20 @@ none_left [] (suc at) le = refl
 none_left (b ∷ bs) zero le = absurd (omega (arith, le))
 none_left (b ∷ bs) (suc at) le = none_left bs at (omega (arith, le))
 
-pub at_the_end : (line : ℕ) (s : SoFar) (text : List ℕ) (at : ℕ) → length text ≤ at → read_on line s (drop at text) ≡ whole_at s.stage line s.trace
+pub at_the_end : (line : ℕ) (s : SoFar) (text : List ℕ) (at : ℕ) → length text ≤ at → read_on line s (drop at text) ≡ whole_at s.stage s.version line s.trace
 unfolding read_lines
 at_the_end line s text at le = ap (λ (bs : List ℕ). read_on line s bs) (none_left text at le)
 
-pub ends_whole : (line : ℕ) (t : Trace) (stage : Stage) → stage ≡ now.Ends → whole_at stage line t ≡ Ok t
-ends_whole line t stage e = rw e refl
+pub ends_whole : (line : ℕ) (version : Version) (t : Trace) (stage : Stage) → stage ≡ now.Ends → whole_at stage version line t ≡ told_in version t
+ends_whole line version t stage e = rw e refl
 
-pub ends_open : (line : ℕ) (t : Trace) (stage : Stage) → (stage ≡ now.Ends → ⊥) → whole_at stage line t ≡ Err line
-ends_open line t now.Title n = refl
-ends_open line t now.Steps n = refl
-ends_open line t now.Files n = refl
-ends_open line t now.Entries n = refl
-ends_open line t now.Ends n = absurd (n refl)
+pub ends_open : (line : ℕ) (version : Version) (t : Trace) (stage : Stage) → (stage ≡ now.Ends → ⊥) → whole_at stage version line t ≡ Err line
+ends_open line version t now.Title n = refl
+ends_open line version t now.Steps n = refl
+ends_open line version t now.Files n = refl
+ends_open line version t now.Entries n = refl
+ends_open line version t now.Ends n = absurd (n refl)
+
+-- what is told of the end of a text is told of the whole
+pub told_on : (r : Result Trace TraceFault) (read whole : Result Trace ℕ) → whole ≡ read → Told r read → Told r whole
+told_on r read whole e h = rw e h

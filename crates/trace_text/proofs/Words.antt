@@ -1,6 +1,6 @@
 -- A word is read where it stands, and only there; and what a chain of reading functions has found on its way, one step at a time, for the
 -- proofs that follow a reader backwards.
-use Rattle.std.proofs.Common.{◌≡◌, ℕ, Bool, true, false, List, [], ◌∷◌, ◌++◌, length, take, drop, Option, Some, None, refl, sym, ap, ◌∙◌}
+use Rattle.std.proofs.Common.{◌≡◌, ℕ, Bool, true, false, List, [], ◌∷◌, ◌++◌, length, take, drop, Option, Some, None, refl, sym, ap, ◌∙◌, append-nil}
 use Rattle.std.specs.Prelude.{if◌then◌else◌}
 use Rattle.std.specs.Str.{bytes_eq}
 use Rattle.std.proofs.lemmas.Slice.Eq.{bytes_eq-Decides}
@@ -56,6 +56,12 @@ pub bind_case : {A B P : Type 0} (r : Option A) (f : A → Option B) (y : B) →
 bind_case (Some x) f y h found = found x refl h
 bind_case None f y h found = not_none y h
 
+pub bind_some : {A B : Type 0} (r : Option A) (f : A → Option B) (x : A) → r ≡ Some x → (r >>= f) ≡ f x
+bind_some r f x h = rw h refl
+
+pub bind_none : {A B : Type 0} (r : Option A) (f : A → Option B) → r ≡ None → (r >>= f) ≡ None
+bind_none r f h = rw h refl
+
 pub choice_case : {A P : Type 0} (word bs : List ℕ) (here : List ℕ → Option A) (other : Option A) (y : A) → choice (word_at word bs) here other ≡ Some y
     → ((rest : List ℕ) → bs ≡ word ++ rest → here rest ≡ Some y → P) → (other ≡ Some y → P) → P
 choice_case {P = P} word bs here other y h taken past = cases (word_at word bs) refl h
@@ -67,3 +73,11 @@ choice_case {P = P} word bs here other y h taken past = cases (word_at word bs) 
 pub ended_case : {A : Type 0} (bs : List ℕ) (x y : A) → ended bs x ≡ Some y → (bs ≡ []) × (x ≡ y)
 ended_case [] x y h = (refl, some_same x y h)
 ended_case (b ∷ bs) x y h = not_none y h
+
+-- ---- joining what was found
+
+pub behind : (bs a b c : List ℕ) → bs ≡ a ++ b → b ≡ c → bs ≡ a ++ c
+behind bs a b c h g = h ∙ ap (λ (cs : List ℕ). a ++ cs) g
+
+pub at_end : (bs a rest : List ℕ) → bs ≡ a ++ rest → rest ≡ [] → bs ≡ a
+at_end bs a rest h g = behind bs a rest [] h g ∙ append-nil a

@@ -132,6 +132,7 @@ pub fn spaced(c: &mut Cursor<'_>, most: u64) -> Result<u64, LineFault>
 /// Takes a number from 1 to so great.
 pub fn positive(c: &mut Cursor<'_>, most: u64) -> Result<u64, LineFault>
     ensures gives { Gives (λ n. (n, c.new.rest.now)) result (positive_at most c.old.rest.now) }
+    ensures some { IfOk result (λ n. 1 ≤ n) }
     ensures low { IfOk result (λ n. n ≤ most) }
 {
     let n = number(c, most)?;

@@ -6,8 +6,10 @@ ghost use Rattle.trace_text.specs.inner.Reading.{bare_offer_at, offered_at, got_
 ghost use Rattle.ac_base.specs.declared.entry.Event.TheVariants.{Did, Reply};
 
 use crate::cursor::{
-    Cursor, LineFault, bytes, end, small, spaced, spaced_bytes, spaced_small, value, word,
+    Cursor, LineFault, bytes, end, small, spaced, spaced_bytes, spaced_small, word,
 };
+use crate::messages::message;
+use crate::version::Version;
 use ac_base::{Answer, Event, Payload};
 use std::alloc::Global;
 
@@ -43,12 +45,11 @@ fn range(c: &mut Cursor<'_>) -> Result<FilePlace, LineFault>
     Ok(FilePlace { file, from })
 }
 
-fn int(rest: &[u8]) -> Result<Payload, LineFault>
-    ensures { Gives (λ p. p) result (int_at rest.now) }
+fn int(version: Version, rest: &[u8]) -> Result<Payload, LineFault>
+    ensures { Gives (λ p. p) result (int_at version rest.now) }
 {
-    let mut c = Cursor { rest };
-    let value = value(&mut c)?;
-    end(&c, Payload::Int(value))
+    let message = message(version, rest)?;
+    Ok(Payload::Int(message))
 }
 
 fn read(rest: &[u8]) -> Result<Payload, LineFault>
@@ -79,11 +80,11 @@ fn write(alloc: Global, rest: &[u8]) -> Result<Payload, LineFault>
 }
 
 #[tactic(auto, unfolding(crate::specs::inner::Reading::payload_at))]
-fn payload(alloc: Global, text: &[u8]) -> Result<Payload, LineFault>
-    ensures { Gives (λ p. p) result (payload_at text.now) }
+fn payload(alloc: Global, version: Version, text: &[u8]) -> Result<Payload, LineFault>
+    ensures { Gives (λ p. p) result (payload_at version text.now) }
 {
-    if let Some(rest) = text.strip_prefix(b" int ") {
-        return int(rest);
+    if let Some(rest) = text.strip_prefix(version.offered_word()) {
+        return int(version, rest);
     }
     if let Some(rest) = text.strip_prefix(b" read ") {
         return read(rest);
@@ -133,12 +134,12 @@ fn bare(rest: &[u8]) -> Result<OfferName, LineFault>
     }
 }
 
-fn offered(alloc: Global, rest: &[u8]) -> Result<Event, LineFault>
-    ensures { Gives (λ e. e) result (offered_at rest.now) }
+fn offered(alloc: Global, version: Version, rest: &[u8]) -> Result<Event, LineFault>
+    ensures { Gives (λ e. e) result (offered_at version rest.now) }
 {
     let mut c = Cursor { rest };
     let OfferName { link, number } = offer(&mut c)?;
-    let payload = payload(alloc, c.rest)?;
+    let payload = payload(alloc, version, c.rest)?;
     Ok(Event::Offer {
         link,
         number,
@@ -146,19 +147,18 @@ fn offered(alloc: Global, rest: &[u8]) -> Result<Event, LineFault>
     })
 }
 
-fn got(rest: &[u8]) -> Result<Event, LineFault>
-    ensures { Gives (λ e. e) result (got_at rest.now) }
+fn got(version: Version, rest: &[u8]) -> Result<Event, LineFault>
+    ensures { Gives (λ e. e) result (got_at version rest.now) }
 {
     let mut c = Cursor { rest };
     let OfferName { link, number } = offer(&mut c)?;
-    word(&mut c, b" ")?;
-    let value = value(&mut c)?;
-    let event = Event::Got {
+    word(&mut c, version.got_word())?;
+    let value = message(version, c.rest)?;
+    Ok(Event::Got {
         link,
         number,
         value,
-    };
-    end(&c, event)
+    })
 }
 
 fn did(alloc: Global, rest: &[u8]) -> Result<Event, LineFault>
@@ -189,11 +189,11 @@ fn reply(alloc: Global, rest: &[u8]) -> Result<Event, LineFault>
 
 // What the receiving end of a link makes, or the sending end behind it.
 #[tactic(auto, unfolding(crate::specs::inner::Reading::taking_at))]
-fn taking(alloc: Global, text: &[u8]) -> Result<Event, LineFault>
-    ensures { Gives (λ e. e) result (taking_at text.now) }
+fn taking(alloc: Global, version: Version, text: &[u8]) -> Result<Event, LineFault>
+    ensures { Gives (λ e. e) result (taking_at version text.now) }
 {
     if let Some(rest) = text.strip_prefix(b" got ") {
-        return got(rest);
+        return got(version, rest);
     }
     if let Some(rest) = text.strip_prefix(b" pass ") {
         let OfferName { link, number } = bare(rest)?;
@@ -210,11 +210,11 @@ fn taking(alloc: Global, text: &[u8]) -> Result<Event, LineFault>
 
 /// The event that the rest of a line spells.
 #[tactic(auto, unfolding(crate::specs::inner::Reading::event_at))]
-pub fn event(alloc: Global, text: &[u8]) -> Result<Event, LineFault>
-    ensures { Gives (λ e. e) result (event_at text.now) }
+pub fn event(alloc: Global, version: Version, text: &[u8]) -> Result<Event, LineFault>
+    ensures { Gives (λ e. e) result (event_at version text.now) }
 {
     if let Some(rest) = text.strip_prefix(b" offer ") {
-        return offered(alloc, rest);
+        return offered(alloc, version, rest);
     }
     if let Some(rest) = text.strip_prefix(b" withdraw ") {
         let OfferName { link, number } = bare(rest)?;
@@ -228,5 +228,5 @@ pub fn event(alloc: Global, text: &[u8]) -> Result<Event, LineFault>
         let OfferName { link, number } = bare(rest)?;
         return Ok(Event::Room { link, number });
     }
-    taking(alloc, text)
+    taking(alloc, version, text)
 }

@@ -2,12 +2,13 @@
 
 ghost use Rattle.std.specs.Prelude.{◌≡◌, ◌≤◌, ◌<◌, ◌^◌, ℕ, length};
 ghost use Rattle.trace_text.specs.Outcomes.{Reads};
-ghost use Rattle.trace_text.specs.inner.Reading.{line_run, read_text, Told};
+ghost use Rattle.trace_text.specs.inner.Reading.{line_run, read_text, told_in, Told};
 
 use crate::cursor::LineFault;
 use crate::faults::TraceFault;
 use crate::so_far::{SoFar, Stage};
 use crate::trace::Trace;
+use crate::version::{Version, is_needless};
 use std::alloc::Global;
 
 // How many bytes stand before the first line feed.
@@ -21,6 +22,16 @@ fn line_run(bytes: &[u8]) -> usize
         }
     }
     bytes.len()
+}
+
+// The trace, where its version is the one that it needs.
+fn told(version: Version, trace: Trace) -> Result<Trace, TraceFault>
+    ensures { Told result (told_in version trace) }
+{
+    if is_needless(version, &trace) {
+        return Err(TraceFault::Line { line: 1 });
+    }
+    Ok(trace)
 }
 
 fn read(alloc: Global, text: &[u8]) -> Result<Trace, TraceFault>
@@ -43,9 +54,13 @@ fn read(alloc: Global, text: &[u8]) -> Result<Trace, TraceFault>
         at += len + 1;
         line += 1;
     }
-    let SoFar { stage, trace } = so_far;
+    let SoFar {
+        stage,
+        version,
+        trace,
+    } = so_far;
     match stage {
-        Stage::Ends => Ok(trace),
+        Stage::Ends => told(version, trace),
         _ => Err(TraceFault::Line { line }),
     }
 }
@@ -55,7 +70,8 @@ fn read(alloc: Global, text: &[u8]) -> Result<Trace, TraceFault>
 /// It takes time in proportion to the text.
 pub fn read_trace(alloc: Global, text: &[u8]) -> Result<Trace, TraceFault>
     // Ok: the text spells this trace, and no other.
-    // A line: the lines before it begin a trace, none begins so that has it too, and the text spells no trace.
+    // A line: the text spells no trace, and the lines before this one begin one, and none begins so that has it too;
+    // or each line is right in version 2, where version 1 would do, and the line is the first.
     ensures { Reads text.now result }
 {
     read(alloc, text)

@@ -2,7 +2,7 @@
 
 ghost use Rattle.std.specs.Prelude.{◌≡◌, ℕ, List, codes, ◌==◌, length};
 ghost use Rattle.trace_text.specs.inner.Reading.{Gives, starts, numbered_at, steps_at, file_at};
-ghost use Rattle.trace_text.specs.inner.Reading.{entry_at, trap_at, end_word_at, end_at, nothing};
+ghost use Rattle.trace_text.specs.inner.Reading.{version_at, entry_at, trap_at, end_word_at, end_at, nothing};
 ghost use Rattle.trace_text.specs.inner.Reading.{after_title, after_steps, after_file, after_entry};
 ghost use Rattle.trace_text.specs.inner.Reading.{after_end, after_entry_or_end, after_any, after_line};
 ghost use Rattle.ac_base.specs.declared.ends.EndWord.TheVariants.{Trapped};
@@ -12,6 +12,7 @@ use crate::cursor::{
 };
 use crate::events::event;
 use crate::trace::{Trace, TraceEnd};
+use crate::version::Version;
 use ac_base::{Bytes, EndWord, Entry, List, Stamped, Trap};
 use std::alloc::Global;
 
@@ -29,6 +30,7 @@ pub enum Stage {
 #[derive(Debug, Drop)]
 pub struct SoFar {
     pub stage: Stage,
+    pub version: Version,
     pub trace: Trace,
 }
 
@@ -44,6 +46,18 @@ fn starts_with(line: &[u8], first: u8) -> bool
     match line {
         [] => false,
         [b, ..] => *b == first,
+    }
+}
+
+fn version(line: &[u8]) -> Result<Version, LineFault>
+    ensures { Gives (λ version. version) result (version_at line.now) }
+{
+    if line == Version::First.title() {
+        Ok(Version::First)
+    } else if line == Version::Second.title() {
+        Ok(Version::Second)
+    } else {
+        Err(LineFault::Wrong)
     }
 }
 
@@ -77,14 +91,14 @@ fn file(alloc: Global, number: u64, line: &[u8]) -> Result<Bytes, LineFault>
 }
 
 #[tactic(auto, unfolding(crate::specs::inner::Reading::entry_at))]
-fn entry(alloc: Global, line: &[u8]) -> Result<Stamped, LineFault>
-    ensures { Gives (λ entry. entry) result (entry_at line.now) }
+fn entry(alloc: Global, version: Version, line: &[u8]) -> Result<Stamped, LineFault>
+    ensures { Gives (λ entry. entry) result (entry_at version line.now) }
 {
     let mut c = Cursor { rest: line };
     let stamp = positive(&mut c, LAST_STAMP)?;
     let party = spaced_small(&mut c)?;
     let turn = spaced(&mut c, u64::MAX)?;
-    let event = event(alloc, c.rest)?;
+    let event = event(alloc, version, c.rest)?;
     Ok(Stamped {
         party,
         entry: Entry { stamp, turn, event },
@@ -163,6 +177,7 @@ impl SoFar {
     {
         SoFar {
             stage: Stage::Title,
+            version: Version::First,
             trace: Trace {
                 steps: 0,
                 start: List::new(alloc),
@@ -175,9 +190,7 @@ impl SoFar {
     fn add_title(&mut self, line: &[u8]) -> Result<(), LineFault>
         ensures { Gives (λ _. self.new) result (after_title self.old line.now) }
     {
-        if line != b"ac-trace 1".as_slice() {
-            return Err(LineFault::Wrong);
-        }
+        self.version = version(line)?;
         self.stage = Stage::Steps;
         Ok(())
     }
@@ -201,7 +214,7 @@ impl SoFar {
     fn add_entry(&mut self, alloc: Global, line: &[u8]) -> Result<(), LineFault>
         ensures { Gives (λ _. self.new) result (after_entry self.old line.now) }
     {
-        let entry = entry(alloc, line)?;
+        let entry = entry(alloc, self.version, line)?;
         self.trace.entries.push(entry)?;
         self.stage = Stage::Entries;
         Ok(())

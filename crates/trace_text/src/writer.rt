@@ -3,17 +3,19 @@
 ghost use Rattle.std.specs.Prelude.{◌≡◌, ◌++◌, ◌∷◌, ◌<◌, ◌≤◌, [], length, All, OnOk};
 ghost use Rattle.std.specs.Fmt.{decimal, signed_decimal};
 ghost use Rattle.ac_base.specs.Hexadecimal.{hex_digit, hex_digits, hex_of};
-ghost use Rattle.trace_text.specs.Text.{spaced, offer_name, payload_text, answer_text, event_text, title};
+ghost use Rattle.trace_text.specs.Text.{spaced, offer_name, ints_text, message_text, payload_text, answer_text, event_text, title};
 ghost use Rattle.trace_text.specs.Text.{steps_line, file_line, entry_line, outcome_text, end_line};
 ghost use Rattle.trace_text.specs.Text.{file_lines, entry_lines, end_lines, joined};
 ghost use Rattle.trace_text.specs.Fitting.{EntryFits, NumbersFit};
 ghost use Rattle.trace_text.specs.Outcomes.{Writes, trace_limit};
-ghost use Rattle.trace_text.specs.Spelling.{AreBytes, IsAnswer, IsEnd, IsEvent, IsOffer, IsPayload};
+ghost use Rattle.trace_text.specs.Spelling.{AreBytes, IsAnswer, IsEnd, IsEvent, IsMessage, IsOffer, IsPayload, IsValue};
+ghost use Rattle.trace_text.specs.Versions.{version_of};
 ghost use Rattle.trace_text.specs.inner.Adding.{Adds};
 
 use crate::faults::WriteFault;
 use crate::trace::{Trace, TraceEnd};
-use ac_base::{Answer, Bytes, Event, List, NoMemory, Payload, Stamped, end_word};
+use crate::version::{Version, version_of};
+use ac_base::{Answer, Bytes, Event, List, Message, NoMemory, Payload, Stamped, end_word};
 use std::alloc::Global;
 
 /// The greatest length of a text, in bytes.
@@ -35,7 +37,8 @@ fn add_spaced(alloc: Global, text: &mut Vec<u8>, number: u64) -> Result<(), NoMe
 }
 
 fn add_value(alloc: Global, text: &mut Vec<u8>, value: i64) -> Result<(), NoMemory>
-    ensures { OnOk result (text.new.items ≡ text.old.items ++ signed_decimal value) }
+    ensures adds { OnOk result (text.new.items ≡ text.old.items ++ signed_decimal value) }
+    ensures fits { OnOk result (IsValue value) }
 {
     let digits = value.to_string(alloc)?;
     text.extend_from_slice(digits.as_bytes())?;
@@ -85,14 +88,49 @@ fn add_offer(alloc: Global, text: &mut Vec<u8>, link: u32, number: u64) -> Resul
     add_spaced(alloc, text, number)
 }
 
-fn add_payload(alloc: Global, text: &mut Vec<u8>, payload: &Payload) -> Result<(), NoMemory>
-    ensures adds { OnOk result (text.new.items ≡ text.old.items ++ payload_text payload.now) }
+fn add_ints(alloc: Global, text: &mut Vec<u8>, ints: &[i64]) -> Result<(), NoMemory>
+    ensures adds { OnOk result (text.new.items ≡ text.old.items ++ ints_text ints.now) }
+    ensures fits { OnOk result (All IsValue ints.now) }
+{
+    for int in ints {
+        text.push(b' ')?;
+        add_value(alloc, text, *int)?;
+    }
+    Ok(())
+}
+
+fn add_message(
+    alloc: Global,
+    text: &mut Vec<u8>,
+    version: Version,
+    message: &Message,
+) -> Result<(), NoMemory>
+    ensures adds { OnOk result (text.new.items ≡ text.old.items ++ message_text version message.now) }
+    ensures fits { OnOk result (IsMessage message.now) }
+{
+    let ints = message.as_slice();
+    match version {
+        Version::First => add_ints(alloc, text, ints),
+        Version::Second => {
+            add_spaced(alloc, text, ints.len() as u64)?;
+            add_ints(alloc, text, ints)
+        }
+    }
+}
+
+fn add_payload(
+    alloc: Global,
+    text: &mut Vec<u8>,
+    version: Version,
+    payload: &Payload,
+) -> Result<(), NoMemory>
+    ensures adds { OnOk result (text.new.items ≡ text.old.items ++ payload_text version payload.now) }
     ensures fits { OnOk result (IsPayload payload.now) }
 {
     match payload {
-        Payload::Int(value) => {
-            text.extend_from_slice(b" int ")?;
-            add_value(alloc, text, *value)
+        Payload::Int(message) => {
+            text.extend_from_slice(version.offered_word())?;
+            add_message(alloc, text, version, message)
         }
         Payload::Read { file, from, len } => {
             text.extend_from_slice(b" read ")?;
@@ -130,8 +168,13 @@ fn add_answer(alloc: Global, text: &mut Vec<u8>, answer: &Answer) -> Result<(), 
     }
 }
 
-fn add_event(alloc: Global, text: &mut Vec<u8>, event: &Event) -> Result<(), NoMemory>
-    ensures adds { OnOk result (text.new.items ≡ text.old.items ++ event_text event.now) }
+fn add_event(
+    alloc: Global,
+    text: &mut Vec<u8>,
+    version: Version,
+    event: &Event,
+) -> Result<(), NoMemory>
+    ensures adds { OnOk result (text.new.items ≡ text.old.items ++ event_text version event.now) }
     ensures fits { OnOk result (IsEvent event.now) }
 {
     match *event {
@@ -142,7 +185,7 @@ fn add_event(alloc: Global, text: &mut Vec<u8>, event: &Event) -> Result<(), NoM
         } => {
             text.extend_from_slice(b" offer ")?;
             add_offer(alloc, text, link, number)?;
-            add_payload(alloc, text, payload)
+            add_payload(alloc, text, version, payload)
         }
         Event::Withdraw { link, number } => {
             text.extend_from_slice(b" withdraw ")?;
@@ -159,12 +202,12 @@ fn add_event(alloc: Global, text: &mut Vec<u8>, event: &Event) -> Result<(), NoM
         Event::Got {
             link,
             number,
-            value,
+            ref value,
         } => {
             text.extend_from_slice(b" got ")?;
             add_offer(alloc, text, link, number)?;
-            text.push(b' ')?;
-            add_value(alloc, text, value)
+            text.extend_from_slice(version.got_word())?;
+            add_message(alloc, text, version, value)
         }
         Event::Pass { link, number } => {
             text.extend_from_slice(b" pass ")?;
@@ -191,10 +234,11 @@ fn add_event(alloc: Global, text: &mut Vec<u8>, event: &Event) -> Result<(), NoM
     }
 }
 
-fn add_title(text: &mut Vec<u8>) -> Result<(), NoMemory>
-    ensures { OnOk result (text.new.items ≡ text.old.items ++ joined (title ∷ [])) }
+fn add_title(text: &mut Vec<u8>, version: Version) -> Result<(), NoMemory>
+    ensures { OnOk result (text.new.items ≡ text.old.items ++ joined (title version ∷ [])) }
 {
-    text.extend_from_slice(b"ac-trace 1\n")?;
+    text.extend_from_slice(version.title())?;
+    text.push(b'\n')?;
     Ok(())
 }
 
@@ -219,14 +263,19 @@ fn add_file(alloc: Global, text: &mut Vec<u8>, number: u64, bytes: &[u8]) -> Res
     Ok(())
 }
 
-fn add_entry(alloc: Global, text: &mut Vec<u8>, stamped: &Stamped) -> Result<(), NoMemory>
-    ensures adds { OnOk result (text.new.items ≡ text.old.items ++ joined (entry_line stamped.now ∷ [])) }
+fn add_entry(
+    alloc: Global,
+    text: &mut Vec<u8>,
+    version: Version,
+    stamped: &Stamped,
+) -> Result<(), NoMemory>
+    ensures adds { OnOk result (text.new.items ≡ text.old.items ++ joined (entry_line version stamped.now ∷ [])) }
     ensures fits { OnOk result (EntryFits stamped.now) }
 {
     add_number(alloc, text, stamped.entry.stamp)?;
     add_spaced(alloc, text, u64::from(stamped.party))?;
     add_spaced(alloc, text, stamped.entry.turn)?;
-    add_event(alloc, text, &stamped.entry.event)?;
+    add_event(alloc, text, version, &stamped.entry.event)?;
     text.push(b'\n')?;
     Ok(())
 }
@@ -276,13 +325,18 @@ fn add_files(alloc: Global, text: &mut Vec<u8>, files: &[Bytes]) -> Result<(), W
     Ok(())
 }
 
-fn add_entries(alloc: Global, text: &mut Vec<u8>, entries: &[Stamped]) -> Result<(), WriteFault>
-    ensures adds { Adds text.old.items text.new.items (joined (entry_lines entries.now)) result }
+fn add_entries(
+    alloc: Global,
+    text: &mut Vec<u8>,
+    version: Version,
+    entries: &[Stamped],
+) -> Result<(), WriteFault>
+    ensures adds { Adds text.old.items text.new.items (joined (entry_lines version entries.now)) result }
     ensures fits { OnOk result (All EntryFits entries.now) }
 {
     for entry in entries {
         check(text.as_slice())?;
-        add_entry(alloc, text, entry)?;
+        add_entry(alloc, text, version, entry)?;
     }
     Ok(())
 }
@@ -305,11 +359,12 @@ pub fn write_trace(alloc: Global, trace: &Trace) -> Result<Bytes, WriteFault>
     ensures writes { Writes trace.now result }
     ensures fits { OnOk result (NumbersFit trace.now) }
 {
+    let version = version_of(trace);
     let mut text = Vec::new(alloc);
-    add_title(&mut text)?;
+    add_title(&mut text, version)?;
     add_steps(alloc, &mut text, trace.steps)?;
     add_files(alloc, &mut text, trace.start.as_slice())?;
-    add_entries(alloc, &mut text, trace.entries.as_slice())?;
+    add_entries(alloc, &mut text, version, trace.entries.as_slice())?;
     add_ends(alloc, &mut text, trace.ends.as_slice())?;
     check(text.as_slice())?;
     Ok(List::from_vec(text))

@@ -17,11 +17,14 @@ use Rattle.trace_text.specs.declared.cursor.LineFault.TheVariants as h
 use Rattle.trace_text.specs.declared.so_far.Stage.{Stage}
 use Rattle.trace_text.specs.declared.so_far.Stage.TheVariants as now
 use Rattle.trace_text.specs.declared.so_far.SoFar.{SoFar}
+use Rattle.trace_text.specs.declared.version.Version.{Version}
+use Rattle.trace_text.specs.declared.version.Version.TheVariants.{First, Second}
 use Rattle.trace_text.specs.declared.trace.Trace.{Trace}
 use Rattle.trace_text.specs.declared.trace.TraceEnd.{TraceEnd}
 use Rattle.trace_text.specs.declared.faults.TraceFault.{TraceFault}
 use Rattle.trace_text.specs.declared.faults.TraceFault.TheVariants as fault
-use Rattle.trace_text.specs.Text.{title}
+use Rattle.trace_text.specs.Versions.{is_wide}
+use Rattle.trace_text.specs.Text.{title, offered_word, got_word}
 
 -- what is taken, and the bytes of the line behind it
 abbrev pub Taken : Type 0 → Type 0
@@ -148,8 +151,25 @@ offer_at bs = number_at most_small bs >>= λ link. spaced_at most_large link.1 >
 abbrev pub range_at : List ℕ → Taken (ℕ × ℕ)
 range_at bs = number_at most_small bs >>= λ file. spaced_at most_small file.1 >>= λ from. Some ((file.0, from.0), from.1)
 
-abbrev pub int_at : List ℕ → Option Payload
-int_at bs = value_at bs >>= λ v. ended v.1 (p.Int v.0)
+-- an int behind a blank
+abbrev pub spaced_value : List ℕ → Taken ℤ
+spaced_value bs = word_at (codes " ") bs >>= value_at
+
+-- so many ints more behind those of a message
+abbrev pub more_ints : List ℤ → ℕ → List ℕ → Taken (List ℤ)
+more_ints ints zero bs = Some (ints, bs)
+more_ints ints (suc k) bs = spaced_value bs >>= λ v. more_ints (ints ++ v.0 ∷ []) k v.1
+
+-- how many ints a message has: one in version 1, and in version 2 as many as the line says
+abbrev pub count_in : Version → List ℕ → Taken ℕ
+count_in First bs = Some (1, bs)
+count_in Second bs = word_at (codes " ") bs >>= positive_at 16
+
+unfoldable pub message_at : Version → List ℕ → Option (List ℤ)
+message_at version bs = count_in version bs >>= λ k. more_ints [] k.0 k.1 >>= λ m. ended m.1 m.0
+
+abbrev pub int_at : Version → List ℕ → Option Payload
+int_at version bs = message_at version bs >>= λ m. Some (p.Int m)
 
 abbrev pub read_at : List ℕ → Option Payload
 read_at bs = range_at bs >>= λ r. spaced_at most_small r.1 >>= λ len. ended len.1 (p.Read r.0.0 r.0.1 len.0)
@@ -157,8 +177,8 @@ read_at bs = range_at bs >>= λ r. spaced_at most_small r.1 >>= λ len. ended le
 abbrev pub write_at : List ℕ → Option Payload
 write_at bs = range_at bs >>= λ r. spaced_bytes r.1 >>= λ bytes. Some (p.Write r.0.0 r.0.1 bytes)
 
-unfoldable pub payload_at : List ℕ → Option Payload
-payload_at bs = choice (word_at (codes " int ") bs) int_at (choice (word_at (codes " read ") bs) read_at
+unfoldable pub payload_at : Version → List ℕ → Option Payload
+payload_at version bs = choice (word_at (offered_word version) bs) (int_at version) (choice (word_at (codes " read ") bs) read_at
     (choice (word_at (codes " write ") bs) write_at None))
 
 abbrev pub count_at : List ℕ → Option ℕ
@@ -178,25 +198,29 @@ bare_offer_at bs = offer_at bs >>= λ o. ended o.1 o.0
 abbrev pub bare_at : (ℕ → ℕ → Event) → List ℕ → Option Event
 bare_at made bs = bare_offer_at bs >>= λ o. Some (made o.0 o.1)
 
-abbrev pub offered_at : List ℕ → Option Event
-offered_at bs = offer_at bs >>= λ o. payload_at o.1 >>= λ payload. Some (e.Offer o.0.0 o.0.1 payload)
+abbrev pub offered_at : Version → List ℕ → Option Event
+offered_at version bs = offer_at bs >>= λ o. payload_at version o.1 >>= λ payload. Some (e.Offer o.0.0 o.0.1 payload)
 
-abbrev pub got_at : List ℕ → Option Event
-got_at bs = offer_at bs >>= λ o. word_at (codes " ") o.1 >>= value_at >>= λ v. ended v.1 (e.Got o.0.0 o.0.1 v.0)
+abbrev pub got_at : Version → List ℕ → Option Event
+got_at version bs = offer_at bs >>= λ o. word_at (got_word version) o.1 >>= message_at version >>= λ m. Some (e.Got o.0.0 o.0.1 m)
 
 abbrev pub answered_at : (ℕ → ℕ → Answer → Event) → List ℕ → Option Event
 answered_at made bs = offer_at bs >>= λ o. answer_at o.1 >>= λ answer. Some (made o.0.0 o.0.1 answer)
 
 -- what the receiving end does
-unfoldable pub taking_at : List ℕ → Option Event
-taking_at bs = choice (word_at (codes " got ") bs) got_at (choice (word_at (codes " pass ") bs) (bare_at e.Pass)
+unfoldable pub taking_at : Version → List ℕ → Option Event
+taking_at version bs = choice (word_at (codes " got ") bs) (got_at version) (choice (word_at (codes " pass ") bs) (bare_at e.Pass)
     (choice (word_at (codes " did ") bs) (answered_at e.Did) (choice (word_at (codes " reply ") bs) (answered_at e.Reply) None)))
 
-unfoldable pub event_at : List ℕ → Option Event
-event_at bs = choice (word_at (codes " offer ") bs) offered_at (choice (word_at (codes " withdraw ") bs) (bare_at e.Withdraw)
-    (choice (word_at (codes " know ") bs) (bare_at e.Know) (choice (word_at (codes " room ") bs) (bare_at e.Room) (taking_at bs))))
+unfoldable pub event_at : Version → List ℕ → Option Event
+event_at version bs = choice (word_at (codes " offer ") bs) (offered_at version) (choice (word_at (codes " withdraw ") bs)
+    (bare_at e.Withdraw)
+    (choice (word_at (codes " know ") bs) (bare_at e.Know) (choice (word_at (codes " room ") bs) (bare_at e.Room) (taking_at version bs))))
 
 -- ---- lines
+
+abbrev pub version_at : List ℕ → Option Version
+version_at line = if bytes_eq line (title First) then Some First else (if bytes_eq line (title Second) then Some Second else None)
 
 abbrev pub steps_at : List ℕ → Option ℕ
 steps_at line = word_at (codes "steps ") line >>= positive_at 2000000 >>= λ n. ended n.1 n.0
@@ -211,10 +235,10 @@ file_at k line = numbered_at (codes "file ") k line >>= spaced_bytes
 abbrev pub stamped : ℕ → ℕ → ℕ → Event → Stamped
 stamped stamp party turn event = record { party = party; entry = record { stamp = stamp; turn = turn; event = event } }
 
-unfoldable pub entry_at : List ℕ → Option Stamped
-entry_at line =
+unfoldable pub entry_at : Version → List ℕ → Option Stamped
+entry_at version line =
     positive_at (2 ^ 60 - 1) line >>= λ stamp. spaced_at most_small stamp.1 >>= λ party. spaced_at most_large party.1 >>= λ turn.
-    event_at turn.1 >>= λ event. Some (stamped stamp.0 party.0 turn.0 event)
+    event_at version turn.1 >>= λ event. Some (stamped stamp.0 party.0 turn.0 event)
 
 abbrev pub word_is : EndWord → List ℕ → Taken EndWord
 word_is word rest = Some (word, rest)
@@ -239,8 +263,8 @@ end_at k line =
 
 -- ---- one line more
 
-abbrev pub with_title : SoFar → SoFar
-with_title s = record s { stage = now.Steps }
+abbrev pub with_title : SoFar → Version → SoFar
+with_title s version = record s { stage = now.Steps; version = version }
 
 abbrev pub with_steps : SoFar → ℕ → SoFar
 with_steps s steps = record s { stage = now.Files; trace = record s.trace { steps = steps } }
@@ -255,7 +279,7 @@ abbrev pub with_end : SoFar → TraceEnd → SoFar
 with_end s end = record s { stage = now.Ends; trace = record s.trace { ends = s.trace.ends ++ end ∷ [] } }
 
 abbrev pub after_title : SoFar → List ℕ → Option SoFar
-after_title s line = if bytes_eq line title then Some (with_title s) else None
+after_title s line = version_at line >>= λ version. Some (with_title s version)
 
 abbrev pub after_steps : SoFar → List ℕ → Option SoFar
 after_steps s line = steps_at line >>= λ steps. Some (with_steps s steps)
@@ -264,7 +288,7 @@ abbrev pub after_file : SoFar → List ℕ → Option SoFar
 after_file s line = file_at (length s.trace.start) line >>= λ bytes. Some (with_file s bytes)
 
 abbrev pub after_entry : SoFar → List ℕ → Option SoFar
-after_entry s line = entry_at line >>= λ entry. Some (with_entry s entry)
+after_entry s line = entry_at s.version line >>= λ entry. Some (with_entry s entry)
 
 abbrev pub after_end : SoFar → List ℕ → Option SoFar
 after_end s line = end_at (length s.trace.ends) line >>= λ end. Some (with_end s end)
@@ -309,14 +333,22 @@ abbrev pub lines_of : List ℕ → Lines
 lines_of [] = ([], [])
 lines_of (b ∷ bs) = if is_feed b then ([] ∷ (lines_of bs).0, (lines_of bs).1) else with_byte b (lines_of bs).0 (lines_of bs).1
 
+-- the text is in version 2 where version 1 would do
+abbrev pub is_needless : Version → Trace → Bool
+is_needless First t = false
+is_needless Second t = not (is_wide t)
+
+abbrev pub told_in : Version → Trace → Result Trace ℕ
+told_in version t = if is_needless version t then Err 1 else Ok t
+
 -- a trace is whole where its last line is an end's
-abbrev pub whole_at : Stage → ℕ → Trace → Result Trace ℕ
-whole_at now.Ends line t = Ok t
-whole_at _ line t = Err line
+abbrev pub whole_at : Stage → Version → ℕ → Trace → Result Trace ℕ
+whole_at now.Ends version line t = told_in version t
+whole_at _ version line t = Err line
 
 -- where the lines end: behind the last line feed stands nothing
 abbrev pub whole : ℕ → List ℕ → SoFar → Result Trace ℕ
-whole line [] s = whole_at s.stage line s.trace
+whole line [] s = whole_at s.stage s.version line s.trace
 whole line (b ∷ tail) s = Err line
 
 -- what comes after a line, or the line that stops
@@ -330,7 +362,7 @@ read_lines line s [] tail = whole line tail s
 read_lines line s (l ∷ ls) tail = going_on (after_line s l) line (λ next. read_lines (suc line) next ls tail)
 
 abbrev pub nothing : SoFar
-nothing = record { stage = now.Title; trace = record { steps = 0; start = []; entries = []; ends = [] } }
+nothing = record { stage = now.Title; version = First; trace = record { steps = 0; start = []; entries = []; ends = [] } }
 
 abbrev pub read_text : List ℕ → Result Trace ℕ
 read_text text = read_lines 1 nothing (lines_of text).0 (lines_of text).1

@@ -1,5 +1,5 @@
 use Rattle.std.proofs.Common.{◌∙◌, sym, arith}
-use Rattle.trace_text.proofs.Steps.{cut_length, open_at, wrong_at, right_at, at_the_end, ends_whole, ends_open}
+use Rattle.trace_text.proofs.Steps.{cut_length, open_at, wrong_at, right_at, at_the_end, ends_whole, ends_open, told_on}
 use Rattle.trace_text.proofs.reader.read.Goals as goal
 
 pub returns-then-len-rest : goal.returns-then-len-rest
@@ -23,11 +23,14 @@ lines-preserved c = record {
 
 pub returns-in-Ends : goal.returns-in-Ends
 returns-in-Ends c =
-    sym c.lines.invariant.same
-    ∙ (at_the_end c.lines.line c.lines.so_far c.args.text.now c.lines.at c.lines-test.false ∙ ends_whole c.lines.line c.lines.so_far.trace c.lines.so_far.stage c.in-Ends.is)
+    told_on c.told.result _ _
+    (sym c.lines.invariant.same
+    ∙ (at_the_end c.lines.line c.lines.so_far c.args.text.now c.lines.at c.lines-test.false
+    ∙ ends_whole c.lines.line c.lines.so_far.version c.lines.so_far.trace c.lines.so_far.stage c.in-Ends.is))
+    c.told.ensures
 
 pub returns-in_default : goal.returns-in_default
 returns-in_default c =
     sym c.lines.invariant.same
     ∙ (at_the_end c.lines.line c.lines.so_far c.args.text.now c.lines.at c.lines-test.false
-    ∙ ends_open c.lines.line c.lines.so_far.trace c.lines.so_far.stage c.in_default.not-Ends)
+    ∙ ends_open c.lines.line c.lines.so_far.version c.lines.so_far.trace c.lines.so_far.stage c.in_default.not-Ends)

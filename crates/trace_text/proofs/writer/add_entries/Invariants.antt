@@ -6,6 +6,6 @@ use Rattle.trace_text.proofs.writer.add_entries.Given as goal
 
 abbrev pub invariant-loop-entry : goal.invariant-loop-entry
 invariant-loop-entry l = record {
-  adds : l.text.items ++ joined (entry_lines (drop l.entry-index l.entries)) ≡ l.fn.text.items ++ joined (entry_lines l.entries);
+  adds : l.text.items ++ joined (entry_lines l.version (drop l.entry-index l.entries)) ≡ l.fn.text.items ++ joined (entry_lines l.version l.entries);
   fits : All EntryFits (take l.entry-index l.entries);
 }
