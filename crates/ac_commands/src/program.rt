@@ -16,12 +16,13 @@ pub struct Function {
     pub body: List<Command>,
 }
 
-/// A channel between two cores, and how many messages it holds.
+/// A channel between two cores, how many messages it holds, and how many ints a message has.
 #[derive(Clone, Copy, Debug, PartialEq, Eq)]
 pub struct Channel {
     pub from: u32,
     pub to: u32,
     pub capacity: u32,
+    pub width: u32,
 }
 
 /// A core, and the function that it enters.

@@ -28,9 +28,9 @@ pub enum Array {
 pub enum Action {
     /// Calls a function with its arguments.
     Call { function: u32 },
-    /// Sends a value on a channel.
+    /// Sends an int, or the elements of an array, on a channel.
     Send { channel: u32 },
-    /// Receives from a channel into the int that is referred to.
+    /// Receives from a channel into the ints that are referred to.
     Recv { channel: u32 },
     /// Reads from a place of a file on, so many bytes, into an array.
     Read { file: u32 },

@@ -1,5 +1,5 @@
 -- Small programs without their names, and some that are in place or not.
-use Rattle.std.proofs.Common.{◌≡◌, refl, ap, ◌∙◌, subst, ℕ, zero, suc, ◌+◌, pos, List, [], ◌∷◌, ◌++◌, length, map, codes, Some, None, true, false, arith}
+use Rattle.std.proofs.Common.{◌≡◌, refl, sym, ap, ◌∙◌, subst, ℕ, zero, suc, ◌+◌, pos, List, [], ◌∷◌, ◌++◌, length, map, codes, Some, None, true, false, arith}
 use Rattle.std.specs.Prelude.{negsuc, slice_get}
 use Rattle.ac_tree.specs.declared.expr.Constant.TheVariants as k
 use Rattle.ac_tree.specs.declared.expr.Expr.{Expr}
@@ -31,19 +31,22 @@ use Rattle.ac_commands.specs.declared.value.Array.TheVariants as ar
 use Rattle.ac_commands.specs.declared.command.Target.TheVariants as t
 use Rattle.ac_commands.specs.declared.command.Command.{Command}
 use Rattle.ac_commands.specs.declared.command.Command.TheVariants as c
+use Rattle.ac_commands.specs.declared.program.Channel.{Channel}
 use Rattle.ac_commands.specs.declared.program.Core.{Core}
 use Rattle.ac_commands.specs.declared.program.Function.{Function}
 use Rattle.ac_commands.specs.declared.program.Resolved.{Resolved}
-use Rattle.ac_resolve.specs.Places.{constant_value, place_of, array_of, name_argument, reference_to, cancel_of, function_of, channel_of, file_of, core_of}
-use Rattle.ac_resolve.specs.Computed.{InScopes, Reading, links_step, arguments_step, file_operands, value_step, argument_step, target_step, read_step, link_step, read, value_in}
+use Rattle.ac_resolve.specs.Places.{constant_value, place_of, array_of, name_argument, received_in, reference_to, cancel_of, function_of, channel_of, file_of, core_of}
+use Rattle.ac_resolve.specs.Computed.{InScopes, Reading, links_step, arguments_step, file_operands, value_step, argument_step}
+use Rattle.ac_resolve.specs.Computed.{target_step, received_step, read_step, link_step, read, value_in, place_in}
 use Rattle.ac_resolve.specs.Computed.{target_in, values_in}
 use Rattle.ac_resolve.specs.Computed.{some_in, initial_in}
 use Rattle.ac_resolve.specs.Commands.{Texts, Told, shape_of, shapes, some_shape, all_texts, commands, some_texts, some_commands, other_commands, texts_step, for_names, commands_step}
 use Rattle.ac_resolve.specs.Commands.{told_step, body_told}
 use Rattle.ac_resolve.specs.Resolution.{body_names, function_in, function_texts, functions_in, items_texts, cores_in, channels_in, start_at, item_starts, starts_in, resolved}
-use Rattle.ac_resolve.specs.InPlace.{FrameRound, no_frame, frame_at, Holds, HoldInts, HasSlots, is_among, with_entered, want_of, IsOne, AreInts, AreStarts}
+use Rattle.ac_resolve.specs.InPlace.{FrameRound, no_frame, frame_at, Holds, HoldInts, HasSlots, is_among, with_entered, want_of, HasLength, AreInts, AreStarts}
 use Rattle.ac_resolve.specs.InPlace.{NoReferences, Use, AsInt, AsReference, AsBlock, Round, is_entered, in_block, in_body, in_function, IsPlace, global, local, IsArray, local_array, parameter}
-use Rattle.ac_resolve.specs.InPlace.{AnInt, AnArray, OneInt, IsValue, number, variable, reference, one_int, AreOperands, no_operand, one_operand, to_variable}
+use Rattle.ac_resolve.specs.InPlace.{Want, Wants, send, recv, AnInt, AnArray, Elements, AMessage, IsValue, number}
+use Rattle.ac_resolve.specs.InPlace.{variable, reference, elements, one_int, some_ints, AreOperands, no_operand, one_operand, to_variable}
 use Rattle.ac_resolve.specs.InPlace.{IsCommand, set, do_finish, start, cancel, AreCommands, no_command, one_command, IsCore, IsChannel, IsFunction, IsInPlace}
 use Rattle.ac_resolve.proofs.Uses.{ints}
 use Rattle.ac_resolve.proofs.Stretches.{Stands, hold_ints}
@@ -131,6 +134,18 @@ into_an_element =
     ap (λ (q : Reading). q.value scopes 0) (expr_reads _ (e.rolls-Recv 0 (codes "c") (e.Index 9 (codes "a") (e.Number 11 (pos 2)))))
     ∙ rw (expr_reads _ (e.rolls-Index 9 (codes "a") (e.Number 11 (pos 2))), expr_reads _ (e.rolls-Number 11 (pos 2))) refl
 
+-- Send(c, a) and Recv(c, &a): the whole array is referred to
+pub a_message_of_three : value_in (e.Send 0 (codes "c") (e.Name 8 (codes "a"))) scopes 0 ≡ v.Act (act.Send 4) (v.Reference (ar.Local 0 2 3) ∷ [])
+a_message_of_three = ap (λ (q : Reading). q.value scopes 0) (expr_reads _ (e.rolls-Send 0 (codes "c") (e.Name 8 (codes "a")))) ∙ rw (expr_reads _ (e.rolls-Name 8 (codes "a"))) refl
+
+pub into_an_array : value_in (e.Recv 0 (codes "c") (e.Name 9 (codes "a"))) scopes 0 ≡ v.Act (act.Recv 4) (v.Reference (ar.Local 0 2 3) ∷ [])
+into_an_array = ap (λ (q : Reading). q.value scopes 0) (expr_reads _ (e.rolls-Recv 0 (codes "c") (e.Name 9 (codes "a")))) ∙ rw (expr_reads _ (e.rolls-Name 9 (codes "a"))) refl
+
+pub where_messages_go : place_in (e.Name 9 (codes "x")) scopes 0 ∷ place_in (e.Name 12 (codes "b")) scopes 1 ∷ [] ≡ v.Reference (ar.Local 0 1 1) ∷ v.Reference (ar.Param 1 0) ∷ []
+where_messages_go =
+    ap (λ (q : Reading). q.received scopes 0 ∷ place_in (e.Name 12 (codes "b")) scopes 1 ∷ []) (expr_reads _ (e.rolls-Name 9 (codes "x")))
+    ∙ ap (λ (q : Reading). v.Reference (ar.Local 0 1 1) ∷ q.received scopes 1 ∷ []) (expr_reads _ (e.rolls-Name 12 (codes "b")))
+
 -- ---- what names stand for
 
 pub named_results : map constant_value (k.Ok ∷ k.Cancelled ∷ k.Fault ∷ []) ≡ pos 0 ∷ negsuc 0 ∷ negsuc 1 ∷ []
@@ -145,6 +160,10 @@ arrays = refl
 
 pub names_as_arguments : name_argument (Some (m.ArrayParam 5)) 2 ∷ name_argument (Some (m.Global 3)) 2 ∷ [] ≡ v.Reference (ar.Param 2 5) ∷ v.Variable (p.Global 3) ∷ []
 names_as_arguments = refl
+
+pub names_that_receive : received_in (Some (m.GlobalArray 5 3)) 2 ∷ received_in (Some (m.LocalArray 1 5 3)) 2 ∷ received_in (Some (m.Global 3)) 2 ∷ received_in (Some (m.Local 0 3)) 2 ∷ []
+    ≡ ar.Global 5 3 ∷ ar.Local 1 5 3 ∷ ar.Global 3 1 ∷ ar.Local 2 3 1 ∷ []
+names_that_receive = refl
 
 pub references_to_one_int : reference_to (t.Variable (p.Local 2 3)) ∷ reference_to (t.Element (ar.Param 2 5) (v.Number (pos 1))) ∷ []
     ≡ v.Reference (ar.Local 2 3 1) ∷ v.Part (ar.Param 2 5) (v.Number (pos 1)) ∷ []
@@ -163,7 +182,11 @@ abbrev seven : InScopes Value
 seven around depth = v.Number (pos 7)
 
 abbrev seven_read : Reading
-seven_read = record { value = seven; argument = seven; target = λ around depth. t.Variable (p.Global 7) }
+seven_read = record { value = seven; argument = seven; target = λ around depth. t.Variable (p.Global 7); received = λ around depth. v.Reference (ar.Global 7 1) }
+
+pub received_by_its_form : received_step (Expr-F.Name 0 (codes "a")) scopes 0 ∷ received_step (Expr-F.Index 0 (codes "a") seven_read) scopes 0 ∷ received_step (Expr-F.Group 0 seven_read) scopes 0 ∷ []
+    ≡ v.Reference (ar.Local 0 2 3) ∷ v.Part (ar.Local 0 2 3) (v.Number (pos 7)) ∷ v.Reference (ar.Global 0 1) ∷ []
+received_by_its_form = refl
 
 pub links_in_order : links_step (link_step (record { op = b.Add; operand = seven_read }) ∷ link_step (record { op = b.Mul; operand = seven_read }) ∷ []) scopes 0
     ≡ with_value b.Add (v.Number (pos 7)) ∷ with_value b.Mul (v.Number (pos 7)) ∷ []
@@ -300,7 +323,7 @@ two_cores = (record { name = codes "k"; meaning = m.Core 2 } ∷ record { name =
 pub cores_alone : cores_in two_items scopes ≡ record { name = codes "a"; entry = 7 } ∷ []
 cores_alone = refl
 
-pub channels_alone : channels_in two_items two_cores ≡ record { from = 2; to = 0; capacity = 5 } ∷ []
+pub channels_alone : channels_in two_items 0 two_items two_cores ≡ record { from = 2; to = 0; capacity = 5; width = 1 } ∷ []
 channels_alone = refl
 
 -- nought needs no start
@@ -373,13 +396,13 @@ one_more_is_entered = refl
 pub wanted_of_parameters : want_of true ∷ want_of false ∷ [] ≡ AnArray ∷ AnInt ∷ []
 wanted_of_parameters = refl
 
-pub one_element : IsOne (ar.Global 4 1)
+pub one_element : HasLength 1 (ar.Global 4 1)
 one_element = refl
 
-pub two_elements : IsOne (ar.Local 0 4 2) → ⊥
+pub two_elements : HasLength 1 (ar.Local 0 4 2) → ⊥
 two_elements e = omega (arith, e)
 
-pub elements_of_a_parameter : IsOne (ar.Param 0 4) → ⊥
+pub elements_of_a_parameter : HasLength 1 (ar.Param 0 4) → ⊥
 elements_of_a_parameter h = h
 
 pub a_global_is_there : IsPlace one_global in_a_body (p.Global 0)
@@ -444,8 +467,35 @@ operands_of_the_right_kinds =
 pub an_operand_too_few : AreOperands one_global in_a_body (AnInt ∷ []) [] → ⊥
 an_operand_too_few h = elim h [ ]
 
-pub two_ints_are_not_one : IsValue one_global in_a_body OneInt (v.Reference (ar.Local 1 3 2)) → ⊥
-two_ints_are_not_one (one_int array h e) = omega (arith, e)
+pub two_ints_are_not_one : IsValue one_global in_a_body (Elements 1) (v.Reference (ar.Local 1 3 2)) → ⊥
+two_ints_are_not_one (elements count array h e) = omega (arith, e)
+
+pub two_ints_are_a_message : IsValue one_global in_a_body (AMessage 2) (v.Reference (ar.Local 1 3 2)) × IsValue one_global in_a_body (AMessage 1) (v.Number (pos 7))
+two_ints_are_a_message = (some_ints 2 _ an_array_of_two_slots_is_there refl, one_int _ (number (pos 7)))
+
+pub an_int_is_no_message_of_two : IsValue one_global in_a_body (AMessage 2) (v.Number (pos 7)) → ⊥
+an_int_is_no_message_of_two h = elim h [ ]
+
+-- one channel whose messages have two ints
+abbrev two_wide : Channel
+two_wide = record { from = 0; to = 1; capacity = 1; width = 2 }
+
+abbrev one_channel : Resolved
+one_channel = record one_global { channels = two_wide ∷ [] }
+
+pub two_ints_are_sent : Wants one_channel (act.Send 0) (AMessage 2 ∷ []) × Wants one_channel (act.Recv 0) (Elements 2 ∷ [])
+two_ints_are_sent = (send 0 two_wide refl, recv 0 two_wide refl)
+
+-- how many ints the message has that is wanted alone
+abbrev ints_wanted : List Want → ℕ
+ints_wanted (AMessage count ∷ []) = count
+ints_wanted _ = 0
+
+two_are_wanted : {wants : List Want} → Wants one_channel (act.Send 0) wants → ints_wanted wants ≡ 2
+two_are_wanted (send k channel there) = let same : two_wide ≡ channel = cc in ap (λ (x : Channel). x.width) (sym same)
+
+pub one_int_is_not : Wants one_channel (act.Send 0) (AMessage 1 ∷ []) → ⊥
+one_int_is_not h = let two : 1 ≡ 2 = two_are_wanted h in omega (arith, two)
 
 -- ---- blocks
 
@@ -547,7 +597,7 @@ a_program_has_a_core h = let some = h.some_core in omega (arith, some)
 pub a_core_without_its_function : IsCore one_global (record { name = codes "a"; entry = 0 }) → ⊥
 a_core_without_its_function h = let e = h.there in cc
 
-pub a_channel_has_two_ends : IsChannel one_block (record { from = 0; to = 0; capacity = 1 }) → ⊥
+pub a_channel_has_two_ends : IsChannel one_block (record { from = 0; to = 0; capacity = 1; width = 1 }) → ⊥
 a_channel_has_two_ends h = h.other refl
 
 pub a_start_that_is_not_there : IsInPlace (record one_global { starts = record { slot = 1; value = pos 5 } ∷ [] }) → ⊥

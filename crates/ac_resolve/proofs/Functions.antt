@@ -97,14 +97,14 @@ resolved_of cores functions channels files slots starts texts =
 
 abbrev built : List Item → List (List Declaration) → Texts → Resolved
 built items scopes texts =
-    resolved_of (cores_in items scopes) (functions_in items scopes texts) (channels_in items scopes) (file_paths items) (whole items).counts.slots (starts_in no_past.counts items)
+    resolved_of (cores_in items scopes) (functions_in items scopes texts) (channels_in items 0 items scopes) (file_paths items) (whole items).counts.slots (starts_in no_past.counts items)
     (items_texts items texts)
 
 pub resolved_is : (p q : Program) (items : List Item) (past : Past) (scopes : List (List Declaration)) (texts : Texts) (cores : List Core) (functions : List Function) (channels : List Channel)
     (files : List (List ℕ))
     (starts : List Start) (labels : List (List Declaration)) (slot : ℕ) (u : Walk) →
     q ≡ p → items ≡ q.items → past ≡ whole items → scopes ≡ past.names ∷ [] → texts ≡ [] → cores ≡ cores_in items scopes → functions ≡ functions_in items scopes texts
-    → channels ≡ channels_in items scopes → files ≡ file_paths items →
+    → channels ≡ channels_in p.items 0 p.items scopes → files ≡ file_paths items →
     starts ≡ starts_in no_past.counts items → u ≡ after_functions items (walk_of (names_of scopes labels slot) texts) →
     resolved_of cores functions channels files past.counts.slots starts u.texts ≡ resolved p
 resolved_is p q items past scopes texts cores functions channels files starts labels slot u eq ei ep es et e1 e2 e3 e4 e6 eu =
@@ -112,13 +112,15 @@ resolved_is p q items past scopes texts cores functions channels files starts la
     let s7 : u.texts ≡ items_texts items texts = ap (λ (k : Walk). k.texts) eu in
     let i : items ≡ p.items = ei ∙ ap (λ (k : Program). k.items) eq in
     let o : scopes ≡ outermost items = es ∙ ap (λ (k : Past). k.names ∷ []) ep in
+    let links : channels ≡ channels_in items 0 items scopes = e3 ∙ ap (λ xs. channels_in xs 0 xs scopes) (sym i) in
     ap (λ x. resolved_of x functions channels files past.counts.slots starts u.texts) e1
     ∙ ap (λ x. resolved_of (cores_in items scopes) x channels files past.counts.slots starts u.texts) e2
-    ∙ ap (λ x. resolved_of (cores_in items scopes) (functions_in items scopes texts) x files past.counts.slots starts u.texts) e3
-    ∙ ap (λ x. resolved_of (cores_in items scopes) (functions_in items scopes texts) (channels_in items scopes) x past.counts.slots starts u.texts) e4
-    ∙ ap (λ x. resolved_of (cores_in items scopes) (functions_in items scopes texts) (channels_in items scopes) (file_paths items) x starts u.texts) s5
-    ∙ ap (λ x. resolved_of (cores_in items scopes) (functions_in items scopes texts) (channels_in items scopes) (file_paths items) (whole items).counts.slots x u.texts) e6
-    ∙ ap (λ x. resolved_of (cores_in items scopes) (functions_in items scopes texts) (channels_in items scopes) (file_paths items) (whole items).counts.slots (starts_in no_past.counts items) x) s7
+    ∙ ap (λ x. resolved_of (cores_in items scopes) (functions_in items scopes texts) x files past.counts.slots starts u.texts) links
+    ∙ ap (λ x. resolved_of (cores_in items scopes) (functions_in items scopes texts) (channels_in items 0 items scopes) x past.counts.slots starts u.texts) e4
+    ∙ ap (λ x. resolved_of (cores_in items scopes) (functions_in items scopes texts) (channels_in items 0 items scopes) (file_paths items) x starts u.texts) s5
+    ∙ ap (λ x. resolved_of (cores_in items scopes) (functions_in items scopes texts) (channels_in items 0 items scopes) (file_paths items) (whole items).counts.slots x u.texts) e6
+    ∙ ap (λ x. resolved_of (cores_in items scopes) (functions_in items scopes texts) (channels_in items 0 items scopes) (file_paths items) (whole items).counts.slots
+    (starts_in no_past.counts items) x) s7
     ∙ ap (λ x. built items x texts) o
     ∙ ap (λ x. built items (outermost items) x) et
     ∙ ap (λ x. built x (outermost x) []) i

@@ -9,10 +9,11 @@ use Rattle.ac_names.specs.declared.past.Counts.{Counts}
 use Rattle.ac_names.specs.declared.past.Past.{Past}
 use Rattle.ac_names.specs.Scopes.{Declaration}
 use Rattle.ac_names.specs.Items.{item_name, item_meaning, counted, past_after, past_all}
-use Rattle.ac_names.specs.Numbered.{file_paths}
+use Rattle.ac_names.specs.Numbered.{capacities, file_paths}
 use Rattle.ac_names.proofs.Visible.{AllMean, added_mean}
 use Rattle.ac_types.specs.declared.numbered.Tables.{Tables}
-use Rattle.ac_types.specs.Items.{signatures}
+use Rattle.ac_types.specs.Widths.{widths_in}
+use Rattle.ac_types.specs.Items.{signatures, all_carried}
 use Rattle.ac_commands.specs.declared.program.Resolved.{Resolved}
 use Rattle.ac_resolve.specs.Commands.{Texts}
 use Rattle.ac_resolve.specs.Resolution.{cores_in, functions_in, function_in, function_texts, channels_in}
@@ -72,12 +73,13 @@ slots_more q (x ∷ xs) = let h = slots_more (past_after q x) xs in let k = one_
   one_more c (i.File at name path) = omega arith
   one_more c (i.Core at name entry) = omega arith
 
-module _ (program : Resolved) (t : Tables) (s : List (List Declaration)) where
-  -- so far the program was told by these items
+module _ (program : Resolved) (t : Tables) (all : List Item) (s : List (List Declaration)) where
+  -- so far the program of all the items was told by these
   pub record AreTold (c : Counts) (xs : List Item) (ts : Texts) : Type 0 where
     pub signatures : IsTold t.functions (signatures xs) c.functions
     pub functions : IsTold program.functions (functions_in xs s ts) c.functions
-    pub channels : IsTold program.channels (channels_in xs s) c.channels
+    pub channels : IsTold program.channels (channels_in all c.channels xs s) c.channels
+    pub widths : IsTold t.widths (widths_in (all_carried all) c.channels (length (capacities xs))) c.channels
     pub files : IsTold program.files (file_paths xs) c.files
     pub cores : IsTold program.cores (cores_in xs s) c.cores
 
@@ -87,20 +89,21 @@ module _ (program : Resolved) (t : Tables) (s : List (List Declaration)) where
 
   pub told_after : (c : Counts) (x : Item) (xs : List Item) (ts : Texts) → AreTold c (x ∷ xs) ts → AreTold (counted c x) xs (texts_after x ts)
   told_after c (i.Global at name size value) xs ts h =
-      record { signatures = h.signatures; functions = h.functions; channels = h.channels; files = h.files; cores = h.cores }
+      record { signatures = h.signatures; functions = h.functions; channels = h.channels; widths = h.widths; files = h.files; cores = h.cores }
   told_after c (i.Function f) xs ts h = record {
     signatures = told_on _ _ _ _ h.signatures;
     functions = told_on _ _ _ _ h.functions;
     channels = h.channels;
+    widths = h.widths;
     files = h.files;
     cores = h.cores;
   }
   told_after c (i.Channel at name from to cap) xs ts h =
-      record { signatures = h.signatures; functions = h.functions; channels = told_on _ _ _ _ h.channels; files = h.files; cores = h.cores }
+      record { signatures = h.signatures; functions = h.functions; channels = told_on _ _ _ _ h.channels; widths = told_on _ _ _ _ h.widths; files = h.files; cores = h.cores }
   told_after c (i.File at name path) xs ts h =
-      record { signatures = h.signatures; functions = h.functions; channels = h.channels; files = told_on _ _ _ _ h.files; cores = h.cores }
+      record { signatures = h.signatures; functions = h.functions; channels = h.channels; widths = h.widths; files = told_on _ _ _ _ h.files; cores = h.cores }
   told_after c (i.Core at name entry) xs ts h =
-      record { signatures = h.signatures; functions = h.functions; channels = h.channels; files = h.files; cores = told_on _ _ _ _ h.cores }
+      record { signatures = h.signatures; functions = h.functions; channels = h.channels; widths = h.widths; files = h.files; cores = told_on _ _ _ _ h.cores }
 
   -- what an item means is there
   item_there : (frames : List FrameRound) (c : Counts) (x : Item) (xs : List Item) (ts : Texts) → AreTold c (x ∷ xs) ts → (counted c x).slots ≤ program.slots
@@ -114,7 +117,7 @@ module _ (program : Resolved) (t : Tables) (s : List (List Declaration)) where
     there = told_here _ _ _ _ h.functions;
     params = refl;
   }
-  item_there frames c (i.Channel at name from to cap) xs ts h le = told_below _ _ _ _ h.channels
+  item_there frames c (i.Channel at name from to cap) xs ts h le = record { channel = _; there = told_here _ _ _ _ h.channels; told = told_here _ _ _ _ h.widths }
   item_there frames c (i.File at name path) xs ts h le = told_below _ _ _ _ h.files
   item_there frames c (i.Core at name entry) xs ts h le = told_below _ _ _ _ h.cores
 

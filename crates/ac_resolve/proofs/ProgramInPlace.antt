@@ -26,9 +26,11 @@ use Rattle.ac_types.specs.Tables.{callee, callee_of}
 use Rattle.ac_types.specs.Nodes.{Node}
 use Rattle.ac_types.specs.Expressions.{one_node, join_nodes}
 use Rattle.ac_types.specs.Statements.{stmt_nodes, body_gives}
+use Rattle.ac_types.specs.Items.{all_carried, channel_width}
 use Rattle.ac_types.specs.Items.{tables_of, core_tests, link_tests, is_no_entry, is_capacity, is_same_core, reached_in, around_of, params_give, function_nodes, item_gives, items_give, program_nodes}
 use Rattle.ac_types.specs.Judged.{lacks_one}
 use Rattle.ac_types.specs.Reached.{BreaksNone}
+use Rattle.ac_types.proofs.Widths.{is_width}
 use Rattle.ac_types.proofs.Cleans.{AllClean, clean_program, clean_sooner, clean_later, not_false}
 use Rattle.ac_commands.specs.declared.program.Function.{Function}
 use Rattle.ac_commands.specs.declared.program.Channel.{Channel}
@@ -264,9 +266,9 @@ module _ (program : Resolved) (t : Tables) where
     ends_differ : (from to : Option Meaning) → IsEnd from → IsEnd to → (is_same_core from to ≡ true → ⊥) → core_of from ≢ core_of to
     ends_differ _ _ (is_end j lt) (is_end k lt2) n e = n (grind (arith, nat_tests, e))
 
-    channel_there : (before : Option Meaning) (from to : List ℕ) (cap : ℤ) (channels : ℕ) → AreClean (link_tests before (visible from s) (visible to s) cap channels)
-        → IsChannel program (record { from = core_of (visible from s); to = core_of (visible to s); capacity = capacity_size cap })
-    channel_there before from to cap channels c =
+    channel_there : (all : List Item) (before : Option Meaning) (from to : List ℕ) (cap : ℤ) (channels : ℕ) → AreClean (link_tests before (visible from s) (visible to s) cap channels)
+        → IsChannel program (record { from = core_of (visible from s); to = core_of (visible to s); capacity = capacity_size cap; width = channel_width all channels })
+    channel_there all before from to cap channels c =
         let known : lacks_one (visible from s) (visible to s) ≡ true → ⊥ = λ e. c 2 (inr (inl (refl, e))) in
         let fitting : either (is_other ki.Core (visible from s)) (is_other ki.Core (visible to s)) ≡ true → ⊥ =
         λ e. c 4 (inr (inr (inl (refl, asked_true (lacks_one (visible from s) (visible to s)) _ known e)))) in
@@ -281,25 +283,28 @@ module _ (program : Resolved) (t : Tables) where
           other = ends_differ (visible from s) (visible to s) one two (λ e. c 14 (inr (inr (inr (inl (refl, first_true _ _ e))))));
           some = fits.0;
           few = fits.1;
+          some_ints = (is_width (all_carried all) channels).some;
+          few_ints = (is_width (all_carried all) channels).few;
         }
 
-    channels_there : (q : Past) (xs : List Item) → AllClean (nodes_of q xs) → (number : ℕ) (channel : Channel) → slice_get (channels_in xs s) number ≡ Some channel
+    channels_there : (all : List Item) (q : Past) (xs : List Item) → AllClean (nodes_of q xs) → (number : ℕ) (channel : Channel) → slice_get (channels_in all q.counts.channels xs s) number
+        ≡ Some channel
         → IsChannel program channel
-    channels_there q [] c number channel e = cc
-    channels_there q (i.Channel at name from to cap ∷ xs) c zero channel e =
+    channels_there all q [] c number channel e = cc
+    channels_there all q (i.Channel at name from to cap ∷ xs) c zero channel e =
         subst (IsChannel program) (same _ channel e)
-        (channel_there (in_scope name q.names) from to cap q.counts.channels (first_clean q (i.Channel at name from to cap) xs c).0) where
+        (channel_there all (in_scope name q.names) from to cap q.counts.channels (first_clean q (i.Channel at name from to cap) xs c).0) where
           same : (a b : Channel) → Some a ≡ Some b → a ≡ b
           same a b h = cc
-    channels_there q (i.Channel at name from to cap ∷ xs) c (suc number) channel e =
-        channels_there (past_after q (i.Channel at name from to cap)) xs (rest_clean q (i.Channel at name from to cap) xs c) number channel e
-    channels_there q (i.Core at name entry ∷ xs) c number channel e =
-        channels_there (past_after q (i.Core at name entry)) xs (rest_clean q (i.Core at name entry) xs c) number channel e
-    channels_there q (i.Function f ∷ xs) c number channel e = channels_there (past_after q (i.Function f)) xs (rest_clean q (i.Function f) xs c) number channel e
-    channels_there q (i.Global at name size value ∷ xs) c number channel e =
-        channels_there (past_after q (i.Global at name size value)) xs (rest_clean q (i.Global at name size value) xs c) number channel e
-    channels_there q (i.File at name path ∷ xs) c number channel e =
-        channels_there (past_after q (i.File at name path)) xs (rest_clean q (i.File at name path) xs c) number channel e
+    channels_there all q (i.Channel at name from to cap ∷ xs) c (suc number) channel e =
+        channels_there all (past_after q (i.Channel at name from to cap)) xs (rest_clean q (i.Channel at name from to cap) xs c) number channel e
+    channels_there all q (i.Core at name entry ∷ xs) c number channel e =
+        channels_there all (past_after q (i.Core at name entry)) xs (rest_clean q (i.Core at name entry) xs c) number channel e
+    channels_there all q (i.Function f ∷ xs) c number channel e = channels_there all (past_after q (i.Function f)) xs (rest_clean q (i.Function f) xs c) number channel e
+    channels_there all q (i.Global at name size value ∷ xs) c number channel e =
+        channels_there all (past_after q (i.Global at name size value)) xs (rest_clean q (i.Global at name size value) xs c) number channel e
+    channels_there all q (i.File at name path ∷ xs) c number channel e =
+        channels_there all (past_after q (i.File at name path)) xs (rest_clean q (i.File at name path) xs c) number channel e
 
     -- ---- files
 
@@ -345,12 +350,12 @@ module _ (items : List Item) (rows : List Reached) (c : AllClean (program_nodes 
   abbrev t : Tables
   t = tables_of items rows
 
-  all_told : AreTold program t (outermost items) no_past.counts items []
-  all_told = record { signatures = told_first _; functions = told_first _; channels = told_first _; files = told_first _; cores = told_first _ }
+  all_told : AreTold program t items (outermost items) no_past.counts items []
+  all_told = record { signatures = told_first _; functions = told_first _; channels = told_first _; widths = told_first _; files = told_first _; cores = told_first _ }
 
   all_mean : (frames : List FrameRound) → AllMean (IsWithin program t frames 0) (whole items).names
   all_mean frames = names_mean (IsWithin program t frames 0) no_past items (none_mean (IsWithin program t frames 0))
-      (items_there program t (outermost items) frames no_past items [] all_told (omega arith))
+      (items_there program t items (outermost items) frames no_past items [] all_told (omega arith))
 
   core_count : (1 ≤ length program.cores) × (length program.cores ≤ 16)
   core_count =
@@ -368,7 +373,7 @@ module _ (items : List Item) (rows : List Reached) (c : AllClean (program_nodes 
     some_core = core_count.0;
     few_cores = core_count.1;
     cores = cores_there program t (whole items).names all_mean no_past items c.1;
-    channels = channels_there program t (whole items).names all_mean no_past items c.1;
+    channels = channels_there program t (whole items).names all_mean items no_past items c.1;
     few_files = file_count;
     starts = starts_there no_past items 0 program.slots (omega arith) (omega arith);
   }

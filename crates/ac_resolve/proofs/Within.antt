@@ -9,6 +9,7 @@ use Rattle.ac_names.specs.Scopes.{Declaration, visible, declared}
 use Rattle.ac_names.proofs.Visible.{visible_after}
 use Rattle.ac_types.specs.declared.numbered.Signature.{Signature}
 use Rattle.ac_types.specs.declared.numbered.Tables.{Tables}
+use Rattle.ac_commands.specs.declared.program.Channel.{Channel}
 use Rattle.ac_commands.specs.declared.program.Function.{Function}
 use Rattle.ac_commands.specs.declared.program.Resolved.{Resolved}
 use Rattle.ac_resolve.specs.InPlace.{Use, AsInt, AsReference, FrameRound, frame_at, is_among, with_entered}
@@ -21,6 +22,12 @@ pub record IsSigned (program : Resolved) (t : Tables) (number : ℕ) : Type 0 wh
   pub function : Function
   pub there : slice_get program.functions number ≡ Some function
   pub params : function.params ≡ signature.params
+
+-- a channel of the program has the width by which the rules are judged
+pub record IsWide (program : Resolved) (t : Tables) (number : ℕ) : Type 0 where
+  pub channel : Channel
+  pub there : slice_get program.channels number ≡ Some channel
+  pub told : slice_get t.widths number ≡ Some channel.width
 
 -- declared in so many async bodies, seen from so many, with slots that hold that
 pub record IsReached (frames : List FrameRound) (depth there slot len : ℕ) (what : Use) : Type 0 where
@@ -35,7 +42,7 @@ IsWithin program t frames depth (m.Local there slot) = IsReached frames depth th
 IsWithin program t frames depth (m.LocalArray there slot len) = IsReached frames depth there slot len AsInt
 IsWithin program t frames depth (m.ArrayParam slot) = IsReached frames depth 0 slot 1 AsReference
 IsWithin program t frames depth (m.Function number) = IsSigned program t number
-IsWithin program t frames depth (m.Channel number) = number < length program.channels
+IsWithin program t frames depth (m.Channel number) = IsWide program t number
 IsWithin program t frames depth (m.File number) = number < length program.files
 IsWithin program t frames depth (m.Label there slot) = Unit {0}
 IsWithin program t frames depth (m.Core number) = number < length program.cores

@@ -11,16 +11,19 @@ use Rattle.ac_commands.specs.declared.value.Place.TheVariants as p
 use Rattle.ac_commands.specs.declared.value.Action.TheVariants as act
 use Rattle.ac_commands.specs.declared.command.Target.{Target}
 use Rattle.ac_commands.specs.declared.command.Target.TheVariants as t
-use Rattle.ac_resolve.specs.Places.{constant_value, place_of, array_of, name_argument, reference_to, function_of, channel_of, file_of}
+use Rattle.ac_resolve.specs.Places.{constant_value, place_of, array_of, name_argument, received_in, reference_to}
+use Rattle.ac_resolve.specs.Places.{function_of, channel_of, file_of}
 
 abbrev pub InScopes : Type 0 → Type 0
 InScopes A = List (List Declaration) → ℕ → A
 
--- What an expression is by the place where it stands: where its value is used, as an argument of a call, and as what an int is put into.
+-- What an expression is by the place where it stands: where its value is used, whole as an argument of a call or as what is sent, as
+-- what an int is put into, and as where a message is received.
 pub record Reading : Type 0 where
   pub value : InScopes Value
   pub argument : InScopes Value
   pub target : InScopes Target
+  pub received : InScopes Value
 
 -- ---- values
 
@@ -47,15 +50,15 @@ value_step (Expr-F.Unary at op inner) scopes depth = v.Unary op (inner.value sco
 value_step (Expr-F.Chain at level first rest) scopes depth = v.Chain (first.value scopes depth) (links_step rest scopes depth)
 value_step (Expr-F.Call at name args) scopes depth = v.Act (act.Call (function_of (visible name scopes))) (arguments_step args scopes depth)
 value_step (Expr-F.Send at channel value) scopes depth =
-    v.Act (act.Send (channel_of (visible channel scopes))) (value.value scopes depth ∷ [])
+    v.Act (act.Send (channel_of (visible channel scopes))) (value.argument scopes depth ∷ [])
 value_step (Expr-F.Recv at channel place) scopes depth =
-    v.Act (act.Recv (channel_of (visible channel scopes))) (reference_to (place.target scopes depth) ∷ [])
+    v.Act (act.Recv (channel_of (visible channel scopes))) (place.received scopes depth ∷ [])
 value_step (Expr-F.Read at file from len array) scopes depth =
     v.Act (act.Read (file_of (visible file scopes))) (file_operands from len array scopes depth)
 value_step (Expr-F.Write at file from len array) scopes depth =
     v.Act (act.Write (file_of (visible file scopes))) (file_operands from len array scopes depth)
 
--- ---- arguments and targets
+-- ---- arguments, targets and where messages are received
 
 abbrev pub argument_step : Expr-F Reading (InScopes ValueLink) → InScopes Value
 argument_step (Expr-F.Name at name) scopes depth = name_argument (visible name scopes) depth
@@ -67,10 +70,14 @@ target_step (Expr-F.Name at name) scopes depth = t.Variable (place_of (visible n
 target_step (Expr-F.Index at name index) scopes depth = t.Element (array_of (visible name scopes) depth) (index.value scopes depth)
 target_step _ scopes depth = t.Variable (p.Global 0)
 
+abbrev pub received_step : Expr-F Reading (InScopes ValueLink) → InScopes Value
+received_step (Expr-F.Name at name) scopes depth = v.Reference (received_in (visible name scopes) depth)
+received_step x scopes depth = reference_to (target_step x scopes depth)
+
 -- ---- all of it
 
 abbrev pub read_step : Expr-F Reading (InScopes ValueLink) → Reading
-read_step x = record { value = value_step x; argument = argument_step x; target = target_step x }
+read_step x = record { value = value_step x; argument = argument_step x; target = target_step x; received = received_step x }
 
 abbrev pub link_step : Link-F Reading (InScopes ValueLink) → InScopes ValueLink
 link_step link scopes depth = record { op = link.op; operand = link.operand.value scopes depth }
@@ -86,6 +93,10 @@ argument_in x scopes depth = (read x).argument scopes depth
 
 abbrev pub target_in : Expr → InScopes Target
 target_in x scopes depth = (read x).target scopes depth
+
+-- the place of a Recv as a reference to where the message goes
+abbrev pub place_in : Expr → InScopes Value
+place_in x scopes depth = (read x).received scopes depth
 
 abbrev pub link_in : Link → InScopes ValueLink
 link_in = fold-Link Reading (InScopes ValueLink) read_step link_step

@@ -112,28 +112,31 @@ pub data IsArray (program : Resolved) (r : Round) : Array → Type 0 where
   -- a parameter of the function
   parameter : (level slot : ℕ) → level < length r.frames → Holds r level slot AsReference → IsArray program r (a.Param level slot)
 
--- what an operand has to be: an int, a reference to an array, or a reference to one int
+-- what an operand has to be: an int, a reference to an array, a reference to just so many ints, or a message of so many ints
 pub data Want : Type 0 where
   AnInt : Want
   AnArray : Want
-  OneInt : Want
+  Elements : ℕ → Want
+  AMessage : ℕ → Want
 
 abbrev pub want_of : Bool → Want
 want_of true = AnArray
 want_of false = AnInt
 
--- the reference is to one element
-abbrev pub IsOne : Array → Type 0
-IsOne (a.Global slot len) = len ≡ 1
-IsOne (a.Local level slot len) = len ≡ 1
-IsOne (a.Param level slot) = ⊥
+-- the reference is to just so many elements; of a parameter that is not known
+abbrev pub HasLength : ℕ → Array → Type 0
+HasLength count (a.Global slot len) = len ≡ count
+HasLength count (a.Local level slot len) = len ≡ count
+HasLength count (a.Param level slot) = ⊥
 
 -- what a call or an operation wants
 pub data Wants (program : Resolved) : Action → List Want → Type 0 where
   call : (number : ℕ) (function : Function) → slice_get program.functions number ≡ Some function
       → Wants program (act.Call number) (map want_of function.params)
-  send : (channel : ℕ) → channel < length program.channels → Wants program (act.Send channel) (AnInt ∷ [])
-  recv : (channel : ℕ) → channel < length program.channels → Wants program (act.Recv channel) (OneInt ∷ [])
+  send : (number : ℕ) (channel : Channel) → slice_get program.channels number ≡ Some channel
+      → Wants program (act.Send number) (AMessage channel.width ∷ [])
+  recv : (number : ℕ) (channel : Channel) → slice_get program.channels number ≡ Some channel
+      → Wants program (act.Recv number) (Elements channel.width ∷ [])
   read : (file : ℕ) → file < length program.files → Wants program (act.Read file) (AnInt ∷ AnInt ∷ AnArray ∷ [])
   write : (file : ℕ) → file < length program.files → Wants program (act.Write file) (AnInt ∷ AnInt ∷ AnArray ∷ [])
 
@@ -143,11 +146,15 @@ mutual
     number : (value : ℤ) → IsValue program r AnInt (v.Number value)
     variable : (place : Place) → IsPlace program r place → IsValue program r AnInt (v.Variable place)
     reference : (array : Array) → IsArray program r array → IsValue program r AnArray (v.Reference array)
-    one_int : (array : Array) → IsArray program r array → IsOne array → IsValue program r OneInt (v.Reference array)
+    elements : (count : ℕ) (array : Array) → IsArray program r array → HasLength count array
+        → IsValue program r (Elements count) (v.Reference array)
+    one_int : (x : Value) → IsValue program r AnInt x → IsValue program r (AMessage 1) x
+    some_ints : (count : ℕ) (array : Array) → IsArray program r array → HasLength count array
+        → IsValue program r (AMessage count) (v.Reference array)
     element : (array : Array) (index : Value) → IsArray program r array → IsValue program r AnInt index
         → IsValue program r AnInt (v.Element array index)
     part : (array : Array) (index : Value) → IsArray program r array → IsValue program r AnInt index
-        → IsValue program r OneInt (v.Part array index)
+        → IsValue program r (Elements 1) (v.Part array index)
     unary : (op : UnaryOp) (operand : Value) → IsValue program r AnInt operand → IsValue program r AnInt (v.Unary op operand)
     chain : (first : Value) (rest : List ValueLink) → IsValue program r AnInt first → AreLinks program r rest
         → IsValue program r AnInt (v.Chain first rest)
@@ -224,13 +231,15 @@ pub record IsCore (program : Resolved) (core : Core) : Type 0 where
   pub there : slice_get program.functions core.entry ≡ Some function
   pub params : function.params ≡ []
 
--- two cores
+-- two cores, and messages of 1 to 16 ints
 pub record IsChannel (program : Resolved) (channel : Channel) : Type 0 where
   pub from : channel.from < length program.cores
   pub to : channel.to < length program.cores
   pub other : channel.from ≢ channel.to
   pub some : 1 ≤ channel.capacity
   pub few : channel.capacity ≤ 64
+  pub some_ints : 1 ≤ channel.width
+  pub few_ints : channel.width ≤ 16
 
 -- the parameters have the first slots of the frame
 pub record IsFunction (program : Resolved) (function : Function) : Type 0 where

@@ -35,7 +35,7 @@ array_of (Some (m.LocalArray there slot len)) depth = a.Local (depth - there) sl
 array_of (Some (m.ArrayParam slot)) depth = a.Param depth slot
 array_of _ depth = a.Global 0 0
 
--- a name as an argument: a reference, where it is that of an array
+-- a name as an argument or as what is sent: a reference, where it is that of an array
 abbrev pub name_argument : Option Meaning → ℕ → Value
 name_argument (Some (m.GlobalArray slot len)) depth = v.Reference (a.Global slot len)
 name_argument (Some (m.LocalArray there slot len)) depth = v.Reference (a.Local (depth - there) slot len)
@@ -46,6 +46,13 @@ name_argument meaning depth = v.Variable (place_of meaning depth)
 abbrev pub array_at : Place → Array
 array_at (p.Global slot) = a.Global slot 1
 array_at (p.Local level slot) = a.Local level slot 1
+
+-- a name as where a message is received: the array, or the int variable as an array of one element
+abbrev pub received_in : Option Meaning → ℕ → Array
+received_in (Some (m.GlobalArray slot len)) depth = a.Global slot len
+received_in (Some (m.LocalArray there slot len)) depth = a.Local (depth - there) slot len
+received_in (Some (m.ArrayParam slot)) depth = a.Param depth slot
+received_in meaning depth = array_at (place_of meaning depth)
 
 -- a reference to the one int that is a target
 abbrev pub reference_to : Target → Value

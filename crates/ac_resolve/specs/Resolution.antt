@@ -9,6 +9,7 @@ use Rattle.ac_names.specs.declared.names.Names.{Names}
 use Rattle.ac_names.specs.Scopes.{Declaration, visible}
 use Rattle.ac_names.specs.Items.{outermost, whole, no_past, counted, kinds_in, function_names, params_named}
 use Rattle.ac_names.specs.Numbered.{capacity_size, file_paths}
+use Rattle.ac_types.specs.Items.{channel_width}
 use Rattle.ac_commands.specs.declared.program.Function.{Function}
 use Rattle.ac_commands.specs.declared.program.Channel.{Channel}
 use Rattle.ac_commands.specs.declared.program.Core.{Core}
@@ -55,12 +56,16 @@ cores_in [] scopes = []
 cores_in (i.Core at name entry ∷ items) scopes = record { name = name; entry = function_of (visible entry scopes) } ∷ cores_in items scopes
 cores_in (_ ∷ items) scopes = cores_in items scopes
 
-abbrev pub channels_in : List Item → List (List Declaration) → List Channel
-channels_in [] scopes = []
-channels_in (i.Channel at name from to cap ∷ items) scopes =
-    record { from = core_of (visible from scopes); to = core_of (visible to scopes); capacity = capacity_size cap }
-    ∷ channels_in items scopes
-channels_in (_ ∷ items) scopes = channels_in items scopes
+-- those among the later items of a program, from a number on
+abbrev pub channels_in : List Item → ℕ → List Item → List (List Declaration) → List Channel
+channels_in all number [] scopes = []
+channels_in all number (i.Channel at name from to cap ∷ items) scopes = record {
+  from = core_of (visible from scopes);
+  to = core_of (visible to scopes);
+  capacity = capacity_size cap;
+  width = channel_width all number;
+} ∷ channels_in all (number + 1) items scopes
+channels_in all number (_ ∷ items) scopes = channels_in all number items scopes
 
 -- what an int global of that slot holds at the start
 abbrev pub start_at : ℕ → ℤ → List Start
@@ -80,7 +85,7 @@ abbrev pub resolved : Program → Resolved
 resolved p = record {
   cores = cores_in p.items (outermost p.items);
   functions = functions_in p.items (outermost p.items) [];
-  channels = channels_in p.items (outermost p.items);
+  channels = channels_in p.items 0 p.items (outermost p.items);
   files = file_paths p.items;
   slots = (whole p.items).counts.slots;
   starts = starts_in no_past.counts p.items;

@@ -5,10 +5,12 @@ ghost use Rattle.ac_commands.specs.declared.command.Target.TheVariants as t;
 ghost use Rattle.ac_commands.specs.declared.value.Place.TheVariants as p;
 ghost use Rattle.ac_commands.specs.declared.value.Value.TheVariants as v;
 ghost use Rattle.ac_resolve.specs.Places.{reference_to};
-ghost use Rattle.ac_resolve.specs.Computed.{value_in, links_in, values_in, some_in, argument_in, arguments_in, target_in, initial_in};
+ghost use Rattle.ac_resolve.specs.Computed.{value_in, links_in, values_in, some_in, initial_in};
+ghost use Rattle.ac_resolve.specs.Computed.{argument_in, arguments_in, target_in, place_in};
 
 use crate::names::{
     array_at, array_of, channel_of, constant_value, file_of, function_of, name_argument, place_of,
+    received_in,
 };
 use ac_base::{Boxed, List, NoMemory};
 use ac_commands::{Action, Array, Place, Target, Value, ValueLink};
@@ -61,7 +63,7 @@ pub fn value_in(alloc: Global, scopes: &Scopes, depth: u32, expr: &Expr) -> Resu
             value,
         } => {
             let channel = channel_of(scopes.find(channel));
-            let value = value_in(alloc, scopes, depth, value.get())?;
+            let value = argument_in(alloc, scopes, depth, value.get())?;
             act_on(alloc, Action::Send { channel }, value)
         }
         Expr::Recv {
@@ -70,7 +72,7 @@ pub fn value_in(alloc: Global, scopes: &Scopes, depth: u32, expr: &Expr) -> Resu
             place,
         } => {
             let channel = channel_of(scopes.find(channel));
-            let place = reference_in(alloc, scopes, depth, place.get())?;
+            let place = place_in(alloc, scopes, depth, place.get())?;
             act_on(alloc, Action::Recv { channel }, place)
         }
         Expr::Read {
@@ -132,12 +134,11 @@ fn act_in_file(
     Ok(Value::Act { action, operands })
 }
 
-/// A reference to the one int that an expression is the place of.
-#[cycle(value)]
-fn reference_in(alloc: Global, scopes: &Scopes, depth: u32, expr: &Expr) -> Result<Value, NoMemory>
-    ensures { IfOk result (λ v. v ≡ reference_to (target_in expr.now scopes.now depth)) }
+/// A reference to the one int that is a target.
+fn reference_to(alloc: Global, target: Target) -> Result<Value, NoMemory>
+    ensures { IfOk result (λ v. v ≡ reference_to target) }
 {
-    match target_in(alloc, scopes, depth, expr)? {
+    match target {
         Target::Variable(place) => Ok(Value::Reference(array_at(place))),
         Target::Element { array, index } => {
             let index = Boxed::new(alloc, index)?;
@@ -146,7 +147,23 @@ fn reference_in(alloc: Global, scopes: &Scopes, depth: u32, expr: &Expr) -> Resu
     }
 }
 
-/// An argument of a call: a reference, where it is the name of an array.
+/// A reference to the ints in which the message of a Recv is stored.
+#[cycle(value)]
+fn place_in(alloc: Global, scopes: &Scopes, depth: u32, expr: &Expr) -> Result<Value, NoMemory>
+    ensures { IfOk result (λ v. v ≡ place_in expr.now scopes.now depth) }
+{
+    match expr {
+        Expr::Name { at: _, name } => {
+            Ok(Value::Reference(received_in(scopes.find(name), depth)))
+        }
+        _ => {
+            let target = target_in(alloc, scopes, depth, expr)?;
+            reference_to(alloc, target)
+        }
+    }
+}
+
+/// An argument of a call, or what is sent: a reference, where it is the name of an array.
 #[cycle(value)]
 fn argument_in(alloc: Global, scopes: &Scopes, depth: u32, expr: &Expr) -> Result<Value, NoMemory>
     ensures { IfOk result (λ a. a ≡ argument_in expr.now scopes.now depth) }

@@ -80,9 +80,12 @@ fn cores_in(alloc: Global, scopes: &Scopes, items: &[Item]) -> Result<List<Core>
     Ok(list)
 }
 
-fn channels_in(alloc: Global, scopes: &Scopes, items: &[Item]) -> Result<List<Channel>, NoMemory>
-    ensures { IfOk result (λ list. list ≡ channels_in items.now scopes.now) }
+fn channels_in(alloc: Global, scopes: &Scopes, checked: &Checked) -> Result<List<Channel>, NoMemory>
+    ensures { IfOk result (λ list. list ≡ channels_in checked.now.items 0 checked.now.items scopes.now) }
 {
+    let items = checked.tree().items.as_slice();
+    let channels = checked.channels();
+    let mut number = 0;
     let mut list = List::new(alloc);
     for item in items {
         if let Item::Channel {
@@ -93,11 +96,14 @@ fn channels_in(alloc: Global, scopes: &Scopes, items: &[Item]) -> Result<List<Ch
             cap,
         } = item
         {
+            prove!(number < channels);
             list.push(Channel {
                 from: core_of(scopes.find(from)),
                 to: core_of(scopes.find(to)),
                 capacity: capacity_size(*cap),
+                width: checked.width(number),
             })?;
+            number += 1;
         }
     }
     Ok(list)
@@ -183,7 +189,7 @@ pub fn resolve(alloc: Global, checked: &Checked) -> Result<Resolved, NoMemory>
         texts: List::new(alloc),
     };
     let cores = cores_in(alloc, &walk.names.scopes, items)?;
-    let channels = channels_in(alloc, &walk.names.scopes, items)?;
+    let channels = channels_in(alloc, &walk.names.scopes, checked)?;
     let files = files_in(alloc, items)?;
     let functions = functions_in(alloc, &mut walk, items)?;
     let Walk { names: _, texts } = walk;

@@ -1,7 +1,7 @@
 //! What a name stands for, by what it means and by the number of async bodies round its use.
 
 ghost use Rattle.std.specs.Prelude.{◌≡◌, ◌-◌};
-ghost use Rattle.ac_resolve.specs.Places.{constant_value, place_of, array_of, name_argument, array_at};
+ghost use Rattle.ac_resolve.specs.Places.{constant_value, place_of, array_of, name_argument, array_at, received_in};
 ghost use Rattle.ac_resolve.specs.Places.{cancel_of, function_of, channel_of, file_of, core_of};
 
 use ac_commands::{Array, Command, Place, Value};
@@ -61,7 +61,7 @@ pub fn array_of(meaning: Option<Meaning>, depth: u32) -> Array
     }
 }
 
-/// A name as an argument.
+/// A name as an argument or as what is sent.
 pub fn name_argument(meaning: Option<Meaning>, depth: u32) -> Value
     ensures { result ≡ name_argument meaning depth }
 {
@@ -84,6 +84,18 @@ pub fn array_at(place: Place) -> Array
             slot,
             len: 1,
         },
+    }
+}
+
+/// A name as where a message is received: the array, or the int variable as an array of one element.
+pub fn received_in(meaning: Option<Meaning>, depth: u32) -> Array
+    ensures { result ≡ received_in meaning depth }
+{
+    match meaning {
+        Some(Meaning::GlobalArray { .. }) => array_of(meaning, depth),
+        Some(Meaning::LocalArray { .. }) => array_of(meaning, depth),
+        Some(Meaning::ArrayParam(_)) => array_of(meaning, depth),
+        _ => array_at(place_of(meaning, depth)),
     }
 }
 

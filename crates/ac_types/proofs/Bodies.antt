@@ -6,7 +6,6 @@ use Rattle.ac_tree.specs.declared.stmt.Stmt.{Stmt}
 use Rattle.ac_tree.specs.declared.stmt.Stmt.TheVariants as s
 use Rattle.ac_tree.proofs.Folds.{if_folds, for_folds}
 use Rattle.ac_types.specs.declared.around.Around.{Around}
-use Rattle.ac_types.specs.declared.around.Position.TheVariants as p
 use Rattle.ac_types.specs.declared.numbered.Tables.{Tables}
 use Rattle.ac_types.specs.declared.seen.Seen.{Seen}
 use Rattle.ac_names.specs.declared.names.Names.{Names}

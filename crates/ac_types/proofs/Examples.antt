@@ -1,6 +1,6 @@
 -- Small programs and the rules that they break, and the rules on single forms. Each law computes what the definitions say of one program and
 -- compares it with what was worked out by hand; beside each that breaks a rule stands one that keeps it.
-use Rattle.std.proofs.Common.{◌≡◌, refl, sym, subst, ℕ, ℤ, pos, List, [], ◌∷◌, ◌++◌, map, codes, Bool, true, false, Option, Some, None, inl, inr, arith}
+use Rattle.std.proofs.Common.{◌≡◌, refl, sym, ap, ◌∙◌, subst, ℕ, ℤ, pos, List, [], ◌∷◌, ◌++◌, map, codes, Bool, true, false, Option, Some, None, inl, inr, arith}
 use Rattle.std.specs.Prelude.{negsuc, if◌then◌else◌}
 use Rattle.ac_tree.specs.declared.expr.Expr.{Expr}
 use Rattle.ac_tree.specs.declared.expr.Expr.TheVariants as e
@@ -38,7 +38,8 @@ use Rattle.ac_types.specs.Formats.{HasHoles, no_more, a_byte, a_percent_sign, a_
 use Rattle.ac_types.specs.Judged.{Tests, lacks_one, value_tests, name_tests, index_tests, call_tests, sends_away, takes_away, channel_tests, file_tests, array_tests, holes}
 use Rattle.ac_types.specs.Judged.{is_misplaced, is_miscounted, calls_async, uses_void, once_tests, is_size, is_misprinted, print_tests, leave_tests, return_tests, async_tests}
 use Rattle.ac_types.specs.Judged.{body_tests, cancel_tests}
-use Rattle.ac_types.specs.Expressions.{plain, number_of, call_node, ExprPart, expr_nodes, links_step, args_step, expr_step, link_step, expr_all, values_all, value_all, one_node, join_nodes}
+use Rattle.ac_types.specs.Expressions.{plain, number_of, call_node, name_in, ExprPart, ExprTold, told_nodes, expr_nodes, links_step, args_step, expr_gives, expr_step, link_step, expr_told, expr_all}
+use Rattle.ac_types.specs.Expressions.{values_all, value_all, one_node, join_nodes}
 use Rattle.ac_types.specs.Statements.{Gives, StmtPart, body_gives, some_gives, used, valued, for_gives, gives_step, stmt_all}
 use Rattle.ac_types.specs.Items.{signature_of, global_tests, is_capacity, is_same_core, is_no_entry, around_of, params_give, function_gives, item_gives}
 use Rattle.ac_types.specs.Items.{items_give, program_gives}
@@ -47,7 +48,7 @@ use Rattle.ac_types.specs.Reached.{all_calls, AreReached, IsBrokenRule, BreaksIn
 use Rattle.ac_types.specs.Verdicts.{IsFault}
 use Rattle.ac_types.specs.inner.Seen.{first_of}
 use Rattle.ac_types.proofs.Formats.{formats_are_printed}
-use Rattle.ac_types.proofs.Forms.{expr_is, stmt_is}
+use Rattle.ac_types.proofs.Forms.{ToldNodes, expr_is, stmt_is}
 use Rattle.ac_types.proofs.Judging.{program_told}
 
 -- ---- numbers and their order
@@ -72,12 +73,12 @@ not_the_greater_rule (inr h) = let le = h.1 in omega (arith, le)
 -- ---- where an expression stands, and what is around it
 
 abbrev positions : List Position
-positions = p.Statement ∷ p.Value ∷ p.Array ∷ []
+positions = p.Statement ∷ p.Value ∷ p.Array ∷ p.Message ∷ []
 
-pub positions_for_arrays : map is_array_position positions ≡ false ∷ false ∷ true ∷ []
+pub positions_for_arrays : map is_array_position positions ≡ false ∷ false ∷ true ∷ false ∷ []
 positions_for_arrays = refl
 
-pub positions_whose_value_is_used : map is_used positions ≡ false ∷ true ∷ true ∷ []
+pub positions_whose_value_is_used : map is_used positions ≡ false ∷ true ∷ true ∷ true ∷ []
 positions_whose_value_is_used = refl
 
 pub positions_of_arguments : map position_of (true ∷ false ∷ []) ≡ p.Array ∷ p.Value ∷ []
@@ -134,7 +135,7 @@ an_int = Some (m.Local 0 0)
 abbrev an_array : Option Meaning
 an_array = Some (m.ArrayParam 0)
 
-pub a_value_is_no_array : map (λ (w : Position). broken (value_tests w)) positions ≡ [] ∷ [] ∷ (4 ∷ []) ∷ []
+pub a_value_is_no_array : map (λ (w : Position). broken (value_tests w)) positions ≡ [] ∷ [] ∷ (4 ∷ []) ∷ [] ∷ []
 a_value_is_no_array = refl
 
 pub names_as_values : map (λ (o : Option Meaning). broken (name_tests o p.Value)) (None ∷ an_int ∷ Some (m.Global 0) ∷ an_array ∷ Some (m.Function 0) ∷ [])
@@ -144,6 +145,11 @@ names_as_values = refl
 pub names_for_array_parameters : map (λ (o : Option Meaning). broken (name_tests o p.Array)) (None ∷ an_int ∷ an_array ∷ Some (m.GlobalArray 0 4) ∷ Some (m.LocalArray 0 0 4) ∷ [])
     ≡ (2 ∷ []) ∷ (4 ∷ []) ∷ [] ∷ [] ∷ [] ∷ []
 names_for_array_parameters = refl
+
+-- what is sent whole may be an int or an array
+pub names_as_messages : map (λ (o : Option Meaning). broken (name_tests o p.Message)) (None ∷ an_int ∷ an_array ∷ Some (m.LocalArray 0 0 4) ∷ Some (m.Function 0) ∷ [])
+    ≡ (2 ∷ []) ∷ [] ∷ [] ∷ [] ∷ (4 ∷ []) ∷ []
+names_as_messages = refl
 
 pub elements_of_arrays : map (λ (o : Option Meaning). broken (index_tests o p.Value)) (None ∷ an_int ∷ an_array ∷ []) ≡ (2 ∷ []) ∷ (4 ∷ []) ∷ [] ∷ []
 elements_of_arrays = refl
@@ -180,10 +186,13 @@ away a = (sends_away a.reached (Some (record { from = Some 0; to = Some 1 })), t
 pub away_from_the_ends : map away (of_core 0 ∷ of_core 1 ∷ in_loop ∷ []) ≡ (false, true) ∷ (true, false) ∷ (false, false) ∷ []
 away_from_the_ends = refl
 
-pub operations_on_channels : map (λ (o : Option Meaning). broken (channel_tests o false in_loop p.Value)) (None ∷ an_int ∷ Some (m.Channel 0) ∷ []) ≡ (2 ∷ []) ∷ (4 ∷ []) ∷ [] ∷ []
+pub operations_on_channels : map (λ (o : Option Meaning). broken (channel_tests o false false in_loop p.Value)) (None ∷ an_int ∷ Some (m.Channel 0) ∷ []) ≡ (2 ∷ []) ∷ (4 ∷ []) ∷ [] ∷ []
 operations_on_channels = refl
 
-pub an_operation_that_breaks_more : broken (channel_tests (Some (m.Channel 0)) true in_plain p.Array) ≡ 4 ∷ 6 ∷ 11 ∷ []
+pub an_operation_of_other_ints : broken (channel_tests (Some (m.Channel 0)) true false in_loop p.Value) ≡ 4 ∷ []
+an_operation_of_other_ints = refl
+
+pub an_operation_that_breaks_more : broken (channel_tests (Some (m.Channel 0)) false true in_plain p.Array) ≡ 4 ∷ 6 ∷ 11 ∷ []
 an_operation_that_breaks_more = refl
 
 pub operations_on_files : map (λ (o : Option Meaning). broken (file_tests (Some (m.File 0)) o in_loop p.Value)) (None ∷ an_int ∷ an_array ∷ []) ≡ (2 ∷ []) ∷ (4 ∷ []) ∷ [] ∷ []
@@ -298,7 +307,7 @@ abbrev firsts : List Node → List ℕ
 firsts nodes = map (λ (n : Node). n.at) nodes
 
 abbrev pub no_tables : Tables
-no_tables = record { functions = []; channels = []; reached = [] }
+no_tables = record { functions = []; channels = []; widths = []; reached = [] }
 
 abbrev from_slot : ℕ → Names
 from_slot slot = record { scopes = []; labels = []; slot = slot }
@@ -307,11 +316,15 @@ from_slot slot = record { scopes = []; labels = []; slot = slot }
 abbrev seven : ExprPart (List Node) one_node [] join_nodes
 seven t scopes a w = plain (if is_array_position w then 9 else 7) [] ∷ []
 
+-- it is no name
+abbrev seven_told : ExprTold (List Node) one_node [] join_nodes
+seven_told = (None, seven)
+
 pub nodes_in_a_row : join_nodes (one_node (plain 4 [])) (one_node (plain 5 [])) ≡ plain 4 [] ∷ plain 5 [] ∷ []
 nodes_in_a_row = refl
 
 pub a_call_tells_its_function : call_node 28 (Some (m.Function 3)) (Some (record { number = 3; is_async = true; gives_int = false; params = 0 })) 0 in_loop p.Statement
-    ≡ record { at = 28; tests = call_tests (Some (m.Function 3)) (Some (record { number = 3; is_async = true; gives_int = false; params = 0 })) 0 in_loop p.Statement; calls = Some 3 }
+    ≡ record { at = 28; tests = call_tests (Some (m.Function 3)) (Some (record { number = 3; is_async = true; gives_int = false; params = 0 })) 0 in_loop p.Statement; calls = Some 3; carries = None }
 a_call_tells_its_function = refl
 
 pub numbers_of_callees : number_of None ∷ number_of (with true false 0) ∷ [] ≡ None ∷ Some 0 ∷ []
@@ -320,33 +333,46 @@ numbers_of_callees = refl
 pub operands_of_a_chain : firsts (links_step (List Node) one_node [] join_nodes (seven ∷ seven ∷ []) no_tables [] in_plain) ≡ 7 ∷ 7 ∷ []
 operands_of_a_chain = refl
 
-pub an_operand : firsts (link_step (List Node) one_node [] join_nodes (record { op = b.Add; operand = seven }) no_tables [] in_plain p.Value) ≡ 7 ∷ []
+pub an_operand : firsts (link_step (List Node) one_node [] join_nodes (record { op = b.Add; operand = seven_told }) no_tables [] in_plain p.Value) ≡ 7 ∷ []
 an_operand = refl
 
 -- f(.., ..), where f takes an array and an int
 abbrev one_array : Tables
-one_array = record { functions = record { is_async = false; gives_int = false; params = true ∷ false ∷ [] } ∷ []; channels = []; reached = [] }
+one_array = record { functions = record { is_async = false; gives_int = false; params = true ∷ false ∷ [] } ∷ []; channels = []; widths = []; reached = [] }
 
-pub arguments_by_their_parameters : firsts (args_step (List Node) one_node [] join_nodes (Some (m.Function 0)) 0 (seven ∷ seven ∷ []) one_array [] in_plain) ≡ 9 ∷ 7 ∷ []
+pub arguments_by_their_parameters : firsts (args_step (List Node) one_node [] join_nodes (Some (m.Function 0)) 0 (seven_told ∷ seven_told ∷ []) one_array [] in_plain) ≡ 9 ∷ 7 ∷ []
 arguments_by_their_parameters = refl
 
 -- the node of h[..] comes before that of its index
-pub an_element_in_preorder : firsts (expr_step (List Node) one_node [] join_nodes (Expr-F.Index 3 (codes "h") seven) no_tables [] in_plain p.Value) ≡ 3 ∷ 7 ∷ []
+pub an_element_in_preorder : firsts (expr_gives (List Node) one_node [] join_nodes (Expr-F.Index 3 (codes "h") seven_told) no_tables [] in_plain p.Value) ≡ 3 ∷ 7 ∷ []
 an_element_in_preorder = refl
 
+pub names_of_forms : name_in {A = List ℕ} {B = List ℕ} (Expr-F.Name 3 (codes "h")) ∷ name_in {A = List ℕ} {B = List ℕ} (Expr-F.Number 3 (pos 1)) ∷ [] ≡ Some (codes "h") ∷ None ∷ []
+names_of_forms = refl
+
+pub told_with_its_name : (expr_step (List Node) one_node [] join_nodes (Expr-F.Name 3 (codes "h"))).0 ∷ (expr_step (List Node) one_node [] join_nodes (Expr-F.Group 3 seven_told)).0 ∷ []
+    ≡ Some (codes "h") ∷ None ∷ []
+told_with_its_name = refl
+
+pub an_expression_with_its_name : (expr_told (List Node) one_node [] join_nodes (e.Name 5 (codes "h"))).0 ∷ (told_nodes (e.Number 5 (pos 1))).0 ∷ [] ≡ Some (codes "h") ∷ None ∷ []
+an_expression_with_its_name = rw (expr_is _ (e.rolls-Name 5 (codes "h")), expr_is _ (e.rolls-Number 5 (pos 1))) refl
+
 pub a_number_has_one_node : firsts (expr_all (List Node) one_node [] join_nodes (e.Number 5 (pos 1)) no_tables [] in_plain p.Value) ≡ 5 ∷ []
-a_number_has_one_node = rw (expr_is _ (e.rolls-Number 5 (pos 1))) refl
+a_number_has_one_node = ap (λ (g : ToldNodes). firsts (g.1 no_tables [] in_plain p.Value)) (expr_is _ (e.rolls-Number 5 (pos 1)))
 
 pub values_in_order : firsts (values_all (List Node) one_node [] join_nodes (e.Number 5 (pos 1) ∷ e.Number 8 (pos 1) ∷ []) no_tables [] in_plain) ≡ 5 ∷ 8 ∷ []
-values_in_order = rw (expr_is _ (e.rolls-Number 5 (pos 1)), expr_is _ (e.rolls-Number 8 (pos 1))) refl
+values_in_order =
+    ap (λ (g : ToldNodes). firsts (g.1 no_tables [] in_plain p.Value ++ (expr_nodes (e.Number 8 (pos 1)) no_tables [] in_plain p.Value ++ []))) (expr_is _ (e.rolls-Number 5 (pos 1)))
+    ∙ ap (λ (g : ToldNodes). 5 ∷ firsts (g.1 no_tables [] in_plain p.Value ++ [])) (expr_is _ (e.rolls-Number 8 (pos 1)))
 
 pub a_value_that_may_be_left_out : firsts (value_all (List Node) one_node [] join_nodes None no_tables [] in_plain)
     ∷ firsts (value_all (List Node) one_node [] join_nodes (Some (e.Number 5 (pos 1))) no_tables [] in_plain) ∷ [] ≡ [] ∷ (5 ∷ []) ∷ []
-a_value_that_may_be_left_out = rw (expr_is _ (e.rolls-Number 5 (pos 1))) refl
+a_value_that_may_be_left_out = ap (λ (g : ToldNodes). [] ∷ firsts (g.1 no_tables [] in_plain p.Value) ∷ []) (expr_is _ (e.rolls-Number 5 (pos 1)))
 
 pub a_value_that_is_used : firsts (used (List Node) one_node [] join_nodes (e.Number 5 (pos 1)) no_tables (from_slot 0) in_plain)
     ∷ firsts (valued (List Node) one_node [] join_nodes (Some (e.Number 5 (pos 1))) no_tables (from_slot 0) in_plain) ∷ [] ≡ (5 ∷ []) ∷ (5 ∷ []) ∷ []
-a_value_that_is_used = rw (expr_is _ (e.rolls-Number 5 (pos 1))) refl
+a_value_that_is_used =
+    ap (λ (g : ToldNodes). firsts (g.1 no_tables [] in_plain p.Value) ∷ firsts (g.1 no_tables [] in_plain p.Value) ∷ []) (expr_is _ (e.rolls-Number 5 (pos 1)))
 
 -- a statement that takes one slot, and whose node begins at the number of that slot
 abbrev slot_told : Gives (List Node)
@@ -512,13 +538,16 @@ a_do_between = rw (
 
 -- a constant and a group for an int, and for an array
 pub constants : faults (expr_nodes (e.Const 5 c.Ok) no_tables [] in_plain p.Value) ∷ faults (expr_nodes (e.Const 5 c.Ok) no_tables [] in_plain p.Array) ∷ [] ≡ [] ∷ ((5, 4 ∷ []) ∷ []) ∷ []
-constants = rw (expr_is _ (e.rolls-Const 5 c.Ok)) refl
+constants = ap (λ (g : ToldNodes). faults (g.1 no_tables [] in_plain p.Value) ∷ faults (g.1 no_tables [] in_plain p.Array) ∷ []) (expr_is _ (e.rolls-Const 5 c.Ok))
 
 abbrev a_group : Expr
 a_group = e.Group 5 (a_number_at 6)
 
 pub groups : faults (expr_nodes a_group no_tables [] in_plain p.Value) ∷ faults (expr_nodes a_group no_tables [] in_plain p.Array) ∷ [] ≡ [] ∷ ((5, 4 ∷ []) ∷ []) ∷ []
-groups = rw (expr_is _ (e.rolls-Group 5 (a_number_at 6)), expr_is _ (e.rolls-Number 6 (pos 1))) refl
+groups =
+    ap (λ (g : ToldNodes). faults (g.1 no_tables [] in_plain p.Value) ∷ faults (g.1 no_tables [] in_plain p.Array) ∷ []) (expr_is _ (e.rolls-Group 5 (a_number_at 6)))
+    ∙ ap (λ (g : ToldNodes). faults (plain 5 (value_tests p.Value) ∷ g.1 no_tables [] in_plain p.Value) ∷ faults (plain 5 (value_tests p.Array) ∷ g.1 no_tables [] in_plain p.Value) ∷ [])
+    (expr_is _ (e.rolls-Number 6 (pos 1)))
 
 -- core a(f); async int f() { return (CANCELLED); } and with `return (f());`
 abbrev gives_group : Expr → List Item
@@ -553,10 +582,10 @@ a_scope_of_its_own = rw (
   stmt_is _ (s.rolls-Assign 57 (e.Name 57 (codes "i")) (a_number_at 61)),
   expr_is _ (e.rolls-Name 40 (codes "i")),
   expr_is _ (e.rolls-Name 43 (codes "i")),
-  expr_is _ (e.rolls-Name 50 (codes "i")),
-  expr_is _ (e.rolls-Name 57 (codes "i")),
   expr_is _ (e.rolls-Number 47 (pos 1)),
+  expr_is _ (e.rolls-Name 50 (codes "i")),
   expr_is _ (e.rolls-Number 54 (pos 1)),
+  expr_is _ (e.rolls-Name 57 (codes "i")),
   expr_is _ (e.rolls-Number 61 (pos 1)),
 ) refl
 

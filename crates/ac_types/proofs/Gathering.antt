@@ -1,6 +1,6 @@
 -- The tables of a program, and the first rule of its items. The tables are made one after the other, the row of what is reached last;
 -- the calls do not depend on that row, so they can be told before it is known.
-use Rattle.std.proofs.Common.{◌≡◌, ℕ, suc, ◌≤◌, Bool, true, false, List, [], ◌∷◌, length, Option, None, refl, ap, ◌∙◌, subst, arith}
+use Rattle.std.proofs.Common.{◌≡◌, ℕ, suc, ◌≤◌, Bool, true, false, List, [], ◌∷◌, ◌++◌, length, Option, None, refl, ap, ◌∙◌, subst, arith}
 use Rattle.std.specs.Prelude.{nat_eq, nat_lt}
 use Rattle.std.proofs.lemmas.Bool.Decides.{nat_tests}
 use Rattle.ac_tree.specs.declared.item.Item.{Item}
@@ -18,7 +18,9 @@ use Rattle.ac_types.specs.Nodes.{Node}
 use Rattle.ac_types.specs.inner.Seen.{least_with, least_broken, first_of}
 use Rattle.ac_types.specs.Expressions.{one_node, join_nodes}
 use Rattle.ac_names.specs.Items.{no_past, whole, outermost}
-use Rattle.ac_types.specs.Items.{signatures, all_ends, tables_of, program_tests, items_give, items_nodes}
+use Rattle.ac_types.specs.declared.carried.Carried.{Carried}
+use Rattle.ac_types.specs.Widths.{widths_in}
+use Rattle.ac_types.specs.Items.{signatures, all_ends, carried_in, first_tables, all_carried, all_widths, tables_of, program_tests, items_give, items_nodes}
 use Rattle.ac_types.specs.Reached.{entries, entries_of, calls_in, all_calls}
 use Rattle.ac_reach.specs.Reached.{AreAll, AreRows}
 use Rattle.ac_names.specs.Numbered.{core_names}
@@ -26,6 +28,7 @@ use Rattle.ac_names.proofs.Numbers.{cores_counted}
 use Rattle.ac_types.specs.inner.Items.{after_items}
 use Rattle.ac_types.specs.inner.Verdicts.{AreTables}
 use Rattle.ac_types.proofs.Agrees.{first_seen}
+use Rattle.ac_types.proofs.Widths.{as_many_ends}
 use Rattle.ac_types.proofs.Wholes.{items_agree}
 
 abbrev nodes_in : List Item → Tables → List (List Declaration) → List Node
@@ -68,25 +71,45 @@ few_entered items scopes es list s e f few =
 
 -- ---- tables
 
-abbrev tables_with : List Signature → List Ends → List Reached → Tables
-tables_with f ch r = record { functions = f; channels = ch; reached = r }
+abbrev tables_with : List Signature → List Ends → List ℕ → List Reached → Tables
+tables_with f ch ws r = record { functions = f; channels = ch; widths = ws; reached = r }
 
-same_tables : (items : List Item) (scopes : List (List Declaration)) (f : List Signature) (ch : List Ends) (r : List Reached) → scopes ≡ outermost items → f ≡ signatures items
-    → ch ≡ all_ends scopes items → tables_with f ch r ≡ tables_of items r
-same_tables items scopes f ch r s e g = ap (λ x. tables_with x ch r) e ∙ ap (λ x. tables_with (signatures items) x r) (g ∙ ap (λ x. all_ends x items) s)
+module _ (items : List Item) (scopes : List (List Declaration)) (s : scopes ≡ outermost items) where
+  same_tables : (f : List Signature) (ch : List Ends) (ws ws2 : List ℕ) (r : List Reached) → f ≡ signatures items → ch ≡ all_ends scopes items → ws ≡ ws2
+      → tables_with f ch ws r ≡ tables_with (signatures items) (all_ends (outermost items) items) ws2 r
+  same_tables f ch ws ws2 r e g h =
+      ap (λ x. tables_with x ch ws r) e ∙ ap (λ x. tables_with (signatures items) x ws r) (g ∙ ap (λ x. all_ends x items) s)
+      ∙ ap (λ x. tables_with (signatures items) (all_ends (outermost items) items) x r) h
 
-pub gathered_told : (items : List Item) (scopes : List (List Declaration)) (f : List Signature) (ch : List Ends) (none rows : List Reached) (calls list : List (List ℕ)) (es entered : List (Option ℕ))
-    (flags : List (List Bool)) →
-    scopes ≡ outermost items → f ≡ signatures items → ch ≡ all_ends scopes items → none ≡ [] → calls ≡ calls_in (tables_with f ch none) scopes items → es ≡ entries scopes items →
-    list ≡ calls → entered ≡ es → AreAll list entered flags → AreRows list entered rows →
-    AreTables items (record { tables = tables_with f ch rows; reach = flags })
-gathered_told items scopes f ch none rows calls list es entered flags s ef ech en ec ee c2 e2 a r =
-    let whole_calls : list ≡ all_calls items =
-    c2 ∙ ec ∙ ap (λ x. calls_in (tables_with f ch x) scopes items) en ∙ ap (λ x. calls_in x scopes items) (same_tables items scopes f ch [] s ef ech)
-    ∙ ap (λ x. calls_in (tables_of items []) x items) s in
-    let whole_entries : entered ≡ entries_of items = e2 ∙ ee ∙ ap (λ x. entries x items) s in
-    record {
-      tables = same_tables items scopes f ch rows s ef ech;
-      reached = subst (λ x. AreRows (all_calls items) x rows) whole_entries (subst (λ x. AreRows x entered rows) whole_calls r);
-      flags = subst (λ x. AreAll (all_calls items) x flags) whole_entries (subst (λ x. AreAll x entered flags) whole_calls a);
-    }
+  module _ (f : List Signature) (ch : List Ends) (no_widths : List ℕ) (none : List Reached) (ef : f ≡ signatures items) (ec : ch ≡ all_ends scopes items) (ew : no_widths ≡ []) (en : none ≡ []) where
+    first : tables_with f ch no_widths none ≡ first_tables items
+    first = ap (tables_with f ch no_widths) en ∙ same_tables f ch no_widths [] [] ef ec ew
+
+    whole_calls : (calls list : List (List ℕ)) → calls ≡ calls_in (tables_with f ch no_widths none) scopes items → list ≡ calls → list ≡ all_calls items
+    whole_calls calls list e e2 = e2 ∙ e ∙ ap (λ t. calls_in t scopes items) first ∙ ap (λ x. calls_in (first_tables items) x items) s
+
+    -- nothing is said before
+    whole_carried : (before carried list : List Carried) → before ≡ [] → carried ≡ before ++ carried_in (tables_with f ch no_widths none) scopes items → list ≡ carried → list ≡ all_carried items
+    whole_carried before carried list eb e e2 =
+        e2 ∙ e ∙ ap (λ xs. xs ++ carried_in (tables_with f ch no_widths none) scopes items) eb
+        ∙ ap (λ t. carried_in t scopes items) first ∙ ap (λ x. carried_in (first_tables items) x items) s
+
+    whole_widths : (before carried list : List Carried) (count : ℕ) (widths : List ℕ) → before ≡ [] → carried ≡ before ++ carried_in (tables_with f ch no_widths none) scopes items → list ≡ carried
+        → count ≡ length ch → widths ≡ widths_in list 0 count → widths ≡ all_widths items
+    whole_widths before carried list count widths eb e e2 ek h =
+        h ∙ ap (λ cs. widths_in cs 0 count) (whole_carried before carried list eb e e2)
+        ∙ ap (widths_in (all_carried items) 0) (ek ∙ ap length ec ∙ as_many_ends scopes items)
+
+    pub gathered_told : (calls list : List (List ℕ)) (es entered : List (Option ℕ)) (flags : List (List Bool)) (rows : List Reached) (before carried said : List Carried) (count : ℕ)
+        (widths : List ℕ) →
+        calls ≡ calls_in (tables_with f ch no_widths none) scopes items → es ≡ entries scopes items → list ≡ calls → entered ≡ es → AreAll list entered flags → AreRows list entered rows →
+        before ≡ [] → carried ≡ before ++ carried_in (tables_with f ch no_widths none) scopes items → said ≡ carried → count ≡ length ch → widths ≡ widths_in said 0 count →
+        AreTables items (record { tables = tables_with f ch widths rows; reach = flags })
+    gathered_told calls list es entered flags rows before carried said count widths ecalls ee c2 e2 a r eb eca es2 ek ew2 =
+        let calls_are = whole_calls calls list ecalls c2 in
+        let whole_entries : entered ≡ entries_of items = e2 ∙ ee ∙ ap (λ x. entries x items) s in
+        record {
+          tables = same_tables f ch widths (all_widths items) rows ef ec (whole_widths before carried said count widths eb eca es2 ek ew2);
+          reached = subst (λ x. AreRows (all_calls items) x rows) whole_entries (subst (λ x. AreRows x entered rows) calls_are r);
+          flags = subst (λ x. AreAll (all_calls items) x flags) whole_entries (subst (λ x. AreAll x entered flags) calls_are a);
+        }

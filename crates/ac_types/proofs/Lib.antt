@@ -1,5 +1,6 @@
 pub mod Bodies
 pub mod Agrees
+pub mod Seeing
 pub mod Functions
 pub mod Wholes
 pub mod Called
@@ -9,6 +10,7 @@ pub mod Gathering
 pub mod Accepting
 pub mod Cleans
 pub mod Numbers
+pub mod Widths
 pub mod Slots
 pub mod Formats
 pub mod Others
@@ -16,3 +18,4 @@ pub mod Forms
 mod Examples
 mod TableExamples
 mod CallExamples
+mod WidthExamples

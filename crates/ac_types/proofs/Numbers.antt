@@ -14,7 +14,7 @@ use Rattle.ac_types.specs.Nodes.{Node}
 use Rattle.ac_types.specs.Expressions.{one_node, join_nodes}
 use Rattle.ac_names.specs.declared.past.Counts.{Counts}
 use Rattle.ac_names.specs.Items.{no_past, past_after, past_all, whole, outermost}
-use Rattle.ac_types.specs.Items.{tables_of, is_capacity, is_same_core, item_gives, items_give}
+use Rattle.ac_types.specs.Items.{first_tables, tables_of, is_capacity, is_same_core, item_gives, items_give}
 use Rattle.ac_types.specs.Reached.{BreaksNone, calls_in, entries_of, all_calls, Reaches}
 use Rattle.ac_reach.specs.Reached.{entry_in, AreFlags, AreAll}
 use Rattle.ac_names.specs.Numbered.{core_names, capacities, capacity_size, file_paths}
@@ -38,7 +38,7 @@ module _ (p q : Program) (counts : Counts) (e : p ≡ q) (c : counts ≡ (whole 
   cores_are = let h = cores_counted no_past q.items in let k = ap (λ (x : Counts). x.cores) of_whole in omega (arith, h, k)
 
   pub functions_are : counts.functions ≡ length (all_calls q.items)
-  functions_are = let h = functions_counted (outermost q.items) (tables_of q.items []) no_past q.items in let k = ap (λ (x : Counts). x.functions) of_whole in omega (arith, h, k)
+  functions_are = let h = functions_counted (outermost q.items) (first_tables q.items) no_past q.items in let k = ap (λ (x : Counts). x.functions) of_whole in omega (arith, h, k)
 
   pub channels_are : counts.channels ≡ length (capacities q.items)
   channels_are = let h = channels_counted no_past q.items in let k = ap (λ (x : Counts). x.channels) of_whole in omega (arith, h, k)

@@ -9,7 +9,6 @@ use Rattle.ac_tree.specs.declared.item.Param.{Param}
 use Rattle.ac_tree.specs.Weight.{params_weight, expr_weight, value_weight, stmt_weight, some_weight, body_weight}
 use Rattle.ac_tree.proofs.WeightForms as f
 use Rattle.ac_types.specs.declared.around.Around.{Around}
-use Rattle.ac_types.specs.declared.around.Position.TheVariants as p
 use Rattle.ac_types.specs.declared.numbered.Tables.{Tables}
 use Rattle.ac_types.specs.declared.seen.Seen.{Seen}
 use Rattle.ac_types.specs.declared.statements.Walk.{Walk}

@@ -1,6 +1,8 @@
 -- The tables of the items of small programs, and what is reached in them, worked out by hand.
 -- Each law computes a table of one program and compares it; the programs are those of `Examples`.
-use Rattle.std.proofs.Common.{◌≡◌, refl, sym, ap, subst, ℕ, [], ◌∷◌, ◌++◌, map, codes, true, false, Some, None}
+use Rattle.std.proofs.Common.{◌≡◌, refl, sym, ap, subst, ℕ, pos, [], ◌∷◌, map, codes, true, false, Some, None}
+use Rattle.ac_tree.specs.declared.expr.Expr.TheVariants as e
+use Rattle.ac_tree.specs.declared.stmt.Stmt.TheVariants as s
 use Rattle.ac_tree.specs.declared.item.Item.TheVariants as i
 use Rattle.ac_names.specs.declared.meaning.Meaning.TheVariants as m
 use Rattle.ac_names.specs.Items.{outermost}
@@ -13,15 +15,25 @@ use Rattle.ac_types.specs.Tables.{callee_of, callee, is_array_in, takes_array, e
 use Rattle.ac_types.specs.Nodes.{calls_of}
 use Rattle.ac_types.specs.Expressions.{plain}
 use Rattle.ac_types.specs.Items.{channel_ends, all_ends}
-use Rattle.ac_types.specs.Items.{tables_of, signatures, core_number, reached_in}
+use Rattle.ac_types.specs.Items.{first_tables, tables_of, signatures, core_number, reached_in}
 use Rattle.ac_types.specs.Reached.{function_number, calls_in, entries_of, Reaches, AreReached, IsReachedByAnother}
-use Rattle.ac_types.proofs.Examples.{a_function, no_tables, one_core, the_first_calls_the_second, with_a_channel, with_arrays}
+use Rattle.ac_types.proofs.Examples.{a_function, a_number_at, no_tables, one_core, the_first_calls_the_second, with_a_channel, with_arrays}
+use Rattle.ac_types.proofs.Forms.{expr_is, stmt_is}
 
 -- ---- tables
 
 pub tables_of_two_cores : tables_of with_a_channel (r.BySeveral ∷ [])
-    ≡ record { functions = record { is_async = true; gives_int = false; params = [] } ∷ []; channels = record { from = Some 0; to = Some 1 } ∷ []; reached = r.BySeveral ∷ [] }
-tables_of_two_cores = refl
+    ≡ record {
+      functions = record { is_async = true; gives_int = false; params = [] } ∷ [];
+      channels = record { from = Some 0; to = Some 1 } ∷ [];
+      widths = 1 ∷ [];
+      reached = r.BySeveral ∷ [];
+    }
+tables_of_two_cores = rw (stmt_is _ (s.rolls-Call 59 (e.Send 59 (codes "c") (a_number_at 67))), expr_is _ (e.rolls-Send 59 (codes "c") (a_number_at 67)), expr_is _ (e.rolls-Number 67 (pos 1))) refl
+
+pub tables_before_widths : first_tables with_a_channel
+    ≡ record { functions = record { is_async = true; gives_int = false; params = [] } ∷ []; channels = record { from = Some 0; to = Some 1 } ∷ []; widths = []; reached = [] }
+tables_before_widths = refl
 
 pub kinds_of_parameters : signatures with_arrays ≡ record { is_async = true; gives_int = false; params = [] } ∷ record { is_async = false; gives_int = false; params = true ∷ false ∷ [] } ∷ []
 kinds_of_parameters = refl
@@ -68,7 +80,7 @@ numbers_of_cores_meant = refl
 pub the_second_enters_none : entries_of (i.Core 0 (codes "a") (codes "f") ∷ i.Core 11 (codes "b") (codes "a") ∷ a_function 22 true false (codes "f") [] [] ∷ []) ≡ Some 0 ∷ None ∷ []
 the_second_enters_none = refl
 
-pub called_in_order : calls_of (record { at = 0; tests = []; calls = Some 3 } ∷ plain 4 [] ∷ record { at = 6; tests = []; calls = Some 1 } ∷ []) ≡ 3 ∷ 1 ∷ []
+pub called_in_order : calls_of (record { at = 0; tests = []; calls = Some 3; carries = None } ∷ plain 4 [] ∷ record { at = 6; tests = []; calls = Some 1; carries = None } ∷ []) ≡ 3 ∷ 1 ∷ []
 called_in_order = refl
 
 pub without_a_row : map reached_in (None ∷ Some (r.ByOne 1) ∷ []) ≡ r.ByNone ∷ r.ByOne 1 ∷ []

@@ -10,7 +10,6 @@ use Rattle.ac_tree.specs.declared.item.Item.TheVariants as i
 use Rattle.ac_tree.specs.declared.item.Function.{Function}
 use Rattle.ac_tree.specs.declared.item.Param.{Param}
 use Rattle.ac_types.specs.declared.around.Around.{Around}
-use Rattle.ac_types.specs.declared.around.Position.{Position}
 use Rattle.ac_types.specs.declared.around.Position.TheVariants as p
 use Rattle.ac_reach.specs.declared.reached.Reached.{Reached}
 use Rattle.ac_types.specs.declared.numbered.Tables.{Tables}

@@ -1,5 +1,5 @@
 -- The nodes of a program in preorder, and what stands in its tables.
-use Rattle.std.specs.Prelude.{ℕ, ℤ, pos, negsuc, List, [], ◌∷◌, map, slice_get, Option}
+use Rattle.std.specs.Prelude.{ℕ, ℤ, pos, negsuc, List, [], ◌∷◌, ◌++◌, length, map, slice_get, Option}
 use Rattle.std.specs.Prelude.{None, Some, Bool, false, not, nat_eq, nat_lt, nat_le}
 use Rattle.ac_tree.specs.declared.item.Item.{Item}
 use Rattle.ac_tree.specs.declared.item.Item.TheVariants as i
@@ -16,14 +16,17 @@ use Rattle.ac_types.specs.declared.numbered.Ends.{Ends}
 use Rattle.ac_reach.specs.declared.reached.Reached.{Reached}
 use Rattle.ac_reach.specs.declared.reached.Reached.TheVariants as r
 use Rattle.ac_types.specs.declared.numbered.Tables.{Tables}
+use Rattle.ac_types.specs.declared.carried.Carried.{Carried}
 use Rattle.ac_names.specs.declared.past.Past.{Past}
 use Rattle.ac_names.specs.declared.names.Names.{Names}
 use Rattle.ac_names.specs.Scopes.{Declaration, in_scope, visible, in_inner}
 use Rattle.ac_names.specs.Kinds.{is_other, is_undeclared, is_declared, either, both}
 use Rattle.ac_types.specs.Tables.{callee}
-use Rattle.ac_types.specs.Nodes.{Node}
+use Rattle.ac_types.specs.Nodes.{Node, carried_of}
+use Rattle.ac_types.specs.Widths.{width_in, widths_in}
 use Rattle.ac_types.specs.Judged.{Tests, lacks_one, once_tests, array_tests}
 use Rattle.ac_types.specs.Expressions.{plain, one_node, join_nodes}
+use Rattle.ac_names.specs.Numbered.{capacities}
 use Rattle.ac_names.specs.Items.{no_past, past_after, whole, outermost, kinds_in, param_named, params_named, function_names}
 use Rattle.ac_types.specs.Statements.{body_gives, stmt_all}
 
@@ -48,9 +51,6 @@ abbrev pub all_ends : List (List Declaration) → List Item → List Ends
 all_ends scopes [] = []
 all_ends scopes (i.Channel at name from to cap ∷ items) = channel_ends scopes from to ∷ all_ends scopes items
 all_ends scopes (_ ∷ items) = all_ends scopes items
-
-abbrev pub tables_of : List Item → List Reached → Tables
-tables_of items reached = record { functions = signatures items; channels = all_ends (outermost items) items; reached = reached }
 
 -- a function that no row stands for is reached by none
 abbrev pub reached_in : Option Reached → Reached
@@ -122,10 +122,46 @@ module _ (X : Type 0) (one : Node → X) (none : X) (join : X → X → X) where
       (body_gives X one none join (map (stmt_all X one none join) f.body) t (params_named f.params (function_names scopes))
       (around_of f reached))
 
+-- ---- what each function says of channels, and the tables
+
+abbrev pub function_nodes : Function → Tables → List (List Declaration) → Reached → List Node
+function_nodes = function_gives (List Node) one_node [] join_nodes
+
+-- what Sends and Recvs say of channels does not depend on widths, nor on what is reached
+abbrev pub carried_in : Tables → List (List Declaration) → List Item → List Carried
+carried_in t scopes [] = []
+carried_in t scopes (i.Function f ∷ xs) = carried_of (function_nodes f t scopes r.ByNone) ++ carried_in t scopes xs
+carried_in t scopes (_ ∷ xs) = carried_in t scopes xs
+
+-- before widths are known and what is reached
+abbrev pub first_tables : List Item → Tables
+first_tables items = record { functions = signatures items; channels = all_ends (outermost items) items; widths = []; reached = [] }
+
+abbrev pub all_carried : List Item → List Carried
+all_carried items = carried_in (first_tables items) (outermost items) items
+
+-- how many ints a message of the channel of that number has
+abbrev pub channel_width : List Item → ℕ → ℕ
+channel_width items channel = width_in (all_carried items) channel
+
+abbrev pub all_widths : List Item → List ℕ
+all_widths items = widths_in (all_carried items) 0 (length (capacities items))
+
+abbrev pub tables_of : List Item → List Reached → Tables
+tables_of items reached = record {
+  functions = signatures items;
+  channels = all_ends (outermost items) items;
+  widths = all_widths items;
+  reached = reached;
+}
+
+-- ---- items
+
+module _ (X : Type 0) (one : Node → X) (none : X) (join : X → X → X) where
   abbrev pub item_gives : Past → Item → Tables → List (List Declaration) → X
   item_gives p (i.Global at name size value) t scopes = one (plain at (global_tests (in_scope name p.names) size))
   item_gives p (i.Function f) t scopes = join (one (plain f.at (once_tests (in_scope f.name p.names))))
-      (function_gives f t scopes (reached_in (slice_get t.reached p.counts.functions)))
+      (function_gives X one none join f t scopes (reached_in (slice_get t.reached p.counts.functions)))
   item_gives p (i.Channel at name from to cap) t scopes =
       one (plain at (link_tests (in_scope name p.names) (visible from scopes) (visible to scopes) cap p.counts.channels))
   item_gives p (i.File at name path) t scopes = one (plain at (path_tests (in_scope name p.names) p.counts.files (in_scope path p.paths)))
@@ -141,9 +177,6 @@ module _ (X : Type 0) (one : Node → X) (none : X) (join : X → X → X) where
       (items_give no_past items (tables_of items reached) (outermost items))
 
 -- ---- with lists of nodes
-
-abbrev pub function_nodes : Function → Tables → List (List Declaration) → Reached → List Node
-function_nodes = function_gives (List Node) one_node [] join_nodes
 
 -- the nodes of a program in preorder, by its items and by which cores reach each function
 abbrev pub program_nodes : List Item → List Reached → List Node

@@ -31,6 +31,7 @@ value_tests position = (rule.NameFitsItsPlace, is_array_position position) ∷ [
 -- a name at its position
 abbrev pub is_misplaced : Option Meaning → Position → Bool
 is_misplaced meaning p.Array = is_other k.Array meaning
+is_misplaced meaning p.Message = both (is_other k.Int meaning) (is_other k.Array meaning)
 is_misplaced meaning _ = is_other k.Int meaning
 
 abbrev pub name_tests : Option Meaning → Position → Tests
@@ -70,11 +71,12 @@ abbrev pub takes_away : Reached → Option Ends → Bool
 takes_away reached None = false
 takes_away reached (Some e) = is_reached_by_another reached e.to
 
--- a Send or a Recv, by whether a core reaches it that is not that end
-abbrev pub channel_tests : Option Meaning → Bool → Around → Position → Tests
-channel_tests meaning away a position =
+-- a Send or a Recv, by whether it names another number of ints than a message of its channel has, and whether a core reaches
+-- it that is not that end
+abbrev pub channel_tests : Option Meaning → Bool → Bool → Around → Position → Tests
+channel_tests meaning unlike away a position =
     (rule.NameIsDeclared, is_undeclared meaning)
-    ∷ (rule.NameFitsItsPlace, either (is_other k.Channel meaning) (is_array_position position))
+    ∷ (rule.NameFitsItsPlace, either (is_other k.Channel meaning) (either unlike (is_array_position position)))
     ∷ (rule.StandsInAsyncFunction, not a.is_async)
     ∷ (rule.OnlyItsEndUsesChannel, away) ∷ []
 

@@ -1,5 +1,6 @@
 pub mod Rules
 pub mod Tables
+pub mod Widths
 pub mod Nodes
 pub mod Around
 pub mod Formats

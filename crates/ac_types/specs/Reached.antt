@@ -14,7 +14,7 @@ use Rattle.ac_names.specs.Scopes.{Declaration, visible}
 use Rattle.ac_types.specs.Nodes.{Node, calls_of}
 use Rattle.ac_types.specs.Rules.{rule_number, IsUpTo}
 use Rattle.ac_names.specs.Items.{outermost}
-use Rattle.ac_types.specs.Items.{tables_of, function_nodes, program_nodes}
+use Rattle.ac_types.specs.Items.{first_tables, function_nodes, program_nodes}
 
 abbrev pub function_number : Option Meaning → Option ℕ
 function_number (Some (m.Function number)) = Some number
@@ -26,7 +26,7 @@ entries scopes [] = []
 entries scopes (i.Core at name entry ∷ items) = function_number (visible entry scopes) ∷ entries scopes items
 entries scopes (_ ∷ items) = entries scopes items
 
--- the functions that each function calls, which do not depend on what is reached
+-- the functions that each function calls, which depend neither on widths nor on what is reached
 abbrev pub calls_in : Tables → List (List Declaration) → List Item → List (List ℕ)
 calls_in t scopes [] = []
 calls_in t scopes (i.Function f ∷ xs) = calls_of (function_nodes f t scopes r.ByNone) ∷ calls_in t scopes xs
@@ -36,7 +36,7 @@ abbrev pub entries_of : List Item → List (Option ℕ)
 entries_of items = entries (outermost items) items
 
 abbrev pub all_calls : List Item → List (List ℕ)
-all_calls items = calls_in (tables_of items []) (outermost items) items
+all_calls items = calls_in (first_tables items) (outermost items) items
 
 -- a core reaches a function
 abbrev pub Reaches : List Item → ℕ → ℕ → Type 0

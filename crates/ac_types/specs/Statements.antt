@@ -8,7 +8,6 @@ use Rattle.ac_names.specs.Scopes.{visible, in_inner}
 use Rattle.ac_names.specs.Statements.{Part, part_words, part_gives, part_step, part_all, listed}
 use Rattle.ac_names.specs.Statements.{some_words, some_listed, opened, moved, in_do, in_async}
 use Rattle.ac_types.specs.declared.around.Around.{Around}
-use Rattle.ac_types.specs.declared.around.Position.{Position}
 use Rattle.ac_types.specs.declared.around.Position.TheVariants as p
 use Rattle.ac_types.specs.declared.numbered.Tables.{Tables}
 use Rattle.ac_types.specs.Around.{inside_do, inside_async, inside_loop}

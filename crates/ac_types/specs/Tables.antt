@@ -31,3 +31,7 @@ takes_array t _ param = false
 abbrev pub ends_named : Tables → Option Meaning → Option Ends
 ends_named t (Some (m.Channel number)) = slice_get t.channels number
 ends_named t _ = None
+
+abbrev pub width_named : Tables → Option Meaning → Option ℕ
+width_named t (Some (m.Channel number)) = slice_get t.widths number
+width_named t _ = None

@@ -3,6 +3,7 @@
 ghost use Rattle.std.specs.Prelude.{◌≡◌, ◌<◌, length, slice_get, pos, Some, IfOk, IfErr, true};
 ghost use Rattle.ac_tree.specs.Shape.{HasShape};
 ghost use Rattle.ac_tree.specs.Weight.{IsSmall};
+ghost use Rattle.ac_types.specs.Items.{channel_width};
 ghost use Rattle.ac_types.specs.Reached.{BreaksNone, Reaches, all_calls};
 ghost use Rattle.ac_types.specs.Verdicts.{IsFault};
 ghost use Rattle.ac_names.specs.Numbered.{core_names, capacities, file_paths};
@@ -24,6 +25,8 @@ pub struct Checked {
     counts: Counts,
     // for each core whether it reaches each function
     reach: List<List<bool>>,
+    // how many ints a message of each channel has
+    widths: List<u32>,
 }
 
 impl Model for Checked {
@@ -35,6 +38,7 @@ impl Model for Checked {
     ghost use Rattle.ac_tree.specs.Shape.{HasShape};
     ghost use Rattle.ac_tree.specs.Weight.{IsSmall};
     ghost use Rattle.ac_names.specs.Items.{whole};
+    ghost use Rattle.ac_types.specs.Items.{all_widths};
     ghost use Rattle.ac_types.specs.Reached.{BreaksNone, entries_of, all_calls};
     ghost use Rattle.ac_reach.specs.Reached.{AreAll};
 
@@ -46,7 +50,8 @@ impl Model for Checked {
 
     ghost invariant = { λ c. (BreaksNone c.program.items × IsSmall c.program × HasShape c.program)
         × (c.counts ≡ (whole c.program.items).counts)
-        × AreAll (all_calls c.program.items) (entries_of c.program.items) c.reach };
+        × AreAll (all_calls c.program.items) (entries_of c.program.items) c.reach
+        × (c.widths ≡ all_widths c.program.items) };
 }
 
 /// Checks the rules of a program. It is accepted exactly where it breaks none; else the fault is the least pair of a node, by
@@ -63,10 +68,11 @@ pub fn check(alloc: Global, program: Program) -> Result<Checked, CheckFault>
             rule: broken.rule.number(),
             at: broken.at,
         }),
-        Verdict::Clean(counts, reach) => Ok(Checked {
+        Verdict::Clean(counts, reach, widths) => Ok(Checked {
             program,
             counts,
             reach,
+            widths,
         }),
     }
 }
@@ -124,6 +130,14 @@ impl Checked {
         ensures { slice_get (capacities self.now.items) link ≡ Some (pos result) }
     {
         capacity_size(find_capacity(self.program.items.as_slice(), link))
+    }
+
+    /// How many ints a message of a channel has. There is one of that number.
+    pub fn width(&self, link: u32) -> u32
+        requires { link < length (capacities self.now.items) }
+        ensures { result ≡ channel_width self.now.items link }
+    {
+        *self.widths.get(u64::from(link))
     }
 
     /// The path of a file. There is one of that number.

@@ -14,6 +14,8 @@ pub enum Position {
     Value,
     /// It is an argument for an array parameter.
     Array,
+    /// It is the whole value of a Send, or the place of a Recv.
+    Message,
 }
 
 /// What is around a node in its function.

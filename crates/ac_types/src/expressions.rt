@@ -7,6 +7,7 @@ ghost use Rattle.ac_types.specs.inner.Seen.{expr_seen, links_seen, args_seen, va
 ghost use Rattle.ac_names.specs.Scopes.{visible};
 
 use crate::around::{Around, Position};
+use crate::carried::{carried_on, is_unlike, length_named};
 use crate::judged::{
     judge_call, judge_file, judge_index, judge_name, judge_recv, judge_send, judge_value,
 };
@@ -48,19 +49,21 @@ pub fn see_expr(
     ensures { OnOk result (seen.new ≡ expr_seen expr.now tables.now scopes.now around position seen.old) }
 {
     match expr {
-        Expr::Number { at, value: _ } => seen.note(*at, judge_value(position), None),
-        Expr::Const { at, which: _ } => seen.note(*at, judge_value(position), None),
-        Expr::Name { at, name } => { seen.note(*at, judge_name(scopes.find(name), position), None) }
+        Expr::Number { at, value: _ } => seen.note(*at, judge_value(position), None, None),
+        Expr::Const { at, which: _ } => seen.note(*at, judge_value(position), None, None),
+        Expr::Name { at, name } => {
+            seen.note(*at, judge_name(scopes.find(name), position), None, None)
+        }
         Expr::Index { at, name, index } => {
-            seen.note(*at, judge_index(scopes.find(name), position), None)?;
+            seen.note(*at, judge_index(scopes.find(name), position), None, None)?;
             see_expr(seen, tables, scopes, around, Position::Value, index.get())
         }
         Expr::Group { at, inner } => {
-            seen.note(*at, judge_value(position), None)?;
+            seen.note(*at, judge_value(position), None, None)?;
             see_expr(seen, tables, scopes, around, Position::Value, inner.get())
         }
         Expr::Unary { at, op: _, inner } => {
-            seen.note(*at, judge_value(position), None)?;
+            seen.note(*at, judge_value(position), None, None)?;
             see_expr(seen, tables, scopes, around, Position::Value, inner.get())
         }
         Expr::Chain {
@@ -69,7 +72,7 @@ pub fn see_expr(
             first,
             rest,
         } => {
-            seen.note(*at, judge_value(position), None)?;
+            seen.note(*at, judge_value(position), None, None)?;
             see_expr(seen, tables, scopes, around, Position::Value, first.get())?;
             see_links(seen, tables, scopes, around, rest.as_slice())
         }
@@ -77,20 +80,24 @@ pub fn see_expr(
             let meaning = scopes.find(name);
             let callee = tables.callee(meaning);
             let rule = judge_call(meaning, callee, args.len(), around, position);
-            seen.note(*at, rule, number_of(callee))?;
+            seen.note(*at, rule, number_of(callee), None)?;
             see_args(seen, tables, scopes, around, meaning, args.as_slice())
         }
         Expr::Send { at, channel, value } => {
             let meaning = scopes.find(channel);
-            let rule = judge_send(meaning, tables.ends(meaning), around, position);
-            seen.note(*at, rule, None)?;
-            see_expr(seen, tables, scopes, around, Position::Value, value.get())
+            let len = length_named(scopes, value.get());
+            let unlike = is_unlike(len, tables.width(meaning));
+            let rule = judge_send(meaning, unlike, tables.ends(meaning), around, position);
+            seen.note(*at, rule, None, carried_on(meaning, len))?;
+            see_expr(seen, tables, scopes, around, Position::Message, value.get())
         }
         Expr::Recv { at, channel, place } => {
             let meaning = scopes.find(channel);
-            let rule = judge_recv(meaning, tables.ends(meaning), around, position);
-            seen.note(*at, rule, None)?;
-            see_expr(seen, tables, scopes, around, Position::Value, place.get())
+            let len = length_named(scopes, place.get());
+            let unlike = is_unlike(len, tables.width(meaning));
+            let rule = judge_recv(meaning, unlike, tables.ends(meaning), around, position);
+            seen.note(*at, rule, None, carried_on(meaning, len))?;
+            see_expr(seen, tables, scopes, around, Position::Message, place.get())
         }
         Expr::Read {
             at,
@@ -100,7 +107,7 @@ pub fn see_expr(
             array,
         } => {
             let rule = judge_file(scopes.find(file), scopes.find(array), around, position);
-            seen.note(*at, rule, None)?;
+            seen.note(*at, rule, None, None)?;
             see_expr(seen, tables, scopes, around, Position::Value, from.get())?;
             see_expr(seen, tables, scopes, around, Position::Value, len.get())
         }
@@ -112,7 +119,7 @@ pub fn see_expr(
             array,
         } => {
             let rule = judge_file(scopes.find(file), scopes.find(array), around, position);
-            seen.note(*at, rule, None)?;
+            seen.note(*at, rule, None, None)?;
             see_expr(seen, tables, scopes, around, Position::Value, from.get())?;
             see_expr(seen, tables, scopes, around, Position::Value, len.get())
         }

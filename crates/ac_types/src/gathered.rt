@@ -1,14 +1,15 @@
 //! The tables of a program.
 
-ghost use Rattle.std.specs.Prelude.{◌≡◌, ◌+◌, ◌≤◌, [], length, OnOk, IfOk};
+ghost use Rattle.std.specs.Prelude.{◌≡◌, ◌+◌, ◌≤◌, [], ◌++◌, length, OnOk, IfOk};
 ghost use Rattle.ac_tree.specs.Weight.{body_weight, params_weight, items_weight};
 ghost use Rattle.ac_names.specs.Items.{outermost};
-ghost use Rattle.ac_types.specs.Items.{signature_of, signatures, core_number, channel_ends, all_ends, function_nodes};
-ghost use Rattle.ac_types.specs.Nodes.{calls_of};
+ghost use Rattle.ac_types.specs.Items.{signature_of, signatures, core_number, channel_ends, all_ends, function_nodes, carried_in};
+ghost use Rattle.ac_types.specs.Nodes.{calls_of, carried_of};
 ghost use Rattle.ac_types.specs.Reached.{function_number, entries, calls_in, entries_of};
 ghost use Rattle.ac_types.specs.inner.Verdicts.{AreTables};
 ghost use Rattle.ac_reach.specs.declared.reached.Reached.TheVariants as r;
 
+use crate::carried::widths;
 use crate::items::see_function;
 use crate::numbered::{Ends, Signature, Tables};
 use crate::seen::Seen;
@@ -120,7 +121,7 @@ pub fn entries(
     Ok(list)
 }
 
-/// The functions that a function calls. The walk is then where it was.
+/// The functions that a function calls. The walk is then where it was, and has seen what the function says of channels.
 fn calls(
     alloc: Global,
     walk: &mut Walk,
@@ -131,16 +132,17 @@ fn calls(
     requires slot { walk.old.names.slot ≡ 0 }
     requires small { params_weight function.now.params + body_weight function.now.body ≤ 1048576 }
     ensures calls { IfOk result (λ list. list ≡ calls_of (function_nodes function.now tables.now walk.old.names.scopes r.ByNone)) }
+    ensures carried { OnOk result (walk.new.seen.carried ≡ walk.old.seen.carried
+        ++ carried_of (function_nodes function.now tables.now walk.old.names.scopes r.ByNone)) }
     ensures names { OnOk result (walk.new.names ≡ walk.old.names) }
 {
-    walk.seen = Seen::new(alloc);
+    walk.seen.calls = List::new(alloc);
     see_function(walk, tables, function, Reached::ByNone)?;
-    let seen = mem::replace(&mut walk.seen, Seen::new(alloc));
-    let Seen { first: _, calls } = seen;
+    let calls = mem::replace(&mut walk.seen.calls, List::new(alloc));
     Ok(calls)
 }
 
-/// The functions that each function calls. The walk is then where it was.
+/// The functions that each function calls. The walk is then where it was, and has seen what they say of channels.
 pub fn all_calls(
     alloc: Global,
     walk: &mut Walk,
@@ -151,6 +153,7 @@ pub fn all_calls(
     requires slot { walk.old.names.slot ≡ 0 }
     requires small { items_weight items.now ≤ 1048576 }
     ensures calls { IfOk result (λ list. list ≡ calls_in tables.now walk.old.names.scopes items.now) }
+    ensures carried { OnOk result (walk.new.seen.carried ≡ walk.old.seen.carried ++ carried_in tables.now walk.old.names.scopes items.now) }
     ensures names { OnOk result (walk.new.names ≡ walk.old.names) }
 {
     let mut list = List::new(alloc);
@@ -176,9 +179,12 @@ pub fn gather(alloc: Global, walk: &mut Walk, items: &[Item]) -> Result<Gathered
     let mut tables = Tables {
         functions: signatures(alloc, items)?,
         channels: all_ends(alloc, &walk.names.scopes, items)?,
+        widths: List::new(alloc),
         reached: List::new(alloc),
     };
+    walk.seen = Seen::new(alloc);
     let calls = all_calls(alloc, walk, &tables, items)?;
+    tables.widths = widths(alloc, walk.seen.carried.as_slice(), tables.channels.len())?;
     let reach = find_reach(alloc, calls.as_slice(), entered.as_slice())?;
     let Reach { flags, rows } = reach;
     tables.reached = rows;

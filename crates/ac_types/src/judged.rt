@@ -67,6 +67,9 @@ fn is_misplaced(meaning: Option<Meaning>, position: Position) -> bool
 {
     match position {
         Position::Array => is_other(NameKind::Array, meaning),
+        Position::Message => {
+            is_other(NameKind::Int, meaning) && is_other(NameKind::Array, meaning)
+        }
         _ => is_other(NameKind::Int, meaning),
     }
 }
@@ -175,41 +178,47 @@ fn takes_away(reached: Reached, ends: Option<Ends>) -> bool
 
 fn judge_channel(
     meaning: Option<Meaning>,
+    unlike: bool,
     is_away: bool,
     around: Around,
     position: Position,
 ) -> Option<Rule>
-    ensures { result ≡ least_broken (channel_tests meaning is_away around position) }
+    ensures { result ≡ least_broken (channel_tests meaning unlike is_away around position) }
 {
-    let is_wrong = is_other(NameKind::Channel, meaning) || is_array(position);
+    let is_unfit = unlike || is_array(position);
+    let is_wrong = is_other(NameKind::Channel, meaning) || is_unfit;
     let rest = least(Rule::OnlyItsEndUsesChannel, is_away, None);
     let rest = least(Rule::StandsInAsyncFunction, !around.is_async, rest);
     let rest = least(Rule::NameFitsItsPlace, is_wrong, rest);
     least(Rule::NameIsDeclared, is_undeclared(meaning), rest)
 }
 
-/// A Send.
+/// A Send, by whether it names another number of ints than a message of its channel has.
 pub fn judge_send(
     meaning: Option<Meaning>,
+    unlike: bool,
     ends: Option<Ends>,
     around: Around,
     position: Position,
 ) -> Option<Rule>
-    ensures { result ≡ least_broken (channel_tests meaning (sends_away around.reached ends) around position) }
+    ensures { result ≡ least_broken (channel_tests meaning unlike (sends_away around.reached ends) around position) }
 {
-    judge_channel(meaning, sends_away(around.reached, ends), around, position)
+    let is_away = sends_away(around.reached, ends);
+    judge_channel(meaning, unlike, is_away, around, position)
 }
 
-/// A Recv.
+/// A Recv, likewise.
 pub fn judge_recv(
     meaning: Option<Meaning>,
+    unlike: bool,
     ends: Option<Ends>,
     around: Around,
     position: Position,
 ) -> Option<Rule>
-    ensures { result ≡ least_broken (channel_tests meaning (takes_away around.reached ends) around position) }
+    ensures { result ≡ least_broken (channel_tests meaning unlike (takes_away around.reached ends) around position) }
 {
-    judge_channel(meaning, takes_away(around.reached, ends), around, position)
+    let is_away = takes_away(around.reached, ends);
+    judge_channel(meaning, unlike, is_away, around, position)
 }
 
 /// A Read or a Write.

@@ -3,6 +3,7 @@
 
 mod accepted;
 mod around;
+mod carried;
 mod expressions;
 mod fault;
 mod gathered;

@@ -1,7 +1,7 @@
 //! What is known of the items of a program, by their numbers.
 
 ghost use Rattle.std.specs.Prelude.{◌≡◌};
-ghost use Rattle.ac_types.specs.Tables.{callee, takes_array, ends_named};
+ghost use Rattle.ac_types.specs.Tables.{callee, takes_array, ends_named, width_named};
 
 use ac_base::List;
 use ac_names::Meaning;
@@ -37,6 +37,8 @@ pub struct Callee {
 pub struct Tables {
     pub functions: List<Signature>,
     pub channels: List<Ends>,
+    /// How many ints a message of each channel has.
+    pub widths: List<u32>,
     pub reached: List<Reached>,
 }
 
@@ -91,6 +93,23 @@ impl Tables {
                 let place = u64::from(number);
                 if place < self.channels.len() {
                     Some(*self.channels.get(place))
+                } else {
+                    None
+                }
+            }
+            _ => None,
+        }
+    }
+
+    /// How many ints a message of the channel has that a name means.
+    pub fn width(&self, meaning: Option<Meaning>) -> Option<u32>
+        ensures { result ≡ width_named self.now meaning }
+    {
+        match meaning {
+            Some(Meaning::Channel(number)) => {
+                let place = u64::from(number);
+                if place < self.widths.len() {
+                    Some(*self.widths.get(place))
                 } else {
                     None
                 }

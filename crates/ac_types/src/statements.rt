@@ -35,7 +35,7 @@ impl Walk {
     pub fn note(&mut self, at: u32, rule: Option<Rule>) -> Result<(), NoMemory>
         ensures { OnOk result (self.new ≡ noted_plain at rule self.old) }
     {
-        self.seen.note(at, rule, None)
+        self.seen.note(at, rule, None, None)
     }
 
     /// Sees an expression at its position.

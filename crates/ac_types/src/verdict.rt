@@ -9,6 +9,7 @@ ghost use Rattle.ac_types.specs.inner.Verdicts.{AreTables, Judges};
 
 use crate::gathered::{Gathered, gather};
 use crate::items::{judge_program, see_items};
+use crate::numbered::Tables;
 use crate::rule::BrokenRule;
 use crate::seen::Seen;
 use crate::statements::Walk;
@@ -17,11 +18,12 @@ use ac_names::{Counts, Names, Past, whole};
 use ac_tree::Item;
 use std::alloc::Global;
 
-/// The least broken rule of a program, or what is counted of it, and for each core whether it reaches each function.
+/// The least broken rule of a program, or what is counted of it, for each core whether it reaches each function, and how many
+/// ints a message of each channel has.
 #[derive(Drop)]
 pub enum Verdict {
     Broken(BrokenRule),
-    Clean(Counts, List<List<bool>>),
+    Clean(Counts, List<List<bool>>, List<u32>),
 }
 
 /// The first rule that a node after the program's own breaks.
@@ -63,8 +65,14 @@ fn judge_items(alloc: Global, past: Past, items: &[Item]) -> Result<Verdict, NoM
     match first_of_items(alloc, &mut walk, &gathered, items)? {
         Some(broken) => Ok(Verdict::Broken(broken)),
         None => {
-            let Gathered { tables: _, reach } = gathered;
-            Ok(Verdict::Clean(counts, reach))
+            let Gathered { tables, reach } = gathered;
+            let Tables {
+                functions: _,
+                channels: _,
+                widths,
+                reached: _,
+            } = tables;
+            Ok(Verdict::Clean(counts, reach, widths))
         }
     }
 }

@@ -7,12 +7,13 @@ use Rattle.ac_names.specs.Scopes.{Declaration, or_else}
 use Rattle.ac_types.specs.declared.around.Around.{Around}
 use Rattle.ac_types.specs.declared.around.Position.{Position}
 use Rattle.ac_types.specs.declared.numbered.Tables.{Tables}
+use Rattle.ac_types.specs.declared.carried.Carried.{Carried}
 use Rattle.ac_types.specs.declared.rule.BrokenRule.{BrokenRule}
 use Rattle.ac_types.specs.declared.rule.Rule.{Rule}
 use Rattle.ac_types.specs.declared.seen.Seen.{Seen}
 use Rattle.ac_types.specs.Rules.{rule_number}
-use Rattle.ac_types.specs.Nodes.{Node, called}
-use Rattle.ac_types.specs.Expressions.{expr_all, links_all, args_all, values_all, value_all}
+use Rattle.ac_types.specs.Nodes.{Node, called, carried_too}
+use Rattle.ac_types.specs.Expressions.{expr_told, expr_all, links_all, args_all, values_all, value_all}
 
 -- the one of lesser number
 abbrev pub lesser : Rule → Option Rule → Rule
@@ -32,12 +33,16 @@ abbrev pub at_node : ℕ → Option Rule → Option BrokenRule
 at_node at None = None
 at_node at (Some rule) = Some (record { rule = rule; at = at })
 
-abbrev pub noted_by : ℕ → Option Rule → Option ℕ → Seen → Seen
-noted_by at rule call seen = record { first = or_else seen.first (at_node at rule); calls = called call seen.calls }
+abbrev pub noted_by : ℕ → Option Rule → Option ℕ → Option Carried → Seen → Seen
+noted_by at rule call carried seen = record {
+  first = or_else seen.first (at_node at rule);
+  calls = called call seen.calls;
+  carried = carried_too carried seen.carried;
+}
 
 -- one node more
 abbrev pub noted : Node → Seen → Seen
-noted n seen = noted_by n.at (least_broken n.tests) n.calls seen
+noted n seen = noted_by n.at (least_broken n.tests) n.calls n.carries seen
 
 abbrev pub seen_all : List Node → Seen → Seen
 seen_all [] seen = seen
@@ -55,6 +60,10 @@ unseen seen = seen
 
 abbrev pub join_seen : (Seen → Seen) → (Seen → Seen) → Seen → Seen
 join_seen f g seen = g (f seen)
+
+-- the name that an expression is, where it is one
+abbrev pub name_seen : Expr → Option (List ℕ)
+name_seen x = (expr_told (Seen → Seen) noted unseen join_seen x).0
 
 abbrev pub expr_seen : Expr → Tables → List (List Declaration) → Around → Position → Seen → Seen
 expr_seen = expr_all (Seen → Seen) noted unseen join_seen

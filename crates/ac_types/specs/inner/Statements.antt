@@ -58,7 +58,7 @@ abbrev pub after_scope : Tables → Around → List SeenPart → Walk → Walk
 after_scope t a ps w = record { names = moved w.names (sum_words ps); seen = bodies ps t (opened w.names) a w.seen }
 
 abbrev pub noted_plain : ℕ → Option Rule → Walk → Walk
-noted_plain at rule w = record { names = w.names; seen = noted_by at rule None w.seen }
+noted_plain at rule w = record { names = w.names; seen = noted_by at rule None None w.seen }
 
 abbrev pub after_expr : Tables → Around → Position → Expr → Walk → Walk
 after_expr t a position x w = record { names = w.names; seen = expr_seen x t w.names.scopes a position w.seen }
@@ -70,7 +70,7 @@ abbrev pub after_test : Tables → Around → ℕ → Expr → Walk → Walk
 after_test t a at test w = after_expr t a p.Value test (noted_plain at None w)
 
 abbrev pub after_open : ℕ → Walk → Walk
-after_open at w = record { names = opened w.names; seen = noted_by at None None w.seen }
+after_open at w = record { names = opened w.names; seen = noted_by at None None None w.seen }
 
 abbrev pub after_shut : Walk → Walk
 after_shut w = record { names = shut w.names; seen = w.seen }

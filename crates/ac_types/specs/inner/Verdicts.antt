@@ -7,7 +7,7 @@ use Rattle.ac_types.specs.declared.gathered.Gathered.{Gathered}
 use Rattle.ac_types.specs.declared.verdict.Verdict.{Verdict}
 use Rattle.ac_types.specs.declared.verdict.Verdict.TheVariants as v
 use Rattle.ac_types.specs.Rules.{rule_number}
-use Rattle.ac_types.specs.Items.{tables_of}
+use Rattle.ac_types.specs.Items.{tables_of, all_widths}
 use Rattle.ac_types.specs.Reached.{AreReached, IsLeastBroken, BreaksNone, entries_of, all_calls}
 
 -- the tables of a program, with what each core reaches
@@ -18,5 +18,5 @@ pub record AreTables (items : List Item) (g : Gathered) : Type 0 where
 
 abbrev pub Judges : List Item → Verdict → Type 0
 Judges items (v.Broken broken) = IsLeastBroken items (rule_number broken.rule) broken.at
-Judges items (v.Clean counts reach) = BreaksNone items
-    × ((counts ≡ (whole items).counts) × AreAll (all_calls items) (entries_of items) reach)
+Judges items (v.Clean counts reach widths) = BreaksNone items
+    × ((counts ≡ (whole items).counts) × AreAll (all_calls items) (entries_of items) reach × (widths ≡ all_widths items))
