@@ -49,7 +49,7 @@ also_in_functions_that_it_called = refl
 -- ---- the thread 0 cancels; the threads 1 and 2 wait, that in the block 1 within the block 0, and this in the block 2
 
 abbrev pub of_thread : ℕ → Operation
-of_thread number = started 0 (asked.Send (pos 5)) (item number)
+of_thread number = started 0 (asked.Send (pos 5 ∷ [])) (item number)
 
 abbrev pub waiting : Work
 waiting = Pend first_frame c.Yield []
@@ -120,10 +120,10 @@ a_cancel_is_such_a_move = refl
 -- ---- an operation that starts
 
 -- in a cancelled block it has its value at once and the thread runs on, and else the thread waits
-pub an_operation_starts : (operates true (core [] []) (item 0) 0 (asked.Send (pos 5)) held (waiting ∷ Leave ∷ [])
+pub an_operation_starts : (operates true (core [] []) (item 0) 0 (asked.Send (pos 5 ∷ [])) held (waiting ∷ Leave ∷ [])
     ≡ record (core [] []) { held = held; work = Given (cell.Int (negsuc 0)) first_frame c.Yield [] ∷ Leave ∷ [] })
-    × ((operates false (core [] []) (item 0) 0 (asked.Send (pos 5)) held (waiting ∷ Leave ∷ [])).held.operations ≡ of_thread 0 ∷ [])
-    × ((operates false (core [] []) (item 0) 0 (asked.Send (pos 5)) held (waiting ∷ Leave ∷ [])).running ≡ None)
+    × ((operates false (core [] []) (item 0) 0 (asked.Send (pos 5 ∷ [])) held (waiting ∷ Leave ∷ [])).held.operations ≡ of_thread 0 ∷ [])
+    × ((operates false (core [] []) (item 0) 0 (asked.Send (pos 5 ∷ [])) held (waiting ∷ Leave ∷ [])).running ≡ None)
 an_operation_starts = (refl, refl, refl)
 
 -- ---- the statement

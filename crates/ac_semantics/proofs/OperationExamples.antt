@@ -47,17 +47,22 @@ given_nought = Given (int 0) first_frame c.Yield []
 abbrev pub settled : List Work → Next
 settled ws = settles (program []) c.Yield first_frame ws held (Stops (Acting (Send 2)) (int 5 ∷ []) [])
 
-pub a_send_starts : settled (Leave ∷ []) ≡ Operates 2 (asked.Send (pos 5)) held (waits ∷ Leave ∷ [])
+pub a_send_starts : settled (Leave ∷ []) ≡ Operates 2 (asked.Send (pos 5 ∷ [])) held (waits ∷ Leave ∷ [])
 a_send_starts = refl
+
+-- all elements of an array are sent, as they are now: the globals are 8 and 9
+pub an_array_is_sent_whole : settles (program []) c.Yield first_frame (Leave ∷ []) held (Stops (Acting (Send 2)) (cell.Array both_globals ∷ []) [])
+    ≡ Operates 2 (asked.Send (pos 8 ∷ pos 9 ∷ [])) held (waits ∷ Leave ∷ [])
+an_array_is_sent_whole = refl
 
 pub a_receive_starts : settles (program []) c.Yield first_frame [] held (Stops (Acting (Recv 1)) (cell.Array both_globals ∷ []) [])
     ≡ Operates 1 (asked.Recv both_globals) held (waits ∷ [])
 a_receive_starts = refl
 
 abbrev pub five : Operation
-five = started 0 (asked.Send (pos 5)) (item 0)
+five = started 0 (asked.Send (pos 5 ∷ [])) (item 0)
 
-pub the_youngest_is_last : (with_started held 0 (asked.Send (pos 5)) (item 0) ≡ record held { operations = five ∷ [] })
+pub the_youngest_is_last : (with_started held 0 (asked.Send (pos 5 ∷ [])) (item 0) ≡ record held { operations = five ∷ [] })
     × (with_started (record held { operations = five ∷ [] }) 1 (asked.Recv both_globals) (item 1)
     ≡ record held { operations = five ∷ started 1 (asked.Recv both_globals) (item 1) ∷ [] })
 the_youngest_is_last = (refl, refl)
@@ -76,7 +81,7 @@ core todo operations = record {
   threads = with_work (waits ∷ Leave ∷ []) ∷ [];
 }
 
-pub it_waits_for_its_end : applied (record (core [] []) { running = Some (item 0); threads = with_work [] ∷ [] }) (item 0) (Operates 0 (asked.Send (pos 5)) held (waits ∷ Leave ∷ []))
+pub it_waits_for_its_end : applied (record (core [] []) { running = Some (item 0); threads = with_work [] ∷ [] }) (item 0) (Operates 0 (asked.Send (pos 5 ∷ [])) held (waits ∷ Leave ∷ []))
     ≡ On (core [] (five ∷ []))
 it_waits_for_its_end = refl
 
@@ -118,7 +123,7 @@ pub the_ready_one_runs_before_it : rests (record (core (at_turn 1 (Know 0 3) ∷
     })
 the_ready_one_runs_before_it = refl
 
-pub an_entry_that_does_not_fit : (rests (core (at_turn 0 (Know 0 3) ∷ []) (offered_as 2 five ∷ [])) ≡ Over None) × (rests (core (at_turn 0 (Got 0 0 (pos 1)) ∷ []) (five ∷ [])) ≡ Over None)
+pub an_entry_that_does_not_fit : (rests (core (at_turn 0 (Know 0 3) ∷ []) (offered_as 2 five ∷ [])) ≡ Over None) × (rests (core (at_turn 0 (Got 0 0 (pos 1 ∷ [])) ∷ []) (five ∷ [])) ≡ Over None)
 an_entry_that_does_not_fit = (refl, refl)
 
 -- a withdrawn offer is passed over, and its thread waits on for a message
@@ -146,7 +151,7 @@ abbrev pub two_cores : Resolved
 two_cores = record (program (sends ∷ [])) {
   cores = record { name = codes "a"; entry = 0 } ∷ record { name = codes "b"; entry = 1 } ∷ [];
   functions = function (sends ∷ []) ∷ function [] ∷ [];
-  channels = record { from = 0; to = 1; capacity = 1 } ∷ [];
+  channels = record { from = 0; to = 1; capacity = 1; width = 1 } ∷ [];
 }
 
 -- what so many moves of it come to under a journal
@@ -161,7 +166,7 @@ it_stops_at_the_send s around = simp (act_goes s first_frame, number_goes s firs
 
 -- the send is offered as the number 0 at the turn 1, and it is taken
 abbrev pub taken : List Entry
-taken = record { stamp = 1; turn = 1; event = Offer 0 0 (Int (pos 5)) } ∷ record { stamp = 3; turn = 1; event = Know 0 0 } ∷ []
+taken = record { stamp = 1; turn = 1; event = Offer 0 0 (Int (pos 5 ∷ [])) } ∷ record { stamp = 3; turn = 1; event = Know 0 0 } ∷ []
 
 -- the dispatch, the send, the two entries, the second dispatch, what goes on with the value, and the end
 pub a_send_that_is_taken : after taken 7 ≡ Over (Some (record { word = Finished; steps = 1; output = []; globals = pos 0 ∷ pos 5 ∷ []; waiting = []; idle = false }))

@@ -248,7 +248,7 @@ pub at_first : (first_item ≡ item 0) × (first_globals (program []) ≡ pos 0 
       ready = item 0 ∷ [];
       threads = record { around = []; phase = Active; work = Do first_frame c.Break ∷ Leave ∷ [] } ∷ [];
     })
-    × (shared_at_first (record (program []) { channels = record { from = 0; to = 1; capacity = 1 } ∷ [] }) 1 [] ≡ first_shared 2 [])
+    × (shared_at_first (record (program []) { channels = record { from = 0; to = 1; capacity = 1; width = 1 } ∷ [] }) 1 [] ≡ first_shared 2 [])
 at_first = (refl, refl, refl, refl, refl)
 
 -- ---- the wholes of these

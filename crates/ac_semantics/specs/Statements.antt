@@ -14,6 +14,7 @@ use Rattle.cancel_scope.specs.declared.operation.Asked.TheVariants as asked
 use Rattle.core_state.specs.Arithmetic.{at_zero}
 use Rattle.core_state.specs.Frames.{set_element, begun, begun_with, block_in}
 use Rattle.core_state.specs.Shared.{printed, formatted}
+use Rattle.core_state.specs.Messages.{message_in}
 use Rattle.core_state.specs.Requests.{read_of, write_of}
 use Rattle.ac_commands.specs.declared.value.Value.{Value}
 use Rattle.ac_commands.specs.declared.value.Value.TheVariants as v
@@ -182,7 +183,7 @@ settles program command frame ws s (Stops Ending operands around) = finish progr
 settles program command frame ws s (Stops (Acting (Call function)) operands around) =
     calls (slice_get program.functions function) operands (Pend frame command around ∷ ws) s
 settles program command frame ws s (Stops (Acting (Send channel)) operands around) =
-    Operates channel (asked.Send (int_in (last_of operands))) s (Pend frame command around ∷ ws)
+    Operates channel (asked.Send (message_in s.store (last_of operands))) s (Pend frame command around ∷ ws)
 settles program command frame ws s (Stops (Acting (Recv channel)) operands around) =
     Operates channel (asked.Recv (place_in (last_of operands))) s (Pend frame command around ∷ ws)
 settles program command frame ws s (Stops (Acting (Read file)) operands around) =

@@ -20,7 +20,7 @@ here = record { home = None; start = 0; len = 1 }
 
 -- on channel 0 a 5 is sent, and from channel 1 one is received
 abbrev pub five : Operation
-five = started 0 (Send (pos 5)) (thread 1)
+five = started 0 (Send (pos 5 ∷ [])) (thread 1)
 
 abbrev pub hears : Operation
 hears = started 1 (Recv here) (thread 2)
@@ -54,13 +54,13 @@ it_is_offered_under_its_number = (refl, refl, refl, refl)
 pub a_receive_waits_for_a_message : (is_to_receive 1 hears ≡ true) × (is_to_receive 0 hears ≡ false) × (is_to_receive 0 five ≡ false)
 a_receive_waits_for_a_message = (refl, refl, refl)
 
-pub an_offer_carries_what_is_sent : (carries (Send (pos 5)) (payload.Int (pos 5)) ≡ true) × (carries (Send (pos 5)) (payload.Int (pos 6)) ≡ false)
-    × (carries (Send (pos 5)) (payload.Read 0 0 5) ≡ false) × (carries (Recv here) (payload.Int (pos 5)) ≡ false)
+pub an_offer_carries_what_is_sent : (carries (Send (pos 5 ∷ [])) (payload.Int (pos 5 ∷ [])) ≡ true) × (carries (Send (pos 5 ∷ [])) (payload.Int (pos 6 ∷ [])) ≡ false)
+    × (carries (Send (pos 5 ∷ [])) (payload.Read 0 0 5) ≡ false) × (carries (Recv here) (payload.Int (pos 5 ∷ [])) ≡ false)
 an_offer_carries_what_is_sent = (refl, refl, refl, refl)
 
 -- the file, the place in it, and the length or the bytes
 pub an_offer_carries_a_request : (carries reads.asked (payload.Read 6 9 4) ≡ true) × (carries reads.asked (payload.Read 6 9 3) ≡ false) × (carries reads.asked (payload.Read 6 8 4) ≡ false)
-    × (carries reads.asked (payload.Read 5 9 4) ≡ false) × (carries reads.asked (payload.Int (pos 4)) ≡ false) × (carries writes.asked (payload.Write 6 9 (65 ∷ 66 ∷ [])) ≡ true)
+    × (carries reads.asked (payload.Read 5 9 4) ≡ false) × (carries reads.asked (payload.Int (pos 4 ∷ [])) ≡ false) × (carries writes.asked (payload.Write 6 9 (65 ∷ 66 ∷ [])) ≡ true)
     × (carries writes.asked (payload.Write 6 9 (65 ∷ 67 ∷ [])) ≡ false) × (carries writes.asked (payload.Write 6 9 (65 ∷ [])) ≡ false) × (carries writes.asked (payload.Read 6 9 2) ≡ false)
 an_offer_carries_a_request = (refl, refl, refl, refl, refl, refl, refl, refl, refl)
 
@@ -75,7 +75,7 @@ pub what_is_seen_of_them : (waiting_as five ≡ record { link = 0; phase = phase
     × (waiting_as (as_begun (offered_as 3 reads)) ≡ record { link = 2; phase = phase.Started })
 what_is_seen_of_them = (refl, refl, refl)
 
-pub parts_of_the_tests : (is_outgoing (Send (pos 5)) ≡ true) × (is_outgoing (Recv here) ≡ false) × (is_outgoing writes.asked ≡ true) × (is_request (Send (pos 5)) ≡ false)
+pub parts_of_the_tests : (is_outgoing (Send (pos 5 ∷ [])) ≡ true) × (is_outgoing (Recv here) ≡ false) × (is_outgoing writes.asked ≡ true) × (is_request (Send (pos 5 ∷ [])) ≡ false)
     × (is_request (Recv here) ≡ false) × (is_request reads.asked ≡ true) × (is_request writes.asked ≡ true)
 parts_of_the_tests = (refl, refl, refl, refl, refl, refl, refl)
 

@@ -1,6 +1,6 @@
 -- The operations of a core that have not ended, the oldest first, and which of them an event is about.
 use Rattle.std.specs.Prelude.{ℕ, List, [], ◌∷◌, Bool, true, false, not, ◌&&◌, nat_eq, bytes_eq, if◌then◌else◌}
-use Rattle.std.specs.Ordering.{int_eq}
+use Rattle.ac_base.specs.Messages.{ints_eq}
 use Rattle.ac_base.specs.declared.entry.Payload.{Payload}
 use Rattle.ac_base.specs.declared.entry.Payload.TheVariants as payload
 use Rattle.ac_base.specs.declared.ends.Phase.{Phase}
@@ -76,7 +76,7 @@ is_to_receive link o = nat_eq o.link link && not (is_outgoing o.asked)
 
 -- an offer of it carries this
 abbrev pub carries : Asked → Payload → Bool
-carries (asked.Send value) (payload.Int message) = int_eq value message
+carries (asked.Send sent) (payload.Int message) = ints_eq sent message
 carries (asked.Read file from into) (payload.Read f a n) = nat_eq file f && (nat_eq from a && nat_eq into.len n)
 carries (asked.Write file from bytes) (payload.Write f a bs) = nat_eq file f && (nat_eq from a && bytes_eq bytes bs)
 carries _ _ = false

@@ -12,7 +12,7 @@ use work_item::{Item, Place};
 pub enum Asked {
     /// To send a message.
     Send(Message),
-    /// To receive a message into the int at that place.
+    /// To receive a message into the ints at that place.
     Recv(Place),
     /// To read from a place of a file on, at most as many bytes as there are ints to put them into.
     Read { file: u32, from: u32, into: Place },

@@ -24,5 +24,5 @@ into_globals_and_a_living_frame = (tt, refl)
 pub into_no_frame_that_is_gone : ReadsIntoLiving store (Read 6 4 first) → ⊥
 into_no_frame_that_is_gone h = let no : false ≡ true = h in cc
 
-pub a_write_puts_nothing : ReadsIntoLiving store (Write 6 4 (66 ∷ [])) × ReadsIntoLiving store (Send (pos 5))
+pub a_write_puts_nothing : ReadsIntoLiving store (Write 6 4 (66 ∷ [])) × ReadsIntoLiving store (Send (pos 5 ∷ []))
 a_write_puts_nothing = (tt, tt)

@@ -1,2 +1,4 @@
 pub mod Bytes
 pub mod AnswerExamples
+pub mod MessageExamples
+pub mod Ints

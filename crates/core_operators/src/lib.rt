@@ -5,6 +5,7 @@ mod arithmetic;
 mod cells;
 mod elements;
 mod format;
+mod messages;
 mod requests;
 
 pub use arithmetic::{
@@ -15,4 +16,5 @@ pub use arithmetic::{
 pub use cells::{int_in, place_in};
 pub use elements::within;
 pub use format::add_formatted;
+pub use messages::{message_in, put_message};
 pub use requests::{Range, bytes_at, range_of, take_answer};

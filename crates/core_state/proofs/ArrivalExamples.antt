@@ -35,10 +35,10 @@ abbrev pub second : Place
 second = record { home = None; start = 1; len = 1 }
 
 abbrev pub five : Operation
-five = started 0 (Send (pos 5)) (thread 1)
+five = started 0 (Send (pos 5 ∷ [])) (thread 1)
 
 abbrev pub six : Operation
-six = started 0 (Send (pos 6)) (thread 2)
+six = started 0 (Send (pos 6 ∷ [])) (thread 2)
 
 abbrev pub hears : Operation
 hears = started 1 (Recv second) (thread 3)
@@ -47,11 +47,11 @@ abbrev pub at_turn : ℕ → Event → Entry
 at_turn turn event = record { stamp = 1; turn = turn; event = event }
 
 abbrev pub offer : ℕ → ℤ → Event
-offer number value = Offer 0 number (Int value)
+offer number value = Offer 0 number (Int (value ∷ []))
 
 -- ---- offers
 
-pub one_offer_was_made : offers_on 0 (at_turn 0 (offer 0 (pos 4)) ∷ at_turn 1 (Know 0 0) ∷ at_turn 2 (Offer 1 0 (Int (pos 4))) ∷ []) ≡ 1
+pub one_offer_was_made : offers_on 0 (at_turn 0 (offer 0 (pos 4)) ∷ at_turn 1 (Know 0 0) ∷ at_turn 2 (Offer 1 0 (Int (pos 4 ∷ []))) ∷ []) ≡ 1
 one_offer_was_made = refl
 
 pub an_offer_on_that_link : (is_offer 0 (offer 3 (pos 4)) ≡ true) × (is_offer 1 (offer 3 (pos 4)) ≡ false) × (is_offer 0 (Know 0 3) ≡ false)
@@ -68,7 +68,7 @@ then_the_next_one = refl
 
 -- another number, another value, a request, and a link on which nothing is to be offered
 pub what_is_no_offer : (arrives [] store (five ∷ []) (offer 1 (pos 5)) ≡ None) × (arrives [] store (five ∷ []) (offer 0 (pos 6)) ≡ None)
-    × (arrives [] store (five ∷ []) (Offer 0 0 (payload.Read 0 0 4)) ≡ None) × (arrives [] store (hears ∷ []) (Offer 1 0 (Int (pos 5))) ≡ None)
+    × (arrives [] store (five ∷ []) (Offer 0 0 (payload.Read 0 0 4)) ≡ None) × (arrives [] store (hears ∷ []) (Offer 1 0 (Int (pos 5 ∷ []))) ≡ None)
 what_is_no_offer = (refl, refl, refl, refl)
 
 -- ---- ends
@@ -80,11 +80,11 @@ a_known_send_has_ended = refl
 pub nothing_is_known_of_what_waits : arrives [] store (five ∷ []) (Know 0 0) ≡ None
 nothing_is_known_of_what_waits = refl
 
-pub a_message_has_come : arrives [] store (five ∷ hears ∷ []) (Got 1 9 (pos 3))
+pub a_message_has_come : arrives [] store (five ∷ hears ∷ []) (Got 1 9 (pos 3 ∷ []))
     ≡ Some (record { operations = five ∷ []; store = record { globals = pos 7 ∷ pos 3 ∷ []; frames = [] }; woken = Some (thread 3); value = pos 0 })
 a_message_has_come = refl
 
-pub no_one_waits_for_a_message : (arrives [] store (five ∷ []) (Got 1 9 (pos 3)) ≡ None) × (arrives [] store (five ∷ hears ∷ []) (Got 0 9 (pos 3)) ≡ None)
+pub no_one_waits_for_a_message : (arrives [] store (five ∷ []) (Got 1 9 (pos 3 ∷ [])) ≡ None) × (arrives [] store (five ∷ hears ∷ []) (Got 0 9 (pos 3 ∷ [])) ≡ None)
 no_one_waits_for_a_message = (refl, refl)
 
 -- a withdrawn offer is passed over, and nothing ends
@@ -98,16 +98,16 @@ no_one_waits_so_none_is_passed_over = (refl, refl, refl)
 pub a_withdrawal_needs_a_cancel : arrives [] store (offered_as 0 five ∷ []) (Withdraw 0 0) ≡ None
 a_withdrawal_needs_a_cancel = refl
 
-pub its_parts : (ok ≡ pos 0) × (cancelled ≡ negsuc 0) × (place_for (Recv second) ≡ second) × (place_for (Send (pos 5)) ≡ no_place)
-    × (with_message store hears (pos 3) ≡ record { globals = pos 7 ∷ pos 3 ∷ []; frames = [] })
+pub its_parts : (ok ≡ pos 0) × (cancelled ≡ negsuc 0) × (place_for (Recv second) ≡ second) × (place_for (Send (pos 5 ∷ [])) ≡ no_place)
+    × (with_message store hears (pos 3 ∷ []) ≡ record { globals = pos 7 ∷ pos 3 ∷ []; frames = [] })
     × (has_ended store [] five ≡ record { operations = []; store = store; woken = Some (thread 1); value = pos 0 })
     × (has_ended_as (negsuc 1) store [] five ≡ record { operations = []; store = store; woken = Some (thread 1); value = negsuc 1 })
     × (goes_on_waiting store [] ≡ record { operations = []; store = store; woken = None; value = pos 0 })
 its_parts = (refl, refl, refl, refl, refl, refl, refl, refl)
 
-pub where_there_is_one : (offers store (five ∷ []) 0 0 (Int (pos 5)) (Some five) ≡ Some (goes_on_waiting store (offered_as 0 five ∷ [])))
+pub where_there_is_one : (offers store (five ∷ []) 0 0 (Int (pos 5 ∷ [])) (Some five) ≡ Some (goes_on_waiting store (offered_as 0 five ∷ [])))
     × (is_known store (offered_as 0 five ∷ []) 0 0 (Some (offered_as 0 five)) ≡ Some (has_ended store [] (offered_as 0 five)))
-    × (ends_received store (hears ∷ []) 1 (pos 3) (Some hears) ≡ Some (has_ended (with_message store hears (pos 3)) [] hears))
+    × (ends_received store (hears ∷ []) 1 (pos 3 ∷ []) (Some hears) ≡ Some (has_ended (with_message store hears (pos 3 ∷ [])) [] hears))
     × (passes_over store (hears ∷ []) (Some hears) ≡ Some (goes_on_waiting store (hears ∷ [])))
 where_there_is_one = (refl, refl, refl, refl)
 
@@ -126,7 +126,7 @@ writes = started 2 (Write 6 9 (65 ∷ [])) (thread 5)
 
 pub a_request_is_offered : (arrives [] store (reads ∷ writes ∷ []) (Offer 2 0 (payload.Read 6 9 2)) ≡ Some (goes_on_waiting store (offered_as 0 reads ∷ writes ∷ [])))
     × (arrives [] store (writes ∷ reads ∷ []) (Offer 2 0 (payload.Write 6 9 (65 ∷ []))) ≡ Some (goes_on_waiting store (offered_as 0 writes ∷ reads ∷ [])))
-    × (arrives [] store (reads ∷ []) (Offer 2 0 (payload.Read 6 9 3)) ≡ None) × (arrives [] store (reads ∷ []) (Offer 2 0 (Int (pos 5))) ≡ None)
+    × (arrives [] store (reads ∷ []) (Offer 2 0 (payload.Read 6 9 3)) ≡ None) × (arrives [] store (reads ∷ []) (Offer 2 0 (Int (pos 5 ∷ []))) ≡ None)
 a_request_is_offered = (refl, refl, refl, refl)
 
 -- its thread waits on; what has begun once does not begin again
@@ -188,8 +188,8 @@ abbrev pub left : List Entry → Move ℕ (Option CoreEnd)
 left todo = point (λ seen. seen) (shared todo) store (hears ∷ []) (λ s x. On (length x.operations)) (On 9)
 
 -- an entry of this turn comes in, one of a later turn does not, and one that does not fit leaves no end
-pub at_a_dispatch_point : (left (at_turn 4 (Got 1 0 (pos 3)) ∷ []) ≡ On 0) × (left (at_turn 5 (Got 1 0 (pos 3)) ∷ []) ≡ On 9)
-    × (left (at_turn 4 (Got 0 0 (pos 3)) ∷ []) ≡ Over None) × (left [] ≡ On 9)
+pub at_a_dispatch_point : (left (at_turn 4 (Got 1 0 (pos 3 ∷ [])) ∷ []) ≡ On 0) × (left (at_turn 5 (Got 1 0 (pos 3 ∷ [])) ∷ []) ≡ On 9)
+    × (left (at_turn 4 (Got 0 0 (pos 3 ∷ [])) ∷ []) ≡ Over None) × (left [] ≡ On 9)
 at_a_dispatch_point = (refl, refl, refl, refl)
 
 pub the_entry_has_come_in : (e : Entry)

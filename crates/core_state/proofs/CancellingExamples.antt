@@ -20,7 +20,7 @@ use Rattle.core_state.proofs.ArrivalExamples.{store, five, six, hears, reads, wr
 
 -- the offer 3 on link 0 is withdrawn, or was taken; other entries decide nothing of it
 pub an_offer_is_withdrawn_or_was_taken : (outcome 0 3 (Withdraw 0 3) ≡ Some NeverHappens) × (outcome 0 3 (Know 0 3) ≡ Some IsTaken)
-    × (outcome 0 3 (Withdraw 0 2) ≡ None) × (outcome 0 3 (Know 1 3) ≡ None) × (outcome 0 3 (Room 0 3) ≡ None) × (outcome 0 3 (Got 0 3 (pos 5)) ≡ None)
+    × (outcome 0 3 (Withdraw 0 2) ≡ None) × (outcome 0 3 (Know 1 3) ≡ None) × (outcome 0 3 (Room 0 3) ≡ None) × (outcome 0 3 (Got 0 3 (pos 5 ∷ [])) ≡ None)
 an_offer_is_withdrawn_or_was_taken = (refl, refl, refl, refl, refl, refl)
 
 -- ---- a cancel, in a core of which the second thread is not inside

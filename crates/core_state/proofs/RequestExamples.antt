@@ -53,7 +53,7 @@ just_in_range = (refl, refl, refl, refl, refl, refl, refl, refl)
 -- a count of the bytes, and no more of them than were asked for; any other answer is FAULT
 pub values_of_requests : (value_of (Read 6 9 two) (Bytes (7 ∷ [])) ≡ pos 1) × (value_of (Read 6 9 two) (Bytes (7 ∷ 8 ∷ 9 ∷ [])) ≡ pos 2) × (value_of (Read 6 9 two) (Count 2) ≡ negsuc 1)
     × (value_of (Read 6 9 two) (Fault 0) ≡ negsuc 1) × (value_of (Write 6 9 (65 ∷ [])) (Count 1) ≡ pos 1) × (value_of (Write 6 9 (65 ∷ [])) (Fault 1) ≡ negsuc 1)
-    × (value_of (Write 6 9 (65 ∷ [])) (Bytes (7 ∷ [])) ≡ negsuc 1) × (value_of (Send (pos 5)) (Count 1) ≡ fault)
+    × (value_of (Write 6 9 (65 ∷ [])) (Bytes (7 ∷ [])) ≡ negsuc 1) × (value_of (Send (pos 5 ∷ [])) (Count 1) ≡ fault)
 values_of_requests = (refl, refl, refl, refl, refl, refl, refl, refl)
 
 pub a_read_stores_what_came : (with_answer store (Read 6 9 two) (Bytes (7 ∷ [])) ≡ record store { globals = pos 8 ∷ pos 7 ∷ pos 322 ∷ negsuc 0 ∷ [] })

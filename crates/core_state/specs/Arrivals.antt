@@ -11,7 +11,7 @@ use Rattle.ac_base.specs.declared.entry.Entry.{Entry}
 use Rattle.ac_base.specs.declared.ends.CoreEnd.{CoreEnd}
 use Rattle.work_item.specs.declared.ids.Item.{Item}
 use Rattle.work_item.specs.declared.cell.Place.{Place}
-use Rattle.work_item.specs.Store.{Store, no_place, with_int_at}
+use Rattle.work_item.specs.Store.{Store, no_place}
 use Rattle.cancel_scope.specs.declared.operation.Asked.{Asked}
 use Rattle.cancel_scope.specs.declared.operation.Asked.TheVariants as asked
 use Rattle.cancel_scope.specs.declared.operation.Operation.{Operation}
@@ -19,6 +19,7 @@ use Rattle.cancel_scope.specs.Outstanding.{is_to_offer, is_offered, is_begun, is
 use Rattle.cancel_scope.specs.Outstanding.{change_first, without_first}
 use Rattle.core_state.specs.Moves.{Move, Over}
 use Rattle.core_state.specs.Shared.{Shared, with_entry}
+use Rattle.core_state.specs.Messages.{with_ints_at}
 use Rattle.core_state.specs.Requests.{value_of, with_answer}
 
 -- ---- the value of an operation that has ended
@@ -84,8 +85,8 @@ abbrev pub place_for : Asked → Place
 place_for (asked.Recv place) = place
 place_for _ = no_place
 
-abbrev pub with_message : Store → Operation → ℤ → Store
-with_message store o value = with_int_at store (place_for o.asked) 0 value
+abbrev pub with_message : Store → Operation → List ℤ → Store
+with_message store o message = with_ints_at store (place_for o.asked) message
 
 -- the oldest operation that is to be offered on a link is offered, by an offer that carries what it sends
 abbrev pub offers : Store → List Operation → ℕ → ℕ → Payload → Option Operation → Option Arrival
@@ -111,9 +112,9 @@ is_answered store os link number answer (Some o) =
     Some (has_ended_as (value_of o.asked answer) (with_answer store o.asked answer) (without_first (is_begun link number) os) o)
 
 -- the oldest that waits for a message from a link puts it into its place, and has ended
-abbrev pub ends_received : Store → List Operation → ℕ → ℤ → Option Operation → Option Arrival
-ends_received store os link value None = None
-ends_received store os link value (Some o) = Some (has_ended (with_message store o value) (without_first (is_to_receive link) os) o)
+abbrev pub ends_received : Store → List Operation → ℕ → List ℤ → Option Operation → Option Arrival
+ends_received store os link message None = None
+ends_received store os link message (Some o) = Some (has_ended (with_message store o message) (without_first (is_to_receive link) os) o)
 
 -- a withdrawn offer is passed over while one waits for a message from the link, and it goes on waiting
 abbrev pub passes_over : Store → List Operation → Option Operation → Option Arrival
@@ -130,7 +131,7 @@ abbrev pub arrives : List Entry → Store → List Operation → Event → Optio
 arrives past store os (event.Offer link number payload) =
     if nat_eq number (offers_on link past) then offers store os link number payload (find (is_to_offer link) os) else None
 arrives past store os (event.Know link number) = is_known store os link number (find (is_offered link number) os)
-arrives past store os (event.Got link number value) = ends_received store os link value (find (is_to_receive link) os)
+arrives past store os (event.Got link number message) = ends_received store os link message (find (is_to_receive link) os)
 arrives past store os (event.Pass link number) = passes_over store os (find (is_to_receive link) os)
 arrives past store os (event.Room link number) = gives_room store os (keeps_room link number past)
 arrives past store os (event.Reply link number answer) = is_answered store os link number answer (find (is_begun link number) os)

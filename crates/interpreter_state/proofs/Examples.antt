@@ -34,7 +34,7 @@ a_block = refl
 
 -- ---- what is asked of a link
 
-pub a_message_is_sent : asked_of (k.Send (pos 5)) ≡ a.Send (pos 5)
+pub a_message_is_sent : asked_of (k.Send (pos 5 ∷ [])) ≡ a.Send (pos 5 ∷ [])
 a_message_is_sent = refl
 
 pub a_message_is_received : asked_of (k.Recv in_globals) ≡ a.Recv in_globals
@@ -52,7 +52,7 @@ abbrev thread : ℕ → Item
 thread number = record { number = number }
 
 abbrev sends : Operation
-sends = started 0 (a.Send (pos 5)) (thread 1)
+sends = started 0 (a.Send (pos 5 ∷ [])) (thread 1)
 
 abbrev receives : ℕ → Operation
 receives number = started 2 (a.Recv in_globals) (thread number)

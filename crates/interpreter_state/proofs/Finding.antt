@@ -1,7 +1,7 @@
 -- The oldest operation for which a test holds, by its place in equal lists.
 -- The interpreter finds a place in its own list, which stands for the meaning's. The laws of `cancel_scope` (Finding) say what is at the
 -- first place; here they are carried over to the equal list, for what is found, changed and taken away.
-use Rattle.std.proofs.Common.{◌≡◌, ℕ, pos, ◌<◌, List, length, get_or, set, refl, sym, ap, ◌∙◌}
+use Rattle.std.proofs.Common.{◌≡◌, ℕ, pos, ◌<◌, List, [], ◌∷◌, length, get_or, set, refl, sym, ap, ◌∙◌}
 use Rattle.std.specs.Prelude.{Option, Some, None, Bool, false, true, find, position, is_some, slice_get}
 use Rattle.std.specs.List.{remove}
 use Rattle.std.proofs.lemmas.Option.{slice_get_within, slice_get-get_or}
@@ -14,7 +14,7 @@ use Rattle.cancel_scope.proofs.Finding as queue
 
 -- an operation, whatever it is
 abbrev pub any : Operation
-any = started 0 (asked.Send (pos 0)) (record { number = 0 })
+any = started 0 (asked.Send (pos 0 ∷ [])) (record { number = 0 })
 
 some_of : (o : Option Operation) → is_some o ≡ true → (y : Operation) × (o ≡ Some y)
 some_of None h = let no : false ≡ true = h in absurd (cc)

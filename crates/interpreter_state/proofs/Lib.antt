@@ -3,5 +3,6 @@ mod Clearing
 mod Releasing
 mod Counted
 pub mod Finding
+mod Messages
 mod Taken
 mod Examples

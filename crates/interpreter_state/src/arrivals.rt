@@ -227,18 +227,19 @@ impl Held {
     }
 
     // The oldest operation that waits for a message has it, and has ended.
-    fn end_received(&mut self, link: u32, value: Message) -> Result<Option<Woken>, Unfit>
+    fn end_received(&mut self, link: u32, message: &Message) -> Result<Option<Woken>, Unfit>
         ensures fits { MatchResult result
-            (λ woken. ends_received self.old.memory self.old.operations.items link value
+            (λ woken. ends_received self.old.memory self.old.operations.items link message.now
             (find (is_to_receive link) self.old.operations.items) ≡ Some (arrival_of self.new woken))
-            (λ e. ends_received self.old.memory self.old.operations.items link value
+            (λ e. ends_received self.old.memory self.old.operations.items link message.now
             (find (is_to_receive link) self.old.operations.items) ≡ None) }
         ensures held { held_of self.new
             ≡ record (held_of self.old) { store = self.new.memory; operations = self.new.operations.items } }
     {
         match take(&mut self.operations, Sought::ToReceive(link)) {
             Some(operation) => {
-                self.memory.write_at(operation.place(), 0, value);
+                self.memory
+                    .write_ints(operation.place(), message.as_slice());
                 Ok(Some(Woken::done(operation.item())))
             }
             None => Err(Unfit),
@@ -287,7 +288,7 @@ impl Held {
                 number,
                 answer,
             } => self.end_answered(*link, *number, answer),
-            Event::Got { link, value, .. } => self.end_received(*link, *value),
+            Event::Got { link, value, .. } => self.end_received(*link, value),
             Event::Pass { link, .. } => self.pass_over(*link),
             Event::Room { link, number } => {
                 if keeps_room(*link, *number, past) {

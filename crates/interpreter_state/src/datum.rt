@@ -5,6 +5,7 @@ ghost use Rattle.work_item.specs.Store.{int_in, place_in};
 ghost use Rattle.work_item.specs.declared.cell.Cell.TheVariants as c;
 ghost use Rattle.core_state.specs.Frames.{within, one_place, part_at, block_in};
 ghost use Rattle.core_state.specs.Requests.{first_of};
+ghost use Rattle.interpreter_state.specs.inner.Data.{array_in};
 
 use ac_base::Trap;
 use std::marker::Model;
@@ -188,6 +189,17 @@ impl Datum {
         match kind {
             DatumKind::Array(span) => span,
             _ => Span::new(None, 0, 0),
+        }
+    }
+
+    /// The array to which it refers, where it refers to one.
+    pub(crate) fn span(self) -> Option<Span>
+        ensures { result ≡ array_in self }
+    {
+        let kind = self.kind;
+        match kind {
+            DatumKind::Array(span) => Some(span),
+            _ => None,
         }
     }
 

@@ -6,6 +6,7 @@ ghost use Rattle.work_item.specs.Store.{global_at, with_global, int_at, with_int
 ghost use Rattle.work_item.specs.Store.{live_words, any_in, cleared, no_int, some_over};
 ghost use Rattle.interpreter_state.specs.inner.Released.{is_over, one_ended};
 ghost use Rattle.core_state.specs.Frames.{has_words};
+ghost use Rattle.core_state.specs.Messages.{ints_at, with_ints_at, message_in};
 ghost use Rattle.core_state.specs.Requests.{bytes_at, bytes_for, with_bytes_at};
 
 use crate::datum::{Datum, Span};
@@ -357,6 +358,42 @@ impl Memory {
             self.write_at(into, index, i64::from(bytes[index as usize]));
         }
         count
+    }
+
+    // All elements of an array.
+    fn ints_at(&self, alloc: Global, place: Span) -> Result<List<i64>, NoMemory>
+        ensures { IfOk result (λ ints. ints ≡ ints_at self.now place) }
+    {
+        let mut ints = List::new(alloc);
+        for index in 0..place.len() {
+            ints.push(self.read_at(place, index))?;
+        }
+        Ok(ints)
+    }
+
+    /// What is sent of a slot: the int that it is, or all elements of the array to which it refers, as they are now.
+    #[tactic(auto, using(crate::proofs::Messages::array_is_sent, crate::proofs::Messages::int_is_sent))]
+    pub fn message_in(&self, alloc: Global, datum: Datum) -> Result<List<i64>, NoMemory>
+        ensures { IfOk result (λ ints. ints ≡ message_in self.now datum) }
+    {
+        match datum.span() {
+            Some(place) => self.ints_at(alloc, place),
+            None => {
+                let mut ints = List::new(alloc);
+                ints.push(datum.as_int())?;
+                Ok(ints)
+            }
+        }
+    }
+
+    /// Puts ints into the elements of an array, in order, as far as there are both.
+    pub fn write_ints(&mut self, into: Span, ints: &[i64])
+        ensures { self.new ≡ with_ints_at self.old into ints.now }
+    {
+        let count = ints.len().min(into.len() as usize) as u32;
+        for index in 0..count {
+            self.write_at(into, index, ints[index as usize]);
+        }
     }
 
     /// The globals, out of the memory.

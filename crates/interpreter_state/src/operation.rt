@@ -9,16 +9,16 @@ ghost use Rattle.interpreter_state.specs.inner.Sought.{is_sought};
 
 use crate::datum::Span;
 use crate::memory::Memory;
-use ac_base::{Answer, Bytes, Message, Payload, Waiting};
+use ac_base::{Answer, Bytes, List, Message, Payload, Waiting};
 use cancel_scope::Progress;
 use std::marker::Model;
 use work_item::{Item, Place};
 
-/// What is asked of a link: to send a message, to receive one into the first slot there, to read from a place of a file on into
-/// these elements, or to write these bytes from there on.
+/// What is asked of a link: to send a message of these ints, to receive one into these elements, to read from a place of a file on
+/// into these elements, or to write these bytes from there on.
 #[derive(Drop)]
 pub enum Asked {
-    Send(Message),
+    Send(List<i64>),
     Recv(Span),
     Read { file: u32, from: u32, into: Span },
     Write { file: u32, from: u32, bytes: Bytes },
@@ -74,7 +74,8 @@ impl Operation {
         }
     }
 
-    // The same, with neither a place nor bytes, where a write is a read of no byte: no test looks at what they differ in.
+    // The same, with neither a place nor bytes and with another message, where a write is a read of no byte: no test looks at what they
+    // differ in.
     fn bare(&self) -> cancel_scope::Operation
         ensures link { result.link ≡ self.now.link }
         ensures outgoing { is_outgoing result.asked ≡ is_outgoing self.now.asked }
@@ -82,7 +83,7 @@ impl Operation {
         ensures progress { result.progress ≡ self.now.progress }
     {
         let asked = match &self.asked {
-            Asked::Send(value) => cancel_scope::Asked::Send(*value),
+            Asked::Send(_) => cancel_scope::Asked::Send(Message::of(0)),
             Asked::Recv(_) => cancel_scope::Asked::Recv(NO_PLACE),
             Asked::Read { file, from, .. } | Asked::Write { file, from, .. } => {
                 cancel_scope::Asked::Read {
@@ -118,7 +119,7 @@ impl Operation {
         ensures { result ≡ carries self.now.asked payload.now }
     {
         match (&self.asked, payload) {
-            (Asked::Send(value), Payload::Int(message)) => *value == *message,
+            (Asked::Send(ints), Payload::Int(message)) => ints.as_slice() == message.as_slice(),
             (
                 Asked::Read { file, from, into },
                 Payload::Read {

@@ -7,6 +7,7 @@ ghost use Rattle.work_item.specs.declared.cell.Cell.TheVariants as c;
 ghost use Rattle.core_state.specs.Arithmetic.{at_zero};
 ghost use Rattle.core_state.specs.Frames.{begun, argument, arguments, first_cells};
 ghost use Rattle.core_state.specs.Shared.{printed, formatted};
+ghost use Rattle.core_state.specs.Messages.{message_in};
 ghost use Rattle.ac_semantics.specs.Held as h;
 ghost use Rattle.ac_semantics.specs.Statements as s;
 ghost use Rattle.ac_semantics.specs.Work as w;
@@ -69,6 +70,14 @@ fn last_array(operands: &[Datum]) -> Span
     ensures { result ≡ place_in (s.last_of (reverse operands.now)) }
 {
     operand(operands, 0).as_array()
+}
+
+// What is sent by a statement with these operands.
+fn last_message(alloc: Global, memory: &Memory, operands: &[Datum]) -> Result<List<i64>, NoMemory>
+    ensures { IfOk result (λ message. message ≡ message_in memory.now (s.last_of (reverse operands.now))) }
+{
+    let last = operand(operands, 0);
+    memory.message_in(alloc, last)
 }
 
 // The value of a `return`; without one it is 0.
@@ -454,7 +463,7 @@ fn settle<'a>(
         }
         Evaluated::Stops(Head::Acting(Action::Send { channel }), operands) => {
             work.push(Work::Pend(frame, command, around))?;
-            let message = last_int(operands.as_slice());
+            let message = last_message(alloc, &held.memory, operands.as_slice())?;
             Ok(Next::Operates(channel, Asked::Send(message)))
         }
         Evaluated::Stops(Head::Acting(Action::Recv { channel }), operands) => {
