@@ -2,6 +2,7 @@
 -- One use of EachInPlace: such a program has no action on a channel or a file, and no form has another instruction that starts an
 -- operation. A cancel starts none.
 use Rattle.std.proofs.Common.{◌≡◌, ℕ, ◌<◌, List, [], length, true, refl, ap, arith}
+use Rattle.std.proofs.lemmas.Option.{slice_get_within}
 use Rattle.ac_tree.specs.declared.item.Program.{Program}
 use Rattle.ac_tree.specs.Shape.{HasShape}
 use Rattle.ac_types.specs.Reached.{BreaksNone}
@@ -36,8 +37,8 @@ module _ (program : Resolved) (none : program.channels ≡ []) (no_files : progr
 
   acts_alone : (action : Action) (wants : List Want) (count : ℕ) → Wants program action wants → P (action_code action count)
   acts_alone _ _ count (call n f e) = refl
-  acts_alone _ _ count (send channel lt) = absurd (no_channel channel lt)
-  acts_alone _ _ count (recv channel lt) = absurd (no_channel channel lt)
+  acts_alone _ _ count (send number channel e) = absurd (no_channel number (slice_get_within program.channels number channel e))
+  acts_alone _ _ count (recv number channel e) = absurd (no_channel number (slice_get_within program.channels number channel e))
   acts_alone _ _ count (read file lt) = absurd (no_file file lt)
   acts_alone _ _ count (write file lt) = absurd (no_file file lt)
 

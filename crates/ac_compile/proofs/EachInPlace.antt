@@ -13,7 +13,8 @@ use Rattle.ac_commands.specs.declared.program.Resolved.{Resolved}
 use Rattle.stack_code.specs.declared.instr.Instr.{Instr}
 use Rattle.stack_code.specs.declared.instr.Instr.TheVariants as i
 use Rattle.ac_resolve.specs.InPlace.{Round, Want, Wants}
-use Rattle.ac_resolve.specs.InPlace.{IsValue, number, variable, reference, one_int, element, part, unary, chain, acts, AreLinks, no_link, one_link, AreOperands, no_operand, one_operand, AreInts}
+use Rattle.ac_resolve.specs.InPlace.{IsValue, number, variable, reference, elements, one_int, some_ints, element, part, unary}
+use Rattle.ac_resolve.specs.InPlace.{chain, acts, AreLinks, no_link, one_link, AreOperands, no_operand, one_operand, AreInts}
 use Rattle.ac_resolve.specs.InPlace.{IsTest, no_test, some_test, IsTarget, to_variable, to_element}
 use Rattle.ac_resolve.specs.InPlace.{IsCommand, nothing, set, clear, run, print, if_alone, if_else, while_loop, for_loop, leave, go_on, give, do_finish, start, cancel, yield}
 use Rattle.ac_resolve.specs.InPlace.{AreCommands, no_command, one_command, IsFunction}
@@ -31,7 +32,9 @@ module _ (program : Resolved) (P : Instr → Type 0) (own : (x : Instr) → is_o
       value_holds _ _ (number n) = each.number_holds P own n
       value_holds _ _ (variable place p) = each.variable_holds P own place
       value_holds _ _ (reference array p) = each.reference_holds P own array
-      value_holds _ _ (one_int array p q) = each.reference_holds P own array
+      value_holds _ _ (elements count array p q) = each.reference_holds P own array
+      value_holds _ _ (one_int x p) = value_holds _ x p
+      value_holds _ _ (some_ints count array p q) = each.reference_holds P own array
       value_holds _ _ (element array index p x) = each.element_holds P own array index (value_holds _ index x)
       value_holds _ _ (part array index p x) = each.part_holds P own array index (value_holds _ index x)
       value_holds _ _ (unary op operand x) = each.unary_holds P own op operand (value_holds _ operand x)

@@ -30,7 +30,8 @@ use Rattle.ac_types.specs.Nodes as node
 use Rattle.ac_types.specs.Nodes.{Node, calls_of}
 use Rattle.ac_types.specs.Judged.{sends_away, takes_away}
 use Rattle.ac_types.specs.Expressions.{one_node, join_nodes}
-use Rattle.ac_types.specs.Items.{signature_of, signatures, core_number, all_ends, tables_of, reached_in, core_tests, around_of, params_give, function_nodes, item_gives, items_give, program_nodes}
+use Rattle.ac_types.specs.Items.{signature_of, signatures, core_number, all_ends, channel_width, first_tables, tables_of, reached_in}
+use Rattle.ac_types.specs.Items.{core_tests, around_of, params_give, function_nodes, item_gives, items_give, program_nodes}
 use Rattle.ac_types.specs.Reached as types
 use Rattle.ac_types.specs.Reached.{function_number, entries, calls_in, entries_of, all_calls, BreaksIn, BreaksNone}
 use Rattle.ac_types.proofs.Cleans.{AllClean, clean_sooner, clean_later}
@@ -55,7 +56,7 @@ use Rattle.stack_code.specs.Parts.{Parts}
 use Rattle.stack_code.specs.declared.shape.CellKind.TheVariants as kind
 use Rattle.stack_code.specs.declared.shape.Want.TheVariants as want
 use Rattle.stack_code.specs.Shapes as shapes
-use Rattle.stack_code.specs.Shapes.{effect, channels_of, after, one_int, pushes}
+use Rattle.stack_code.specs.Shapes.{effect, channels_of, width_of, after, pushes}
 use Rattle.stack_code.specs.Valid.{Fits, Reaches}
 use Rattle.code_safety.specs.KeptEnds.{LiesIn, ReachesFunction, enters, calls, ReachesInstr, IsSender, IsReceiver, KeepsEnds}
 use Rattle.code_safety.proofs.Taken.{on_some_is, if_is}
@@ -144,10 +145,10 @@ module _ (scopes : List (List Declaration)) where
     begins : channel.from ≡ core_of from
     ends : channel.to ≡ core_of to
 
-  named : (xs : List Item) (k : ℕ) (channel : Channel) → slice_get (channels_in xs scopes) k ≡ Some channel → Named xs k channel
-  named [] k channel h = let no : ◌≡◌ {A = Option Channel} None (Some channel) = h in cc
-  named (i.Channel at name from to cap ∷ xs) zero channel h =
-      let same : (record { from = core_of (visible from scopes); to = core_of (visible to scopes); capacity = capacity_size cap }) ≡ channel = cc in
+  named : (all : List Item) (number : ℕ) (xs : List Item) (k : ℕ) (channel : Channel) → slice_get (channels_in all number xs scopes) k ≡ Some channel → Named xs k channel
+  named all number [] k channel h = let no : ◌≡◌ {A = Option Channel} None (Some channel) = h in cc
+  named all number (i.Channel at name from to cap ∷ xs) zero channel h =
+      let same : (record { from = core_of (visible from scopes); to = core_of (visible to scopes); capacity = capacity_size cap; width = channel_width all number }) ≡ channel = cc in
       record {
         from = visible from scopes;
         to = visible to scopes;
@@ -155,11 +156,12 @@ module _ (scopes : List (List Declaration)) where
         begins = ap (λ (x : Channel). x.from) (sym same);
         ends = ap (λ (x : Channel). x.to) (sym same);
       }
-  named (i.Channel at name from to cap ∷ xs) (suc k) channel h = let n = named xs k channel h in record { from = n.from; to = n.to; told = n.told; begins = n.begins; ends = n.ends }
-  named (i.Global at name size value ∷ xs) k channel h = let n = named xs k channel h in record { from = n.from; to = n.to; told = n.told; begins = n.begins; ends = n.ends }
-  named (i.Function f ∷ xs) k channel h = let n = named xs k channel h in record { from = n.from; to = n.to; told = n.told; begins = n.begins; ends = n.ends }
-  named (i.File at name path ∷ xs) k channel h = let n = named xs k channel h in record { from = n.from; to = n.to; told = n.told; begins = n.begins; ends = n.ends }
-  named (i.Core at name entry ∷ xs) k channel h = let n = named xs k channel h in record { from = n.from; to = n.to; told = n.told; begins = n.begins; ends = n.ends }
+  named all number (i.Channel at name from to cap ∷ xs) (suc k) channel h = let n = named all
+      (number + 1) xs k channel h in record { from = n.from; to = n.to; told = n.told; begins = n.begins; ends = n.ends }
+  named all number (i.Global at name size value ∷ xs) k channel h = let n = named all number xs k channel h in record { from = n.from; to = n.to; told = n.told; begins = n.begins; ends = n.ends }
+  named all number (i.Function f ∷ xs) k channel h = let n = named all number xs k channel h in record { from = n.from; to = n.to; told = n.told; begins = n.begins; ends = n.ends }
+  named all number (i.File at name path ∷ xs) k channel h = let n = named all number xs k channel h in record { from = n.from; to = n.to; told = n.told; begins = n.begins; ends = n.ends }
+  named all number (i.Core at name entry ∷ xs) k channel h = let n = named all number xs k channel h in record { from = n.from; to = n.to; told = n.told; begins = n.begins; ends = n.ends }
 
 -- an entry that breaks no rule means a function
 entry_number : (before o : Option Meaning) (f : Option Callee) → AreClean (core_tests before o f) → function_number o ≡ Some (function_of o)
@@ -303,7 +305,7 @@ module _ (p : Program) (none : BreaksNone p.items) (shaped : HasShape p) where
       let l = lies_there at h.shape h.reached in
       let same : l.number ≡ function = let both : Some (home.Function l.number) ≡ Some (home.Function function) = sym l.round ∙ h.round in cc in
       let lt = slice_get_within program.functions l.number l.section.function l.section.there in
-      let many = as_many scopes (tables_of items []) items [] in
+      let many = as_many scopes (first_tables items) items [] in
       omega (arith, same, lt, many)
 
   -- ---- what a core reaches
@@ -364,7 +366,7 @@ module _ (p : Program) (none : BreaksNone p.items) (shaped : HasShape p) where
   channel_at channel e =
       let lt = ltb-true channel (channels_of code) e in
       let many = (belongs program in_place).channels in
-      let d : Channel = record { from = 0; to = 0; capacity = 0 } in
+      let d : Channel = record { from = 0; to = 0; capacity = 0; width = 0 } in
       (slice_index_or program.channels channel d, slice_get-get_or program.channels channel d (omega (arith, lt, many)))
 
   ends_there : (channel : ℕ) (x : Channel) → slice_get program.channels channel ≡ Some x → slice_get code.ends channel ≡ Some (ends_of x)
@@ -376,9 +378,10 @@ module _ (p : Program) (none : BreaksNone p.items) (shaped : HasShape p) where
   sends : (core channel : ℕ) → ReachesInstr code core (instr.Send channel) → IsSender code core channel
   sends core channel z =
       let f = finds z.at z.lies.shape (instr.Send channel) z.lies.reached z.stands in
-      let found = if_is (nat_lt channel (channels_of code)) (one_int z.at z.lies.shape) f.0.leads (subst (λ x. effect code z.at x z.lies.shape ≡ Some f.0.leads) f.1 f.0.finds) in
+      let found = if_is (nat_lt channel (channels_of code)) (after (want.Message (width_of code channel) ∷ []) z.lies.shape (pushes z.at kind.Int)) f.0.leads (subst
+      (λ x. effect code z.at x z.lies.shape ≡ Some f.0.leads) f.1 f.0.finds) in
       let x = channel_at channel found.0 in
-      let n = named scopes items channel x.0 x.1 in
+      let n = named scopes items 0 items channel x.0 x.1 in
       let away : is_reached_by_another (reached_at z.function) (core_number n.from) ≡ false =
       subst (λ o. sends_away (reached_at z.function) o ≡ false) n.told (fair z.at z.function (instr.Send channel) z.lies z.stands) in
       record {
@@ -390,10 +393,10 @@ module _ (p : Program) (none : BreaksNone p.items) (shaped : HasShape p) where
   receives : (core channel : ℕ) → ReachesInstr code core (instr.Recv channel) → IsReceiver code core channel
   receives core channel z =
       let f = finds z.at z.lies.shape (instr.Recv channel) z.lies.reached z.stands in
-      let found = if_is (nat_lt channel (channels_of code)) (after (want.One ∷ []) z.lies.shape (pushes z.at kind.Int)) f.0.leads
+      let found = if_is (nat_lt channel (channels_of code)) (after (want.Elements (width_of code channel) ∷ []) z.lies.shape (pushes z.at kind.Int)) f.0.leads
       (subst (λ x. effect code z.at x z.lies.shape ≡ Some f.0.leads) f.1 f.0.finds) in
       let x = channel_at channel found.0 in
-      let n = named scopes items channel x.0 x.1 in
+      let n = named scopes items 0 items channel x.0 x.1 in
       let away : is_reached_by_another (reached_at z.function) (core_number n.to) ≡ false =
       subst (λ o. takes_away (reached_at z.function) o ≡ false) n.told (fair z.at z.function (instr.Recv channel) z.lies z.stands) in
       record {

@@ -49,6 +49,7 @@ two_parts = record {
   capacities = 16 ∷ [];
   ends = [];
   starts = [];
+  widths = [];
 }
 
 pub two_code : code_of two ≡ two_parts

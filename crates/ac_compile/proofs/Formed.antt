@@ -16,7 +16,8 @@ use Rattle.ac_commands.specs.declared.command.Command.TheVariants as c
 use Rattle.ac_commands.specs.declared.command.Command.TheOpen.{Command-F}
 use Rattle.ac_commands.specs.declared.program.Resolved.{Resolved}
 use Rattle.ac_resolve.specs.InPlace.{Round, in_loop, in_block, in_body, in_function, Want, Wants, call, send, recv, read, write, IsInPlace}
-use Rattle.ac_resolve.specs.InPlace.{IsValue, number, variable, reference, one_int, element, part, unary, chain, acts, AreLinks, no_link, one_link, AreOperands, no_operand, one_operand, AreInts}
+use Rattle.ac_resolve.specs.InPlace.{IsValue, number, variable, reference, elements, one_int, some_ints, element, part, unary}
+use Rattle.ac_resolve.specs.InPlace.{chain, acts, AreLinks, no_link, one_link, AreOperands, no_operand, one_operand, AreInts}
 use Rattle.ac_resolve.specs.InPlace.{IsTest, no_test, some_test, IsTarget, to_variable, to_element}
 use Rattle.ac_resolve.specs.InPlace.{IsCommand, nothing, set, clear, run, print, if_alone, if_else, while_loop, for_loop, leave, go_on, give, do_finish, start, cancel, yield, AreCommands}
 use Rattle.ac_resolve.specs.InPlace.{no_command, one_command}
@@ -48,8 +49,8 @@ module _ (program : Resolved) where
 
   takes_as_wanted : (action : Action) (wants : List Want) (count : ℕ) → Wants program action wants → count ≡ length wants → takes action count ≡ true
   takes_as_wanted _ _ count (call n f e) many = refl
-  takes_as_wanted _ _ count (send channel lt) many = eq-eqb count 1 many
-  takes_as_wanted _ _ count (recv channel lt) many = eq-eqb count 1 many
+  takes_as_wanted _ _ count (send k channel e) many = eq-eqb count 1 many
+  takes_as_wanted _ _ count (recv k channel e) many = eq-eqb count 1 many
   takes_as_wanted _ _ count (read file lt) many = eq-eqb count 3 many
   takes_as_wanted _ _ count (write file lt) many = eq-eqb count 3 many
 
@@ -63,7 +64,9 @@ module _ (program : Resolved) where
       value_fits _ _ (number n) = fits_as _ (Value-F.Number n) (v.rolls-Number n) refl
       value_fits _ _ (variable place p) = fits_as _ (Value-F.Variable place) (v.rolls-Variable place) refl
       value_fits _ _ (reference array p) = fits_as _ (Value-F.Reference array) (v.rolls-Reference array) refl
-      value_fits _ _ (one_int array p q) = fits_as _ (Value-F.Reference array) (v.rolls-Reference array) refl
+      value_fits _ _ (elements count array p q) = fits_as _ (Value-F.Reference array) (v.rolls-Reference array) refl
+      value_fits _ _ (one_int x p) = value_fits _ x p
+      value_fits _ _ (some_ints count array p q) = fits_as _ (Value-F.Reference array) (v.rolls-Reference array) refl
       value_fits _ _ (element array index p x) = fits_as _ (Value-F.Element array index) (v.rolls-Element array index) (value_fits _ index x)
       value_fits _ _ (part array index p x) = fits_as _ (Value-F.Part array index) (v.rolls-Part array index) (value_fits _ index x)
       value_fits _ _ (unary op operand x) = fits_as _ (Value-F.Unary op operand) (v.rolls-Unary op operand) (value_fits _ operand x)

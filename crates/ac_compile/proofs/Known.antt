@@ -1,12 +1,13 @@
 -- What is known of the frames round an address: what their slots hold, and what instructions do with them.
 -- `Knows`: the table of the code has for each body what its frame holds. From it: a slot that is loaded, set or made an array of is there,
 -- and its use is that which it has.
-use Rattle.std.proofs.Common.{◌≡◌, ℕ, zero, suc, ◌+◌, ◌<◌, ◌≤◌, List, [], ◌∷◌, length, Bool, true, false, Some, refl, sym, ap, ◌∙◌, subst, arith, lt-ltb, le-leb, eq-eqb}
-use Rattle.std.specs.Prelude.{slice_get, nat_eq, option_map}
+use Rattle.std.proofs.Common.{◌≡◌, ℕ, zero, suc, ◌+◌, ◌<◌, ◌≤◌, List, [], ◌∷◌, length, true, Option, Some, None, refl, sym, ap, ◌∙◌, subst, arith, lt-ltb, le-leb, eq-eqb}
+use Rattle.std.specs.Prelude.{slice_get, option_map}
 use Rattle.std.proofs.lemmas.Option.{slice_get_within}
 use Rattle.ac_commands.specs.declared.value.Place.{Place}
 use Rattle.ac_commands.specs.declared.value.Array.{Array}
 use Rattle.ac_commands.specs.declared.value.Array.TheVariants as a
+use Rattle.ac_commands.specs.declared.program.Channel.{Channel}
 use Rattle.ac_commands.specs.declared.program.Function.{Function}
 use Rattle.ac_commands.specs.declared.program.Resolved.{Resolved}
 use Rattle.stack_code.specs.declared.parts.Entered.{Entered}
@@ -16,9 +17,9 @@ use Rattle.stack_code.specs.declared.shape.Home.{Home}
 use Rattle.stack_code.specs.declared.shape.Body.{Body}
 use Rattle.stack_code.specs.declared.shape.Shape.{Shape}
 use Rattle.stack_code.specs.Parts.{Parts}
-use Rattle.stack_code.specs.Shapes.{channels_of, is_array}
+use Rattle.stack_code.specs.Shapes.{channels_of, width_of, is_known, is_array}
 use Rattle.stack_code.specs.Valid.{use_of, home_at}
-use Rattle.ac_resolve.specs.InPlace.{Use, AsInt, AsReference, FrameRound, Round, frame_at, Holds, HoldInts, IsPlace, global, local, IsArray, global_array, local_array, parameter, IsOne}
+use Rattle.ac_resolve.specs.InPlace.{Use, AsInt, AsReference, FrameRound, Round, frame_at, Holds, HoldInts, IsPlace, global, local, IsArray, global_array, local_array, parameter, HasLength}
 use Rattle.ac_translation.specs.Translation.{variable_code, array_code}
 use Rattle.ac_compile.proofs.Frames.{other_homes, home_of, body_here, shape_of, body_there}
 use Rattle.ac_compile.proofs.Points.{Table, HasUse, stack_use, is_reference, Agrees, AllAgree, UsesInts, Loads, AreCalled, Does}
@@ -32,6 +33,7 @@ pub record Belongs (code : Parts) (program : Resolved) : Type 0 where
   pub texts : code.texts ≡ program.texts
   pub channels : channels_of code ≡ length program.channels
   pub files : length program.files ≤ 16
+  pub wide : (number : ℕ) (channel : Channel) → slice_get program.channels number ≡ Some channel → width_of code number ≡ channel.width
   pub functions : (number : ℕ) (f : Function) → slice_get program.functions number ≡ Some f → (at : ℕ) × (slice_get code.functions number ≡ Some (entered_as f at))
 
 -- of a whole code, and of the frames round an address
@@ -39,16 +41,16 @@ pub record Knows (code : Parts) (homes : List Home) (frames : List FrameRound) (
   pub called : AreCalled code t
   pub agree : AllAgree code t homes frames
 
--- whether a reference is to one element
-abbrev pub single : Array → Bool
-single (a.Global slot len) = nat_eq len 1
-single (a.Local level slot len) = nat_eq len 1
-single (a.Param level slot) = false
+-- to how many elements a reference is, where that is known
+abbrev pub known : Array → Option ℕ
+known (a.Global slot len) = Some len
+known (a.Local level slot len) = Some len
+known (a.Param level slot) = None
 
-pub one_single : (array : Array) → IsOne array → single array ≡ true
-one_single (a.Global slot len) e = eq-eqb len 1 e
-one_single (a.Local level slot len) e = eq-eqb len 1 e
-one_single (a.Param level slot) e = absurd e
+pub length_known : (count : ℕ) (array : Array) → HasLength count array → is_known count (known array) ≡ true
+length_known count (a.Global slot len) e = eq-eqb len count e
+length_known count (a.Local level slot len) e = eq-eqb len count e
+length_known count (a.Param level slot) e = absurd e
 
 module _ (code : Parts) where
   agree_at : (t : Table) (homes : List Home) (frames : List FrameRound) (level : ℕ) → level < length frames → AllAgree code t homes frames
@@ -106,7 +108,7 @@ module _ (code : Parts) where
         used = λ t k. loads_well level slot AsInt lt h t k refl kinds;
       }
 
-      pub array_does : (array : Array) → IsArray program r array → (kinds : List CellKind) → Does code K (array_code array) (shape kinds) (shape (kind.Reference (single array) ∷ kinds))
+      pub array_does : (array : Array) → IsArray program r array → (kinds : List CellKind) → Does code K (array_code array) (shape kinds) (shape (kind.Reference (known array) ∷ kinds))
       array_does _ (global_array slot len le) kinds = record { finds = λ t k at. rw (m.globals, le-leb (slot + len) program.slots le) refl; used = λ t k. tt }
       array_does _ (local_array level slot len lt le h) kinds = record {
         finds = λ t k at. rw (body_there homes r.frames kinds level slot len lt le) refl;

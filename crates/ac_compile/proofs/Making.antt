@@ -34,25 +34,37 @@ pub all_instrs : (xs ys : List Function) (e d : Emitted) (instrs : List Instr) �
 unfolding with_code
 all_instrs xs ys e d instrs same none h is = is ∙ ap (λ (k : Emitted). k.instrs) (h ∙ ap (with_code (functions_code xs)) none ∙ ap (λ l. with_code (functions_code l) nothing_yet) same)
 
-abbrev parts : List Instr → List Entered → List (List ℕ) → List ℕ → List (List ℕ) → ℕ → List ℕ → List ChannelEnds → List Start → Parts
-parts instrs functions texts entries names globals capacities ends starts =
-    record { instrs = instrs; functions = functions; texts = texts; entries = entries; names = names; globals = globals; capacities = capacities; ends = ends; starts = starts }
+abbrev parts : List Instr → List Entered → List (List ℕ) → List ℕ → List (List ℕ) → ℕ → List ℕ → List ChannelEnds → List Start → List ℕ → Parts
+parts instrs functions texts entries names globals capacities ends starts widths = record {
+  instrs = instrs;
+  functions = functions;
+  texts = texts;
+  entries = entries;
+  names = names;
+  globals = globals;
+  capacities = capacities;
+  ends = ends;
+  starts = starts;
+  widths = widths;
+}
 
 pub made : (program : Resolved) (instrs : List Instr) (functions : List Entered) (texts : List (List ℕ)) (entries : List ℕ) (names : List (List ℕ)) (capacities : List ℕ) (ends : List ChannelEnds)
-    (starts : List Start) →
+    (starts : List Start) (widths : List ℕ) →
     instrs ≡ (code_of program).instrs → functions ≡ (code_of program).functions → texts ≡ program.texts → entries ≡ (code_of program).entries → names ≡ (code_of program).names
     → capacities ≡ (code_of program).capacities →
-    ends ≡ (code_of program).ends → starts ≡ (code_of program).starts → parts instrs functions texts entries names program.slots capacities ends starts ≡ code_of program
-made program instrs functions texts entries names capacities ends starts a b c d e f g h =
+    ends ≡ (code_of program).ends → starts ≡ (code_of program).starts → widths ≡ (code_of program).widths
+    → parts instrs functions texts entries names program.slots capacities ends starts widths ≡ code_of program
+made program instrs functions texts entries names capacities ends starts widths a b c d e f g h k =
     let code = code_of program in
-    ap (λ x. parts x functions texts entries names program.slots capacities ends starts) a
-    ∙ ap (λ x. parts code.instrs x texts entries names program.slots capacities ends starts) b
-    ∙ ap (λ x. parts code.instrs code.functions x entries names program.slots capacities ends starts) c
-    ∙ ap (λ x. parts code.instrs code.functions code.texts x names program.slots capacities ends starts) d
-    ∙ ap (λ x. parts code.instrs code.functions code.texts code.entries x program.slots capacities ends starts) e
-    ∙ ap (λ x. parts code.instrs code.functions code.texts code.entries code.names program.slots x ends starts) f
-    ∙ ap (λ x. parts code.instrs code.functions code.texts code.entries code.names program.slots code.capacities x starts) g
-    ∙ ap (λ x. parts code.instrs code.functions code.texts code.entries code.names program.slots code.capacities code.ends x) h
+    ap (λ x. parts x functions texts entries names program.slots capacities ends starts widths) a
+    ∙ ap (λ x. parts code.instrs x texts entries names program.slots capacities ends starts widths) b
+    ∙ ap (λ x. parts code.instrs code.functions x entries names program.slots capacities ends starts widths) c
+    ∙ ap (λ x. parts code.instrs code.functions code.texts x names program.slots capacities ends starts widths) d
+    ∙ ap (λ x. parts code.instrs code.functions code.texts code.entries x program.slots capacities ends starts widths) e
+    ∙ ap (λ x. parts code.instrs code.functions code.texts code.entries code.names program.slots x ends starts widths) f
+    ∙ ap (λ x. parts code.instrs code.functions code.texts code.entries code.names program.slots code.capacities x starts widths) g
+    ∙ ap (λ x. parts code.instrs code.functions code.texts code.entries code.names program.slots code.capacities code.ends x widths) h
+    ∙ ap (λ x. parts code.instrs code.functions code.texts code.entries code.names program.slots code.capacities code.ends code.starts x) k
 
 pub all_functions : (xs ys : List Function) (e : Emitted) (list : List Entered) → xs ≡ ys → e ≡ nothing_yet → list ≡ functions_from (length e.instrs) xs → list ≡ functions_from 0 ys
 all_functions xs ys e list same none h = h ∙ ap (λ (k : Emitted). functions_from (length k.instrs) xs) none ∙ ap (functions_from 0) same

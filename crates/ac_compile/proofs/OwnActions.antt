@@ -32,19 +32,19 @@ use Rattle.ac_types.specs.Around.{position_of, inside_do, inside_async, inside_l
 use Rattle.ac_types.specs.Tables.{callee, callee_of, takes_array, ends_named}
 use Rattle.ac_types.specs.Nodes.{Node}
 use Rattle.ac_types.specs.Judged.{call_tests, sends_away, takes_away, channel_tests}
-use Rattle.ac_types.specs.Expressions.{number_of, one_node, join_nodes, expr_nodes, links_step, args_step, values_all, value_all}
+use Rattle.ac_types.specs.Expressions.{number_of, one_node, join_nodes, told_nodes, expr_nodes, links_step, args_step, values_all, value_all}
 use Rattle.ac_types.specs.Statements.{stmt_nodes, body_nodes, some_gives, for_gives}
 use Rattle.ac_types.proofs.Cleans.{AllClean, clean_sooner, clean_later}
-use Rattle.ac_types.proofs.Forms.{ExprNodes, of_expr, of_link, link_nodes, StmtNodes, of_stmt, some_nodes, expr_is, stmt_is}
+use Rattle.ac_types.proofs.Forms.{ExprNodes, ToldNodes, of_expr, of_link, link_nodes, StmtNodes, of_stmt, some_nodes, expr_is, stmt_is}
 use Rattle.ac_commands.specs.declared.value.Action.TheVariants as act
 use Rattle.ac_commands.specs.declared.value.Place.TheVariants as slots
 use Rattle.ac_commands.specs.declared.value.Value.{Value}
 use Rattle.ac_commands.specs.declared.value.ValueLink.{ValueLink}
 use Rattle.ac_commands.specs.declared.command.Command.{Command}
 use Rattle.ac_commands.specs.declared.command.Command.TheVariants as cm
-use Rattle.ac_resolve.specs.Places.{constant_value, reference_to, function_of, channel_of, cancel_of}
+use Rattle.ac_resolve.specs.Places.{constant_value, function_of, channel_of, cancel_of}
 use Rattle.ac_resolve.specs.Computed.{Reading, InScopes, read, read_step, link_step, link_in, links_step as reading_links, arguments_step, file_operands}
-use Rattle.ac_resolve.specs.Computed.{value_in, argument_in, target_in, values_in, some_in, initial_in}
+use Rattle.ac_resolve.specs.Computed.{value_in, argument_in, target_in, place_in, values_in, some_in, initial_in}
 use Rattle.ac_resolve.specs.Commands.{Texts, Told, told_step, told, some_told, some_shape, commands, some_texts, some_commands, for_names}
 use Rattle.ac_resolve.proofs.Forms.{expr_reads, stmt_tells}
 use Rattle.ac_resolve.proofs.Tellings.{is_told, listed_same, some_same, some_alike}
@@ -88,9 +88,9 @@ pub call_later : (calls : List ℕ) (xs ys : List Node) → AllCall calls (xs ++
 call_later calls [] ys h = h
 call_later calls (x ∷ xs) ys h = call_later calls xs ys h.1
 
--- before it is known which cores reach the function
+-- before widths are known and which cores reach the function
 abbrev pub untold : Tables → Tables
-untold t = record t { reached = [] }
+untold t = record t { widths = []; reached = [] }
 
 abbrev pub unreached : Around → Around
 unreached a = record a { reached = r.ByNone }
@@ -122,11 +122,14 @@ module _ (t : Tables) (calls : List ℕ) where
     abbrev own : (x : Instr) → is_own x ≡ true → P x
     own = own_fair t calls a.reached
 
-    abbrev At : ExprNodes → Position → Type 0
-    At x w = Fair (λ t a. x t scopes a w) a
+    abbrev At : ToldNodes → Position → Type 0
+    At x w = Fair (λ t a. x.1 t scopes a w) a
 
-    form : {x y : ExprNodes} (w : Position) → x ≡ y → At x w → At y w
-    form {x} {y} w e c = subst (λ (g : ExprNodes). At g w) e c
+    form : {x y : ToldNodes} (w : Position) → x ≡ y → At x w → At y w
+    form {x} {y} w e c = subst (λ (g : ToldNodes). At g w) e c
+
+    link_form : {x y : ExprNodes} (w : Position) → x ≡ y → Fair (λ t a. x t scopes a w) a → Fair (λ t a. y t scopes a w) a
+    link_form {x} {y} w e c = subst (λ (g : ExprNodes). Fair (λ t a. g t scopes a w) a) e c
 
     abbrev V : Value → Type 0
     V = Values P own
@@ -137,8 +140,8 @@ module _ (t : Tables) (calls : List ℕ) where
     target_as : {q q2 : Reading} → q ≡ q2 → Targets P own (q2.target scopes a.depth) → Targets P own (q.target scopes a.depth)
     target_as e h = subst (λ (z : Reading). Targets P own (z.target scopes a.depth)) (sym e) h
 
-    reference_as : {q q2 : Reading} → q ≡ q2 → V (reference_to (q2.target scopes a.depth)) → V (reference_to (q.target scopes a.depth))
-    reference_as e h = subst (λ (z : Reading). V (reference_to (z.target scopes a.depth))) (sym e) h
+    received_as : {q q2 : Reading} → q ≡ q2 → V (q2.received scopes a.depth) → V (q.received scopes a.depth)
+    received_as e h = subst (λ (z : Reading). V (z.received scopes a.depth)) (sym e) h
 
     argument_as : {q q2 : Reading} → q ≡ q2 → V (q2.argument scopes a.depth) → V (q.argument scopes a.depth)
     argument_as e h = subst (λ (z : Reading). V (z.argument scopes a.depth)) (sym e) h
@@ -151,7 +154,7 @@ module _ (t : Tables) (calls : List ℕ) where
     links_nodes ls t a = links_step (List Node) one_node [] join_nodes (map link_nodes ls) t scopes a
 
     abbrev args_nodes : Option Meaning → ℕ → List Expr → Given
-    args_nodes o n xs t a = args_step (List Node) one_node [] join_nodes o n (map expr_nodes xs) t scopes a
+    args_nodes o n xs t a = args_step (List Node) one_node [] join_nodes o n (map told_nodes xs) t scopes a
 
     abbrev used : Expr → Given
     used x t a = expr_nodes x t scopes a po.Value
@@ -164,10 +167,11 @@ module _ (t : Tables) (calls : List ℕ) where
     called_fair (Some what) n w c h s e = absurd (c 4 (inr (inr (inl (refl, refl)))))
 
     -- an operation is one on a channel, at the end that is asked about
-    own_end : (away : Option Ends → Bool) (o : Option Meaning) (w : Position) → AreClean (channel_tests o (away (ends_named t o)) a w) → away (slice_get t.channels (channel_of o)) ≡ false
-    own_end away None w c = absurd (c 2 (inl (refl, refl)))
-    own_end away (Some (m.Channel k)) w c = not_true _ (λ e. c 11 (inr (inr (inr (inl (refl, e))))))
-    own_end away (Some what) w c = absurd (c 4 (inr (inl (refl, refl))))
+    own_end : (away : Option Ends → Bool) (unlike : Bool) (o : Option Meaning) (w : Position) → AreClean (channel_tests o unlike (away (ends_named t o)) a w) → away (slice_get t.channels
+        (channel_of o)) ≡ false
+    own_end away unlike None w c = absurd (c 2 (inl (refl, refl)))
+    own_end away unlike (Some (m.Channel k)) w c = not_true _ (λ e. c 11 (inr (inr (inr (inl (refl, e))))))
+    own_end away unlike (Some what) w c = absurd (c 4 (inr (inl (refl, refl))))
 
     -- the operands of a read or a write
     in_file : (from len : Expr) (array : List ℕ) → V (value_in from scopes a.depth) → V (value_in len scopes a.depth)
@@ -193,7 +197,7 @@ module _ (t : Tables) (calls : List ℕ) where
     argument_given _ (shape.chain at level first link links g gs) v = value_given (expr_reads _ (expr.rolls-Chain at level first (link ∷ links))) refl v
 
     mutual
-      value_at : (w : Position) (x : Expr) → IsExpr x → At (expr_nodes x) w → V (value_in x scopes a.depth)
+      value_at : (w : Position) (x : Expr) → IsExpr x → At (told_nodes x) w → V (value_in x scopes a.depth)
       value_at w _ (shape.number at value) c = value_as (expr_reads _ (expr.rolls-Number at value)) (each.number_holds P own value)
       value_at w _ (shape.constant at which) c = value_as (expr_reads _ (expr.rolls-Const at which)) (each.number_holds P own (constant_value which))
       value_at w _ (shape.place x g) c = place_value w x g c
@@ -217,10 +221,10 @@ module _ (t : Tables) (calls : List ℕ) where
           let left : Given = λ t a. link_nodes link t scopes a po.Value in
           each.one_link P own (link_in link scopes a.depth) _
           (subst (λ (z : InScopes ValueLink). V (z scopes a.depth).operand) (sym (link_folds read_step link_step link))
-          (value_at po.Value link.operand g (form po.Value (link_folds of_expr of_link link) (sooner left (links_nodes links) a c))))
+          (value_at po.Value link.operand g (link_form po.Value (link_folds of_expr of_link link) (sooner left (links_nodes links) a c))))
           (links_at links gs (later left (links_nodes links) a c))
 
-      place_value : (w : Position) (x : Expr) → PlaceShaped x → At (expr_nodes x) w → V (value_in x scopes a.depth)
+      place_value : (w : Position) (x : Expr) → PlaceShaped x → At (told_nodes x) w → V (value_in x scopes a.depth)
       place_value w _ (shape.variable at name) c = value_as (expr_reads _ (expr.rolls-Name at name)) (each.variable_holds P own _)
       place_value w _ (shape.element at name index g) c =
           let k = form w (expr_is _ (expr.rolls-Index at name index)) c in
@@ -233,11 +237,11 @@ module _ (t : Tables) (calls : List ℕ) where
           target_as (expr_reads _ (expr.rolls-Index at name index)) (each.put_holds P own _ _ (value_at po.Value index g (k.0.1, k.1.1)))
 
       -- where an operation puts what it receives
-      reference_at : (x : Expr) → PlaceShaped x → Fair (used x) a → V (reference_to (target_in x scopes a.depth))
-      reference_at _ (shape.variable at name) c = reference_as (expr_reads _ (expr.rolls-Name at name)) (each.reference_holds P own _)
-      reference_at _ (shape.element at name index g) c =
-          let k = form po.Value (expr_is _ (expr.rolls-Index at name index)) c in
-          reference_as (expr_reads _ (expr.rolls-Index at name index)) (each.part_holds P own _ _ (value_at po.Value index g (k.0.1, k.1.1)))
+      received_at : (x : Expr) → PlaceShaped x → At (told_nodes x) po.Message → V (place_in x scopes a.depth)
+      received_at _ (shape.variable at name) c = received_as (expr_reads _ (expr.rolls-Name at name)) (each.reference_holds P own _)
+      received_at _ (shape.element at name index g) c =
+          let k = form po.Message (expr_is _ (expr.rolls-Index at name index)) c in
+          received_as (expr_reads _ (expr.rolls-Index at name index)) (each.part_holds P own _ _ (value_at po.Value index g (k.0.1, k.1.1)))
 
       arguments_at : (o : Option Meaning) (n : ℕ) (xs : List Expr) → AreExprs xs → Fair (args_nodes o n xs) a → Holds P own (values_code (arguments_step (map read xs) scopes a.depth))
       arguments_at o n _ shape.no_expr c = each.none_holds P own
@@ -247,22 +251,23 @@ module _ (t : Tables) (calls : List ℕ) where
           (argument_given x g (value_at (position_of (takes_array t o n)) x g (sooner left (args_nodes o (n + 1) xs) a c)))
           (arguments_at o (n + 1) xs gs (later left (args_nodes o (n + 1) xs) a c))
 
-      call_at : (w : Position) (x : Expr) → IsCall x → At (expr_nodes x) w → V (value_in x scopes a.depth)
+      call_at : (w : Position) (x : Expr) → IsCall x → At (told_nodes x) w → V (value_in x scopes a.depth)
       call_at w _ (shape.function_call at name args gs) c =
           let k = form w (expr_is _ (expr.rolls-Call at name args)) c in
           let o = visible name scopes in
           value_as (expr_reads _ (expr.rolls-Call at name args))
-          (each.act_holds P own (act.Call (function_of o)) _ (called_fair o (length (map expr_nodes args)) w k.0.0 k.1.0) (arguments_at o 0 args gs (k.0.1, k.1.1)))
+          (each.act_holds P own (act.Call (function_of o)) _ (called_fair o (length (map told_nodes args)) w k.0.0 k.1.0) (arguments_at o 0 args gs (k.0.1, k.1.1)))
       call_at w _ (shape.send at channel value g) c =
           let k = form w (expr_is _ (expr.rolls-Send at channel value)) c in
           let o = visible channel scopes in
           value_as (expr_reads _ (expr.rolls-Send at channel value))
-          (each.act_holds P own (act.Send (channel_of o)) _ (own_end (sends_away a.reached) o w k.0.0) (each.operand_holds P own _ (value_at po.Value value g (k.0.1, k.1.1))))
+          (each.act_holds P own (act.Send (channel_of o)) _ (own_end (sends_away a.reached) _ o w k.0.0)
+          (each.operand_holds P own _ (argument_given value g (value_at po.Message value g (k.0.1, k.1.1)))))
       call_at w _ (shape.recv at channel place g) c =
           let k = form w (expr_is _ (expr.rolls-Recv at channel place)) c in
           let o = visible channel scopes in
           value_as (expr_reads _ (expr.rolls-Recv at channel place))
-          (each.act_holds P own (act.Recv (channel_of o)) _ (own_end (takes_away a.reached) o w k.0.0) (each.operand_holds P own _ (reference_at place g (k.0.1, k.1.1))))
+          (each.act_holds P own (act.Recv (channel_of o)) _ (own_end (takes_away a.reached) _ o w k.0.0) (each.operand_holds P own _ (received_at place g (k.0.1, k.1.1))))
       call_at w _ (shape.read at file from len array g h) c =
           let k = form w (expr_is _ (expr.rolls-Read at file from len array)) c in
           value_as (expr_reads _ (expr.rolls-Read at file from len array)) (each.act_holds P own _ _ tt (in_file from len array

@@ -35,12 +35,12 @@ use Rattle.ac_commands.specs.declared.command.Command.{Command, roll-Command, ma
 use Rattle.ac_commands.specs.declared.command.Command.TheOpen.{Command-F}
 use Rattle.ac_commands.specs.declared.command.Command.TheVariants as cm
 use Rattle.ac_semantics.specs.Statements.{target_operands, some_operand}
-use Rattle.ac_resolve.specs.Places.{constant_value, place_of, array_of, name_argument, array_at, reference_to, function_of, channel_of, file_of, cancel_of}
-use Rattle.ac_resolve.specs.Computed.{InScopes, Reading, read_step, read, link_in, arguments_step, value_in, values_in, some_in, target_in, initial_in}
+use Rattle.ac_resolve.specs.Places.{constant_value, place_of, array_of, name_argument, array_at, received_in, reference_to, function_of, channel_of, file_of, cancel_of}
+use Rattle.ac_resolve.specs.Computed.{InScopes, Reading, read_step, read, link_in, arguments_step, value_in, argument_in, values_in, some_in, target_in, place_in, initial_in}
 use Rattle.ac_resolve.specs.Computed.{link_step as reading_link, links_step as reading_links}
 use Rattle.ac_resolve.specs.Commands.{Texts, Told, told_step, told, body_told, some_shape, commands, some_texts, some_commands, for_names}
 use Rattle.ac_resolve.specs.Resolution.{body_names, function_texts, functions_in, resolved}
-use Rattle.ac_compile.specs.StandAlone.{Acts, no_act, one_act, total_acts, expr_step, acts_in, nested_in, some_acts, some_nested, stmt_step, stmt_nested, item_nested, StandAlone}
+use Rattle.ac_compile.specs.StandAlone.{Acts, no_act, one_act, total_acts, expr_step, acts_in, some_acts, some_nested, stmt_step, stmt_nested, item_nested, StandAlone}
 use Rattle.ac_compile.specs.StandAlone as tree
 use Rattle.ac_compile.specs.Alone.{acts, all_acts, after_act, command_step, command_nested, body_nested, function_nested, AreAlone}
 use Rattle.ac_compile.proofs.Plainly.{link_acts, acts_form, link_count, nested_few}
@@ -94,15 +94,12 @@ target_acts target = all_acts (target_operands target)
 element_target : (array : Array) (index : Value) → target_acts (tg.Element array index) ≡ (acts index).all
 element_target array index = let e = ap (λ (a : Acts). a.all) (reference_acts array) in omega (arith, e)
 
-referred_acts : (target : Target) → (acts (reference_to target)).all ≡ target_acts target
-referred_acts (tg.Variable place) = ap (λ (a : Acts). a.all) (reference_acts (array_at place))
-referred_acts (tg.Element array index) = ap (λ (a : Acts). a.all) (part_acts array index) ∙ sym (element_target array index)
-
 -- what an expression with so many gives, wherever it stands
 record IsAlike (q : Reading) (a : Acts) : Type 0 where
   value : (scopes : List (List Declaration)) (depth : ℕ) → Within (q.value scopes depth) a
   argument : (scopes : List (List Declaration)) (depth : ℕ) → (acts (q.argument scopes depth)).all ≤ a.all
   target : (scopes : List (List Declaration)) (depth : ℕ) → target_acts (q.target scopes depth) ≤ a.all
+  received : (scopes : List (List Declaration)) (depth : ℕ) → (acts (q.received scopes depth)).all ≤ a.all
 
 abbrev Claim : Expr → Type 0
 Claim x = IsAlike (read x) (tree.acts x)
@@ -147,11 +144,15 @@ Gives x a = (scopes : List (List Declaration)) (depth : ℕ) → Within (x scope
 -- what is no name and no place
 only_value : (q : Reading) (a : Acts) → Gives q.value a →
     ((scopes : List (List Declaration)) (depth : ℕ) → q.argument scopes depth ≡ q.value scopes depth) →
-    ((scopes : List (List Declaration)) (depth : ℕ) → q.target scopes depth ≡ tg.Variable (p.Global 0)) → IsAlike q a
-only_value q a value argument target = record {
+    ((scopes : List (List Declaration)) (depth : ℕ) → q.target scopes depth ≡ tg.Variable (p.Global 0)) →
+    ((scopes : List (List Declaration)) (depth : ℕ) → q.received scopes depth ≡ reference_to (tg.Variable (p.Global 0))) → IsAlike q a
+only_value q a value argument target received = record {
   value = value;
   argument = λ scopes depth. subst (λ x. (acts x).all ≤ a.all) (sym (argument scopes depth)) (value scopes depth).all;
   target = λ scopes depth. subst (λ t. target_acts t ≤ a.all) (sym (target scopes depth)) (omega arith);
+  received = λ scopes depth.
+      let e = ap (λ (z : Acts). z.all) (reference_acts (array_at (p.Global 0))) in
+      subst (λ x. (acts x).all ≤ a.all) (sym (received scopes depth)) (omega (arith, e));
 }
 
 -- where an operation takes its operands
@@ -165,15 +166,16 @@ moves_alike action from len array scopes depth =
     within_as _ _ _ (act_acts (action scopes depth) (value_in from.0 scopes depth ∷ value_in len.0 scopes depth ∷ v.Reference (array scopes depth) ∷ []))
     (omega (arith, e, h, k)) (omega (arith, e, h, k))
 
--- An expression may be read, be an argument or be set, so each form has three bounds; most are values alone (`only_value`).
+-- An expression may be read, be an argument, be set or receive, so each form has four bounds; most are values alone (`only_value`).
 layer : (y : Expr-F Expr_ Link_) → IsAlike (read_layer y) (acts_layer y)
-layer (Expr-F.Number at n) = only_value _ _ (λ scopes depth. within_as _ _ _ (number_acts n) (omega arith) (omega arith)) (λ scopes depth. refl) (λ scopes depth. refl)
+layer (Expr-F.Number at n) = only_value _ _ (λ scopes depth. within_as _ _ _ (number_acts n) (omega arith) (omega arith)) (λ scopes depth. refl) (λ scopes depth. refl) (λ scopes depth. refl)
 layer (Expr-F.Const at which) =
-    only_value _ _ (λ scopes depth. within_as _ _ _ (number_acts (constant_value which)) (omega arith) (omega arith)) (λ scopes depth. refl) (λ scopes depth. refl)
+    only_value _ _ (λ scopes depth. within_as _ _ _ (number_acts (constant_value which)) (omega arith) (omega arith)) (λ scopes depth. refl) (λ scopes depth. refl) (λ scopes depth. refl)
 layer (Expr-F.Name at name) = record {
   value = λ scopes depth. within_as _ _ _ (variable_acts (place_of (visible name scopes) depth)) (omega arith) (omega arith);
   argument = λ scopes depth. let e = ap (λ (a : Acts). a.all) (argument_acts (visible name scopes) depth) in omega (arith, e);
   target = λ scopes depth. omega arith;
+  received = λ scopes depth. let e = ap (λ (a : Acts). a.all) (reference_acts (received_in (visible name scopes) depth)) in omega (arith, e);
 }
 layer (Expr-F.Index at name index) =
     let light : Gives (λ scopes depth. v.Element (array_of (visible name scopes) depth) (value_in index.0 scopes depth)) (no_act (acts_in index.0))
@@ -187,6 +189,10 @@ layer (Expr-F.Index at name index) =
           let e = element_target (array_of (visible name scopes) depth) (value_in index.0 scopes depth) in
           let h = (index.1.value scopes depth).all in
           omega (arith, e, h);
+      received = λ scopes depth.
+          let e = ap (λ (a : Acts). a.all) (part_acts (array_of (visible name scopes) depth) (value_in index.0 scopes depth)) in
+          let h = (index.1.value scopes depth).all in
+          omega (arith, e, h);
     }
 layer (Expr-F.Group at inner) =
     let light : Gives (value_in inner.0) (no_act (acts_in inner.0))
@@ -194,13 +200,13 @@ layer (Expr-F.Group at inner) =
     let h = (inner.1.value scopes depth).all in
     let k = nested_few (value_in inner.0 scopes depth) in
     record { all = h; nested = omega (arith, h, k) } in
-    only_value _ _ light (λ scopes depth. refl) (λ scopes depth. refl)
+    only_value _ _ light (λ scopes depth. refl) (λ scopes depth. refl) (λ scopes depth. refl)
 layer (Expr-F.Unary at op inner) =
     let light : Gives (λ scopes depth. v.Unary op (value_in inner.0 scopes depth)) (no_act (acts_in inner.0))
     = λ scopes depth.
     let h = (inner.1.value scopes depth).all in
     within_as _ _ _ (unary_acts op (value_in inner.0 scopes depth)) (omega (arith, h)) (omega (arith, h)) in
-    only_value _ _ light (λ scopes depth. refl) (λ scopes depth. refl)
+    only_value _ _ light (λ scopes depth. refl) (λ scopes depth. refl) (λ scopes depth. refl)
 layer (Expr-F.Chain at level first rest) =
     let light : Gives (λ scopes depth. v.Chain (value_in first.0 scopes depth) (reading_links (map link_in (links_of rest)) scopes depth))
     (no_act (acts_in first.0 + total (map link_total (links_of rest))))
@@ -208,33 +214,32 @@ layer (Expr-F.Chain at level first rest) =
     let h = (first.1.value scopes depth).all in
     let k = links_alike rest scopes depth in
     within_as _ _ _ (chain_acts (value_in first.0 scopes depth) (reading_links (map link_in (links_of rest)) scopes depth)) (omega (arith, h, k)) (omega (arith, h, k)) in
-    only_value _ _ light (λ scopes depth. refl) (λ scopes depth. refl)
+    only_value _ _ light (λ scopes depth. refl) (λ scopes depth. refl) (λ scopes depth. refl)
 layer (Expr-F.Call at name args) =
     let light : Gives (λ scopes depth. v.Act (act.Call (function_of (visible name scopes))) (arguments_step (map read (exprs_of args)) scopes depth))
     (one_act (total_acts (map tree.acts (exprs_of args))))
     = λ scopes depth.
     let h = arguments_alike args scopes depth in
     within_as _ _ _ (act_acts (act.Call (function_of (visible name scopes))) (arguments_step (map read (exprs_of args)) scopes depth)) (omega (arith, h)) (omega (arith, h)) in
-    only_value _ _ light (λ scopes depth. refl) (λ scopes depth. refl)
+    only_value _ _ light (λ scopes depth. refl) (λ scopes depth. refl) (λ scopes depth. refl)
 layer (Expr-F.Send at channel value) =
-    let light : Gives (λ scopes depth. v.Act (act.Send (channel_of (visible channel scopes))) (value_in value.0 scopes depth ∷ [])) (one_act (acts_in value.0))
+    let light : Gives (λ scopes depth. v.Act (act.Send (channel_of (visible channel scopes))) (argument_in value.0 scopes depth ∷ [])) (one_act (acts_in value.0))
     = λ scopes depth.
-    let h = (value.1.value scopes depth).all in
-    within_as _ _ _ (act_acts (act.Send (channel_of (visible channel scopes))) (value_in value.0 scopes depth ∷ [])) (omega (arith, h)) (omega (arith, h)) in
-    only_value _ _ light (λ scopes depth. refl) (λ scopes depth. refl)
+    let h = value.1.argument scopes depth in
+    within_as _ _ _ (act_acts (act.Send (channel_of (visible channel scopes))) (argument_in value.0 scopes depth ∷ [])) (omega (arith, h)) (omega (arith, h)) in
+    only_value _ _ light (λ scopes depth. refl) (λ scopes depth. refl) (λ scopes depth. refl)
 layer (Expr-F.Recv at channel place) =
-    let light : Gives (λ scopes depth. v.Act (act.Recv (channel_of (visible channel scopes))) (reference_to (target_in place.0 scopes depth) ∷ [])) (one_act (acts_in place.0))
+    let light : Gives (λ scopes depth. v.Act (act.Recv (channel_of (visible channel scopes))) (place_in place.0 scopes depth ∷ [])) (one_act (acts_in place.0))
     = λ scopes depth.
-    let e = referred_acts (target_in place.0 scopes depth) in
-    let h = place.1.target scopes depth in
-    within_as _ _ _ (act_acts (act.Recv (channel_of (visible channel scopes))) (reference_to (target_in place.0 scopes depth) ∷ [])) (omega (arith, e, h)) (omega (arith, e, h)) in
-    only_value _ _ light (λ scopes depth. refl) (λ scopes depth. refl)
+    let h = place.1.received scopes depth in
+    within_as _ _ _ (act_acts (act.Recv (channel_of (visible channel scopes))) (place_in place.0 scopes depth ∷ [])) (omega (arith, h)) (omega (arith, h)) in
+    only_value _ _ light (λ scopes depth. refl) (λ scopes depth. refl) (λ scopes depth. refl)
 layer (Expr-F.Read at file from len array) =
     only_value _ _ (moves_alike (λ scopes depth. act.Read (file_of (visible file scopes))) from len (λ scopes depth. array_of (visible array scopes) depth))
-    (λ scopes depth. refl) (λ scopes depth. refl)
+    (λ scopes depth. refl) (λ scopes depth. refl) (λ scopes depth. refl)
 layer (Expr-F.Write at file from len array) =
     only_value _ _ (moves_alike (λ scopes depth. act.Write (file_of (visible file scopes))) from len (λ scopes depth. array_of (visible array scopes) depth))
-    (λ scopes depth. refl) (λ scopes depth. refl)
+    (λ scopes depth. refl) (λ scopes depth. refl) (λ scopes depth. refl)
 
 same_alike : (q q2 : Reading) (a a2 : Acts) → q ≡ q2 → a ≡ a2 → IsAlike q2 a2 → IsAlike q a
 same_alike q q2 a a2 e g h = subst (λ k. IsAlike k a) (sym e) (subst (IsAlike q2) (sym g) h)

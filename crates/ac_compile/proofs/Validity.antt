@@ -2,7 +2,7 @@
 -- Its lists are those of the program; what is reached is read off the table of all functions (Entries, Reached).
 use Rattle.std.proofs.Common.{◌≡◌, ℕ, zero, suc, ◌+◌, ◌<◌, ◌^◌, List, [], ◌∷◌, ◌++◌, length, map, get_or, Bool, true, false, Option, Some, None, refl, sym, ap, ◌∙◌, subst, arith, add-one}
 use Rattle.std.proofs.Common.{length-append, All}
-use Rattle.std.specs.Prelude.{slice_get, replicate}
+use Rattle.std.specs.Prelude.{slice_get, slice_index, replicate}
 use Rattle.std.proofs.lemmas.List.{length-map, length-replicate, get_or-replicate}
 use Rattle.std.proofs.lemmas.List.Elements.{All-append}
 use Rattle.ac_commands.specs.declared.program.Channel.{Channel}
@@ -17,7 +17,7 @@ use Rattle.stack_code.specs.declared.shape.Home.TheVariants as home
 use Rattle.stack_code.specs.Parts.{Parts}
 use Rattle.stack_code.specs.Shapes.{params_in, params_of}
 use Rattle.stack_code.specs.Valid as valid
-use Rattle.stack_code.specs.Valid.{HasCores, HasLinks, IsCapacity, IsStart, HasStarts, HasRoom, IsShaped, IsValid, IsEntry}
+use Rattle.stack_code.specs.Valid.{HasCores, HasLinks, IsCapacity, IsWidth, IsStart, HasStarts, HasRoom, IsShaped, IsValid, IsEntry}
 use Rattle.ac_resolve.specs.InPlace.{Use, use_of, IsFunction, AreStarts, IsInPlace}
 use Rattle.ac_translation.specs.Translation.{function_code, functions_code, functions_from, start_of, ends_of, request_capacity, no_exits, code_of}
 use Rattle.ac_translation.proofs.Sized.{functions_sized}
@@ -89,6 +89,12 @@ param_use (p ∷ params) others (suc slot) array e = param_use params others slo
 zero_on : (n : ℕ) → 0 + n ≡ n
 zero_on n = omega arith
 
+-- the width of a channel in the code
+wide_at : (channels : List Channel) (number : ℕ) (channel : Channel) → slice_get channels number ≡ Some channel → slice_index (map (λ (c : Channel). c.width) channels) number ≡ channel.width
+wide_at [] number channel e = let no : ◌≡◌ {A = Option Channel} None (Some channel) = e in cc
+wide_at (c ∷ channels) zero channel e = let same : c ≡ channel = cc in ap (λ (x : Channel). x.width) same
+wide_at (c ∷ channels) (suc number) channel e = wide_at channels number channel e
+
 -- ---- the program
 
 module _ (program : Resolved) (p : IsInPlace program) where
@@ -114,6 +120,7 @@ module _ (program : Resolved) (p : IsInPlace program) where
     channels = omega (arith, links_are, entries_are);
     files = p.few_files;
     functions = λ number f e. there_from program.functions 0 number f e;
+    wide = wide_at program.channels;
   }
 
   pub functions : AreFunctions program program.functions
@@ -180,6 +187,9 @@ module _ (program : Resolved) (p : IsInPlace program) where
         (λ k d lt. subst IsCapacity (sym (get_or-replicate (length program.cores) k request_capacity d
         (let n = length-replicate (length program.cores) request_capacity in omega (arith, n, lt)))) request_is);
     channels = each_made (valid.IsChannel code) ends_of program.channels channel_is;
+    wide = length-map program.channels (λ (channel : Channel). channel.width) ∙ sym ends_are;
+    widths = each_made IsWidth (λ (channel : Channel). channel.width) program.channels
+        (λ number channel e. let c = p.channels number channel e in (c.some_ints, c.few_ints));
   }
 
   rooms_from : (fs : List Function) → AreFunctions program fs → (at : ℕ) → All HasRoom (functions_from at fs)

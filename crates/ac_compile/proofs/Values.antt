@@ -3,6 +3,7 @@
 use Rattle.std.proofs.Common.{◌≡◌, ℕ, zero, suc, ◌+◌, ◌<◌, List, [], ◌∷◌, ◌++◌, length, map, reverse, Bool, true, false, Option, Some, None, refl, sym, ap, ◌∙◌, subst, arith, inr, lt-ltb, eq-eqb}
 use Rattle.std.specs.Prelude.{ℤ, slice_get, replicate, pos, if◌then◌else◌}
 use Rattle.std.proofs.lemmas.List.{length-map, reverse-append}
+use Rattle.std.proofs.lemmas.Option.{slice_get_within}
 use Rattle.ac_tree.specs.declared.expr.UnaryOp.{UnaryOp}
 use Rattle.ac_tree.specs.declared.expr.UnaryOp.TheVariants as u
 use Rattle.ac_tree.specs.declared.expr.BinaryOp.{BinaryOp}
@@ -10,6 +11,7 @@ use Rattle.ac_tree.specs.declared.expr.BinaryOp.TheVariants as b
 use Rattle.ac_commands.specs.declared.value.Action.{Action}
 use Rattle.ac_commands.specs.declared.value.Array.{Array}
 use Rattle.ac_commands.specs.declared.value.Value.{Value}
+use Rattle.ac_commands.specs.declared.value.Value.TheVariants as v
 use Rattle.ac_commands.specs.declared.value.ValueLink.{ValueLink}
 use Rattle.ac_commands.specs.declared.program.Resolved.{Resolved}
 use Rattle.stack_code.specs.declared.instr.Instr.{Instr}
@@ -25,7 +27,8 @@ use Rattle.stack_code.specs.declared.shape.Want.TheVariants as want
 use Rattle.stack_code.specs.Parts.{Parts}
 use Rattle.stack_code.specs.Shapes as shapes
 use Rattle.stack_code.specs.Shapes.{on_some, takes, taken, first, effect}
-use Rattle.ac_resolve.specs.InPlace.{Round, Want, AnInt, AnArray, OneInt, want_of, Wants, call, send, recv, read, write, IsArray, IsValue, number, variable, reference, one_int, element}
+use Rattle.ac_resolve.specs.InPlace.{Round, Want, AnInt, AnArray, Elements, AMessage, want_of, Wants, call, send, recv, read, write, IsArray, IsValue, number, variable, reference}
+use Rattle.ac_resolve.specs.InPlace.{elements, one_int, some_ints, element}
 use Rattle.ac_resolve.specs.InPlace.{part, unary, chain, acts}
 use Rattle.ac_resolve.specs.InPlace.{AreLinks, no_link, one_link, AreOperands, no_operand, one_operand, AreInts}
 use Rattle.ac_translation.specs.Pieces.{Piece, one, ◌⨾◌}
@@ -35,15 +38,16 @@ use Rattle.ac_compile.proofs.Forms.{number_form, variable_form, reference_form, 
 use Rattle.ac_compile.proofs.Frames.{shape_of}
 use Rattle.ac_compile.proofs.Points.{Table, point, ShapeAt, shape_there, UsesWell, IsLed, next_led, two_led, fine_as, one_range, Does, Fit, no_fit, one_fit, both_fit}
 use Rattle.ac_compile.proofs.Turns.{Branches, lazily_fit}
-use Rattle.ac_compile.proofs.Known.{Belongs, Knows, single, one_single, load_does, array_does}
+use Rattle.ac_compile.proofs.Known.{Belongs, Knows, known, length_known, load_does, array_does}
 
 -- ---- kinds
 
 -- what serves where that is wanted
 abbrev pub Serves : Want → CellKind → Type 0
 Serves AnInt k = k ≡ kind.Int
-Serves AnArray k = (one : Bool) × (k ≡ kind.Reference one)
-Serves OneInt k = k ≡ kind.Reference true
+Serves AnArray k = (len : Option ℕ) × (k ≡ kind.Reference len)
+Serves (Elements count) k = takes (want.Elements count) k ≡ true
+Serves (AMessage count) k = takes (want.Message count) k ≡ true
 
 abbrev AllServe : List Want → List CellKind → Type 0
 AllServe [] [] = Unit {0}
@@ -167,9 +171,9 @@ module _ (code : Parts) (homes : List Home) (r : Round) (program : Resolved) (m 
 
   -- an array and an index, and then an instruction
   pub indexed_fit : (array : Array) (index : Piece) (last : Instr) (x y : List CellKind) → IsArray program r array → Pushes kind.Int index →
-      Instr_does last (kind.Int ∷ kind.Reference (single array) ∷ x) y → Makes x y (one (array_code array) ⨾ index ⨾ one last)
+      Instr_does last (kind.Int ∷ kind.Reference (known array) ∷ x) y → Makes x y (one (array_code array) ⨾ index ⨾ one last)
   indexed_fit array index last x y h f d =
-      let whole = kind.Reference (single array) ∷ x in
+      let whole = kind.Reference (known array) ∷ x in
       then_fit x whole y (one (array_code array)) (index ⨾ one last) (plainly (array_code array) x whole (array_does code homes r program m array h x))
       (then_fit whole (kind.Int ∷ whole) y index (one last) (f whole) (plainly last (kind.Int ∷ whole) y d))
 
@@ -214,14 +218,18 @@ module _ (code : Parts) (homes : List Home) (r : Round) (program : Resolved) (m 
       let many : count ≡ length function.params = n ∙ length-map function.params want_of in
       call_fit callee count (shape (on_top kinds below)) (shape (kind.Int ∷ below)) _ there.1
       (λ at. rw (there.1, eq-eqb count (length function.params) many, arguments_taken function.params kinds below h) refl)
-  action_fit _ _ [] count (send channel lt) h n below = absurd h
-  action_fit _ _ (x ∷ []) count (send channel lt) h n below =
-      plainly (i.Send channel) (x ∷ below) (kind.Int ∷ below) (record { finds = λ t k at. rw (m.channels, lt-ltb channel (length program.channels) lt, h.0) refl; used = λ t k. tt })
-  action_fit _ _ (x ∷ y ∷ kinds) count (send channel lt) h n below = absurd h.1
-  action_fit _ _ [] count (recv channel lt) h n below = absurd h
-  action_fit _ _ (x ∷ []) count (recv channel lt) h n below =
-      plainly (i.Recv channel) (x ∷ below) (kind.Int ∷ below) (record { finds = λ t k at. rw (m.channels, lt-ltb channel (length program.channels) lt, h.0) refl; used = λ t k. tt })
-  action_fit _ _ (x ∷ y ∷ kinds) count (recv channel lt) h n below = absurd h.1
+  action_fit _ _ [] count (send link channel e) h n below = absurd h
+  action_fit _ _ (x ∷ []) count (send link channel e) h n below =
+      let lt = slice_get_within program.channels link channel e in
+      plainly (i.Send link) (x ∷ below) (kind.Int ∷ below)
+      (record { finds = λ t k at. rw (m.channels, lt-ltb link (length program.channels) lt, m.wide link channel e, h.0) refl; used = λ t k. tt })
+  action_fit _ _ (x ∷ y ∷ kinds) count (send link channel e) h n below = absurd h.1
+  action_fit _ _ [] count (recv link channel e) h n below = absurd h
+  action_fit _ _ (x ∷ []) count (recv link channel e) h n below =
+      let lt = slice_get_within program.channels link channel e in
+      plainly (i.Recv link) (x ∷ below) (kind.Int ∷ below)
+      (record { finds = λ t k at. rw (m.channels, lt-ltb link (length program.channels) lt, m.wide link channel e, h.0) refl; used = λ t k. tt })
+  action_fit _ _ (x ∷ y ∷ kinds) count (recv link channel e) h n below = absurd h.1
   action_fit _ _ kinds count (read file lt) h n below = transfer_fit (i.Read file) file kinds below lt h (λ at s. refl) (λ t s. tt)
   action_fit _ _ kinds count (write file lt) h n below = transfer_fit (i.Write file) file kinds below lt h (λ at s. refl) (λ t s. tt)
 
@@ -236,8 +244,11 @@ module _ (code : Parts) (homes : List Home) (r : Round) (program : Resolved) (m 
   int_of : (p : Piece) → Gives AnInt p → Pushes kind.Int p
   int_of p g = subst (λ k. Pushes k p) g.serves g.pushes
 
-  array_fit : (array : Array) → IsArray program r array → Pushes (kind.Reference (single array)) (one (array_code array))
-  array_fit array h below = plainly (array_code array) below (kind.Reference (single array) ∷ below) (array_does code homes r program m array h below)
+  array_fit : (array : Array) → IsArray program r array → Pushes (kind.Reference (known array)) (one (array_code array))
+  array_fit array h below = plainly (array_code array) below (kind.Reference (known array) ∷ below) (array_does code homes r program m array h below)
+
+  reference_fit : (array : Array) → IsArray program r array → Pushes (kind.Reference (known array)) (value_code (v.Reference array))
+  reference_fit array x = same_pushes (kind.Reference (known array)) _ _ (reference_form array) (array_fit array x)
 
   as_many : (wants : List Want) (xs : List Value) → AreOperands program r wants xs → length xs ≡ length wants
   as_many _ _ no_operand = refl
@@ -249,24 +260,19 @@ module _ (code : Parts) (homes : List Home) (r : Round) (program : Resolved) (m 
     value_fit _ _ (number value) = gives_int _ (same_pushes kind.Int _ _ (number_form value) (push_fit value))
     value_fit _ _ (variable place x) =
         gives_int _ (same_pushes kind.Int _ _ (variable_form place) (λ below. plainly (variable_code place) below (kind.Int ∷ below) (load_does code homes r program m place x below)))
-    value_fit _ _ (reference array x) =
-        record { given = kind.Reference (single array); serves = (single array, refl); pushes = same_pushes (kind.Reference (single array)) _ _ (reference_form array) (array_fit array x) }
-    value_fit _ _ (one_int array x single_one) =
-        record {
-          given = kind.Reference (single array);
-          serves = ap kind.Reference (one_single array single_one);
-          pushes = same_pushes (kind.Reference (single array)) _ _ (reference_form array)
-              (array_fit array x);
-        }
+    value_fit _ _ (reference array x) = record { given = kind.Reference (known array); serves = (known array, refl); pushes = reference_fit array x }
+    value_fit _ _ (elements count array x many) = record { given = kind.Reference (known array); serves = length_known count array many; pushes = reference_fit array x }
+    value_fit _ _ (one_int x h) = record { given = kind.Int; serves = refl; pushes = int_of _ (value_fit AnInt x h) }
+    value_fit _ _ (some_ints count array x many) = record { given = kind.Reference (known array); serves = length_known count array many; pushes = reference_fit array x }
     value_fit _ _ (element array index x y) =
         gives_int _ (same_pushes kind.Int _ _ (element_form array index) (λ below.
         indexed_fit array (value_code index) i.Elem below (kind.Int ∷ below) x (int_of _ (value_fit AnInt index y)) (record { finds = λ t k at. refl; used = λ t k. tt })))
     value_fit _ _ (part array index x y) =
         record {
-          given = kind.Reference true;
+          given = kind.Reference (Some 1);
           serves = refl;
-          pushes = same_pushes (kind.Reference true) _ _ (part_form array index) (λ below.
-              indexed_fit array (value_code index) i.Place below (kind.Reference true ∷ below) x (int_of _ (value_fit AnInt index y)) (record { finds = λ t k at. refl; used = λ t k. tt }));
+          pushes = same_pushes (kind.Reference (Some 1)) _ _ (part_form array index) (λ below.
+              indexed_fit array (value_code index) i.Place below (kind.Reference (Some 1) ∷ below) x (int_of _ (value_fit AnInt index y)) (record { finds = λ t k at. refl; used = λ t k. tt }));
         }
     value_fit _ _ (unary op operand x) =
         gives_int _ (same_pushes kind.Int _ _ (unary_form op operand) (λ below.

@@ -30,13 +30,12 @@ use Rattle.ac_commands.specs.declared.value.Array.{Array}
 use Rattle.ac_commands.specs.declared.value.Value.{Value}
 use Rattle.ac_commands.specs.declared.value.Value.TheVariants as v
 use Rattle.ac_commands.specs.declared.value.ValueLink.{ValueLink}
-use Rattle.ac_commands.specs.declared.command.Target.{Target}
 use Rattle.ac_commands.specs.declared.command.Target.TheVariants as tg
 use Rattle.ac_commands.specs.declared.command.Command.{Command, roll-Command, map-Command, fold-roll-Command}
 use Rattle.ac_commands.specs.declared.command.Command.TheOpen.{Command-F}
 use Rattle.ac_commands.specs.declared.command.Command.TheVariants as cm
-use Rattle.ac_resolve.specs.Places.{constant_value, place_of, array_of, name_argument, array_at, reference_to, function_of, channel_of, file_of, cancel_of}
-use Rattle.ac_resolve.specs.Computed.{InScopes, Reading, read_step, read, link_in, arguments_step, value_in, values_in, some_in, target_in, initial_in}
+use Rattle.ac_resolve.specs.Places.{constant_value, place_of, array_of, name_argument, array_at, received_in, reference_to, function_of, channel_of, file_of, cancel_of}
+use Rattle.ac_resolve.specs.Computed.{InScopes, Reading, read_step, read, link_in, arguments_step, value_in, argument_in, values_in, some_in, target_in, place_in, initial_in}
 use Rattle.ac_resolve.specs.Computed.{link_step as reading_link, links_step as reading_links}
 use Rattle.ac_resolve.specs.Commands.{Texts, Told, told_step, told, body_told, some_shape, commands, some_texts, some_commands, for_names}
 use Rattle.ac_resolve.specs.Resolution.{body_names, function_texts, functions_in, cores_in, channels_in, resolved}
@@ -94,16 +93,13 @@ target_size : (place : Place) → (target_code (tg.Variable place)).size ≡ 1
 target_size (p.Global slot) = refl
 target_size (p.Local level slot) = refl
 
-referred_size : (target : Target) → size_in (reference_to target) ≡ (target_code target).size
-referred_size (tg.Variable place) = reference_size (array_at place) ∙ sym (target_size place)
-referred_size (tg.Element array index) = part_size array index
-
 -- what an expression of that weight gives, wherever it stands
 record IsLight (q : Reading) (weight : ℕ) : Type 0 where
   some : 1 ≤ weight
   value : (scopes : List (List Declaration)) (depth : ℕ) → size_in (q.value scopes depth) ≤ 4 * weight
   argument : (scopes : List (List Declaration)) (depth : ℕ) → size_in (q.argument scopes depth) ≤ 4 * weight
   target : (scopes : List (List Declaration)) (depth : ℕ) → (target_code (q.target scopes depth)).size ≤ 4 * weight
+  received : (scopes : List (List Declaration)) (depth : ℕ) → size_in (q.received scopes depth) ≤ 4 * weight
 
 abbrev Claim : Expr → Type 0
 Claim x = IsLight (read x) (expr_weight x)
@@ -145,12 +141,16 @@ weight_layer y = expr_weigh (map-Expr Expr Link ℕ ℕ expr_weight link_weight 
 -- what is no name and no place
 only_value : (q : Reading) (weight : ℕ) → 1 ≤ weight → ((scopes : List (List Declaration)) (depth : ℕ) → size_in (q.value scopes depth) ≤ 4 * weight) →
     ((scopes : List (List Declaration)) (depth : ℕ) → q.argument scopes depth ≡ q.value scopes depth) →
-    ((scopes : List (List Declaration)) (depth : ℕ) → q.target scopes depth ≡ tg.Variable (p.Global 0)) → IsLight q weight
-only_value q weight some value argument target = record {
+    ((scopes : List (List Declaration)) (depth : ℕ) → q.target scopes depth ≡ tg.Variable (p.Global 0)) →
+    ((scopes : List (List Declaration)) (depth : ℕ) → q.received scopes depth ≡ reference_to (tg.Variable (p.Global 0))) → IsLight q weight
+only_value q weight some value argument target received = record {
   some = some;
   value = value;
   argument = λ scopes depth. subst (λ x. size_in x ≤ 4 * weight) (sym (argument scopes depth)) (value scopes depth);
   target = λ scopes depth. subst (λ x. (target_code x).size ≤ 4 * weight) (sym (target scopes depth)) (omega (arith, some));
+  received = λ scopes depth.
+      let e = reference_size (array_at (p.Global 0)) in
+      subst (λ x. size_in x ≤ 4 * weight) (sym (received scopes depth)) (omega (arith, some, e));
 }
 
 abbrev Light : InScopes Value → ℕ → Type 0
@@ -167,19 +167,20 @@ moves_light action from len array scopes depth =
     let k = len.1.value scopes depth in
     omega (arith, e, g, h, k)
 
--- An expression may be read, be an argument or be set, so each form has three bounds; most are values alone (`only_value`).
+-- An expression may be read, be an argument, be set or receive, so each form has four bounds; most are values alone (`only_value`).
 layer : (y : Expr-F Expr_ Link_) → IsLight (read_layer y) (weight_layer y)
 layer (Expr-F.Number at n) =
     let light : Light (λ scopes depth. v.Number n) 1 = λ scopes depth. let e = number_size n in omega (arith, e) in
-    only_value _ _ (omega arith) light (λ scopes depth. refl) (λ scopes depth. refl)
+    only_value _ _ (omega arith) light (λ scopes depth. refl) (λ scopes depth. refl) (λ scopes depth. refl)
 layer (Expr-F.Const at which) =
     let light : Light (λ scopes depth. v.Number (constant_value which)) 1 = λ scopes depth. let e = number_size (constant_value which) in omega (arith, e) in
-    only_value _ _ (omega arith) light (λ scopes depth. refl) (λ scopes depth. refl)
+    only_value _ _ (omega arith) light (λ scopes depth. refl) (λ scopes depth. refl) (λ scopes depth. refl)
 layer (Expr-F.Name at name) = record {
   some = omega arith;
   value = λ scopes depth. let e = variable_size (place_of (visible name scopes) depth) in omega (arith, e);
   argument = λ scopes depth. let e = argument_size (visible name scopes) depth in omega (arith, e);
   target = λ scopes depth. let e = target_size (place_of (visible name scopes) depth) in omega (arith, e);
+  received = λ scopes depth. let e = reference_size (received_in (visible name scopes) depth) in omega (arith, e);
 }
 layer (Expr-F.Index at name index) =
     let light : Light (λ scopes depth. v.Element (array_of (visible name scopes) depth) (value_in index.0 scopes depth)) (3 + expr_weight index.0)
@@ -189,14 +190,18 @@ layer (Expr-F.Index at name index) =
       value = light;
       argument = light;
       target = λ scopes depth. let h = index.1.value scopes depth in omega (arith, h);
+      received = λ scopes depth.
+          let e = part_size (array_of (visible name scopes) depth) (value_in index.0 scopes depth) in
+          let h = index.1.value scopes depth in
+          omega (arith, e, h);
     }
 layer (Expr-F.Group at inner) =
     let light : Light (value_in inner.0) (2 + expr_weight inner.0) = λ scopes depth. let h = inner.1.value scopes depth in omega (arith, h) in
-    only_value _ _ (omega arith) light (λ scopes depth. refl) (λ scopes depth. refl)
+    only_value _ _ (omega arith) light (λ scopes depth. refl) (λ scopes depth. refl) (λ scopes depth. refl)
 layer (Expr-F.Unary at op inner) =
     let light : Light (λ scopes depth. v.Unary op (value_in inner.0 scopes depth)) (1 + expr_weight inner.0)
     = λ scopes depth. let e = unary_size op (value_in inner.0 scopes depth) in let h = inner.1.value scopes depth in omega (arith, e, h) in
-    only_value _ _ (omega arith) light (λ scopes depth. refl) (λ scopes depth. refl)
+    only_value _ _ (omega arith) light (λ scopes depth. refl) (λ scopes depth. refl) (λ scopes depth. refl)
 layer (Expr-F.Chain at level first rest) =
     let some = first.1.some in
     let light : Light (λ scopes depth. v.Chain (value_in first.0 scopes depth) (reading_links (map link_in (links_of rest)) scopes depth))
@@ -206,32 +211,31 @@ layer (Expr-F.Chain at level first rest) =
     let h = first.1.value scopes depth in
     let k = links_light rest scopes depth in
     omega (arith, e, h, k) in
-    only_value _ _ (omega (arith, some)) light (λ scopes depth. refl) (λ scopes depth. refl)
+    only_value _ _ (omega (arith, some)) light (λ scopes depth. refl) (λ scopes depth. refl) (λ scopes depth. refl)
 layer (Expr-F.Call at name args) =
     let light : Light (λ scopes depth. v.Act (act.Call (function_of (visible name scopes))) (arguments_step (map read (exprs_of args)) scopes depth)) (3 + total (map expr_weight (exprs_of args)))
     = λ scopes depth.
     let e = act_size (act.Call (function_of (visible name scopes))) (arguments_step (map read (exprs_of args)) scopes depth) in
     let h = arguments_light args scopes depth in
     omega (arith, e, h) in
-    only_value _ _ (omega arith) light (λ scopes depth. refl) (λ scopes depth. refl)
+    only_value _ _ (omega arith) light (λ scopes depth. refl) (λ scopes depth. refl) (λ scopes depth. refl)
 layer (Expr-F.Send at channel value) =
-    let light : Light (λ scopes depth. v.Act (act.Send (channel_of (visible channel scopes))) (value_in value.0 scopes depth ∷ [])) (5 + expr_weight value.0)
-    = λ scopes depth. let e = act_size (act.Send (channel_of (visible channel scopes))) (value_in value.0 scopes depth ∷ []) in let h = value.1.value scopes depth in omega (arith, e, h) in
-    only_value _ _ (omega arith) light (λ scopes depth. refl) (λ scopes depth. refl)
+    let light : Light (λ scopes depth. v.Act (act.Send (channel_of (visible channel scopes))) (argument_in value.0 scopes depth ∷ [])) (5 + expr_weight value.0)
+    = λ scopes depth. let e = act_size (act.Send (channel_of (visible channel scopes))) (argument_in value.0 scopes depth ∷ []) in let h = value.1.argument scopes depth in omega (arith, e, h) in
+    only_value _ _ (omega arith) light (λ scopes depth. refl) (λ scopes depth. refl) (λ scopes depth. refl)
 layer (Expr-F.Recv at channel place) =
-    let light : Light (λ scopes depth. v.Act (act.Recv (channel_of (visible channel scopes))) (reference_to (target_in place.0 scopes depth) ∷ [])) (6 + expr_weight place.0)
+    let light : Light (λ scopes depth. v.Act (act.Recv (channel_of (visible channel scopes))) (place_in place.0 scopes depth ∷ [])) (6 + expr_weight place.0)
     = λ scopes depth.
-    let e = act_size (act.Recv (channel_of (visible channel scopes))) (reference_to (target_in place.0 scopes depth) ∷ []) in
-    let same = referred_size (target_in place.0 scopes depth) in
-    let h = place.1.target scopes depth in
-    omega (arith, e, same, h) in
-    only_value _ _ (omega arith) light (λ scopes depth. refl) (λ scopes depth. refl)
+    let e = act_size (act.Recv (channel_of (visible channel scopes))) (place_in place.0 scopes depth ∷ []) in
+    let h = place.1.received scopes depth in
+    omega (arith, e, h) in
+    only_value _ _ (omega arith) light (λ scopes depth. refl) (λ scopes depth. refl) (λ scopes depth. refl)
 layer (Expr-F.Read at file from len array) =
     only_value _ _ (omega arith) (moves_light (λ scopes depth. act.Read (file_of (visible file scopes))) from len (λ scopes depth. array_of (visible array scopes) depth))
-    (λ scopes depth. refl) (λ scopes depth. refl)
+    (λ scopes depth. refl) (λ scopes depth. refl) (λ scopes depth. refl)
 layer (Expr-F.Write at file from len array) =
     only_value _ _ (omega arith) (moves_light (λ scopes depth. act.Write (file_of (visible file scopes))) from len (λ scopes depth. array_of (visible array scopes) depth))
-    (λ scopes depth. refl) (λ scopes depth. refl)
+    (λ scopes depth. refl) (λ scopes depth. refl) (λ scopes depth. refl)
 
 same_light : (q q2 : Reading) (n n2 : ℕ) → q ≡ q2 → n ≡ n2 → IsLight q2 n2 → IsLight q n
 same_light q q2 n n2 e g h = subst (λ k. IsLight k n) (sym e) (subst (IsLight q2) (sym g) h)
@@ -475,14 +479,14 @@ pub code_small : (p : Program) → IsSmall p → (functions_code (resolved p).fu
 code_small p small = let h = code_short p in omega (arith, h, small)
 
 -- each channel and each core weighs something
-links_few : (items : List Item) (scopes : List (List Declaration)) → length (channels_in items scopes) + length (cores_in items scopes) ≤ items_weight items
-links_few [] scopes = omega arith
-links_few (i.Function f ∷ items) scopes = let k = links_few items scopes in omega (arith, k)
-links_few (i.Global at name size value ∷ items) scopes = let k = links_few items scopes in omega (arith, k)
-links_few (i.Channel at name from to cap ∷ items) scopes = let k = links_few items scopes in omega (arith, k)
-links_few (i.File at name path ∷ items) scopes = let k = links_few items scopes in omega (arith, k)
-links_few (i.Core at name entry ∷ items) scopes = let k = links_few items scopes in omega (arith, k)
+links_few : (all : List Item) (number : ℕ) (items : List Item) (scopes : List (List Declaration)) → length (channels_in all number items scopes) + length (cores_in items scopes) ≤ items_weight items
+links_few all number [] scopes = omega arith
+links_few all number (i.Function f ∷ items) scopes = let k = links_few all number items scopes in omega (arith, k)
+links_few all number (i.Global at name size value ∷ items) scopes = let k = links_few all number items scopes in omega (arith, k)
+links_few all number (i.Channel at name from to cap ∷ items) scopes = let k = links_few all (number + 1) items scopes in omega (arith, k)
+links_few all number (i.File at name path ∷ items) scopes = let k = links_few all number items scopes in omega (arith, k)
+links_few all number (i.Core at name entry ∷ items) scopes = let k = links_few all number items scopes in omega (arith, k)
 
 -- and for its links
 pub links_small : (p : Program) → IsSmall p → length (resolved p).channels + length (resolved p).cores < 2 ^ 32
-links_small p small = let h = links_few p.items (outermost p.items) in omega (arith, h, small)
+links_small p small = let h = links_few p.items 0 p.items (outermost p.items) in omega (arith, h, small)

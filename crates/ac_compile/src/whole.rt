@@ -35,6 +35,8 @@ pub struct Whole {
     pub ends: List<ChannelEnds>,
     /// The globals that start with something else than 0.
     pub starts: List<Start>,
+    /// How many ints a message of each channel has.
+    pub widths: List<u32>,
 }
 
 // The code of a function, which gives 0 at its end.
@@ -162,6 +164,13 @@ fn capacities_of(
     Ok(List::from_vec(capacities))
 }
 
+fn widths_of(alloc: Global, channels: &[Channel]) -> Result<List<u32>, NoMemory>
+    ensures { IfOk result (λ list. list ≡ map (λ channel. channel.width) channels.now) }
+{
+    let widths = channels.iter().map(|channel| channel.width).collect(alloc)?;
+    Ok(List::from_vec(widths))
+}
+
 /// The parts of the code of a program, whose addresses are numbers of 32 bits.
 pub fn whole_code(alloc: Global, program: &Resolved) -> Result<Whole, NoMemory>
     requires { (functions_code program.now.functions).size < 2 ^ 32 }
@@ -176,6 +185,7 @@ pub fn whole_code(alloc: Global, program: &Resolved) -> Result<Whole, NoMemory>
     let capacities = capacities_of(alloc, program.channels.as_slice(), &program.cores)?;
     let ends = ends_of(alloc, program.channels.as_slice())?;
     let starts = starts_of(alloc, program.starts.as_slice())?;
+    let widths = widths_of(alloc, program.channels.as_slice())?;
     Ok(Whole {
         instrs,
         functions,
@@ -186,6 +196,7 @@ pub fn whole_code(alloc: Global, program: &Resolved) -> Result<Whole, NoMemory>
         capacities,
         ends,
         starts,
+        widths,
     })
 }
 
@@ -209,6 +220,7 @@ pub fn program_code(alloc: Global, program: &Resolved) -> Result<Code, NoMemory>
         whole.capacities,
         whole.ends,
         whole.starts,
+        whole.widths,
     )?;
     match made {
         Some(code) => {

@@ -98,10 +98,10 @@ answered_balance : (store : Store) (os : List Operation) (link number : ℕ) (an
 answered_balance store os link number answer x None f e = cc
 answered_balance store os link number answer x (Some o) f e = same_balance os x _ e (record { by = λ u. without_asked u (is_begun link number) o os f })
 
-received_balance : (store : Store) (os : List Operation) (link : ℕ) (value : ℤ) (x : Arrival) (found : Option Operation) → find (is_to_receive link) os ≡ found
-    → ends_received store os link value found ≡ Some x → Balances os x
-received_balance store os link value x None f e = cc
-received_balance store os link value x (Some o) f e = same_balance os x _ e (record { by = λ u. without_asked u (is_to_receive link) o os f })
+received_balance : (store : Store) (os : List Operation) (link : ℕ) (message : List ℤ) (x : Arrival) (found : Option Operation) → find (is_to_receive link) os ≡ found
+    → ends_received store os link message found ≡ Some x → Balances os x
+received_balance store os link message x None f e = cc
+received_balance store os link message x (Some o) f e = same_balance os x _ e (record { by = λ u. without_asked u (is_to_receive link) o os f })
 
 passed_balance : (store : Store) (os : List Operation) (x : Arrival) (found : Option Operation) → passes_over store os found ≡ Some x → Balances os x
 passed_balance store os x None e = cc

@@ -16,6 +16,7 @@ use Rattle.cancel_scope.specs.declared.operation.Asked.{Asked}
 use Rattle.cancel_scope.specs.declared.operation.Asked.TheVariants as asked
 use Rattle.core_state.specs.Moves.{Move, On}
 use Rattle.core_state.specs.Frames.{begun_with}
+use Rattle.core_state.specs.Messages.{message_in}
 use Rattle.core_state.specs.Requests.{read_of, write_of}
 use Rattle.core_state.proofs.Simulation.{arrived}
 use Rattle.ac_commands.specs.declared.value.Action.{Action}
@@ -151,8 +152,8 @@ module _ (code : Parts) (program : Resolved) (same : IsCodeOf code program) (fin
       (slice_get program.functions number) refl
   acts_follow turns (Send channel) count x around ws s place values below b is many one d =
       let rest = Pend a.activation.frame x around ∷ ws in
-      takes_one place values below s (λ v. Operates channel (asked.Send (int_in v)) s rest) (sym many ∙ eqb-true count 1 one)
-      (λ v. turns.waits channel (asked.Send (int_in v)) (i.Send channel) s place (v ∷ below) below rest b is (λ k. refl) d)
+      takes_one place values below s (λ v. Operates channel (asked.Send (message_in s.store v)) s rest) (sym many ∙ eqb-true count 1 one)
+      (λ v. turns.waits channel (asked.Send (message_in s.store v)) (i.Send channel) s place (v ∷ below) below rest b is (λ k. refl) d)
   acts_follow turns (Recv channel) count x around ws s place values below b is many one d =
       let rest = Pend a.activation.frame x around ∷ ws in
       takes_one place values below s (λ v. Operates channel (asked.Recv (place_in v)) s rest) (sym many ∙ eqb-true count 1 one)

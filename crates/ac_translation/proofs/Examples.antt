@@ -199,7 +199,8 @@ pub functions_in_a_row : functions_from 4 (empty ∷ record empty { name = codes
     ≡ record { name = codes "f"; at = 4; params = true ∷ []; words = 3 } ∷ record { name = codes "g"; at = 6; params = true ∷ []; words = 3 } ∷ []
 functions_in_a_row = refl
 
-pub the_rest_of_a_program : (start_of (record { slot = 1; value = pos 5 }) ≡ record { slot = 1; value = pos 5 }) × (ends_of (record { from = 2; to = 0; capacity = 9 }) ≡ record { from = 2; to = 0 })
+pub the_rest_of_a_program : (start_of (record { slot = 1; value = pos 5 }) ≡ record { slot = 1; value = pos 5 }) × (ends_of (record { from = 2; to = 0; capacity = 9; width = 3 })
+    ≡ record { from = 2; to = 0 })
     × (request_capacity ≡ 16)
 the_rest_of_a_program = (refl, refl, refl)
 

@@ -205,4 +205,5 @@ code_of p = record {
   capacities = map (λ channel. channel.capacity) p.channels ++ replicate (length p.cores) request_capacity;
   ends = map ends_of p.channels;
   starts = map start_of p.starts;
+  widths = map (λ channel. channel.width) p.channels;
 }

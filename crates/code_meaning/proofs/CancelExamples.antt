@@ -45,7 +45,7 @@ a_mark = (refl, refl, refl, refl)
 -- ---- two sends wait, that of the thread 1 in the block 1 and that of the thread 2 in the block 2; the thread 0 runs in the block 0
 
 abbrev pub of_thread : ℕ → Operation
-of_thread number = started 0 (Send (pos 5)) (item number)
+of_thread number = started 0 (Send (pos 5 ∷ [])) (item number)
 
 abbrev pub within : ℕ → List Cell → Thread
 within number operands = record nobody { operands = operands; block = Some (block number) }
@@ -110,10 +110,10 @@ it_needs_an_entry = (refl, refl)
 -- ---- operations that start
 
 -- in a cancelled block there is a value at once, and the thread runs on; in another it waits
-pub an_operation_starts : (asks (record (core [] []) { blocks = blocks true }) (item 0) 0 (Send (pos 5)) (int 1 ∷ [])
+pub an_operation_starts : (asks (record (core [] []) { blocks = blocks true }) (item 0) 0 (Send (pos 5 ∷ [])) (int 1 ∷ [])
     ≡ On (record (core [] []) { blocks = blocks true; current = record (within 0 []) { place = 5; operands = cell.Int (negsuc 0) ∷ int 1 ∷ [] }; count = 8 }))
-    × (asks (core [] []) (item 0) 0 (Send (pos 5)) (int 1 ∷ []) ≡ On (operates (core [] []) (item 0) 0 (Send (pos 5)) (int 1 ∷ [])))
-    × (asks_in true (here []) (item 0) 0 (Send (pos 5)) [] ≡ On (record (here []) { current = record nobody { place = 5; operands = cell.Int (negsuc 0) ∷ [] }; count = 8 }))
+    × (asks (core [] []) (item 0) 0 (Send (pos 5 ∷ [])) (int 1 ∷ []) ≡ On (operates (core [] []) (item 0) 0 (Send (pos 5 ∷ [])) (int 1 ∷ [])))
+    × (asks_in true (here []) (item 0) 0 (Send (pos 5 ∷ [])) [] ≡ On (record (here []) { current = record nobody { place = 5; operands = cell.Int (negsuc 0) ∷ [] }; count = 8 }))
 an_operation_starts = (refl, refl, refl)
 
 -- ---- the instruction names a slot that keeps the number of a block

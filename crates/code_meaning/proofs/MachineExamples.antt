@@ -24,7 +24,7 @@ use Rattle.work_item.specs.declared.ids.Item.{Item}
 use Rattle.work_item.specs.declared.ids.BlockId.{BlockId}
 use Rattle.work_item.specs.declared.cell.Cell.{Cell}
 use Rattle.work_item.specs.declared.cell.Cell.TheVariants as cell
-use Rattle.work_item.specs.Store.{no_frames}
+use Rattle.work_item.specs.Store.{Store, no_frames}
 use Rattle.core_state.specs.Arithmetic.{sum_of, difference_of, negated}
 use Rattle.stack_code.proofs.Examples.{code_of, code, entered, start}
 
@@ -180,15 +180,23 @@ a_call = (refl, refl)
 -- the first thread waits for the end of a send of 5 on the channel 0, with a 1 below the value that will come
 abbrev pub sending : Flat
 sending = record (at_place 0 [] 8) {
-  operations = started 0 (Send (pos 5)) (item 0) ∷ [];
+  operations = started 0 (Send (pos 5 ∷ [])) (item 0) ∷ [];
   running = None;
   current = nobody;
   threads = record nobody { place = 5; operands = int 1 ∷ [] } ∷ [];
 }
 
 pub it_waits_for_its_end : (begin code 9 (here (int 5 ∷ int 1 ∷ [])) (item 0) (Some (i.Send 0)) ≡ On sending)
-    × (operates (here []) (item 0) 0 (Send (pos 5)) (int 1 ∷ []) ≡ sending)
+    × (operates (here []) (item 0) 0 (Send (pos 5 ∷ [])) (int 1 ∷ []) ≡ sending)
 it_waits_for_its_end = (refl, refl)
+
+-- an array is sent whole, as it is now
+abbrev pub three : Store
+three = record { globals = pos 4 ∷ pos 0 ∷ negsuc 5 ∷ []; frames = [] }
+
+pub an_array_is_sent_whole : begin code 9 (with_store (here (cell.Array (record { home = None; start = 0; len = 3 }) ∷ int 1 ∷ [])) three) (item 0) (Some (i.Send 0))
+    ≡ On (record sending { store = three; operations = started 0 (Send (pos 4 ∷ pos 0 ∷ negsuc 5 ∷ [])) (item 0) ∷ [] })
+an_array_is_sent_whole = refl
 
 pub a_receive_names_its_place : begin code 9 (here (cell.Array (record { home = None; start = 0; len = 1 }) ∷ int 1 ∷ [])) (item 0) (Some (i.Recv 0))
     ≡ On (record sending { operations = started 0 (Recv (record { home = None; start = 0; len = 1 })) (item 0) ∷ [] })
@@ -212,7 +220,7 @@ it_waits = refl
 abbrev pub offered : List Entry → Flat
 offered todo = record sending {
   shared = record (first_shared 2 []) { todo = todo };
-  operations = offered_as 3 (started 0 (Send (pos 5)) (item 0)) ∷ [];
+  operations = offered_as 3 (started 0 (Send (pos 5 ∷ [])) (item 0)) ∷ [];
 }
 
 abbrev pub known : Entry

@@ -25,6 +25,7 @@ use Rattle.core_state.specs.Arithmetic.{product_of, quotient, remainder, shifted
 use Rattle.core_state.specs.Arithmetic.{is_not_equal, is_less, is_at_most, both_bits, either_bits, differing_bits}
 use Rattle.core_state.specs.Frames.{element, set_element, part_at, begun, begun_with, first_frame, with_entered, block_in}
 use Rattle.core_state.specs.Shared.{Shared, with_step, with_turn, request_link, first_shared, printed, formatted, seen, if_turn, begins}
+use Rattle.core_state.specs.Messages.{message_in}
 use Rattle.core_state.specs.Requests.{read_of, write_of}
 use Rattle.core_state.specs.Arrivals.{Arrival, point, cancelled}
 use Rattle.core_state.specs.Cancelling.{cancels}
@@ -407,7 +408,7 @@ begin code bound m t (Some i.End) = On (dies (with_store m (released m.store m.c
 begin code bound m t (Some (i.Cancel level slot)) = calls_off m (block_in (cell_at m.store m.current.frame level slot))
 begin code bound m t (Some i.Yield) = On (stops m t (record m.current { place = m.current.place + 1 }) (m.ready ++ t ∷ []) m.blocks)
 begin code bound m t (Some (i.Send channel)) =
-    on_top m (λ x below. asks m t channel (asked.Send (int_in x)) below) m.current.operands
+    on_top m (λ x below. asks m t channel (asked.Send (message_in m.store x)) below) m.current.operands
 begin code bound m t (Some (i.Recv channel)) =
     on_top m (λ x below. asks m t channel (asked.Recv (place_in x)) below) m.current.operands
 -- the place in the file, the length and the array

@@ -1,6 +1,7 @@
 -- No instruction but a cancel concerns the journal: with one entry more still to come it leads on too, and where it ends the core, nothing
 -- is seen of the end.
 -- By cases on the instruction, of two states that differ in the entries to come alone. Journal and the laws of replays use it.
+use Rattle.core_state.specs.Messages.{message_in}
 use Rattle.std.proofs.Common.{◌≡◌, ℕ, ◌+◌, List, [], ◌∷◌, ◌++◌, length, map, Option, Some, None, Result, Ok, Err, Bool, true, false, refl}
 use Rattle.std.specs.Prelude.{ℤ, reverse, take, drop, replicate, nat_le, nat_lt, nat_eq, slice_get, ◌&&◌, if◌then◌else◌}
 use Rattle.ac_base.specs.declared.ends.Trap.{Trap}
@@ -223,7 +224,7 @@ module _ (e : Entry) (m : Flat) where
     begin_alike (Some i.End) p = dies_alike (released m.store m.current.frame) t m.current.block
     begin_alike (Some (i.Cancel level slot)) p = let no : true ≡ false = p in absurd (cc)
     begin_alike (Some i.Yield) p = (refl, kept)
-    begin_alike (Some (i.Send channel)) p = top_alike _ _ m.current.operands (λ x below. asks_alike t channel (asked.Send (int_in x)) below)
+    begin_alike (Some (i.Send channel)) p = top_alike _ _ m.current.operands (λ x below. asks_alike t channel (asked.Send (message_in m.store x)) below)
     begin_alike (Some (i.Recv channel)) p = top_alike _ _ m.current.operands (λ x below. asks_alike t channel (asked.Recv (place_in x)) below)
     begin_alike (Some (i.Read file)) p = three_alike _ _ m.current.operands (λ x y z below. requests_alike t (read_of file (int_in x) (int_in y) (place_in z)) below)
     begin_alike (Some (i.Write file)) p = three_alike _ _ m.current.operands (λ x y z below. requests_alike t (write_of m.store file (int_in x) (int_in y) (place_in z)) below)

@@ -61,7 +61,7 @@ module _ (code : Parts) (births : List Birth) where
       let all : reverse (take (suc (length params)) xs) ≡ r.1.0 ∷ reverse (take (length params) xs) = ap reverse taken ∙ reverse-append (take (length params) xs) (r.1.0 ∷ []) in
       subst (AreArguments (a ∷ params)) (sym all) (r.1.1.1, arguments_of params xs r.0)
 
-  array_argument : (x : Cell) → HasKind code births (kind.Reference false) x → HasKind code births (kind.Reference false) (argument true x)
+  array_argument : (x : Cell) → HasKind code births (kind.Reference None) x → HasKind code births (kind.Reference None) (argument true x)
   array_argument (cell.Int v) h = absurd h
   array_argument (cell.Array place) h = h
   array_argument (cell.Block b) h = absurd h
@@ -73,13 +73,13 @@ module _ (code : Parts) (births : List Birth) where
 
   -- a slot that a parameter has
   argument_slot : (params : List Bool) (xs : List Cell) (slot : ℕ) (y : Cell) → AreArguments params xs → slice_get (arguments params xs) slot ≡ Some y
-      → (b : Bool) × ((slice_get params slot ≡ Some b) × ((b ≡ true → HasKind code births (kind.Reference false) y) × (b ≡ false → is_int y ≡ true)))
+      → (b : Bool) × ((slice_get params slot ≡ Some b) × ((b ≡ true → HasKind code births (kind.Reference None) y) × (b ≡ false → is_int y ≡ true)))
   argument_slot [] xs slot y h e = let no : None ≡ Some y = e in cc
   argument_slot (a ∷ params) [] slot y h e = absurd h
   argument_slot (a ∷ params) (x ∷ xs) (suc slot) y h e = argument_slot params xs slot y h.1 e
   argument_slot (true ∷ params) (x ∷ xs) zero y h e =
       let same : argument true x ≡ y = cc in
-      (true, (refl, (λ k. subst (HasKind code births (kind.Reference false)) same (array_argument x h.0), λ k. let no : true ≡ false = k in absurd (cc))))
+      (true, (refl, (λ k. subst (HasKind code births (kind.Reference None)) same (array_argument x h.0), λ k. let no : true ≡ false = k in absurd (cc))))
   argument_slot (false ∷ params) (x ∷ xs) zero y h e =
       let same : argument false x ≡ y = cc in
       (false, (refl, (λ k. let no : false ≡ true = k in absurd (cc), λ k. subst (λ z. is_int z ≡ true) same refl)))

@@ -40,9 +40,9 @@ module _ (code : Parts) (births : List Birth) (s : Store) (st : IsStore code bir
   kind_lies kind.Int (cell.Int value) h = tt
   kind_lies kind.Int (cell.Array place) h = absurd h
   kind_lies kind.Int (cell.Block b) h = absurd h
-  kind_lies (kind.Reference one) (cell.Int value) h = absurd h
-  kind_lies (kind.Reference one) (cell.Array place) h = ints_lie place.home place.start place.len h.ints
-  kind_lies (kind.Reference one) (cell.Block b) h = absurd h
+  kind_lies (kind.Reference len) (cell.Int value) h = absurd h
+  kind_lies (kind.Reference len) (cell.Array place) h = ints_lie place.home place.start place.len h.ints
+  kind_lies (kind.Reference len) (cell.Block b) h = absurd h
 
   kinds_lie : (kinds : List CellKind) (operands : List Cell) → HaveKinds code births kinds operands → All (ArrayLiesThere s) operands
   kinds_lie [] [] h = All-nil (ArrayLiesThere s)
@@ -56,11 +56,11 @@ module _ (code : Parts) (births : List Birth) (s : Store) (st : IsStore code bir
   callers_lie t start _ _ _ _ (above f shape c callers u n one older waits rest) =
       All-cons (λ (z : Caller). All (ArrayLiesThere s) z.operands) c callers (kinds_lie waits.kinds c.operands waits.activation.have) (callers_lie t start c.frame u callers n rest)
 
-  asked_lies : (a : Asked) → IsAsked code births a → AskedLiesThere s a
-  asked_lies (asked.Send value) h = tt
-  asked_lies (asked.Recv place) h = ints_lie place.home place.start place.len h.ints
-  asked_lies (asked.Read file from into) h = ints_lie into.home into.start into.len h.ints
-  asked_lies (asked.Write file from bytes) h = tt
+  asked_lies : (link : ℕ) (a : Asked) → IsAsked code births link a → AskedLiesThere s a
+  asked_lies link (asked.Send message) h = tt
+  asked_lies link (asked.Recv place) h = ints_lie place.home place.start place.len h.ints
+  asked_lies link (asked.Read file from into) h = ints_lie into.home into.start into.len h.ints
+  asked_lies link (asked.Write file from bytes) h = tt
 
 -- ---- what a thread can name
 
@@ -101,4 +101,4 @@ module _ (code : Parts) (m : Flat) (fit : IsFit code m) where
 
   -- and where an operation puts what it receives or reads
   pub received_in_its_frame : All (λ (o : Operation). AskedLiesThere m.store o.asked) m.operations
-  received_in_its_frame k d lt = asked_lies code fit.births m.store fit.store (slice_index_or m.operations k d).asked (fit.asks k d lt)
+  received_in_its_frame k d lt = asked_lies code fit.births m.store fit.store (slice_index_or m.operations k d).link (slice_index_or m.operations k d).asked (fit.asks k d lt)

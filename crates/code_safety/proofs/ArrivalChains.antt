@@ -9,7 +9,8 @@ use Rattle.ac_base.specs.declared.entry.Entry.{Entry}
 use Rattle.work_item.specs.declared.ids.Item.{Item}
 use Rattle.work_item.specs.declared.ids.FrameId.{FrameId}
 use Rattle.work_item.specs.declared.ids.BlockId.{BlockId}
-use Rattle.work_item.specs.Store.{Store, with_int_at}
+use Rattle.work_item.specs.Store.{Store}
+use Rattle.core_state.specs.Messages.{with_ints_at}
 use Rattle.cancel_scope.specs.declared.operation.Operation.{Operation}
 use Rattle.cancel_scope.specs.Outstanding.{as_begun, offered_as}
 use Rattle.core_state.specs.Moves.{On}
@@ -29,9 +30,9 @@ use Rattle.code_safety.proofs.Plain.{Onward}
 use Rattle.code_safety.proofs.Arriving.{Comes, offered, known, begun, answered, received, passed, comes_of}
 use Rattle.code_safety.proofs.Removing.{same_or_other}
 use Rattle.code_safety.proofs.LivingThreads.{not_going, not_both, operating_once}
-use Rattle.code_safety.proofs.LinkedFrames.{SameFrames, same_frames, int_frames, linked_same}
+use Rattle.code_safety.proofs.LinkedFrames.{SameFrames, same_frames, linked_same}
 use Rattle.code_safety.proofs.Stacks.{stack_pushed}
-use Rattle.code_safety.proofs.Transfers.{answer_frames}
+use Rattle.code_safety.proofs.Transfers.{answer_frames, message_frames}
 
 module _ (code : Parts) (m : Flat) (fit : IsFit code m) (chained : AreChained code m) (shared : Shared) where
   abbrev Asks : Operation → Type 0
@@ -239,8 +240,8 @@ module _ (code : Parts) (m : Flat) (fit : IsFit code m) (chained : AreChained co
   comes_chained _ (answered front back o answer is) =
       ended_chained front back o is (value_of o.asked answer) (with_answer m.store o.asked answer) (answer_frames chained.origins m.store o.asked answer)
   comes_chained _ (known front back o is plain) = ended_chained front back o is ok m.store (same_frames chained.origins m.store)
-  comes_chained _ (received front back o place value is a) =
-      ended_chained front back o is ok (with_int_at m.store place 0 value) (int_frames chained.origins m.store place.home (place.start + 0) value)
+  comes_chained _ (received front back o place message is a) =
+      ended_chained front back o is ok (with_ints_at m.store place message) (message_frames chained.origins m.store place message)
 
 -- at a dispatch point, where the other move leads to such a state too
 pub rests_chained : (code : Parts) (m : Flat) → IsFit code m → AreChained code m → Onward (AreChained code) (dispatched m m.ready) → Onward (AreChained code) (rests m)

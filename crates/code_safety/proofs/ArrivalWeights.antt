@@ -7,7 +7,8 @@ use Rattle.std.proofs.lemmas.Bool.{cases_eq}
 use Rattle.std.proofs.lemmas.List.{get_or-set_same, get_or-set_other}
 use Rattle.work_item.specs.declared.ids.Item.{Item}
 use Rattle.work_item.specs.declared.cell.Cell.TheVariants as cell
-use Rattle.work_item.specs.Store.{Store, with_int_at}
+use Rattle.work_item.specs.Store.{Store}
+use Rattle.core_state.specs.Messages.{with_ints_at}
 use Rattle.cancel_scope.specs.declared.operation.Operation.{Operation}
 use Rattle.cancel_scope.specs.declared.operation.Progress.TheVariants.{Offered}
 use Rattle.cancel_scope.specs.Outstanding.{is_outgoing, is_request, is_waiting, offered_as, as_begun}
@@ -82,7 +83,7 @@ module _ (code : Parts) (bound : ℕ) (m : Flat) (fit : IsFit code m) (ranks : L
   pub arrived_falls : (x : Arrival) → Comes m.store m.operations x → left ranks bound (arrived m shared x) ≤ left ranks bound m
   arrived_falls _ (offered front back o number is waits) = let f = offered_falls front back o is number waits in omega (arith, f)
   arrived_falls _ (known front back o is other) = let f = ended_falls front back o is ok m.store in omega (arith, f)
-  arrived_falls _ (received front back o place value is asks) = let f = ended_falls front back o is ok (with_int_at m.store place 0 value) in omega (arith, f)
+  arrived_falls _ (received front back o place message is asks) = let f = ended_falls front back o is ok (with_ints_at m.store place message) in omega (arith, f)
   arrived_falls _ (begun front back o number is request offer) = let f = begun_falls front back o is number request offer in omega (arith, f)
   arrived_falls _ (answered front back o answer is) =
       let f = ended_falls front back o is (value_of o.asked answer) (with_answer m.store o.asked answer) in

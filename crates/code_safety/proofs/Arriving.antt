@@ -1,6 +1,7 @@
 -- What an entry that comes in makes of a state, and that the state stays fit.
 -- `Comes` has the ways in which an entry can change the operations; whatever it is about, the state stays fit. The hard case is an
 -- operation that ends: its thread comes to the ready ones, and is fit there just because it was fit as it would go on (`going_on`).
+use Rattle.stack_code.specs.Shapes.{width_of}
 use Rattle.std.proofs.Common.{◌≡◌, ℕ, ◌+◌, ◌<◌, List, [], ◌∷◌, ◌++◌, length, Option, Some, None, Bool, true, false, refl, sym, ap, ◌∙◌, subst, inl, inr, arith}
 use Rattle.std.specs.Prelude.{All, ℤ, pos, find, nat_eq, slice_set, if◌then◌else◌, not, ◌&&◌}
 use Rattle.std.proofs.lemmas.Bool.{and_parts, eqb-true}
@@ -15,7 +16,8 @@ use Rattle.work_item.specs.declared.cell.Cell.TheVariants as cell
 use Rattle.work_item.specs.declared.cell.Place.{Place}
 use Rattle.work_item.specs.declared.ids.BlockId.{BlockId}
 use Rattle.work_item.specs.declared.ids.Item.{Item}
-use Rattle.work_item.specs.Store.{Store, no_int, with_int_at}
+use Rattle.work_item.specs.Store.{Store, no_int}
+use Rattle.core_state.specs.Messages.{with_ints_at}
 use Rattle.cancel_scope.specs.declared.operation.Asked.{Asked}
 use Rattle.cancel_scope.specs.declared.operation.Asked.TheVariants as asked
 use Rattle.cancel_scope.specs.declared.operation.Operation.{Operation}
@@ -35,8 +37,8 @@ use Rattle.code_safety.specs.Fit.{AtFinish, Birth, Going, HasKind, HaveKinds, Is
 use Rattle.code_safety.specs.Fit.{occurs, one_at, one_if, runs}
 use Rattle.code_safety.proofs.Lives.{going_is, going_lives, life_cases, living_within, occurs_append, one_at_most, one_same, one_true, same_item}
 use Rattle.code_safety.proofs.Own.{all_kept, block_bound, block_kept, is_bound, rooted_of, same_phase, same_start}
-use Rattle.code_safety.proofs.Settings.{KeepsStore, same_store, set_element_at}
-use Rattle.code_safety.proofs.Transfers.{answer_kept}
+use Rattle.code_safety.proofs.Settings.{KeepsStore, same_store}
+use Rattle.code_safety.proofs.Transfers.{answer_kept, message_kept}
 use Rattle.code_safety.proofs.Turns.{alive_kept}
 use Rattle.code_safety.proofs.Waiting.{IsFound, all_between, all_others, found_at, occurs_between, one_of_all, waits_alike, waits_for_another, waits_for_it, waits_for_none}
 
@@ -51,8 +53,8 @@ pub data Comes (store : Store) (os : List Operation) : Arrival → Type 0 where
       → Comes store os (goes_on_waiting store (front ++ as_begun o ∷ back))
   answered : (front back : List Operation) (o : Operation) (answer : Answer) → os ≡ front ++ o ∷ back
       → Comes store os (has_ended_as (value_of o.asked answer) (with_answer store o.asked answer) (front ++ back) o)
-  received : (front back : List Operation) (o : Operation) (place : Place) (value : ℤ) → os ≡ front ++ o ∷ back → o.asked ≡ asked.Recv place
-      → Comes store os (has_ended (with_int_at store place 0 value) (front ++ back) o)
+  received : (front back : List Operation) (o : Operation) (place : Place) (message : List ℤ) → os ≡ front ++ o ∷ back → o.asked ≡ asked.Recv place
+      → Comes store os (has_ended (with_ints_at store place message) (front ++ back) o)
   passed : Comes store os (goes_on_waiting store os)
 
 module _ (store : Store) (os : List Operation) (x : Arrival) where
@@ -95,7 +97,7 @@ module _ (store : Store) (os : List Operation) (x : Arrival) where
       let is : has_ended_as (value_of o.asked answer) (with_answer store o.asked answer) (without_first (is_begun link number) os) o ≡ x = cc in
       subst (Comes store os) (ap (λ l. has_ended_as (value_of o.asked answer) (with_answer store o.asked answer) l o) (sym f.without) ∙ is) (answered f.front f.back o answer f.is)
 
-  received_comes : (link : ℕ) (value : ℤ) (o : Option Operation) → find (is_to_receive link) os ≡ o → ends_received store os link value o ≡ Some x → Comes store os x
+  received_comes : (link : ℕ) (value : List ℤ) (o : Option Operation) → find (is_to_receive link) os ≡ o → ends_received store os link value o ≡ Some x → Comes store os x
   received_comes link value None e h = let no : None ≡ Some x = h in absurd (cc)
   received_comes link value (Some o) e h =
       let f = found_at (is_to_receive link) os o e in
@@ -105,7 +107,7 @@ module _ (store : Store) (os : List Operation) (x : Arrival) where
     where
       go : (f : IsFound (is_to_receive link) os o) (a : Asked) → o.asked ≡ a → not (is_outgoing a) ≡ true → has_ended (with_message store o value) (f.front ++ f.back) o ≡ x → Comes store os x
       go f (asked.Recv place) e t same =
-          let here : with_message store o value ≡ with_int_at store place 0 value = ap (λ a. with_int_at store (arrivals.place_for a) 0 value) e in
+          let here : with_message store o value ≡ with_ints_at store place value = ap (λ a. with_ints_at store (arrivals.place_for a) value) e in
           subst (Comes store os) (ap (λ s. has_ended s (f.front ++ f.back) o) (sym here) ∙ same) (received f.front f.back o place value f.is e)
       go f a e t same = let no : false ≡ true = t in absurd (cc)
 
@@ -136,7 +138,7 @@ module _ (store : Store) (os : List Operation) (x : Arrival) where
 
 int_kind_of : (code : Parts) (births : List Birth) (k : CellKind) (v w : ℤ) → HasKind code births k (cell.Int v) → HasKind code births k (cell.Int w)
 int_kind_of code births kind.Int v w h = tt
-int_kind_of code births (kind.Reference one) v w h = absurd h
+int_kind_of code births (kind.Reference len) v w h = absurd h
 
 int_kinds_of : (code : Parts) (births : List Birth) (kinds : List CellKind) (v w : ℤ) (below : List Cell) → HaveKinds code births kinds (cell.Int v ∷ below)
     → HaveKinds code births kinds (cell.Int w ∷ below)
@@ -165,14 +167,14 @@ module _ (code : Parts) (m : Flat) (fit : IsFit code m) (shared : Shared) (front
   abbrev t : Item
   t = o.item
 
-  asks_here : All (λ (p : Operation). IsAsked code fit.births p.asked) (front ++ o ∷ back)
-  asks_here = subst (All (λ (p : Operation). IsAsked code fit.births p.asked)) is fit.asks
+  asks_here : All (λ (p : Operation). IsAsked code fit.births p.link p.asked) (front ++ o ∷ back)
+  asks_here = subst (All (λ (p : Operation). IsAsked code fit.births p.link p.asked)) is fit.asks
 
-  asks_others : All (λ (p : Operation). IsAsked code fit.births p.asked) (front ++ back)
-  asks_others = all_others (λ (p : Operation). IsAsked code fit.births p.asked) back o front asks_here
+  asks_others : All (λ (p : Operation). IsAsked code fit.births p.link p.asked) (front ++ back)
+  asks_others = all_others (λ (p : Operation). IsAsked code fit.births p.link p.asked) back o front asks_here
 
-  pub its_asked : IsAsked code fit.births o.asked
-  its_asked = one_of_all (λ (p : Operation). IsAsked code fit.births p.asked) back o front asks_here
+  pub its_asked : IsAsked code fit.births o.link o.asked
+  its_asked = one_of_all (λ (p : Operation). IsAsked code fit.births p.link p.asked) back o front asks_here
 
   split : (u : ℕ) → occurs u (items_of m.operations) ≡ one_at u t + occurs u (items_of (front ++ back))
   split u = ap (λ os. occurs u (items_of os)) is ∙ occurs_between u front back o
@@ -188,8 +190,8 @@ module _ (code : Parts) (m : Flat) (fit : IsFit code m) (shared : Shared) (front
       omega (arith, l, r, k, one, most)
 
   -- it has come further, and its thread waits on
-  pub changed_fit : (p : Operation) → p.item ≡ t → p.asked ≡ o.asked → IsFit code (arrived m shared (goes_on_waiting m.store (front ++ p ∷ back)))
-  changed_fit p item asks = record {
+  pub changed_fit : (p : Operation) → p.item ≡ t → p.link ≡ o.link → p.asked ≡ o.asked → IsFit code (arrived m shared (goes_on_waiting m.store (front ++ p ∷ back)))
+  changed_fit p item link asks = record {
     births = fit.births;
     lives = fit.lives;
     store = fit.store;
@@ -203,7 +205,8 @@ module _ (code : Parts) (m : Flat) (fit : IsFit code m) (shared : Shared) (front
         let now : occurs u (items_of (front ++ p ∷ back)) ≡ one_at u t + occurs u (items_of (front ++ back)) =
         occurs_between u front back p ∙ ap (λ (z : Item). one_at u z + occurs u (items_of (front ++ back))) item in
         omega (arith, l, was, now);
-    asks = all_between (λ (q : Operation). IsAsked code fit.births q.asked) back p front asks_others (subst (IsAsked code fit.births) (sym asks) its_asked);
+    asks = all_between (λ (q : Operation). IsAsked code fit.births q.link q.asked) back p front asks_others (subst (λ l. IsAsked code fit.births l p.asked) (sym link) (subst
+        (IsAsked code fit.births o.link) (sym asks) its_asked));
     many = fit.many;
     current = fit.current;
     parked = λ u l not. waits_alike u (thread_at m.threads u) front back o p item ∙ ap (λ os. going_on os u (thread_at m.threads u)) (sym is) ∙ fit.parked u l not;
@@ -360,13 +363,12 @@ module _ (code : Parts) (m : Flat) (fit : IsFit code m) (one : HasOneUse code) (
 
   pub arrived_fit : (x : Arrival) → Comes m.store m.operations x → IsFit code (arrived m shared x)
   arrived_fit _ passed = passed_fit
-  arrived_fit _ (offered front back o number is waiting) = changed_fit code m fit shared front back o is (offered_as number o) refl refl
-  arrived_fit _ (begun front back o number is request under) = changed_fit code m fit shared front back o is (as_begun o) refl refl
+  arrived_fit _ (offered front back o number is waiting) = changed_fit code m fit shared front back o is (offered_as number o) refl refl refl
+  arrived_fit _ (begun front back o number is request under) = changed_fit code m fit shared front back o is (as_begun o) refl refl refl
   arrived_fit _ (answered front back o answer is) =
-      let keeps = answer_kept code fit.births one m.store fit.store o.asked answer (its_asked code m fit shared front back o is) in
+      let keeps = answer_kept code fit.births one m.store fit.store o.link o.asked answer (its_asked code m fit shared front back o is) in
       ended_fit code m fit shared front back o is (with_answer m.store o.asked answer) keeps (value_of o.asked answer)
   arrived_fit _ (known front back o is plain) = ended_fit code m fit shared front back o is m.store (same_store code fit.births m.store fit.store) (pos 0)
-  arrived_fit _ (received front back o place value is asks) =
-      let a : IsAsked code fit.births (asked.Recv place) = subst (IsAsked code fit.births) asks (its_asked code m fit shared front back o is) in
-      let some : 0 < place.len = let k = a.single refl in omega (arith, k) in
-      ended_fit code m fit shared front back o is (with_int_at m.store place 0 value) (set_element_at code fit.births m.store one fit.store true place 0 value some a) (pos 0)
+  arrived_fit _ (received front back o place message is asks) =
+      let a : IsAsked code fit.births o.link (asked.Recv place) = subst (IsAsked code fit.births o.link) asks (its_asked code m fit shared front back o is) in
+      ended_fit code m fit shared front back o is (with_ints_at m.store place message) (message_kept code fit.births one m.store fit.store (Some (width_of code o.link)) place message a) (pos 0)

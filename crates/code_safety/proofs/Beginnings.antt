@@ -138,7 +138,7 @@ module _ (code : Parts) (v : IsValid code) (core : ℕ) (function : Entered) (b 
       first = refl;
       free = refl;
       listed = listed;
-      asks = All-nil (λ (o : Operation). IsAsked code births o.asked);
+      asks = All-nil (λ (o : Operation). IsAsked code births o.link o.asked);
       many = refl;
       current = λ t e. let no : None ≡ Some t = e in absurd (cc);
       parked = λ t l not. parked t.number l;

@@ -166,7 +166,7 @@ module _ (code : Parts) (bound : ℕ) (v : IsValid code) (m : Flat) (fit : IsFit
           let falls = begun_falls code bound now fit_now ranks shared steps f.front f.back o f.is number r under in
           let same = marked_left code m fit block ranks bound in
           subst (λ os. Better (arrived now shared (goes_on_waiting m.store os))) (sym (f.changed as_begun))
-          (changed_fit code now fit_now shared f.front f.back o f.is (as_begun o) refl refl, omega (arith, falls, same, fewer))
+          (changed_fit code now fit_now shared f.front f.back o f.is (as_begun o) refl refl refl, omega (arith, falls, same, fewer))
       taken number under false r = ended ok
 
       pub tried_better : (it : Fate) → CanBe o.progress it → Better (arrived now shared (made Better m block it o))
@@ -181,6 +181,31 @@ module _ (code : Parts) (bound : ℕ) (v : IsValid code) (m : Flat) (fit : IsFit
 
     pub cancel_better : Onward Better (calls_off m block)
     cancel_better = each_holds Better m block tried_better past_better
+
+  -- ---- it stays fit, whatever is left to do
+
+  module _ (o : Operation) (e : find (to_try (IsFit code) m block) m.operations ≡ Some o) (shared : Shared) where
+    abbrev sought : IsFound (to_try (IsFit code) m block) m.operations o
+    sought = found_at (to_try (IsFit code) m block) m.operations o e
+
+    ended_right : (value : ℤ) → IsFit code (arrived now shared (has_ended_as value m.store (without_first (to_try (IsFit code) m block) m.operations) o))
+    ended_right value = subst (λ os. IsFit code (arrived now shared (has_ended_as value m.store os o))) (sym sought.without)
+        (ended_fit code now fit_now shared sought.front sought.back o sought.is m.store (same_store code fit_now.births m.store fit_now.store) value)
+
+    taken_right : (b : Bool) → IsFit code (arrived now shared
+        (if b then goes_on_waiting m.store (change_first (to_try (IsFit code) m block) as_begun m.operations)
+        else has_ended_as ok m.store (without_first (to_try (IsFit code) m block) m.operations) o))
+    taken_right true = subst (λ os. IsFit code (arrived now shared (goes_on_waiting m.store os))) (sym (sought.changed as_begun))
+        (changed_fit code now fit_now shared sought.front sought.back o sought.is (as_begun o) refl refl refl)
+    taken_right false = ended_right ok
+
+    tried_right : (it : Fate) → IsFit code (arrived now shared (made (IsFit code) m block it o))
+    tried_right NeverHappens = ended_right cancelled
+    tried_right IsTaken = taken_right (is_request o.asked)
+
+  pub cancel_fit : Onward (IsFit code) (calls_off m block)
+  cancel_fit = each_holds (IsFit code) m block (λ o e shared steps fewer it can. tried_right o e shared it)
+      (plain_fit code bound now fit_now t run (i.Cancel level slot) after next)
 
   -- ---- no reference dangles
 

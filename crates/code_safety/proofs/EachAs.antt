@@ -16,7 +16,7 @@ use Rattle.stack_code.specs.declared.shape.CellKind.TheVariants as kind
 use Rattle.stack_code.specs.declared.shape.Want.TheVariants as want
 use Rattle.stack_code.specs.declared.shape.Shape.{Shape}
 use Rattle.stack_code.specs.Parts.{Parts, Begins}
-use Rattle.stack_code.specs.Shapes.{after, pushes, one_int, channels_of, effect}
+use Rattle.stack_code.specs.Shapes.{after, pushes, channels_of, effect, width_of}
 use Rattle.stack_code.specs.Valid.{Fits, Goes, Reaches, begins, goes, IsShaped, Quiet, QuietWay, one, more, Use, Uses, param, loads, sets, enters}
 use Rattle.stack_code.specs.Valid.{IsEntry, HasCores, HasLinks, IsChannel, HasLists, IsValid}
 use Rattle.stack_code.specs.Kept.{IsRanked}
@@ -53,8 +53,8 @@ module _ (code : Parts) (core : ℕ) where
   same_channels = ap (λ n. length code.capacities - n) as_many
 
   effect_same : (at : ℕ) (instr : Instr) (s : Shape) → effect like at instr s ≡ effect code at instr s
-  effect_same at (i.Send channel) s = ap (λ n. if nat_lt channel n then one_int at s else None) same_channels
-  effect_same at (i.Recv channel) s = ap (λ n. if nat_lt channel n then after (want.One ∷ []) s (pushes at kind.Int) else None) same_channels
+  effect_same at (i.Send channel) s = ap (λ n. if nat_lt channel n then after (want.Message (width_of code channel) ∷ []) s (pushes at kind.Int) else None) same_channels
+  effect_same at (i.Recv channel) s = ap (λ n. if nat_lt channel n then after (want.Elements (width_of code channel) ∷ []) s (pushes at kind.Int) else None) same_channels
   effect_same at instr s = refl
 
   abbrev fits_back : (at : ℕ) (s : Shape) → Fits like at s → Fits code at s
@@ -124,6 +124,8 @@ module _ (code : Parts) (core : ℕ) where
             each = l.each ∙ ap (λ n. length code.ends + n) (sym as_many);
             capacities = l.capacities;
             channels = λ k d less. channel_too (slice_index_or code.ends k d) (l.channels k d less);
+            wide = l.wide;
+            widths = l.widths;
           }
         where
           channel_too : (ends : ChannelEnds) → IsChannel code ends → IsChannel like ends

@@ -1,6 +1,6 @@
 -- What a core reaches and which ends a code keeps, in small codes.
 -- A code whose core sends at its own end, and codes that send or receive at another's or that reach a function by a call.
-use Rattle.std.proofs.Common.{◌≡◌, ℕ, zero, suc, pos, List, [], ◌∷◌, codes, true, Option, Some, None, refl, sym, ap, ◌∙◌, inr, arith}
+use Rattle.std.proofs.Common.{◌≡◌, ℕ, zero, suc, pos, List, [], ◌∷◌, codes, Option, Some, None, refl, sym, ap, ◌∙◌, inr, arith}
 use Rattle.std.specs.Prelude.{slice_get}
 use Rattle.std.proofs.lemmas.List.Elements.{All-nil, All-cons, All-head}
 use Rattle.work_item.specs.declared.cell.Place.{Place}
@@ -54,6 +54,7 @@ with_ends channel instrs = record {
   capacities = 4 ∷ 16 ∷ [];
   ends = channel ∷ [];
   starts = [];
+  widths = 1 ∷ [];
 }
 
 abbrev sending : List Instr
@@ -112,9 +113,9 @@ received_in channel = record {
   reaches = enters 0 refl;
   at = 1;
   lies = record {
-    shape = pushed (kind.Reference true) (first 0 (function 0));
-    reached = goes 0 (first 0 (function 0)) 1 (pushed (kind.Reference true) (first 0 (function 0))) (at_entry channel receiving) (record {
-      fits = record { instr = i.ArrG 0 1; leads = One 1 (pushed (kind.Reference true) (first 0 (function 0))); here = refl; finds = refl };
+    shape = pushed (kind.Reference (Some 1)) (first 0 (function 0));
+    reached = goes 0 (first 0 (function 0)) 1 (pushed (kind.Reference (Some 1)) (first 0 (function 0))) (at_entry channel receiving) (record {
+      fits = record { instr = i.ArrG 0 1; leads = One 1 (pushed (kind.Reference (Some 1)) (first 0 (function 0))); here = refl; finds = refl };
       leads = (refl, refl);
     });
     round = refl;
@@ -212,10 +213,10 @@ what_it_calls_sends_at_the_other_end h = not_from_one calling (h.sends 0 0 (reco
 
 -- ---- operations and states
 
-pub a_send_at_its_end : IsAtEnd (with_ends (ends 0 1) []) 0 0 (asked.Send (pos 5))
+pub a_send_at_its_end : IsAtEnd (with_ends (ends 0 1) []) 0 0 (asked.Send (pos 5 ∷ []))
 a_send_at_its_end = it_is_the_sender
 
-pub a_send_at_the_other_end : IsAtEnd (with_ends (ends 0 1) []) 1 0 (asked.Send (pos 5)) → ⊥
+pub a_send_at_the_other_end : IsAtEnd (with_ends (ends 0 1) []) 1 0 (asked.Send (pos 5 ∷ [])) → ⊥
 a_send_at_the_other_end h = the_other_core_is_not h
 
 -- the own links of the cores come after the one channel
@@ -239,7 +240,7 @@ a_read_on_a_channel h = let no : 0 ≡ 1 = h in omega (arith, no)
 
 -- a core whose only operation sends on the channel
 abbrev sends : Operation
-sends = started 0 (asked.Send (pos 5)) (record { number = 0 })
+sends = started 0 (asked.Send (pos 5 ∷ [])) (record { number = 0 })
 
 abbrev at_end_of : ℕ → Operation → Type 0
 at_end_of core o = IsAtEnd (with_ends (ends 0 1) []) core o.link o.asked

@@ -1,6 +1,7 @@
 -- What a core can still do becomes less with each move of its code.
 -- `left` weighs the address of each activation by its rank. An address leads to lower ranks, save at a `Step`, which uses one of the steps;
 -- so each kind of move is one inequation of weights (Weights), in which what the other threads weigh stays the same.
+use Rattle.core_state.specs.Messages.{message_in}
 use Rattle.std.proofs.Common.{◌≡◌, ℕ, ◌+◌, ◌-◌, ◌*◌, ◌<◌, List, [], ◌∷◌, ◌++◌, length, take, drop, Option, Some, None, Bool, true, false, refl, sym, ap, ◌∙◌, subst, inl}
 use Rattle.std.proofs.Common.{inr, arith}
 use Rattle.std.specs.Prelude.{sum, slice_get, slice_index, slice_index_or, slice_set, nat_eq, reverse, replicate, ◌&&◌, if◌then◌else◌}
@@ -27,7 +28,7 @@ use Rattle.stack_code.specs.declared.shape.Leads.{Leads}
 use Rattle.stack_code.specs.declared.shape.Leads.TheVariants.{One, Two}
 use Rattle.stack_code.specs.Parts.{Parts}
 use Rattle.stack_code.specs.Shapes as shapes
-use Rattle.stack_code.specs.Shapes.{effect, after, pushed, with_operands, first, entered, inner, body_with, is_entered, LeadsTo}
+use Rattle.stack_code.specs.Shapes.{effect, after, pushed, with_operands, first, entered, inner, body_with, is_entered, LeadsTo, width_of}
 use Rattle.stack_code.specs.Valid.{IsValid, Goes}
 use Rattle.stack_code.specs.Kept.{IsRanked}
 use Rattle.code_meaning.specs.Machine.{Flat, Thread, Block, Caller, at, asks, operates, begin, counted, block_at, with_block, with_store, thread_at, nobody, stops, starts, one_more, counted_in}
@@ -311,13 +312,13 @@ module _ (code : Parts) (bound : ℕ) (m : Flat) (fit : IsFit code m) (v : IsVal
     pub send_falls : (channel : ℕ) (leads : Leads) → slice_get code.instrs place ≡ Some (i.Send channel) → effect code place (i.Send channel) s ≡ Some leads
         → Onward Less (begin code bound m t (Some (i.Send channel)))
     send_falls channel leads here finds =
-        let z = operating code bound m fit t run want.Int (i.Send channel) channel leads here refl finds in
-        top_on Less m _ m.current.operands z.top z.on.below z.is (started_falls (i.Send channel) here (λ e. cc) z.on channel (asked.Send (int_in z.top)))
+        let z = operating code bound m fit t run (want.Message (width_of code channel)) (i.Send channel) channel leads here refl finds in
+        top_on Less m _ m.current.operands z.top z.on.below z.is (started_falls (i.Send channel) here (λ e. cc) z.on channel (asked.Send (message_in m.store z.top)))
 
     pub receive_falls : (channel : ℕ) (leads : Leads) → slice_get code.instrs place ≡ Some (i.Recv channel) → effect code place (i.Recv channel) s ≡ Some leads
         → Onward Less (begin code bound m t (Some (i.Recv channel)))
     receive_falls channel leads here finds =
-        let z = operating code bound m fit t run want.One (i.Recv channel) channel leads here refl finds in
+        let z = operating code bound m fit t run (want.Elements (width_of code channel)) (i.Recv channel) channel leads here refl finds in
         top_on Less m _ m.current.operands z.top z.on.below z.is (started_falls (i.Recv channel) here (λ e. cc) z.on channel (asked.Recv (place_in z.top)))
 
     pub read_falls : (file : ℕ) (leads : Leads) → slice_get code.instrs place ≡ Some (i.Read file) → effect code place (i.Read file) s ≡ Some leads

@@ -10,6 +10,7 @@ use Rattle.work_item.specs.declared.ids.Item.{Item}
 use Rattle.work_item.specs.declared.ids.BlockId.{BlockId}
 use Rattle.work_item.specs.declared.cell.Cell.{Cell}
 use Rattle.work_item.specs.declared.cell.Cell.TheVariants as cell
+use Rattle.work_item.specs.declared.cell.Place.{Place}
 use Rattle.cancel_scope.specs.declared.operation.Asked.TheVariants as asked
 use Rattle.cancel_scope.specs.declared.operation.Operation.{Operation}
 use Rattle.cancel_scope.specs.Outstanding.{as_begun, offered_as, started}
@@ -68,8 +69,8 @@ ints_are_told_from_arrays = refl
 abbrev pub both_globals : Cell
 both_globals = cell.Array (record { home = None; start = 0; len = 2 })
 
-pub operands_have_their_kinds : HasKind small [] kind.Int (int 5) × HaveKinds small [] (kind.Int ∷ kind.Reference false ∷ []) (int 5 ∷ both_globals ∷ [])
-operands_have_their_kinds = (tt, (tt, (record { short = omega arith; ints = omega arith; single = λ e. cc }, tt)))
+pub operands_have_their_kinds : HasKind small [] kind.Int (int 5) × HaveKinds small [] (kind.Int ∷ kind.Reference None ∷ []) (int 5 ∷ both_globals ∷ [])
+operands_have_their_kinds = (tt, (tt, (record { short = omega arith; ints = omega arith; exact = λ n e. cc }, tt)))
 
 pub an_array_is_no_int : HasKind small [] kind.Int both_globals → ⊥
 an_array_is_no_int h = h
@@ -77,11 +78,11 @@ an_array_is_no_int h = h
 abbrev pub one_global : Cell
 one_global = cell.Array (record { home = None; start = 1; len = 1 })
 
-pub one_global_is_one_int : HasKind small [] (kind.Reference true) one_global
-one_global_is_one_int = record { short = omega arith; ints = omega arith; single = λ e. refl }
+pub one_global_is_one_int : HasKind small [] (kind.Reference (Some 1)) one_global
+one_global_is_one_int = record { short = omega arith; ints = omega arith; exact = λ n e. let both : Some 1 ≡ Some n = e in cc }
 
-pub two_are_not : HasKind small [] (kind.Reference true) both_globals → ⊥
-two_are_not h = let one : 2 ≡ 1 = h.single refl in omega (arith, one)
+pub two_are_not : HasKind small [] (kind.Reference (Some 1)) both_globals → ⊥
+two_are_not h = let one : 2 ≡ 1 = h.exact 1 refl in omega (arith, one)
 
 pub an_operand_is_missing : HaveKinds small [] (kind.Int ∷ kind.Int ∷ []) (int 5 ∷ []) → ⊥
 an_operand_is_missing h = h.1
@@ -150,7 +151,7 @@ no_block_was_entered h = let e : Some (block 0) ≡ None = where_it_is (Some (ow
 
 -- the thread 1 sends 5, and the thread 2 receives into a global
 abbrev pub sends : Operation
-sends = started 0 (asked.Send (pos 5)) (item 1)
+sends = started 0 (asked.Send (pos 5 ∷ [])) (item 1)
 
 abbrev pub receives : Operation
 receives = started 1 (asked.Recv (record { home = None; start = 1; len = 1 })) (item 2)
@@ -165,11 +166,27 @@ as_it_will_go_on = refl
 pub another_goes_on_as_it_is : (going_on (sends ∷ receives ∷ []) (item 3) (record nobody { operands = int 7 ∷ [] })).operands ≡ int 7 ∷ []
 another_goes_on_as_it_is = refl
 
-pub a_message_goes_into_one_int : IsAsked small [] sends.asked × IsAsked small [] receives.asked
-a_message_goes_into_one_int = (tt, one_global_is_one_int)
+-- the channels 0 and 1 carry one int, and the channel 2 two
+abbrev pub wide : Parts
+wide = record small { widths = 1 ∷ 1 ∷ 2 ∷ [] }
 
-pub it_does_not_go_into_two : IsAsked small [] (asked.Recv (record { home = None; start = 0; len = 2 })) → ⊥
-it_does_not_go_into_two h = two_are_not h
+abbrev pub both_places : Place
+both_places = record { home = None; start = 0; len = 2 }
+
+pub a_message_goes_into_one_int : IsAsked wide [] 0 sends.asked × IsAsked wide [] 1 receives.asked
+a_message_goes_into_one_int = (refl, record { short = omega arith; ints = omega arith; exact = λ n e. let both : Some 1 ≡ Some n = e in cc })
+
+pub a_message_of_two_ints : IsAsked wide [] 2 (asked.Send (pos 5 ∷ pos 6 ∷ [])) × IsAsked wide [] 2 (asked.Recv both_places)
+a_message_of_two_ints = (refl, record { short = omega arith; ints = omega arith; exact = λ n e. let both : Some 2 ≡ Some n = e in cc })
+
+pub not_with_an_int_more : IsAsked wide [] 0 (asked.Send (pos 5 ∷ pos 6 ∷ [])) → ⊥
+not_with_an_int_more h = let no : 2 ≡ 1 = h in omega (arith, no)
+
+pub nor_with_one_fewer : IsAsked wide [] 2 (asked.Send (pos 5 ∷ [])) → ⊥
+nor_with_one_fewer h = let no : 1 ≡ 2 = h in omega (arith, no)
+
+pub one_int_does_not_go_into_two : IsAsked wide [] 1 (asked.Recv both_places) → ⊥
+one_int_does_not_go_into_two h = let no : 2 ≡ 1 = h.exact 1 refl in omega (arith, no)
 
 -- the thread 3 reads from the place 4 of the file 6 into both globals, and the thread 4 writes two bytes there
 abbrev pub reads : Operation
@@ -178,10 +195,10 @@ reads = started 2 (asked.Read 6 4 (record { home = None; start = 0; len = 2 })) 
 abbrev pub writes : Operation
 writes = started 2 (asked.Write 6 4 (66 ∷ 9 ∷ [])) (item 4)
 
-pub what_is_read_goes_into_an_array : IsAsked small [] reads.asked × IsAsked small [] writes.asked
-what_is_read_goes_into_an_array = (record { short = omega arith; ints = omega arith; single = λ e. cc }, tt)
+pub what_is_read_goes_into_an_array : IsAsked small [] 2 reads.asked × IsAsked small [] 2 writes.asked
+what_is_read_goes_into_an_array = (record { short = omega arith; ints = omega arith; exact = λ n e. cc }, tt)
 
-pub no_third_global_is_read_into : IsAsked small [] (asked.Read 6 4 (record { home = None; start = 0; len = 3 })) → ⊥
+pub no_third_global_is_read_into : IsAsked small [] 2 (asked.Read 6 4 (record { home = None; start = 0; len = 3 })) → ⊥
 no_third_global_is_read_into h = let room : 3 ≤ 2 = h.ints in omega (arith, room)
 
 -- ---- what is left to do

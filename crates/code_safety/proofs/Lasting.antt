@@ -1,7 +1,8 @@
 -- What a thread keeps when births, frames and blocks change that are not its own.
 -- `Carries` says which frames go on, `KeepsBlocks` which blocks; a thread of which all frames and blocks are among those stays as it was.
 -- By induction over its bodies, its callers and its blocks.
-use Rattle.std.proofs.Common.{◌≡◌, ℕ, ◌+◌, ◌≤◌, ◌<◌, List, [], ◌∷◌, length, Option, Some, None, true, false, refl, sym, ap, ◌∙◌, subst, arith}
+use Rattle.stack_code.specs.Shapes.{width_of}
+use Rattle.std.proofs.Common.{◌≡◌, ℕ, ◌+◌, ◌≤◌, ◌<◌, List, [], ◌∷◌, length, Option, Some, None, false, refl, sym, ap, ◌∙◌, subst, arith}
 use Rattle.std.specs.Prelude.{slice_get}
 use Rattle.work_item.specs.declared.ids.FrameId.{FrameId}
 use Rattle.work_item.specs.declared.ids.Item.{Item}
@@ -36,9 +37,9 @@ module _ (code : Parts) (old new : List Birth) (grown : Grown old new) where
   kind_grown kind.Int (cell.Int v) h = tt
   kind_grown kind.Int (cell.Array place) h = absurd h
   kind_grown kind.Int (cell.Block b) h = absurd h
-  kind_grown (kind.Reference one) (cell.Int v) h = absurd h
-  kind_grown (kind.Reference one) (cell.Array place) h = record { short = h.short; ints = ints_grown place.home place.start place.len h.ints; single = h.single }
-  kind_grown (kind.Reference one) (cell.Block b) h = absurd h
+  kind_grown (kind.Reference len) (cell.Int v) h = absurd h
+  kind_grown (kind.Reference len) (cell.Array place) h = record { short = h.short; ints = ints_grown place.home place.start place.len h.ints; exact = h.exact }
+  kind_grown (kind.Reference len) (cell.Block b) h = absurd h
 
   pub kinds_grown : (kinds : List CellKind) (operands : List Cell) → HaveKinds code old kinds operands → HaveKinds code new kinds operands
   kinds_grown [] [] h = tt
@@ -46,16 +47,16 @@ module _ (code : Parts) (old new : List Birth) (grown : Grown old new) where
   kinds_grown (k ∷ kinds) [] h = absurd h
   kinds_grown (k ∷ kinds) (x ∷ operands) h = (kind_grown k x h.0, kinds_grown kinds operands h.1)
 
-  pub asked_grown : (a : Asked) → IsAsked code old a → IsAsked code new a
-  asked_grown (asked.Send value) h = tt
-  asked_grown (asked.Recv place) h = kind_grown (kind.Reference true) (cell.Array place) h
-  asked_grown (asked.Read file from into) h = kind_grown (kind.Reference false) (cell.Array into) h
-  asked_grown (asked.Write file from bytes) h = tt
+  pub asked_grown : (link : ℕ) (a : Asked) → IsAsked code old link a → IsAsked code new link a
+  asked_grown link (asked.Send message) h = h
+  asked_grown link (asked.Recv place) h = kind_grown (kind.Reference (Some (width_of code link))) (cell.Array place) h
+  asked_grown link (asked.Read file from into) h = kind_grown (kind.Reference None) (cell.Array into) h
+  asked_grown link (asked.Write file from bytes) h = tt
 
   pub slots_grown : (home : Home) (cells : List Cell) → AreSlots code old home cells → AreSlots code new home cells
   slots_grown home cells h slot x e =
       let i = h slot x e in
-      record { array = λ a. kind_grown (kind.Reference false) x (i.array a); int = i.int }
+      record { array = λ a. kind_grown (kind.Reference None) x (i.array a); int = i.int }
 
   pub frame_grown : (f : FrameId) (x : Frame) → IsFrame code old f x → IsFrame code new f x
   frame_grown f x h = record { birth = h.birth; born = grown f.number h.birth h.born; slots = slots_grown h.birth.home x.cells h.slots; long = h.long; short = h.short }

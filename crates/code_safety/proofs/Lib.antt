@@ -42,6 +42,7 @@ pub mod StopChains
 pub mod BlockChains
 pub mod Marking
 pub mod CancelSafety
+pub mod FitRuns
 pub mod TurnChains
 pub mod CallChains
 pub mod StartChains

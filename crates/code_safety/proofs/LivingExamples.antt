@@ -151,7 +151,7 @@ a_thread_without_an_operation_does_not h l = by first h l
     by _ _ (as_operating t some) = omega (arith, some)
     by _ _ (as_waiting t b x here owner w) = let no : None ≡ Some x = here in cc
 
-pub what_is_received_into_a_living_frame : AskedLives whole.store (Recv place) × AskedLives (reading None).store (Send (pos 5))
+pub what_is_received_into_a_living_frame : AskedLives whole.store (Recv place) × AskedLives (reading None).store (Send (pos 5 ∷ []))
 what_is_received_into_a_living_frame = (refl, tt)
 
 pub what_is_received_into_no_frame : AskedLives (reading None).store (Recv place) → ⊥
@@ -164,7 +164,7 @@ pub what_is_read_into_no_frame : AskedLives (reading None).store (Read 6 4 place
 what_is_read_into_no_frame h = let no : false ≡ true = h in cc
 
 -- into its two slots, and not into a third
-pub where_it_is_received_or_read : AskedLiesThere whole.store (Recv place) × AskedLiesThere whole.store (Read 6 4 place) × AskedLiesThere whole.store (Send (pos 5))
+pub where_it_is_received_or_read : AskedLiesThere whole.store (Recv place) × AskedLiesThere whole.store (Read 6 4 place) × AskedLiesThere whole.store (Send (pos 5 ∷ []))
     × AskedLiesThere whole.store (Write 6 4 (66 ∷ []))
 where_it_is_received_or_read = (λ lives. omega arith, λ lives. omega arith, tt, tt)
 
@@ -232,7 +232,7 @@ the_body_names_an_array_of_the_entry = (out_to_the_entry, (out_to_the_entry, (tt
 pub the_entry_names_none_of_the_body : AllName origins outer (cell.Array (record { home = Some body; start = 0; len = 1 }) ∷ []) → ⊥
 the_entry_names_none_of_the_body h = not_inwards h.0
 
-pub the_body_receives_into_the_entry : AskedOnChain origins body (Recv place) × AskedOnChain origins outer (Send (pos 5))
+pub the_body_receives_into_the_entry : AskedOnChain origins body (Recv place) × AskedOnChain origins outer (Send (pos 5 ∷ []))
 the_body_receives_into_the_entry = (out_to_the_entry, tt)
 
 pub the_entry_receives_into_no_body : AskedOnChain origins outer (Recv (record { home = Some body; start = 0; len = 1 })) → ⊥

@@ -1,7 +1,9 @@
 -- A state stays fit where its thread starts an operation, and waits for its end.
 -- The operands are taken as they are wanted, and the thread is kept with a place for the value. In a cancelled block the value is there at
 -- once, and the thread goes on as after any instruction of its own.
-use Rattle.std.proofs.Common.{◌≡◌, ℕ, ◌+◌, ◌≤◌, List, [], ◌∷◌, ◌++◌, Some, None, refl, sym, ap, ◌∙◌, subst, arith}
+use Rattle.work_item.specs.declared.ids.FrameId.{FrameId}
+use Rattle.core_state.specs.Messages.{message_in, ints_from}
+use Rattle.std.proofs.Common.{◌≡◌, ℕ, ◌+◌, ◌≤◌, List, [], ◌∷◌, ◌++◌, Some, None, refl, sym, ap, ◌∙◌, subst, arith, zero, suc, length, Option}
 use Rattle.std.specs.Prelude.{nat_lt, slice_get, if◌then◌else◌}
 use Rattle.std.proofs.lemmas.List.{append-nil}
 use Rattle.std.proofs.lemmas.List.Elements.{All-push}
@@ -9,7 +11,7 @@ use Rattle.work_item.specs.declared.ids.Item.{Item}
 use Rattle.work_item.specs.declared.cell.Cell.{Cell}
 use Rattle.work_item.specs.declared.cell.Cell.TheVariants as cell
 use Rattle.work_item.specs.declared.cell.Place.{Place}
-use Rattle.work_item.specs.Store.{int_in, place_in, no_int}
+use Rattle.work_item.specs.Store.{Store, int_in, place_in, no_int}
 use Rattle.cancel_scope.specs.declared.operation.Asked.{Asked}
 use Rattle.cancel_scope.specs.declared.operation.Asked.TheVariants as asked
 use Rattle.cancel_scope.specs.declared.operation.Operation.{Operation}
@@ -26,7 +28,7 @@ use Rattle.stack_code.specs.declared.shape.Want.TheVariants as want
 use Rattle.stack_code.specs.declared.shape.Leads.{Leads}
 use Rattle.stack_code.specs.declared.shape.Leads.TheVariants.{One}
 use Rattle.stack_code.specs.Parts.{Parts}
-use Rattle.stack_code.specs.Shapes.{after, channels_of, effect, pushed, pushes, transfers, with_operands}
+use Rattle.stack_code.specs.Shapes.{after, channels_of, width_of, effect, pushed, pushes, transfers, with_operands}
 use Rattle.stack_code.specs.Valid as valid
 use Rattle.stack_code.specs.Valid.{Goes}
 use Rattle.code_meaning.specs.Machine.{Flat, Thread, asks, at, counted, begin, given, on_three, operates, requests}
@@ -148,7 +150,7 @@ module _ (code : Parts) (bound : ℕ) (m : Flat) (fit : IsFit code m) (t : Item)
       others = refl;
     }
 
-  module _ (instr : Instr) (z : Operates instr) (link : ℕ) (a : Asked) (asks : IsAsked code fit.births a) where
+  module _ (instr : Instr) (z : Operates instr) (link : ℕ) (a : Asked) (asks : IsAsked code fit.births link a) where
     abbrev kept : Thread
     kept = at m.current (place + 1) z.below
 
@@ -173,7 +175,7 @@ module _ (code : Parts) (bound : ℕ) (m : Flat) (fit : IsFit code m) (t : Item)
 
     operates_fit : IsFit code (operates m t link a z.below)
     operates_fit = rests_fit code m fit t run (given no_int kept) refl later kept m.ready (m.operations ++ new ∷ [])
-        (All-push (λ (o : Operation). IsAsked code fit.births o.asked) m.operations new fit.asks asks) listed
+        (All-push (λ (o : Operation). IsAsked code fit.births o.link o.asked) m.operations new fit.asks asks) listed
         (waits_for_it t kept m.operations [] new refl)
         (λ u f ne. waits_for_another u f m.operations [] new (λ e. ne (sym (same_item u t e))) ∙ ap (λ os. going_on os u f) (append-nil m.operations))
       where
@@ -183,35 +185,47 @@ module _ (code : Parts) (bound : ℕ) (m : Flat) (fit : IsFit code m) (t : Item)
             let n : occurs u (items_of (m.operations ++ [])) ≡ occurs u (items_of m.operations) = ap (λ os. occurs u (items_of os)) (append-nil m.operations) in
             omega (arith, b, n)
 
-  -- what is received goes into one int
-  asked_of : (x : Cell) → IsWanted code fit.births want.One x → IsAsked code fit.births (asked.Recv (place_in x))
-  asked_of (cell.Int v) k = absurd k
-  asked_of (cell.Array p) k = k
-  asked_of (cell.Block b) k = absurd k
+  -- what is received goes into as many ints as the channel's width
+  asked_of : (channel : ℕ) (x : Cell) → IsWanted code fit.births (want.Elements (width_of code channel)) x → IsAsked code fit.births channel (asked.Recv (place_in x))
+  asked_of channel (cell.Int v) k = absurd k
+  asked_of channel (cell.Array p) k = k
+  asked_of channel (cell.Block b) k = absurd k
+
+  many_ints : (store : Store) (home : Option FrameId) (slot len : ℕ) → length (ints_from store home slot len) ≡ len
+  many_ints store home slot zero = refl
+  many_ints store home slot (suc len) = ap suc (many_ints store home (slot + 1) len)
+
+  -- and what is sent has as many
+  sent_of : (channel : ℕ) (x : Cell) → IsWanted code fit.births (want.Message (width_of code channel)) x → IsAsked code fit.births channel (asked.Send (message_in m.store x))
+  sent_of channel (cell.Int v) k = sym k
+  sent_of channel (cell.Array p) k = many_ints m.store p.home p.start p.len ∙ k.exact (width_of code channel) refl
+  sent_of channel (cell.Block b) k = absurd k
 
   -- what is read goes into the first elements of an array
-  first_asked : (file at len : ℕ) (x : Cell) → IsWanted code fit.births want.Reference x → len ≤ (place_in x).len → IsAsked code fit.births (asked.Read file at (first_of (place_in x) len))
+  first_asked : (file at len : ℕ) (x : Cell) → IsWanted code fit.births want.Reference x → len ≤ (place_in x).len → IsAsked code fit.births m.shared.requests (asked.Read file at (first_of
+      (place_in x) len))
   first_asked file at len (cell.Int v) k le = absurd k
   first_asked file at len (cell.Array p) k le = first_ints code fit.births p len le k
   first_asked file at len (cell.Block b) k le = absurd k
 
   -- its value is there, or its thread waits
-  started_on : (instr : Instr) (z : Operates instr) → (instr ≡ i.Step → ⊥) → (link : ℕ) (a : Asked) → IsAsked code fit.births a → Onward (IsFit code) (asks m t link a z.below)
+  started_on : (instr : Instr) (z : Operates instr) → (instr ≡ i.Step → ⊥) → (link : ℕ) (a : Asked) → IsAsked code fit.births link a → Onward (IsFit code) (asks m t link a z.below)
   started_on instr z other link a k = asks_on (IsFit code) m t link a z.below
       (plain_fit code bound m fit t run instr (given_value instr z other) (value_next instr z other)) (operates_fit instr z link a k)
 
   pub send_fit : (channel : ℕ) (leads : Leads) → slice_get code.instrs place ≡ Some (i.Send channel) → effect code place (i.Send channel) s ≡ Some leads
       → Onward (IsFit code) (begin code bound m t (Some (i.Send channel)))
   send_fit channel leads here finds =
-      let z = operating want.Int (i.Send channel) channel leads here refl finds in
-      top_on (IsFit code) m _ m.current.operands z.top z.on.below z.is (started_on (i.Send channel) z.on (λ e. cc) channel (asked.Send (int_in z.top)) tt)
+      let z = operating (want.Message (width_of code channel)) (i.Send channel) channel leads here refl finds in
+      top_on (IsFit code) m _ m.current.operands z.top z.on.below z.is
+      (started_on (i.Send channel) z.on (λ e. cc) channel (asked.Send (message_in m.store z.top)) (sent_of channel z.top z.wanted))
 
   pub receive_fit : (channel : ℕ) (leads : Leads) → slice_get code.instrs place ≡ Some (i.Recv channel) → effect code place (i.Recv channel) s ≡ Some leads
       → Onward (IsFit code) (begin code bound m t (Some (i.Recv channel)))
   receive_fit channel leads here finds =
-      let z = operating want.One (i.Recv channel) channel leads here refl finds in
+      let z = operating (want.Elements (width_of code channel)) (i.Recv channel) channel leads here refl finds in
       top_on (IsFit code) m _ m.current.operands z.top z.on.below z.is
-      (started_on (i.Recv channel) z.on (λ e. cc) channel (asked.Recv (place_in z.top)) (asked_of z.top z.wanted))
+      (started_on (i.Recv channel) z.on (λ e. cc) channel (asked.Recv (place_in z.top)) (asked_of channel z.top z.wanted))
 
   pub read_fit : (file : ℕ) (leads : Leads) → slice_get code.instrs place ≡ Some (i.Read file) → effect code place (i.Read file) s ≡ Some leads
       → Onward (IsFit code) (begin code bound m t (Some (i.Read file)))

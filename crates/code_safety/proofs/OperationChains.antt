@@ -1,5 +1,6 @@
 -- No reference dangles where a thread starts an operation: what it receives into was among the operands.
 -- So it is on the chain of the thread's frame, and lives as long as the thread waits (StopChains).
+use Rattle.core_state.specs.Messages.{message_in}
 use Rattle.std.proofs.Common.{◌≡◌, ℕ, ◌+◌, ◌<◌, List, [], ◌∷◌, ◌++◌, Some, refl, sym, ap, ◌∙◌, subst, inl, arith}
 use Rattle.std.specs.Prelude.{All, slice_get}
 use Rattle.std.proofs.lemmas.List.{append-nil}
@@ -7,7 +8,7 @@ use Rattle.std.proofs.lemmas.List.Elements.{All-push}
 use Rattle.work_item.specs.declared.ids.Item.{Item}
 use Rattle.work_item.specs.declared.ids.FrameId.{FrameId}
 use Rattle.work_item.specs.declared.cell.Cell.{Cell}
-use Rattle.work_item.specs.Store.{int_in, place_in}
+use Rattle.work_item.specs.Store.{place_in}
 use Rattle.cancel_scope.specs.declared.operation.Asked.{Asked}
 use Rattle.cancel_scope.specs.declared.operation.Asked.TheVariants as asked
 use Rattle.cancel_scope.specs.declared.operation.Operation.{Operation}
@@ -21,7 +22,7 @@ use Rattle.stack_code.specs.declared.shape.Shape.{Shape}
 use Rattle.stack_code.specs.declared.shape.Want.TheVariants as want
 use Rattle.stack_code.specs.declared.shape.Leads.{Leads}
 use Rattle.stack_code.specs.Parts.{Parts}
-use Rattle.stack_code.specs.Shapes.{effect, pushed, with_operands}
+use Rattle.stack_code.specs.Shapes.{effect, pushed, with_operands, width_of}
 use Rattle.stack_code.specs.Valid as valid
 use Rattle.stack_code.specs.Valid.{Reaches, IsValid}
 use Rattle.code_meaning.specs.Machine.{Thread, Flat, asks, begin, at, counted, operates, thread_at}
@@ -130,14 +131,14 @@ module _ (code : Parts) (bound : ℕ) (m : Flat) (v : IsValid code) (fit : IsFit
   pub send_chained : (channel : ℕ) (leads : Leads) → slice_get code.instrs place ≡ Some (i.Send channel) → effect code place (i.Send channel) s ≡ Some leads
       → Onward (AreChained code) (begin code bound m t (Some (i.Send channel)))
   send_chained channel leads here finds =
-      let z = operating code bound m fit t run want.Int (i.Send channel) channel leads here refl finds in
+      let z = operating code bound m fit t run (want.Message (width_of code channel)) (i.Send channel) channel leads here refl finds in
       let names = subst (AllName chained.origins top) z.is names_here in
-      top_on (AreChained code) m _ m.current.operands z.top z.on.below z.is (started_on (i.Send channel) z.on (λ e. cc) channel (asked.Send (int_in z.top)) tt names.1)
+      top_on (AreChained code) m _ m.current.operands z.top z.on.below z.is (started_on (i.Send channel) z.on (λ e. cc) channel (asked.Send (message_in m.store z.top)) tt names.1)
 
   pub receive_chained : (channel : ℕ) (leads : Leads) → slice_get code.instrs place ≡ Some (i.Recv channel) → effect code place (i.Recv channel) s ≡ Some leads
       → Onward (AreChained code) (begin code bound m t (Some (i.Recv channel)))
   receive_chained channel leads here finds =
-      let z = operating code bound m fit t run want.One (i.Recv channel) channel leads here refl finds in
+      let z = operating code bound m fit t run (want.Elements (width_of code channel)) (i.Recv channel) channel leads here refl finds in
       let names = subst (AllName chained.origins top) z.is names_here in
       top_on (AreChained code) m _ m.current.operands z.top z.on.below z.is
       (started_on (i.Recv channel) z.on (λ e. cc) channel (asked.Recv (place_in z.top)) (place_on chained.origins top z.top names.0) names.1)

@@ -1,6 +1,7 @@
 -- The code of a core that keeps its ends starts operations at the core's own ends alone, and each that has not ended is at one of them.
 -- By induction on the moves of a run: what is started is named by an instruction that the core reaches (EachAs), on a channel whose end it
 -- has or on its own link of requests; what comes in only changes or ends operations that are there.
+use Rattle.core_state.specs.Messages.{message_in}
 use Rattle.std.proofs.Common.{◌≡◌, ℕ, zero, suc, ◌<◌, List, [], ◌∷◌, ◌++◌, length, Option, Some, None, Bool, true, false, refl, sym, ◌∙◌, subst}
 use Rattle.std.specs.Prelude.{◌^◌, ◌-◌, ℤ, All, find, slice_get, slice_set, nat_eq, nat_lt, replicate, if◌then◌else◌}
 use Rattle.std.proofs.lemmas.List.Elements.{All-nil, All-push}
@@ -167,7 +168,7 @@ module _ (code : Parts) (keeps : KeepsEnds code) (core bound : ℕ) (lt : core <
   starts_at : (t : Item) (instr : Instr) → m.running ≡ Some t → slice_get code.instrs m.current.place ≡ Some instr → Onward Ended (begin code bound m t (Some instr))
   starts_at t (i.Send channel) run here =
       let own = keeps.sends core channel (reached_here t (i.Send channel) run here) in
-      topped _ m.current.operands (λ x below. starts t channel (asked.Send (int_in x)) below own)
+      topped _ m.current.operands (λ x below. starts t channel (asked.Send (message_in m.store x)) below own)
   starts_at t (i.Recv channel) run here =
       let own = keeps.receives core channel (reached_here t (i.Recv channel) run here) in
       topped _ m.current.operands (λ x below. starts t channel (asked.Recv (place_in x)) below own)

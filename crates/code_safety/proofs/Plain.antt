@@ -5,7 +5,6 @@
 use Rattle.std.proofs.Common.{◌≡◌, ℕ, zero, suc, ◌+◌, ◌≤◌, ◌<◌, ◌^◌, List, [], ◌∷◌, ◌++◌, length, take, drop, map, Option}
 use Rattle.std.proofs.Common.{Some, None, Result, Ok, Err, Bool, true, false, refl, sym, ap, ◌∙◌, subst, inl, inr, arith}
 use Rattle.std.specs.Prelude.{if◌then◌else◌, ℤ, pos, negsuc, slice_get, slice_index_or, nat_le, nat_lt, nat_eq, replicate, reverse, option_map}
-use Rattle.std.proofs.lemmas.Bool.{eqb-true}
 use Rattle.std.proofs.lemmas.Bool.Decides.{nat_tests}
 use Rattle.std.proofs.lemmas.List.{length-replicate}
 use Rattle.std.proofs.lemmas.Option.{slice_get-get_or}
@@ -165,6 +164,9 @@ in_frame births store f s level slot len body bodies e =
 
 -- ---- instructions
 
+some_is : (m n : ℕ) → Some m ≡ Some n → m ≡ n
+some_is m n e = cc
+
 module _ (code : Parts) (bound : ℕ) (m : Flat) (births : List Birth) (t : Item) (s : Shape) (single : HasOneUse code) (st : IsStore code births m.store)
     (fit : IsActivation code births m.store t m.current.place m.current.frame m.current.operands s.operands s) where
   abbrev store : Store
@@ -257,12 +259,12 @@ module _ (code : Parts) (bound : ℕ) (m : Flat) (births : List Birth) (t : Item
         go : (b : Bool) → is_array code body.home slot ≡ b → Uses code body.home slot (use_of (is_array code body.home slot)) →
             effect code place instr s ≡ pushes place (loaded (is_array code body.home slot)) s → IsSlot code births body.home slot (cell_at store m.current.frame level slot) →
             Goal (flat.goes m (cell_at store m.current.frame level slot ∷ ops))
-        go true t uses e holds = pushed_on (kind.Reference false) (cell_at store m.current.frame level slot) (e ∙ ap (λ b. pushes place (loaded b) s) t) (holds.array t)
+        go true t uses e holds = pushed_on (kind.Reference None) (cell_at store m.current.frame level slot) (e ∙ ap (λ b. pushes place (loaded b) s) t) (holds.array t)
         go false t uses e holds =
             let int : is_int (cell_at store m.current.frame level slot) ≡ true = holds.int (subst (λ b. Uses code body.home slot (use_of b)) t uses) in
             pushed_on kind.Int (cell_at store m.current.frame level slot) (e ∙ ap (λ b. pushes place (loaded b) s) t) (int_kind code births (cell_at store m.current.frame level slot) int)
 
-    array_on : (level slot len : ℕ) (body : Body) → instr ≡ i.Arr level slot len → effect code place instr s ≡ pushes place (kind.Reference (nat_eq len 1)) s
+    array_on : (level slot len : ℕ) (body : Body) → instr ≡ i.Arr level slot len → effect code place instr s ≡ pushes place (kind.Reference (Some len)) s
         → InFrame births store m.current.frame s level slot len body →
         Goal (flat.goes m (cell.Array (record { home = Some (above store m.current.frame level); start = slot; len = len }) ∷ ops))
     array_on level slot len body is e there =
@@ -278,8 +280,8 @@ module _ (code : Parts) (bound : ℕ) (m : Flat) (births : List Birth) (t : Item
         let free = (λ (x : ℕ) (lo : slot ≤ x) (hi : x < slot + len).
         let u : Uses code body.home x AsInt = valid.sets place s instr (record { level = level; slot = slot; len = len }) fit.reached here (ap ints_of is) there.home lo hi in
         subst (λ (h : Home). is_array code h x ≡ false) (sym up.home) (no_array code single body.home x AsInt u (λ n. cc))) in
-        pushed_on (kind.Reference (nat_eq len 1)) (cell.Array (record { home = Some (above store m.current.frame level); start = slot; len = len })) e
-        (record { short = short; ints = record { birth = up.birth; born = up.born; inside = inside; plain = free }; single = λ t. eqb-true len 1 t })
+        pushed_on (kind.Reference (Some len)) (cell.Array (record { home = Some (above store m.current.frame level); start = slot; len = len })) e
+        (record { short = short; ints = record { birth = up.birth; born = up.born; inside = inside; plain = free }; exact = λ n e. some_is len n e })
 
     -- a slot of a frame round the thread that the instruction sets
     sets_int : (level slot len : ℕ) (body : Body) (at : ℕ) (birth : Birth) (v : ℤ) → ints_of instr ≡ Some (record { level = level; slot = slot; len = len }) →
@@ -326,13 +328,14 @@ module _ (code : Parts) (bound : ℕ) (m : Flat) (births : List Birth) (t : Item
         (λ v _. put_on a.0 kind.Int (cell.Int v) p.below (same ∙ after_leads (want.Int ∷ want.Reference ∷ []) s a.0 (pushes place kind.Int) a.1.0)
         (none_wanted code births p.kinds a.0 p.below p.taken p.have) tt))
 
-    part_kind : (x : Cell) (index : ℕ) → HasKind code births (kind.Reference false) x → index < (place_in x).len → HasKind code births (kind.Reference true) (cell.Array (one_place (place_in x) index))
+    part_kind : (x : Cell) (index : ℕ) → HasKind code births (kind.Reference None) x → index < (place_in x).len → HasKind code births (kind.Reference (Some 1)) (cell.Array (one_place
+        (place_in x) index))
     part_kind (cell.Int v) index h lt = absurd h
     part_kind (cell.Block b) index h lt = absurd h
     part_kind (cell.Array place) index h lt =
         let all : place.start + place.len < 2 ^ 32 = h.short in
         let short : place.start + index + 1 < 2 ^ 32 = omega (arith, all, lt) in
-        record { short = short; ints = go place.home h.ints; single = λ t. refl }
+        record { short = short; ints = go place.home h.ints; exact = λ n e. some_is 1 n e }
       where
         go : (home : Option FrameId) → HoldsInts code births home place.start place.len → HoldsInts code births home (place.start + index) 1
         go None l = omega (arith, l, lt)
@@ -347,32 +350,32 @@ module _ (code : Parts) (bound : ℕ) (m : Flat) (births : List Birth) (t : Item
         go (Ok n) e = h n e
         go (Err trap) e = tt
 
-    place_on : (leads : Leads) → effect code place instr s ≡ after (want.Int ∷ want.Reference ∷ []) s (pushes place (kind.Reference true)) → effect code place instr s ≡ Some leads →
+    place_on : (leads : Leads) → effect code place instr s ≡ after (want.Int ∷ want.Reference ∷ []) s (pushes place (kind.Reference (Some 1))) → effect code place instr s ≡ Some leads →
         Goal (on_two m (λ x y below. or_trap m (part_at (place_in x) (int_in y)) (λ part. flat.goes m (cell.Array part ∷ below))) ops)
     place_on leads same e =
-        let a = after_is (want.Int ∷ want.Reference ∷ []) s (pushes place (kind.Reference true)) leads (sym same ∙ e) in
+        let a = after_is (want.Int ∷ want.Reference ∷ []) s (pushes place (kind.Reference (Some 1))) leads (sym same ∙ e) in
         let o = top_of code births want.Int (want.Reference ∷ []) s.operands a.0 ops a.1.0 fit.have in
         let p = top_of code births want.Reference [] o.kinds a.0 o.below o.taken o.have in
         let lies = (λ (index : ℕ) (w : within (place_in p.top) (int_in o.top) ≡ Ok index).
         part_kind p.top index p.wanted (below_len (place_in p.top) (int_in o.top) index w)) in
         two_on (Next code bound m births s instr) m _ ops o.top p.top p.below (o.is ∙ ap (λ l. o.top ∷ l) p.is)
         (part_on (place_in p.top) (int_in o.top) (λ part. flat.goes m (cell.Array part ∷ p.below))
-        (λ index w. put_on a.0 (kind.Reference true) (cell.Array (one_place (place_in p.top) index)) p.below
-        (same ∙ after_leads (want.Int ∷ want.Reference ∷ []) s a.0 (pushes place (kind.Reference true)) a.1.0) (none_wanted code births p.kinds a.0 p.below p.taken p.have) (lies index w)))
+        (λ index w. put_on a.0 (kind.Reference (Some 1)) (cell.Array (one_place (place_in p.top) index)) p.below
+        (same ∙ after_leads (want.Int ∷ want.Reference ∷ []) s a.0 (pushes place (kind.Reference (Some 1))) a.1.0) (none_wanted code births p.kinds a.0 p.below p.taken p.have) (lies index w)))
 
     -- what is set of an array leaves the sizes
-    array_in : (x : Cell) → HasKind code births (kind.Reference false) x → IsIntArray code births false (place_in x)
+    array_in : (x : Cell) → HasKind code births (kind.Reference None) x → IsIntArray code births None (place_in x)
     array_in (cell.Int v) h = absurd h
     array_in (cell.Array p) h = h
     array_in (cell.Block b) h = absurd h
 
-    set_elem_to : (at : Place) (index value : ℤ) (kept : Store) → IsIntArray code births false at → set_element store at index value ≡ Ok kept → KeepsStore code births store kept
+    set_elem_to : (at : Place) (index value : ℤ) (kept : Store) → IsIntArray code births None at → set_element store at index value ≡ Ok kept → KeepsStore code births store kept
     set_elem_to at index value kept a e = go (within at index) refl e
       where
         go : (r : Result ℕ Trap) → within at index ≡ r → bind r (λ i. Ok (with_int_at store at i value)) ≡ Ok kept → KeepsStore code births store kept
         go (Err trap) w e = absurd (cc)
         go (Ok i) w e = let is : with_int_at store at i value ≡ kept = cc in
-            subst (KeepsStore code births store) is (set_element_at code births store single st false at i value (below_len at index i w) a)
+            subst (KeepsStore code births store) is (set_element_at code births store single st None at i value (below_len at index i w) a)
 
     set_elem_on : (leads : Leads) → effect code place instr s ≡ after (want.Int ∷ want.Reference ∷ want.Int ∷ []) s (goes place) → effect code place instr s ≡ Some leads →
         Goal (on_three m (λ x y z below. or_trap m (set_element store (place_in y) (int_in z) (int_in x)) (λ h. flat.goes (with_store m h) below)) ops)
@@ -480,12 +483,12 @@ module _ (code : Parts) (bound : ℕ) (m : Flat) (births : List Birth) (t : Item
       let b = in_slots level slot len leads _ e in
       array_on (i.Arr level slot len) here (λ no. cc) level slot len b.0 refl b.1.1.0 b.1.0
   onward item (i.ArrG slot len) leads here e q =
-      let b = in_globals (nat_le (slot + len) code.globals) (pushes place (kind.Reference (nat_eq len 1)) s) leads e in
+      let b = in_globals (nat_le (slot + len) code.globals) (pushes place (kind.Reference (Some len)) s) leads e in
       let room : slot + len ≤ code.globals = let t = b.0 in grind (arith, nat_tests) in
       let few : code.globals < 2 ^ 32 = st.few in
       let short : slot + len < 2 ^ 32 = omega (arith, room, few) in
-      pushed_on (i.ArrG slot len) here (λ no. cc) (kind.Reference (nat_eq len 1)) (cell.Array (record { home = None; start = slot; len = len })) b.1.0
-      (record { short = short; ints = room; single = λ t. eqb-true len 1 t })
+      pushed_on (i.ArrG slot len) here (λ no. cc) (kind.Reference (Some len)) (cell.Array (record { home = None; start = slot; len = len })) b.1.0
+      (record { short = short; ints = room; exact = λ n e. some_is len n e })
   onward item i.Elem leads here e q = elem_on i.Elem here (λ no. cc) leads refl e
   onward item i.SetElem leads here e q = set_elem_on i.SetElem here (λ no. cc) leads refl e
   onward item i.Place leads here e q = place_on i.Place here (λ no. cc) leads refl e

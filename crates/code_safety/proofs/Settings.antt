@@ -234,7 +234,7 @@ set_int code births s one h (Some f) start len slot value le lt i = set_slot cod
     int_slot code one birth.home slot births value (subst (λ (b : Birth). is_array code b.home slot ≡ false) same free))
 
 -- an element of an array of ints
-pub set_element_at : (code : Parts) (births : List Birth) (s : Store) → HasOneUse code → IsStore code births s → (b : Bool) (place : Place) (index : ℕ) (value : ℤ) → index < place.len
+pub set_element_at : (code : Parts) (births : List Birth) (s : Store) → HasOneUse code → IsStore code births s → (b : Option ℕ) (place : Place) (index : ℕ) (value : ℤ) → index < place.len
     → IsIntArray code births b place
     → KeepsStore code births s (with_int_at s place index value)
 set_element_at code births s one h b place index value lt a = set_int code births s one h place.home place.start place.len (place.start + index) value (omega arith) (omega (arith, lt)) a.ints

@@ -1,7 +1,9 @@
 -- Operands of the kinds that an instruction asks for.
 -- Where `effect` finds something the wanted kinds lie on top; then the operands that have these kinds are as wanted, and those below have
 -- the kinds that are left.
-use Rattle.std.proofs.Common.{◌≡◌, ◌≤◌, List, [], ◌∷◌, length, drop, Option, Some, None, Bool, true, false, refl, ap, subst, arith}
+use Rattle.std.specs.Prelude.{nat_eq}
+use Rattle.std.proofs.lemmas.Bool.{eqb-true}
+use Rattle.std.proofs.Common.{◌≡◌, ◌≤◌, List, [], ◌∷◌, length, drop, Option, Some, None, Bool, true, false, refl, ap, subst, arith, ℕ}
 use Rattle.std.specs.Prelude.{if◌then◌else◌}
 use Rattle.work_item.specs.declared.cell.Cell.{Cell}
 use Rattle.work_item.specs.declared.cell.Cell.TheVariants as cell
@@ -12,7 +14,7 @@ use Rattle.stack_code.specs.declared.shape.Want.{Want}
 use Rattle.stack_code.specs.declared.shape.Want.TheVariants as want
 use Rattle.stack_code.specs.declared.shape.Leads.{Leads}
 use Rattle.stack_code.specs.Parts.{Parts}
-use Rattle.stack_code.specs.Shapes.{on_some, takes, taken, with_operands, after}
+use Rattle.stack_code.specs.Shapes.{on_some, takes, taken, with_operands, after, is_known}
 use Rattle.code_safety.specs.Fit.{Birth, is_int, HasKind, HaveKinds}
 
 -- ---- what is there where something was found
@@ -40,16 +42,36 @@ after_leads wants s kinds go e = ap (λ o. on_some o (λ kinds. go (with_operand
 -- ---- operands
 
 module _ (code : Parts) (births : List Birth) where
+  -- an int, or a reference to as many elements
+  abbrev pub IsMessage : ℕ → Cell → Type 0
+  IsMessage count (cell.Int value) = count ≡ 1
+  IsMessage count x = HasKind code births (kind.Reference (Some count)) x
+
   abbrev pub IsWanted : Want → Cell → Type 0
   IsWanted want.Int x = is_int x ≡ true
-  IsWanted want.Reference x = HasKind code births (kind.Reference false) x
-  IsWanted want.One x = HasKind code births (kind.Reference true) x
+  IsWanted want.Reference x = HasKind code births (kind.Reference None) x
+  IsWanted (want.Elements count) x = HasKind code births (kind.Reference (Some count)) x
+  IsWanted (want.Message count) x = IsMessage count x
   IsWanted want.Any x = Unit {0}
 
-  reference_is : (one : Bool) (x : Cell) → HasKind code births (kind.Reference one) x → HasKind code births (kind.Reference false) x
-  reference_is one (cell.Int v) h = absurd h
-  reference_is one (cell.Array place) h = record { short = h.short; ints = h.ints; single = λ e. let no : false ≡ true = e in absurd (cc) }
-  reference_is one (cell.Block b) h = absurd h
+  reference_is : (len : Option ℕ) (x : Cell) → HasKind code births (kind.Reference len) x → HasKind code births (kind.Reference None) x
+  reference_is len (cell.Int v) h = absurd h
+  reference_is len (cell.Array place) h = record { short = h.short; ints = h.ints; exact = λ n e. let no : None ≡ Some n = e in absurd (cc) }
+  reference_is len (cell.Block b) h = absurd h
+
+  elements_are : (count : ℕ) (len : Option ℕ) (x : Cell) → is_known count len ≡ true → HasKind code births (kind.Reference len) x → HasKind code births (kind.Reference (Some count)) x
+  elements_are count None x t h = let no : false ≡ true = t in cc
+  elements_are count (Some n) x t h = subst (λ k. HasKind code births (kind.Reference (Some k)) x) (eqb-true n count t) h
+
+  message_is : (count : ℕ) (x : Cell) → HasKind code births (kind.Reference (Some count)) x → IsMessage count x
+  message_is count (cell.Int v) h = absurd h
+  message_is count (cell.Array place) h = h
+  message_is count (cell.Block b) h = absurd h
+
+  int_message : (count : ℕ) (x : Cell) → nat_eq count 1 ≡ true → HasKind code births kind.Int x → IsMessage count x
+  int_message count (cell.Int v) t h = eqb-true count 1 t
+  int_message count (cell.Array place) t h = absurd h
+  int_message count (cell.Block b) t h = absurd h
 
   int_is : (x : Cell) → HasKind code births kind.Int x → is_int x ≡ true
   int_is (cell.Int v) h = refl
@@ -58,11 +80,13 @@ module _ (code : Parts) (births : List Birth) where
 
   wanted_is : (w : Want) (k : CellKind) (x : Cell) → takes w k ≡ true → HasKind code births k x → IsWanted w x
   wanted_is want.Int kind.Int x t h = int_is x h
-  wanted_is want.Int (kind.Reference one) x t h = let no : false ≡ true = t in cc
+  wanted_is want.Int (kind.Reference len) x t h = let no : false ≡ true = t in cc
   wanted_is want.Reference kind.Int x t h = let no : false ≡ true = t in cc
-  wanted_is want.Reference (kind.Reference one) x t h = reference_is one x h
-  wanted_is want.One kind.Int x t h = let no : false ≡ true = t in cc
-  wanted_is want.One (kind.Reference one) x t h = subst (λ b. HasKind code births (kind.Reference b) x) t h
+  wanted_is want.Reference (kind.Reference len) x t h = reference_is len x h
+  wanted_is (want.Elements count) kind.Int x t h = let no : false ≡ true = t in cc
+  wanted_is (want.Elements count) (kind.Reference len) x t h = elements_are count len x t h
+  wanted_is (want.Message count) kind.Int x t h = int_message count x t h
+  wanted_is (want.Message count) (kind.Reference len) x t h = message_is count x (elements_are count len x t h)
   wanted_is want.Any k x t h = tt
 
   -- the topmost operand is as wanted, and those below it have the kinds that are left

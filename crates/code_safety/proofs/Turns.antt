@@ -100,7 +100,7 @@ module _ (code : Parts) (m : Flat) (fit : IsFit code m) (t : Item) (run : m.runn
       (block : (b : BlockId) (x : Block) → block_at blocks b ≡ Some x → IsBlock lives blocks b x)
       (first : is_living (life_at lives (record { number = 0 })).phase ≡ true) (free : (life_at lives (record { number = 0 })).start ≡ None)
       (listed : (u : ℕ) → occurs u ready + occurs u (items_of operations) ≡ one_if (is_going (life_at lives (record { number = u })).phase))
-      (asks : All (λ (o : Operation). IsAsked code births o.asked) operations) (many : length lives ≡ length fit.lives)
+      (asks : All (λ (o : Operation). IsAsked code births o.link o.asked) operations) (many : length lives ≡ length fit.lives)
       (own : is_living (life_at lives t).phase ≡ true → going_on operations t kept ≡ (life_at lives t).thread)
       (aside : (u : Item) (h : Thread) → (t ≡ u → ⊥) → going_on operations u h ≡ going_on m.operations u h)
       (others : (u : Item) → (t ≡ u → ⊥) → is_living (life_at lives u).phase ≡ true → (is_living (life_at fit.lives u).phase ≡ true) × ((life_at fit.lives u).thread ≡ (life_at lives u).thread)) where
@@ -176,7 +176,7 @@ module _ (code : Parts) (m : Flat) (fit : IsFit code m) (t : Item) (run : m.runn
     | inr p ↦ subst (λ l. IsAlive code fit.births m.store m.blocks u l) (sym p.1) (fit.alive u (sym (ap is_living (phase_same u)) ∙ e))
   ]
 
-  pub rests_fit : (kept : Thread) (ready : List Item) (operations : List Operation) → All (λ (o : Operation). IsAsked code fit.births o.asked) operations →
+  pub rests_fit : (kept : Thread) (ready : List Item) (operations : List Operation) → All (λ (o : Operation). IsAsked code fit.births o.link o.asked) operations →
       ((u : ℕ) → occurs u ready + occurs u (items_of operations) ≡ one_at u t + resting m u) → going_on operations t kept ≡ later →
       ((u : Item) (h : Thread) → (t ≡ u → ⊥) → going_on operations u h ≡ going_on m.operations u h) →
       IsFit code (record (stops m t kept ready m.blocks) { operations = operations })

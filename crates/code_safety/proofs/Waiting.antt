@@ -116,6 +116,6 @@ module _ (t : Item) (h : Thread) where
 
 -- ---- where they put what they receive or read
 
-pub asks_grown : (code : Parts) (old new : List Birth) → Grown old new → (os : List Operation) → All (λ (o : Operation). IsAsked code old o.asked) os
-    → All (λ (o : Operation). IsAsked code new o.asked) os
-asks_grown code old new grown os h k d lt = asked_grown code old new grown _ (h k d lt)
+pub asks_grown : (code : Parts) (old new : List Birth) → Grown old new → (os : List Operation) → All (λ (o : Operation). IsAsked code old o.link o.asked) os
+    → All (λ (o : Operation). IsAsked code new o.link o.asked) os
+asks_grown code old new grown os h k d lt = asked_grown code old new grown _ _ (h k d lt)

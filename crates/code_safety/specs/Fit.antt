@@ -20,7 +20,7 @@ use Rattle.stack_code.specs.declared.shape.Body.{Body}
 use Rattle.stack_code.specs.declared.shape.OpenBlock.{OpenBlock}
 use Rattle.stack_code.specs.declared.shape.Shape.{Shape}
 use Rattle.stack_code.specs.Parts.{Parts}
-use Rattle.stack_code.specs.Shapes.{is_array}
+use Rattle.stack_code.specs.Shapes.{is_array, width_of}
 use Rattle.stack_code.specs.Valid.{Reaches, Uses, AsInt}
 use Rattle.code_meaning.specs.Machine.{Caller, Thread, Block, Flat, nobody, thread_at, block_at, given}
 
@@ -51,16 +51,16 @@ abbrev pub HoldsInts : Parts → List Birth → Option FrameId → ℕ → ℕ �
 HoldsInts code births None start len = start + len ≤ code.globals
 HoldsInts code births (Some f) start len = AreInts code births f start len
 
--- an array of ints, of one int alone where that is asked
-pub record IsIntArray (code : Parts) (births : List Birth) (one : Bool) (place : Place) : Type 0 where
+-- an array of ints, of so many where its length is known
+pub record IsIntArray (code : Parts) (births : List Birth) (known : Option ℕ) (place : Place) : Type 0 where
   pub short : place.start + place.len < 2 ^ 32
   pub ints : HoldsInts code births place.home place.start place.len
-  pub single : one ≡ true → place.len ≡ 1
+  pub exact : (len : ℕ) → known ≡ Some len → place.len ≡ len
 
 -- an operand of that kind
 abbrev pub HasKind : Parts → List Birth → CellKind → Cell → Type 0
 HasKind code births kind.Int (cell.Int value) = Unit {0}
-HasKind code births (kind.Reference one) (cell.Array place) = IsIntArray code births one place
+HasKind code births (kind.Reference len) (cell.Array place) = IsIntArray code births len place
 HasKind code births _ _ = ⊥
 
 abbrev pub HaveKinds : Parts → List Birth → List CellKind → List Cell → Type 0
@@ -70,7 +70,7 @@ HaveKinds code births _ _ = ⊥
 
 -- what a slot holds of which the code has that use
 pub record IsSlot (code : Parts) (births : List Birth) (home : Home) (slot : ℕ) (x : Cell) : Type 0 where
-  pub array : is_array code home slot ≡ true → HasKind code births (kind.Reference false) x
+  pub array : is_array code home slot ≡ true → HasKind code births (kind.Reference None) x
   pub int : Uses code home slot AsInt → is_int x ≡ true
 
 abbrev pub AreSlots : Parts → List Birth → Home → List Cell → Type 0
@@ -280,12 +280,13 @@ abbrev pub going_on : List Operation → Item → Thread → Thread
 going_on [] t h = h
 going_on (o ∷ os) t h = if nat_eq t.number o.item.number then given no_int h else going_on os t h
 
--- a message is received into one int, and what is read comes into an array of ints
-abbrev pub IsAsked : Parts → List Birth → Asked → Type 0
-IsAsked code births (asked.Send value) = Unit {0}
-IsAsked code births (asked.Recv place) = IsIntArray code births true place
-IsAsked code births (asked.Read file from into) = IsIntArray code births false into
-IsAsked code births (asked.Write file from bytes) = Unit {0}
+-- a message that is sent on a channel has as many ints as its width, one is received into as many, and what is read comes into an array
+-- of ints
+abbrev pub IsAsked : Parts → List Birth → ℕ → Asked → Type 0
+IsAsked code births link (asked.Send message) = length message ≡ width_of code link
+IsAsked code births link (asked.Recv place) = IsIntArray code births (Some (width_of code link)) place
+IsAsked code births link (asked.Read file from into) = IsIntArray code births None into
+IsAsked code births link (asked.Write file from bytes) = Unit {0}
 
 -- ---- all of it
 
@@ -301,7 +302,7 @@ pub record IsFit (code : Parts) (m : Flat) : Type 0 where
   -- just the threads that go run, are ready or wait for the end of an operation, each once
   pub listed : (u : ℕ) → runs u m.running + (occurs u m.ready + occurs u (items_of m.operations))
       ≡ one_if (is_going (life_at lives (record { number = u })).phase)
-  pub asks : All (λ (o : Operation). IsAsked code births o.asked) m.operations
+  pub asks : All (λ (o : Operation). IsAsked code births o.link o.asked) m.operations
   pub many : length lives ≡ length m.threads
   pub current : (t : Item) → m.running ≡ Some t → m.current ≡ (life_at lives t).thread
   pub parked : (t : Item) → is_living (life_at lives t).phase ≡ true → (m.running ≡ Some t → ⊥)

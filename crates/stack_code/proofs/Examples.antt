@@ -17,12 +17,12 @@ use Rattle.stack_code.specs.declared.shape.Shape.{Shape}
 use Rattle.stack_code.specs.declared.shape.Leads.{Leads}
 use Rattle.stack_code.specs.declared.shape.Leads.TheVariants.{Stop, One, Two}
 use Rattle.stack_code.specs.Parts.{Parts, Begins}
-use Rattle.stack_code.specs.Shapes.{first, effect, LeadsTo, params_of, can_end, can_return, directives, directives_in, channels_of, pushes, branches, transfers}
+use Rattle.stack_code.specs.Shapes.{first, effect, LeadsTo, params_of, can_end, can_return, directives, directives_in, channels_of, width_of, pushes, branches, transfers}
 use Rattle.stack_code.specs.Shapes.{inner, is_entered, one_int, two_ints, is_array, calls, finished, taken, arguments}
-use Rattle.stack_code.specs.Shapes.{on_some, takes, with_operands, pushed, is_int_alone, params_in, loaded, want_of, body_with, is_block, finished_in, has_own, can_start}
+use Rattle.stack_code.specs.Shapes.{on_some, is_known, takes, with_operands, pushed, is_int_alone, params_in, loaded, want_of, body_with, is_block, finished_in, has_own, can_start}
 use Rattle.stack_code.specs.Valid.{IsValid, Fits, Goes, Reaches, begins, goes, IsShaped, Quiet, QuietWay, one, more, TakesSteps, home_at}
 use Rattle.stack_code.specs.Valid.{Use, AsInt, AsReference, AsBlock, use_of, ints_of, Uses, param, loads, sets, enters, HasOneUse}
-use Rattle.stack_code.specs.Valid.{IsEntry, HasCores, IsCapacity, IsChannel, HasLinks, IsStart, HasStarts, HasRoom, HasLists}
+use Rattle.stack_code.specs.Valid.{IsEntry, HasCores, IsCapacity, IsWidth, IsChannel, HasLinks, IsStart, HasStarts, HasRoom, HasLists}
 use Rattle.stack_code.specs.Kept.{Has, IsTable, IsRanked, IsKept}
 use Rattle.stack_code.specs.declared.shape.Want.TheVariants as want
 
@@ -41,6 +41,7 @@ code_of words instrs = record {
   capacities = 16 ∷ [];
   ends = [];
   starts = record { slot = 1; value = pos 5 } ∷ [];
+  widths = [];
 }
 
 -- the core enters its one function
@@ -424,7 +425,15 @@ pub its_cores : HasCores small
 its_cores = record { some = omega arith; few = omega arith; named = refl; enters = All-from_recursion (IsEntry small) (0 ∷ []) (record { function = entered 1; is = refl; plain = refl }, tt) }
 
 pub its_links : HasLinks small
-its_links = record { few = omega arith; each = refl; capacities = All-from_recursion IsCapacity (16 ∷ []) ((omega arith, omega arith), tt); channels = All-from_recursion (IsChannel small) [] tt }
+its_links = record {
+  few = omega arith;
+  each = refl;
+  capacities = All-from_recursion IsCapacity (16 ∷ []) ((omega arith, omega arith), tt);
+  channels = All-from_recursion
+      (IsChannel small) [] tt;
+  wide = refl;
+  widths = All-from_recursion IsWidth [] tt;
+}
 
 pub its_starts : HasStarts small
 its_starts = record { rising = λ k lt. absurd (omega (arith, lt)); starts = All-from_recursion (IsStart small) (start 1 (pos 5) ∷ []) ((omega arith, λ e. cc), tt) }
@@ -499,20 +508,32 @@ not_these_shapes h = let e = h.tabled.has 0 (holding []) reach_push in cc
 pub what_is_there_goes_on : (on_some (Some 4) (λ (n : ℕ). Some (n + 1)) ≡ Some 5) × (on_some None (λ (n : ℕ). Some (n + 1)) ≡ None)
 what_is_there_goes_on = (refl, refl)
 
--- `One` is a reference to an array of one element
-pub wanted_operands : takes want.Int kind.Int ∷ takes want.Int (kind.Reference true) ∷ takes want.Reference kind.Int ∷ takes want.One (kind.Reference true) ∷ takes want.One (kind.Reference false) ∷ []
-    ≡ true ∷ false ∷ false ∷ true ∷ false ∷ []
+pub wanted_operands : takes want.Int kind.Int ∷ takes want.Int (kind.Reference (Some 1)) ∷ takes want.Reference kind.Int ∷ takes want.Reference (kind.Reference None) ∷ []
+    ≡ true ∷ false ∷ false ∷ true ∷ []
 wanted_operands = refl
 
-pub operands_of_a_shape : (with_operands (shape []) (kind.Int ∷ []) ≡ shape (kind.Int ∷ [])) × (pushed kind.Int (shape (kind.Reference true ∷ [])) ≡ shape (kind.Int ∷ kind.Reference true ∷ []))
+pub as_many_elements : takes (want.Elements 2) (kind.Reference (Some 2)) ∷ takes (want.Elements 2) (kind.Reference (Some 1)) ∷ takes (want.Elements 2) (kind.Reference None)
+    ∷ takes (want.Elements 1) kind.Int ∷ [] ≡ true ∷ false ∷ false ∷ false ∷ []
+as_many_elements = refl
+
+-- a message of one int is an int or a reference to one element
+pub a_message_of_its_width : takes (want.Message 1) kind.Int ∷ takes (want.Message 1) (kind.Reference (Some 1)) ∷ takes (want.Message 2) kind.Int ∷ takes (want.Message 2) (kind.Reference (Some 2))
+    ∷ takes (want.Message 2) (kind.Reference None) ∷ [] ≡ true ∷ true ∷ false ∷ true ∷ false ∷ []
+a_message_of_its_width = refl
+
+pub a_known_length : is_known 2 (Some 2) ∷ is_known 2 (Some 3) ∷ is_known 2 None ∷ [] ≡ true ∷ false ∷ false ∷ []
+a_known_length = refl
+
+pub operands_of_a_shape : (with_operands (shape []) (kind.Int ∷ []) ≡ shape (kind.Int ∷ [])) × (pushed kind.Int (shape (kind.Reference (Some 1) ∷ [])) ≡ shape (kind.Int ∷ kind.Reference
+    (Some 1) ∷ []))
 operands_of_a_shape = (refl, refl)
 
-pub one_int_and_no_more : is_int_alone (kind.Int ∷ []) ∷ is_int_alone [] ∷ is_int_alone (kind.Int ∷ kind.Int ∷ []) ∷ is_int_alone (kind.Reference true ∷ []) ∷ []
+pub one_int_and_no_more : is_int_alone (kind.Int ∷ []) ∷ is_int_alone [] ∷ is_int_alone (kind.Int ∷ kind.Int ∷ []) ∷ is_int_alone (kind.Reference (Some 1) ∷ []) ∷ []
     ≡ true ∷ false ∷ false ∷ false ∷ []
 one_int_and_no_more = refl
 
 pub parameters_and_their_kinds : (params_in (Some (record (entered 1) { params = true ∷ [] })) ≡ true ∷ []) × (params_in None ≡ [])
-    × (loaded true ∷ loaded false ∷ [] ≡ kind.Reference false ∷ kind.Int ∷ []) × (want_of true ∷ want_of false ∷ [] ≡ want.Reference ∷ want.Int ∷ [])
+    × (loaded true ∷ loaded false ∷ [] ≡ kind.Reference None ∷ kind.Int ∷ []) × (want_of true ∷ want_of false ∷ [] ≡ want.Reference ∷ want.Int ∷ [])
 parameters_and_their_kinds = (refl, refl, refl, refl)
 
 -- a frame of two slots
@@ -552,6 +573,20 @@ no_return_from_a_thread = refl
 pub counts_of_directives : directives_in (codes "%d%%d%c") ∷ directives true (codes "d%c") ∷ directives false (codes "d%c") ∷ [] ≡ 2 ∷ 2 ∷ 1 ∷ []
 counts_of_directives = refl
 
+pub the_width_of_a_channel : width_of (record (code_of 0 []) { widths = 3 ∷ 1 ∷ [] }) 0 ∷ width_of (record (code_of 0 []) { widths = 3 ∷ 1 ∷ [] }) 1 ∷ width_of (code_of 0 []) 0 ∷ [] ≡ 3 ∷ 1 ∷ 0 ∷ []
+the_width_of_a_channel = refl
+
+pub widths_from_one_to_sixteen : IsWidth 1 × IsWidth 16 × (IsWidth 0 → ⊥) × (IsWidth 17 → ⊥)
+widths_from_one_to_sixteen = ((omega arith, omega arith), (omega arith, omega arith), λ h. absurd (omega (arith, h.0)), λ h. absurd (omega (arith, h.1)))
+
+-- a channel from core 0 to core 1 that carries messages of two ints
+abbrev pub with_pairs : Parts
+with_pairs = record (code_of 0 []) { capacities = 16 ∷ 4 ∷ 4 ∷ []; entries = 0 ∷ 0 ∷ []; widths = 2 ∷ [] }
+
+pub a_pair_is_sent : (effect with_pairs 4 (i.Send 0) (shape (kind.Reference (Some 2) ∷ [])) ≡ Some (One 5 (shape (kind.Int ∷ [])))) × (effect with_pairs 4 (i.Send 0) (shape (kind.Int ∷ [])) ≡ None)
+    × (effect with_pairs 4 (i.Recv 0) (shape (kind.Reference (Some 2) ∷ [])) ≡ Some (One 5 (shape (kind.Int ∷ [])))) × (effect with_pairs 4 (i.Recv 0) (shape (kind.Reference (Some 1) ∷ [])) ≡ None)
+a_pair_is_sent = (refl, refl, refl, refl)
+
 -- the other links are those of the cores
 pub one_channel : channels_of (record (code_of 0 []) { capacities = 16 ∷ 4 ∷ [] }) ∷ channels_of (code_of 0 []) ∷ [] ≡ 1 ∷ 0 ∷ []
 one_channel = refl
@@ -561,13 +596,13 @@ pub where_effects_lead : (pushes 4 kind.Int (shape []) ≡ Some (One 5 (shape (k
 where_effects_lead = (refl, refl, refl)
 
 -- files are numbered 0 to 15; the array is on top
-pub transfers_to_files : (transfers 4 15 (shape (kind.Reference false ∷ kind.Int ∷ kind.Int ∷ [])) ≡ Some (One 5 (shape (kind.Int ∷ []))))
-    × (transfers 4 16 (shape (kind.Reference false ∷ kind.Int ∷ kind.Int ∷ [])) ≡ None)
+pub transfers_to_files : (transfers 4 15 (shape (kind.Reference None ∷ kind.Int ∷ kind.Int ∷ [])) ≡ Some (One 5 (shape (kind.Int ∷ []))))
+    × (transfers 4 16 (shape (kind.Reference None ∷ kind.Int ∷ kind.Int ∷ [])) ≡ None)
 transfers_to_files = (refl, refl)
 
 -- ---- the wholes of these
 
-pub operands_are_taken : (taken (want.Int ∷ []) (kind.Int ∷ kind.Reference true ∷ []) ≡ Some (kind.Reference true ∷ [])) × (taken (want.Int ∷ []) [] ≡ None)
+pub operands_are_taken : (taken (want.Int ∷ []) (kind.Int ∷ kind.Reference (Some 1) ∷ []) ≡ Some (kind.Reference (Some 1) ∷ [])) × (taken (want.Int ∷ []) [] ≡ None)
     × (one_int 4 (shape (kind.Int ∷ [])) ≡ Some (One 5 (shape (kind.Int ∷ [])))) × (two_ints 4 (shape (kind.Int ∷ [])) ≡ None)
 operands_are_taken = (refl, refl, refl, refl)
 

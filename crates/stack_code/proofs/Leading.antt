@@ -16,7 +16,7 @@ use Rattle.stack_code.specs.declared.shape.Shape.{Shape}
 use Rattle.stack_code.specs.declared.shape.Leads.{Leads}
 use Rattle.stack_code.specs.declared.shape.Leads.TheVariants.{Stop, One, Two}
 use Rattle.stack_code.specs.Parts.{Parts}
-use Rattle.stack_code.specs.Shapes.{on_some, body_with, loaded, is_array, arguments, is_entered, entered, can_start, can_end, can_return, directives_in, channels_of}
+use Rattle.stack_code.specs.Shapes.{on_some, body_with, loaded, is_array, arguments, is_entered, entered, can_start, can_end, can_return, directives_in, channels_of, width_of}
 use Rattle.stack_code.specs.Shapes.{taken, with_operands, pushed, after, first, inner, is_block, finished, finished_in, goes, pushes, one_int, two_ints, branches, calls, transfers, effect, LeadsTo}
 
 -- with other operands, with one block more, without the innermost block, and at the first address of a function
@@ -120,11 +120,11 @@ module _ (code : Parts) (at : ℕ) (s : Shape) (Holds : Shape → Type 0) (aroun
   leading (i.LoadG slot) deeper = by_if (nat_lt slot code.globals) _ (by_pushes kind.Int)
   leading (i.Store level slot) deeper = by_some (body_with s level slot 1) _ (λ body r. by_take (want.Int ∷ []))
   leading (i.StoreG slot) deeper = by_if (nat_lt slot code.globals) _ (by_take (want.Int ∷ []))
-  leading (i.Arr level slot len) deeper = by_some (body_with s level slot len) _ (λ body r. by_pushes (kind.Reference (nat_eq len 1)))
-  leading (i.ArrG slot len) deeper = by_if (nat_le (slot + len) code.globals) _ (by_pushes (kind.Reference (nat_eq len 1)))
+  leading (i.Arr level slot len) deeper = by_some (body_with s level slot len) _ (λ body r. by_pushes (kind.Reference (Some len)))
+  leading (i.ArrG slot len) deeper = by_if (nat_le (slot + len) code.globals) _ (by_pushes (kind.Reference (Some len)))
   leading i.Elem deeper = by_make (want.Int ∷ want.Reference ∷ []) kind.Int
   leading i.SetElem deeper = by_take (want.Int ∷ want.Reference ∷ want.Int ∷ [])
-  leading i.Place deeper = by_make (want.Int ∷ want.Reference ∷ []) (kind.Reference true)
+  leading i.Place deeper = by_make (want.Int ∷ want.Reference ∷ []) (kind.Reference (Some 1))
   leading (i.Clear slot len) deeper = by_some (body_with s 0 slot len) _ (λ body r. by_goes)
   leading i.Neg deeper = by_one_int
   leading i.Not deeper = by_one_int
@@ -160,7 +160,7 @@ module _ (code : Parts) (at : ℕ) (s : Shape) (Holds : Shape → Type 0) (aroun
   leading i.End deeper = by_stop (can_end s)
   leading (i.Cancel level slot) deeper = by_some (slice_get s.bodies level) _ (λ body r. by_if (is_entered s level slot) _ by_goes)
   leading i.Yield deeper = by_goes
-  leading (i.Send channel) deeper = by_if (nat_lt channel (channels_of code)) _ by_one_int
-  leading (i.Recv channel) deeper = by_if (nat_lt channel (channels_of code)) _ (by_make (want.One ∷ []) kind.Int)
+  leading (i.Send channel) deeper = by_if (nat_lt channel (channels_of code)) _ (by_make (want.Message (width_of code channel) ∷ []) kind.Int)
+  leading (i.Recv channel) deeper = by_if (nat_lt channel (channels_of code)) _ (by_make (want.Elements (width_of code channel) ∷ []) kind.Int)
   leading (i.Read file) deeper = by_transfers file
   leading (i.Write file) deeper = by_transfers file

@@ -20,6 +20,8 @@ pub record Parts : Type 0 where
   pub ends : List ChannelEnds
   -- the globals that start with something else than 0
   pub starts : List Start
+  -- how many ints a message of each channel has
+  pub widths : List ℕ
 
 -- a core begins with this function
 pub record Begins (code : Parts) (core : ℕ) (function : Entered) : Type 0 where

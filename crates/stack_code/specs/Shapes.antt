@@ -1,6 +1,6 @@
 -- What each instruction does to the shape of its address.
 use Rattle.std.specs.Prelude.{◌≡◌, ◌⊎◌, ℕ, ◌+◌, ◌-◌, List, [], ◌∷◌, length, map, replicate, reverse, Option, Some, None, Bool}
-use Rattle.std.specs.Prelude.{true, false, not, ◌&&◌, ◌||◌, nat_eq, nat_le, nat_lt, slice_get, unwrap_or, if◌then◌else◌}
+use Rattle.std.specs.Prelude.{true, false, not, ◌&&◌, ◌||◌, nat_eq, nat_le, nat_lt, slice_get, slice_index, unwrap_or, if◌then◌else◌}
 use Rattle.std.specs.List.{list_any}
 use Rattle.stack_code.specs.declared.instr.Instr.{Instr}
 use Rattle.stack_code.specs.declared.instr.Instr.TheVariants as i
@@ -24,15 +24,22 @@ on_some (Some x) go = go x
 
 -- ---- operands
 
+-- a length that is known to be this one
+abbrev pub is_known : ℕ → Option ℕ → Bool
+is_known count None = false
+is_known count (Some len) = nat_eq len count
+
 abbrev pub takes : Want → CellKind → Bool
 takes want.Int kind.Int = true
-takes want.Int (kind.Reference one) = false
+takes want.Int (kind.Reference len) = false
 takes want.Reference kind.Int = false
-takes want.Reference (kind.Reference one) = true
-takes want.One kind.Int = false
-takes want.One (kind.Reference one) = one
+takes want.Reference (kind.Reference len) = true
+takes (want.Elements count) kind.Int = false
+takes (want.Elements count) (kind.Reference len) = is_known count len
+takes (want.Message count) kind.Int = nat_eq count 1
+takes (want.Message count) (kind.Reference len) = is_known count len
 takes want.Any kind.Int = true
-takes want.Any (kind.Reference one) = true
+takes want.Any (kind.Reference len) = true
 
 -- the kinds that are left below the wanted operands, of which the topmost is the first
 abbrev pub taken : List Want → List CellKind → Option (List CellKind)
@@ -71,7 +78,7 @@ is_array code home slot = unwrap_or (slice_get (params_of code home) slot) false
 
 -- what is loaded from a slot
 abbrev pub loaded : Bool → CellKind
-loaded true = kind.Reference false
+loaded true = kind.Reference None
 loaded false = kind.Int
 
 abbrev pub want_of : Bool → Want
@@ -155,6 +162,10 @@ directives_in text = directives false text
 abbrev pub channels_of : Parts → ℕ
 channels_of code = length code.capacities - length code.entries
 
+-- how many ints a message of the channel has
+abbrev pub width_of : Parts → ℕ → ℕ
+width_of code channel = slice_index code.widths channel
+
 abbrev pub goes : ℕ → Shape → Option Leads
 goes at s = Some (One (at + 1) s)
 
@@ -190,11 +201,11 @@ effect code at (i.Load level slot) s = on_some (body_with s level slot 1) (λ bo
 effect code at (i.LoadG slot) s = if nat_lt slot code.globals then pushes at kind.Int s else None
 effect code at (i.Store level slot) s = on_some (body_with s level slot 1) (λ body. after (want.Int ∷ []) s (goes at))
 effect code at (i.StoreG slot) s = if nat_lt slot code.globals then after (want.Int ∷ []) s (goes at) else None
-effect code at (i.Arr level slot len) s = on_some (body_with s level slot len) (λ body. pushes at (kind.Reference (nat_eq len 1)) s)
-effect code at (i.ArrG slot len) s = if nat_le (slot + len) code.globals then pushes at (kind.Reference (nat_eq len 1)) s else None
+effect code at (i.Arr level slot len) s = on_some (body_with s level slot len) (λ body. pushes at (kind.Reference (Some len)) s)
+effect code at (i.ArrG slot len) s = if nat_le (slot + len) code.globals then pushes at (kind.Reference (Some len)) s else None
 effect code at i.Elem s = after (want.Int ∷ want.Reference ∷ []) s (pushes at kind.Int)
 effect code at i.SetElem s = after (want.Int ∷ want.Reference ∷ want.Int ∷ []) s (goes at)
-effect code at i.Place s = after (want.Int ∷ want.Reference ∷ []) s (pushes at (kind.Reference true))
+effect code at i.Place s = after (want.Int ∷ want.Reference ∷ []) s (pushes at (kind.Reference (Some 1)))
 effect code at (i.Clear slot len) s = on_some (body_with s 0 slot len) (λ body. goes at s)
 effect code at i.Neg s = one_int at s
 effect code at i.Not s = one_int at s
@@ -231,8 +242,10 @@ effect code at (i.Async slots to) s = if can_start s then Some (Two (at + 1) (in
 effect code at i.End s = if can_end s then Some Stop else None
 effect code at (i.Cancel level slot) s = on_some (slice_get s.bodies level) (λ body. if is_entered s level slot then goes at s else None)
 effect code at i.Yield s = goes at s
-effect code at (i.Send channel) s = if nat_lt channel (channels_of code) then one_int at s else None
-effect code at (i.Recv channel) s = if nat_lt channel (channels_of code) then after (want.One ∷ []) s (pushes at kind.Int) else None
+effect code at (i.Send channel) s =
+    if nat_lt channel (channels_of code) then after (want.Message (width_of code channel) ∷ []) s (pushes at kind.Int) else None
+effect code at (i.Recv channel) s =
+    if nat_lt channel (channels_of code) then after (want.Elements (width_of code channel) ∷ []) s (pushes at kind.Int) else None
 effect code at (i.Read file) s = transfers at file s
 effect code at (i.Write file) s = transfers at file s
 

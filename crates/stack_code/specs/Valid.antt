@@ -117,6 +117,10 @@ pub record HasCores (code : Parts) : Type 0 where
 abbrev pub IsCapacity : ℕ → Type 0
 IsCapacity capacity = (1 ≤ capacity) × (capacity ≤ 64)
 
+-- the width of a channel
+abbrev pub IsWidth : ℕ → Type 0
+IsWidth width = (1 ≤ width) × (width ≤ 16)
+
 -- two cores
 abbrev pub IsChannel : Parts → ChannelEnds → Type 0
 IsChannel code ends = (ends.from < length code.entries) × (ends.to < length code.entries) × (ends.from ≢ ends.to)
@@ -127,6 +131,8 @@ pub record HasLinks (code : Parts) : Type 0 where
   pub each : length code.capacities ≡ length code.ends + length code.entries
   pub capacities : All IsCapacity code.capacities
   pub channels : All (IsChannel code) code.ends
+  pub wide : length code.widths ≡ length code.ends
+  pub widths : All IsWidth code.widths
 
 -- a global that starts with something else than 0
 abbrev pub IsStart : Parts → Start → Type 0

@@ -85,8 +85,8 @@ impl Code {
     /// The code of these parts: its instructions; its functions; the texts of its `Print`
     /// instructions; the function that each core enters, and the names of the cores; how many slots
     /// the globals have; the capacity of each link, first those of the channels and then one for each
-    /// core; the two cores of each channel; and the globals that start with something else than 0.
-    /// None exactly where these are not valid.
+    /// core; the two cores of each channel; the globals that start with something else than 0; and how
+    /// many ints a message of each channel has. None exactly where these are not valid.
     ///
     /// It takes time in proportion to the instructions and to the sizes of the shapes at them; only
     /// the slots that hold no int are sorted.
@@ -101,6 +101,7 @@ impl Code {
         capacities: List<u32>,
         ends: List<ChannelEnds>,
         starts: List<Start>,
+        widths: List<u32>,
     ) -> Result<Option<Code>, NoMemory>
         ensures same { IfOk result (λ made. IfSome made
             (λ code. code ≡ record {
@@ -113,6 +114,7 @@ impl Code {
               capacities = capacities;
               ends = ends;
               starts = starts;
+              widths = widths;
             })) }
         ensures valid { IfOk result (λ made. IfSome made
             (λ code. IsValid (record {
@@ -125,6 +127,7 @@ impl Code {
               capacities = capacities;
               ends = ends;
               starts = starts;
+              widths = widths;
             }))) }
         ensures none { IfOk result (λ made. IfNone made
             (IsValid (record {
@@ -137,10 +140,12 @@ impl Code {
               capacities = capacities;
               ends = ends;
               starts = starts;
+              widths = widths;
             }) → ⊥)) }
     {
         let sketch = Sketch::new(
             alloc, instrs, functions, texts, entries, names, globals, capacities, ends, starts,
+            widths,
         )?;
         code_of(alloc, sketch)
     }
@@ -202,6 +207,13 @@ impl Code {
         ensures { result.now ≡ self.now.capacities }
     {
         self.sketch.capacities()
+    }
+
+    /// How many ints a message of each channel has.
+    pub fn widths(&self) -> &List<u32>
+        ensures { result.now ≡ self.now.widths }
+    {
+        self.sketch.widths()
     }
 
     /// The two cores of each channel.

@@ -104,7 +104,7 @@ fn load(
     match body_with_slots(&shape, level, slot, 1) {
         Some(body) => {
             let kind = if code.is_array(body.home, slot) {
-                CellKind::Reference { one: false }
+                CellKind::Reference { len: None }
             } else {
                 CellKind::Int
             };
@@ -213,10 +213,10 @@ fn store(at: u32, level: u32, slot: u32, shape: Shape) -> Option<Leads>
 
 fn array(at: u32, level: u32, slot: u32, len: u32, shape: Shape) -> Result<Option<Leads>, NoMemory>
     requires { at + 1 < 2 ^ 32 }
-    ensures { IfOk result (λ l. l ≡ on_some (body_with shape level slot len) (λ b. pushes at (CellKind.Reference (nat_eq len 1)) shape)) }
+    ensures { IfOk result (λ l. l ≡ on_some (body_with shape level slot len) (λ b. pushes at (CellKind.Reference (Some len)) shape)) }
 {
     match body_with_slots(&shape, level, slot, len) {
-        Some(_) => push_on(at, CellKind::Reference { one: len == 1 }, shape),
+        Some(_) => push_on(at, CellKind::Reference { len: Some(len) }, shape),
         None => Ok(None),
     }
 }
@@ -326,11 +326,11 @@ fn global_array(
     shape: Shape,
 ) -> Result<Option<Leads>, NoMemory>
     requires { at + 1 < 2 ^ 32 }
-    ensures { IfOk result (λ l. l ≡ (if nat_le (slot + len) code.now.globals then pushes at (CellKind.Reference (nat_eq len 1)) shape
+    ensures { IfOk result (λ l. l ≡ (if nat_le (slot + len) code.now.globals then pushes at (CellKind.Reference (Some len)) shape
         else None)) }
 {
     if u64::from(slot) + u64::from(len) <= u64::from(code.globals()) {
-        push_on(at, CellKind::Reference { one: len == 1 }, shape)
+        push_on(at, CellKind::Reference { len: Some(len) }, shape)
     } else {
         Ok(None)
     }
@@ -380,7 +380,7 @@ pub fn leads(
         Instr::Place => make_on(
             at,
             &[Want::Int, Want::Reference],
-            CellKind::Reference { one: true },
+            CellKind::Reference { len: Some(1) },
             shape,
         ),
         Instr::Clear { slot, len } => Ok(clear(at, slot, len, shape)),
@@ -417,8 +417,14 @@ pub fn leads(
         Instr::Async { slots, to } => start(alloc, at, slots, to, shape),
         Instr::End => Ok(stop_if(may_end(&shape))),
         Instr::Cancel { level, slot } => Ok(cancel(at, level, slot, shape)),
-        Instr::Send { channel } => operate(code, at, channel, Want::Int, shape),
-        Instr::Recv { channel } => operate(code, at, channel, Want::One, shape),
+        Instr::Send { channel } => {
+            let width = code.width(channel);
+            operate(code, at, channel, Want::Message(width), shape)
+        }
+        Instr::Recv { channel } => {
+            let width = code.width(channel);
+            operate(code, at, channel, Want::Elements(width), shape)
+        }
         Instr::Read { file } | Instr::Write { file } => transfer(at, file, shape),
     }
 }

@@ -84,9 +84,12 @@ pub enum Instr {
     Cancel { level: u32, slot: u32 },
     /// Yields.
     Yield,
-    /// Pops the value and starts the send on that channel.
+    /// Pops what is sent and starts the send on that channel: an int where a message of the channel has
+    /// one, or a reference to as many elements as the message has ints, of which all are sent as they are
+    /// now.
     Send { channel: u32 },
-    /// Pops a reference to one element and starts the receive from that channel.
+    /// Pops a reference to as many elements as a message of that channel has ints, and starts the
+    /// receive from it.
     Recv { channel: u32 },
     /// Pops the array, the length and the place in that file, and starts the read.
     Read { file: u32 },

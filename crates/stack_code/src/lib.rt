@@ -11,6 +11,7 @@ mod parts;
 mod shape;
 mod sketch;
 mod stack;
+mod texts;
 mod uses;
 mod ways;
 mod work;

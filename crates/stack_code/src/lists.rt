@@ -1,11 +1,13 @@
 //! The conditions on the lists of a code.
 
 ghost use Rattle.std.specs.Prelude.{◌≡◌, ◌↔◌, All, IsTrue};
-ghost use Rattle.stack_code.specs.Valid.{IsEntry, HasCores, IsCapacity, IsChannel, HasLinks, IsStart, HasStarts, HasRoom, HasLists};
+ghost use Rattle.stack_code.specs.Valid.{IsEntry, HasCores, IsCapacity, IsWidth, IsChannel, HasLinks};
+ghost use Rattle.stack_code.specs.Valid.{IsStart, HasStarts, HasRoom, HasLists};
 ghost use Rattle.stack_code.specs.inner.Rises.{rising_from};
 
 use crate::parts::{ChannelEnds, Entered, Start};
 use crate::sketch::Sketch;
+use ac_base::MOST_INTS;
 
 fn is_entry(code: &Sketch, entry: u32) -> bool
     ensures { IsTrue result ↔ IsEntry code.now entry }
@@ -28,6 +30,14 @@ fn are_capacities(capacities: &[u32]) -> bool
     capacities
         .iter()
         .all(|capacity| 1 <= *capacity && *capacity <= 64)
+}
+
+fn are_widths(widths: &[u32]) -> bool
+    ensures { IsTrue result ↔ All IsWidth widths.now }
+{
+    widths
+        .iter()
+        .all(|width| 1 <= *width && *width <= MOST_INTS)
 }
 
 fn is_channel(code: &Sketch, ends: ChannelEnds) -> bool
@@ -101,6 +111,7 @@ fn has_links(code: &Sketch) -> bool
 {
     let capacities = code.capacities().as_slice();
     let ends = code.ends();
+    let widths = code.widths().as_slice();
     let cores = code.entries().len();
     if capacities.len() > u32::MAX as usize {
         return false;
@@ -112,6 +123,12 @@ fn has_links(code: &Sketch) -> bool
         return false;
     }
     if !are_capacities(capacities) {
+        return false;
+    }
+    if widths.len() != ends.len() {
+        return false;
+    }
+    if !are_widths(widths) {
         return false;
     }
     are_channels(code, ends)

@@ -2,11 +2,21 @@
 
 ghost use Rattle.std.specs.Prelude.{◌≡◌, ◌∷◌, List, None, Some, if◌then◌else◌, option_map, replicate, IfOk, MatchBool};
 ghost use Rattle.stack_code.specs.declared.shape.Want.{Want};
-ghost use Rattle.stack_code.specs.Shapes.{takes, taken, with_operands, pushed, arguments};
+ghost use Rattle.stack_code.specs.Shapes.{is_known, takes, taken, with_operands, pushed, arguments};
 
 use crate::shape::{CellKind, Shape, Want};
 use crate::stack::Stack;
 use ac_base::NoMemory;
+
+// Whether that many elements are known to be there.
+fn is_known(count: u32, len: Option<u32>) -> bool
+    ensures { result ≡ is_known count len }
+{
+    match len {
+        Some(known) => known == count,
+        None => false,
+    }
+}
 
 fn is_wanted(want: Want, kind: CellKind) -> bool
     ensures { result ≡ takes want kind }
@@ -15,7 +25,9 @@ fn is_wanted(want: Want, kind: CellKind) -> bool
         (Want::Any, _) => true,
         (Want::Int, CellKind::Int) => true,
         (Want::Reference, CellKind::Reference { .. }) => true,
-        (Want::One, CellKind::Reference { one }) => one,
+        (Want::Elements(count), CellKind::Reference { len }) => is_known(count, len),
+        (Want::Message(count), CellKind::Reference { len }) => is_known(count, len),
+        (Want::Message(count), CellKind::Int) => count == 1,
         _ => false,
     }
 }

@@ -6,8 +6,8 @@ use crate::stack::Stack;
 #[derive(Clone, Copy, Debug, PartialEq, Eq)]
 pub enum CellKind {
     Int,
-    /// A reference to an array, and whether it was made of just one element.
-    Reference { one: bool },
+    /// A reference to an array, and how many elements it has, where that is known.
+    Reference { len: Option<u32> },
 }
 
 /// Whose body it is.
@@ -60,12 +60,14 @@ pub enum Leads {
     },
 }
 
-/// What an instruction asks of an operand: to be an int, a reference, or a reference to just one
-/// element. `Any` asks nothing.
+/// What an instruction asks of an operand: to be an int, a reference, a reference to so many elements,
+/// or a message of so many ints, which is an int where it has one, or a reference to as many elements.
+/// `Any` asks nothing.
 #[derive(Clone, Copy, Debug, PartialEq, Eq)]
 pub enum Want {
     Int,
     Reference,
-    One,
+    Elements(u32),
+    Message(u32),
     Any,
 }

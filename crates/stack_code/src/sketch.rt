@@ -1,36 +1,35 @@
 //! The parts of a code, valid or not.
 
-ghost use Rattle.std.specs.Prelude.{◌≡◌, length, map, slice_get, IfOk, option_copied, option_map};
-ghost use Rattle.stack_code.specs.Shapes.{channels_of, directives_in, params_of, is_array};
+ghost use Rattle.std.specs.Prelude.{◌≡◌, length, slice_get, IfOk, option_copied, option_map};
+ghost use Rattle.stack_code.specs.Shapes.{channels_of, width_of, directives_in, params_of, is_array};
 
 use crate::instr::Instr;
 use crate::parts::{ChannelEnds, Entered, Start};
 use crate::shape::Home;
+use crate::texts::Texts;
 use ac_base::{Bytes, List, Name, NoMemory};
 use std::alloc::Global;
 use std::marker::Model;
 
-/// The parts of a code, with the number of directives of each text.
+/// The parts of a code.
 ///
 /// Contracts see the parts.
 #[derive(Debug, Drop)]
 pub struct Sketch {
     pub instrs: List<Instr>,
     pub functions: List<Entered>,
-    pub texts: List<Bytes>,
+    pub texts: Texts,
     pub entries: List<u32>,
     pub names: List<Name>,
     pub globals: u32,
     pub capacities: List<u32>,
     pub ends: List<ChannelEnds>,
     pub starts: List<Start>,
-    pub directives: List<u64>,
+    pub widths: List<u32>,
 }
 
 impl Model for Sketch {
-    ghost use Rattle.std.specs.Prelude.{◌≡◌, map};
     ghost use Rattle.stack_code.specs.Parts.{Parts};
-    ghost use Rattle.stack_code.specs.Shapes.{directives_in};
 
     ghost Value = { Parts };
 
@@ -44,37 +43,8 @@ impl Model for Sketch {
       capacities = c.capacities;
       ends = c.ends;
       starts = c.starts;
+      widths = c.widths;
     } };
-
-    ghost invariant = { λ c. c.directives ≡ map directives_in c.texts };
-}
-
-fn directives_of(text: &[u8]) -> u64
-    ensures { result ≡ directives_in text.now }
-{
-    let mut count = 0;
-    let mut directly = false;
-    for b in text {
-        if directly {
-            if *b == b'c' || *b == b'd' {
-                count += 1;
-            }
-            directly = false;
-        } else {
-            directly = *b == b'%';
-        }
-    }
-    count
-}
-
-fn all_directives(alloc: Global, texts: &[Bytes]) -> Result<List<u64>, NoMemory>
-    ensures { IfOk result (λ counts. counts ≡ map directives_in texts.now) }
-{
-    let mut counts = List::new(alloc);
-    for text in texts {
-        counts.push(directives_of(text.as_slice()))?;
-    }
-    Ok(counts)
 }
 
 impl Sketch {
@@ -90,6 +60,7 @@ impl Sketch {
         capacities: List<u32>,
         ends: List<ChannelEnds>,
         starts: List<Start>,
+        widths: List<u32>,
     ) -> Result<Sketch, NoMemory>
         ensures { IfOk result (λ it. it ≡ record {
           instrs = instrs;
@@ -101,20 +72,20 @@ impl Sketch {
           capacities = capacities;
           ends = ends;
           starts = starts;
+          widths = widths;
         }) }
     {
-        let directives = all_directives(alloc, texts.as_slice())?;
         Ok(Sketch {
             instrs,
             functions,
-            texts,
+            texts: Texts::new(alloc, texts)?,
             entries,
             names,
             globals,
             capacities,
             ends,
             starts,
-            directives,
+            widths,
         })
     }
 
@@ -199,7 +170,7 @@ impl Sketch {
     pub fn directives(&self, text: u32) -> Option<u64>
         ensures { result ≡ option_map directives_in (slice_get self.now.texts text) }
     {
-        self.directives.as_slice().get(text as usize).copied()
+        self.texts.directives(text)
     }
 
     /// The number of slots of the globals.
@@ -214,6 +185,23 @@ impl Sketch {
         ensures { result ≡ channels_of self.now }
     {
         self.capacities.len().saturating_sub(self.entries.len())
+    }
+
+    /// How many ints a message of the channel has; 0 where there is no such channel.
+    pub fn width(&self, channel: u32) -> u32
+        ensures { result ≡ width_of self.now channel }
+    {
+        match self.widths.as_slice().get(channel as usize) {
+            Some(width) => *width,
+            None => 0,
+        }
+    }
+
+    /// How many ints a message of each channel has.
+    pub fn widths(&self) -> &List<u32>
+        ensures { result.now ≡ self.now.widths }
+    {
+        &self.widths
     }
 
     /// Whether the parameter in that slot of that body's frame is an array; None where it is no

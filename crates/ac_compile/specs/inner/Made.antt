@@ -15,6 +15,7 @@ parts_of w = record {
   capacities = w.capacities;
   ends = w.ends;
   starts = w.starts;
+  widths = w.widths;
 }
 
 -- some ranks fall along the ways of the code without a `Step`

@@ -1,6 +1,6 @@
 use Rattle.std.proofs.Common.{◌≡◌, ◌+◌, ◌≤◌, drop}
 use Rattle.stack_code.specs.Shapes.{directives, directives_in}
-use Rattle.stack_code.proofs.sketch.directives_of.Given as goal
+use Rattle.stack_code.proofs.texts.directives_of.Given as goal
 
 abbrev pub invariant-loop-b : goal.invariant-loop-b
 invariant-loop-b l = record {
