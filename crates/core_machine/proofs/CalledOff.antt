@@ -1,6 +1,6 @@
 -- What a cancel makes of a running core, and what a send or receive in a cancelled block does. For `cancel`, `send` and `receive`.
 -- The table and the code's meaning agree on whether a block is cancelled (Rounds), so both take the same branch; in each the fields are compared one by one.
-use Rattle.std.proofs.Common.{◌≡◌, ℕ, ◌+◌, List, [], ◌∷◌, ◌++◌, Option, Some, None, IsSome, Bool, true, false, refl, sym, ap, ◌∙◌, subst}
+use Rattle.std.proofs.Common.{◌≡◌, ℕ, ◌+◌, ◌≤◌, List, [], ◌∷◌, ◌++◌, length, Option, Some, None, IsSome, Bool, true, false, refl, sym, ap, ◌∙◌, subst, arith}
 use Rattle.std.specs.Prelude.{find, drop, not, ◌||◌}
 use Rattle.std.proofs.lemmas.Bool.{and_parts}
 use Rattle.std.specs.List.{list_any}
@@ -59,6 +59,10 @@ module _ (xs : List (Option kept.Block)) where
 pub stands_on : (test : Cell → Bool) (ops : List Cell) → on_top test ops ≡ true → (x : Cell) × ((below : List Cell) × (ops ≡ x ∷ below))
 stands_on test [] h = let no : false ≡ true = h in absurd (cc)
 stands_on test (x ∷ below) h = (x, (below, refl))
+
+pub some_stands : (ops : List Cell) → 1 ≤ length ops → (x : Cell) × ((below : List Cell) × (ops ≡ x ∷ below))
+some_stands [] h = absurd (omega (arith, h))
+some_stands (x ∷ below) h = (x, (below, refl))
 
 module _ (m : Running) (still : m.ended ≡ None) (link : ℕ) (ask : Cell → Asked) (x : Cell) (below : List Cell) (stand : m.operands ≡ x ∷ below) where
   -- what the instruction makes of the core

@@ -11,7 +11,8 @@ use Rattle.ac_base.specs.declared.entry.Answer.{Answer}
 use Rattle.ac_base.specs.declared.entry.Payload.{Payload}
 use Rattle.work_item.specs.declared.cell.Cell.TheVariants as cell
 use Rattle.work_item.specs.declared.cell.Place.{Place}
-use Rattle.work_item.specs.Store.{Store, with_int_at}
+use Rattle.work_item.specs.Store.{Store}
+use Rattle.core_state.specs.Messages.{with_ints_at}
 use Rattle.cancel_scope.specs.declared.operation.Asked.TheVariants as asked
 use Rattle.cancel_scope.specs.declared.operation.Operation.{Operation}
 use Rattle.cancel_scope.specs.Outstanding.{is_to_offer, is_offered, is_begun, is_to_receive, is_request, carries, offered_as, as_begun, change_first, without_first}
@@ -128,15 +129,15 @@ know_enters m b after q j link number stamp o found other is ops entries flat en
     (known_ends m.frames os link number (find (is_offered link number) os) o found other)
     is ops refl entries flat ended same
 
-pub got_enters : (m b after : Running) (q : Roomy) (store : Store) (j : Log) (link number stamp : ℕ) (value : ℤ) (o : Operation) (place : Place)
+pub got_enters : (m b after : Running) (q : Roomy) (store : Store) (j : Log) (link number stamp : ℕ) (value : List ℤ) (o : Operation) (place : Place)
     → find (is_to_receive link) m.outstanding.operations ≡ Some o → o.asked ≡ asked.Recv place → b ≡ noted m (event.Got link number value) stamp q store j
-    → q.operations ≡ without_first (is_to_receive link) m.outstanding.operations → store ≡ with_int_at m.frames place 0 value
+    → q.operations ≡ without_first (is_to_receive link) m.outstanding.operations → store ≡ with_ints_at m.frames place value
     → j.entries ≡ m.journal.entries ++ entry_now m (event.Got link number value) stamp ∷ [] → flat_of after ≡ resumed (flat_of b) (cell.Int ok) (Some o.item) → after.ended ≡ b.ended
     → IsSameCode b after
     → Enters m (event.Got link number value) stamp after
 got_enters m b after q store j link number stamp value o place found asks is ops frames entries flat ended same =
     let os = m.outstanding.operations in
-    let put : store ≡ with_message m.frames o value = frames ∙ sym (ap (λ a. with_int_at m.frames (arrivals.place_for a) 0 value) asks) in
+    let put : store ≡ with_message m.frames o value = frames ∙ sym (ap (λ a. with_ints_at m.frames (arrivals.place_for a) value) asks) in
     ended_enters m (event.Got link number value) stamp ok b after q (with_message m.frames o value) store j (without_first (is_to_receive link) os) o
     (ap (ends_received m.frames os link value) found) is ops put entries flat ended same
 

@@ -99,7 +99,7 @@ whether_it_has_ended = (refl, refl)
 
 -- on channel 0 a 5 is to be sent, and from channel 1 one is received
 abbrev pub sends : Operation
-sends = started 0 (Send (pos 5)) second
+sends = started 0 (Send (pos 5 ∷ [])) second
 
 abbrev pub hears : Operation
 hears = started 1 (Recv (record { home = None; start = 0; len = 1 })) first
@@ -125,7 +125,7 @@ what_has_not_ended = (refl, refl, refl, refl)
 -- ---- offers and operations
 
 abbrev pub offer : Entry
-offer = record { stamp = 1; turn = 0; event = event.Offer 0 0 (payload.Int (pos 5)) }
+offer = record { stamp = 1; turn = 0; event = event.Offer 0 0 (payload.Int (pos 5 ∷ [])) }
 
 abbrev pub known : Entry
 known = record { stamp = 3; turn = 1; event = event.Know 0 0 }

@@ -2,7 +2,7 @@
 -- From the invariant of code_safety (`IsFit`) each `*_there` lemma reads one such fact; `finds` goes through the instructions and gives each what it needs.
 -- Functions that execute an instruction ask for these facts in their contracts.
 use Rattle.std.proofs.Common.{◌≡◌, ℕ, zero, suc, ◌+◌, ◌≤◌, ◌<◌, ◌^◌, List, [], ◌∷◌, length, take, Bool, Option, Some, None, true, false, refl, sym, ap, ◌∙◌, subst, arith}
-use Rattle.std.specs.Prelude.{if◌then◌else◌, slice_get, nat_le, nat_lt, nat_eq, replicate, reverse}
+use Rattle.std.specs.Prelude.{if◌then◌else◌, IfSome, slice_get, nat_le, nat_lt, nat_eq, replicate, reverse}
 use Rattle.std.proofs.lemmas.Bool.Decides.{nat_tests}
 use Rattle.std.proofs.lemmas.Bool.{and_parts}
 use Rattle.std.proofs.lemmas.List.{length-replicate, length-reverse, length-take-le}
@@ -14,6 +14,7 @@ use Rattle.work_item.specs.declared.cell.Cell.TheVariants as cell
 use Rattle.work_item.specs.Store.{Store, frame_at, no_cells, cells_of, above, place_in, parent_or, parent_is}
 use Rattle.work_item.specs.Conditions.{HomeLives, HasParent, HasLevel, IsGoing}
 use Rattle.core_state.specs.Frames.{argument, arguments}
+use Rattle.core_operators.specs.Carrying.{MakesMessage}
 use Rattle.stack_code.specs.declared.instr.Instr.{Instr}
 use Rattle.stack_code.specs.declared.instr.Instr.TheVariants as i
 use Rattle.stack_code.specs.declared.shape.CellKind.{CellKind}
@@ -26,19 +27,19 @@ use Rattle.stack_code.specs.declared.shape.Leads.{Leads}
 use Rattle.stack_code.specs.declared.shape.Leads.TheVariants.{Two}
 use Rattle.stack_code.specs.Parts.{Parts}
 use Rattle.stack_code.specs.Shapes as shapes
-use Rattle.stack_code.specs.Shapes.{after, channels_of, first, pushed, body_with, pushes, goes, effect, is_int_alone, can_return, directives_in, want_of, on_some, is_entered}
-use Rattle.stack_code.specs.Valid.{IsValid, HasRoom}
+use Rattle.stack_code.specs.Shapes.{after, channels_of, width_of, first, pushed, body_with, pushes, goes, effect, is_int_alone, can_return, directives_in, want_of, on_some, is_entered}
+use Rattle.stack_code.specs.Valid.{IsValid, IsWidth, HasRoom}
 use Rattle.code_meaning.specs.Machine.{Flat}
 use Rattle.code_safety.specs.Fit.{Birth, is_int, HasKind, HaveKinds, AreBodies, last, more, IsThread, IsFit, life_at}
 use Rattle.code_safety.specs.Living.{as_running, AllReferToLiving, NamesLiving}
-use Rattle.code_safety.proofs.Taken.{on_some_is, if_is, after_is, IsWanted, Top, top_of, many_of}
+use Rattle.code_safety.proofs.Taken.{on_some_is, if_is, after_is, IsMessage, IsWanted, Top, top_of, many_of}
 use Rattle.code_safety.proofs.Arguments.{AreArguments, arguments_of}
 use Rattle.code_safety.proofs.Plain.{in_frame}
 use Rattle.code_safety.proofs.Own.{thread_of}
 use Rattle.code_safety.proofs.Calling.{call_enough}
 use Rattle.thread_table.specs.Operands.{is_reference, on_top}
 use Rattle.core_machine.specs.inner.Operands.{Stand, first_place, second_place}
-use Rattle.core_machine.specs.inner.Needs.{HasInt, HasReference, HasInts, HasCell, HasArray, HasElement, HasCall, HasRequest, Finds}
+use Rattle.core_machine.specs.inner.Needs.{HasInt, HasMessage, HasReference, HasInts, HasCell, HasArray, HasElement, HasCall, HasRequest, Finds}
 use Rattle.core_machine.proofs.OpenSlots.{slot_of_entered, lie_there}
 use Rattle.core_machine.proofs.Lives.{round_lives, finish_there, start_there, end_there, is_listed}
 
@@ -133,20 +134,48 @@ module _ (code : Parts) (bound : ℕ) (m : Flat) (fit : IsFit code m) (t : Item)
       let below : Stand (is_int ∷ []) o.below = subst (Stand (is_int ∷ [])) (sym p.is) (p.wanted, tt) in
       subst (Stand (is_int ∷ is_int ∷ [])) (sym o.is) (o.wanted, below)
 
-  reference_there : (x : Cell) → HasKind code fit.births (kind.Reference false) x → (is_reference x ≡ true) × ((place_in x).start + (place_in x).len < 2 ^ 32)
+  reference_there : (x : Cell) → HasKind code fit.births (kind.Reference None) x → (is_reference x ≡ true) × ((place_in x).start + (place_in x).len < 2 ^ 32)
   reference_there (cell.Int value) h = absurd h
   reference_there (cell.Array place) h = (refl, h.short)
   reference_there (cell.Block b) h = absurd h
 
-  one_is_reference : (x : Cell) → HasKind code fit.births (kind.Reference true) x → is_reference x ≡ true
-  one_is_reference (cell.Int value) h = absurd h
-  one_is_reference (cell.Array place) h = refl
-  one_is_reference (cell.Block b) h = absurd h
+  many_are_reference : (count : ℕ) (x : Cell) → HasKind code fit.births (kind.Reference (Some count)) x → is_reference x ≡ true
+  many_are_reference count (cell.Int value) h = absurd h
+  many_are_reference count (cell.Array place) h = refl
+  many_are_reference count (cell.Block b) h = absurd h
 
-  one_place_there : (go : Shape → Option Leads) (leads : Leads) → after (want.One ∷ []) s go ≡ Some leads → HasReference m
-  one_place_there go leads e =
-      let o = (top_there want.One [] go leads e).1 in
-      subst (λ l. on_top is_reference l ≡ true) (sym o.is) (one_is_reference o.top o.wanted)
+  elements_there : (count : ℕ) (go : Shape → Option Leads) (leads : Leads) → after (want.Elements count ∷ []) s go ≡ Some leads → HasReference m
+  elements_there count go leads e =
+      let o = (top_there (want.Elements count) [] go leads e).1 in
+      subst (λ l. on_top is_reference l ≡ true) (sym o.is) (many_are_reference count o.top o.wanted)
+
+  -- the width of a channel is that of a message
+  width_there : (channel : ℕ) → nat_lt channel (channels_of code) ≡ true → IsWidth (width_of code channel)
+  width_there channel t =
+      let links = v.lists.links in
+      let each : length code.capacities ≡ length code.ends + length code.entries = links.each in
+      let wide : length code.widths ≡ length code.ends = links.wide in
+      let below : channel < channels_of code = grind (arith, nat_tests) in
+      links.widths channel 0 (omega (arith, each, wide, below))
+
+  makes_message : (count : ℕ) (x : Cell) → IsWidth count → HomeLives store (place_in x).home → IsMessage code fit.births count x → MakesMessage store x
+  makes_message count (cell.Int value) w home k = tt
+  makes_message count (cell.Array place) w home k =
+      let many : place.len ≡ count = k.exact count refl in
+      let least = w.0 in
+      let most = w.1 in
+      (home, (omega (arith, many, least), omega (arith, many, most)))
+  makes_message count (cell.Block b) w home k = absurd k
+
+  message_there : (channel : ℕ) (leads : Leads) → effect code m.current.place (i.Send channel) s ≡ Some leads → HasMessage m
+  message_there channel leads e =
+      let count = width_of code channel in
+      let go = pushes m.current.place kind.Int in
+      let c = if_is (nat_lt channel (channels_of code)) (after (want.Message count ∷ []) s go) leads e in
+      let o = (top_there (want.Message count) [] go leads c.1).1 in
+      let home = subst (λ l. HomeLives store (first_place l).home) o.is (first_home store ops (names.threads t m.current (as_running t run)).0.1) in
+      let makes = makes_message count o.top (width_there channel c.0) home o.wanted in
+      (one_there (want.Message count) [] go leads c.1, subst (λ l. IfSome (slice_get l 0) (λ (x : Cell). MakesMessage store x)) (sym o.is) makes)
 
   array_there : (wants : List Want) (go : Shape → Option Leads) (leads : Leads) → after (want.Int ∷ want.Reference ∷ wants) s go ≡ Some leads → HasArray m
   array_there wants go leads e =
@@ -191,7 +220,7 @@ module _ (code : Parts) (bound : ℕ) (m : Flat) (fit : IsFit code m) (t : Item)
   last_there (kind.Int ∷ kinds) (cell.Int v ∷ below) e h = refl
   last_there (kind.Int ∷ kinds) (cell.Array place ∷ below) e h = absurd h.0
   last_there (kind.Int ∷ kinds) (cell.Block b ∷ below) e h = absurd h.0
-  last_there (kind.Reference one ∷ kinds) operands e h = let no : false ≡ true = e in cc
+  last_there (kind.Reference len ∷ kinds) operands e h = let no : false ≡ true = e in cc
 
   ret_there : (leads : Leads) → effect code m.current.place i.Ret s ≡ Some leads → HasInt m × IsGoing store m.current.frame
   ret_there leads e =
@@ -264,7 +293,7 @@ module _ (code : Parts) (bound : ℕ) (m : Flat) (fit : IsFit code m) (t : Item)
   finds (i.ArrG slot len) leads here e = tt
   finds i.Elem leads here e = element_there [] (pushes m.current.place kind.Int) leads e
   finds i.SetElem leads here e = (element_there (want.Int ∷ []) (goes m.current.place) leads e, three_there (goes m.current.place) leads e)
-  finds i.Place leads here e = array_there [] (pushes m.current.place (kind.Reference true)) leads e
+  finds i.Place leads here e = array_there [] (pushes m.current.place (kind.Reference (Some 1))) leads e
   finds (i.Clear slot len) leads here e =
       let b = on_some_is (body_with s 0 slot len) _ leads e in
       (level_there 0 slot len b.0 b.1.0, slots_there 0 slot len b.0 b.1.0)
@@ -304,7 +333,10 @@ module _ (code : Parts) (bound : ℕ) (m : Flat) (fit : IsFit code m) (t : Item)
   finds i.End leads here e = end_there code bound m fit t run leads e
   finds i.Yield leads here e = is_listed code m fit t run
   finds (i.Cancel level slot) leads here e = cancel_there level slot leads e
-  finds (i.Send channel) leads here e = (int_there [] (pushes m.current.place kind.Int) leads (if_is (nat_lt channel (channels_of code)) _ leads e).1, is_listed code m fit t run)
-  finds (i.Recv channel) leads here e = (one_place_there (pushes m.current.place kind.Int) leads (if_is (nat_lt channel (channels_of code)) _ leads e).1, is_listed code m fit t run)
+  finds (i.Send channel) leads here e = (message_there channel leads e, is_listed code m fit t run)
+  finds (i.Recv channel) leads here e = (
+    elements_there (width_of code channel) (pushes m.current.place kind.Int) leads (if_is (nat_lt channel (channels_of code)) _ leads e).1,
+    is_listed code m fit t run,
+  )
   finds (i.Read file) leads here e = request_there file leads e
   finds (i.Write file) leads here e = request_there file leads e

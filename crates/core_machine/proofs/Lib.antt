@@ -18,6 +18,7 @@ pub mod Pushed
 pub mod Entered
 pub mod Decided
 pub mod Received
+pub mod Payloads
 pub mod Pausing
 pub mod Points
 pub mod Unasked

@@ -33,9 +33,9 @@ pub what_is_to_be_offered : (has_to_offer (sends ∷ hears ∷ []) 0 ≡ true) �
 what_is_to_be_offered = (refl, refl, refl, refl)
 
 -- an offer of the oldest carries what it asks for
-pub what_an_offer_carries : (offer_carries (sends ∷ hears ∷ []) 0 (payload.Int (pos 5)) ≡ true) × (offer_carries (sends ∷ hears ∷ []) 0 (payload.Int (pos 6)) ≡ false)
-    × (offer_carries (asks ∷ []) 2 (payload.Read 6 9 4) ≡ true) × (offer_carries (hears ∷ []) 1 (payload.Int (pos 5)) ≡ false) × (carried_by None (payload.Int (pos 5)) ≡ false)
-    × (carried_by (Some sends) (payload.Int (pos 5)) ≡ true)
+pub what_an_offer_carries : (offer_carries (sends ∷ hears ∷ []) 0 (payload.Int (pos 5 ∷ [])) ≡ true) × (offer_carries (sends ∷ hears ∷ []) 0 (payload.Int (pos 6 ∷ [])) ≡ false)
+    × (offer_carries (asks ∷ []) 2 (payload.Read 6 9 4) ≡ true) × (offer_carries (hears ∷ []) 1 (payload.Int (pos 5 ∷ [])) ≡ false) × (carried_by None (payload.Int (pos 5 ∷ [])) ≡ false)
+    × (carried_by (Some sends) (payload.Int (pos 5 ∷ [])) ≡ true)
 what_an_offer_carries = (refl, refl, refl, refl, refl, refl)
 
 pub what_is_received : (receives_from (sends ∷ hears ∷ []) 1 ≡ true) × (receives_from (sends ∷ hears ∷ []) 0 ≡ false)

@@ -1,6 +1,6 @@
--- Where an operation puts what it receives: into one int, in a frame that lives or in the globals. For `got`.
+-- Where an operation puts what it receives: into a frame that lives or into the globals. For `got`.
 -- The invariant says this of each operation that receives; the one that a test finds is one of them.
-use Rattle.std.proofs.Common.{◌≡◌, ℕ, ◌<◌, Some, None, true, false, refl, subst, arith}
+use Rattle.std.proofs.Common.{◌≡◌, ℕ, Some, None, true, false, refl, subst}
 use Rattle.std.specs.Prelude.{All, find, nat_eq, not}
 use Rattle.std.proofs.lemmas.Bool.{and_parts}
 use Rattle.work_item.specs.declared.cell.Place.{Place}
@@ -9,7 +9,6 @@ use Rattle.cancel_scope.specs.declared.operation.Asked.{Asked}
 use Rattle.cancel_scope.specs.declared.operation.Asked.TheVariants as asked
 use Rattle.cancel_scope.specs.declared.operation.Operation.{Operation}
 use Rattle.cancel_scope.specs.Outstanding.{is_outgoing, is_to_receive}
-use Rattle.code_safety.specs.Fit.{IsAsked, IsIntArray}
 use Rattle.code_safety.specs.Living.{AskedLives}
 use Rattle.code_safety.proofs.NoDangling.{names_living}
 use Rattle.code_safety.proofs.Waiting.{IsFound, found_at, one_of_all}
@@ -36,10 +35,3 @@ module _ (m : Running) (sound : IsSound m) (still : m.ended ≡ None) (link : �
     home_there =
         let names = names_living m.code.now (flat_of m) (sound.fit still) (sound.chained still) in
         subst (AskedLives m.frames) asks (of_all (λ (p : Operation). AskedLives m.frames p.asked) names.operations)
-
-    pub one_there : 0 < place.len
-    one_there =
-        let fit = sound.fit still in
-        let ints : IsIntArray m.code.now fit.births true place = subst (IsAsked m.code.now fit.births) asks (of_all (λ (p : Operation). IsAsked m.code.now fit.births p.asked) fit.asks) in
-        let one = ints.single refl in
-        omega (arith, one)

@@ -283,7 +283,7 @@ module _ (requests : ℕ) (past : List Entry) (os : List Operation) (h : Tracks 
         (λ no. still_waits o.progress (its test o f Receives h.receives no))
         (record { link = place.link; limits = place.limits })
 
-  tracks_received : (link k : ℕ) (value : ℤ) (o : Operation) → e.event ≡ event.Got link k value → IsFound (is_to_receive link) os o
+  tracks_received : (link k : ℕ) (value : List ℤ) (o : Operation) → e.event ≡ event.Got link k value → IsFound (is_to_receive link) os o
       → Tracked (without_first (is_to_receive link) os)
   tracks_received link k value o is f = gone (is_to_receive link) o f
       (λ l n.
@@ -369,7 +369,7 @@ module _ (requests : ℕ) (past : List Entry) (os : List Operation) (h : Tracks 
         let same : has_ended_as (value_of o.asked answer) (with_answer store o.asked answer) (without_first (is_begun link k) os) o ≡ x = cc in
         subst (λ (y : Arrival). Tracked y.operations) same (tracks_answered link k answer o is (found_at (is_begun link k) os o e'))
 
-    got_tracks : (link k : ℕ) (value : ℤ) (o : Option Operation) → e.event ≡ event.Got link k value → find (is_to_receive link) os ≡ o → ends_received store os link value o ≡ Some x
+    got_tracks : (link k : ℕ) (value : List ℤ) (o : Option Operation) → e.event ≡ event.Got link k value → find (is_to_receive link) os ≡ o → ends_received store os link value o ≡ Some x
         → Tracked x.operations
     got_tracks link k value None is e' fits = let no : None ≡ Some x = fits in absurd (cc)
     got_tracks link k value (Some o) is e' fits =

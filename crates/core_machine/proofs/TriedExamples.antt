@@ -102,7 +102,7 @@ a_move_at_which_one_comes_in h = let no : false ≡ true = h.0 in cc
 -- ---- its outcome
 
 abbrev offers : Entry
-offers = record { stamp = 1; turn = 0; event = event.Offer 0 3 (payload.Int (pos 5)) }
+offers = record { stamp = 1; turn = 0; event = event.Offer 0 3 (payload.Int (pos 5 ∷ [])) }
 
 abbrev withdraws : Entry
 withdraws = record { stamp = 4; turn = 0; event = event.Withdraw 0 3 }

@@ -4,6 +4,7 @@ use crate::running::Running;
 use crate::values::{CANCELLED, OK};
 use ac_base::{Entry, Event, Message, NoMemory, Payload};
 use cancel_scope::Asked;
+use core_operators::put_message;
 use work_item::{BlockId, Cell, Item};
 
 impl Running<'_> {
@@ -143,7 +144,7 @@ impl Running<'_> {
         let Asked::Recv(place) = operation.asked else {
             unreachable!()
         };
-        self.frames.write_at(place, 0, value);
+        put_message(&mut self.frames, place, &value);
         self.note(
             Event::Got {
                 link,

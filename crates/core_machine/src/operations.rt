@@ -4,6 +4,7 @@ use crate::running::Running;
 use crate::values::CANCELLED;
 use ac_base::NoMemory;
 use cancel_scope::{Asked, Operation};
+use core_operators::message_in;
 use thread_table::Parked;
 use work_item::{Cell, Item};
 
@@ -13,10 +14,9 @@ impl Running<'_> {
     ghost use Rattle.work_item.specs.declared.cell.Cell.{Cell};
     ghost use Rattle.core_state.specs.Arrivals.{cancelled};
     ghost use Rattle.code_meaning.specs.Machine.{operates};
-    ghost use Rattle.code_safety.specs.Fit.{is_int};
     ghost use Rattle.core_machine.specs.State.{flat_of};
     ghost use Rattle.thread_table.specs.Operands.{is_reference, on_top};
-    ghost use Rattle.core_machine.specs.inner.Needs.{IsListed};
+    ghost use Rattle.core_machine.specs.inner.Needs.{IsListed, HasMessage};
     ghost use Rattle.core_machine.specs.inner.Changes.{Keeps, Does, Stays};
 
     /// The running thread waits for the end of an operation on that link.
@@ -51,14 +51,14 @@ impl Running<'_> {
         self.go_on();
     }
 
-    /// Starts to send an int, which it pops, over a channel.
+    /// Starts to send over a channel what it pops: an int, or all elements of an array as they are now.
     pub fn send(&mut self, channel: u32) -> Result<(), NoMemory>
         requires running { self.old.ended ≡ None }
         requires inside { self.old.place < 2 ^ 32 }
         requires runs { IsSome self.old.schedule.running }
         requires listed { IsListed (flat_of self.old) }
         requires settled { self.old.threads.pending ≡ false }
-        requires int { on_top is_int self.old.operands ≡ true }
+        requires message { HasMessage (flat_of self.old) }
         ensures ok { OnOk result (Does self.old (Instr.Send channel) self.new) }
         ensures err { OnErr result (Stays self.old self.new) }
         ensures keeps { Keeps self.old self.new }
@@ -69,8 +69,9 @@ impl Running<'_> {
         }
         let item = self.item();
         self.outstanding.reserve(1)?;
-        let value = self.operands.pop_int();
-        self.operate(item, channel, Asked::Send(value));
+        let top = self.operands.pop();
+        let message = message_in(&self.frames, top);
+        self.operate(item, channel, Asked::Send(message));
         Ok(())
     }
 

@@ -8,12 +8,13 @@ use cancel_scope::Asked;
 use std::alloc::Global;
 
 /// What an offer of an operation carries that asks for this. A write's bytes are copied.
+#[tactic(auto, using(crate::proofs::Payloads::same_ints))]
 pub fn payload_of(alloc: Global, asked: &Asked) -> Result<Payload, NoMemory>
     requires { is_outgoing asked.now ≡ true }
     ensures { IfOk result (λ payload. carries asked.now payload ≡ true) }
 {
     match asked {
-        Asked::Send(value) => Ok(Payload::Int(*value)),
+        Asked::Send(message) => Ok(Payload::Int(*message)),
         Asked::Read { file, from, into } => Ok(Payload::Read {
             file: *file,
             from: *from,
@@ -33,7 +34,7 @@ pub fn carries(asked: &Asked, payload: &Payload) -> bool
     ensures { result ≡ carries asked.now payload.now }
 {
     match (asked, payload) {
-        (Asked::Send(value), Payload::Int(carried)) => *value == *carried,
+        (Asked::Send(sent), Payload::Int(carried)) => sent.equals(carried),
         (
             Asked::Read { file, from, into },
             Payload::Read {

@@ -1,6 +1,6 @@
 -- Turns of a journal, worked out by hand: some that rise, some that do not, and the last of them.
 -- Each holds by comparing numbers.
-use Rattle.std.proofs.Common.{◌≡◌, ℕ, ◌≤◌, List, [], ◌∷◌, refl, arith}
+use Rattle.std.proofs.Common.{◌≡◌, ℕ, ◌≤◌, [], ◌∷◌, refl, arith}
 use Rattle.ac_base.specs.declared.entry.Entry.{Entry}
 use Rattle.ac_base.specs.declared.entry.Event.TheVariants as e
 use Rattle.replay_laws.specs.Given.{Rises, last_turn}

@@ -7,6 +7,7 @@ use Rattle.work_item.specs.declared.cell.Cell.{Cell}
 use Rattle.work_item.specs.Store.{above, cells_of}
 use Rattle.work_item.specs.Conditions.{Lives, HomeLives, HasLevel, HasSlot, HasGlobal, IsGoing}
 use Rattle.core_state.specs.Frames.{arguments}
+use Rattle.core_operators.specs.Carrying.{MakesMessage}
 use Rattle.stack_code.specs.declared.instr.Instr.{Instr}
 use Rattle.stack_code.specs.declared.instr.Instr.TheVariants as i
 use Rattle.stack_code.specs.declared.parts.Entered.{Entered}
@@ -15,6 +16,10 @@ use Rattle.code_meaning.specs.Machine.{Flat, Block, block_at}
 use Rattle.code_safety.specs.Fit.{is_int}
 use Rattle.thread_table.specs.Operands.{is_reference, on_top}
 use Rattle.core_machine.specs.inner.Operands.{Stand, first_place, second_place}
+
+-- its operand on top is an int, or an array of which a message can be made
+abbrev pub HasMessage : Flat → Type 0
+HasMessage m = (1 ≤ length m.current.operands) × IfSome (slice_get m.current.operands 0) (λ x. MakesMessage m.store x)
 
 -- its operands, two or one on top, are ints
 abbrev pub HasInt : Flat → Type 0
@@ -168,7 +173,7 @@ Finds code m (i.Async slots to) = CanStart m
 Finds code m i.End = CanEnd m
 Finds code m i.Yield = IsListed m
 Finds code m (i.Cancel level slot) = HasCell m level slot
-Finds code m (i.Send channel) = HasInt m × IsListed m
+Finds code m (i.Send channel) = HasMessage m × IsListed m
 Finds code m (i.Recv channel) = HasReference m × IsListed m
 Finds code m (i.Read file) = HasRequest m
 Finds code m (i.Write file) = HasRequest m

@@ -1,6 +1,4 @@
-use Rattle.std.proofs.lemmas.Int.{to_z-of_z}
-use Rattle.core_machine.specs.inner.Changes.{Enters}
-use Rattle.std.proofs.Common.{w64, subst, IsSome}
+use Rattle.std.proofs.Common.{subst, IsSome}
 use Rattle.std.specs.Prelude.{find}
 use Rattle.ac_base.specs.declared.entry.Event.TheVariants as event
 use Rattle.cancel_scope.specs.Outstanding.{is_to_receive}
@@ -23,21 +21,18 @@ got-requires-clause-some c = subst (λ os. IsSome (find (is_to_receive c.args.li
 pub got-requires-clause-running : goal.got-requires-clause-running
 got-requires-clause-running c = (point_by c.self.inside.running c.args.self.now c.self.view_is c.requires.point).0
 
-enters : (c : goal.After-got) → Enters c.self.inside.running (event.Got c.args.link c.args.number c.args.value) c.args.stamp c.got.new.self
-enters c = subst (λ v. Enters c.self.inside.running (event.Got c.args.link c.args.number v) c.args.stamp c.got.new.self) (to_z-of_z w64 c.args.value c.ranges.value) c.got.ensures.enters
-
 pub invariant_of-self : goal.invariant_of-self
 invariant_of-self c = come_sound c.self.inside.running c.got.new.self (event.Got c.args.link c.args.number c.args.value) c.args.stamp c.args.self.now c.self.view_is c.self.invariant
-    c.requires.point (enters c)
+    c.requires.point c.got.ensures.enters
 
 pub returns-clause-come : goal.returns-clause-come
 returns-clause-come c = has_come c.self.inside.running c.got.new.self (event.Got c.args.link c.args.number c.args.value) c.args.stamp c.args.self.now c.self.view_is c.self.invariant
-    c.requires.point (enters c)
+    c.requires.point c.got.ensures.enters
 
 pub returns-clause-less : goal.returns-clause-less
 returns-clause-less c = come_less c.self.inside.running c.got.new.self (event.Got c.args.link c.args.number c.args.value) c.args.stamp c.args.self.now c.self.view_is c.self.invariant
-    c.requires.point (enters c)
+    c.requires.point c.got.ensures.enters
 
 pub returns-clause-run : goal.returns-clause-run
 returns-clause-run c = (come_sound c.self.inside.running c.got.new.self (event.Got c.args.link c.args.number c.args.value) c.args.stamp c.args.self.now c.self.view_is c.self.invariant
-    c.requires.point (enters c)).ran
+    c.requires.point c.got.ensures.enters).ran
