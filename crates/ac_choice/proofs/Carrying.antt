@@ -9,14 +9,10 @@ use Rattle.core_channels.specs.declared.answers.Receiving.{Receiving as Received
 use Rattle.core_channels.specs.declared.answers.Receiving.TheVariants as received
 use Rattle.core_channels.specs.declared.answers.Offering.{Offering}
 use Rattle.core_channels.specs.declared.answers.Offering.TheVariants as offering
-use Rattle.core_channels.specs.declared.answers.Learning.{Learning}
-use Rattle.core_channels.specs.declared.answers.Learning.TheVariants as learning
-use Rattle.core_channels.specs.Learns.{learning_clock}
 use Rattle.core_channels.proofs.Stamping.{stamp_rises}
-use Rattle.channel_ends.specs.Sending.{Sending, OwnerNotes, MadeOffer, AreWithin}
+use Rattle.channel_ends.specs.Sending.{Sending, MadeOffer, AreWithin}
 use Rattle.channel_ends.specs.Receiving.{Receiving, Receives, Decides}
 use Rattle.channel_ends.specs.Offers.{Offers, offering_clock}
-use Rattle.channel_ends.specs.Learns.{Learns}
 use Rattle.ac_choice.specs.declared.answers.Any.{Any}
 use Rattle.ac_choice.specs.declared.answers.Any.TheVariants as any
 use Rattle.ac_choice.specs.declared.answers.Tagged.{Tagged}

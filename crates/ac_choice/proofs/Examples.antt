@@ -3,12 +3,13 @@ use Rattle.std.proofs.Common.{◌≡◌, ℕ, zero, suc, ◌<◌, List, [], ◌�
 use Rattle.std.specs.Prelude.{pos}
 use Rattle.completion_word.specs.declared.answers.Look.TheVariants as look
 use Rattle.completion_word.specs.declared.standing.Standing.TheVariants as word
+use Rattle.completion_word.specs.declared.views.Peer.{Peer}
 use Rattle.completion_word.specs.declared.views.DecisionKind.TheVariants as outcome
 use Rattle.completion_word.specs.Link.{decision}
 use Rattle.core_channels.specs.declared.answers.Receiving.TheVariants as received
 use Rattle.channel_ends.specs.Receiving.{Receiving, Receives}
 use Rattle.channel_ends.specs.Pairs.{IsSameRecv}
-use Rattle.channel_ends.proofs.Examples.{a_peer, receiver}
+use Rattle.channel_ends.proofs.Examples.{words_of, a_ring, a_peer}
 use Rattle.ac_choice.specs.declared.answers.Any.{Any}
 use Rattle.ac_choice.specs.declared.answers.Any.TheVariants as any
 use Rattle.ac_choice.specs.Turns.{turn, first_after}
@@ -34,6 +35,9 @@ pub after_the_last : first_after 3 2 ≡ 0
 after_the_last = refl
 
 -- ---- one end
+
+abbrev pub receiver : ℕ → Peer → List ℤ → Receiving ℤ
+receiver n p popped = record { table = words_of n; ring = a_ring; peer = p; popped = popped; items = [] }
 
 abbrev pub silent : Receiving ℤ
 silent = receiver 1 (a_peer [] 0 word.Unused None) []

@@ -79,15 +79,15 @@ record Bounded (n : ℕ) (past : Past) : Type 0 where
   links : AllByRecursion (UpTo n) past.links
   lasts : AllByRecursion (λ s. s ≤ n) past.lasts
 
-third : (a b c d e : Bool) → a && b && c && d && e ≡ true → c ≡ true
-third a b c d e h = grind (arith, nat_tests)
+third : (a b c d e f : Bool) → a && b && c && d && e && f ≡ true → c ≡ true
+third a b c d e f h = grind (arith, nat_tests)
 
 stamp_true : (s last seen n : ℕ) → (s == next_stamp last seen) ≡ true → last ≤ n → seen ≤ n → s ≤ suc n
 stamp_true s last seen n h p q = grind (arith, nat_tests)
 
 stamp_bound : (n : ℕ) (past : Past) (e : Stamped) → Bounded n past → fits past e ≡ true → e.entry.stamp ≤ suc n
 stamp_bound n past e b h = stamp_true e.entry.stamp (get_or past.lasts e.party 0) (answered (link_at past (link_of e.entry.event)) e.entry.event) n
-    (third (in_range past e) (is_later past.stamp past.party e) (has_stamp past e) _ _ h)
+    (third (in_range past e) (is_later past.stamp past.party e) (has_stamp past e) _ _ _ h)
     (each_get_or _ past.lasts e.party 0 (omega arith) b.lasts)
     (answered_up n (link_at past (link_of e.entry.event)) e.entry.event (each_get_or (UpTo n) past.links (link_of e.entry.event) [] tt b.links))
 
@@ -107,8 +107,8 @@ bounded_from n past [] b h = tt
 bounded_from n past (e ∷ es) b h = let s = stamp_bound n past e b h.0 in
     (omega arith, each_more _ _ (λ x p. omega arith) es (bounded_from (suc n) (after past e) es (bounded_after n past e b s) h.1))
 
-pub stamps_at_most : (capacities : List ℕ) (cores : ℕ) (es : List Stamped) → IsLegal (start capacities cores) es → AllByRecursion (λ e. e.entry.stamp ≤ length es) es
-stamps_at_most capacities cores es h = each_more _ _ (λ x p. omega arith) es (bounded_from 0 (start capacities cores) es (record {
+pub stamps_at_most : (capacities widths : List ℕ) (cores : ℕ) (es : List Stamped) → IsLegal (start capacities widths cores) es → AllByRecursion (λ e. e.entry.stamp ≤ length es) es
+stamps_at_most capacities widths cores es h = each_more _ _ (λ x p. omega arith) es (bounded_from 0 (start capacities widths cores) es (record {
   links = each_replicate _ (length capacities) [] tt;
   lasts = each_replicate _ (suc cores) 0 (omega arith);
 }) h)

@@ -30,10 +30,10 @@ deeds_same : (f g : Event → Option Payload) (es : List Stamped) → AllByRecur
 deeds_same f g [] a = refl
 deeds_same f g (e ∷ es) a = ap (λ q. deed_of q e.entry.event ++ deeds_by f es) a.0 ∙ ap (λ r. deed_of (g e.entry.event) e.entry.event ++ r) (deeds_same f g es a.1)
 
-pub network_served : (capacities : List ℕ) (cores : ℕ) (mine : ℕ → Event → ℕ) (pairs : ℕ → Pair) (js : List (List Entry)) (got : Event → Option Payload) (files left : List (List ℕ))
+pub network_served : (capacities widths : List ℕ) (cores : ℕ) (mine : ℕ → Event → ℕ) (pairs : ℕ → Pair) (js : List (List Entry)) (got : Event → Option Payload) (files left : List (List ℕ))
     → NetworkAgrees capacities cores mine pairs js → DiskAgrees cores pairs js got files left
-    → IsServed files (deeds (start capacities cores) (merged js)) × (left ≡ contents files (deeds (start capacities cores) (merged js)))
-network_served capacities cores mine pairs js got files left net disk =
-    let same : deeds_by got (worker_entries cores js) ≡ deeds (start capacities cores) (merged js) = deeds_same got (request_by pairs) (worker_entries cores js) disk.noted
-    ∙ sym (deeds_network capacities cores mine pairs js net) in
+    → IsServed files (deeds (start capacities widths cores) (merged js)) × (left ≡ contents files (deeds (start capacities widths cores) (merged js)))
+network_served capacities widths cores mine pairs js got files left net disk =
+    let same : deeds_by got (worker_entries cores js) ≡ deeds (start capacities widths cores) (merged js) = deeds_same got (request_by pairs) (worker_entries cores js) disk.noted
+    ∙ sym (deeds_network capacities widths cores mine pairs js net) in
     subst (λ ds. IsServed files ds × (left ≡ contents files ds)) same (disk.served, disk.contents)

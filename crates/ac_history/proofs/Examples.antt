@@ -1,7 +1,7 @@
 -- What the definitions of a history say of small ones.
 -- Those that hold do so by computing.
 use Rattle.std.proofs.Common.{◌≡◌, ◌≢◌, ℕ, zero, suc, ◌<◌, List, [], ◌∷◌, Some, None, Bool, true, false, ◌&&◌, refl, arith}
-use Rattle.std.specs.Prelude.{pos, nat_lt}
+use Rattle.std.specs.Prelude.{pos, negsuc, nat_lt}
 use Rattle.std.proofs.lemmas.Bool.Decides.{nat_tests}
 use Rattle.ac_base.specs.declared.entry.Payload.{Payload}
 use Rattle.ac_base.specs.declared.entry.Payload.TheVariants.{Int, Read, Write}
@@ -14,9 +14,9 @@ use Rattle.ac_base.specs.declared.entry.Stamped.{Stamped}
 use Rattle.ac_links.specs.Link.{link_of}
 use Rattle.ac_links.specs.Payloads.Taking.{Message, Done}
 use Rattle.ac_links.specs.Views.{answers_none}
-use Rattle.ac_history.specs.Agreement.{InRange}
+use Rattle.ac_history.specs.Agreement.{InRange, AllOfTheirWidth}
 use Rattle.ac_history.specs.Merged.{all_from, merged}
-use Rattle.ac_history.specs.History.{Past, terms_of, may_make, fits, after, IsLegal, start}
+use Rattle.ac_history.specs.History.{Past, terms_of, may_make, has_width, has_its_width, fits, after, IsLegal, start}
 use Rattle.ac_history.specs.Files.{files_done, serves, Deed, IsServed, contents, deeds, padded, file_of}
 use Rattle.ac_history.specs.Served.{begun, IsHistory, after_all}
 use Rattle.ac_history.specs.Network.{Pair, PairAgrees, NetworkAgrees, DiskAgrees, entries_at, seen_by, request_by}
@@ -30,19 +30,23 @@ at stamp turn event = record { stamp = stamp; turn = turn; event = event }
 abbrev pub capacities : List ℕ
 capacities = 1 ∷ 16 ∷ 16 ∷ []
 
+-- its channel carries messages of one int
+abbrev pub widths : List ℕ
+widths = 1 ∷ []
+
 -- ---- the merged history
 
 abbrev pub by : ℕ → ℕ → ℕ → Event → Stamped
 by party stamp turn event = record { party = party; entry = at stamp turn event }
 
 abbrev pub sender : List Entry
-sender = at 1 1 (Offer 0 0 (Int (pos 5))) ∷ at 3 1 (Know 0 0) ∷ []
+sender = at 1 1 (Offer 0 0 (Int (pos 5 ∷ []))) ∷ at 3 1 (Know 0 0) ∷ []
 
 abbrev pub receiver : List Entry
-receiver = at 2 1 (Got 0 0 (pos 5)) ∷ []
+receiver = at 2 1 (Got 0 0 (pos 5 ∷ [])) ∷ []
 
 abbrev pub message : List Stamped
-message = by 0 1 1 (Offer 0 0 (Int (pos 5))) ∷ by 1 2 1 (Got 0 0 (pos 5)) ∷ by 0 3 1 (Know 0 0) ∷ []
+message = by 0 1 1 (Offer 0 0 (Int (pos 5 ∷ []))) ∷ by 1 2 1 (Got 0 0 (pos 5 ∷ [])) ∷ by 0 3 1 (Know 0 0) ∷ []
 
 pub in_order_of_stamps : merged (sender ∷ receiver ∷ []) ≡ message
 in_order_of_stamps = refl
@@ -54,7 +58,23 @@ then_of_parties = refl
 -- ---- a legal history: a channel from core 0 to core 1, with room for one message
 
 abbrev pub nothing_yet : Past
-nothing_yet = start capacities 2
+nothing_yet = start capacities widths 2
+
+pub a_message_of_two_ints : IsLegal (start capacities (2 ∷ []) 2) (by 0 1 1 (Offer 0 0 (Int (pos 5 ∷ negsuc 0 ∷ []))) ∷ by 1 2 1 (Got 0 0 (pos 5 ∷ negsuc 0 ∷ [])) ∷ [])
+a_message_of_two_ints = (refl, (refl, tt))
+
+pub every_int_is_carried : IsLegal (start capacities (2 ∷ []) 2) (by 0 1 1 (Offer 0 0 (Int (pos 5 ∷ negsuc 0 ∷ []))) ∷ by 1 2 1 (Got 0 0 (pos 5 ∷ pos 6 ∷ [])) ∷ []) → ⊥
+every_int_is_carried h = let e = h.1.0 in cc
+
+pub no_message_is_wider_than_its_channel : fits nothing_yet (by 0 1 1 (Offer 0 0 (Int (pos 5 ∷ pos 6 ∷ [])))) ≡ false
+no_message_is_wider_than_its_channel = refl
+
+pub widths_are_of_channels : has_width (Some 2) (Int (pos 5 ∷ [])) ∷ has_width None (Int (pos 5 ∷ [])) ∷ has_width (Some 2) (Read 0 0 1) ∷ [] ≡ false ∷ true ∷ true ∷ []
+widths_are_of_channels = refl
+
+pub an_offer_has_its_width : has_its_width (2 ∷ []) (Offer 0 0 (Int (pos 5 ∷ pos 6 ∷ []))) ∷ has_its_width (2 ∷ []) (Offer 0 0 (Int (pos 5 ∷ []))) ∷ has_its_width (2 ∷ []) (Know 0 0) ∷ []
+    ≡ true ∷ false ∷ true ∷ []
+an_offer_has_its_width = refl
 
 pub a_message_crosses : IsLegal nothing_yet message
 a_message_crosses = (refl, (refl, (refl, tt)))
@@ -63,21 +83,21 @@ pub no_entry_is_legal : IsLegal nothing_yet []
 no_entry_is_legal = tt
 
 -- what was not offered is not got
-pub an_invented_message : IsLegal nothing_yet (by 1 2 1 (Got 0 0 (pos 5)) ∷ []) → ⊥
+pub an_invented_message : IsLegal nothing_yet (by 1 2 1 (Got 0 0 (pos 5 ∷ [])) ∷ []) → ⊥
 an_invented_message h = let e = h.0 in cc
 
 -- the taking is known before it was made
-pub too_early_to_know : IsLegal nothing_yet (by 0 1 1 (Offer 0 0 (Int (pos 5))) ∷ by 0 2 1 (Know 0 0) ∷ []) → ⊥
+pub too_early_to_know : IsLegal nothing_yet (by 0 1 1 (Offer 0 0 (Int (pos 5 ∷ []))) ∷ by 0 2 1 (Know 0 0) ∷ []) → ⊥
 too_early_to_know h = let e = h.1.0 in cc
 
 -- a stamp has to be the next, and no greater
-pub a_stamp_is_left_out : fits nothing_yet (by 0 2 1 (Offer 0 0 (Int (pos 5)))) ≡ false
+pub a_stamp_is_left_out : fits nothing_yet (by 0 2 1 (Offer 0 0 (Int (pos 5 ∷ [])))) ≡ false
 a_stamp_is_left_out = refl
 
-pub one_party_after_the_other : fits (after nothing_yet (by 0 1 1 (Offer 0 0 (Int (pos 5))))) (by 1 1 1 (Offer 2 0 (Read 0 0 1))) ≡ true
+pub one_party_after_the_other : fits (after nothing_yet (by 0 1 1 (Offer 0 0 (Int (pos 5 ∷ []))))) (by 1 1 1 (Offer 2 0 (Read 0 0 1))) ≡ true
 one_party_after_the_other = refl
 
-pub and_not_the_other_way : fits (after nothing_yet (by 1 1 1 (Offer 2 0 (Read 0 0 1)))) (by 0 1 1 (Offer 0 0 (Int (pos 5)))) ≡ false
+pub and_not_the_other_way : fits (after nothing_yet (by 1 1 1 (Offer 2 0 (Read 0 0 1)))) (by 0 1 1 (Offer 0 0 (Int (pos 5 ∷ [])))) ≡ false
 and_not_the_other_way = refl
 
 pub no_such_link : fits nothing_yet (by 0 1 1 (Offer 3 0 (Read 0 0 1))) ≡ false
@@ -88,10 +108,10 @@ no_such_party = refl
 
 -- ---- who may make what: cores 0 and 1, the worker as party 2, the channel as link 0
 
-pub a_core_takes_messages : may_make 1 2 (by 1 2 1 (Got 0 0 (pos 5))) ≡ true
+pub a_core_takes_messages : may_make 1 2 (by 1 2 1 (Got 0 0 (pos 5 ∷ []))) ≡ true
 a_core_takes_messages = refl
 
-pub the_worker_takes_none : may_make 1 2 (by 2 2 0 (Got 0 0 (pos 5))) ≡ false
+pub the_worker_takes_none : may_make 1 2 (by 2 2 0 (Got 0 0 (pos 5 ∷ []))) ≡ false
 the_worker_takes_none = refl
 
 pub the_worker_does_requests : may_make 1 2 (by 2 2 0 (Did 1 0 (Count 1))) ≡ true
@@ -148,20 +168,20 @@ what_is_left = refl
 abbrev pub reading : Answer → List Stamped
 reading answer = by 0 1 1 (Offer 0 0 (Read 0 1 1)) ∷ by 1 2 0 (Did 0 0 answer) ∷ []
 
-pub the_deed_of_it : deeds (start (16 ∷ []) 1) (reading (Bytes (9 ∷ []))) ≡ a_deed (Read 0 1 1) (Bytes (9 ∷ [])) ∷ []
+pub the_deed_of_it : deeds (start (16 ∷ []) [] 1) (reading (Bytes (9 ∷ []))) ≡ a_deed (Read 0 1 1) (Bytes (9 ∷ [])) ∷ []
 the_deed_of_it = refl
 
-pub a_read_of_what_stands_there : IsHistory (begun (16 ∷ []) 1 ((8 ∷ 9 ∷ []) ∷ [])) (reading (Bytes (9 ∷ [])))
+pub a_read_of_what_stands_there : IsHistory (begun (16 ∷ []) [] 1 ((8 ∷ 9 ∷ []) ∷ [])) (reading (Bytes (9 ∷ [])))
 a_read_of_what_stands_there = (refl, (refl, tt))
 
-pub a_read_of_something_else : IsHistory (begun (16 ∷ []) 1 ((8 ∷ 9 ∷ []) ∷ [])) (reading (Bytes (8 ∷ []))) → ⊥
+pub a_read_of_something_else : IsHistory (begun (16 ∷ []) [] 1 ((8 ∷ 9 ∷ []) ∷ [])) (reading (Bytes (8 ∷ []))) → ⊥
 a_read_of_something_else h = let e = h.1.0 in cc
 
 -- it is legal all the same
-pub it_is_legal_all_the_same : IsLegal (start (16 ∷ []) 1) (reading (Bytes (8 ∷ [])))
+pub it_is_legal_all_the_same : IsLegal (start (16 ∷ []) [] 1) (reading (Bytes (8 ∷ [])))
 it_is_legal_all_the_same = (refl, (refl, tt))
 
-pub a_read_leaves_the_files : file_of (after_all (begun (16 ∷ []) 1 ((8 ∷ 9 ∷ []) ∷ [])) (reading (Bytes (9 ∷ [])))).files 0 ≡ 8 ∷ 9 ∷ []
+pub a_read_leaves_the_files : file_of (after_all (begun (16 ∷ []) [] 1 ((8 ∷ 9 ∷ []) ∷ [])) (reading (Bytes (9 ∷ [])))).files 0 ≡ 8 ∷ 9 ∷ []
 a_read_leaves_the_files = refl
 
 -- ---- a network: two cores with a channel and their requests, and a worker
@@ -169,12 +189,12 @@ a_read_leaves_the_files = refl
 -- sends 5, writes a byte behind the end of the file, and withdraws a read
 abbrev pub first_core : List Entry
 first_core =
-    at 1 1 (Offer 0 0 (Int (pos 5))) ∷ at 2 1 (Offer 1 0 (Write 0 2 (7 ∷ []))) ∷ at 3 2 (Know 0 0) ∷ at 4 2 (Know 1 0) ∷ at 5 2 (Reply 1 0 (Count 1))
+    at 1 1 (Offer 0 0 (Int (pos 5 ∷ []))) ∷ at 2 1 (Offer 1 0 (Write 0 2 (7 ∷ []))) ∷ at 3 2 (Know 0 0) ∷ at 4 2 (Know 1 0) ∷ at 5 2 (Reply 1 0 (Count 1))
     ∷ at 6 3 (Offer 1 1 (Read 0 0 4)) ∷ at 7 3 (Withdraw 1 1) ∷ at 9 4 (Room 1 1) ∷ []
 
 -- receives 5, and reads what was written
 abbrev pub second_core : List Entry
-second_core = at 2 1 (Got 0 0 (pos 5)) ∷ at 3 1 (Offer 2 0 (Read 0 1 4)) ∷ at 5 2 (Know 2 0) ∷ at 6 2 (Reply 2 0 (Bytes (0 ∷ 7 ∷ []))) ∷ []
+second_core = at 2 1 (Got 0 0 (pos 5 ∷ [])) ∷ at 3 1 (Offer 2 0 (Read 0 1 4)) ∷ at 5 2 (Know 2 0) ∷ at 6 2 (Reply 2 0 (Bytes (0 ∷ 7 ∷ []))) ∷ []
 
 abbrev pub worker : List Entry
 worker = at 3 0 (Did 1 0 (Count 1)) ∷ at 4 0 (Did 2 0 (Bytes (0 ∷ 7 ∷ []))) ∷ at 8 0 (Pass 1 1) ∷ []
@@ -187,8 +207,8 @@ channel = record {
   terms = record { capacity = 1; requests = false };
   owner = 0;
   peer = 1;
-  offers = record { payload = Int (pos 5); stamp = 1; withdrawn = None; known = Some 2; reply = None } ∷ [];
-  decisions = record { value = Some (Message (pos 5)); stamp = 2; answers = 1 } ∷ [];
+  offers = record { payload = Int (pos 5 ∷ []); stamp = 1; withdrawn = None; known = Some 2; reply = None } ∷ [];
+  decisions = record { value = Some (Message (pos 5 ∷ [])); stamp = 2; answers = 1 } ∷ [];
 }
 
 abbrev pub first_asks : Pair
@@ -247,7 +267,7 @@ channel_agrees = record {
   party = omega arith;
   owner = (refl, omega arith, (refl, omega arith, refl));
   peer = (refl, omega arith, refl);
-  both = ((omega arith, (Message (pos 5), refl, refl, refl), refl, omega arith, tt), tt);
+  both = ((omega arith, (Message (pos 5 ∷ []), refl, refl, refl), refl, omega arith, tt), tt);
   others = channel_others;
 }
 
@@ -321,8 +341,11 @@ the_network_agrees = record {
   range = range_of 3 (all_from 0 journals) refl;
 }
 
-pub its_history_is_legal : IsLegal (start capacities 2) (merged journals)
-its_history_is_legal = legal_network capacities 2 notes ends journals the_network_agrees
+pub they_have_their_widths : AllOfTheirWidth widths (all_from 0 journals)
+they_have_their_widths = (refl, (refl, (refl, (refl, (refl, (refl, (refl, (refl, (refl, (refl, (refl, (refl, (refl, (refl, (refl, tt)))))))))))))))
+
+pub its_history_is_legal : IsLegal (start capacities widths 2) (merged journals)
+its_history_is_legal = legal_network capacities widths 2 notes ends journals the_network_agrees they_have_their_widths
 
 -- the file was empty, and is 0, 0, 7 afterwards
 pub its_disk_agrees : DiskAgrees 2 ends journals (request_by ends) ([] ∷ []) ((0 ∷ 0 ∷ 7 ∷ []) ∷ [])
@@ -332,5 +355,6 @@ its_disk_agrees = record {
   contents = refl;
 }
 
-pub its_history_is_served : IsServed ([] ∷ []) (deeds (start capacities 2) (merged journals)) × ((0 ∷ 0 ∷ 7 ∷ []) ∷ [] ≡ contents ([] ∷ []) (deeds (start capacities 2) (merged journals)))
-its_history_is_served = network_served capacities 2 notes ends journals (request_by ends) ([] ∷ []) ((0 ∷ 0 ∷ 7 ∷ []) ∷ []) the_network_agrees its_disk_agrees
+pub its_history_is_served : IsServed ([] ∷ []) (deeds (start capacities widths 2) (merged journals)) × ((0 ∷ 0 ∷ 7 ∷ []) ∷ [] ≡ contents ([] ∷ []) (deeds (start capacities widths 2)
+    (merged journals)))
+its_history_is_served = network_served capacities widths 2 notes ends journals (request_by ends) ([] ∷ []) ((0 ∷ 0 ∷ 7 ∷ []) ∷ []) the_network_agrees its_disk_agrees

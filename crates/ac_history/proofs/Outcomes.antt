@@ -19,7 +19,7 @@ use Rattle.ac_links.specs.Payloads.{Taking, carries}
 use Rattle.ac_links.specs.Payloads.Taking.{Message, Done}
 use Rattle.ac_links.specs.Link.{is_offered, is_taken, is_withdrawn, front_of, takes, knows, withdraws, passes, frees, replies, link_fits, link_after, link_of}
 use Rattle.ac_links.specs.Link.{changed, stands, now_taken, now_known, now_replied, new_offer}
-use Rattle.ac_history.specs.History.{Past, link_at, is_later, has_stamp, in_range, may_make, terms_of, fits, after, IsLegal, start}
+use Rattle.ac_history.specs.History.{Past, link_at, is_later, has_stamp, in_range, may_make, has_its_width, terms_of, fits, after, IsLegal, start}
 use Rattle.ac_history.specs.Quiet.{after_all_of}
 use Rattle.ac_history.specs.Outcomes.{is_withdrawal, is_taking, is_news, times}
 
@@ -199,17 +199,17 @@ other_news l n _ h = refl
 times_more : (test : Event → Bool) (e : Stamped) (es : List Stamped) → times test (e ∷ es) ≡ cond (test e.entry.event) 1 0 + times test es
 times_more test e es = sum_by-cons (λ (x : Stamped). cond (test x.entry.event) 1 0) e es
 
-five_parts : (a b c d e : Bool) → a && b && c && d && e ≡ true → (a ≡ true) × (e ≡ true)
-five_parts a b c d e h = let p = and_parts (a && b && c && d) e h in
-    ((and_parts a b (and_parts (a && b) c (and_parts (a && b && c) d p.0).0).0).0, p.1)
+six_parts : (a b c d e f : Bool) → a && b && c && d && e && f ≡ true → (a ≡ true) × (f ≡ true)
+six_parts a b c d e f h = let p = and_parts (a && b && c && d && e) f h in
+    ((and_parts a b (and_parts (a && b) c (and_parts (a && b && c) d (and_parts (a && b && c && d) e p.0).0).0).0).0, p.1)
 
 within : (past : Past) (e : Stamped) → fits past e ≡ true → link_of e.entry.event < length past.links
 within past e h = ltb-true (link_of e.entry.event) (length past.links) (and_parts _ _
-    (five_parts (in_range past e) (is_later past.stamp past.party e) (has_stamp past e) (may_make past.channels past.cores e) _ h).0).0
+    (six_parts (in_range past e) (is_later past.stamp past.party e) (has_stamp past e) (may_make past.channels past.cores e) (has_its_width past.widths e.entry.event) _ h).0).0
 
 of_link : (past : Past) (e : Stamped) → fits past e ≡ true
     → link_fits (terms_of past.capacities past.channels (link_of e.entry.event)) (link_at past (link_of e.entry.event)) e.entry.event ≡ true
-of_link past e h = (five_parts (in_range past e) (is_later past.stamp past.party e) (has_stamp past e) (may_make past.channels past.cores e) _ h).1
+of_link past e h = (six_parts (in_range past e) (is_later past.stamp past.party e) (has_stamp past e) (may_make past.channels past.cores e) (has_its_width past.widths e.entry.event) _ h).1
 
 abbrev now : (Standing → ℕ) → ℕ → ℕ → Past → ℕ
 now weight l n past = at weight (slice_get (link_at past l) n)
@@ -246,8 +246,8 @@ module _ (weight : Standing → ℕ) (test : Event → Bool) (l n : ℕ) (adds :
       let count = times_more test e es in
       omega (arith, first, rest, count)
 
-nothing_there : (capacities : List ℕ) (cores l n : ℕ) (weight : Standing → ℕ) → now weight l n (start capacities cores) ≡ 0
-nothing_there capacities cores l n weight = ap (λ os. at weight (slice_get os n)) (go (length capacities) l)
+nothing_there : (capacities widths : List ℕ) (cores l n : ℕ) (weight : Standing → ℕ) → now weight l n (start capacities widths cores) ≡ 0
+nothing_there capacities widths cores l n weight = ap (λ os. at weight (slice_get os n)) (go (length capacities) l)
   where
     go : (k l : ℕ) → get_or {A = List LinkOffer} (replicate k []) l [] ≡ []
     go zero l = refl
@@ -260,14 +260,14 @@ all_gone past es l n = all_entries gone (is_withdrawal l n) l n (λ terms os s. 
 all_taken : (past : Past) (es : List Stamped) (l n : ℕ) → IsLegal past es → now took l n (after_all_of past es) ≡ now took l n past + times (is_taking l n) es
 all_taken past es l n = all_entries took (is_taking l n) l n (λ terms os s. step_took terms os s l n) (other_taking l n) past es
 
-pub ends_once : (capacities : List ℕ) (cores : ℕ) (es : List Stamped) (l n : ℕ) → IsLegal (start capacities cores) es
+pub ends_once : (capacities widths : List ℕ) (cores : ℕ) (es : List Stamped) (l n : ℕ) → IsLegal (start capacities widths cores) es
     → times (is_withdrawal l n) es + times (is_taking l n) es ≤ 1
-ends_once capacities cores es l n h =
-    let a = all_gone (start capacities cores) es l n h in
-    let b = all_taken (start capacities cores) es l n h in
-    let c = nothing_there capacities cores l n gone in
-    let d = nothing_there capacities cores l n took in
-    let both = by (slice_get (link_at (after_all_of (start capacities cores) es) l) n) in
+ends_once capacities widths cores es l n h =
+    let a = all_gone (start capacities widths cores) es l n h in
+    let b = all_taken (start capacities widths cores) es l n h in
+    let c = nothing_there capacities widths cores l n gone in
+    let d = nothing_there capacities widths cores l n took in
+    let both = by (slice_get (link_at (after_all_of (start capacities widths cores) es) l) n) in
     omega (arith, a, b, c, d, both)
   where
     by : (o : Option LinkOffer) → at gone o + at took o ≤ 1
@@ -297,10 +297,10 @@ known_from : (past : Past) (es : List Stamped) (l n : ℕ) → IsLegal past es �
 known_from past [] l n h some = absurd (omega (arith, some))
 known_from past (e ∷ es) l n h some = known_next past e es l n h some (known_from (after past e) es l n h.1) (is_news l n e.entry.event) refl
 
-pub known_is_taken : (capacities : List ℕ) (cores : ℕ) (es : List Stamped) (l n : ℕ) → IsLegal (start capacities cores) es → 1 ≤ times (is_news l n) es
+pub known_is_taken : (capacities widths : List ℕ) (cores : ℕ) (es : List Stamped) (l n : ℕ) → IsLegal (start capacities widths cores) es → 1 ≤ times (is_news l n) es
     → times (is_taking l n) es ≡ 1
-known_is_taken capacities cores es l n h some =
-    let a = ends_once capacities cores es l n h in
-    let b = known_from (start capacities cores) es l n h some in
-    let c = nothing_there capacities cores l n took in
+known_is_taken capacities widths cores es l n h some =
+    let a = ends_once capacities widths cores es l n h in
+    let b = known_from (start capacities widths cores) es l n h some in
+    let c = nothing_there capacities widths cores l n took in
     omega (arith, a, b, c)

@@ -34,14 +34,14 @@ pub the_links_and_parties_that_there_are : in_range nothing_yet (by 2 1 0 (Pass 
 the_links_and_parties_that_there_are = refl
 
 abbrev one_offered : Past
-one_offered = after nothing_yet (by 0 1 1 (Offer 0 0 (Int (pos 5))))
+one_offered = after nothing_yet (by 0 1 1 (Offer 0 0 (Int (pos 5 ∷ []))))
 
 -- above its party's last one
-pub the_next_of_its_party : has_stamp one_offered (by 0 2 1 (Offer 0 1 (Int (pos 6)))) ∷ has_stamp one_offered (by 0 1 1 (Offer 0 1 (Int (pos 6)))) ∷ [] ≡ true ∷ false ∷ []
+pub the_next_of_its_party : has_stamp one_offered (by 0 2 1 (Offer 0 1 (Int (pos 6 ∷ [])))) ∷ has_stamp one_offered (by 0 1 1 (Offer 0 1 (Int (pos 6 ∷ [])))) ∷ [] ≡ true ∷ false ∷ []
 the_next_of_its_party = refl
 
 -- and above that of the offer
-pub the_next_of_what_it_answers : has_stamp one_offered (by 1 2 1 (Got 0 0 (pos 5))) ∷ has_stamp one_offered (by 1 1 1 (Got 0 0 (pos 5))) ∷ [] ≡ true ∷ false ∷ []
+pub the_next_of_what_it_answers : has_stamp one_offered (by 1 2 1 (Got 0 0 (pos 5 ∷ []))) ∷ has_stamp one_offered (by 1 1 1 (Got 0 0 (pos 5 ∷ []))) ∷ [] ≡ true ∷ false ∷ []
 the_next_of_what_it_answers = refl
 
 -- ---- files and deeds
@@ -70,7 +70,7 @@ nor_where_nothing_was_asked = refl
 
 -- core 0 has asked for byte 1 of file 0
 abbrev one_asked : Past
-one_asked = after (start (16 ∷ []) 1) (by 0 1 1 (Offer 0 0 (Read 0 1 1)))
+one_asked = after (start (16 ∷ []) [] 1) (by 0 1 1 (Offer 0 0 (Read 0 1 1)))
 
 pub the_deed_of_an_entry : deeds_at one_asked (by 1 2 0 (Did 0 0 (Bytes (9 ∷ [])))) ≡ a_deed (Read 0 1 1) (Bytes (9 ∷ [])) ∷ []
 the_deed_of_an_entry = refl
@@ -94,7 +94,7 @@ pub nor_with_another_stamp : can_follow asked_of_two (by 1 3 0 (Did 0 0 (Bytes (
 nor_with_another_stamp = refl
 
 abbrev asked_to_write : HistoryState
-asked_to_write = record { past = after (start (16 ∷ []) 1) (by 0 1 1 (Offer 0 0 (Write 0 1 (7 ∷ [])))); files = (8 ∷ 9 ∷ []) ∷ [] }
+asked_to_write = record { past = after (start (16 ∷ []) [] 1) (by 0 1 1 (Offer 0 0 (Write 0 1 (7 ∷ [])))); files = (8 ∷ 9 ∷ []) ∷ [] }
 
 pub a_byte_is_written : (state_after asked_to_write (by 1 2 0 (Did 0 0 (Count 1)))).files ≡ (8 ∷ 7 ∷ []) ∷ []
 a_byte_is_written = refl
@@ -116,13 +116,13 @@ the_stamps_of_two_journals = ((refl, (refl, tt)), ((refl, tt), tt))
 pub one_that_begins_too_low : AllStamps answers_one ((at 1 1 (Know 0 0) ∷ []) ∷ []) → ⊥
 one_that_begins_too_low s = let e = s.0.0 in cc
 
-pub the_entries_of_the_channel : link_part 0 journals ≡ by 0 1 1 (Offer 0 0 (Int (pos 5))) ∷ by 1 2 1 (Got 0 0 (pos 5)) ∷ by 0 3 2 (Know 0 0) ∷ []
+pub the_entries_of_the_channel : link_part 0 journals ≡ by 0 1 1 (Offer 0 0 (Int (pos 5 ∷ []))) ∷ by 1 2 1 (Got 0 0 (pos 5 ∷ [])) ∷ by 0 3 2 (Know 0 0) ∷ []
 the_entries_of_the_channel = refl
 
 pub each_noted_its_stamps : AllNoted notes 0 journals
 each_noted_its_stamps = the_network_agrees.stamps
 
-pub not_with_another_stamp : AllNoted notes 0 ((at 2 1 (Offer 0 0 (Int (pos 5))) ∷ []) ∷ []) → ⊥
+pub not_with_another_stamp : AllNoted notes 0 ((at 2 1 (Offer 0 0 (Int (pos 5 ∷ []))) ∷ []) ∷ []) → ⊥
 not_with_another_stamp s = let e = s.0.0 in cc
 
 pub the_entries_of_the_worker : worker_entries 2 journals ≡ by 2 3 0 (Did 1 0 (Count 1)) ∷ by 2 4 0 (Did 2 0 (Bytes (0 ∷ 7 ∷ []))) ∷ by 2 8 0 (Pass 1 1) ∷ []

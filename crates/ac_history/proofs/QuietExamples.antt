@@ -16,7 +16,7 @@ use Rattle.ac_history.specs.Merged.{merged}
 use Rattle.ac_history.specs.Quiet.{has_stopped, is_waiting, waits_on, after_all_of, owner_in, peer_in, CoreIsQuiet, IsQuiet, CoreRests, PartiesRest}
 use Rattle.ac_history.specs.declared.quiet.LinkParties.{LinkParties}
 use Rattle.ac_history.specs.Laws.{PartiesAtRestAreQuiet}
-use Rattle.ac_history.proofs.Examples.{by, capacities, message, nothing_yet, ends, journals}
+use Rattle.ac_history.proofs.Examples.{by, capacities, widths, message, nothing_yet, ends, journals}
 use Rattle.ac_history.proofs.PartiesExamples.{held, the_parties_agree}
 
 -- ---- how cores stop
@@ -129,11 +129,11 @@ one_waits_for_a_second_message = record {
 -- ---- runs that are not quiet
 
 -- the message is there, and the receiver waits
-pub a_message_that_is_not_taken : IsQuiet owner peer (after_all_of nothing_yet (by 0 1 1 (Offer 0 0 (Int (pos 5))) ∷ [])) (offering ∷ waiting ∷ []) → ⊥
+pub a_message_that_is_not_taken : IsQuiet owner peer (after_all_of nothing_yet (by 0 1 1 (Offer 0 0 (Int (pos 5 ∷ []))) ∷ [])) (offering ∷ waiting ∷ []) → ⊥
 a_message_that_is_not_taken h = let e = (h.core 1 waiting refl).decides refl 0 first refl refl in cc
 
 -- it was taken, and the sender does not know
-pub a_taking_that_is_not_known : IsQuiet owner peer (after_all_of nothing_yet (by 0 1 1 (Offer 0 0 (Int (pos 5))) ∷ by 1 2 1 (Got 0 0 (pos 5)) ∷ [])) (offering ∷ finished ∷ []) → ⊥
+pub a_taking_that_is_not_known : IsQuiet owner peer (after_all_of nothing_yet (by 0 1 1 (Offer 0 0 (Int (pos 5 ∷ []))) ∷ by 1 2 1 (Got 0 0 (pos 5 ∷ [])) ∷ [])) (offering ∷ finished ∷ []) → ⊥
 a_taking_that_is_not_known h = let e = ((h.core 0 offering refl).owns refl 0 first refl).known.0 in cc
 
 -- there is room, and the sender waits
@@ -176,5 +176,5 @@ all_of_the_other_network_rest = record {
 pub a_sender_with_room_does_not : PartiesRest capacities 2 owner peer (λ l. (ends l).offers) (λ l. (ends l).decisions) (waiting ∷ finished ∷ []) → ⊥
 a_sender_with_room_does_not h = let e = ((h.core 0 waiting refl).owns refl 0 first refl).full refl in cc
 
-pub so_it_is_quiet : PartiesAtRestAreQuiet → IsQuiet owner peer (after_all_of (start capacities 2) (merged journals)) (finished ∷ waiting ∷ [])
-so_it_is_quiet law = law capacities 2 owner peer held (λ l. (ends l).offers) (λ l. (ends l).decisions) journals (finished ∷ waiting ∷ []) the_parties_agree all_of_the_other_network_rest
+pub so_it_is_quiet : PartiesAtRestAreQuiet → IsQuiet owner peer (after_all_of (start capacities widths 2) (merged journals)) (finished ∷ waiting ∷ [])
+so_it_is_quiet law = law capacities widths 2 owner peer held (λ l. (ends l).offers) (λ l. (ends l).decisions) journals (finished ∷ waiting ∷ []) the_parties_agree all_of_the_other_network_rest

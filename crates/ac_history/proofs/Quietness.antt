@@ -60,19 +60,19 @@ link_after_history past (e ∷ es) a l =
       | inr w ↦ subst one (sym w.0) (ih ∙ ap (λ os. link_after_all os rest) (get_or-set_other past.links o l new [] (λ q. w.1 (sym q))))
     ]
 
-module _ (capacities : List ℕ) (cores : ℕ) (owner peer : ℕ → ℕ) (ends : ℕ → ℕ → LinkEnd) (offers : ℕ → List OwnerOffer) (decisions : ℕ → List PeerDecision) (js : List (List Entry))
+module _ (capacities widths : List ℕ) (cores : ℕ) (owner peer : ℕ → ℕ) (ends : ℕ → ℕ → LinkEnd) (offers : ℕ → List OwnerOffer) (decisions : ℕ → List PeerDecision) (js : List (List Entry))
     (all : PartiesAgree capacities cores owner peer ends offers decisions js) where
   abbrev last : Past
-  last = after_all_of (start capacities cores) (merged js)
+  last = after_all_of (start capacities widths cores) (merged js)
 
   many : length last.links ≡ length capacities
-  many = links_stay (start capacities cores) (merged js) ∙ length-replicate (length capacities) []
+  many = links_stay (start capacities widths cores) (merged js) ∙ length-replicate (length capacities) []
 
   its_terms : (l : ℕ) → terms_of last.capacities last.channels l ≡ terms_of capacities (length capacities - cores) l
-  its_terms l = ap (λ cs. terms_of cs last.channels l) (capacities_stay (start capacities cores) (merged js))
-      ∙ ap (λ n. terms_of capacities n l) (channels_stay (start capacities cores) (merged js))
+  its_terms l = ap (λ cs. terms_of cs last.channels l) (capacities_stay (start capacities widths cores) (merged js))
+      ∙ ap (λ n. terms_of capacities n l) (channels_stay (start capacities widths cores) (merged js))
 
-  in_range : InRange (length (start capacities cores).links) (merged js)
+  in_range : InRange (length (start capacities widths cores).links) (merged js)
   in_range = subst (λ n. InRange n (merged js)) (sym (length-replicate (length capacities) []))
       (each_in_order stamp_of _ (all_from 0 js) (parties_agree capacities cores owner peer ends offers decisions js all).range)
 
@@ -80,10 +80,10 @@ module _ (capacities : List ℕ) (cores : ℕ) (owner peer : ℕ → ℕ) (ends 
   its_link : (l : ℕ) → l < length capacities → link_at last l ≡ combine (offers l) (decisions l)
   its_link l h =
       let net = parties_agree capacities cores owner peer ends offers decisions js all in
-      link_after_history (start capacities cores) (merged js) in_range l
+      link_after_history (start capacities widths cores) (merged js) in_range l
       ∙ ap (λ os. link_after_all os (filter (is_of_link l) (merged js))) (first_of_same (length capacities) l [])
       ∙ ap (link_after_all []) (filter_in_order stamp_of (is_of_link l) (all_from 0 js))
-      ∙ pair_ends capacities cores (λ p. party_noted (ends p)) (pair_of capacities cores owner peer offers decisions) js net l (net.pair l h)
+      ∙ pair_ends capacities widths cores (λ p. party_noted (ends p)) (pair_of capacities cores owner peer offers decisions) js net l (net.pair l h)
 
   within : (l : ℕ) → l < length last.links → l < length capacities
   within l h = let e = many in omega arith
@@ -112,7 +112,7 @@ module _ (capacities : List ℕ) (cores : ℕ) (owner peer : ℕ → ℕ) (ends 
     core = λ k c is. core_at k c (rest.core k c is);
     worker = λ l h from.
         let lt = within l h in
-        let low : length capacities - cores ≤ l = subst (λ n. n ≤ l) (channels_stay (start capacities cores) (merged js)) from in
+        let low : length capacities - cores ≤ l = subst (λ n. n ≤ l) (channels_stay (start capacities widths cores) (merged js)) from in
         let is = its_peer l (nat_le (length capacities - cores) l) (of_requests (length capacities - cores) l low) (all.kind l lt) in
         subst (λ os. has_front os ≡ false) (sym (its_link l lt)) (peer_at_rest true (offers l) (decisions l) (all.both l lt) (rest.worker l lt is) refl);
   }

@@ -5,10 +5,11 @@ use Rattle.ac_base.specs.declared.entry.Entry.{Entry}
 use Rattle.ac_base.specs.declared.entry.Payload.{Payload}
 use Rattle.ac_base.specs.declared.entry.Event.{Event}
 use Rattle.ac_base.specs.declared.entry.Stamped.{Stamped}
-use Rattle.ac_history.specs.Merged.{merged}
+use Rattle.ac_history.specs.Merged.{all_from, merged}
 use Rattle.ac_history.specs.History.{fits, after, IsLegal}
 use Rattle.ac_history.specs.Files.{Deed, files_done, padded, serves, contents, IsServed, deeds_at, deeds}
 use Rattle.ac_history.specs.Served.{HistoryState, begun, serves_all, state_after, IsHistory, after_all}
+use Rattle.ac_history.specs.Agreement.{AllOfTheirWidth}
 use Rattle.ac_history.specs.Network.{Pair, NetworkAgrees, DiskAgrees}
 use Rattle.ac_links.proofs.Growth.{both_true}
 use Rattle.ac_history.proofs.Runtime.{legal_network}
@@ -49,10 +50,10 @@ pub run_files : (l : HistoryState) (es : List Stamped) → (after_all l es).file
 run_files l [] = refl
 run_files l (e ∷ es) = run_files (state_after l e) es ∙ sym (contents_append l.files (deeds_at l.past e) (deeds (after l.past e) es))
 
-pub network_run : (capacities : List ℕ) (cores : ℕ) (mine : ℕ → Event → ℕ) (pairs : ℕ → Pair) (js : List (List Entry)) (got : Event → Option Payload) (files left : List (List ℕ))
-    → NetworkAgrees capacities cores mine pairs js → DiskAgrees cores pairs js got (padded files) left
-    → IsHistory (begun capacities cores files) (merged js) × ((after_all (begun capacities cores files) (merged js)).files ≡ left)
-network_run capacities cores mine pairs js got files left net disk =
-    let l : HistoryState = begun capacities cores files in
-    let s = network_served capacities cores mine pairs js got (padded files) left net disk in
-    (is_run l (merged js) (legal_network capacities cores mine pairs js net) s.0, run_files l (merged js) ∙ sym s.1)
+pub network_run : (capacities widths : List ℕ) (cores : ℕ) (mine : ℕ → Event → ℕ) (pairs : ℕ → Pair) (js : List (List Entry)) (got : Event → Option Payload) (files left : List (List ℕ))
+    → NetworkAgrees capacities cores mine pairs js → AllOfTheirWidth widths (all_from 0 js) → DiskAgrees cores pairs js got (padded files) left
+    → IsHistory (begun capacities widths cores files) (merged js) × ((after_all (begun capacities widths cores files) (merged js)).files ≡ left)
+network_run capacities widths cores mine pairs js got files left net wide disk =
+    let l : HistoryState = begun capacities widths cores files in
+    let s = network_served capacities widths cores mine pairs js got (padded files) left net disk in
+    (is_run l (merged js) (legal_network capacities widths cores mine pairs js net wide) s.0, run_files l (merged js) ∙ sym s.1)

@@ -23,7 +23,7 @@ use Rattle.ac_links.specs.Combined.{link_after_all, combine}
 use Rattle.ac_history.specs.Merged.{all_from, merged}
 use Rattle.ac_history.specs.History.{terms_of, makes, may_make, IsLegal, start}
 use Rattle.ac_history.specs.Files.{deeds, deeds_by}
-use Rattle.ac_history.specs.Agreement.{InRange, AllMade, link_part, AllStamps}
+use Rattle.ac_history.specs.Agreement.{InRange, AllMade, AllOfTheirWidth, link_part, AllStamps}
 use Rattle.ac_history.specs.Network.{Pair, entries_at, IsPeer, PairAgrees, seen_by, request_by, worker_entries, NetworkAgrees}
 use Rattle.ac_links.proofs.Sorting.{rises_filter}
 use Rattle.ac_links.proofs.Pair.{owner_first, peer_first, owner_first_ends, peer_first_ends}
@@ -200,7 +200,7 @@ all_here : (cores l a : ℕ) (xs : List Stamped) → AllByRecursion (λ e. link_
 all_here cores l a [] h k t = tt
 all_here cores l a (x ∷ xs) h k t = ((h.0, k.0, t.0), all_here cores l a xs h.1 k.1 t.1)
 
-module _ (capacities : List ℕ) (cores : ℕ) (mine : ℕ → Event → ℕ) (pairs : ℕ → Pair) (js : List (List Entry)) (net : NetworkAgrees capacities cores mine pairs js) where
+module _ (capacities widths : List ℕ) (cores : ℕ) (mine : ℕ → Event → ℕ) (pairs : ℕ → Pair) (js : List (List Entry)) (net : NetworkAgrees capacities cores mine pairs js) where
   abbrev channels : ℕ
   channels = length capacities - cores
 
@@ -310,11 +310,11 @@ module _ (capacities : List ℕ) (cores : ℕ) (mine : ℕ → Event → ℕ) (p
     | inr v ↦ made_pair l p v.1 (net.pair l v.1)
   ]
 
-  made : AllMade channels cores (all_from 0 js)
+  pub made : AllMade channels cores (all_from 0 js)
   made = from_journals _ 0 js (λ k p e. subst (λ n. AllMade channels cores (of_party p (get_or js n []))) (zero_sum p k e) (by_link _ (of_party p (get_or js p [])) (λ l. made_link l p)))
 
-  pub legal_network : IsLegal (start capacities cores) (merged js)
-  legal_network = legal_merged (seen_by pairs) (request_by pairs) capacities cores js net.parties right link_agrees made net.range
+  pub legal_network : AllOfTheirWidth widths (all_from 0 js) → IsLegal (start capacities widths cores) (merged js)
+  legal_network = legal_merged (seen_by pairs) (request_by pairs) capacities widths cores js net.parties right link_agrees made net.range
 
-  pub deeds_network : deeds (start capacities cores) (merged js) ≡ deeds_by (request_by pairs) (worker_entries cores js)
-  deeds_network = deeds_merged (seen_by pairs) (request_by pairs) capacities cores js net.parties right link_agrees made net.range
+  pub deeds_network : deeds (start capacities widths cores) (merged js) ≡ deeds_by (request_by pairs) (worker_entries cores js)
+  deeds_network = deeds_merged (seen_by pairs) (request_by pairs) capacities widths cores js net.parties right link_agrees made net.range

@@ -12,9 +12,9 @@ use Rattle.ac_base.specs.Stamps.{next_stamp}
 use Rattle.ac_links.specs.Link.{link_fits, answered, link_after, link_of}
 use Rattle.ac_links.specs.Order.{is_of_link}
 use Rattle.ac_links.specs.Journals.{LinkAgrees}
-use Rattle.ac_history.specs.History.{Past, is_later, has_stamp, in_range, terms_of, may_make, fits, after, IsLegal}
+use Rattle.ac_history.specs.History.{Past, is_later, has_stamp, in_range, terms_of, may_make, has_its_width, fits, after, IsLegal}
 use Rattle.ac_history.specs.Files.{deed_of, deeds, deeds_by}
-use Rattle.ac_history.specs.Agreement.{AllMade}
+use Rattle.ac_history.specs.Agreement.{AllMade, AllOfTheirWidth}
 use Rattle.ac_history.proofs.Parts.{is_of_party, IsRising}
 
 -- the stamps of the entries of one party
@@ -31,8 +31,8 @@ eq_true m n h = grind (arith, nat_tests)
 lt_true : (m n : ℕ) → m < n → nat_lt m n ≡ true
 lt_true m n h = grind (arith, nat_tests)
 
-five : (a b c d e : Bool) → a ≡ true → b ≡ true → c ≡ true → d ≡ true → e ≡ true → a && b && c && d && e ≡ true
-five a b c d e p q r s t = rw (p, q, r, s, t)
+six : (a b c d e f : Bool) → a ≡ true → b ≡ true → c ≡ true → d ≡ true → e ≡ true → f ≡ true → a && b && c && d && e && f ≡ true
+six a b c d e f p q r s t u = rw (p, q, r, s, t, u)
 
 module _ (seen : Event → ℕ) (asks : Event → Option Payload) where
   pub record Good (past : Past) (es : List Stamped) : Type 0 where
@@ -54,16 +54,16 @@ module _ (seen : Event → ℕ) (asks : Event → Option Payload) where
   party_of_first past e es g = let p = e.party in
       subst (λ b. PartyStamps seen (get_or past.lasts p 0) (cond b (e ∷ filter (is_of_party p) es) (filter (is_of_party p) es))) (eq_true p p refl) (g.stamps p)
 
-  fits_first : (past : Past) (e : Stamped) (es : List Stamped) → Good past (e ∷ es) → fits past e ≡ true
-  fits_first past e es g =
+  fits_first : (past : Past) (e : Stamped) (es : List Stamped) → Good past (e ∷ es) → has_its_width past.widths e.entry.event ≡ true → fits past e ≡ true
+  fits_first past e es g wide =
       let l = link_of e.entry.event in
       let own = link_of_first past e es g in
       let mine = party_of_first past e es g in
       let at : e.entry.stamp ≡ next_stamp (get_or past.lasts e.party 0) (answered (get_or past.links l []) e.entry.event) = mine.0 ∙ ap (next_stamp (get_or past.lasts e.party 0)) own.1 in
-      five (in_range past e) (is_later past.stamp past.party e) (has_stamp past e) (may_make past.channels past.cores e)
+      six (in_range past e) (is_later past.stamp past.party e) (has_stamp past e) (may_make past.channels past.cores e) (has_its_width past.widths e.entry.event)
       (link_fits (terms_of past.capacities past.channels l) (get_or past.links l []) e.entry.event)
       (let a : nat_lt l (length past.links) ≡ true = lt_true _ _ g.placed.0.0 in let b : nat_lt e.party (length past.lasts) ≡ true = lt_true _ _ g.placed.0.1 in rw (a, b))
-      g.rising.0 (eq_true _ _ at) g.made.0 own.0
+      g.rising.0 (eq_true _ _ at) g.made.0 wide own.0
 
   links_after : (past : Past) (e : Stamped) (es : List Stamped) → Good past (e ∷ es) → (l : ℕ)
       → LinkAgrees seen asks (terms_of past.capacities past.channels l) (get_or (after past e).links l []) (filter (is_of_link l) es)
@@ -98,9 +98,9 @@ module _ (seen : Event → ℕ) (asks : Event → Option Payload) where
   }
 
   -- from what each link and each party shows by itself
-  pub legal_from : (past : Past) (es : List Stamped) → Good past es → IsLegal past es
-  legal_from past [] g = tt
-  legal_from past (e ∷ es) g = (fits_first past e es g, legal_from (after past e) es (good_after past e es g))
+  pub legal_from : (past : Past) (es : List Stamped) → Good past es → AllOfTheirWidth past.widths es → IsLegal past es
+  legal_from past [] g wide = tt
+  legal_from past (e ∷ es) g wide = (fits_first past e es g wide.0, legal_from (after past e) es (good_after past e es g) wide.1)
 
   -- what is done in the history, and `paid` tells the same
   pub deeds_from : (past : Past) (es : List Stamped) → Good past es → deeds past es ≡ deeds_by asks es

@@ -15,7 +15,7 @@ use Rattle.ac_links.specs.Journals.{LinkAgrees, HasStamps}
 use Rattle.ac_history.specs.Merged.{all_from, merged}
 use Rattle.ac_history.specs.History.{IsLegal, terms_of, makes, may_make, start}
 use Rattle.ac_history.specs.Files.{deed_of, deeds, deeds_by}
-use Rattle.ac_history.specs.Agreement.{AllStamps, AllMade, InRange, link_part}
+use Rattle.ac_history.specs.Agreement.{AllStamps, AllMade, AllOfTheirWidth, InRange, link_part}
 use Rattle.ac_links.proofs.Sorting.{in_order_already, filter_in_order}
 use Rattle.ac_links.proofs.Growth.{both_true}
 use Rattle.ac_history.proofs.Parts.{is_of_party, filter_party, rises_party, stamps_at, each_in_order, each_append, rising_merged}
@@ -68,7 +68,7 @@ module _ (asks : Event → Option Payload) (channels cores : ℕ) where
   deeds_filter [] a = refl
   deeds_filter (e ∷ es) a = ap (λ r. deed_of (asks e.entry.event) e.entry.event ++ r) (deeds_filter es a.1) ∙ deed_at e (filter (is_of_party cores) es) a.0 (is_of_party cores e) refl
 
-module _ (seen : Event → ℕ) (asks : Event → Option Payload) (capacities : List ℕ) (cores : ℕ) (js : List (List Entry)) (many : length js ≡ suc cores) (right : AllStamps seen js) where
+module _ (seen : Event → ℕ) (asks : Event → Option Payload) (capacities widths : List ℕ) (cores : ℕ) (js : List (List Entry)) (many : length js ≡ suc cores) (right : AllStamps seen js) where
   party_part : (p : ℕ) → filter (is_of_party p) (merged js) ≡ of_party p (get_or js p [])
   party_part p =
       let j = get_or js p [] in
@@ -86,9 +86,9 @@ module _ (seen : Event → ℕ) (asks : Event → Option Payload) (capacities : 
     made_merged : AllMade (length capacities - cores) cores (merged js)
     made_merged = each_in_order stamp_of _ (all_from 0 js) made
 
-    good : Good seen asks (start capacities cores) (merged js)
+    good : Good seen asks (start capacities widths cores) (merged js)
     good = record {
-      placed = subst (λ n. Placed n (length (start capacities cores).lasts) (merged js)) (sym (length-replicate (length capacities) []))
+      placed = subst (λ n. Placed n (length (start capacities widths cores).lasts) (merged js)) (sym (length-replicate (length capacities) []))
           (subst (λ n. Placed (length capacities) n (merged js)) (sym (length-replicate (suc cores) 0))
           (each_in_order stamp_of _ (all_from 0 js) (both (length capacities) (suc cores) (all_from 0 js) range (parties 0 (suc cores) js (omega arith)))));
       made = made_merged;
@@ -99,9 +99,10 @@ module _ (seen : Event → ℕ) (asks : Event → Option Payload) (capacities : 
       stamps = stamps_of;
     }
 
-    pub legal_merged : IsLegal (start capacities cores) (merged js)
-    legal_merged = legal_from seen asks (start capacities cores) (merged js) good
+    pub legal_merged : AllOfTheirWidth widths (all_from 0 js) → IsLegal (start capacities widths cores) (merged js)
+    legal_merged wide = legal_from seen asks (start capacities widths cores) (merged js) good (each_in_order stamp_of _ (all_from 0 js) wide)
 
     -- the deeds of the merged history are those of the worker's journal
-    pub deeds_merged : deeds (start capacities cores) (merged js) ≡ deeds_by asks (of_party cores (get_or js cores []))
-    deeds_merged = deeds_from seen asks (start capacities cores) (merged js) good ∙ deeds_filter asks (length capacities - cores) cores (merged js) made_merged ∙ ap (deeds_by asks) (party_part cores)
+    pub deeds_merged : deeds (start capacities widths cores) (merged js) ≡ deeds_by asks (of_party cores (get_or js cores []))
+    deeds_merged = deeds_from seen asks (start capacities widths cores) (merged js) good ∙ deeds_filter asks (length capacities - cores) cores (merged js) made_merged ∙ ap (deeds_by asks)
+        (party_part cores)

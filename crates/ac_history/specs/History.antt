@@ -1,6 +1,9 @@
 -- The state of all links and stamps, and the histories that are legal from there.
-use Rattle.std.specs.Prelude.{◌≡◌, ℕ, suc, ◌-◌, List, [], ◌∷◌, length, replicate, Bool, true, ◌==◌, slice_set, not, ◌&&◌, nat_lt}
-use Rattle.std.specs.Prelude.{if◌then◌else◌, slice_index_or, nat_le, slice_index, ◌||◌}
+use Rattle.std.specs.Prelude.{◌≡◌, ℕ, suc, ◌-◌, List, [], ◌∷◌, length, replicate}
+use Rattle.std.specs.Prelude.{Option, Some, Bool, true, ◌==◌, slice_set, not, ◌&&◌, nat_lt}
+use Rattle.std.specs.Prelude.{if◌then◌else◌, slice_index_or, nat_le, slice_index, slice_get, ◌||◌}
+use Rattle.ac_base.specs.declared.entry.Payload.{Payload}
+use Rattle.ac_base.specs.declared.entry.Payload.TheVariants.{Int}
 use Rattle.ac_base.specs.declared.entry.Event.{Event}
 use Rattle.ac_base.specs.declared.entry.Stamped.{Stamped}
 use Rattle.ac_base.specs.declared.entry.Event.TheVariants.{Offer, Withdraw, Know, Room, Got, Pass, Did, Reply}
@@ -12,6 +15,8 @@ use Rattle.ac_links.specs.Link.{link_fits, answered, link_after, link_of}
 -- what the entries so far have made of all links, and which stamps came
 pub record Past : Type 0 where
   pub capacities : List ℕ
+  -- how many ints a message of each channel has
+  pub widths : List ℕ
   -- the links below this number are channels, and the others carry requests
   pub channels : ℕ
   -- the parties below this number are cores, and the party of this number is the worker
@@ -57,9 +62,19 @@ abbrev pub may_make : ℕ → ℕ → Stamped → Bool
 may_make channels cores e = makes (nat_lt e.party cores) (e.party == cores) (nat_le channels (link_of e.entry.event)) e.entry.event
     && (nat_lt e.party cores || (e.entry.turn == 0))
 
+-- a channel carries messages of as many ints as its width; the other links have none
+abbrev pub has_width : Option ℕ → Payload → Bool
+has_width (Some width) (Int ints) = length ints == width
+has_width _ _ = true
+
+abbrev pub has_its_width : List ℕ → Event → Bool
+has_its_width widths (Offer l n payload) = has_width (slice_get widths l) payload
+has_its_width widths _ = true
+
 -- the entry may come next
 abbrev pub fits : Past → Stamped → Bool
 fits past e = in_range past e && is_later past.stamp past.party e && has_stamp past e && may_make past.channels past.cores e
+    && has_its_width past.widths e.entry.event
     && link_fits (terms_of past.capacities past.channels (link_of e.entry.event)) (link_at past (link_of e.entry.event)) e.entry.event
 
 abbrev pub after : Past → Stamped → Past
@@ -76,9 +91,10 @@ IsLegal past [] = Unit {0}
 IsLegal past (e ∷ es) = (fits past e ≡ true) × IsLegal (after past e) es
 
 -- nothing has happened: as many cores as this, each with a link for its requests after the channels
-abbrev pub start : List ℕ → ℕ → Past
-start capacities cores = record {
+abbrev pub start : List ℕ → List ℕ → ℕ → Past
+start capacities widths cores = record {
   capacities = capacities;
+  widths = widths;
   channels = length capacities - cores;
   cores = cores;
   links = replicate (length capacities) [];

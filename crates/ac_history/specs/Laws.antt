@@ -15,7 +15,7 @@ use Rattle.ac_history.specs.Merged.{all_from, merged}
 use Rattle.ac_history.specs.History.{IsLegal, terms_of, start}
 use Rattle.ac_history.specs.Files.{padded, IsServed, contents, deeds, deeds_by}
 use Rattle.ac_history.specs.Served.{HistoryState, begun, IsHistory, after_all}
-use Rattle.ac_history.specs.Agreement.{AllStamps, AllMade, InRange, link_part}
+use Rattle.ac_history.specs.Agreement.{AllStamps, AllMade, AllOfTheirWidth, InRange, link_part}
 use Rattle.ac_history.specs.Network.{Pair, NetworkAgrees, DiskAgrees, request_by, worker_entries}
 use Rattle.ac_history.specs.Parties.{PartiesAgree, pair_of}
 use Rattle.ac_history.specs.Quiet.{after_all_of, IsQuiet, PartiesRest}
@@ -25,16 +25,18 @@ use Rattle.ac_history.specs.Working.{WorkerLink, WorkerDisk, WorkerAnswers, Work
 
 -- where the entries of each link are right by themselves, and so are the stamps and the makers of each journal
 abbrev pub MergedIsLegal : Type 0
-MergedIsLegal = (seen : Event → ℕ) (asks : Event → Option Payload) (capacities : List ℕ) (cores : ℕ) (js : List (List Entry))
+MergedIsLegal = (seen : Event → ℕ) (asks : Event → Option Payload) (capacities widths : List ℕ) (cores : ℕ) (js : List (List Entry))
     → length js ≡ suc cores → AllStamps seen js
     → ((l : ℕ) → LinkAgrees seen asks (terms_of capacities (length capacities - cores) l) [] (link_part l js))
     → AllMade (length capacities - cores) cores (all_from 0 js) → InRange (length capacities) (all_from 0 js)
-    → IsLegal (start capacities cores) (merged js)
+    → AllOfTheirWidth widths (all_from 0 js)
+    → IsLegal (start capacities widths cores) (merged js)
 
 -- where the two ends of each link agree, and each journal has its stamps by what its own party noted
 abbrev pub NetworkIsLegal : Type 0
-NetworkIsLegal = (capacities : List ℕ) (cores : ℕ) (mine : ℕ → Event → ℕ) (pairs : ℕ → Pair) (js : List (List Entry))
-    → NetworkAgrees capacities cores mine pairs js → IsLegal (start capacities cores) (merged js)
+NetworkIsLegal = (capacities widths : List ℕ) (cores : ℕ) (mine : ℕ → Event → ℕ) (pairs : ℕ → Pair) (js : List (List Entry))
+    → NetworkAgrees capacities cores mine pairs js → AllOfTheirWidth widths (all_from 0 js)
+    → IsLegal (start capacities widths cores) (merged js)
 
 -- parties that agree with their journals, on links whose ends agree with each other, are such a network
 abbrev pub PartiesAreANetwork : Type 0
@@ -47,39 +49,42 @@ PartiesAreANetwork = (capacities : List ℕ) (cores : ℕ) (owner peer : ℕ →
 
 -- no stamp is above the number of entries
 abbrev pub StampsAreFew : Type 0
-StampsAreFew = (capacities : List ℕ) (cores : ℕ) (es : List Stamped) → IsLegal (start capacities cores) es
+StampsAreFew = (capacities widths : List ℕ) (cores : ℕ) (es : List Stamped) → IsLegal (start capacities widths cores) es
     → AllByRecursion (λ e. e.entry.stamp ≤ length es) es
 
 -- ---- the end of a run
 
 -- where each party rests by what is known of its links, the run is quiet
 abbrev pub PartiesAtRestAreQuiet : Type 0
-PartiesAtRestAreQuiet = (capacities : List ℕ) (cores : ℕ) (owner peer : ℕ → ℕ) (ends : ℕ → ℕ → LinkEnd)
+PartiesAtRestAreQuiet = (capacities widths : List ℕ) (cores : ℕ) (owner peer : ℕ → ℕ) (ends : ℕ → ℕ → LinkEnd)
     (offers : ℕ → List OwnerOffer) (decisions : ℕ → List PeerDecision) (js : List (List Entry)) (stops : List CoreEnd)
     → PartiesAgree capacities cores owner peer ends offers decisions js → PartiesRest capacities cores owner peer offers decisions stops
-    → IsQuiet owner peer (after_all_of (start capacities cores) (merged js)) stops
+    → IsQuiet owner peer (after_all_of (start capacities widths cores) (merged js)) stops
 
 -- ---- the files
 
 -- what was done in the merged history is what the worker's journal says, in its order, of the requests that the owners offered
 abbrev pub DeedsAreTheWorkers : Type 0
-DeedsAreTheWorkers = (capacities : List ℕ) (cores : ℕ) (mine : ℕ → Event → ℕ) (pairs : ℕ → Pair) (js : List (List Entry))
+DeedsAreTheWorkers = (capacities widths : List ℕ) (cores : ℕ) (mine : ℕ → Event → ℕ) (pairs : ℕ → Pair) (js : List (List Entry))
     → NetworkAgrees capacities cores mine pairs js
-    → deeds (start capacities cores) (merged js) ≡ deeds_by (request_by pairs) (worker_entries cores js)
+    → deeds (start capacities widths cores) (merged js) ≡ deeds_by (request_by pairs) (worker_entries cores js)
 
 -- where a disk served the worker's journal, it served the merged history, and it holds that history's contents
 abbrev pub NetworkIsServed : Type 0
-NetworkIsServed = (capacities : List ℕ) (cores : ℕ) (mine : ℕ → Event → ℕ) (pairs : ℕ → Pair) (js : List (List Entry))
+NetworkIsServed = (capacities widths : List ℕ) (cores : ℕ) (mine : ℕ → Event → ℕ) (pairs : ℕ → Pair) (js : List (List Entry))
     (got : Event → Option Payload) (files left : List (List ℕ))
     → NetworkAgrees capacities cores mine pairs js → DiskAgrees cores pairs js got files left
-    → IsServed files (deeds (start capacities cores) (merged js)) × (left ≡ contents files (deeds (start capacities cores) (merged js)))
+    → IsServed files (deeds (start capacities widths cores) (merged js))
+    × (left ≡ contents files (deeds (start capacities widths cores) (merged js)))
 
 -- the same, entry by entry from these files on
 abbrev pub NetworkIsAHistory : Type 0
-NetworkIsAHistory = (capacities : List ℕ) (cores : ℕ) (mine : ℕ → Event → ℕ) (pairs : ℕ → Pair) (js : List (List Entry))
+NetworkIsAHistory = (capacities widths : List ℕ) (cores : ℕ) (mine : ℕ → Event → ℕ) (pairs : ℕ → Pair) (js : List (List Entry))
     (got : Event → Option Payload) (files left : List (List ℕ))
-    → NetworkAgrees capacities cores mine pairs js → DiskAgrees cores pairs js got (padded files) left
-    → IsHistory (begun capacities cores files) (merged js) × ((after_all (begun capacities cores files) (merged js)).files ≡ left)
+    → NetworkAgrees capacities cores mine pairs js → AllOfTheirWidth widths (all_from 0 js)
+    → DiskAgrees cores pairs js got (padded files) left
+    → IsHistory (begun capacities widths cores files) (merged js)
+    × ((after_all (begun capacities widths cores files) (merged js)).files ≡ left)
 
 -- ---- entry by entry, and by the whole
 

@@ -30,10 +30,11 @@ times test es = count_by (λ (e : Stamped). test e.entry.event) es
 
 -- an offer is withdrawn once at most, or it is taken once at most, and never both
 abbrev pub OffersEndOnce : Type 0
-OffersEndOnce = (capacities : List ℕ) (cores : ℕ) (es : List Stamped) (link number : ℕ) → IsLegal (start capacities cores) es
+OffersEndOnce = (capacities widths : List ℕ) (cores : ℕ) (es : List Stamped) (link number : ℕ) → IsLegal (start capacities widths cores) es
     → times (is_withdrawal link number) es + times (is_taking link number) es ≤ 1
 
 -- what its owner knows to be taken was taken
 abbrev pub WhatIsKnownWasTaken : Type 0
-WhatIsKnownWasTaken = (capacities : List ℕ) (cores : ℕ) (es : List Stamped) (link number : ℕ) → IsLegal (start capacities cores) es
+WhatIsKnownWasTaken = (capacities widths : List ℕ) (cores : ℕ) (es : List Stamped) (link number : ℕ)
+    → IsLegal (start capacities widths cores) es
     → 1 ≤ times (is_news link number) es → times (is_taking link number) es ≡ 1

@@ -10,8 +10,8 @@ pub record HistoryState : Type 0 where
   pub files : List (List ℕ)
 
 -- nothing has happened, and these are the files
-abbrev pub begun : List ℕ → ℕ → List (List ℕ) → HistoryState
-begun capacities cores files = record { past = start capacities cores; files = padded files }
+abbrev pub begun : List ℕ → List ℕ → ℕ → List (List ℕ) → HistoryState
+begun capacities widths cores files = record { past = start capacities widths cores; files = padded files }
 
 abbrev pub serves_all : List (List ℕ) → List Deed → Bool
 serves_all files [] = true

@@ -1,6 +1,6 @@
 //! Whether a history is legal and its reads are answered by the files, entry by entry.
 
-ghost use Rattle.std.specs.Prelude.{◌≡◌, ◌↔◌, IsTrue, IfOk, OnErr, ◌<◌, ◌≤◌, length, slice_get, Some, if◌then◌else◌};
+ghost use Rattle.std.specs.Prelude.{◌≡◌, ◌↔◌, IsTrue, IfOk, OnErr, ◌<◌, ◌+◌, length, slice_get, Some, if◌then◌else◌};
 ghost use Rattle.ac_history.specs.History.{fits, after};
 ghost use Rattle.file_bytes.specs.Overwritten.{overwritten};
 ghost use Rattle.ac_history.specs.Files.{written};
@@ -57,18 +57,22 @@ impl Model for Legal {
 
 impl Legal {
     /// Nothing has happened on links of these capacities, of which the last ones are those of the
-    /// cores' requests. The files begin with these bytes, and further ones, up to sixteen, empty.
+    /// cores' requests, and the messages of the others have so many ints. The files begin with these
+    /// bytes, and further ones, up to sixteen, empty.
+    ///
+    /// Condition: there is one width per channel, and then one link for each core.
     pub fn new(
         alloc: Global,
         capacities: &List<u32>,
+        widths: &List<u32>,
         cores: u32,
         start: &List<Bytes>,
     ) -> Result<Legal, NoMemory>
-        requires { cores ≤ length capacities.now }
-        ensures { IfOk result (λ it. it ≡ begun capacities.now cores start.now) }
+        requires { length widths.now + cores ≡ length capacities.now }
+        ensures { IfOk result (λ it. it ≡ begun capacities.now widths.now cores start.now) }
     {
         Ok(Legal {
-            links: Links::new(alloc, capacities, cores)?,
+            links: Links::new(alloc, capacities, widths, cores)?,
             files: Files::new(alloc, start)?,
             alloc,
         })

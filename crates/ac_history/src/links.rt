@@ -7,6 +7,7 @@ ghost use Rattle.ac_base.specs.Stamps.{next_stamp};
 ghost use Rattle.ac_links.specs.AtRest.{has_front, has_room, is_news, is_unreplied};
 ghost use Rattle.ac_links.specs.Link.{link_of, offered_payload};
 ghost use Rattle.ac_history.specs.History.{start, link_at, in_range, is_later, has_stamp, terms_of, makes, may_make, fits, after};
+ghost use Rattle.ac_history.specs.History.{has_width, has_its_width};
 
 use ac_base::{Event, List, NoMemory, Payload, Stamped};
 use ac_links::{Link, Terms, link_of};
@@ -35,6 +36,17 @@ fn makes(core: bool, worker: bool, requests: bool, event: &Event) -> bool
     }
 }
 
+// Whether the payload, on a channel of this width, has as many ints, where it is a message; a request is
+// none.
+fn has_width(width: u32, payload: &Payload) -> bool
+    ensures { result ≡ has_width (Some width) payload.now }
+{
+    match payload {
+        Payload::Int(ints) => ints.len() == width,
+        _ => true,
+    }
+}
+
 fn no_offers(alloc: Global, links: u64) -> Result<Vec<Link>, NoMemory>
     ensures { IfOk result (λ it. it.items ≡ replicate links []) }
 {
@@ -59,6 +71,7 @@ fn no_stamps(alloc: Global, parties: u64) -> Result<Vec<u64>, NoMemory>
 #[derive(Debug, Drop)]
 pub struct Links {
     capacities: List<u32>,
+    widths: List<u32>,
     channels: u64,
     cores: u32,
     links: Vec<Link>,
@@ -75,6 +88,7 @@ impl Model for Links {
 
     ghost view = { λ it. record {
       capacities = it.capacities;
+      widths = it.widths;
       channels = it.channels;
       cores = it.cores;
       links = it.links.items;
@@ -86,13 +100,19 @@ impl Model for Links {
 
 impl Links {
     /// Links of these capacities, of which nothing has been offered. The last ones are those of the
-    /// cores' requests.
-    pub fn new(alloc: Global, capacities: &List<u32>, cores: u32) -> Result<Links, NoMemory>
+    /// cores' requests, and the messages of the others have so many ints.
+    pub fn new(
+        alloc: Global,
+        capacities: &List<u32>,
+        widths: &List<u32>,
+        cores: u32,
+    ) -> Result<Links, NoMemory>
         requires { cores ≤ length capacities.now }
-        ensures { IfOk result (λ it. it ≡ start capacities.now cores) }
+        ensures { IfOk result (λ it. it ≡ start capacities.now widths.now cores) }
     {
         Ok(Links {
             capacities: capacities.copy(alloc)?,
+            widths: widths.copy(alloc)?,
             channels: capacities.len() - u64::from(cores),
             cores,
             links: no_offers(alloc, capacities.len())?,
@@ -163,6 +183,20 @@ impl Links {
         makes(core, worker, requests, &entry.entry.event) && (core || entry.entry.turn == 0)
     }
 
+    fn has_its_width(&self, event: &Event) -> bool
+        ensures { result ≡ has_its_width self.now.widths event.now }
+    {
+        match event {
+            Event::Offer { link, payload, .. } => {
+                match self.widths.as_slice().get(*link as usize) {
+                    Some(width) => has_width(*width, payload),
+                    None => true,
+                }
+            }
+            _ => true,
+        }
+    }
+
     fn is_later(&self, entry: &Stamped) -> bool
         ensures { result ≡ is_later self.now.stamp self.now.party entry.now }
     {
@@ -202,6 +236,7 @@ impl Links {
         self.is_later(entry)
             && self.has_stamp(entry)
             && self.may_make(entry)
+            && self.has_its_width(&entry.entry.event)
             && self.links[link as usize].fits(self.terms_of(link as usize), &entry.entry.event)
     }
 

@@ -1,7 +1,7 @@
 -- What the definitions say of small disks in memory: of which sides stay in use, of what a mirror tells, and of a prefix. Each stands beside
 -- values of which it holds and values of which it does not.
-use Rattle.std.proofs.Common.{◌≡◌, refl, ℕ, Bool, true, false, List, [], ◌∷◌, codes, replicate, slice_index, None, Some, arith}
-use Rattle.std.specs.Prelude.{Ok, Err, ⊤, slice_index_or}
+use Rattle.std.proofs.Common.{◌≡◌, refl, ℕ, Bool, true, false, List, [], ◌∷◌, codes, replicate, None, Some, arith}
+use Rattle.std.specs.Prelude.{Ok, Err, ⊤}
 use Rattle.std.specs.declared.result.Result.{Result}
 use Rattle.ac_outside.specs.declared.failed.BindFault.{BindFault}
 use Rattle.ac_outside.specs.declared.failed.BindFault.TheVariants.{Failed, NoMemory}
@@ -168,9 +168,6 @@ pub one_that_tells_nothing_is_not : AreAlike (Some (held_of [] 0)) None → ⊥
 one_that_tells_nothing_is_not h = let e = h.other in cc
 
 -- ---- what a call keeps
-
-first_byte : List NamedBytes → ℕ
-first_byte files = slice_index (slice_index_or files 0 (record { name = []; bytes = [] })).bytes 0
 
 pub no_count_rose : EachRose told_by_safe_disk told_by_safe_disk (mirror true false) (mirror true false) → ⊥
 no_count_rose h = let r = h.first refl in omega (arith, r)

@@ -11,6 +11,7 @@ mod Keeping
 mod LastFile
 mod MirrorRestored
 mod NewPath
+mod OnlyBound
 pub mod PairsExamples
 mod ReadOnly
 pub mod RebuildExamples

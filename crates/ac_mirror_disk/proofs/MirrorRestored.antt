@@ -51,11 +51,11 @@ module _ {S T : Type 0} (told_s : S → DiskTold) (told_t : T → DiskTold) wher
   -- a side that is in use again was copied onto
   copied_then : (s s' : Side S) (t t' : Side T) (count : ℕ) (result : Rebuilt) → result ≢ NoMemory → Rebuilds told_s told_t s s' t t' count result → t'.in_use ≡ true
       → (result ≡ Both) × IfBoth (told_s s'.disk).held (told_t t'.disk).held HaveSameFiles
-  copied_then s s' t t' count result some (refused e) used = absurd (some e)
-  copied_then s s' t t' count result some (unbound e same out rose) used = absurd (cc (sym used ∙ out))
-  copied_then s s' t t' count result some (longer file e is same out later) used = absurd (cc (sym used ∙ out))
-  copied_then s s' t t' count result some (torn between e none out still rose) used = absurd (cc (sym used ∙ out))
-  copied_then s s' t t' count result some (copied between e none now still equal) used = (e, equal)
+  copied_then s s' t t' count result some (refused e same out ready) used = absurd (some e)
+  copied_then s s' t t' count result some (unbound e same out only rose) used = absurd (cc (sym used ∙ out))
+  copied_then s s' t t' count result some (longer file e is same out only all later) used = absurd (cc (sym used ∙ out))
+  copied_then s s' t t' count result some (torn between e only all none out still rose) used = absurd (cc (sym used ∙ out))
+  copied_then s s' t t' count result some (copied between e only all none now still equal) used = (e, equal)
 
 module _ {A B : Type 0} (told_a : A → DiskTold) (told_b : B → DiskTold) (m m' : Mirrored A B) (result : Rebuilt) where
   pub rebuilt_ready : IsReady told_a told_b m → result ≢ NoMemory → RebuildsSides told_a told_b m.a m'.a m.b m'.b m.paths m.is_even m'.is_even result → m'.paths ≡ m.paths

@@ -1,16 +1,13 @@
--- What the relations on two sides say of disks that are numbers of calls: whom a read has asked, what each answered, and which stay in use; and
--- what a rebuilding may not come to.
+-- What the relations on two sides say of disks that are numbers of calls: whom a read has asked, what each answered, and which stay in use.
 use Rattle.std.proofs.Common.{◌≡◌, refl, ℕ, Bool, true, false, [], ◌∷◌, codes, replicate, None, Some, ap, ◌∙◌, arith}
 use Rattle.std.specs.Prelude.{◌&&◌, not, Ok, is_some}
 use Rattle.std.specs.declared.option.Option.{Option}
 use Rattle.std.specs.declared.result.Result.{Result}
 use Rattle.ac_outside.specs.declared.failed.Failed.{Failed}
 use Rattle.ac_mirror_disk.specs.declared.side.Side.{Side}
-use Rattle.ac_mirror_disk.specs.declared.rebuilding.Rebuilt.TheVariants.{Both, NoMemory}
 use Rattle.ac_mirror_disk.specs.Sides.{IsLeft, SideReads, has_failed}
 use Rattle.ac_mirror_disk.specs.Pairs.{IfBoth, HaveSameFiles, HaveSameBytes, BothRead, ComparesOrNot}
 use Rattle.ac_mirror_disk.specs.Prefixes.{UnderPrefix, told_under_prefix}
-use Rattle.ac_mirror_disk.specs.Rebuilding.{Rebuilds, refused, unbound, longer, torn, copied}
 use Rattle.ac_mirror_disk.proofs.Examples.{told, one_read, held_of, found, named}
 
 abbrev pub side : ℕ → Bool → Side ℕ
@@ -70,16 +67,3 @@ nothing_is_told_without_memory = refl
 
 pub as_many_are_bound : (told_under_prefix told below).bound ≡ 1
 as_many_are_bound = refl
-
--- ---- rebuilding
-
-pub memory_was_refused : Rebuilds told told (side 3 true) (side 3 true) (side 7 false) (side 7 false) 1 NoMemory
-memory_was_refused = refused refl
-
--- both are not in use then
-pub not_both : Rebuilds told told (side 3 true) (side 4 true) (side 7 false) (side 9 false) 1 Both → ⊥
-not_both (refused e) = absurd (cc e)
-not_both (unbound e same out rose) = absurd (cc e)
-not_both (longer file e first same out later) = absurd (cc e)
-not_both (torn between e none out still rose) = absurd (cc e)
-not_both (copied between e none now still equal) = absurd (cc now)

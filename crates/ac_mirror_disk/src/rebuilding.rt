@@ -26,6 +26,7 @@ pub enum Rebuilt {
 }
 
 // Binds the files that the side has not bound yet.
+#[tactic(auto, using(crate::proofs::OnlyBound::binds_none, crate::proofs::OnlyBound::binds_on))]
 fn bind_rest<T: Disk>(t: &mut Side<T>, paths: &[String]) -> Result<(), BindFault>
     requires kept { IsKept T.told t.old (map string_bytes paths.now) }
     requires out { t.old.in_use ≡ false }

@@ -1,6 +1,5 @@
 -- The answers that make no entry, and what an end knows: with clocks at their last stamp, without a slot, and with nothing to see.
 use Rattle.std.proofs.Common.{ℕ, true, [], ◌∷◌, Some, None, refl, arith, inl, inr, ⊎_elim}
-use Rattle.std.specs.Prelude.{pos}
 use Rattle.completion_word.specs.declared.answers.Look.TheVariants as look
 use Rattle.completion_word.specs.declared.standing.Standing.TheVariants as word
 use Rattle.core_channels.specs.declared.answers.Offering.TheVariants as offering
@@ -12,23 +11,23 @@ use Rattle.channel_ends.specs.Offers.{Offers}
 use Rattle.channel_ends.specs.Learns.{Learns, IsHeardOnly}
 use Rattle.channel_ends.specs.Withdraws.{Withdraws, IsNotTried}
 use Rattle.channel_ends.specs.Receiving.{Receives, Sees}
-use Rattle.channel_ends.proofs.Examples.{an_offer, notes, sender, a_peer, receiver, new_one, five_offered, five_known}
+use Rattle.channel_ends.proofs.Examples.{one_int, an_offer, notes, sender, a_peer, receiver, new_one, five_offered, five_known}
 
 abbrev last : ℕ
 last = 1152921504606846975
 
 -- ---- an offer
 
-pub no_stamp_for_an_offer : Offers new_one (pos 5) last (offering.ClockFull (pos 5)) new_one
+pub no_stamp_for_an_offer : Offers new_one (one_int 5) last (offering.ClockFull (one_int 5)) new_one
 no_stamp_for_an_offer = (refl, refl, refl, refl)
 
-pub a_stamp_is_left : Offers new_one (pos 5) 0 (offering.ClockFull (pos 5)) new_one → ⊥
+pub a_stamp_is_left : Offers new_one (one_int 5) 0 (offering.ClockFull (one_int 5)) new_one → ⊥
 a_stamp_is_left h = let e = h.1 in cc
 
-pub no_slot_is_known : Offers (sender (notes 1 [] [] 0 word.Unused) [] 0) (pos 5) 0 (offering.NotYet (pos 5)) (sender (notes 1 [] [] 0 word.Unused) [] 0)
+pub no_slot_is_known : Offers (sender (notes 1 [] [] 0 word.Unused) [] 0) (one_int 5) 0 (offering.NotYet (one_int 5)) (sender (notes 1 [] [] 0 word.Unused) [] 0)
 no_slot_is_known = (refl, (1, refl), refl, refl, refl)
 
-pub a_slot_is_known : Offers new_one (pos 5) 0 (offering.NotYet (pos 5)) new_one → ⊥
+pub a_slot_is_known : Offers new_one (one_int 5) 0 (offering.NotYet (one_int 5)) new_one → ⊥
 a_slot_is_known h = let e = h.2 in omega arith
 
 -- ---- what is learned

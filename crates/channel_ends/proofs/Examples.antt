@@ -22,6 +22,10 @@ use Rattle.channel_ends.specs.Learns.{Learns}
 use Rattle.channel_ends.specs.Withdraws.{MayWithdraw, Withdraws}
 use Rattle.channel_ends.specs.Receiving.{Receiving, Receives}
 
+-- a message of one int
+abbrev pub one_int : ℕ → List ℤ
+one_int n = pos n ∷ []
+
 abbrev pub words_of : ℕ → TableId
 words_of n = record { words = n; slots = 0; views_name = 0; atom = 0; block = 0; offset = 0; slot_names = [] }
 
@@ -35,13 +39,13 @@ an_offer stamp withdrawn known = record { stamp = stamp; withdrawn = withdrawn; 
 abbrev pub notes : ℕ → List MadeOffer → List (Option ℕ) → ℕ → Standing → OwnerNotes
 notes n offers heard loads saw = record { table = words_of n; offers = offers; heard = heard; told = 0; loads = loads; saw = saw }
 
-abbrev pub sender : OwnerNotes → List ℤ → ℕ → Sending ℤ
+abbrev pub sender : OwnerNotes → List (List ℤ) → ℕ → Sending (List ℤ)
 sender e payloads free = record { ring = a_ring; notes = e; payloads = payloads; free = free }
 
 abbrev pub a_peer : List Decision → ℕ → Standing → Option Look → Peer
 a_peer decisions looks saw seen = record { decisions = decisions; looks = looks; saw = saw; look = seen; told_offers = 0 }
 
-abbrev pub receiver : ℕ → Peer → List ℤ → Receiving ℤ
+abbrev pub receiver : ℕ → Peer → List (List ℤ) → Receiving (List ℤ)
 receiver n p popped = record { table = words_of n; ring = a_ring; peer = p; popped = popped; items = [] }
 
 none_is_some : {s : ℕ} → None ≡ Some s → ⊥
@@ -52,13 +56,13 @@ passed_is_taken e = cc
 
 -- ---- one place: 5 is offered and taken, and its withdrawal comes too late
 
-abbrev pub new_one : Sending ℤ
+abbrev pub new_one : Sending (List ℤ)
 new_one = sender (notes 1 [] [] 0 word.Unused) [] 1
 
-abbrev pub five_offered : Sending ℤ
-five_offered = sender (notes 1 (an_offer 1 None None ∷ []) (None ∷ []) 0 word.Unused) (pos 5 ∷ []) 0
+abbrev pub five_offered : Sending (List ℤ)
+five_offered = sender (notes 1 (an_offer 1 None None ∷ []) (None ∷ []) 0 word.Unused) (one_int 5 ∷ []) 0
 
-pub five_is_offered : Offers new_one (pos 5) 0 (offering.Offered 0 1) five_offered
+pub five_is_offered : Offers new_one (one_int 5) 0 (offering.Offered 0 1) five_offered
 five_is_offered = (
   refl,
   refl,
@@ -71,10 +75,10 @@ five_is_offered = (
   },
 )
 
-abbrev pub five_taken : Receiving ℤ
-five_taken = receiver 1 (a_peer (decision (outcome.Taken 2) 1 ∷ []) 1 (word.Offered 1) None) (pos 5 ∷ [])
+abbrev pub five_taken : Receiving (List ℤ)
+five_taken = receiver 1 (a_peer (decision (outcome.Taken 2) 1 ∷ []) 1 (word.Offered 1) None) (one_int 5 ∷ [])
 
-pub five_is_taken : Receives (receiver 1 (a_peer [] 0 word.Unused None) []) 0 (receiving.Took 0 (pos 5) 2) five_taken
+pub five_is_taken : Receives (receiver 1 (a_peer [] 0 word.Unused None) []) 0 (receiving.Took 0 (one_int 5) 2) five_taken
 five_is_taken = record {
   of = 1;
   next = refl;
@@ -85,7 +89,7 @@ five_is_taken = record {
   told = refl;
   looks = refl;
   popped = refl;
-  items = (pos 5 ∷ [], refl);
+  items = (one_int 5 ∷ [], refl);
 }
 
 abbrev pub five_known : OwnerNotes
@@ -116,12 +120,12 @@ five_withdrawn = notes 2 (an_offer 1 (Some 2) None ∷ []) (None ∷ []) 0 word.
 pub five_is_withdrawn : Withdraws (notes 2 (an_offer 1 None None ∷ []) (None ∷ []) 0 word.Unused) 0 1 (withdrawing.Withdrawn 2) five_withdrawn
 five_is_withdrawn = record { next = refl; not_heard = refl; not_told = omega arith; after = refl }
 
-abbrev pub five_passed : Receiving ℤ
-five_passed = receiver 2 (a_peer (decision (outcome.Passed 3) 2 ∷ []) 1 (word.Withdrawn 2) None) (pos 5 ∷ [])
+abbrev pub five_passed : Receiving (List ℤ)
+five_passed = receiver 2 (a_peer (decision (outcome.Passed 3) 2 ∷ []) 1 (word.Withdrawn 2) None) (one_int 5 ∷ [])
 
 pub five_is_passed : Receives (receiver 2 (a_peer [] 0 word.Unused None) []) 0 (receiving.Passed 0 3) five_passed
 five_is_passed = (
-  pos 5,
+  one_int 5,
   record {
     of = 2;
     next = refl;
@@ -132,19 +136,19 @@ five_is_passed = (
     told = refl;
     looks = refl;
     popped = refl;
-    items = (pos 5 ∷ [], refl);
+    items = (one_int 5 ∷ [], refl);
   },
 )
 
-pub and_it_is_not_taken : (s : ℕ) → Receives (receiver 2 (a_peer [] 0 word.Unused None) []) 0 (receiving.Took 0 (pos 5) s) five_passed → ⊥
+pub and_it_is_not_taken : (s : ℕ) → Receives (receiver 2 (a_peer [] 0 word.Unused None) []) 0 (receiving.Took 0 (one_int 5) s) five_passed → ⊥
 and_it_is_not_taken s h = passed_is_taken (ap (λ ds. (decision_at ds 0).outcome) h.decisions)
 
 -- ---- one place: the withdrawn offer keeps its room until it is known to be passed
 
-abbrev pub five_gone : Sending ℤ
-five_gone = sender (notes 1 (an_offer 1 (Some 2) None ∷ []) (None ∷ []) 0 word.Unused) (pos 5 ∷ []) 0
+abbrev pub five_gone : Sending (List ℤ)
+five_gone = sender (notes 1 (an_offer 1 (Some 2) None ∷ []) (None ∷ []) 0 word.Unused) (one_int 5 ∷ []) 0
 
-pub no_room_for_six : Offers five_gone (pos 6) 2 (offering.NoRoom (pos 6)) five_gone
+pub no_room_for_six : Offers five_gone (one_int 6) 2 (offering.NoRoom (one_int 6)) five_gone
 no_room_for_six = (refl, refl, refl)
 
 pub it_is_undecided : Learns five_gone.notes 2 learning.Undecided (notes 1 (an_offer 1 (Some 2) None ∷ []) (None ∷ []) 1 (word.Withdrawn 2))
@@ -176,8 +180,8 @@ there_is_room_again = (
   },
 )
 
-pub six_is_offered : Offers (sender room_again (pos 5 ∷ []) 1) (pos 6) 4 (offering.Offered 1 5)
-    (sender (notes 1 (an_offer 1 (Some 2) (Some 3) ∷ an_offer 5 None None ∷ []) (Some 3 ∷ None ∷ []) 2 (word.Passed 3)) (pos 5 ∷ pos 6 ∷ []) 0)
+pub six_is_offered : Offers (sender room_again (one_int 5 ∷ []) 1) (one_int 6) 4 (offering.Offered 1 5)
+    (sender (notes 1 (an_offer 1 (Some 2) (Some 3) ∷ an_offer 5 None None ∷ []) (Some 3 ∷ None ∷ []) 2 (word.Passed 3)) (one_int 5 ∷ one_int 6 ∷ []) 0)
 six_is_offered = (
   refl,
   refl,
@@ -191,5 +195,5 @@ six_is_offered = (
 )
 
 -- room is there by what is known, and not by what the words would tell
-pub room_is_not_guessed : Offers five_gone (pos 6) 2 (offering.Offered 1 3) (sender room_again (pos 5 ∷ pos 6 ∷ []) 0) → ⊥
+pub room_is_not_guessed : Offers five_gone (one_int 6) 2 (offering.Offered 1 3) (sender room_again (one_int 5 ∷ one_int 6 ∷ []) 0) → ⊥
 room_is_not_guessed h = let e = h.0 in cc

@@ -206,7 +206,7 @@ module _ (terms : ℕ → Terms) (ends : ℕ → LinkEnd) (j : List Entry) (turn
 
     -- takings and passings
     module _ (h : ends l ≡ Decides v.decisions) (channel : v.terms.requests ≡ false) where
-      abbrev Takes : Receiving ℤ → Type 0
+      abbrev Takes : Receiving (List ℤ) → Type 0
       Takes a = Enters terms ends j turn l v (told_by_receiving l a) (Decides (after_receiving v a).decisions)
 
       got : (o : OwnerOffer) (q : Option ℕ) → slice_get v.offers (length v.decisions) ≡ Some o → stamp_after (last_of 0 j) o.stamp ≡ q → Takes (took_at (length v.decisions) o.payload q)

@@ -25,7 +25,7 @@ abbrev pub for_one : Terms
 for_one = record { capacity = 1; requests = false }
 
 abbrev pub five : OwnerOffer
-five = owner_offer (Int (pos 5)) 1
+five = owner_offer (Int (pos 5 ∷ [])) 1
 
 abbrev pub fresh : LinkViews
 fresh = record { terms = for_one; offers = []; decisions = []; spare = 1; counts = no_calls }
@@ -34,7 +34,7 @@ abbrev pub offered : LinkViews
 offered = record fresh { offers = five ∷ []; spare = 0 }
 
 abbrev pub taken : LinkViews
-taken = record offered { decisions = taken_decision (pos 5) 4 1 ∷ [] }
+taken = record offered { decisions = taken_decision (pos 5 ∷ []) 4 1 ∷ [] }
 
 abbrev pub known : LinkViews
 known = record taken { offers = known_at 4 five ∷ [] }
@@ -47,7 +47,7 @@ passed = record withdrawn { decisions = passed_decision 3 2 ∷ [] }
 
 -- two were offered on a channel for two
 abbrev pub both : LinkViews
-both = record { terms = record { capacity = 2; requests = false }; offers = five ∷ owner_offer (Int (pos 6)) 2 ∷ []; decisions = []; spare = 0; counts = no_calls }
+both = record { terms = record { capacity = 2; requests = false }; offers = five ∷ owner_offer (Int (pos 6 ∷ [])) 2 ∷ []; decisions = []; spare = 0; counts = no_calls }
 
 abbrev pub last_stamp : ℕ
 last_stamp = 1152921504606846975
@@ -66,44 +66,44 @@ not_its_follower n h = omega arith
 pub room_of_one : has_room fresh ∷ has_room offered ∷ has_room taken ∷ has_room known ∷ has_room both ∷ [] ≡ true ∷ false ∷ false ∷ true ∷ false ∷ []
 room_of_one = refl
 
-pub the_first_is_offered : offering fresh (Int (pos 5)) 0 ≡ Offered 0 1
+pub the_first_is_offered : offering fresh (Int (pos 5 ∷ [])) 0 ≡ Offered 0 1
 the_first_is_offered = refl
 
-pub a_second_has_no_room : offering offered (Int (pos 6)) 1 ≡ NoRoom (Int (pos 6))
+pub a_second_has_no_room : offering offered (Int (pos 6 ∷ [])) 1 ≡ NoRoom (Int (pos 6 ∷ []))
 a_second_has_no_room = refl
 
 -- the room is not back before the taking is known
-pub nor_after_the_taking : offering taken (Int (pos 6)) 1 ≡ NoRoom (Int (pos 6))
+pub nor_after_the_taking : offering taken (Int (pos 6 ∷ [])) 1 ≡ NoRoom (Int (pos 6 ∷ []))
 nor_after_the_taking = refl
 
-pub nor_after_a_passing : offering passed (Int (pos 6)) 2 ≡ NoRoom (Int (pos 6))
+pub nor_after_a_passing : offering passed (Int (pos 6 ∷ [])) 2 ≡ NoRoom (Int (pos 6 ∷ []))
 nor_after_a_passing = refl
 
-pub it_has_room_then : offering (record known { spare = 1 }) (Int (pos 6)) 5 ≡ Offered 1 6
+pub it_has_room_then : offering (record known { spare = 1 }) (Int (pos 6 ∷ [])) 5 ≡ Offered 1 6
 it_has_room_then = refl
 
-pub and_no_place_without_spare : offering known (Int (pos 6)) 5 ≡ NotYet (Int (pos 6))
+pub and_no_place_without_spare : offering known (Int (pos 6 ∷ [])) 5 ≡ NotYet (Int (pos 6 ∷ []))
 and_no_place_without_spare = refl
 
-pub the_last_stamp_is_used : offering fresh (Int (pos 5)) 1152921504606846974 ≡ Offered 0 last_stamp
+pub the_last_stamp_is_used : offering fresh (Int (pos 5 ∷ [])) 1152921504606846974 ≡ Offered 0 last_stamp
 the_last_stamp_is_used = refl
 
-pub and_none_after_it : offering fresh (Int (pos 5)) last_stamp ≡ ClockFull (Int (pos 5))
+pub and_none_after_it : offering fresh (Int (pos 5 ∷ [])) last_stamp ≡ ClockFull (Int (pos 5 ∷ []))
 and_none_after_it = refl
 
-pub no_room_is_told_first : offering offered (Int (pos 6)) last_stamp ≡ NoRoom (Int (pos 6))
+pub no_room_is_told_first : offering offered (Int (pos 6 ∷ [])) last_stamp ≡ NoRoom (Int (pos 6 ∷ []))
 no_room_is_told_first = refl
 
-pub no_spare_is_told_last : offering known (Int (pos 6)) last_stamp ≡ ClockFull (Int (pos 6))
+pub no_spare_is_told_last : offering known (Int (pos 6 ∷ [])) last_stamp ≡ ClockFull (Int (pos 6 ∷ []))
 no_spare_is_told_last = refl
 
-pub an_offer_is_at_the_end : after_offering fresh (Int (pos 5)) (Offered 0 1) ≡ offered
+pub an_offer_is_at_the_end : after_offering fresh (Int (pos 5 ∷ [])) (Offered 0 1) ≡ offered
 an_offer_is_at_the_end = refl
 
-pub what_is_not_offered_leaves_the_link : after_offering offered (Int (pos 6)) (NoRoom (Int (pos 6))) ≡ offered
+pub what_is_not_offered_leaves_the_link : after_offering offered (Int (pos 6 ∷ [])) (NoRoom (Int (pos 6 ∷ []))) ≡ offered
 what_is_not_offered_leaves_the_link = refl
 
-pub the_clock_of_an_offer : offering_clock 0 (Offered 0 1) ∷ offering_clock 3 (NoRoom (Int (pos 6))) ∷ [] ≡ 1 ∷ 3 ∷ []
+pub the_clock_of_an_offer : offering_clock 0 (Offered 0 1) ∷ offering_clock 3 (NoRoom (Int (pos 6 ∷ []))) ∷ [] ≡ 1 ∷ 3 ∷ []
 the_clock_of_an_offer = refl
 
 -- ---- what is learned
@@ -125,7 +125,7 @@ pub no_stamp_to_know : learning taken last_stamp ≡ learn.ClockFull
 no_stamp_to_know = refl
 
 -- where a late withdrawal has told of the second, the first is next
-pub a_later_one_may_be_known : learning (with_known (record both { decisions = taken_decision (pos 5) 3 1 ∷ taken_decision (pos 6) 4 2 ∷ [] }) 1) 5 ≡ learn.Know 0 6
+pub a_later_one_may_be_known : learning (with_known (record both { decisions = taken_decision (pos 5 ∷ []) 3 1 ∷ taken_decision (pos 6 ∷ []) 4 2 ∷ [] }) 1) 5 ≡ learn.Know 0 6
 a_later_one_may_be_known = refl
 
 pub a_taking_that_is_known : after_learning taken (learn.Know 0 5) ≡ known
@@ -162,31 +162,31 @@ the_clock_of_a_withdrawal = refl
 
 -- ---- what is received
 
-pub messages : message_of (Int (pos 5)) ∷ message_of (Read 0 0 4) ∷ [] ≡ pos 5 ∷ pos 0 ∷ []
+pub messages : message_of (Int (pos 5 ∷ [])) ∷ message_of (Read 0 0 4) ∷ [] ≡ (pos 5 ∷ []) ∷ (pos 0 ∷ []) ∷ []
 messages = refl
 
 pub nothing_to_take : receiving fresh 0 ∷ receiving taken 4 ∷ [] ≡ take.Nothing ∷ take.Nothing ∷ []
 nothing_to_take = refl
 
-pub it_is_taken : receiving offered 3 ∷ receiving offered 0 ∷ [] ≡ take.Took 0 (pos 5) 4 ∷ take.Took 0 (pos 5) 2 ∷ []
+pub it_is_taken : receiving offered 3 ∷ receiving offered 0 ∷ [] ≡ take.Took 0 (pos 5 ∷ []) 4 ∷ take.Took 0 (pos 5 ∷ []) 2 ∷ []
 it_is_taken = refl
 
 pub a_withdrawn_one_is_passed : receiving withdrawn 0 ≡ take.Passed 0 3
 a_withdrawn_one_is_passed = refl
 
-pub the_first_comes_first : receiving both 0 ∷ receiving (record both { decisions = taken_decision (pos 5) 2 1 ∷ [] }) 2 ∷ [] ≡ take.Took 0 (pos 5) 2 ∷ take.Took 1 (pos 6) 3 ∷ []
+pub the_first_comes_first : receiving both 0 ∷ receiving (record both { decisions = taken_decision (pos 5 ∷ []) 2 1 ∷ [] }) 2 ∷ [] ≡ take.Took 0 (pos 5 ∷ []) 2 ∷ take.Took 1 (pos 6 ∷ []) 3 ∷ []
 the_first_comes_first = refl
 
 pub no_stamp_to_take : receiving offered last_stamp ∷ receiving withdrawn last_stamp ∷ [] ≡ take.ClockFull ∷ take.ClockFull ∷ []
 no_stamp_to_take = refl
 
-pub after_its_taking : after_receiving offered (take.Took 0 (pos 5) 4) ≡ taken
+pub after_its_taking : after_receiving offered (take.Took 0 (pos 5 ∷ []) 4) ≡ taken
 after_its_taking = refl
 
 pub after_its_passing : after_receiving withdrawn (take.Passed 0 3) ≡ passed
 after_its_passing = refl
 
-pub the_clock_of_the_receiver : receiving_clock 3 (take.Took 0 (pos 5) 4) ∷ receiving_clock 0 (take.Passed 0 3) ∷ receiving_clock 3 take.Nothing ∷ [] ≡ 4 ∷ 3 ∷ 3 ∷ []
+pub the_clock_of_the_receiver : receiving_clock 3 (take.Took 0 (pos 5 ∷ []) 4) ∷ receiving_clock 0 (take.Passed 0 3) ∷ receiving_clock 3 take.Nothing ∷ [] ≡ 4 ∷ 3 ∷ 3 ∷ []
 the_clock_of_the_receiver = refl
 
 -- ---- counts of calls
@@ -265,8 +265,8 @@ one_with_an_offer_is_not_new h = not_its_follower 0 (ap count_of (h.each 0 (omeg
 
 -- ---- entries
 
-pub told_of_offers : told_by_offering 7 (Int (pos 5)) (Offered 0 1) ∷ told_by_offering 7 (Int (pos 5)) (NoRoom (Int (pos 5))) ∷ []
-    ≡ Some (record { event = event.Offer 7 0 (Int (pos 5)); stamp = 1 }) ∷ None ∷ []
+pub told_of_offers : told_by_offering 7 (Int (pos 5 ∷ [])) (Offered 0 1) ∷ told_by_offering 7 (Int (pos 5 ∷ [])) (NoRoom (Int (pos 5 ∷ []))) ∷ []
+    ≡ Some (record { event = event.Offer 7 0 (Int (pos 5 ∷ [])); stamp = 1 }) ∷ None ∷ []
 told_of_offers = refl
 
 pub told_of_learning : told_by_learning 7 (learn.Know 0 5) ∷ told_by_learning 7 (learn.Room 0 4) ∷ told_by_learning 7 learn.Undecided ∷ []
@@ -277,15 +277,15 @@ pub told_of_withdrawals : told_by_withdrawing 7 0 (withdraw.Withdrawn 2) ∷ tol
     ≡ Some (record { event = event.Withdraw 7 0; stamp = 2 }) ∷ Some (record { event = event.Know 7 0; stamp = 5 }) ∷ None ∷ []
 told_of_withdrawals = refl
 
-pub told_of_receiving : told_by_receiving 7 (take.Took 0 (pos 5) 4) ∷ told_by_receiving 7 (take.Passed 0 3) ∷ told_by_receiving 7 take.Nothing ∷ []
-    ≡ Some (record { event = event.Got 7 0 (pos 5); stamp = 4 }) ∷ Some (record { event = event.Pass 7 0; stamp = 3 }) ∷ None ∷ []
+pub told_of_receiving : told_by_receiving 7 (take.Took 0 (pos 5 ∷ []) 4) ∷ told_by_receiving 7 (take.Passed 0 3) ∷ told_by_receiving 7 take.Nothing ∷ []
+    ≡ Some (record { event = event.Got 7 0 (pos 5 ∷ []); stamp = 4 }) ∷ Some (record { event = event.Pass 7 0; stamp = 3 }) ∷ None ∷ []
 told_of_receiving = refl
 
 -- the owner of channel 7 enters its first offer
-pub the_first_entry : Enters (λ l. for_one) (λ l. Owns []) [] 1 7 fresh (Some (record { event = event.Offer 7 0 (Int (pos 5)); stamp = 1 })) (Owns (five ∷ []))
+pub the_first_entry : Enters (λ l. for_one) (λ l. Owns []) [] 1 7 fresh (Some (record { event = event.Offer 7 0 (Int (pos 5 ∷ [])); stamp = 1 })) (Owns (five ∷ []))
 the_first_entry = (record { fits = refl; next = refl; noted = refl }, refl)
 
-pub not_with_a_later_stamp : Enters (λ l. for_one) (λ l. Owns []) [] 1 7 fresh (Some (record { event = event.Offer 7 0 (Int (pos 5)); stamp = 2 })) (Owns (five ∷ [])) → ⊥
+pub not_with_a_later_stamp : Enters (λ l. for_one) (λ l. Owns []) [] 1 7 fresh (Some (record { event = event.Offer 7 0 (Int (pos 5 ∷ [])); stamp = 2 })) (Owns (five ∷ [])) → ⊥
 not_with_a_later_stamp e = not_its_follower 1 e.0.next
 
 pub nothing_is_entered : Enters (λ l. for_one) (λ l. Owns []) [] 1 7 fresh None (Owns [])

@@ -1,19 +1,18 @@
 -- What the front of a link of requests tells of its next offer: that it waits, or that it was withdrawn; and there is a stamp to decide it.
 -- By the cases in which a front is told: whether there is a next offer, whether it was withdrawn, whether the clock has a stamp. For `done` and `pass_request`.
 use Rattle.std.proofs.Common.{◌≡◌, ℕ, ◌<◌, ◌^◌, Option, Some, None, Bool, true, false, cond, refl, sym, ap, ◌∙◌, subst, arith, length, nat_lt}
-use Rattle.std.specs.Prelude.{slice_get, is_some}
+use Rattle.std.specs.Prelude.{slice_get}
 use Rattle.std.proofs.lemmas.Bool.Decides.{nat_tests}
 use Rattle.std.proofs.lemmas.Option.{slice_get_within}
 use Rattle.ac_base.specs.declared.entry.Payload.{Payload}
 use Rattle.ac_base.specs.declared.entry.Answer.{Answer}
 use Rattle.ac_base.specs.Stamps.{next_stamp, within, stamp_after}
-use Rattle.ac_links.specs.Payloads.{is_payload, is_request, answer_fits}
+use Rattle.ac_links.specs.Payloads.{answer_fits}
 use Rattle.ac_links.specs.Views.{OwnerOffer}
 use Rattle.core_channels.specs.declared.answers.Front.{Front}
 use Rattle.core_channels.specs.declared.answers.Front.TheVariants.{Nothing, Withdrawn, Request, ClockFull}
-use Rattle.core_channels.specs.LinkViews.{LinkViews, IsOffer, IsLink}
+use Rattle.core_channels.specs.LinkViews.{LinkViews}
 use Rattle.core_channels.specs.Requests.{withdrawn_front, request_front, front_by, front_of, next_offer, fronting, is_withdrawn, may_do}
-use Rattle.core_channels.proofs.Keeping.{all_at}
 
 -- the next offer stands, it is this request of this number, and there is a stamp for the entry by which it is done
 pub record Waits (v : LinkViews) (last number : ℕ) (payload : Payload) : Type 0 where
@@ -132,39 +131,6 @@ next_within v o h = slice_get_within v.offers (length v.decisions) o h
 
 pub same_next : (v : LinkViews) (o x : OwnerOffer) → next_offer v ≡ Some o → next_offer v ≡ Some x → o ≡ x
 same_next v o x h g = let e : Some o ≡ Some x = sym h ∙ g in cc
-
--- a link of requests carries no other payload
-pub front_is_a_request : (v : LinkViews) (last number : ℕ) (payload : Payload) → IsLink v → v.terms.requests ≡ true → fronting v last ≡ Request number payload → is_request payload ≡ true
-front_is_a_request v last number payload is r h =
-    let w = it_waits v last number payload h in
-    subst (λ p. is_request p ≡ true) w.payload_is
-    (subst (λ b. is_payload b w.own.payload ≡ true) r (all_at (IsOffer v.terms.requests) v.offers (length v.decisions) w.own w.there is.each).carried)
-
--- whether a front tells of an offer
-abbrev pub is_seen : Front → Bool
-is_seen Nothing = false
-is_seen (Withdrawn number) = true
-is_seen (Request number payload) = true
-is_seen ClockFull = true
-
-seen_withdrawn : (n : ℕ) (q : Option ℕ) → is_seen (withdrawn_front n q) ≡ true
-seen_withdrawn n None = refl
-seen_withdrawn n (Some s) = refl
-
-seen_request : (n : ℕ) (p : Payload) (q : Option ℕ) → is_seen (request_front n p q) ≡ true
-seen_request n p None = refl
-seen_request n p (Some s) = refl
-
-seen_by : (last n : ℕ) (o : OwnerOffer) (q : Option ℕ) → is_seen (front_by last n o q) ≡ true
-seen_by last n o None = seen_request n o.payload (stamp_after last o.stamp)
-seen_by last n o (Some w) = seen_withdrawn n (stamp_after last w)
-
-seen_of_offer : (last n : ℕ) (q : Option OwnerOffer) → is_seen (front_of last n q) ≡ is_some q
-seen_of_offer last n None = refl
-seen_of_offer last n (Some o) = seen_by last n o o.withdrawn
-
-pub front_is_seen : (v : LinkViews) (last : ℕ) (f : Front) → f ≡ fronting v last → is_seen f ≡ is_some (next_offer v)
-front_is_seen v last f e = ap is_seen e ∙ seen_of_offer last (length v.decisions) (next_offer v)
 
 -- what the front is, from what stands at the number of decisions
 pub front_is : (v : LinkViews) (last n : ℕ) (q : Option OwnerOffer) → n ≡ length v.decisions → slice_get v.offers n ≡ q → fronting v last ≡ front_of last n q

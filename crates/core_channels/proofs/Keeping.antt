@@ -4,9 +4,10 @@
 use Rattle.std.proofs.Common.{◌≡◌, ℕ, zero, suc, ◌<◌, ◌≤◌, List, [], ◌∷◌, ◌++◌, Option, Some, None, Bool, true, false, IfSome, refl, sym, ap, ◌∙◌, subst, arith, length, get_or, set, ℤ}
 use Rattle.std.specs.Prelude.{slice_get}
 use Rattle.std.specs.List.{All}
-use Rattle.std.specs.Ordering.{int_eq}
+use Rattle.std.specs.Cmp.Lexicographic.{pointwise_decides}
 use Rattle.std.proofs.lemmas.List.Elements.{All-push, All-cons, All-head, All-tail}
 use Rattle.std.proofs.lemmas.Bool.Decides.{Decides-int_eq}
+use Rattle.ac_base.specs.Messages.{ints_eq}
 use Rattle.ac_base.specs.declared.entry.Payload.{Payload}
 use Rattle.ac_base.specs.declared.entry.Payload.TheVariants.{Int, Read, Write}
 use Rattle.ac_links.specs.declared.payloads.Terms.{Terms}
@@ -78,12 +79,12 @@ views_withdraw r os ds n s h l v = record {
   each = all_altered (IsOffer r) (withdrawn_at s) os n (λ o e p. record { carried = p.carried; later = subst (λ q. offer_stamp q < s) e l }) v.each;
 }
 
-int_eq_self : (v : ℤ) → int_eq v v ≡ true
-int_eq_self v = (Decides-int_eq v v).1 refl
+ints_eq_self : (v : List ℤ) → ints_eq v v ≡ true
+ints_eq_self v = (pointwise_decides Decides-int_eq v v).1 refl
 
 -- a channel's offer carries the message that is taken of it
 is_carried : (p : Payload) → is_payload false p ≡ true → carries (Message (message_of p)) p ≡ true
-is_carried (Int v) h = int_eq_self v
+is_carried (Int v) h = ints_eq_self v
 is_carried (Read f a n) h = cc
 is_carried (Write f a b) h = cc
 

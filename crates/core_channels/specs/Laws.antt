@@ -52,7 +52,7 @@ told_by_withdrawing l number (withdraw.Withdrawn s) = Some (record { event = Wit
 told_by_withdrawing l number (withdraw.Taken s) = Some (record { event = Know l number; stamp = s })
 told_by_withdrawing l number withdraw.ClockFull = None
 
-abbrev pub told_by_receiving : ℕ → Receiving ℤ → Option Told
+abbrev pub told_by_receiving : ℕ → Receiving (List ℤ) → Option Told
 told_by_receiving l (take.Took number value s) = Some (record { event = Got l number value; stamp = s })
 told_by_receiving l (take.Passed number s) = Some (record { event = Pass l number; stamp = s })
 told_by_receiving l take.Nothing = None

@@ -94,8 +94,8 @@ fn message_of(payload: &Payload) -> Message
 {
     match payload {
         Payload::Int(value) => *value,
-        Payload::Read { .. } => 0,
-        Payload::Write { .. } => 0,
+        Payload::Read { .. } => Message::of(0),
+        Payload::Write { .. } => Message::of(0),
     }
 }
 

@@ -30,7 +30,7 @@ channel = record { from = 0; to = 1 }
 module _ (code : Parts) where
   -- two cores with a channel between them
   abbrev two : Parts
-  two = record code { ends = channel ∷ []; entries = 0 ∷ 0 ∷ []; capacities = 2 ∷ 1 ∷ 1 ∷ [] }
+  two = record code { ends = channel ∷ []; entries = 0 ∷ 0 ∷ []; capacities = 2 ∷ 1 ∷ 1 ∷ []; widths = 1 ∷ [] }
 
   pub how_many_links : links_of two ≡ 3
   how_many_links = refl

@@ -134,7 +134,7 @@ peer_frees_nothing terms (Decides ds) l n h e = let no : false ≡ true = e in c
 peer_frees_nothing terms Absent l n h e = let no : false ≡ true = h in cc
 
 -- where a core sends, no message comes to it
-pub owner_gets_nothing : (terms : Terms) (x : LinkEnd) (l n : ℕ) (value : ℤ) → is_owner x ≡ true → end_fits terms x (event.Got l n value) ≡ true → ⊥
+pub owner_gets_nothing : (terms : Terms) (x : LinkEnd) (l n : ℕ) (value : List ℤ) → is_owner x ≡ true → end_fits terms x (event.Got l n value) ≡ true → ⊥
 owner_gets_nothing terms (Owns os) l n value h e = let no : false ≡ true = e in cc
 owner_gets_nothing terms (Decides ds) l n value h e = let no : false ≡ true = h in cc
 owner_gets_nothing terms Absent l n value h e = let no : false ≡ true = h in cc

@@ -30,11 +30,11 @@ asking = record { capacity = 16; requests = true }
 
 -- 5, offered by an entry of stamp 1
 abbrev five : OwnerOffer
-five = owner_offer (Int (pos 5)) 1
+five = owner_offer (Int (pos 5 ∷ [])) 1
 
 -- 7, taken by an entry of stamp 4 that answers an offer of stamp 3
 abbrev seven : PeerDecision
-seven = decision_of 4 3 (event.Got 1 0 (pos 7))
+seven = decision_of 4 3 (event.Got 1 0 (pos 7 ∷ []))
 
 abbrev a_read : OwnerOffer
 a_read = owner_offer (Read 0 0 4) 1
@@ -104,8 +104,8 @@ pub told_of_decisions : told_by_arrival 0 (arrived.Know 0 5) ∷ told_by_arrival
     ≡ Some (record { event = event.Know 0 0; stamp = 5 }) ∷ Some (record { event = event.Room 0 0; stamp = 5 }) ∷ Some (record { event = event.Reply 2 0 (Count 2); stamp = 6 }) ∷ []
 told_of_decisions = refl
 
-pub told_of_messages : told_by_arrival 1 (arrived.Got 0 (pos 7) 4) ∷ told_by_arrival 1 (arrived.Pass 0 4) ∷ []
-    ≡ Some (record { event = event.Got 1 0 (pos 7); stamp = 4 }) ∷ Some (record { event = event.Pass 1 0; stamp = 4 }) ∷ []
+pub told_of_messages : told_by_arrival 1 (arrived.Got 0 (pos 7 ∷ []) 4) ∷ told_by_arrival 1 (arrived.Pass 0 4) ∷ []
+    ≡ Some (record { event = event.Got 1 0 (pos 7 ∷ []); stamp = 4 }) ∷ Some (record { event = event.Pass 1 0; stamp = 4 }) ∷ []
 told_of_messages = refl
 
 pub nothing_is_told : told_by_arrival 1 arrived.Nothing ∷ told_by_arrival 1 arrived.NotYet ∷ told_by_arrival 1 arrived.ClockFull ∷ [] ≡ None ∷ None ∷ None ∷ []
@@ -159,31 +159,31 @@ one_count_rises = refl
 
 -- ---- answers to offers
 
-pub an_offer_finds_room : IsOfferAnswer for_one (Owns []) none_at_hand 0 (Int (pos 5)) (Offered 0 1)
+pub an_offer_finds_room : IsOfferAnswer for_one (Owns []) none_at_hand 0 (Int (pos 5 ∷ [])) (Offered 0 1)
 an_offer_finds_room = refl
 
-pub no_room_for_a_second : IsOfferAnswer for_one (Owns (five ∷ [])) none_at_hand 1 (Int (pos 6)) (NoRoom (Int (pos 6)))
+pub no_room_for_a_second : IsOfferAnswer for_one (Owns (five ∷ [])) none_at_hand 1 (Int (pos 6 ∷ [])) (NoRoom (Int (pos 6 ∷ [])))
 no_room_for_a_second = (refl, refl)
 
-pub no_offer_without_room : IsOfferAnswer for_one (Owns (five ∷ [])) none_at_hand 1 (Int (pos 6)) (Offered 1 2) → ⊥
+pub no_offer_without_room : IsOfferAnswer for_one (Owns (five ∷ [])) none_at_hand 1 (Int (pos 6 ∷ [])) (Offered 1 2) → ⊥
 no_offer_without_room h = cc
 
-pub there_is_room_for_the_first : IsOfferAnswer for_one (Owns []) none_at_hand 0 (Int (pos 5)) (NoRoom (Int (pos 5))) → ⊥
+pub there_is_room_for_the_first : IsOfferAnswer for_one (Owns []) none_at_hand 0 (Int (pos 5 ∷ [])) (NoRoom (Int (pos 5 ∷ []))) → ⊥
 there_is_room_for_the_first h = let e = h.1 in cc
 
-pub another_is_not_handed_back : IsOfferAnswer for_one (Owns (five ∷ [])) none_at_hand 1 (Int (pos 6)) (NoRoom (Int (pos 5))) → ⊥
+pub another_is_not_handed_back : IsOfferAnswer for_one (Owns (five ∷ [])) none_at_hand 1 (Int (pos 6 ∷ [])) (NoRoom (Int (pos 5 ∷ []))) → ⊥
 another_is_not_handed_back h = let e = h.0 in cc
 
-pub no_place_is_told : IsOfferAnswer for_one (Owns []) none_at_hand 0 (Int (pos 5)) (NotYet (Int (pos 5)))
+pub no_place_is_told : IsOfferAnswer for_one (Owns []) none_at_hand 0 (Int (pos 5 ∷ [])) (NotYet (Int (pos 5 ∷ [])))
 no_place_is_told = (refl, refl, refl, refl)
 
-pub a_slot_at_hand_is_a_place : IsOfferAnswer for_one (Owns []) (record none_at_hand { slot = true }) 0 (Int (pos 5)) (NotYet (Int (pos 5))) → ⊥
+pub a_slot_at_hand_is_a_place : IsOfferAnswer for_one (Owns []) (record none_at_hand { slot = true }) 0 (Int (pos 5 ∷ [])) (NotYet (Int (pos 5 ∷ []))) → ⊥
 a_slot_at_hand_is_a_place h = let e = h.3 in cc
 
-pub no_stamp_is_left : IsOfferAnswer for_one (Owns []) none_at_hand last_stamp (Int (pos 5)) (ClockFull (Int (pos 5)))
+pub no_stamp_is_left : IsOfferAnswer for_one (Owns []) none_at_hand last_stamp (Int (pos 5 ∷ [])) (ClockFull (Int (pos 5 ∷ [])))
 no_stamp_is_left = (refl, refl, refl)
 
-pub a_stamp_is_left : IsOfferAnswer for_one (Owns []) none_at_hand 0 (Int (pos 5)) (ClockFull (Int (pos 5))) → ⊥
+pub a_stamp_is_left : IsOfferAnswer for_one (Owns []) none_at_hand 0 (Int (pos 5 ∷ [])) (ClockFull (Int (pos 5 ∷ []))) → ⊥
 a_stamp_is_left h = let e = h.2 in cc
 
 -- ---- answers to withdrawals
@@ -205,7 +205,7 @@ the_first_that_is_not_known = refl
 pub no_later_one : IsPollAnswer for_one (Owns (five ∷ five ∷ [])) none_at_hand false 4 1 (arrived.Room 1 5) → ⊥
 no_later_one h = not_its_follower 0 h
 
-pub a_message_that_is_wanted : IsPollAnswer for_one (Decides []) none_at_hand true 3 1 (arrived.Got 0 (pos 7) 4)
+pub a_message_that_is_wanted : IsPollAnswer for_one (Decides []) none_at_hand true 3 1 (arrived.Got 0 (pos 7 ∷ []) 4)
 a_message_that_is_wanted = refl
 
 pub none_that_is_not_wanted : IsPollAnswer for_one (Decides []) none_at_hand false 3 1 (arrived.Pass 0 4) → ⊥
@@ -244,6 +244,6 @@ no_stamp_to_know = (refl, λ w. cc)
 pub a_stamp_to_know : IsPollAnswer for_one (Owns (five ∷ [])) none_at_hand false 4 1 arrived.ClockFull → ⊥
 a_stamp_to_know h = let e = h.0 in cc
 
-pub full_or_not : is_full_offering (ClockFull (Int (pos 5))) ∷ is_full_offering (NoRoom (Int (pos 5))) ∷ is_full_withdrawal withdraw.ClockFull ∷ is_full_withdrawal (withdraw.Taken 5)
+pub full_or_not : is_full_offering (ClockFull (Int (pos 5 ∷ []))) ∷ is_full_offering (NoRoom (Int (pos 5 ∷ []))) ∷ is_full_withdrawal withdraw.ClockFull ∷ is_full_withdrawal (withdraw.Taken 5)
     ∷ is_full_arrival arrived.ClockFull ∷ is_full_arrival arrived.Nothing ∷ [] ≡ true ∷ false ∷ true ∷ false ∷ true ∷ false ∷ []
 full_or_not = refl

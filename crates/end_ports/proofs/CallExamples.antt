@@ -20,7 +20,7 @@ use Rattle.channel_ends.specs.Sending.{OwnerNotes}
 use Rattle.channel_ends.specs.Offers.{Offers}
 use Rattle.channel_ends.specs.Learns.{Learns}
 use Rattle.channel_ends.specs.Receiving.{Receiving, Receives, DecidesNone, SawOne}
-use Rattle.channel_ends.proofs.Examples.{an_offer, notes, a_peer, receiver, new_one, five_offered, five_known, five_taken, five_is_offered, five_is_taken}
+use Rattle.channel_ends.proofs.Examples.{one_int, an_offer, notes, a_peer, receiver, new_one, five_offered, five_known, five_taken, five_is_offered, five_is_taken}
 use Rattle.channel_ends.proofs.Examples.{it_is_found_taken, and_it_is_not_withdrawn}
 use Rattle.channel_ends.proofs.AnswerExamples.{five_is_known}
 use Rattle.request_ends.specs.Asking.{Asking}
@@ -38,8 +38,8 @@ use Rattle.end_ports.proofs.Examples.{sends_on, receives_on, asks_on, read, seve
 
 -- ---- how the answers are told
 
-pub what_is_handed_back : as_payload (Offered 0 1) ∷ as_payload (NoRoom (pos 5)) ∷ as_payload (NotYet (pos 6)) ∷ as_payload (ClockFull (pos 7)) ∷ []
-    ≡ Offered 0 1 ∷ NoRoom (Int (pos 5)) ∷ NotYet (Int (pos 6)) ∷ ClockFull (Int (pos 7)) ∷ []
+pub what_is_handed_back : as_payload (Offered 0 1) ∷ as_payload (NoRoom (one_int 5)) ∷ as_payload (NotYet (one_int 6)) ∷ as_payload (ClockFull (one_int 7)) ∷ []
+    ≡ Offered 0 1 ∷ NoRoom (Int (pos 5 ∷ [])) ∷ NotYet (Int (pos 6 ∷ [])) ∷ ClockFull (Int (pos 7 ∷ [])) ∷ []
 what_is_handed_back = refl
 
 abbrev learnings : (Learning → Arrived) → List Arrived
@@ -52,8 +52,8 @@ pub what_is_quiet : is_quiet (learning.Know 0 3) ∷ is_quiet (learning.Room 1 4
     ≡ false ∷ false ∷ true ∷ true ∷ false ∷ []
 what_is_quiet = refl
 
-pub what_is_received : received_as (receiving.Took 0 (pos 5) 2) ∷ received_as (receiving.Passed 1 4) ∷ received_as receiving.Nothing ∷ received_as receiving.NotYet
-    ∷ received_as receiving.ClockFull ∷ [] ≡ arrived.Got 0 (pos 5) 2 ∷ arrived.Pass 1 4 ∷ arrived.Nothing ∷ arrived.NotYet ∷ arrived.ClockFull ∷ []
+pub what_is_received : received_as (receiving.Took 0 (one_int 5) 2) ∷ received_as (receiving.Passed 1 4) ∷ received_as receiving.Nothing ∷ received_as receiving.NotYet
+    ∷ received_as receiving.ClockFull ∷ [] ≡ arrived.Got 0 (one_int 5) 2 ∷ arrived.Pass 1 4 ∷ arrived.Nothing ∷ arrived.NotYet ∷ arrived.ClockFull ∷ []
 what_is_received = refl
 
 pub what_is_replied : replied_as (replied.Reply 0 (Bytes (7 ∷ [])) 4) ∷ replied_as replied.Nothing ∷ replied_as replied.ClockFull ∷ []
@@ -78,23 +78,23 @@ before_taking = receives_on 0 (receiver 1 (a_peer [] 0 word.Unused None) [])
 abbrev after_taking : ReceivingAt
 after_taking = receives_on 0 five_taken
 
-pub an_int_is_offered : OffersInt before_five 0 (Int (pos 5)) (Offered 0 1) after_five
+pub an_int_is_offered : OffersInt before_five 0 (Int (pos 5 ∷ [])) (Offered 0 1) after_five
 an_int_is_offered = (Offered 0 1, five_is_offered, refl)
 
-pub so_it_is_on_its_link : OffersAt (OfSend before_five) 0 (Int (pos 5)) (Offered 0 1) (OfSend after_five)
+pub so_it_is_on_its_link : OffersAt (OfSend before_five) 0 (Int (pos 5 ∷ [])) (Offered 0 1) (OfSend after_five)
 so_it_is_on_its_link = an_int_is_offered
 
 pub a_read_is_not : OffersInt before_five 0 (read 4) (Offered 0 1) after_five → ⊥
 a_read_is_not h = h
 
-pub nothing_is_offered_where_it_receives : OffersAt (OfRecv before_taking) 0 (Int (pos 5)) (Offered 0 1) (OfSend after_five) → ⊥
+pub nothing_is_offered_where_it_receives : OffersAt (OfRecv before_taking) 0 (Int (pos 5 ∷ [])) (Offered 0 1) (OfSend after_five) → ⊥
 nothing_is_offered_where_it_receives h = h
 
 -- one that is made is told of with its number
-pub not_under_another_number : OffersAt (OfSend before_five) 0 (Int (pos 5)) (Offered 1 1) (OfSend after_five) → ⊥
+pub not_under_another_number : OffersAt (OfSend before_five) 0 (Int (pos 5 ∷ [])) (Offered 1 1) (OfSend after_five) → ⊥
 not_under_another_number h = never h.0 h.1 h.2
   where
-    never : (r : Offering ℤ) → Offers new_one (pos 5) 0 r five_offered → Offered 1 1 ≡ as_payload r → ⊥
+    never : (r : Offering (List ℤ)) → Offers new_one (one_int 5) 0 r five_offered → Offered 1 1 ≡ as_payload r → ⊥
     never (Offered number stamp) o e = let n : 1 ≡ number = cc in omega (arith, n, o.2)
     never (NoRoom back) o e = cc
     never (NotYet back) o e = cc
@@ -123,19 +123,19 @@ not_without_a_load h = never h.0 h.1 h.2
     never learning.AllKnown l e = let all = l.0 in omega (arith, all)
     never learning.ClockFull l e = cc
 
-pub it_is_taken_where_it_is_wanted : PollsAt (OfRecv before_taking) 0 true (arrived.Got 0 (pos 5) 2) (OfRecv after_taking)
-it_is_taken_where_it_is_wanted = (receiving.Took 0 (pos 5) 2, five_is_taken, refl)
+pub it_is_taken_where_it_is_wanted : PollsAt (OfRecv before_taking) 0 true (arrived.Got 0 (one_int 5) 2) (OfRecv after_taking)
+it_is_taken_where_it_is_wanted = (receiving.Took 0 (one_int 5) 2, five_is_taken, refl)
 
 pub and_else_nothing_changes : TakesWanted false before_taking.end 0 arrived.Nothing before_taking.end
 and_else_nothing_changes = (refl, refl)
 
-pub not_taken_unwanted : TakesWanted false before_taking.end 0 (arrived.Got 0 (pos 5) 2) after_taking.end → ⊥
+pub not_taken_unwanted : TakesWanted false before_taking.end 0 (arrived.Got 0 (one_int 5) 2) after_taking.end → ⊥
 not_taken_unwanted h = let e = h.0 in cc
 
 pub not_without_a_look : TakesWanted true before_taking.end 0 arrived.Nothing before_taking.end → ⊥
 not_without_a_look h = never h.0 h.1 h.2
   where
-    never : (r : Received ℤ) → Receives before_taking.end 0 r before_taking.end → arrived.Nothing ≡ received_as r → ⊥
+    never : (r : Received (List ℤ)) → Receives before_taking.end 0 r before_taking.end → arrived.Nothing ≡ received_as r → ⊥
     never (receiving.Took number value s) l e = cc
     never (receiving.Passed number s) l e = cc
     never receiving.Nothing l e = let more = l.0.looks in omega (arith, more)
@@ -230,7 +230,7 @@ nothing_comes_of_another h = h
 abbrev polled : ReceivingAt → ReceivingAt
 polled r = record r { polls = 5 }
 
-pub the_offer_is_told : OffersOn (OfSend before_five) 0 0 (Int (pos 5)) (Offered 0 1) (OfSend (record after_five { tries = 4 })) 1
+pub the_offer_is_told : OffersOn (OfSend before_five) 0 0 (Int (pos 5 ∷ [])) (Offered 0 1) (OfSend (record after_five { tries = 4 })) 1
 the_offer_is_told = record {
   answer = refl;
   serves = record { terms = refl; tells = record { link = refl; answers = 0; fits = refl; next = refl; noted = refl; end = refl; clock = refl }; hand = tt };
@@ -246,7 +246,7 @@ nothing_else_is_told = (refl, refl)
 pub the_clock_stays_then : TellsAt (on_send before_five).terms (on_send before_five).end 0 3 None (on_send before_five).end 4 → ⊥
 the_clock_stays_then h = let e = h.1 in omega (arith, e)
 
-pub its_try_is_counted : OffersOn (OfSend before_five) 0 0 (Int (pos 5)) (Offered 0 1) (OfSend after_five) 1 → ⊥
+pub its_try_is_counted : OffersOn (OfSend before_five) 0 0 (Int (pos 5 ∷ [])) (Offered 0 1) (OfSend after_five) 1 → ⊥
 its_try_is_counted h = let e = h.tries in omega (arith, e)
 
 pub its_withdrawal_is_told : WithdrawsOn (OfSend after_five) 0 1 0 (withdrawing.Taken 3) (OfSend (five_noted five_known)) 3
@@ -258,7 +258,7 @@ its_withdrawal_is_told = record {
   exact = it_is_found_taken;
 }
 
-pub its_taking_is_told : PollsOn (OfRecv before_taking) 0 0 true (arrived.Got 0 (pos 5) 2) (OfRecv (polled after_taking)) 2
+pub its_taking_is_told : PollsOn (OfRecv before_taking) 0 0 true (arrived.Got 0 (one_int 5) 2) (OfRecv (polled after_taking)) 2
 its_taking_is_told = record {
   answer = refl;
   serves = record { terms = refl; tells = record { link = refl; answers = 1; fits = refl; next = refl; noted = refl; end = refl; clock = refl }; hand = tt };
@@ -267,7 +267,7 @@ its_taking_is_told = record {
   exact = it_is_taken_where_it_is_wanted;
 }
 
-pub its_poll_is_counted : PollsOn (OfRecv before_taking) 0 0 true (arrived.Got 0 (pos 5) 2) (OfRecv after_taking) 2 → ⊥
+pub its_poll_is_counted : PollsOn (OfRecv before_taking) 0 0 true (arrived.Got 0 (one_int 5) 2) (OfRecv after_taking) 2 → ⊥
 its_poll_is_counted h = let e = h.polls in omega (arith, e)
 
 -- ---- ends, from their fields
@@ -296,7 +296,7 @@ as_it_holds = refl
 
 -- ---- a look that decides nothing
 
-abbrev five_seen : Receiving ℤ
+abbrev five_seen : Receiving (List ℤ)
 five_seen = receiver 1 (a_peer [] 1 (word.Offered 1) (Some (look.Offered 1))) []
 
 pub it_decides_none : DecidesNone before_taking.end five_seen

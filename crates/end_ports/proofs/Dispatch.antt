@@ -3,22 +3,14 @@ use Rattle.std.proofs.Common.{◌≡◌, ℕ, List, Option, Some, None, true, fa
 use Rattle.std.specs.Prelude.{slice_get, ◌==◌}
 use Rattle.ac_links.specs.Views.{may_withdraw}
 use Rattle.core_ports.specs.Ends.{is_owner, is_held, offer_at}
-use Rattle.end_ports.specs.Held.{Held, SendingAt, ReceivingAt, AskingAt, HeldEnd, IsSameSendAt, IsSameRecvAt, IsSameAskAt}
-use Rattle.end_ports.specs.Held.HeldEnd.{OfSend, OfRecv, OfAsk}
+use Rattle.end_ports.specs.Held.{Held, SendingAt, ReceivingAt, HeldEnd, IsSameSendAt, IsSameRecvAt}
+use Rattle.end_ports.specs.Held.HeldEnd.{OfSend, OfRecv}
 use Rattle.end_ports.specs.OnLinks.{received_on, or_received, or_sent, told_by, end_on, on_link}
 use Rattle.end_ports.specs.PortsTold.{same_send}
 use Rattle.end_ports.specs.inner.Places.{ChangesAt, OnlyOn}
-use Rattle.end_ports.proofs.Placing.{not_placed, asked_here, not_asked, sent_here, sent_after, send_link, send_only, received_here, received_after, recv_link, recv_only}
+use Rattle.end_ports.proofs.Placing.{not_placed, not_asked, sent_here, sent_after, send_link, send_only, received_here, received_after, recv_link, recv_only}
 
 module _ (h : Held) (l : ℕ) where
-  -- what was asked of the end of the requests holds of their link
-  pub ask_call : (P : HeldEnd → ℕ → HeldEnd → Type 0) (a : AskingAt) → h.ask.link ≡ l → IsSameAskAt h.ask a → P (OfAsk h.ask) h.ask.link (OfAsk a)
-      → P (end_on h l) l (end_on (record h { ask = a }) l)
-  ask_call P a e same call =
-      subst (λ x. P x l (end_on (record h { ask = a }) l)) (sym (asked_here h l e))
-      (subst (λ x. P (OfAsk h.ask) l x) (sym (asked_here (record h { ask = a }) l (same.link ∙ e)))
-      (subst (λ m. P (OfAsk h.ask) m (OfAsk a)) e call))
-
   module _ (apart : (h.ask.link == l) ≡ false) where
     -- an end on which the core sends
     module _ (at : ℕ) (found : position (λ s. s.link == l) h.sends ≡ Some at) where

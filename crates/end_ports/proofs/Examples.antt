@@ -16,7 +16,7 @@ use Rattle.core_ports.specs.Ends.{greatest}
 use Rattle.channel_ends.specs.Rings.{RingName}
 use Rattle.channel_ends.specs.Sending.{MadeOffer, OwnerNotes, Sending}
 use Rattle.channel_ends.specs.Receiving.{Receiving}
-use Rattle.channel_ends.proofs.Examples.{words_of, a_ring, an_offer, notes, sender, a_peer, receiver}
+use Rattle.channel_ends.proofs.Examples.{one_int, words_of, a_ring, an_offer, notes, sender, a_peer, receiver}
 use Rattle.channel_ends.proofs.SettledExamples.{both_offers, both_decisions}
 use Rattle.request_ends.specs.Asking.{Asking}
 use Rattle.end_ports.specs.Held.{SendingAt, ReceivingAt, AskingAt, Held, IsSameSendAt, IsSameRecvAt, IsSameAskAt}
@@ -31,21 +31,21 @@ use Rattle.end_ports.specs.PortsTold.{told_of, EachSo, Stays}
 abbrev pub two_offered : ℕ → OwnerNotes
 two_offered told = record (notes 2 both_offers (Some 3 ∷ None ∷ []) 1 (word.Passed 3)) { told = told }
 
-abbrev pub sends_on : ℕ → Sending ℤ → SendingAt
+abbrev pub sends_on : ℕ → Sending (List ℤ) → SendingAt
 sends_on l end = record { link = l; end = end; polls = 7; tries = 3 }
 
 abbrev sending : SendingAt
-sending = sends_on 0 (sender (two_offered 1) (pos 5 ∷ pos 6 ∷ []) 1)
+sending = sends_on 0 (sender (two_offered 1) (one_int 5 ∷ one_int 6 ∷ []) 1)
 
 abbrev pub offer_of : Payload → ℕ → Option ℕ → Option ℕ → OwnerOffer
 offer_of payload stamp withdrawn known = record { payload = payload; stamp = stamp; withdrawn = withdrawn; known = known; reply = None }
 
-pub both_are_offered : offers_on sending ≡ offer_of (Int (pos 5)) 1 (Some 2) None ∷ offer_of (Int (pos 6)) 3 None None ∷ []
+pub both_are_offered : offers_on sending ≡ offer_of (Int (pos 5 ∷ [])) 1 (Some 2) None ∷ offer_of (Int (pos 6 ∷ [])) 3 None None ∷ []
 both_are_offered = refl
 
 pub what_is_told_where_it_sends : on_send sending ≡ record {
   terms = record { capacity = 2; requests = false };
-  end = Owns (offer_of (Int (pos 5)) 1 (Some 2) None ∷ offer_of (Int (pos 6)) 3 None None ∷ []);
+  end = Owns (offer_of (Int (pos 5 ∷ [])) 1 (Some 2) None ∷ offer_of (Int (pos 6 ∷ [])) 3 None None ∷ []);
   hand = record { decision = true; front = false; reply = false; slot = true };
   heard = 3;
   polls = 7;
@@ -54,7 +54,7 @@ pub what_is_told_where_it_sends : on_send sending ≡ record {
 what_is_told_where_it_sends = refl
 
 -- no slot is at hand where none is known to be free
-pub no_slot_is_at_hand : (on_send (sends_on 0 (sender (two_offered 1) (pos 5 ∷ pos 6 ∷ []) 0))).hand ≡ record { decision = true; front = false; reply = false; slot = false }
+pub no_slot_is_at_hand : (on_send (sends_on 0 (sender (two_offered 1) (one_int 5 ∷ one_int 6 ∷ []) 0))).hand ≡ record { decision = true; front = false; reply = false; slot = false }
 no_slot_is_at_hand = refl
 
 -- of two offers: the first one that is not known is the one that was told of, or the one after it; none was told of; and both are known
@@ -71,10 +71,10 @@ greatest_stamps = refl
 -- ---- one on which it receives
 
 -- both are decided, and so many offers were told of
-abbrev pub two_decided : ℕ → Option Look → Receiving ℤ
-two_decided told seen = receiver 2 (record (a_peer both_decisions 3 word.Unused seen) { told_offers = told }) (pos 5 ∷ pos 6 ∷ [])
+abbrev pub two_decided : ℕ → Option Look → Receiving (List ℤ)
+two_decided told seen = receiver 2 (record (a_peer both_decisions 3 word.Unused seen) { told_offers = told }) (one_int 5 ∷ one_int 6 ∷ [])
 
-abbrev pub receives_on : ℕ → Receiving ℤ → ReceivingAt
+abbrev pub receives_on : ℕ → Receiving (List ℤ) → ReceivingAt
 receives_on l end = record { link = l; end = end; polls = 4 }
 
 -- of a third offer it was told, and has seen that it stands with stamp 9
@@ -82,12 +82,12 @@ abbrev receiving : ReceivingAt
 receiving = receives_on 1 (two_decided 3 (Some (look.Offered 9)))
 
 pub both_are_decided : decisions_on receiving
-    ≡ record { value = None; stamp = 3; answers = 2 } ∷ record { value = Some (Message (pos 6)); stamp = 4; answers = 3 } ∷ []
+    ≡ record { value = None; stamp = 3; answers = 2 } ∷ record { value = Some (Message (one_int 6)); stamp = 4; answers = 3 } ∷ []
 both_are_decided = refl
 
 pub what_is_told_where_it_receives : on_recv receiving ≡ record {
   terms = record { capacity = 2; requests = false };
-  end = Decides (record { value = None; stamp = 3; answers = 2 } ∷ record { value = Some (Message (pos 6)); stamp = 4; answers = 3 } ∷ []);
+  end = Decides (record { value = None; stamp = 3; answers = 2 } ∷ record { value = Some (Message (one_int 6)); stamp = 4; answers = 3 } ∷ []);
   hand = record { decision = false; front = true; reply = false; slot = false };
   heard = 9;
   polls = 4;
@@ -205,12 +205,12 @@ ring_number r = r.names.0
 
 -- 6 was withdrawn too, and the channel settled
 abbrev sending_later : SendingAt
-sending_later = record sending { end = sender (record (two_offered 2) { offers = an_offer 1 (Some 2) None ∷ an_offer 3 (Some 5) None ∷ [] }) (pos 5 ∷ pos 6 ∷ []) 2; tries = 4 }
+sending_later = record sending { end = sender (record (two_offered 2) { offers = an_offer 1 (Some 2) None ∷ an_offer 3 (Some 5) None ∷ [] }) (one_int 5 ∷ one_int 6 ∷ []) 2; tries = 4 }
 
 pub it_sends_on_the_same : IsSameSendAt sending sending_later
 it_sends_on_the_same = record { link = refl; end = record { table = refl; ring = refl } }
 
-pub not_on_other_words : IsSameSendAt sending (sends_on 0 (sender (record (two_offered 1) { table = words_of 3 }) (pos 5 ∷ pos 6 ∷ []) 1)) → ⊥
+pub not_on_other_words : IsSameSendAt sending (sends_on 0 (sender (record (two_offered 1) { table = words_of 3 }) (one_int 5 ∷ one_int 6 ∷ []) 1)) → ⊥
 not_on_other_words h = let e = ap (λ t. t.words) h.end.table in omega (arith, e)
 
 pub it_receives_on_the_same : IsSameRecvAt receiving (receives_on 1 (two_decided 0 None))
@@ -237,5 +237,5 @@ they_stay = record { sends = (it_sends_on_the_same, tt); recvs = (it_receives_on
 pub not_with_one_end_less : Stays held (record held { recvs = [] }) → ⊥
 not_with_one_end_less h = h.recvs
 
-pub not_with_another_ring : Stays held (record held { sends = record sending { end = record (sender (two_offered 1) (pos 5 ∷ pos 6 ∷ []) 1) { ring = other_ring } } ∷ [] }) → ⊥
+pub not_with_another_ring : Stays held (record held { sends = record sending { end = record (sender (two_offered 1) (one_int 5 ∷ one_int 6 ∷ []) 1) { ring = other_ring } } ∷ [] }) → ⊥
 not_with_another_ring h = let e = ap ring_number h.sends.0.end.ring in omega (arith, e)

@@ -74,8 +74,3 @@ no_entry (learning.Room number s) e = cc
 no_entry learning.Undecided e = refl
 no_entry learning.AllKnown e = refl
 no_entry learning.ClockFull e = refl
-
-pub as_it_was : (b entered : Bool) → entered ≡ false → b ≡ (b && not entered)
-as_it_was b true e = cc
-as_it_was true false e = refl
-as_it_was false false e = refl

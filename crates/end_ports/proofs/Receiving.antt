@@ -31,17 +31,17 @@ use Rattle.end_ports.specs.Answers.{received_as}
 
 -- ---- the list of decisions
 
-abbrev pub decided : ℤ → Decision → PeerDecision
+abbrev pub decided : List ℤ → Decision → PeerDecision
 decided x d = record { value = taking_by (Message x) d.outcome; stamp = stamp_of d.outcome; answers = d.answers }
 
-pub decisions_added : (k : ℕ) (xs : List ℤ) (ds : List Decision) (x : ℤ) (d : Decision) → length xs ≡ length ds
+pub decisions_added : (k : ℕ) (xs : List (List ℤ)) (ds : List Decision) (x : List ℤ) (d : Decision) → length xs ≡ length ds
     → peer_decisions (λ k x. Message x) k (xs ++ x ∷ []) (ds ++ d ∷ []) ≡ peer_decisions (λ k x. Message x) k xs ds ++ decided x d ∷ []
 decisions_added k [] [] x d h = refl
 decisions_added k [] (e ∷ ds) x d h = absurd (omega arith)
 decisions_added k (y ∷ xs) [] x d h = absurd (omega arith)
 decisions_added k (y ∷ xs) (e ∷ ds) x d h = ap (λ r. decided y e ∷ r) (decisions_added (suc k) xs ds x d (omega arith))
 
-pub decisions_count : (k : ℕ) (xs : List ℤ) (ds : List Decision) → length xs ≡ length ds → length (peer_decisions (λ k x. Message x) k xs ds) ≡ length ds
+pub decisions_count : (k : ℕ) (xs : List (List ℤ)) (ds : List Decision) → length xs ≡ length ds → length (peer_decisions (λ k x. Message x) k xs ds) ≡ length ds
 decisions_count k [] [] h = refl
 decisions_count k [] (e ∷ ds) h = absurd (omega arith)
 decisions_count k (y ∷ xs) [] h = absurd (omega arith)
@@ -65,7 +65,7 @@ prefix_length xs ys p = let l : length ys ≡ length xs + length p.0 = sym (ap l
 -- ---- the calls
 
 module _ (r : ReceivingAt) (one_each : length r.end.popped ≡ length r.end.peer.decisions)
-    (known : r.end.peer.told_offers ≤ length r.end.peer.decisions + length r.end.items) (last : ℕ) (new : Receiving ℤ) (polls : ℕ) (count : polls ≡ counted r.polls) where
+    (known : r.end.peer.told_offers ≤ length r.end.peer.decisions + length r.end.items) (last : ℕ) (new : Receiving (List ℤ)) (polls : ℕ) (count : polls ≡ counted r.polls) where
   abbrev after : ReceivingAt
   after = record { link = r.link; end = new; polls = polls }
 
@@ -78,7 +78,7 @@ module _ (r : ReceivingAt) (one_each : length r.end.popped ≡ length r.end.peer
         ∙ ap (λ n. record { decision = false; front = nat_lt (length r.end.peer.decisions) n; reply = false; slot = false }) h.told,
   )
 
-  quiet : (answer : Received ℤ) (now : ℕ) → told_by_arrival r.link (received_as answer) ≡ None → DecidesNone r.end new → now ≡ last
+  quiet : (answer : Received (List ℤ)) (now : ℕ) → told_by_arrival r.link (received_as answer) ≡ None → DecidesNone r.end new → now ≡ last
       → Serves (on_recv r) r.link last (told_by_arrival r.link (received_as answer)) (on_recv after) now
   quiet answer now none h clock = let same = none_decided h in record {
     terms = same.0;
@@ -87,7 +87,7 @@ module _ (r : ReceivingAt) (one_each : length r.end.popped ≡ length r.end.peer
   }
 
   -- one decision more, by an event that the peer may enter
-  one_more : (e : Event) (number s : ℕ) (how : DecisionKind) (value : ℤ) (now : ℕ) → (d : DecidesOne r.end last number how s value new) → link_of e ≡ r.link
+  one_more : (e : Event) (number s : ℕ) (how : DecisionKind) (value : List ℤ) (now : ℕ) → (d : DecidesOne r.end last number how s value new) → link_of e ≡ r.link
       → (number ≡ length r.end.peer.decisions → peer_fits (on_recv r).terms (decisions_on r) e ≡ true)
       → decided value (decision how d.of) ≡ decision_of s d.of e
       → (number ≡ length r.end.peer.decisions → d.of ≡ peer_noted (decisions_on r ++ decision_of s d.of e ∷ []) e)
@@ -112,19 +112,19 @@ module _ (r : ReceivingAt) (one_each : length r.end.popped ≡ length r.end.peer
   count_here : (number : ℕ) → number ≡ length r.end.peer.decisions → number ≡ length (decisions_on r)
   count_here number h = h ∙ sym (decisions_count 0 r.end.popped r.end.peer.decisions one_each)
 
-  took : (number s : ℕ) (value : ℤ) (now : ℕ) → DecidesOne r.end last number (outcome.Taken s) s value new → now ≡ s
+  took : (number s : ℕ) (value : List ℤ) (now : ℕ) → DecidesOne r.end last number (outcome.Taken s) s value new → now ≡ s
       → TellsAt (on_recv r).terms (on_recv r).end r.link last (told_by_arrival r.link (received_as (Took number value s))) (on_recv after).end now
   took number s value now d clock = one_more (Got r.link number value) number s (outcome.Taken s) value now d refl
       (λ h. are_equal number (length (decisions_on r)) (count_here number h)) refl
       (λ h. sym (ap answers_stamp (last_is (decisions_on r) (decision_of s d.of (Got r.link number value)) number (count_here number h)))) clock
 
-  passed : (number s : ℕ) (value : ℤ) (now : ℕ) → DecidesOne r.end last number (outcome.Passed s) s value new → now ≡ s
+  passed : (number s : ℕ) (value : List ℤ) (now : ℕ) → DecidesOne r.end last number (outcome.Passed s) s value new → now ≡ s
       → TellsAt (on_recv r).terms (on_recv r).end r.link last (told_by_arrival r.link (received_as (Passed number s))) (on_recv after).end now
   passed number s value now d clock = one_more (Pass r.link number) number s (outcome.Passed s) value now d refl
       (λ h. are_equal number (length (decisions_on r)) (count_here number h)) refl
       (λ h. sym (ap answers_stamp (last_is (decisions_on r) (decision_of s d.of (Pass r.link number)) number (count_here number h)))) clock
 
-  pub recv_polls : (answer : Received ℤ) (now : ℕ) → Receives r.end last answer new → now ≡ receiving_clock last answer
+  pub recv_polls : (answer : Received (List ℤ)) (now : ℕ) → Receives r.end last answer new → now ≡ receiving_clock last answer
       → PollsOn (OfRecv r) r.link last true (received_as answer) (OfRecv after) now
   recv_polls (Took number value s) now h clock = record {
     answer = refl;
@@ -168,23 +168,12 @@ module _ (r : ReceivingAt) (one_each : length r.end.popped ≡ length r.end.peer
     exact = (ClockFull, h, refl);
   }
 
--- where nothing is wanted
-pub recv_waits : (r : ReceivingAt) (last polls now : ℕ) → polls ≡ counted r.polls → now ≡ last
-    → PollsOn (OfRecv r) r.link last false (received_as Nothing) (OfRecv (record { link = r.link; end = r.end; polls = polls })) now
-recv_waits r last polls now count clock = record {
-  answer = record { decision = refl; front = λ w. cc; reply = λ w a. refl };
-  serves = record { terms = refl; tells = (refl, clock); hand = refl };
-  polls = count;
-  tries = refl;
-  exact = (refl, refl);
-}
-
 -- ---- what the end keeps
 
-abbrev pub IsKept : Receiving ℤ → Type 0
+abbrev pub IsKept : Receiving (List ℤ) → Type 0
 IsKept e = (length e.popped ≡ length e.peer.decisions) × (e.peer.told_offers ≤ length e.peer.decisions + length e.items)
 
-kept_none : (old new : Receiving ℤ) → DecidesNone old new → IsKept old → IsKept new
+kept_none : (old new : Receiving (List ℤ)) → DecidesNone old new → IsKept old → IsKept new
 kept_none old new h k = (
   ap length h.popped ∙ k.0 ∙ sym (ap length h.decisions),
   let items = prefix_length old.items new.items h.items in
@@ -192,14 +181,14 @@ kept_none old new h k = (
       omega (arith, k.1, h.told),
 )
 
-kept_one : (old new : Receiving ℤ) (last number s : ℕ) (how : DecisionKind) (value : ℤ) → DecidesOne old last number how s value new → IsKept old → IsKept new
+kept_one : (old new : Receiving (List ℤ)) (last number s : ℕ) (how : DecisionKind) (value : List ℤ) → DecidesOne old last number how s value new → IsKept old → IsKept new
 kept_one old new last number s how value h k =
     let popped : length new.popped ≡ length old.popped + 1 = ap length h.popped ∙ length-append old.popped (value ∷ []) in
     let decisions : length new.peer.decisions ≡ length old.peer.decisions + 1 = ap length h.decisions ∙ length-append old.peer.decisions (decision how h.of ∷ []) in
     let items : length old.items ≤ suc (length new.items) = prefix_length old.items (value ∷ new.items) h.items in
     (omega (arith, k.0), omega (arith, k.1, h.told))
 
-pub keeps_items : (old new : Receiving ℤ) (last : ℕ) (answer : Received ℤ) → Receives old last answer new → IsKept old → IsKept new
+pub keeps_items : (old new : Receiving (List ℤ)) (last : ℕ) (answer : Received (List ℤ)) → Receives old last answer new → IsKept old → IsKept new
 keeps_items old new last (Took number value s) h k = kept_one old new last number s (outcome.Taken s) value h k
 keeps_items old new last (Passed number s) h k = kept_one old new last number s (outcome.Passed s) h.0 h.1 k
 keeps_items old new last Nothing h k = kept_none old new h.0 k

@@ -131,15 +131,16 @@ module _ (s : SendingAt) (carries : length s.end.payloads ≡ length s.end.notes
     }
 
   -- an offer
-  abbrev tried : Sending ℤ → ℕ → SendingAt
+  abbrev tried : Sending (List ℤ) → ℕ → SendingAt
   tried end tries = record { link = s.link; end = end; polls = s.polls; tries = tries }
 
-  not_offered : (last : ℕ) (payload : Payload) (back : Offering Payload) (new : Sending ℤ) (now tries : ℕ) → new ≡ s.end → now ≡ last → tries ≡ counted s.tries
+  not_offered : (last : ℕ) (payload : Payload) (back : Offering Payload) (new : Sending (List ℤ)) (now tries : ℕ) → new ≡ s.end → now ≡ last → tries ≡ counted s.tries
       → told_by_offering s.link payload back ≡ None → IsOfferAnswer (on_send s).terms (on_send s).end (on_send s).hand last payload back
       → OffersAt (OfSend s) last payload back (OfSend (tried new tries))
       → OffersOn (OfSend s) s.link last payload back (OfSend (tried new tries)) now
   not_offered last payload back new now tries e clock count none answer exact =
-      subst (λ (v : Sending ℤ). OffersAt (OfSend s) last payload back (OfSend (tried v tries)) → OffersOn (OfSend s) s.link last payload back (OfSend (tried v tries)) now) (sym e) (λ exact. record {
+      subst (λ (v : Sending (List ℤ)). OffersAt (OfSend s) last payload back (OfSend (tried v tries)) → OffersOn (OfSend s) s.link last payload back (OfSend (tried v tries)) now) (sym e)
+      (λ exact. record {
         answer = answer;
         serves = record {
           terms = refl;
@@ -151,7 +152,7 @@ module _ (s : SendingAt) (carries : length s.end.payloads ≡ length s.end.notes
         exact = exact;
       }) exact
 
-  pub send_offers : (last : ℕ) (value : ℤ) (r : Offering ℤ) (new : Sending ℤ) (now tries : ℕ) → Offers s.end value last r new → now ≡ offering_clock last r
+  pub send_offers : (last : ℕ) (value : List ℤ) (r : Offering (List ℤ)) (new : Sending (List ℤ)) (now tries : ℕ) → Offers s.end value last r new → now ≡ offering_clock last r
       → tries ≡ counted s.tries → OffersOn (OfSend s) s.link last (Int value) (as_payload r) (OfSend (tried new tries)) now
   send_offers last value (NoRoom back) new now tries h clock count =
       not_offered last (Int value) (NoRoom (Int back)) new now tries h.2 clock count refl

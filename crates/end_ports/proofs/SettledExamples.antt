@@ -17,7 +17,7 @@ use Rattle.completion_word.specs.declared.views.DecisionKind.TheVariants as outc
 use Rattle.completion_word.specs.Link.{decision}
 use Rattle.channel_ends.specs.Sending.{MadeOffer}
 use Rattle.channel_ends.specs.Receiving.{Receiving}
-use Rattle.channel_ends.proofs.Examples.{words_of, a_ring, an_offer, notes, sender, a_peer, receiver}
+use Rattle.channel_ends.proofs.Examples.{one_int, words_of, a_ring, an_offer, notes, sender, a_peer, receiver}
 use Rattle.channel_ends.proofs.SettledExamples.{both_offers, both_decisions}
 use Rattle.request_ends.specs.Asking.{Asking}
 use Rattle.request_ends.specs.Replying.{Replying}
@@ -34,10 +34,10 @@ use Rattle.end_ports.proofs.Pairing.{settles_requests}
 
 -- with what was heard of the first decision, with so many decisions told of, and so many slots known to be free
 abbrev sent_with : Option ℕ → ℕ → ℕ → SendingAt
-sent_with heard told free = sends_on 0 (sender (record (notes 4 both_offers (heard ∷ None ∷ []) 1 (word.Passed 3)) { told = told }) (pos 5 ∷ pos 6 ∷ []) free)
+sent_with heard told free = sends_on 0 (sender (record (notes 4 both_offers (heard ∷ None ∷ []) 1 (word.Passed 3)) { told = told }) (one_int 5 ∷ one_int 6 ∷ []) free)
 
 abbrev received_with : List Decision → Option Look → ℕ → ReceivingAt
-received_with decisions seen told = receives_on 0 (receiver 4 (record (a_peer decisions 3 (word.Offered 3) seen) { told_offers = told }) (pos 5 ∷ []))
+received_with decisions seen told = receives_on 0 (receiver 4 (record (a_peer decisions 3 (word.Offered 3) seen) { told_offers = told }) (one_int 5 ∷ []))
 
 abbrev five_passed : List Decision
 five_passed = decision (outcome.Passed 3) 2 ∷ []
@@ -53,10 +53,10 @@ abbrev seen_six : ReceivingAt
 seen_six = received_with five_passed (Some (look.Offered 3)) 2
 
 abbrev five : OwnerOffer
-five = offer_of (Int (pos 5)) 1 (Some 2) None
+five = offer_of (Int (pos 5 ∷ [])) 1 (Some 2) None
 
 abbrev six : OwnerOffer
-six = offer_of (Int (pos 6)) 3 None None
+six = offer_of (Int (pos 6 ∷ [])) 3 None None
 
 abbrev passed : PeerDecision
 passed = record { value = None; stamp = 3; answers = 2 }
@@ -113,7 +113,7 @@ no_front_is_left_out h =
     let e : false ≡ true = h.front ∙ ap (λ ds. nat_lt (length ds) (length h.offers)) (sym (decisions_are h.decides)) ∙ ap (λ os. nat_lt 1 (length os)) (sym (offers_are h.owns)) in cc
 
 abbrev both_taken : ℕ → ReceivingAt
-both_taken told = receives_on 0 (receiver 4 (record (a_peer both_decisions 4 word.Unused None) { told_offers = told }) (pos 5 ∷ pos 6 ∷ []))
+both_taken told = receives_on 0 (receiver 4 (record (a_peer both_decisions 4 word.Unused None) { told_offers = told }) (one_int 5 ∷ one_int 6 ∷ []))
 
 pub no_front_that_is_decided : IsSettled (on_send settled) (on_recv (both_taken 3)) → ⊥
 no_front_that_is_decided h =

@@ -2,6 +2,7 @@
 use Rattle.std.proofs.Common.{◌≡◌, ℕ, ℤ, zero, suc, ◌-◌, ◌<◌, ◌≤◌, List, [], ◌∷◌, Option, Some, None, true, false}
 use Rattle.std.proofs.Common.{◌&&◌, cond, refl, sym, ap, ◌∙◌, arith, length, get_or, max, nat_lt, is_some, ⊎_elim, inl, inr}
 use Rattle.std.specs.Option.{ForSome}
+use Rattle.std.specs.Cmp.Lexicographic.{pointwise_decides}
 use Rattle.std.proofs.lemmas.Bool.{cases_lt}
 use Rattle.std.proofs.lemmas.Bool.Decides.{nat_tests, Decides-int_eq}
 use Rattle.ac_base.specs.declared.entry.Payload.{Payload}
@@ -19,7 +20,7 @@ use Rattle.completion_word.specs.declared.views.DecisionKind.TheVariants as outc
 use Rattle.completion_word.specs.declared.views.Peer.{Peer}
 use Rattle.completion_word.specs.Link.{decision_at}
 use Rattle.completion_word.specs.Steps.{stamp_seen}
-use Rattle.channel_ends.specs.Sending.{MadeOffer, OwnerNotes, Sending, made_at, heard_of, known_lead, capacity_of}
+use Rattle.channel_ends.specs.Sending.{MadeOffer, OwnerNotes, Sending, made_at, known_lead, capacity_of}
 use Rattle.channel_ends.specs.Sending as notes
 use Rattle.channel_ends.specs.Receiving.{Receiving}
 use Rattle.channel_ends.specs.Settled.{stamp_of, IsTrueOf, AreOfOneLink, AreSettled, MakeALink, AreTakenAs, IsTakenAs, owner_offers, peer_decisions}
@@ -34,16 +35,16 @@ use Rattle.end_ports.proofs.Receiving.{decisions_count}
 
 -- ---- it is a link
 
-same_int : (x : ℤ) → carries (Message x) (Int x) ≡ true
-same_int x = (Decides-int_eq x x).1 refl
+same_message : (x : List ℤ) → carries (Message x) (Int x) ≡ true
+same_message x = (pointwise_decides Decides-int_eq x x).1 refl
 
-taken_as : (k : ℕ) (xs : List ℤ) (ds : List Decision) → AreTakenAs Int (λ k x. Message x) k xs ds
+taken_as : (k : ℕ) (xs : List (List ℤ)) (ds : List Decision) → AreTakenAs Int (λ k x. Message x) k xs ds
 taken_as k [] ds = tt
 taken_as k (x ∷ xs) [] = tt
 taken_as k (x ∷ xs) (d ∷ ds) = (by d.outcome, taken_as (suc k) xs ds)
   where
     by : (how : DecisionKind) → IsTakenAs Int (λ k x. Message x) k x how
-    by (outcome.Taken t) = same_int x
+    by (outcome.Taken t) = same_message x
     by (outcome.Passed t) = tt
 
 -- ---- stamps that were heard of
@@ -62,7 +63,7 @@ most_heard (q ∷ heard) most h =
 abbrev stamp : PeerDecision → ℕ
 stamp d = d.stamp
 
-decided_most : (j : ℕ) (xs : List ℤ) (ds : List Decision) (k : ℕ) → length xs ≡ length ds → k < length ds
+decided_most : (j : ℕ) (xs : List (List ℤ)) (ds : List Decision) (k : ℕ) → length xs ≡ length ds → k < length ds
     → stamp_of (decision_at ds k).outcome ≤ greatest stamp (peer_decisions (λ k x. Message x) j xs ds)
 decided_most j [] [] k h l = absurd (omega arith)
 decided_most j [] (d ∷ ds) k h l = absurd (omega arith)
@@ -181,7 +182,7 @@ module _ (s : SendingAt) (r : ReceivingAt) (settled : AreSettled s.end r.end) wh
 
 -- ---- what stays
 
-pub recv_quiet : (r : ReceivingAt) (end : Receiving ℤ) → IsSettledRecv r.end end → IsQuiet (on_recv r) (on_recv (record r { end = end }))
+pub recv_quiet : (r : ReceivingAt) (end : Receiving (List ℤ)) → IsSettledRecv r.end end → IsQuiet (on_recv r) (on_recv (record r { end = end }))
 recv_quiet r end h = record {
   terms = ap (λ t. record { capacity = t.words; requests = false }) h.table;
   end = ap Decides (ap (λ xs. peer_decisions (λ k x. Message x) 0 xs end.peer.decisions) h.popped
@@ -191,7 +192,7 @@ recv_quiet r end h = record {
   tries = refl;
 }
 
-pub send_quiet : (s : SendingAt) (end : Sending ℤ) → IsSettledSend s.end end → IsQuiet (on_send s) (on_send (record s { end = end }))
+pub send_quiet : (s : SendingAt) (end : Sending (List ℤ)) → IsSettledSend s.end end → IsQuiet (on_send s) (on_send (record s { end = end }))
 send_quiet s end h = record {
   terms = ap (λ (v : OwnerNotes). record { capacity = capacity_of v; requests = false }) h.notes;
   end = ap Owns (ap (λ xs. owner_offers Int xs end.notes.offers) h.payloads ∙ ap (λ (v : OwnerNotes). owner_offers Int s.end.payloads v.offers) h.notes);

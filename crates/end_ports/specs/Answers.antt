@@ -1,5 +1,5 @@
 -- How the answers of the ends are told.
-use Rattle.std.specs.Prelude.{ℤ, Bool, true, false}
+use Rattle.std.specs.Prelude.{ℤ, List, Bool, true, false}
 use Rattle.ac_base.specs.declared.entry.Payload.{Payload}
 use Rattle.ac_base.specs.declared.entry.Payload.TheVariants.{Int}
 use Rattle.core_channels.specs.declared.answers.Arrived.{Arrived}
@@ -14,7 +14,7 @@ use Rattle.request_ends.specs.declared.asking.Replied.{Replied}
 use Rattle.request_ends.specs.declared.asking.Replied.TheVariants as replied
 
 -- what was not offered is handed back as the payload that it was
-abbrev pub as_payload : Offering ℤ → Offering Payload
+abbrev pub as_payload : Offering (List ℤ) → Offering Payload
 as_payload (Offered number s) = Offered number s
 as_payload (NoRoom back) = NoRoom (Int back)
 as_payload (NotYet back) = NotYet (Int back)
@@ -27,7 +27,7 @@ learned_as learning.Undecided = arrived.Nothing
 learned_as learning.AllKnown = arrived.Nothing
 learned_as learning.ClockFull = arrived.ClockFull
 
-abbrev pub received_as : Receiving ℤ → Arrived
+abbrev pub received_as : Receiving (List ℤ) → Arrived
 received_as (receiving.Took number value s) = arrived.Got number value s
 received_as (receiving.Passed number s) = arrived.Pass number s
 received_as receiving.Nothing = arrived.Nothing

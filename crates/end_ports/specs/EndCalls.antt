@@ -1,5 +1,5 @@
 -- What a call of the ports makes of the end of its link: it is the one call of that name of the end.
-use Rattle.std.specs.Prelude.{◌≡◌, ℕ, ℤ, Bool, true, false, ◌&&◌}
+use Rattle.std.specs.Prelude.{◌≡◌, ℕ, ℤ, List, Bool, true, false, ◌&&◌}
 use Rattle.ac_base.specs.declared.entry.Payload.{Payload}
 use Rattle.ac_base.specs.declared.entry.Payload.TheVariants.{Int, Read, Write}
 use Rattle.core_channels.specs.declared.answers.Arrived.{Arrived}
@@ -21,10 +21,10 @@ use Rattle.end_ports.specs.Held.{SendingAt, HeldEnd}
 use Rattle.end_ports.specs.Held.HeldEnd.{OfSend, OfRecv, OfAsk, NotHeld}
 use Rattle.end_ports.specs.Answers.{as_payload, learned_as, received_as, replied_as, is_quiet}
 
--- ---- offers: a channel is offered an int
+-- ---- offers: a channel is offered a message
 
 abbrev pub OffersInt : SendingAt → ℕ → Payload → Offering Payload → SendingAt → Type 0
-OffersInt s last (Int value) result t = (r : Offering ℤ) × Offers s.end value last r t.end × (result ≡ as_payload r)
+OffersInt s last (Int value) result t = (r : Offering (List ℤ)) × Offers s.end value last r t.end × (result ≡ as_payload r)
 OffersInt s last (Read file from len) result t = ⊥
 OffersInt s last (Write file from bytes) result t = ⊥
 
@@ -57,8 +57,8 @@ WithdrawsAt NotHeld number last result t = ⊥
 -- ---- polls
 
 -- a message is taken only where it is wanted
-abbrev pub TakesWanted : Bool → Receiving ℤ → ℕ → Arrived → Receiving ℤ → Type 0
-TakesWanted true old last result new = (r : Received ℤ) × Receives old last r new × (result ≡ received_as r)
+abbrev pub TakesWanted : Bool → Receiving (List ℤ) → ℕ → Arrived → Receiving (List ℤ) → Type 0
+TakesWanted true old last result new = (r : Received (List ℤ)) × Receives old last r new × (result ≡ received_as r)
 TakesWanted false old last result new = (result ≡ Nothing) × (new ≡ old)
 
 -- and a reply where it is wanted and awaited

@@ -8,14 +8,14 @@ use Rattle.channel_ends.specs.Pairs.{IsSameSend, IsSameRecv}
 -- a channel on which the core sends: how often it was polled, and how often an offer was tried
 pub record SendingAt : Type 0 where
   pub link : ℕ
-  pub end : Sending ℤ
+  pub end : Sending (List ℤ)
   pub polls : ℕ
   pub tries : ℕ
 
 -- a channel on which it receives
 pub record ReceivingAt : Type 0 where
   pub link : ℕ
-  pub end : Receiving ℤ
+  pub end : Receiving (List ℤ)
   pub polls : ℕ
 
 -- the link of its requests

@@ -1,7 +1,7 @@
 //! The ends of the channels on which a core sends.
 
 ghost use Rattle.std.specs.Prelude.{◌≡◌, [], length, slice_get, true};
-ghost use Rattle.ac_links.specs.Payloads.{is_int};
+ghost use Rattle.ac_links.specs.Payloads.{is_message};
 ghost use Rattle.ac_links.specs.Views.{may_withdraw, owner_lead};
 ghost use Rattle.channel_ends.specs.Settled.{AreEnds};
 ghost use Rattle.core_ports.specs.Ends.{IsUpTo};
@@ -76,7 +76,7 @@ impl<'a> SendAt<'a> {
     }
 
     pub(crate) fn offer(&mut self, payload: Payload, clock: &mut Clock) -> Offering<Payload>
-        requires payload { is_int payload ≡ true }
+        requires payload { is_message payload ≡ true }
         requires clock { IsUpTo clock.old (on_send self.old).end }
         ensures call { OffersOn (OfSend self.old) self.old.link clock.old payload result (OfSend self.new) clock.new }
         ensures same { IsSameSendAt self.old self.new }

@@ -2,7 +2,7 @@
 
 ghost use Rattle.std.specs.Prelude.{◌≡◌, ◌<◌, ◌==◌, Some, length, slice_get, true};
 ghost use Rattle.std.specs.List.{position};
-ghost use Rattle.ac_links.specs.Payloads.{is_int};
+ghost use Rattle.ac_links.specs.Payloads.{is_message};
 ghost use Rattle.ac_links.specs.Views.{may_withdraw, owner_lead};
 ghost use Rattle.channel_ends.specs.Settled.{AreEnds};
 ghost use Rattle.core_ports.specs.Ends.{IsUpTo};
@@ -69,7 +69,7 @@ impl<'a> Sends<'a> {
         clock: &mut Clock,
     ) -> Offering<Payload>
         requires at { at < length self.old }
-        requires payload { is_int payload ≡ true }
+        requires payload { is_message payload ≡ true }
         requires clock { (s : _) → slice_get self.old at ≡ Some s → IsUpTo clock.old (on_send s).end }
         ensures { ChangesAt (λ s t. OffersOn (OfSend s) s.link clock.old payload result (OfSend t) clock.new × IsSameSendAt s t)
             self.old at self.new }

@@ -13,6 +13,7 @@ use Rattle.ac_outside.specs.Files.{file_of, part}
 use Rattle.ac_mirror_disk.specs.declared.side.Side.{Side}
 use Rattle.ac_mirror_disk.specs.Sides.{SideWrites}
 use Rattle.ac_mirror_disk.specs.Pairs.{IfBoth, OnlyReads}
+use Rattle.ac_mirror_disk.specs.Rebuilding.{OnlyBinds}
 use Rattle.ac_mirror_disk.specs.Sound.{IsKept, WereShort}
 
 -- what is told goes on so
@@ -84,6 +85,8 @@ module _ {D : Type 0} (told : D → DiskTold) where
     pub tells : (result ≡ Err NoMemory → ⊥) → IsSome (told t.disk).held → IsSome (told t'.disk).held
     pub found : result ≡ Ok tt → IfSome (told t.disk).held (λ h. Then KeepsFound h (told t'.disk).held)
     pub silent : (told t.disk).held ≡ None → (told t'.disk).held ≡ None
+    pub only : OnlyBinds told t t'
+    pub refused : result ≡ Err NoMemory → (told t'.disk).is_ready ≡ false
 
 module _ {S T : Type 0} (told_s : S → DiskTold) (told_t : T → DiskTold) where
   pub record MayCopy (s : Side S) (t : Side T) (file : ℕ) : Type 0 where

@@ -2,6 +2,7 @@ use Rattle.std.proofs.Common.{◌<◌, ◌+◌, length, map, ap, ◌∙◌, arit
 use Rattle.std.specs.Prelude.{string_bytes}
 use Rattle.std.proofs.lemmas.List.{length-map}
 use Rattle.ac_mirror_disk.proofs.RestBound.{may_rest, kept_rest, rest_found, some_then, path_at}
+use Rattle.ac_mirror_disk.proofs.OnlyBound.{binds_on}
 use Rattle.ac_mirror_disk.proofs.Short.{short_next}
 use Rattle.ac_mirror_disk.proofs.rebuilding.bind_rest.Goals as goal
 
@@ -34,5 +35,6 @@ loop-place-preserved g c =
       out = c.in_ok-bind_next.ensures.in_use ∙ i.out;
       tells = some_then (g.T.Disk.told c.args.t.now.disk).held (g.T.Disk.told c.bind_next.new.self.disk).held found;
       found = found;
+      only = binds_on g.T.Disk.told c.args.t.now c.loop-place.t c.bind_next.new.self c.as_str.result.now _ i.only i.found b c.in_ok-bind_next.ensures.lens;
       silent = λ e. b.silent (i.silent e);
     }

@@ -1,7 +1,8 @@
--- As many files are bound as turns were made, and what the side has found stays.
+-- As many files are bound as turns were made, nothing was written, and what the side has found stays.
 use Rattle.std.proofs.Common.{◌≡◌, ◌≤◌, map, None, false, true}
 use Rattle.std.specs.Prelude.{IfSome, is_some, string_bytes}
 use Rattle.ac_mirror_disk.specs.inner.Copying.{Then, KeepsFound}
+use Rattle.ac_mirror_disk.specs.Rebuilding.{OnlyBinds}
 use Rattle.ac_mirror_disk.specs.Sound.{IsKept, WereShort}
 use Rattle.ac_mirror_disk.proofs.rebuilding.bind_rest.Given as goal
 
@@ -14,5 +15,6 @@ invariant-loop-place g l = record {
   out : l.t.in_use ≡ false;
   tells : is_some (g.T.Disk.told l.fn.t.disk).held ≡ true → is_some (g.T.Disk.told l.t.disk).held ≡ true;
   found : IfSome (g.T.Disk.told l.fn.t.disk).held (λ h. Then KeepsFound h (g.T.Disk.told l.t.disk).held);
+  only : OnlyBinds g.T.Disk.told l.fn.t l.t;
   silent : (g.T.Disk.told l.fn.t.disk).held ≡ None → (g.T.Disk.told l.t.disk).held ≡ None;
 }

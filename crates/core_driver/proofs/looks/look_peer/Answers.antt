@@ -1,7 +1,6 @@
-use Rattle.std.proofs.Common.{◌≡◌, ℕ, Some, None, true, false, sym, ap, ◌∙◌, subst, rules, w64, SFits}
-use Rattle.std.proofs.lemmas.Int.{to_z-of_z}
+use Rattle.std.proofs.Common.{◌≡◌, ℕ, Some, None, true, false, sym, ap, ◌∙◌}
 use Rattle.ac_base.specs.declared.entry.Event.TheVariants as event
-use Rattle.core_machine.specs.Points.{HasCome, is_at_point}
+use Rattle.core_machine.specs.Points.{is_at_point}
 use Rattle.core_ports.specs.AtHand.{AtHand}
 use Rattle.core_ports.specs.declared.side.Side.TheVariants.{Peer, Neither}
 use Rattle.core_driver.proofs.Together.{entered_looks, nothing_looks, peer_frees_nothing, peer_knows_nothing, roomed_looks, still_going, told_moves, up_to}
@@ -38,23 +37,21 @@ pub returns-in_err-make_room-clause-stays : goal.returns-in_err-make_room-clause
 returns-in_err-make_room-clause-stays g c = g.met.P.Ports.stays_self c.args.ports.now
 
 pub returns-in-Got-clause-looks : goal.returns-in-Got-clause-looks
-returns-in-Got-clause-looks g c = let fits : SFits w64 c.in-Got.value = search rules in entered_looks c.args.machine.now c.make_room.new.self _ c.requires.in_step c.requires.point
+returns-in-Got-clause-looks g c = entered_looks c.args.machine.now c.make_room.new.self _ c.requires.in_step c.requires.point
     c.make_room.ensures.same c.make_room.ensures.state c.make_room.ensures.run _ (record { event = event.Got c.args.link c.in-Got.number c.in-Got.value; stamp = c.in-Got.stamp })
     (poll_called (outside (g.P.Ports.told c.args.ports.now) c.args.clock.now)
     (outside (g.P.Ports.told c.poll.new.self) c.poll.new.clock) (Some (record { event = event.Got c.args.link c.in-Got.number c.in-Got.value; stamp = c.in-Got.stamp })) c.args.link
     c.in-Got.ensures.tells c.in-Got.ensures.hand
-    c.in-Got.ensures.terms c.in-Got.ensures.polls c.in-Got.ensures.tries) c.got.new.self (subst (λ v. HasCome c.make_room.new.self (event.Got c.args.link c.in-Got.number v) c.in-Got.stamp
-    c.got.new.self) (to_z-of_z w64 c.in-Got.value fits) c.got.ensures.come) c.got.ensures.less c.got.ensures.run
+    c.in-Got.ensures.terms c.in-Got.ensures.polls c.in-Got.ensures.tries) c.got.new.self c.got.ensures.come c.got.ensures.less c.got.ensures.run
 
 pub returns-in-Got-clause-looked : goal.returns-in-Got-clause-looked
-returns-in-Got-clause-looked g c = let fits : SFits w64 c.in-Got.value = search rules in λ e. peer_looked _ _ _ _ c.args.link
+returns-in-Got-clause-looked g c = λ e. peer_looked _ _ _ _ c.args.link
     (entered_looks c.args.machine.now c.make_room.new.self _ c.requires.in_step c.requires.point c.make_room.ensures.same c.make_room.ensures.state c.make_room.ensures.run _
     (record { event = event.Got c.args.link c.in-Got.number c.in-Got.value; stamp = c.in-Got.stamp })
     (poll_called (outside (g.P.Ports.told c.args.ports.now) c.args.clock.now)
     (outside (g.P.Ports.told c.poll.new.self) c.poll.new.clock)
     (Some (record { event = event.Got c.args.link c.in-Got.number c.in-Got.value; stamp = c.in-Got.stamp })) c.args.link c.in-Got.ensures.tells c.in-Got.ensures.hand c.in-Got.ensures.terms
-    c.in-Got.ensures.polls c.in-Got.ensures.tries) c.got.new.self (subst (λ v. HasCome c.make_room.new.self (event.Got c.args.link c.in-Got.number v) c.in-Got.stamp c.got.new.self)
-    (to_z-of_z w64 c.in-Got.value fits) c.got.ensures.come) c.got.ensures.less c.got.ensures.run)
+    c.in-Got.ensures.polls c.in-Got.ensures.tries) c.got.new.self c.got.ensures.come c.got.ensures.less c.got.ensures.run)
     (counts_here (g.P.Ports.told c.args.ports.now).polls (g.P.Ports.told c.poll.new.self).polls c.args.link c.in-Got.ensures.polls) c.requires.side
     (λ same waits. absurd (told_moves (outside (g.P.Ports.told c.args.ports.now) c.args.clock.now)
     (outside (g.P.Ports.told c.poll.new.self) c.poll.new.clock) (record { event = event.Got c.args.link c.in-Got.number c.in-Got.value; stamp = c.in-Got.stamp })

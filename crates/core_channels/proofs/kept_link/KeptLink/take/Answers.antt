@@ -1,5 +1,4 @@
-use Rattle.std.proofs.Common.{◌≡◌, ◌∙◌, [], ◌∷◌, ◌++◌, Some, sym, ap, subst, rules, length, slice_get, w64, to_z, of_z, SFits}
-use Rattle.std.proofs.lemmas.Int.{to_z-of_z}
+use Rattle.std.proofs.Common.{◌≡◌, ◌∙◌, [], ◌∷◌, ◌++◌, Some, sym, ap, subst, length, slice_get}
 use Rattle.ac_base.specs.Stamps.{stamp_after}
 use Rattle.ac_links.specs.Noted.{offer_stamp, withdrawal_stamp, or_zero}
 use Rattle.core_channels.specs.declared.answers.Receiving.TheVariants.{Took}
@@ -59,8 +58,7 @@ decide-requires-2-clause-fits c =
     let count = c.len-number.ensures ∙ c.self.inside.decisions.ok.0 ∙ ap (λ v. length v.decisions) c.self.view_is in
     let stands = sym c.withdrawn.ensures ∙ c.in_default-withdrawn.is in
     let stamp = ap (λ d. stamp_after c.args.clock.now d) (sym c.stamp-offered.ensures) ∙ sym c.after-2.ensures ∙ c.in-Some-after-2.is in
-    let fits : SFits w64 c.message_of-value.result = search rules in
-    let value = to_z-of_z w64 c.message_of-value.result fits ∙ c.message_of-value.ensures ∙ ap message_of c.payload.ensures in
+    let value = c.message_of-value.ensures ∙ ap message_of c.payload.ensures in
     let made = c.took.ensures ∙ ap (λ x. taken_decision x c.in-Some-after-2.stamp c.stamp-offered.result) value
     ∙ ap (λ x. taken_decision (message_of c.in-Some.offer.now.payload) c.in-Some-after-2.stamp x) c.stamp-offered.ensures in
     let link = subst IsLink c.self.view_is c.self.invariant.views in
@@ -79,8 +77,7 @@ returns-clause-answer c =
     let count = c.len-number.ensures ∙ c.self.inside.decisions.ok.0 ∙ ap (λ v. length v.decisions) c.self.view_is in
     let stands = sym c.withdrawn.ensures ∙ c.in_default-withdrawn.is in
     let stamp = ap (λ d. stamp_after c.args.clock.now d) (sym c.stamp-offered.ensures) ∙ sym c.after-2.ensures ∙ c.in-Some-after-2.is in
-    let fits : SFits w64 c.message_of-value.result = search rules in
-    let value = to_z-of_z w64 c.message_of-value.result fits ∙ c.message_of-value.ensures ∙ ap message_of c.payload.ensures in
+    let value = c.message_of-value.ensures ∙ ap message_of c.payload.ensures in
     sym (first_is_received c.args.self.now c.args.clock.now c.len-number.result c.in-Some.offer.now count there
     ∙ ap (λ q. receiving_one c.args.clock.now c.len-number.result c.in-Some.offer.now q) stands
     ∙ ap (λ q. took_at c.len-number.result c.in-Some.offer.now.payload q) stamp
@@ -92,4 +89,4 @@ returns-clause-views c =
     (read_at c.deref.result.now c.self.inside.offers.items c.len-number.result c.in-Some.offer.now c.deref.ensures.value c.in-Some.ensures.lookup.3.0 c.in-Some.ensures.lookup.1) in
     c.decide-2.ensures.views
     ∙ ap (λ d. with_decision c.args.self.now d) (c.took.ensures
-    ∙ ap (λ x. taken_decision (to_z w64 (of_z w64 c.message_of-value.result)) c.in-Some-after-2.stamp x) (c.stamp-offered.ensures ∙ sym (ap offer_stamp there)))
+    ∙ ap (λ x. taken_decision c.message_of-value.result c.in-Some-after-2.stamp x) (c.stamp-offered.ensures ∙ sym (ap offer_stamp there)))

@@ -1,4 +1,4 @@
-use Rattle.std.proofs.Common.{◌≤◌, true, false, subst}
+use Rattle.std.proofs.Common.{◌≤◌, true, subst}
 use Rattle.end_ports.specs.Held.{AskingAt}
 use Rattle.end_ports.specs.OnLinks.{on_ask}
 use Rattle.end_ports.specs.inner.AskFields.{asking_at_of}

@@ -1,4 +1,4 @@
-use Rattle.std.proofs.Common.{◌≡◌, sym, ap, ◌∙◌, subst}
+use Rattle.std.proofs.Common.{◌≡◌, sym, ◌∙◌, subst}
 use Rattle.ac_base.specs.declared.entry.Payload.TheVariants.{Int}
 use Rattle.ac_links.specs.Views.{owner_lead}
 use Rattle.end_ports.specs.Held.{SendingAt}

@@ -1,5 +1,4 @@
-use Rattle.std.proofs.Common.{rules, sym, subst, w64, SFits}
-use Rattle.std.proofs.lemmas.Int.{to_z-of_z}
+use Rattle.std.proofs.Common.{sym, subst}
 use Rattle.ac_base.specs.declared.entry.Payload.TheVariants.{Int}
 use Rattle.channel_ends.specs.Offers.{Offers}
 use Rattle.core_ports.specs.Ends.{IsUpTo}
@@ -23,11 +22,10 @@ returns-clause-call c =
     let s = sending_at_of c.self.inside in
     let last = c.args.clock.now in
     let value = c.in-Int.value in
-    let fits : SFits w64 value = search rules in
     let tries = c.counted-self-inside.result in
     let after : SendingAt = record { link = s.link; end = c.offer.new.self; polls = s.polls; tries = tries } in
     let now = c.offer.new.clock in
-    let answer : Offers s.end value last c.offer.result c.offer.new.self = subst (λ x. Offers s.end x last c.offer.result c.offer.new.self) (to_z-of_z w64 value fits) c.offer.ensures.answer in
+    let answer : Offers s.end value last c.offer.result c.offer.new.self = c.offer.ensures.answer in
     subst (λ (v : SendingAt). OffersOn (OfSend v) v.link last c.args.payload c.as_payload.result (OfSend after) now) c.self.view_is
     (subst (λ p. OffersOn (OfSend s) s.link last p c.as_payload.result (OfSend after) now) (sym c.in-Int.is)
     (subst (λ r. OffersOn (OfSend s) s.link last (Int value) r (OfSend after) now) (sym c.as_payload.ensures)
