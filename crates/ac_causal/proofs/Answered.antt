@@ -116,18 +116,18 @@ lasts_at : (es : List Stamped) (M : Marked) (k : ℕ) → length (marked_at es M
 lasts_at es M zero = refl
 lasts_at es M (suc k) = lasts_by (marked_at es M k) (suc k) (slice_get es k) ∙ lasts_at es M k
 
-module _ (capacities : List ℕ) (cores : ℕ) (es : List Stamped) (legal : IsLegal (start capacities cores) es) where
+module _ (capacities widths : List ℕ) (cores : ℕ) (es : List Stamped) (legal : IsLegal (start capacities widths cores) es) where
   abbrev past : ℕ → Past
-  past k = past_at (start capacities cores) es k
+  past k = past_at (start capacities widths cores) es k
 
   abbrev pub marks : ℕ → Marked
   marks k = marked_at es (no_marks (length capacities) (suc cores)) k
 
   kept : (k : ℕ) → Kept es k (past k) (marks k)
-  kept k = kept_at capacities cores es legal k
+  kept k = kept_at capacities widths cores es legal k
 
   fit : (k : ℕ) (e : Stamped) → slice_get es k ≡ Some e → fits (past k) e ≡ true
-  fit k e is = fits_at (start capacities cores) es legal k e is
+  fit k e is = fits_at (start capacities widths cores) es legal k e is
 
   -- the offer of an entry that answers, and the entry by which it stands
   pub record Sees (j : ℕ) (e : Stamped) : Type 0 where

@@ -27,10 +27,10 @@ legal_from program t before (s ∷ es) a = (
   subst (λ (h : HistoryState). IsLegal h.past es) (one_more (nothing_yet program t) before s) (legal_from program t (before ++ s ∷ []) es a.1),
 )
 
-pub is_legal : (program : Resolved) (t : Trace) → IsRunTrace program t → IsLegal (start (code_of program).capacities (length (code_of program).entries)) t.entries
+pub is_legal : (program : Resolved) (t : Trace) → IsRunTrace program t → IsLegal (start (code_of program).capacities (code_of program).widths (length (code_of program).entries)) t.entries
 is_legal program t run =
-    subst (λ n. IsLegal (start (code_of program).capacities n) t.entries) (sym (length-map program.cores (λ (core : Core). core.entry)))
+    subst (λ n. IsLegal (start (code_of program).capacities (code_of program).widths n) t.entries) (sym (length-map program.cores (λ (core : Core). core.entry)))
     (legal_from program t [] t.entries run.entries)
 
-pub audited_legal : (code : Parts) (t : Trace) → IsAudited code t → IsLegal (start code.capacities (length code.entries)) t.entries
-audited_legal code t a = subst (λ (c : Parts). IsLegal (start c.capacities (length c.entries)) t.entries) (sym a.code_is) (is_legal a.program t a.run)
+pub audited_legal : (code : Parts) (t : Trace) → IsAudited code t → IsLegal (start code.capacities code.widths (length code.entries)) t.entries
+audited_legal code t a = subst (λ (c : Parts). IsLegal (start c.capacities c.widths (length c.entries)) t.entries) (sym a.code_is) (is_legal a.program t a.run)

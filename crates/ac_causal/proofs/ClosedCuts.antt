@@ -24,7 +24,7 @@ use Rattle.code_safety.specs.KeptEnds.{KeepsEnds}
 use Rattle.replay_laws.specs.Given.{HasRun}
 use Rattle.ac_links.specs.Link.{link_of, link_fits}
 use Rattle.ac_history.specs.Merged.{merged}
-use Rattle.ac_history.specs.History.{Past, IsLegal, start, after, fits, makes, may_make, in_range, is_later, has_stamp, terms_of, link_at}
+use Rattle.ac_history.specs.History.{Past, IsLegal, start, after, fits, makes, may_make, has_its_width, in_range, is_later, has_stamp, terms_of, link_at}
 use Rattle.ac_history.proofs.Parts.{IsRising}
 use Rattle.program_run.specs.Parties.{owner_of, peer_of, peer_at}
 use Rattle.trace_text.specs.declared.trace.Trace.{Trace}
@@ -116,16 +116,16 @@ le_of : (m n : ℕ) → nat_le m n ≡ true → m ≤ n
 le_of m n h = leb-true m n h
 
 module _ (code : Parts) (v : IsValid code) (keeps : KeepsEnds code) (ranks : List ℕ) (ranked : IsRanked code ranks) (bound : ℕ) (es : List Stamped)
-    (legal : IsLegal (start code.capacities (length code.entries)) es)
+    (legal : IsLegal (start code.capacities code.widths (length code.entries)) es)
     (runs : (core : ℕ) → core < length code.entries → HasRun code core bound (journal_of core es)) where
   abbrev first : Past
-  first = start code.capacities (length code.entries)
+  first = start code.capacities code.widths (length code.entries)
 
   made_at : (i : ℕ) (e : Stamped) → slice_get es i ≡ Some e → may_make first.channels (length code.entries) e ≡ true
   made_at i e is =
       let P = past_at first es i in
       let p = all_parts (in_range P e) (is_later P.stamp P.party e) (has_stamp P e) (may_make P.channels P.cores e)
-      (link_fits (terms_of P.capacities P.channels (link_of e.entry.event)) (link_at P (link_of e.entry.event)) e.entry.event) (fits_at first es legal i e is) in
+      (has_its_width P.widths e.entry.event) (link_fits (terms_of P.capacities P.channels (link_of e.entry.event)) (link_at P (link_of e.entry.event)) e.entry.event) (fits_at first es legal i e is) in
       ap (λ n. may_make n (length code.entries) e) (sym (past_channels first es i)) ∙ ap (λ n. may_make P.channels n e) (sym (past_cores first es i)) ∙ p.3
 
   -- an entry of a core
@@ -166,16 +166,16 @@ module _ (code : Parts) (v : IsValid code) (keeps : KeepsEnds code) (ranks : Lis
           by : (e.party < length code.entries) ⊎ (length code.entries ≤ e.party) → e.party ≡ peer_of code.ends (length code.entries) (link_of e.entry.event)
           by (inl lt) = sym ((core_own i e is lt).decides decides)
           by (inr le) =
-              let last = party_in code.capacities (length code.entries) es legal i e is in
+              let last = party_in code.capacities code.widths (length code.entries) es legal i e is in
               let peer = (worker_own i e is le).1 decides in
               omega (arith, last, le, peer)
 
 -- ---- the journals of a cut are those of its entries
 
-module _ (owner peer : ℕ → ℕ) (capacities : List ℕ) (cores : ℕ) (es : List Stamped) (counts : List ℕ) (legal : IsLegal (start capacities cores) es)
+module _ (owner peer : ℕ → ℕ) (capacities widths : List ℕ) (cores : ℕ) (es : List Stamped) (counts : List ℕ) (legal : IsLegal (start capacities widths cores) es)
     (ends : AreAtEnds owner peer es) (closed : IsClosed es counts) where
   abbrev inside : ℕ → List Stamped
-  inside k = inside_to owner peer capacities cores es counts legal ends closed k
+  inside k = inside_to owner peer capacities widths cores es counts legal ends closed k
 
   abbrev those : ℕ → Stamped → List Stamped
   those k e = added_if (nat_lt (made_by es e.party k) (slice_index counts e.party)) e
@@ -252,7 +252,7 @@ module _ (owner peer : ℕ → ℕ) (capacities : List ℕ) (cores : ℕ) (es : 
       parts_of : (P : Past) (e : Stamped) → fits P e ≡ true → (in_range P e ≡ true) × (is_later P.stamp P.party e ≡ true)
       parts_of P e f =
           let p = all_parts (in_range P e) (is_later P.stamp P.party e) (has_stamp P e) (may_make P.channels P.cores e)
-          (link_fits (terms_of P.capacities P.channels (link_of e.entry.event)) (link_at P (link_of e.entry.event)) e.entry.event) f in
+          (has_its_width P.widths e.entry.event) (link_fits (terms_of P.capacities P.channels (link_of e.entry.event)) (link_at P (link_of e.entry.event)) e.entry.event) f in
           (p.0, p.1)
 
   below_from : (n : ℕ) (P : Past) (xs : List Stamped) → length P.lasts ≡ n → IsLegal P xs → AllByRecursion (λ (s : Stamped). s.party < n) xs
@@ -264,16 +264,16 @@ module _ (owner peer : ℕ → ℕ) (capacities : List ℕ) (cores : ℕ) (es : 
     where
       in_it : in_range P e ≡ true
       in_it = (all_parts (in_range P e) (is_later P.stamp P.party e) (has_stamp P e) (may_make P.channels P.cores e)
-          (link_fits (terms_of P.capacities P.channels (link_of e.entry.event)) (link_at P (link_of e.entry.event)) e.entry.event) h.0).0
+          (has_its_width P.widths e.entry.event) (link_fits (terms_of P.capacities P.channels (link_of e.entry.event)) (link_at P (link_of e.entry.event)) e.entry.event) h.0).0
 
-  pub cut_is_legal : IsCut es (suc cores) counts → IsLegal (start capacities cores) (cut_history es counts)
+  pub cut_is_legal : IsCut es (suc cores) counts → IsLegal (start capacities widths cores) (cut_history es counts)
   cut_is_legal cut =
-      let those_legal = inside_legal owner peer capacities cores es counts legal ends closed in
+      let those_legal = inside_legal owner peer capacities widths cores es counts legal ends closed in
       let merge_is : merged (parts 0 (length counts) whole) ≡ whole =
-      parts_are_whole (length counts) whole (rising_from (start capacities cores) whole those_legal)
-      (below_from (length counts) (start capacities cores) whole (length-replicate {A = ℕ} (suc cores) 0 ∙ sym cut.so_many) those_legal) in
+      parts_are_whole (length counts) whole (rising_from (start capacities widths cores) whole those_legal)
+      (below_from (length counts) (start capacities widths cores) whole (length-replicate {A = ℕ} (suc cores) 0 ∙ sym cut.so_many) those_legal) in
       let journals_are : parts 0 (length counts) whole ≡ cut_journals es 0 counts = parts_from 0 counts (λ i lt. ap (λ n. slice_index counts n) (none_more i)) in
-      subst (IsLegal (start capacities cores)) (sym merge_is ∙ ap merged journals_are) those_legal
+      subst (IsLegal (start capacities widths cores)) (sym merge_is ∙ ap merged journals_are) those_legal
     where
       none_more : (i : ℕ) → i ≡ 0 + i
       none_more i = omega arith
@@ -282,11 +282,11 @@ module _ (owner peer : ℕ → ℕ) (capacities : List ℕ) (cores : ℕ) (es : 
 
 pub closed_cuts : (program : Resolved) (t : Trace) (counts : List ℕ) → IsSound program → KeepsEnds (code_of program) → IsRunTrace program t
     → IsCut t.entries (suc (length program.cores)) counts → IsClosed t.entries counts
-    → IsLegal (start (code_of program).capacities (length program.cores)) (cut_history t.entries counts)
+    → IsLegal (start (code_of program).capacities (code_of program).widths (length program.cores)) (cut_history t.entries counts)
 closed_cuts program t counts sound keeps run cut closed =
     let code = code_of program in
     let legal = is_legal program t run in
     let ends = at_ends code sound.valid keeps sound.ranks sound.ranked t.steps t.entries legal (λ core lt. journal_runs program t sound.same run core lt) in
-    subst (λ n. IsLegal (start code.capacities n) (cut_history t.entries counts)) (cores_are program)
-    (cut_is_legal (owner_of code.ends) (peer_of code.ends (length code.entries)) code.capacities (length code.entries) t.entries counts legal ends closed
+    subst (λ n. IsLegal (start code.capacities code.widths n) (cut_history t.entries counts)) (cores_are program)
+    (cut_is_legal (owner_of code.ends) (peer_of code.ends (length code.entries)) code.capacities code.widths (length code.entries) t.entries counts legal ends closed
     (subst (λ n. IsCut t.entries (suc n) counts) (sym (cores_are program)) cut))

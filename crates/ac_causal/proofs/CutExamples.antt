@@ -35,10 +35,10 @@ module _ (counts : List ℕ) (i : ℕ) (e : Stamped) (is : slice_get entries i �
   place_of h = subst (λ (x : Stamped). made_by entries x.party i < slice_index counts x.party) (entry_of h.entry e (sym h.there ∙ is)) h.first
 
 pub the_first_offer_is_inside : IsInside entries (1 ∷ 1 ∷ 0 ∷ []) 0
-the_first_offer_is_inside = record { entry = by 0 1 2 (Offer 0 0 (Int (pos 5))); there = refl; first = omega arith }
+the_first_offer_is_inside = record { entry = by 0 1 2 (Offer 0 0 (Int (pos 5 ∷ []))); there = refl; first = omega arith }
 
 pub the_third_entry_is_not : IsInside entries (1 ∷ 1 ∷ 0 ∷ []) 2 → ⊥
-the_third_entry_is_not h = let lt = place_of (1 ∷ 1 ∷ 0 ∷ []) 2 (by 0 2 2 (Got 1 0 (pos 6))) refl h in omega (arith, lt)
+the_third_entry_is_not h = let lt = place_of (1 ∷ 1 ∷ 0 ∷ []) 2 (by 0 2 2 (Got 1 0 (pos 6 ∷ []))) refl h in omega (arith, lt)
 
 -- an offer answers nothing
 offers_alone : (j : ℕ) (e : Stamped) → slice_get entries j ≡ Some e → ((x : Stamped) → answers e.entry.event x.entry.event ≡ false) → (i : ℕ) → Answers entries i j → ⊥
@@ -48,10 +48,10 @@ offers_alone j e is none i h =
     cc
 
 closed_at : (i j : ℕ) → Answers entries i j → IsInside entries (1 ∷ 1 ∷ 0 ∷ []) j → IsInside entries (1 ∷ 1 ∷ 0 ∷ []) i
-closed_at i zero a h = absurd (offers_alone 0 (by 0 1 2 (Offer 0 0 (Int (pos 5)))) refl (λ x. refl) i a)
-closed_at i (suc zero) a h = absurd (offers_alone 1 (by 1 1 2 (Offer 1 0 (Int (pos 6)))) refl (λ x. refl) i a)
+closed_at i zero a h = absurd (offers_alone 0 (by 0 1 2 (Offer 0 0 (Int (pos 5 ∷ [])))) refl (λ x. refl) i a)
+closed_at i (suc zero) a h = absurd (offers_alone 1 (by 1 1 2 (Offer 1 0 (Int (pos 6 ∷ [])))) refl (λ x. refl) i a)
 closed_at i (suc (suc zero)) a h = absurd (the_third_entry_is_not h)
-closed_at i (suc (suc (suc zero))) a h = absurd (let lt = place_of (1 ∷ 1 ∷ 0 ∷ []) 3 (by 1 2 2 (Got 0 0 (pos 5))) refl h in omega (arith, lt))
+closed_at i (suc (suc (suc zero))) a h = absurd (let lt = place_of (1 ∷ 1 ∷ 0 ∷ []) 3 (by 1 2 2 (Got 0 0 (pos 5 ∷ []))) refl h in omega (arith, lt))
 closed_at i (suc (suc (suc (suc zero)))) a h = absurd (let lt = place_of (1 ∷ 1 ∷ 0 ∷ []) 4 (by 0 3 2 (Know 0 0)) refl h in omega (arith, lt))
 closed_at i (suc (suc (suc (suc (suc zero))))) a h = absurd (let lt = place_of (1 ∷ 1 ∷ 0 ∷ []) 5 (by 1 3 2 (Know 1 0)) refl h in omega (arith, lt))
 closed_at i (suc (suc (suc (suc (suc (suc n)))))) a h = let bad : ◌≡◌ {A = Option Stamped} None (Some h.entry) = h.there in absurd (cc)
@@ -64,24 +64,24 @@ they_are_closed = closed_at
 
 -- the first core has taken the second's offer, which is not there
 pub the_second_offer_is_outside : IsInside entries (2 ∷ 0 ∷ 0 ∷ []) 1 → ⊥
-the_second_offer_is_outside h = let lt = place_of (2 ∷ 0 ∷ 0 ∷ []) 1 (by 1 1 2 (Offer 1 0 (Int (pos 6)))) refl h in omega (arith, lt)
+the_second_offer_is_outside h = let lt = place_of (2 ∷ 0 ∷ 0 ∷ []) 1 (by 1 1 2 (Offer 1 0 (Int (pos 6 ∷ [])))) refl h in omega (arith, lt)
 
 abbrev pub its_offer_is_not_there : IsOpenAt entries (2 ∷ 0 ∷ 0 ∷ []) 1
 its_offer_is_not_there = record {
   by = 2;
   answers = record {
-    asking = by 1 1 2 (Offer 1 0 (Int (pos 6)));
-    answering = by 0 2 2 (Got 1 0 (pos 6));
+    asking = by 1 1 2 (Offer 1 0 (Int (pos 6 ∷ [])));
+    answering = by 0 2 2 (Got 1 0 (pos 6 ∷ []));
     asks = refl;
     answers_it = refl;
     answer = refl;
   };
-  inside = record { entry = by 0 2 2 (Got 1 0 (pos 6)); there = refl; first = omega arith };
+  inside = record { entry = by 0 2 2 (Got 1 0 (pos 6 ∷ [])); there = refl; first = omega arith };
   outside = the_second_offer_is_outside;
 }
 
 not_before : (i : ℕ) → IsOpenAt entries (2 ∷ 0 ∷ 0 ∷ []) i → 1 ≤ i
-not_before zero o = absurd (o.outside (record { entry = by 0 1 2 (Offer 0 0 (Int (pos 5))); there = refl; first = omega arith }))
+not_before zero o = absurd (o.outside (record { entry = by 0 1 2 (Offer 0 0 (Int (pos 5 ∷ []))); there = refl; first = omega arith }))
 not_before (suc i) o = omega arith
 
 pub it_is_open_at_the_second_offer : IsCutAnswer entries (2 ∷ 0 ∷ 0 ∷ []) (Open 1)

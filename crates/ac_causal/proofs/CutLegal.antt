@@ -13,7 +13,7 @@ use Rattle.ac_base.specs.Stamps.{next_stamp}
 use Rattle.ac_links.specs.declared.offer.LinkOffer.{LinkOffer}
 use Rattle.ac_links.specs.declared.payloads.Terms.{Terms}
 use Rattle.ac_links.specs.Link.{link_fits, link_after, link_of, number_of, answered, standing_stamp, is_decided}
-use Rattle.ac_history.specs.History.{Past, link_at, is_later, has_stamp, in_range, may_make, terms_of, fits, after, IsLegal, start}
+use Rattle.ac_history.specs.History.{Past, link_at, is_later, has_stamp, in_range, may_make, has_its_width, terms_of, fits, after, IsLegal, start}
 use Rattle.ac_history.specs.Quiet.{after_all_of}
 use Rattle.ac_causal.specs.Before.{is_of}
 use Rattle.ac_causal.specs.Cuts.{made_by, IsInside, IsClosed}
@@ -33,16 +33,17 @@ pub record AreAtEnds (owner peer : ℕ → ℕ) (es : List Stamped) : Type 0 whe
 
 -- ---- small facts
 
-pub all_parts : (a b c d f : Bool) → a && b && c && d && f ≡ true → (a ≡ true) × (b ≡ true) × (c ≡ true) × (d ≡ true) × (f ≡ true)
-all_parts a b c d f h =
-    let p = and_parts (a && b && c && d) f h in
-    let q = and_parts (a && b && c) d p.0 in
+pub all_parts : (a b c d w f : Bool) → a && b && c && d && w && f ≡ true → (a ≡ true) × (b ≡ true) × (c ≡ true) × (d ≡ true) × (w ≡ true) × (f ≡ true)
+all_parts a b c d w f h =
+    let p = and_parts (a && b && c && d && w) f h in
+    let o = and_parts (a && b && c && d) w p.0 in
+    let q = and_parts (a && b && c) d o.0 in
     let r = and_parts (a && b) c q.0 in
     let s = and_parts a b r.0 in
-    (s.0, s.1, r.1, q.1, p.1)
+    (s.0, s.1, r.1, q.1, o.1, p.1)
 
-all_five : (a b c d f : Bool) → a ≡ true → b ≡ true → c ≡ true → d ≡ true → f ≡ true → a && b && c && d && f ≡ true
-all_five a b c d f p q r s t = rw (p, q, r, s, t)
+all_six : (a b c d w f : Bool) → a ≡ true → b ≡ true → c ≡ true → d ≡ true → w ≡ true → f ≡ true → a && b && c && d && w && f ≡ true
+all_six a b c d w f p q r s t u = rw (p, q, r, s, t, u)
 
 or_right : (a b : Bool) → b ≡ true → (a || b) ≡ true
 or_right true b h = refl
@@ -85,19 +86,19 @@ module _ (es : List Stamped) where
   pub grows : (p j : ℕ) → made_by es p j ≤ made_by es p (suc j)
   grows p j = count_le (λ i. is_of p (slice_get es i)) j (suc j) (omega arith)
 
-module _ (owner peer : ℕ → ℕ) (capacities : List ℕ) (cores : ℕ) (es : List Stamped) (counts : List ℕ) (legal : IsLegal (start capacities cores) es)
+module _ (owner peer : ℕ → ℕ) (capacities widths : List ℕ) (cores : ℕ) (es : List Stamped) (counts : List ℕ) (legal : IsLegal (start capacities widths cores) es)
     (ends : AreAtEnds owner peer es) (closed : IsClosed es counts) where
   abbrev first : Past
-  first = start capacities cores
+  first = start capacities widths cores
 
   abbrev past : ℕ → Past
   past k = past_at first es k
 
   abbrev marked : ℕ → Marked
-  marked k = marks capacities cores es legal k
+  marked k = marks capacities widths cores es legal k
 
   kept : (k : ℕ) → Kept es k (past k) (marked k)
-  kept k = kept_at capacities cores es legal k
+  kept k = kept_at capacities widths cores es legal k
 
   -- none of the party's first entries is outside
   abbrev Full : ℕ → ℕ → Type 0
@@ -113,6 +114,7 @@ module _ (owner peer : ℕ → ℕ) (capacities : List ℕ) (cores : ℕ) (es : 
   -- after the first k entries, and after those of them that are inside
   record Beside (k : ℕ) (P : Past) (M : Marked) (Q : Past) : Type 0 where
     capacities_are : Q.capacities ≡ P.capacities
+    widths_are : Q.widths ≡ P.widths
     channels_are : Q.channels ≡ P.channels
     cores_are : Q.cores ≡ P.cores
     wide : length Q.links ≡ length P.links
@@ -126,6 +128,7 @@ module _ (owner peer : ℕ → ℕ) (capacities : List ℕ) (cores : ℕ) (es : 
   beside_first : Beside 0 first (marked 0) first
   beside_first = record {
     capacities_are = refl;
+    widths_are = refl;
     channels_are = refl;
     cores_are = refl;
     wide = refl;
@@ -177,8 +180,9 @@ module _ (owner peer : ℕ → ℕ) (capacities : List ℕ) (cores : ℕ) (es : 
     fit : fits P e ≡ true
     fit = fits_at first es legal k e is
 
-    parts : (in_range P e ≡ true) × (is_later P.stamp P.party e ≡ true) × (has_stamp P e ≡ true) × (may_make P.channels P.cores e ≡ true) × (link_fits terms os ev ≡ true)
-    parts = all_parts (in_range P e) (is_later P.stamp P.party e) (has_stamp P e) (may_make P.channels P.cores e) (link_fits terms os ev) fit
+    parts : (in_range P e ≡ true) × (is_later P.stamp P.party e ≡ true) × (has_stamp P e ≡ true) × (may_make P.channels P.cores e ≡ true) × (has_its_width P.widths ev ≡ true)
+        × (link_fits terms os ev ≡ true)
+    parts = all_parts (in_range P e) (is_later P.stamp P.party e) (has_stamp P e) (may_make P.channels P.cores e) (has_its_width P.widths ev) (link_fits terms os ev) fit
 
     in_links : l0 < length P.links
     in_links = ltb-true l0 (length P.links) (and_parts (nat_lt l0 (length P.links)) (nat_lt e.party (length P.lasts)) parts.0).0
@@ -201,13 +205,13 @@ module _ (owner peer : ℕ → ℕ) (capacities : List ℕ) (cores : ℕ) (es : 
     p_stays l n (inl apart) = ap (λ x. slice_get x n) (p_other l apart)
     p_stays l n (inr at) =
         subst (λ x. slice_get (link_at P' x) n ≡ slice_get (link_at P x) n) (sym at.0)
-        (ap (λ x. slice_get x n) p_same ∙ other_step terms os s ev n parts.4 (λ q. at.1 (sym q)))
+        (ap (λ x. slice_get x n) p_same ∙ other_step terms os s ev n parts.5 (λ q. at.1 (sym q)))
 
     mark_stays : (l n : ℕ) → Apart l n → slice_index (marks_of M' l) n ≡ slice_index (marks_of M l) n
     mark_stays l n (inl apart) = ap (λ x. slice_index x n) (mark_other es k P M e w is fit l apart)
     mark_stays l n (inr at) =
         subst (λ x. slice_index (marks_of M' x) n ≡ slice_index (marks_of M x) n) (sym at.0)
-        (ap (λ x. slice_index x n) (mark_same es k P M e w is fit) ∙ other_mark terms os s (marks_of M l0) (suc k) (w.lengths l0) ev n parts.4 (λ q. at.1 (sym q)))
+        (ap (λ x. slice_index x n) (mark_same es k P M e w is fit) ∙ other_mark terms os s (marks_of M l0) (suc k) (w.lengths l0) ev n parts.5 (λ q. at.1 (sym q)))
 
     abbrev Where : ℕ → ℕ → Type 0
     Where l n = Apart l n ⊎ ((l ≡ l0) × (n ≡ n0))
@@ -270,7 +274,7 @@ module _ (owner peer : ℕ → ℕ) (capacities : List ℕ) (cores : ℕ) (es : 
               let marks_stay = ap (λ x. slice_index x n0) (same_marks terms os s (marks_of M l0) (suc k) (w.lengths l0) ev z) in
               alike_stays terms os qs s ev z old.old o old.is_old new_is (was.alike l0 n0 place old.old old.is_old (sym marks_stay ∙ mark_here place mark) inside)
           by (inr g) =
-              let its_own = own_mark terms os s (marks_of M l0) (suc k) (w.lengths l0) ev parts.4 g in
+              let its_own = own_mark terms os s (marks_of M l0) (suc k) (w.lengths l0) ev parts.5 g in
               let mark_is = mark_here place mark in
               not_inside place (omega (arith, its_own, mark_is)) inside
 
@@ -305,6 +309,7 @@ module _ (owner peer : ℕ → ℕ) (capacities : List ℕ) (cores : ℕ) (es : 
       goes_on_outside : Beside (suc k) P' M' Q
       goes_on_outside = record {
         capacities_are = was.capacities_are;
+        widths_are = was.widths_are;
         channels_are = was.channels_are;
         cores_are = was.cores_are;
         wide = was.wide ∙ sym (length-set P.links l0 (link_after os s ev));
@@ -342,9 +347,9 @@ module _ (owner peer : ℕ → ℕ) (capacities : List ℕ) (cores : ℕ) (es : 
           → (wants ev ≡ 0) ⊎ (0 < wants ev) → IsInside es counts h.place
       stands_inside old o there h (inr positive) =
           let seen : seen_mark M e ≡ suc h.place = sees_mark (marks_of M l0) ev positive ∙ h.mark_is in
-          closed h.place k (seen_made capacities cores es legal k h.place e is seen).1 it_is_inside
+          closed h.place k (seen_made capacities widths cores es legal k h.place e is seen).1 it_is_inside
       stands_inside old o there h (inl none) =
-          let withdraws = withdraws_offered terms os ev old none parts.4 o there in
+          let withdraws = withdraws_offered terms os ev old none parts.5 o there in
           let its_owner = ends.owners h.place h.entry h.stands (gives_owners h.entry.entry.event (h.gave ∙ withdraws.0)) in
           earlier h.place h.entry h.below h.stands (its_owner ∙ ap owner h.link ∙ sym (ends.owners k e is withdraws.1))
 
@@ -362,7 +367,7 @@ module _ (owner peer : ℕ → ℕ) (capacities : List ℕ) (cores : ℕ) (es : 
           was.alike l0 i h.place o there h.mark_is (earlier h.place h.entry h.below h.stands (its_peer ∙ ap peer h.link ∙ sym (ends.peers k e is decides)))
 
       fits_link : link_fits terms qs ev ≡ true
-      fits_link = fits_too terms os qs ev parts.4 (λ owns. was.known l0 (subst (λ p. Full p k) (ends.owners k e is owns) full)) its_alike before_alike (was.replied l0)
+      fits_link = fits_too terms os qs ev parts.5 (λ owns. was.known l0 (subst (λ p. Full p k) (ends.owners k e is owns) full)) its_alike before_alike (was.replied l0)
 
       answered_same : answered qs ev ≡ answered os ev
       answered_same = by (zero_or (wants ev))
@@ -370,17 +375,19 @@ module _ (owner peer : ℕ → ℕ) (capacities : List ℕ) (cores : ℕ) (es : 
           by : (wants ev ≡ 0) ⊎ (0 < wants ev) → answered qs ev ≡ answered os ev
           by (inl none) = answers_no_stamp qs ev none ∙ sym (answers_no_stamp os ev none)
           by (inr positive) =
-              let o = old_offer terms os ev (wants_old ev positive) parts.4 in
+              let o = old_offer terms os ev (wants_old ev positive) parts.5 in
               let a = its_alike (wants_old ev positive) o.0 o.1 in
               sees_stamp qs ev positive ∙ ap standing_stamp a.there ∙ a.stamp ∙ sym (ap standing_stamp o.1) ∙ sym (sees_stamp os ev positive)
 
       fits_inside : fits Q e ≡ true
       fits_inside =
-          all_five (in_range Q e) (is_later Q.stamp Q.party e) (has_stamp Q e) (may_make Q.channels Q.cores e) (link_fits (terms_of Q.capacities Q.channels l0) qs ev)
+          all_six (in_range Q e) (is_later Q.stamp Q.party e) (has_stamp Q e) (may_make Q.channels Q.cores e) (has_its_width Q.widths ev)
+          (link_fits (terms_of Q.capacities Q.channels l0) qs ev)
           (ap (λ n. nat_lt l0 n && nat_lt e.party (length Q.lasts)) was.wide ∙ ap (λ n. nat_lt l0 (length P.links) && nat_lt e.party n) was.many ∙ parts.0)
           (later_of Q.stamp Q.party e q_later)
           (ap (λ n. s == next_stamp n (answered qs ev)) (was.last e.party full) ∙ ap (λ n. s == next_stamp (slice_index P.lasts e.party) n) answered_same ∙ parts.2)
           (ap (λ n. may_make n Q.cores e) was.channels_are ∙ ap (λ n. may_make P.channels n e) was.cores_are ∙ parts.3)
+          (ap (λ ns. has_its_width ns ev) was.widths_are ∙ parts.4)
           (ap (λ c. link_fits (terms_of c Q.channels l0) qs ev) was.capacities_are ∙ ap (λ c. link_fits (terms_of P.capacities c l0) qs ev) was.channels_are ∙ fits_link)
 
       q_same : link_at Q' l0 ≡ link_after qs s ev
@@ -402,8 +409,8 @@ module _ (owner peer : ℕ → ℕ) (capacities : List ℕ) (cores : ℕ) (es : 
           new_is = ap (λ x. slice_get x n0) (sym p_same) ∙ there
 
           by : (is_new ev ≡ true) ⊎ (is_new ev ≡ false) → StandsAlike (slice_get (link_after qs s ev) n0) o
-          by (inl new) = new_alike terms os qs s ev new parts.4 fits_link o new_is
-          by (inr old) = let x = old_offer terms os ev old parts.4 in alike_after terms os qs s ev old x.0 o x.1 new_is (its_alike old x.0 x.1)
+          by (inl new) = new_alike terms os qs s ev new parts.5 fits_link o new_is
+          by (inr old) = let x = old_offer terms os ev old parts.5 in alike_after terms os qs s ev old x.0 o x.1 new_is (its_alike old x.0 x.1)
 
       alike_inside : (l n : ℕ) → Where l n → AlikeAt P' M' Q' l n
       alike_inside l n (inl apart) place o there mark place_inside =
@@ -436,7 +443,7 @@ module _ (owner peer : ℕ → ℕ) (capacities : List ℕ) (cores : ℕ) (es : 
         where
           in_list : is_new ev ≡ false → n0 < length (replieds os)
           in_list old =
-              let x = old_offer terms os ev old parts.4 in
+              let x = old_offer terms os ev old parts.5 in
               let lt = slice_get_within os n0 x.0 x.1 in
               let long = many_replieds os in
               omega (arith, lt, long)
@@ -446,6 +453,7 @@ module _ (owner peer : ℕ → ℕ) (capacities : List ℕ) (cores : ℕ) (es : 
       goes_on_inside : Beside (suc k) P' M' Q'
       goes_on_inside = record {
         capacities_are = was.capacities_are;
+        widths_are = was.widths_are;
         channels_are = was.channels_are;
         cores_are = was.cores_are;
         wide = length-set Q.links l0 (link_after qs s ev) ∙ was.wide ∙ sym (length-set P.links l0 (link_after os s ev));

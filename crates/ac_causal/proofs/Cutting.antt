@@ -48,12 +48,12 @@ module _ (es : List Stamped) (parties : ℕ) (table seen : List ℕ) (k : IsWhol
       ∙ ap (λ p. seen_mark (marked_at es (no_marks (length k.kept.capacities) p) j) e) k.kept.parties_are
 
   answers_mark : (i j mark : ℕ) → mark ≡ slice_index seen j → Answers es i j → mark ≡ suc i
-  answers_mark i j mark h a = h ∙ seen_at j a.answering a.answers_it ∙ seen_all k.kept.capacities k.kept.cores es k.kept.legal i j a
+  answers_mark i j mark h a = h ∙ seen_at j a.answering a.answers_it ∙ seen_all k.kept.capacities k.kept.widths k.kept.cores es k.kept.legal i j a
 
   mark_made : (j mark w : ℕ) → j < length es → mark ≡ slice_index seen j → mark ≡ suc w → (w < j) × Answers es w j
   mark_made j mark w lt h is =
       let e = get_some es j lt in
-      seen_made k.kept.capacities k.kept.cores es k.kept.legal j w e.0 e.1 (sym (seen_at j e.0 e.1) ∙ sym h ∙ is)
+      seen_made k.kept.capacities k.kept.widths k.kept.cores es k.kept.legal j w e.0 e.1 (sym (seen_at j e.0 e.1) ∙ sym h ∙ is)
 
   pub seen_within : (j mark : ℕ) → j < length es → mark ≡ slice_index seen j → 0 < mark → mark - 1 < length es
   seen_within j mark lt h some = let m = mark_made j mark (mark - 1) lt h (omega (arith, some)) in let below = m.0 in omega (arith, below, lt)

@@ -12,7 +12,7 @@ use Rattle.ac_commands.specs.declared.program.Resolved.{Resolved}
 use Rattle.ac_translation.specs.Translation.{code_of}
 use Rattle.stack_code.specs.Parts.{Parts}
 use Rattle.ac_links.specs.Link.{link_fits}
-use Rattle.ac_history.specs.History.{Past, IsLegal, start, in_range, is_later, has_stamp, may_make, terms_of, link_at}
+use Rattle.ac_history.specs.History.{Past, IsLegal, start, in_range, is_later, has_stamp, may_make, has_its_width, terms_of, link_at}
 use Rattle.trace_text.specs.declared.trace.Trace.{Trace}
 use Rattle.trace_audit.specs.RunTrace.{IsRunTrace}
 use Rattle.ac_history.proofs.Examples.{by}
@@ -23,42 +23,47 @@ use Rattle.ac_causal.specs.Run.{CausalRun}
 
 -- ---- events
 
-pub an_offer_is_taken : answers (Got 0 2 (pos 5)) (Offer 0 2 (Int (pos 5))) ∷ answers (Got 0 2 (pos 5)) (Offer 1 2 (Int (pos 5))) ∷ answers (Got 0 2 (pos 5)) (Offer 0 3 (Int (pos 5))) ∷ []
+pub an_offer_is_taken : answers (Got 0 2 (pos 5 ∷ [])) (Offer 0 2 (Int (pos 5 ∷ []))) ∷ answers (Got 0 2 (pos 5 ∷ [])) (Offer 1 2 (Int (pos 5 ∷ []))) ∷ answers (Got 0 2 (pos 5 ∷ [])) (Offer 0 3 (Int
+    (pos 5 ∷ []))) ∷ []
     ≡ true ∷ false ∷ false ∷ []
 an_offer_is_taken = refl
 
-pub nothing_is_answered_by_an_offer : answers (Offer 0 2 (Int (pos 5))) (Got 0 1 (pos 5)) ∷ answers (Withdraw 0 2) (Offer 0 2 (Int (pos 5))) ∷ [] ≡ false ∷ false ∷ []
+pub nothing_is_answered_by_an_offer : answers (Offer 0 2 (Int (pos 5 ∷ []))) (Got 0 1 (pos 5 ∷ [])) ∷ answers (Withdraw 0 2) (Offer 0 2 (Int (pos 5 ∷ []))) ∷ [] ≡ false ∷ false ∷ []
 nothing_is_answered_by_an_offer = refl
 
-pub its_room_comes_back : answers (Pass 0 2) (Withdraw 0 2) ∷ answers (Pass 0 2) (Offer 0 2 (Int (pos 5))) ∷ answers (Room 0 2) (Pass 0 2) ∷ answers (Room 0 2) (Got 0 2 (pos 5)) ∷ []
+pub its_room_comes_back : answers (Pass 0 2) (Withdraw 0 2) ∷ answers (Pass 0 2) (Offer 0 2 (Int (pos 5 ∷ []))) ∷ answers (Room 0 2) (Pass 0 2) ∷ answers (Room 0 2) (Got 0 2 (pos 5 ∷ [])) ∷ []
     ≡ true ∷ false ∷ true ∷ false ∷ []
 its_room_comes_back = refl
 
-pub a_request_has_its_reply : answers (Did 3 0 (Count 1)) (Offer 3 0 (Int (pos 5))) ∷ answers (Know 3 0) (Did 3 0 (Count 1)) ∷ answers (Reply 3 0 (Count 1)) (Did 3 0 (Count 1)) ∷ answers (Reply 3 0
-    (Count 1)) (Offer 3 0 (Int (pos 5))) ∷ [] ≡ true ∷ true ∷ true ∷ false ∷ []
+pub a_request_has_its_reply : answers (Did 3 0 (Count 1)) (Offer 3 0 (Int (pos 5 ∷ []))) ∷ answers (Know 3 0) (Did 3 0 (Count 1)) ∷ answers (Reply 3 0 (Count 1)) (Did 3 0 (Count 1)) ∷ answers
+    (Reply 3 0
+    (Count 1)) (Offer 3 0 (Int (pos 5 ∷ []))) ∷ [] ≡ true ∷ true ∷ true ∷ false ∷ []
 a_request_has_its_reply = refl
 
-pub by_number_and_link : is_offering 0 1 (Offer 0 1 (Int (pos 5))) ∷ is_offering 0 1 (Offer 1 1 (Int (pos 5))) ∷ is_passing 0 1 (Pass 0 1) ∷ is_passing 0 1 (Pass 0 0) ∷ is_doing 0 1 (Did 0 1
-    (Count 1)) ∷ is_doing 0 1 (Got 0 1 (pos 5)) ∷ []
+pub by_number_and_link : is_offering 0 1 (Offer 0 1 (Int (pos 5 ∷ []))) ∷ is_offering 0 1 (Offer 1 1 (Int (pos 5 ∷ []))) ∷ is_passing 0 1 (Pass 0 1) ∷ is_passing 0 1 (Pass 0 0) ∷ is_doing 0 1 (Did 0 1
+    (Count 1)) ∷ is_doing 0 1 (Got 0 1 (pos 5 ∷ [])) ∷ []
     ≡ true ∷ false ∷ true ∷ false ∷ true ∷ false ∷ []
 by_number_and_link = refl
 
 -- ---- a run
 
 abbrev pub entries : List Stamped
-entries = by 0 1 2 (Offer 0 0 (Int (pos 5))) ∷ by 1 1 2 (Offer 1 0 (Int (pos 6))) ∷ by 0 2 2 (Got 1 0 (pos 6)) ∷ by 1 2 2 (Got 0 0 (pos 5))
+entries = by 0 1 2 (Offer 0 0 (Int (pos 5 ∷ []))) ∷ by 1 1 2 (Offer 1 0 (Int (pos 6 ∷ []))) ∷ by 0 2 2 (Got 1 0 (pos 6 ∷ [])) ∷ by 1 2 2 (Got 0 0 (pos 5 ∷ []))
     ∷ by 0 3 2 (Know 0 0) ∷ by 1 3 2 (Know 1 0) ∷ []
 
 abbrev capacities : List ℕ
 capacities = 1 ∷ 1 ∷ 16 ∷ 16 ∷ []
 
-pub they_are_legal : IsLegal (start capacities 2) entries
+abbrev widths : List ℕ
+widths = 1 ∷ 1 ∷ []
+
+pub they_are_legal : IsLegal (start capacities widths 2) entries
 they_are_legal = (refl, (refl, (refl, (refl, (refl, (refl, tt))))))
 
 pub the_fourth_answers_the_first : Answers entries 0 3
 the_fourth_answers_the_first = record {
-  asking = by 0 1 2 (Offer 0 0 (Int (pos 5)));
-  answering = by 1 2 2 (Got 0 0 (pos 5));
+  asking = by 0 1 2 (Offer 0 0 (Int (pos 5 ∷ [])));
+  answering = by 1 2 2 (Got 0 0 (pos 5 ∷ []));
   asks = refl;
   answers_it = refl;
   answer = refl;
@@ -70,15 +75,15 @@ some_same a b h = cc
 -- the third takes another message
 pub it_does_not_answer_the_second : Answers entries 1 3 → ⊥
 it_does_not_answer_the_second h =
-    let a : by 1 1 2 (Offer 1 0 (Int (pos 6))) ≡ h.asking = some_same _ _ h.asks in
-    let b : by 1 2 2 (Got 0 0 (pos 5)) ≡ h.answering = some_same _ _ h.answers_it in
-    let bad : false ≡ true = ap (λ (x : Stamped). answers (Got 0 0 (pos 5)) x.entry.event) a ∙ ap (λ (x : Stamped). answers x.entry.event h.asking.entry.event) b ∙ h.answer in
+    let a : by 1 1 2 (Offer 1 0 (Int (pos 6 ∷ []))) ≡ h.asking = some_same _ _ h.asks in
+    let b : by 1 2 2 (Got 0 0 (pos 5 ∷ [])) ≡ h.answering = some_same _ _ h.answers_it in
+    let bad : false ≡ true = ap (λ (x : Stamped). answers (Got 0 0 (pos 5 ∷ [])) x.entry.event) a ∙ ap (λ (x : Stamped). answers x.entry.event h.asking.entry.event) b ∙ h.answer in
     cc
 
 pub the_third_is_later_than_the_first : IsEarlier entries 0 2
 the_third_is_later_than_the_first = record {
-  one = by 0 1 2 (Offer 0 0 (Int (pos 5)));
-  next = by 0 2 2 (Got 1 0 (pos 6));
+  one = by 0 1 2 (Offer 0 0 (Int (pos 5 ∷ [])));
+  next = by 0 2 2 (Got 1 0 (pos 6 ∷ []));
   is_one = refl;
   is_next = refl;
   party = refl;
@@ -87,8 +92,8 @@ the_third_is_later_than_the_first = record {
 
 pub not_of_another_party : IsEarlier entries 0 1 → ⊥
 not_of_another_party h =
-    let a : by 0 1 2 (Offer 0 0 (Int (pos 5))) ≡ h.one = some_same _ _ h.is_one in
-    let b : by 1 1 2 (Offer 1 0 (Int (pos 6))) ≡ h.next = some_same _ _ h.is_next in
+    let a : by 0 1 2 (Offer 0 0 (Int (pos 5 ∷ []))) ≡ h.one = some_same _ _ h.is_one in
+    let b : by 1 1 2 (Offer 1 0 (Int (pos 6 ∷ []))) ≡ h.next = some_same _ _ h.is_next in
     let bad : 0 ≡ 1 = ap (λ (x : Stamped). x.party) a ∙ h.party ∙ sym (ap (λ (x : Stamped). x.party) b) in
     omega (arith, bad)
 
@@ -97,7 +102,7 @@ the_first_is_before_the_fourth = by_answer 0 3 the_fourth_answers_the_first
 
 pub the_fifth_is_after_the_fourth : IsOrder entries 4 3 After
 the_fifth_is_after_the_fourth = by_answer 3 4 (record {
-  asking = by 1 2 2 (Got 0 0 (pos 5));
+  asking = by 1 2 2 (Got 0 0 (pos 5 ∷ []));
   answering = by 0 3 2 (Know 0 0);
   asks = refl;
   answers_it = refl;
@@ -128,13 +133,13 @@ answers_no j e is none i h =
 nothing_is_before_the_second : (i j : ℕ) → IsBefore entries i j → j ≡ 1 → ⊥
 nothing_is_before_the_second i j (of_one_party _ _ h) q = let lt = h.earlier in not_of_another_party (earlier_at i j 0 1 (omega (arith, lt, q)) q h)
 nothing_is_before_the_second i j (by_answer _ _ h) q =
-    answers_no 1 (by 1 1 2 (Offer 1 0 (Int (pos 6)))) refl (λ x. refl) i (answers_at i j i 1 refl q h)
+    answers_no 1 (by 1 1 2 (Offer 1 0 (Int (pos 6 ∷ [])))) refl (λ x. refl) i (answers_at i j i 1 refl q h)
 nothing_is_before_the_second i j (by_way _ k _ f g) q = nothing_is_before_the_second k j g q
 
 nothing_is_before_the_first : (i j : ℕ) → IsBefore entries i j → j ≡ 0 → ⊥
 nothing_is_before_the_first i j (of_one_party _ _ h) q = let lt = h.earlier in omega (arith, lt, q)
 nothing_is_before_the_first i j (by_answer _ _ h) q =
-    answers_no 0 (by 0 1 2 (Offer 0 0 (Int (pos 5)))) refl (λ x. refl) i (answers_at i j i 0 refl q h)
+    answers_no 0 (by 0 1 2 (Offer 0 0 (Int (pos 5 ∷ [])))) refl (λ x. refl) i (answers_at i j i 0 refl q h)
 nothing_is_before_the_first i j (by_way _ k _ f g) q = nothing_is_before_the_first k j g q
 
 pub the_offers_are_concurrent : IsOrder entries 0 1 Concurrent
@@ -156,8 +161,8 @@ in_its_past (suc (suc (suc (suc n)))) = false
 
 the_second_is_before_the_fourth : IsBefore entries 1 3
 the_second_is_before_the_fourth = of_one_party 1 3 (record {
-  one = by 1 1 2 (Offer 1 0 (Int (pos 6)));
-  next = by 1 2 2 (Got 0 0 (pos 5));
+  one = by 1 1 2 (Offer 1 0 (Int (pos 6 ∷ [])));
+  next = by 1 2 2 (Got 0 0 (pos 5 ∷ []));
   is_one = refl;
   is_next = refl;
   party = refl;
@@ -167,21 +172,21 @@ the_second_is_before_the_fourth = of_one_party 1 3 (record {
 -- by the law, which has it that what is before stands before
 module _ (law : BeforeIsEarlier) where
   earlier : (i j : ℕ) → IsBefore entries i j → i < j
-  earlier i j h = law capacities 2 entries i j they_are_legal h
+  earlier i j h = law capacities widths 2 entries i j they_are_legal h
 
   -- the third entry is not of the fourth's party, the fourth answers another, and no entry stands between them
   the_third_is_not_before_the_fourth : (i j : ℕ) → IsBefore entries i j → i ≡ 2 → j ≡ 3 → ⊥
   the_third_is_not_before_the_fourth i j (of_one_party _ _ h) p q =
       let e = earlier_at i j 2 3 p q h in
-      let a : by 0 2 2 (Got 1 0 (pos 6)) ≡ e.one = some_same _ _ e.is_one in
-      let b : by 1 2 2 (Got 0 0 (pos 5)) ≡ e.next = some_same _ _ e.is_next in
+      let a : by 0 2 2 (Got 1 0 (pos 6 ∷ [])) ≡ e.one = some_same _ _ e.is_one in
+      let b : by 1 2 2 (Got 0 0 (pos 5 ∷ [])) ≡ e.next = some_same _ _ e.is_next in
       let bad : 0 ≡ 1 = ap (λ (x : Stamped). x.party) a ∙ e.party ∙ sym (ap (λ (x : Stamped). x.party) b) in
       omega (arith, bad)
   the_third_is_not_before_the_fourth i j (by_answer _ _ h) p q =
       let e = answers_at i j 2 3 p q h in
-      let a : by 0 2 2 (Got 1 0 (pos 6)) ≡ e.asking = some_same _ _ e.asks in
-      let b : by 1 2 2 (Got 0 0 (pos 5)) ≡ e.answering = some_same _ _ e.answers_it in
-      let bad : false ≡ true = ap (λ (x : Stamped). answers (Got 0 0 (pos 5)) x.entry.event) a
+      let a : by 0 2 2 (Got 1 0 (pos 6 ∷ [])) ≡ e.asking = some_same _ _ e.asks in
+      let b : by 1 2 2 (Got 0 0 (pos 5 ∷ [])) ≡ e.answering = some_same _ _ e.answers_it in
+      let bad : false ≡ true = ap (λ (x : Stamped). answers (Got 0 0 (pos 5 ∷ [])) x.entry.event) a
       ∙ ap (λ (x : Stamped). answers x.entry.event e.asking.entry.event) b ∙ e.answer in
       cc
   the_third_is_not_before_the_fourth i j (by_way _ k _ f g) p q = let a = earlier i k f in let b = earlier k j g in omega (arith, a, b, p, q)
@@ -229,7 +234,7 @@ not_without_what_it_answers h =
 
 pub stamps_rise_to_the_fifth : StampsRise → 1 < 3
 stamps_rise_to_the_fifth law =
-    law capacities 2 entries 0 4 (by 0 1 2 (Offer 0 0 (Int (pos 5)))) (by 0 3 2 (Know 0 0)) they_are_legal refl refl the_first_is_before_the_fifth
+    law capacities widths 2 entries 0 4 (by 0 1 2 (Offer 0 0 (Int (pos 5 ∷ [])))) (by 0 3 2 (Know 0 0)) they_are_legal refl refl the_first_is_before_the_fifth
 
 abbrev run : Parts → CausalRun
 run code = record { code = code; steps = 100; entries = entries; parties = 3 }
@@ -240,9 +245,9 @@ three_parties_made_six_entries code = refl
 -- ---- stamps alone do not tell the order: a core offers twice, and another once, which nobody answers
 
 abbrev apart : List Stamped
-apart = by 0 1 1 (Offer 0 0 (Int (pos 5))) ∷ by 1 1 1 (Offer 1 0 (Int (pos 6))) ∷ by 0 2 1 (Offer 0 1 (Int (pos 7))) ∷ []
+apart = by 0 1 1 (Offer 0 0 (Int (pos 5 ∷ []))) ∷ by 1 1 1 (Offer 1 0 (Int (pos 6 ∷ []))) ∷ by 0 2 1 (Offer 0 1 (Int (pos 7 ∷ []))) ∷ []
 
-pub they_are_legal_too : IsLegal (start (2 ∷ 1 ∷ 16 ∷ 16 ∷ []) 2) apart
+pub they_are_legal_too : IsLegal (start (2 ∷ 1 ∷ 16 ∷ 16 ∷ []) widths 2) apart
 they_are_legal_too = (refl, (refl, (refl, tt)))
 
 abbrev party_of : ℕ → ℕ
@@ -273,24 +278,25 @@ a_lesser_stamp_is_not_before =
     ((λ e. omega (arith, e)), (λ h. let bad : 1 ≡ 0 = of_one_party_alone 1 2 h in omega (arith, bad)), (λ h. let bad : 0 ≡ 1 = of_one_party_alone 2 1 h in omega (arith, bad)))
 
 pub nothing_later_is_before : BeforeIsEarlier → IsBefore entries 3 1 → ⊥
-nothing_later_is_before law h = let lt = law capacities 2 entries 3 1 they_are_legal h in omega (arith, lt)
+nothing_later_is_before law h = let lt = law capacities widths 2 entries 3 1 they_are_legal h in omega (arith, lt)
 
 -- ---- a trace that is a run
 
 -- its first entry has a stamp that is not the first
 abbrev pub no_run : Trace
-no_run = record { steps = 100; start = []; entries = by 0 2 1 (Offer 0 0 (Int (pos 5))) ∷ []; ends = [] }
+no_run = record { steps = 100; start = []; entries = by 0 2 1 (Offer 0 0 (Int (pos 5 ∷ []))) ∷ []; ends = [] }
 
-stamp_of_five : (a b c d f : Bool) → a && b && c && d && f ≡ true → c ≡ true
-stamp_of_five a b c d f h = (and_parts (a && b) c (and_parts (a && b && c) d (and_parts (a && b && c && d) f h).0).0).1
+stamp_of_six : (a b c d w f : Bool) → a && b && c && d && w && f ≡ true → c ≡ true
+stamp_of_six a b c d w f h =
+    (and_parts (a && b) c (and_parts (a && b && c) d (and_parts (a && b && c && d) w (and_parts (a && b && c && d && w) f h).0).0).0).1
 
-no_first_entry : (capacities : List ℕ) (cores : ℕ) → IsLegal (start capacities cores) no_run.entries → ⊥
-no_first_entry capacities cores h =
-    let e : Stamped = by 0 2 1 (Offer 0 0 (Int (pos 5))) in
-    let P : Past = start capacities cores in
-    let bad : false ≡ true = stamp_of_five (in_range P e) (is_later P.stamp P.party e) (has_stamp P e) (may_make P.channels P.cores e)
-    (link_fits (terms_of P.capacities P.channels 0) (link_at P 0) e.entry.event) h.0 in
+no_first_entry : (capacities widths : List ℕ) (cores : ℕ) → IsLegal (start capacities widths cores) no_run.entries → ⊥
+no_first_entry capacities widths cores h =
+    let e : Stamped = by 0 2 1 (Offer 0 0 (Int (pos 5 ∷ []))) in
+    let P : Past = start capacities widths cores in
+    let bad : false ≡ true = stamp_of_six (in_range P e) (is_later P.stamp P.party e) (has_stamp P e) (may_make P.channels P.cores e)
+    (has_its_width P.widths e.entry.event) (link_fits (terms_of P.capacities P.channels 0) (link_at P 0) e.entry.event) h.0 in
     cc
 
 pub an_audit_says_no_to_it : RunsAreLegal → (program : Resolved) → IsRunTrace program no_run → ⊥
-an_audit_says_no_to_it law program run = no_first_entry (code_of program).capacities (length (code_of program).entries) (law program no_run run)
+an_audit_says_no_to_it law program run = no_first_entry (code_of program).capacities (code_of program).widths (length (code_of program).entries) (law program no_run run)

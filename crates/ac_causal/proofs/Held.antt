@@ -12,17 +12,18 @@ use Rattle.ac_base.specs.Stamps.{next_stamp}
 use Rattle.ac_links.specs.declared.offer.LinkOffer.{LinkOffer}
 use Rattle.ac_links.specs.declared.payloads.Terms.{Terms}
 use Rattle.ac_links.specs.Link.{link_fits, link_after, link_of, number_of, answered}
-use Rattle.ac_history.specs.History.{Past, link_at, is_later, has_stamp, in_range, may_make, terms_of, fits, after, IsLegal, start}
+use Rattle.ac_history.specs.History.{Past, link_at, is_later, has_stamp, in_range, may_make, has_its_width, terms_of, fits, after, IsLegal, start}
 use Rattle.ac_causal.specs.inner.Marks.{Marked, no_marks, marks_of, link_marks_after, marked_after, marked_by, marked_at}
 use Rattle.ac_causal.proofs.Steps.{level, level_at, gives, is_did, did_gives, IsSound}
 use Rattle.ac_causal.proofs.Steps.{Step, own_step, other_step, marks_length, other_mark, own_mark, same_marks}
 
 -- ---- one entry that fits
 
-five_parts : (a b c d f : Bool) → a && b && c && d && f ≡ true → (a ≡ true) × (b ≡ true) × (c ≡ true) × (f ≡ true)
-five_parts a b c d f h =
-    let p = and_parts (a && b && c && d) f h in
-    let q = and_parts (a && b && c) d p.0 in
+six_parts : (a b c d w f : Bool) → a && b && c && d && w && f ≡ true → (a ≡ true) × (b ≡ true) × (c ≡ true) × (f ≡ true)
+six_parts a b c d w f h =
+    let p = and_parts (a && b && c && d && w) f h in
+    let o = and_parts (a && b && c && d) w p.0 in
+    let q = and_parts (a && b && c) d o.0 in
     let r = and_parts (a && b) c q.0 in
     let s = and_parts a b r.0 in
     (s.0, s.1, r.1, p.1)
@@ -127,7 +128,7 @@ module _ (es : List Stamped) (k : ℕ) (P : Past) (M : Marked) (e : Stamped) (wa
   M' = marked_after M (suc k) e
 
   parts : (in_range P e ≡ true) × (is_later P.stamp P.party e ≡ true) × (has_stamp P e ≡ true) × (link_fits terms os ev ≡ true)
-  parts = five_parts (in_range P e) (is_later P.stamp P.party e) (has_stamp P e) (may_make P.channels P.cores e) (link_fits terms os ev) fit
+  parts = six_parts (in_range P e) (is_later P.stamp P.party e) (has_stamp P e) (may_make P.channels P.cores e) (has_its_width P.widths ev) (link_fits terms os ev) fit
 
   in_links : l0 < length P.links
   in_links = ltb-true l0 (length P.links) (and_parts (nat_lt l0 (length P.links)) (nat_lt e.party (length P.lasts)) parts.0).0
@@ -358,8 +359,8 @@ zero_at zero p = refl
 zero_at (suc k) zero = refl
 zero_at (suc k) (suc p) = zero_at k p
 
-begins : (capacities : List ℕ) (cores : ℕ) (es : List Stamped) → Kept es 0 (start capacities cores) (no_marks (length capacities) (suc cores))
-begins capacities cores es = record {
+begins : (capacities widths : List ℕ) (cores : ℕ) (es : List Stamped) → Kept es 0 (start capacities widths cores) (no_marks (length capacities) (suc cores))
+begins capacities widths cores es = record {
   wide = length-replicate {A = List ℕ} (length capacities) [] ∙ sym (length-replicate {A = List LinkOffer} (length capacities) []);
   many = refl;
   lengths = λ l. ap length (empty_at {X = ℕ} (length capacities) l) ∙ sym (ap length (empty_at {X = LinkOffer} (length capacities) l));
@@ -370,7 +371,7 @@ begins capacities cores es = record {
   later = λ i x lt g. absurd (omega (arith, lt));
 }
   where
-    none : (l n : ℕ) (o : LinkOffer) → slice_get (link_at (start capacities cores) l) n ≡ Some o → ⊥
+    none : (l n : ℕ) (o : LinkOffer) → slice_get (link_at (start capacities widths cores) l) n ≡ Some o → ⊥
     none l n o g =
         let bad : ◌≡◌ {A = Option LinkOffer} None (Some o) = sym (ap (λ x. slice_get x n) (empty_at {X = LinkOffer} (length capacities) l)) ∙ g in cc
 
@@ -395,8 +396,8 @@ goes_by es k P M was fit None is = record {
         let bad : ◌≡◌ {A = Option Stamped} None (Some x) = sym is ∙ ap (λ j. slice_get es j) same ∙ g in
         absurd (cc)
 
-pub kept_at : (capacities : List ℕ) (cores : ℕ) (es : List Stamped) → IsLegal (start capacities cores) es
-    → (k : ℕ) → Kept es k (past_at (start capacities cores) es k) (marked_at es (no_marks (length capacities) (suc cores)) k)
-kept_at capacities cores es legal zero = begins capacities cores es
-kept_at capacities cores es legal (suc k) =
-    goes_by es k _ _ (kept_at capacities cores es legal k) (λ e is. fits_at (start capacities cores) es legal k e is) (slice_get es k) refl
+pub kept_at : (capacities widths : List ℕ) (cores : ℕ) (es : List Stamped) → IsLegal (start capacities widths cores) es
+    → (k : ℕ) → Kept es k (past_at (start capacities widths cores) es k) (marked_at es (no_marks (length capacities) (suc cores)) k)
+kept_at capacities widths cores es legal zero = begins capacities widths cores es
+kept_at capacities widths cores es legal (suc k) =
+    goes_by es k _ _ (kept_at capacities widths cores es legal k) (λ e is. fits_at (start capacities widths cores) es legal k e is) (slice_get es k) refl

@@ -28,6 +28,7 @@ use Rattle.cancel_scope.specs.declared.operation.Progress.TheVariants as progres
 use Rattle.cancel_scope.specs.declared.operation.Operation.{Operation}
 use Rattle.cancel_scope.specs.Outstanding.{started, is_outgoing, is_waiting, is_under, is_to_offer, is_offered, is_to_receive}
 use Rattle.cancel_scope.specs.Outstanding.{is_request, offered_as, past_offer, as_begun, change_first, without_first}
+use Rattle.core_state.specs.Messages.{message_in}
 use Rattle.core_state.specs.Moves.{Move, On, Over, moves, and_then}
 use Rattle.core_state.specs.Frames.{block_in, begun as begun_store, first_store}
 use Rattle.core_state.specs.Arrivals as arrivals
@@ -304,7 +305,7 @@ module _ (code : Parts) (bound : ℕ) (m : Flat) (s : AreSound m.operations) whe
 
   begins_with_sound : (t : Item) (o : Option Instr) → Onward Ended (begin code bound m t o)
   begins_with_sound t None = s
-  begins_with_sound t (Some (i.Send channel)) = topped _ m.current.operands (λ x below. starts t channel (asked.Send (int_in x)) below)
+  begins_with_sound t (Some (i.Send channel)) = topped _ m.current.operands (λ x below. starts t channel (asked.Send (message_in m.store x)) below)
   begins_with_sound t (Some (i.Recv channel)) = topped _ m.current.operands (λ x below. starts t channel (asked.Recv (place_in x)) below)
   begins_with_sound t (Some (i.Cancel level slot)) = called_off (block_in (cell_at m.store m.current.frame level slot))
   begins_with_sound t (Some (i.Read file)) =

@@ -24,11 +24,12 @@ count_same parties cores table entry party q p same =
     ∙ ap (λ x. slice_index table (entry * suc cores + x)) same
 
 module _ (es : List Stamped) (parties : ℕ) (table : List ℕ) (k : IsKept es parties table) where
-  pub ticks : Ticks es (suc k.cores) (at_row (suc k.cores) table) (λ j e. last_mark (marks k.capacities k.cores es k.legal j) e) (λ j e. seen_mark (marks k.capacities k.cores es k.legal j) e)
-  ticks = ticks_of k.capacities k.cores es table k.legal (subst (λ p. IsTable p (no_marks (length k.capacities) p) es (length es) table) k.parties_are k.rows)
+  pub ticks : Ticks es (suc k.cores) (at_row (suc k.cores) table) (λ j e. last_mark (marks k.capacities k.widths k.cores es k.legal j) e) (λ j e. seen_mark
+      (marks k.capacities k.widths k.cores es k.legal j) e)
+  ticks = ticks_of k.capacities k.widths k.cores es table k.legal (subst (λ p. IsTable p (no_marks (length k.capacities) p) es (length es) table) k.parties_are k.rows)
 
   pub party_within : (one : ℕ) (a : Stamped) → slice_get es one ≡ Some a → a.party < parties
-  party_within one a is = let lt = party_in k.capacities k.cores es k.legal one a is in let p = k.parties_are in omega (arith, lt, p)
+  party_within one a is = let lt = party_in k.capacities k.widths k.cores es k.legal one a is in let p = k.parties_are in omega (arith, lt, p)
 
   pub reaches_told : (one other party own seen : ℕ) (a : Stamped) → slice_get es one ≡ Some a → other < length es → party ≡ a.party
       → own ≡ count_at parties table (one + 1) party → seen ≡ count_at parties table (other + 1) party → own ≤ seen → (one ≡ other) ⊎ IsBefore es one other
@@ -89,6 +90,7 @@ are_vectors code t links parties es table seen audited few is many all rows mark
   whole = record {
     kept = record {
       capacities = code.capacities;
+      widths = code.widths;
       cores = length code.entries;
       legal = audited_legal code t audited;
       parties_are = many;

@@ -45,13 +45,13 @@ not_of_one_core_alone s = let n = s.every_core in omega (arith, n)
 
 -- ---- histories of cuts
 
-pub first_one_of_each : cut_journals entries 1 (1 ∷ 0 ∷ []) ≡ ((by 1 1 2 (Offer 1 0 (Int (pos 6)))).entry ∷ []) ∷ [] ∷ []
+pub first_one_of_each : cut_journals entries 1 (1 ∷ 0 ∷ []) ≡ ((by 1 1 2 (Offer 1 0 (Int (pos 6 ∷ [])))).entry ∷ []) ∷ [] ∷ []
 first_one_of_each = refl
 
-pub the_offers_alone : cut_history entries (1 ∷ 1 ∷ 0 ∷ []) ≡ by 0 1 2 (Offer 0 0 (Int (pos 5))) ∷ by 1 1 2 (Offer 1 0 (Int (pos 6))) ∷ []
+pub the_offers_alone : cut_history entries (1 ∷ 1 ∷ 0 ∷ []) ≡ by 0 1 2 (Offer 0 0 (Int (pos 5 ∷ []))) ∷ by 1 1 2 (Offer 1 0 (Int (pos 6 ∷ []))) ∷ []
 the_offers_alone = refl
 
-pub two_of_one_core : cut_history entries (2 ∷ 0 ∷ 0 ∷ []) ≡ by 0 1 2 (Offer 0 0 (Int (pos 5))) ∷ by 0 2 2 (Got 1 0 (pos 6)) ∷ []
+pub two_of_one_core : cut_history entries (2 ∷ 0 ∷ 0 ∷ []) ≡ by 0 1 2 (Offer 0 0 (Int (pos 5 ∷ []))) ∷ by 0 2 2 (Got 1 0 (pos 6 ∷ [])) ∷ []
 two_of_one_core = refl
 
 -- ---- the law
@@ -70,7 +70,7 @@ closed_at i zero a h =
     absurd (cc)
 closed_at i (suc j) a h = let no : None ≡ Some a.answering = a.answers_it in absurd (cc)
 
-pub the_offer_alone_is_legal : ClosedCutsAreLegal → IsSound two_cores → KeepsEnds (code_of two_cores) → IsLegal (start (1 ∷ 16 ∷ 16 ∷ []) 2) (its_offer ∷ [])
+pub the_offer_alone_is_legal : ClosedCutsAreLegal → IsSound two_cores → KeepsEnds (code_of two_cores) → IsLegal (start (1 ∷ 16 ∷ 16 ∷ []) (1 ∷ []) 2) (its_offer ∷ [])
 the_offer_alone_is_legal law sound keeps =
     law two_cores its_trace (1 ∷ 0 ∷ 0 ∷ []) sound keeps it_is_a_run (record { so_many = refl; each = its_counts }) closed_at
 

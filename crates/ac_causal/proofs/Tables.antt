@@ -220,24 +220,24 @@ same_count : (parties : ℕ) (table : List ℕ) (m p : ℕ) → count_at parties
 same_count parties table zero p = refl
 same_count parties table (suc w) p = refl
 
-pub ticks_of : (capacities : List ℕ) (cores : ℕ) (es : List Stamped) (table : List ℕ) (legal : IsLegal (start capacities cores) es)
+pub ticks_of : (capacities widths : List ℕ) (cores : ℕ) (es : List Stamped) (table : List ℕ) (legal : IsLegal (start capacities widths cores) es)
     → IsTable (suc cores) (no_marks (length capacities) (suc cores)) es (length es) table
-    → Ticks es (suc cores) (at_row (suc cores) table) (λ j e. last_mark (marks capacities cores es legal j) e) (λ j e. seen_mark (marks capacities cores es legal j) e)
-ticks_of capacities cores es table legal t = record {
+    → Ticks es (suc cores) (at_row (suc cores) table) (λ j e. last_mark (marks capacities widths cores es legal j) e) (λ j e. seen_mark (marks capacities widths cores es legal j) e)
+ticks_of capacities widths cores es table legal t = record {
   row = λ j p e is lt. row_at j p e is lt;
-  party = λ j e is. party_in capacities cores es legal j e is;
-  last_made = λ j w e is h. (let m = last_made capacities cores es legal j w e h in (m.below, (m.entry, m.stands, m.party)));
-  last_reach = λ i j a e lt is_a is_e same. last_reach capacities cores es legal i j a e lt is_a same;
-  seen_made = λ j w e is h. seen_made capacities cores es legal j w e is h;
-  seen_all = λ i j a. seen_all capacities cores es legal i j a;
+  party = λ j e is. party_in capacities widths cores es legal j e is;
+  last_made = λ j w e is h. (let m = last_made capacities widths cores es legal j w e h in (m.below, (m.entry, m.stands, m.party)));
+  last_reach = λ i j a e lt is_a is_e same. last_reach capacities widths cores es legal i j a e lt is_a same;
+  seen_made = λ j w e is h. seen_made capacities widths cores es legal j w e is h;
+  seen_all = λ i j a. seen_all capacities widths cores es legal i j a;
 }
   where
     row_at : (j p : ℕ) (e : Stamped) → slice_get es j ≡ Some e → p < suc cores
-        → at_row (suc cores) table j p ≡ ticked (p == e.party) (max (mark_count (at_row (suc cores) table) (last_mark (marks capacities cores es legal j) e) p)
-        (mark_count (at_row (suc cores) table) (seen_mark (marks capacities cores es legal j) e) p))
+        → at_row (suc cores) table j p ≡ ticked (p == e.party) (max (mark_count (at_row (suc cores) table) (last_mark (marks capacities widths cores es legal j) e) p)
+        (mark_count (at_row (suc cores) table) (seen_mark (marks capacities widths cores es legal j) e) p))
     row_at j p e is lt =
         t.row j p e (slice_get_within es j e is) lt is
-        ∙ ap (λ x. ticked (p == e.party) (max x (count_at (suc cores) table (seen_mark (marks capacities cores es legal j) e) p)))
-        (same_count (suc cores) table (last_mark (marks capacities cores es legal j) e) p)
-        ∙ ap (λ y. ticked (p == e.party) (max (mark_count (at_row (suc cores) table) (last_mark (marks capacities cores es legal j) e) p) y))
-        (same_count (suc cores) table (seen_mark (marks capacities cores es legal j) e) p)
+        ∙ ap (λ x. ticked (p == e.party) (max x (count_at (suc cores) table (seen_mark (marks capacities widths cores es legal j) e) p)))
+        (same_count (suc cores) table (last_mark (marks capacities widths cores es legal j) e) p)
+        ∙ ap (λ y. ticked (p == e.party) (max (mark_count (at_row (suc cores) table) (last_mark (marks capacities widths cores es legal j) e) p) y))
+        (same_count (suc cores) table (seen_mark (marks capacities widths cores es legal j) e) p)

@@ -14,21 +14,22 @@ use Rattle.ac_causal.specs.States.{cut_history}
 
 -- what is before an entry stands before it in the history
 abbrev pub BeforeIsEarlier : Type 0
-BeforeIsEarlier = (capacities : List ℕ) (cores : ℕ) (es : List Stamped) (i j : ℕ) → IsLegal (start capacities cores) es
+BeforeIsEarlier = (capacities widths : List ℕ) (cores : ℕ) (es : List Stamped) (i j : ℕ) → IsLegal (start capacities widths cores) es
     → IsBefore es i j → i < j
 
 -- and has a lesser stamp
 abbrev pub StampsRise : Type 0
-StampsRise = (capacities : List ℕ) (cores : ℕ) (es : List Stamped) (i j : ℕ) (a b : Stamped) → IsLegal (start capacities cores) es
+StampsRise = (capacities widths : List ℕ) (cores : ℕ) (es : List Stamped) (i j : ℕ) (a b : Stamped)
+    → IsLegal (start capacities widths cores) es
     → slice_get es i ≡ Some a → slice_get es j ≡ Some b → IsBefore es i j → a.entry.stamp < b.entry.stamp
 
 -- what an audit says yes to is a legal history, with the links and the cores of the program's code
 abbrev pub RunsAreLegal : Type 0
 RunsAreLegal = (program : Resolved) (t : Trace) → IsRunTrace program t
-    → IsLegal (start (code_of program).capacities (length (code_of program).entries)) t.entries
+    → IsLegal (start (code_of program).capacities (code_of program).widths (length (code_of program).entries)) t.entries
 
 -- of a run of a program whose cores use channels at their own ends alone, the entries of a closed cut, merged, are legal
 abbrev pub ClosedCutsAreLegal : Type 0
 ClosedCutsAreLegal = (program : Resolved) (t : Trace) (counts : List ℕ) → IsSound program → KeepsEnds (code_of program)
     → IsRunTrace program t → IsCut t.entries (suc (length program.cores)) counts → IsClosed t.entries counts
-    → IsLegal (start (code_of program).capacities (length program.cores)) (cut_history t.entries counts)
+    → IsLegal (start (code_of program).capacities (code_of program).widths (length program.cores)) (cut_history t.entries counts)

@@ -72,7 +72,7 @@ maybe_played before after o v stamp (Err error) h err run p plain = subst (λ (n
 pub know_plain : (link number : ℕ) → IsPlain (event.Know link number)
 know_plain link number = record { offer = λ l. refl; offers = λ l n. refl; withdraws = λ l n. refl; rooms = λ l n. refl }
 
-pub got_plain : (link number : ℕ) (value : ℤ) → IsPlain (event.Got link number value)
+pub got_plain : (link number : ℕ) (value : List ℤ) → IsPlain (event.Got link number value)
 got_plain link number value = record { offer = λ l. refl; offers = λ l n. refl; withdraws = λ l n. refl; rooms = λ l n. refl }
 
 pub pass_plain : (link number : ℕ) → IsPlain (event.Pass link number)

@@ -39,7 +39,7 @@ an_entry_of_a_turn_that_never_is = no_run (code_of 0 returns) 0 100 (late ∷ []
 -- ---- where a machine stands
 
 abbrev first : Entry
-first = record { stamp = 1; turn = 0; event = event.Offer 0 0 (Int (pos 5)) }
+first = record { stamp = 1; turn = 0; event = event.Offer 0 0 (Int (pos 5 ∷ [])) }
 
 pub none_is_numbered : IsNumbered []
 none_is_numbered = record { fresh = λ link number le. refl; once = λ link number. omega arith; rooms = λ link number no. cc }

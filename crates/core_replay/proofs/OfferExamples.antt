@@ -38,7 +38,7 @@ nothing_offered = record { count = λ link. refl; keep = λ link number. refl }
 -- ---- entry by entry
 
 abbrev offer : Entry
-offer = entry 1 (e.Offer 1 0 (p.Int (pos 5)))
+offer = entry 1 (e.Offer 1 0 (p.Int (pos 5 ∷ [])))
 
 abbrev withdrawal : Entry
 withdrawal = entry 2 (e.Withdraw 1 0)

@@ -108,7 +108,7 @@ none_in_an_empty_function = refl
 -- ---- its runs of nine steps
 
 abbrev offer : Entry
-offer = record { stamp = 1; turn = 1; event = Offer 0 0 (Int (pos 5)) }
+offer = record { stamp = 1; turn = 1; event = Offer 0 0 (Int (pos 5 ∷ [])) }
 
 abbrev offering : CoreEnd
 offering = record {
@@ -156,7 +156,7 @@ two_entries_are_few law =
 
 -- one entry, with stamp 1
 pub its_history_is_short : HistoriesAreShort → IsShortHistory two_cores 1 9 (merged journals)
-its_history_is_short law = law two_cores (1 ∷ 16 ∷ []) 1 9 journals refl it_has_offered (refl, tt)
+its_history_is_short law = law two_cores (1 ∷ 16 ∷ []) (1 ∷ []) 1 9 journals refl it_has_offered (refl, tt)
 
 pub one_entry_of_stamp_one_is_short : IsShortHistory two_cores 1 9 (merged journals)
 one_entry_of_stamp_one_is_short = let one = its_program_has_one in record { entries = omega (arith, one); stamps = (omega arith, tt) }
@@ -171,4 +171,4 @@ pub no_step_no_entry : IsShortHistory two_cores 1 0 (merged journals) → ⊥
 no_step_no_entry h = let few = h.entries in let one = its_program_has_one in omega (arith, few, one)
 
 pub its_stamp_is_small : StampsAreSmall → AllByRecursion (λ e. e.entry.stamp ≤ 1 * (4 * (most_actions two_cores * 9))) (merged journals)
-its_stamp_is_small law = law two_cores (1 ∷ 16 ∷ []) 1 9 journals refl it_has_offered (refl, tt)
+its_stamp_is_small law = law two_cores (1 ∷ 16 ∷ []) (1 ∷ []) 1 9 journals refl it_has_offered (refl, tt)

@@ -214,7 +214,7 @@ module _ (past : List Entry) (store : Store) (os : List Operation) (stamp turn :
       let k = keeping_push past (entry (event.Reply link number answer)) in
       (omega arith, omega arith)
 
-  received_less : (link number : ℕ) (value : ℤ) (q : Option Operation) → find (is_to_receive link) os ≡ q
+  received_less : (link number : ℕ) (value : List ℤ) (q : Option Operation) → find (is_to_receive link) os ≡ q
       → LessAfter past (entry (event.Got link number value)) os (ends_received store os link value q)
   received_less link number value None e = tt
   received_less link number value (Some o) e =

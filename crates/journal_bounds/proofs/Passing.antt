@@ -13,7 +13,7 @@ use Rattle.ac_links.specs.declared.payloads.Terms.{Terms}
 use Rattle.ac_links.specs.Payloads.Taking.{Message, Done}
 use Rattle.ac_links.specs.Payloads.{Taking, carries}
 use Rattle.ac_links.specs.Link.{is_offered, is_withdrawn, front_of, takes, withdraws, passes, link_fits, link_after, changed, stands, now_taken, now_known, now_replied, new_offer, link_of}
-use Rattle.ac_history.specs.History.{Past, link_at, terms_of, in_range, is_later, has_stamp, makes, may_make, after, IsLegal, start}
+use Rattle.ac_history.specs.History.{Past, link_at, terms_of, in_range, is_later, has_stamp, makes, may_make, has_its_width, after, IsLegal, start}
 use Rattle.journal_bounds.proofs.Counting.{offer_of, settles_of, count, settled, offered_below, idle_of}
 
 -- ---- the offers of a link that are not settled
@@ -149,11 +149,11 @@ links_set [] i os = omega arith
 links_set (x ∷ links) zero os = omega arith
 links_set (x ∷ links) (suc i) os = let ih = links_set links i os in omega arith
 
-fourth : (a b c d e : Bool) → a && b && c && d && e ≡ true → d ≡ true
-fourth a b c d e h = grind (arith, nat_tests)
+fourth : (a b c d e f : Bool) → a && b && c && d && e && f ≡ true → d ≡ true
+fourth a b c d e f h = grind (arith, nat_tests)
 
-fifth : (a b c d e : Bool) → a && b && c && d && e ≡ true → e ≡ true
-fifth a b c d e h = grind (arith, nat_tests)
+sixth : (a b c d e f : Bool) → a && b && c && d && e && f ≡ true → f ≡ true
+sixth a b c d e f h = grind (arith, nat_tests)
 
 -- no more are settled, and the worker is never idle
 settled_from : (past : Past) (es : List Stamped) → IsLegal past es
@@ -165,8 +165,9 @@ settled_from past (e ∷ es) h =
     let terms = terms_of past.capacities past.channels l in
     let core = nat_lt e.party past.cores in
     let worker = e.party == past.cores in
-    let makes_it = fourth (in_range past e) (is_later past.stamp past.party e) (has_stamp past e) (may_make past.channels past.cores e) (link_fits terms os e.entry.event) h.0 in
-    let fits_it = fifth (in_range past e) (is_later past.stamp past.party e) (has_stamp past e) (may_make past.channels past.cores e) (link_fits terms os e.entry.event) h.0 in
+    let wide = has_its_width past.widths e.entry.event in
+    let makes_it = fourth (in_range past e) (is_later past.stamp past.party e) (has_stamp past e) (may_make past.channels past.cores e) wide (link_fits terms os e.entry.event) h.0 in
+    let fits_it = sixth (in_range past e) (is_later past.stamp past.party e) (has_stamp past e) (may_make past.channels past.cores e) wide (link_fits terms os e.entry.event) h.0 in
     let own = is_a_cores core worker (nat_le past.channels l) (core || (e.entry.turn == 0)) e.entry.event makes_it in
     let busy = never_idle core worker (nat_le past.channels l) (core || (e.entry.turn == 0)) e.entry.event (no_core e.party past.cores) makes_it in
     let one = link_settles terms os e.entry.stamp e.entry.event fits_it in
@@ -180,10 +181,10 @@ none_pending : (n : ℕ) → all_pending (replicate n []) ≡ 0
 none_pending zero = refl
 none_pending (suc n) = let ih = none_pending n in omega arith
 
-pub settled_at_most : (capacities : List ℕ) (cores : ℕ) (es : List Stamped) → IsLegal (start capacities cores) es
+pub settled_at_most : (capacities widths : List ℕ) (cores : ℕ) (es : List Stamped) → IsLegal (start capacities widths cores) es
     → (count settled es ≤ count (offered_below cores) es) × (count (idle_of cores) es ≡ 0)
-settled_at_most capacities cores es h =
-    let p = settled_from (start capacities cores) es h in
+settled_at_most capacities widths cores es h =
+    let p = settled_from (start capacities widths cores) es h in
     let fewer = p.0 in
     let z = none_pending (length capacities) in
     (omega arith, p.1)

@@ -33,9 +33,9 @@ each_more m n le [] a = tt
 each_more m n le (e ∷ es) a = (let h = a.0 in omega arith, each_more m n le es a.1)
 
 pub histories_short : HistoriesAreShort
-histories_short program capacities cores bound js many runs legal =
+histories_short program capacities widths cores bound js many runs legal =
     let k = most_actions program * bound in
-    let settles = settled_at_most capacities cores (merged js) legal in
+    let settles = settled_at_most capacities widths cores (merged js) legal in
     let fewer = settles.0 in
     let busy = settles.1 in
     let all_settled = count_in_order settled stamp_of (all_from 0 js) in
@@ -46,9 +46,9 @@ histories_short program capacities cores bound js many runs legal =
     let all = order_length stamp_of (all_from 0 js) in
     let thrice = mul_left_comm cores 3 k in
     let four_times = mul_left_comm cores 4 k in
-    record { entries = omega arith; stamps = stamps_at_most capacities cores (merged js) legal }
+    record { entries = omega arith; stamps = stamps_at_most capacities widths cores (merged js) legal }
 
 pub stamps_small : StampsAreSmall
-stamps_small program capacities cores bound js many runs legal =
-    let short = histories_short program capacities cores bound js many runs legal in
+stamps_small program capacities widths cores bound js many runs legal =
+    let short = histories_short program capacities widths cores bound js many runs legal in
     each_more (length (merged js)) (cores * (4 * (most_actions program * bound))) short.entries (merged js) short.stamps

@@ -33,14 +33,14 @@ pub record IsShortHistory (program : Resolved) (cores bound : ℕ) (history : Li
 -- history no more offers are passed over, and done by the worker, than were made: so an operation pays for four entries, its own three, and
 -- one by which its peer passes over it or the worker does it.
 abbrev pub HistoriesAreShort : Type 0
-HistoriesAreShort = (program : Resolved) (capacities : List ℕ) (cores bound : ℕ) (js : List (List Entry))
-    → length js ≡ suc cores → AllReplay program cores bound js → IsLegal (start capacities cores) (merged js)
+HistoriesAreShort = (program : Resolved) (capacities widths : List ℕ) (cores bound : ℕ) (js : List (List Entry))
+    → length js ≡ suc cores → AllReplay program cores bound js → IsLegal (start capacities widths cores) (merged js)
     → IsShortHistory program cores bound (merged js)
 
 -- so no stamp is above that
 abbrev pub StampsAreSmall : Type 0
-StampsAreSmall = (program : Resolved) (capacities : List ℕ) (cores bound : ℕ) (js : List (List Entry))
-    → length js ≡ suc cores → AllReplay program cores bound js → IsLegal (start capacities cores) (merged js)
+StampsAreSmall = (program : Resolved) (capacities widths : List ℕ) (cores bound : ℕ) (js : List (List Entry))
+    → length js ≡ suc cores → AllReplay program cores bound js → IsLegal (start capacities widths cores) (merged js)
     → AllByRecursion (λ e. e.entry.stamp ≤ cores * (4 * (most_actions program * bound))) (merged js)
 
 -- each call and each operation is an instruction of the code

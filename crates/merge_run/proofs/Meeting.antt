@@ -1,5 +1,5 @@
 -- What the settling of a link leaves of its two parties; and what the consumer has kept after a taking.
-use Rattle.std.proofs.Common.{◌≡◌, ◌≤◌, ℕ, ℤ, List, [], ◌∷◌, ◌++◌, Some, None, length, refl, sym, ap, ◌∙◌, subst, arith, inl, inr}
+use Rattle.std.proofs.Common.{◌≡◌, ℕ, ℤ, List, [], ◌∷◌, ◌++◌, Some, None, length, refl, sym, ap, ◌∙◌, subst, arith, inl, inr}
 use Rattle.std.specs.Prelude.{slice_get}
 use mathlib.Core.List.{IsPrefix}
 use Rattle.std.proofs.lemmas.List.{append-nil, length-append}
@@ -10,9 +10,8 @@ use Rattle.completion_word.specs.declared.views.DecisionKind.TheVariants as outc
 use Rattle.completion_word.specs.Link.{decision}
 use Rattle.core_channels.specs.declared.answers.Receiving.{Receiving as Received}
 use Rattle.core_channels.specs.declared.answers.Receiving.TheVariants as received
-use Rattle.core_channels.proofs.Stamping.{stamp_rises}
 use Rattle.channel_ends.specs.Sending.{Sending, OwnerNotes, AreWithin}
-use Rattle.channel_ends.specs.Receiving.{Receiving, Receives, Decides, DecidesNone, receiving_clock}
+use Rattle.channel_ends.specs.Receiving.{Receiving, Receives, Decides, DecidesNone}
 use Rattle.channel_ends.specs.Settled.{AreSettled}
 use Rattle.channel_ends.specs.Pairs.{IsSameSend, IsSameRecv, IsSettledSend, IsSettledRecv}
 use Rattle.ac_choice.specs.declared.answers.Tagged.{Tagged}

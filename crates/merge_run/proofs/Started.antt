@@ -1,11 +1,11 @@
 -- The parties of a merge as it begins: each may go on, and the two ends of each link are of one pair.
 use Rattle.std.proofs.Common.{◌≡◌, ℕ, suc, ◌<◌, List, [], ◌∷◌, ◌++◌, Some, length, map, refl, sym, ap, ◌∙◌, subst, arith, inl, inr}
-use Rattle.std.specs.Prelude.{slice_get, ◌≢◌, ◌⊎◌}
+use Rattle.std.specs.Prelude.{slice_get, ◌⊎◌}
 use Rattle.std.specs.List.{AllByRecursion}
 use Rattle.std.proofs.lemmas.Bool.{cases_lt}
 use Rattle.std.proofs.lemmas.Option.{slice_get_within}
 use Rattle.settled_rounds.specs.declared.party.Way.{Way}
-use Rattle.settled_rounds.specs.Linked.{AreWays, OnLinks}
+use Rattle.settled_rounds.specs.Linked.{OnLinks}
 use Rattle.merge_run.specs.declared.producer.Producer.{Producer}
 use Rattle.merge_run.specs.declared.party.MergeParty.{MergeParty}
 use Rattle.merge_run.specs.declared.party.MergeParty.TheVariants.{Produces, Relays, Consumes}

@@ -119,7 +119,7 @@ its_requests_are_of_the_first_file = (omega arith, (omega arith, tt))
 pub no_read_of_a_second : AreNamed 1 (record { payload = Read 1 4 2; answer = Bytes [] } ∷ []) → ⊥
 no_read_of_a_second h = let less = h.0 in omega (arith, less)
 
-pub no_message : IsNamed 1 (Int (pos 5)) → ⊥
+pub no_message : IsNamed 1 (Int (pos 5 ∷ [])) → ⊥
 no_message h = h
 
 pub what_its_run_names : RunsNameFiles → (program : Resolved) → IsRunOf program 9 [] its_run → NamesFilesBelow (code_of program) 0 → AreNamed 0 (deeds_of program its_run.journals)

@@ -5,3 +5,4 @@ pub mod Naming
 pub mod Outcomes
 pub mod OutcomesExamples
 pub mod RunExamples
+pub mod Widths

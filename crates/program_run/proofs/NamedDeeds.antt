@@ -19,7 +19,7 @@ use Rattle.ac_links.specs.Link.{asked, can_take, changed, front_of, is_offered, 
 use Rattle.ac_links.specs.Payloads.{answer_fits}
 use Rattle.ac_links.specs.Payloads.Taking.{Done}
 use Rattle.ac_history.specs.Files.{Deed, deed_of, deeds, deeds_at}
-use Rattle.ac_history.specs.History.{Past, after, fits, has_stamp, in_range, is_later, link_at, makes, may_make, start, terms_of, IsLegal}
+use Rattle.ac_history.specs.History.{Past, after, fits, has_stamp, in_range, is_later, link_at, makes, may_make, has_its_width, start, terms_of, IsLegal}
 use Rattle.ac_history.proofs.Parts.{each_append}
 use Rattle.program_run.specs.Naming.{IsNamed, AreNamed}
 use Rattle.program_run.proofs.Naming.{carries_below, offers_below}
@@ -99,8 +99,9 @@ module _ (n : ℕ) where
     fits_parts : (past : Past) (e : Stamped) → fits past e ≡ true → (may_make past.channels past.cores e ≡ true)
         × (link_fits (terms_of past.capacities past.channels (link_of e.entry.event)) (link_at past (link_of e.entry.event)) e.entry.event ≡ true)
     fits_parts past e f =
-        let a = and_parts (in_range past e && is_later past.stamp past.party e && has_stamp past e && may_make past.channels past.cores e) _ f in
-        ((and_parts (in_range past e && is_later past.stamp past.party e && has_stamp past e) _ a.0).1, a.1)
+        let a = and_parts (in_range past e && is_later past.stamp past.party e && has_stamp past e && may_make past.channels past.cores e && has_its_width past.widths e.entry.event) _ f in
+        let b = and_parts (in_range past e && is_later past.stamp past.party e && has_stamp past e && may_make past.channels past.cores e) _ a.0 in
+        ((and_parts (in_range past e && is_later past.stamp past.party e && has_stamp past e) _ b.0).1, a.1)
 
     core_is : (party : ℕ) → nat_lt party cores ≡ true → party < cores
     core_is party h = grind (arith, nat_tests)
@@ -117,7 +118,7 @@ module _ (n : ℕ) where
         (all_named (after past e) es many (All-set AreIn past.links l (link_after (link_at past l) e.entry.stamp e.entry.event) (after_in
         (link_at past l) e.entry.stamp e.entry.event one here) all) legal.1 below.1)
 
-pub deeds_are_named : (n cores : ℕ) (capacities : List ℕ) (history : List Stamped) → IsLegal (start capacities cores) history
-    → AllByRecursion (λ e. e.party < cores → offers_below n e.entry.event ≡ true) history → AreNamed n (deeds (start capacities cores) history)
-deeds_are_named n cores capacities history legal below =
-    all_named n cores (start capacities cores) history refl (All-replicate (AreIn n) (length capacities) [] (All-nil (IsIn n))) legal below
+pub deeds_are_named : (n cores : ℕ) (capacities widths : List ℕ) (history : List Stamped) → IsLegal (start capacities widths cores) history
+    → AllByRecursion (λ e. e.party < cores → offers_below n e.entry.event ≡ true) history → AreNamed n (deeds (start capacities widths cores) history)
+deeds_are_named n cores capacities widths history legal below =
+    all_named n cores (start capacities widths cores) history refl (All-replicate (AreIn n) (length capacities) [] (All-nil (IsIn n))) legal below

@@ -41,6 +41,6 @@ module _ (program : Resolved) (bound n : ℕ) (names : NamesFilesBelow (code_of 
       (of_core k j.entries (runs_name (code_of program) n k bound end.instructions j.entries end.core names runs.0.code)) (all_below (suc k) js ends (omega arith) runs.1)
 
 pub runs_name_files : RunsNameFiles
-runs_name_files program bound files ended n run names = deeds_are_named n (length program.cores) (code_of program).capacities _ run.legal
+runs_name_files program bound files ended n run names = deeds_are_named n (length program.cores) (code_of program).capacities (code_of program).widths _ run.legal
     (each_in_order stamp_of (Below program bound n names (length program.cores)) (all_from 0 (map entries_of ended.journals))
     (all_below program bound n names (length program.cores) 0 ended.journals ended.cores (let e = run.every_core in omega arith) run.cores))

@@ -34,6 +34,7 @@ use Rattle.core_state.specs.Cancelling.{Fate, NeverHappens, IsTaken, by_outcome,
 use Rattle.core_state.specs.Frames.{begun, first_store, block_in}
 use Rattle.core_state.specs.Shared.{Shared, begins_with, with_entry, with_turn, seen, seen_left}
 use Rattle.core_state.specs.Requests.{bytes_at, first_of, if_in_range}
+use Rattle.core_state.specs.Messages.{message_in}
 use Rattle.stack_code.specs.declared.instr.Instr.{Instr}
 use Rattle.stack_code.specs.declared.instr.Instr.TheVariants as i
 use Rattle.stack_code.specs.declared.parts.Entered.{Entered}
@@ -217,7 +218,7 @@ module _ (code : Parts) (n : ℕ) (keeps : NamesFilesBelow code n) (bound : ℕ)
       go (Some o) e = tried_at o e o.progress
 
   starts_at : (t : Item) (instr : Instr) → names_below n instr ≡ true → Keeps n m (begin code bound m t (Some instr))
-  starts_at t (i.Send channel) h = topped _ m.current.operands (λ x below. starts t channel (asked.Send (int_in x)) below refl)
+  starts_at t (i.Send channel) h = topped _ m.current.operands (λ x below. starts t channel (asked.Send (message_in m.store x)) below refl)
   starts_at t (i.Recv channel) h = topped _ m.current.operands (λ x below. starts t channel (asked.Recv (place_in x)) below refl)
   starts_at t (i.Cancel level slot) h = called_off (block_in (cell_at m.store m.current.frame level slot))
   starts_at t (i.Read file) h =

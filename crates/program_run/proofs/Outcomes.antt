@@ -159,14 +159,14 @@ module _ (program : Resolved) (bound : ℕ) (files : List (List ℕ)) (ended : E
     never_happens v =
         let gone = withdrawn_by o.link number by.e.event (by.outcome_is ∙ ap Some v) in
         let some = in_history (is_withdrawal o.link number) ended.journals core journal is s.past by.e by.es there gone in
-        let once = ends_once _ _ history o.link number run.legal in
+        let once = ends_once _ _ _ history o.link number run.legal in
         omega (arith, some, once)
 
     is_done : it ≡ IsTaken → times (is_taking o.link number) history ≡ 1
     is_done v =
         let news = known_by o.link number by.e.event (by.outcome_is ∙ ap Some v) in
         let some = in_history (is_news o.link number) ended.journals core journal is s.past by.e by.es there news in
-        known_is_taken _ _ history o.link number run.legal some
+        known_is_taken _ _ _ history o.link number run.legal some
 
   pub done_or_never : (o : Operation) (it : Fate) → HasTried s o it → IsDoneOrNeverHappens history o it
   done_or_never o it t = go o.progress refl t.ends

@@ -16,7 +16,7 @@ use Rattle.program_run.specs.Outcomes.{HasHappened, HasNotHappened, HasTried, Is
 use Rattle.program_run.proofs.RunExamples.{their_run, log, sent}
 
 abbrev five : Operation
-five = started 0 (Send (pos 5)) (record { number = 1 })
+five = started 0 (Send (pos 5 ∷ [])) (record { number = 1 })
 
 abbrev offered : Operation
 offered = offered_as 0 five
@@ -26,7 +26,7 @@ abbrev before : Event → Shared
 before event = first_shared 1 (record { stamp = 3; turn = 0; event = event } ∷ [])
 
 abbrev got : List Stamped
-got = record { party = 1; entry = record { stamp = 2; turn = 0; event = Got 0 0 (pos 5) } } ∷ []
+got = record { party = 1; entry = record { stamp = 2; turn = 0; event = Got 0 0 (pos 5 ∷ []) } } ∷ []
 
 pub what_is_kept_of_a_try : (s : Shared) (it : Fate) → after_try s it ≡ On (record { shared = s; outcome = it })
 what_is_kept_of_a_try s it = refl

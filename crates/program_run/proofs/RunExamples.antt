@@ -46,6 +46,7 @@ its_parts = record {
   capacities = 1 ∷ 16 ∷ 16 ∷ [];
   ends = record { from = 0; to = 1 } ∷ [];
   starts = record { slot = 1; value = pos 5 } ∷ [];
+  widths = 1 ∷ [];
 }
 
 statement_code : command_code sends ≡ one i.Step ⨾ value_code sends_five ⨾ one i.Drop
@@ -67,7 +68,7 @@ abbrev pub entry : ℕ → Event → Entry
 entry stamp event = record { stamp = stamp; turn = 1; event = event }
 
 abbrev pub its_offer : Entry
-its_offer = entry 1 (Offer 0 0 (Int (pos 5)))
+its_offer = entry 1 (Offer 0 0 (Int (pos 5 ∷ [])))
 
 abbrev globals : List ℤ
 globals = pos 0 ∷ pos 5 ∷ []
@@ -165,7 +166,7 @@ pub not_without_the_worker : AreCoreRuns two_cores 9 0 (log (its_offer ∷ []) �
 not_without_the_worker r = let e = r.1.1 in omega (arith, e)
 
 pub before_any_entry : nothing_yet two_cores
-    ≡ record { capacities = 1 ∷ 16 ∷ 16 ∷ []; channels = 1; cores = 2; links = [] ∷ [] ∷ [] ∷ []; lasts = 0 ∷ 0 ∷ 0 ∷ []; stamp = 0; party = 0 }
+    ≡ record { capacities = 1 ∷ 16 ∷ 16 ∷ []; widths = 1 ∷ []; channels = 1; cores = 2; links = [] ∷ [] ∷ [] ∷ []; lasts = 0 ∷ 0 ∷ 0 ∷ []; stamp = 0; party = 0 }
 before_any_entry = refl
 
 pub it_is_legal : IsLegal (nothing_yet two_cores) (history_of its_run.journals)
@@ -259,7 +260,7 @@ pub not_of_the_cores_alone : IsRunOf two_cores 9 [] (record its_run { journals =
 not_of_the_cores_alone r = not_without_the_worker r.cores
 
 -- an offer has the number of those before it
-pub not_with_another_number : IsRunOf two_cores 9 [] (record its_run { journals = log (entry 1 (Offer 0 1 (Int (pos 5))) ∷ []) ∷ log [] ∷ log [] ∷ [] }) → ⊥
+pub not_with_another_number : IsRunOf two_cores 9 [] (record its_run { journals = log (entry 1 (Offer 0 1 (Int (pos 5 ∷ []))) ∷ []) ∷ log [] ∷ log [] ∷ [] }) → ⊥
 not_with_another_number r = let e = r.legal.0 in cc
 
 -- ---- journals of a run in which the second core takes the message
@@ -268,7 +269,7 @@ abbrev pub sent : List Entry
 sent = its_offer ∷ entry 3 (Know 0 0) ∷ []
 
 abbrev pub received : List Entry
-received = entry 2 (Got 0 0 (pos 5)) ∷ []
+received = entry 2 (Got 0 0 (pos 5 ∷ [])) ∷ []
 
 abbrev pub finished : MachineEnd
 finished = record { core = record { word = word.Finished; steps = 1; output = []; globals = []; waiting = []; idle = false }; instructions = 6 }

@@ -38,7 +38,7 @@ history_of journals = merged (map entries_of journals)
 
 -- the links and the cores of the program, before any entry
 abbrev pub nothing_yet : Resolved → Past
-nothing_yet program = start (code_of program).capacities (length program.cores)
+nothing_yet program = start (code_of program).capacities (code_of program).widths (length program.cores)
 
 -- after this history each core has ended or is idle, and nothing on its links is for it
 abbrev pub EndsQuiet : Resolved → List Stamped → List MachineEnd → Type 0

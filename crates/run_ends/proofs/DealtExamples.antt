@@ -78,10 +78,10 @@ module _ {M : Type 0} where
 abbrev asker : ℕ → ℕ → List Response → Asking
 asker ring answers items = record { send = sender 16 ring []; ring = a_ring answers; replies = []; gathered = []; items = items; places = 0 }
 
-abbrev sends : ℕ → Sending ℤ → List SendingAt
+abbrev sends : ℕ → Sending (List ℤ) → List SendingAt
 sends link end = record { link = link; end = end; polls = 0; tries = 0 } ∷ []
 
-abbrev recvs : ℕ → Receiving ℤ → List ReceivingAt
+abbrev recvs : ℕ → Receiving (List ℤ) → List ReceivingAt
 recvs link end = record { link = link; end = end; polls = 0 } ∷ []
 
 abbrev asks : ℕ → Asking → AskingAt

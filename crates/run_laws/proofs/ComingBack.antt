@@ -116,9 +116,3 @@ module _ (d : Driven) (terms : ℕ → Terms) (ends : ℕ → LinkEnd) (hands : 
       stopped = subst (λ (e : MachineEnd). quiet.has_stopped e.core ≡ true) end_here (end_stopped d.machine.state pause comes.end paused full seen);
       leaves = λ waits. leaves_by (has_ended d.machine.state) refl waits;
     }
-
--- ---- its ports
-
--- whether its ports are full tells why it has come back
-pub tells_full : (before after : Bool) (pause : Pause) → before ≡ false → after ≡ (before || is_clock_full pause) → after ≡ is_clock_full pause
-tells_full before after pause none h = h ∙ ap (λ b. b || is_clock_full pause) none

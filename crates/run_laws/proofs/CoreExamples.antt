@@ -56,6 +56,7 @@ crossing = record {
   capacities = 1 ∷ 16 ∷ 16 ∷ [];
   ends = record { from = 0; to = 1 } ∷ [];
   starts = [];
+  widths = 1 ∷ [];
 }
 
 pub who_sends : owner_of crossing.ends 0 ∷ owner_of crossing.ends 1 ∷ owner_of crossing.ends 2 ∷ owner_at 1 2 None ∷ [] ≡ 0 ∷ 0 ∷ 1 ∷ 1 ∷ []
@@ -68,7 +69,7 @@ who_receives = refl
 -- ---- its links
 
 abbrev pub five : OwnerOffer
-five = owner_offer (Int (pos 5)) 1
+five = owner_offer (Int (pos 5 ∷ [])) 1
 
 abbrev pub asking : LinkViews
 asking = new_link (record { capacity = 16; requests = true })
@@ -83,13 +84,14 @@ abbrev pub offered : LinkViews
 offered = record fresh { offers = five ∷ [] }
 
 abbrev pub crossed : LinkViews
-crossed = record fresh { offers = known_at 2 five ∷ []; decisions = taken_decision (pos 5) 2 1 ∷ [] }
+crossed = record fresh { offers = known_at 2 five ∷ []; decisions = taken_decision (pos 5 ∷ []) 2 1 ∷ [] }
 
 pub what_is_seen_of_them : (terms_in (links_with crossed) 1 ≡ record { capacity = 16; requests = true }) × (offers_in (links_with crossed) 0 ≡ known_at 2 five ∷ [])
-    × (decisions_in (links_with crossed) 0 ≡ taken_decision (pos 5) 2 1 ∷ []) × (offers_in (links_with crossed) 7 ≡ [])
+    × (decisions_in (links_with crossed) 0 ≡ taken_decision (pos 5 ∷ []) 2 1 ∷ []) × (offers_in (links_with crossed) 7 ≡ [])
 what_is_seen_of_them = (refl, refl, refl, refl)
 
-pub what_each_core_has : (ends_in crossing.ends 0 (links_with crossed) 0 ≡ Owns (known_at 2 five ∷ [])) × (ends_in crossing.ends 1 (links_with crossed) 0 ≡ Decides (taken_decision (pos 5) 2 1 ∷ []))
+pub what_each_core_has : (ends_in crossing.ends 0 (links_with crossed) 0 ≡ Owns (known_at 2 five ∷ [])) × (ends_in crossing.ends 1 (links_with crossed) 0 ≡ Decides (taken_decision
+    (pos 5 ∷ []) 2 1 ∷ []))
     × (ends_in crossing.ends 1 (links_with crossed) 1 ≡ Absent) × (heard_in crossing.ends 0 (links_with crossed) 0 ≡ 2) × (heard_in crossing.ends 1 (links_with crossed) 0 ≡ 1)
 what_each_core_has = (refl, refl, refl, refl, refl)
 
@@ -99,7 +101,7 @@ its_links = record {
   terms = terms;
   agree = All-from_recursion IsLink (links_with crossed) (
     record {
-      agree = ((omega arith, (Message (pos 5), refl, refl, refl), refl, omega arith, tt), tt);
+      agree = ((omega arith, (Message (pos 5 ∷ []), refl, refl, refl), refl, omega arith, tt), tt);
       each = All-from_recursion (IsOffer false) (known_at 2 five ∷ [])
           (record { carried = refl; later = tt }, tt);
     },
@@ -140,10 +142,10 @@ stop w waiting idle = record {
 }
 
 abbrev pub sender : CoreView
-sender = record { code = crossing; core = 0; bound = 9; journal = entry 1 (Offer 0 0 (Int (pos 5))) ∷ entry 3 (Know 0 0) ∷ []; end = stop word.Finished [] false }
+sender = record { code = crossing; core = 0; bound = 9; journal = entry 1 (Offer 0 0 (Int (pos 5 ∷ []))) ∷ entry 3 (Know 0 0) ∷ []; end = stop word.Finished [] false }
 
 abbrev pub receiver : CoreView
-receiver = record { code = crossing; core = 1; bound = 9; journal = entry 2 (Got 0 0 (pos 5)) ∷ []; end = stop word.Finished [] false }
+receiver = record { code = crossing; core = 1; bound = 9; journal = entry 2 (Got 0 0 (pos 5 ∷ [])) ∷ []; end = stop word.Finished [] false }
 
 pub the_sender_ends : EndsAs sender sender.end
 the_sender_ends = record { function = _; begins = record { entry = 0; entry_is = refl; function_is = refl }; comes = (40, refl) }
@@ -197,7 +199,7 @@ not_where_a_message_is_there h = let n = h.rests.decides refl 0 (omega arith) re
 
 -- its journal ends with the last stamp
 abbrev late : CoreView
-late = record sender { journal = entry (2 ^ 60 - 2) (Offer 0 0 (Int (pos 5))) ∷ entry (2 ^ 60 - 1) (Know 0 0) ∷ [] }
+late = record sender { journal = entry (2 ^ 60 - 2) (Offer 0 0 (Int (pos 5 ∷ []))) ∷ entry (2 ^ 60 - 1) (Know 0 0) ∷ [] }
 
 it_ends_late : EndsAs late sender.end
 it_ends_late = record { function = _; begins = record { entry = 0; entry_is = refl; function_is = refl }; comes = (40, refl) }
@@ -258,7 +260,7 @@ their_journals_and_ends = (refl, refl)
 
 -- ---- a core that goes on
 
-pub it_has_one_entry_more : IsLater (record sender { journal = entry 1 (Offer 0 0 (Int (pos 5))) ∷ [] }) sender
+pub it_has_one_entry_more : IsLater (record sender { journal = entry 1 (Offer 0 0 (Int (pos 5 ∷ []))) ∷ [] }) sender
 it_has_one_entry_more = record { code = refl; core = refl; bound = refl; entries = entry 3 (Know 0 0) ∷ []; journal = refl }
 
 pub it_has_not_fewer : IsLater sender (record sender { journal = [] }) → ⊥

@@ -16,7 +16,7 @@ use Rattle.core_ports.specs.Ends.{greatest, last_stamp_of}
 use Rattle.run_laws.specs.Hands.{has_decision, has_front, has_reply, next_reply, has_slot, hand_at, heard_at}
 
 abbrev five : OwnerOffer
-five = owner_offer (Int (pos 5)) 1
+five = owner_offer (Int (pos 5 ∷ [])) 1
 
 abbrev fresh : LinkViews
 fresh = record { terms = record { capacity = 1; requests = false }; offers = []; decisions = []; spare = 1; counts = no_calls }
@@ -28,7 +28,7 @@ abbrev offered : LinkViews
 offered = record fresh { offers = five ∷ []; spare = 0 }
 
 abbrev taken : LinkViews
-taken = record offered { decisions = taken_decision (pos 5) 4 1 ∷ [] }
+taken = record offered { decisions = taken_decision (pos 5 ∷ []) 4 1 ∷ [] }
 
 abbrev known : LinkViews
 known = record taken { offers = known_at 4 five ∷ [] }
@@ -57,10 +57,10 @@ replied = record did { offers = replied_with none_read 4 (known_at 4 read) ∷ [
 
 -- ---- ends
 
-pub messages_are_received : receiving_end taken ∷ receiving_end asking ∷ [] ≡ Decides (taken_decision (pos 5) 4 1 ∷ []) ∷ Absent ∷ []
+pub messages_are_received : receiving_end taken ∷ receiving_end asking ∷ [] ≡ Decides (taken_decision (pos 5 ∷ []) 4 1 ∷ []) ∷ Absent ∷ []
 messages_are_received = refl
 
-pub both_ends : end_at taken Owner ∷ end_at taken Peer ∷ end_at taken Neither ∷ [] ≡ Owns (five ∷ []) ∷ Decides (taken_decision (pos 5) 4 1 ∷ []) ∷ Absent ∷ []
+pub both_ends : end_at taken Owner ∷ end_at taken Peer ∷ end_at taken Neither ∷ [] ≡ Owns (five ∷ []) ∷ Decides (taken_decision (pos 5 ∷ []) 4 1 ∷ []) ∷ Absent ∷ []
 both_ends = refl
 
 pub no_end_without_a_link : end_of Owner (Some offered) ∷ end_of Owner None ∷ [] ≡ Owns (five ∷ []) ∷ Absent ∷ []

@@ -58,6 +58,6 @@ module _ (code : Parts) (valid : HasLinks code) (bound : ℕ) (cores : List Core
       let it = all.each k c w.1 in
       rests_as c.code code (offers_in links) (decisions_in links) c.core k c.end.core e it.code_is it.core_is w.2 (rest k c w.1).rests
 
-  pub quiet : IsQuiet owner peer (after_all_of (start code.capacities many) (merged (journals_of cores entries))) (ends_of cores)
-  quiet = parties_at_rest code.capacities many owner peer (ends code valid bound cores entries links all work) (offers_in links) (decisions_in links) (journals_of cores entries)
+  pub quiet : IsQuiet owner peer (after_all_of (start code.capacities code.widths many) (merged (journals_of cores entries))) (ends_of cores)
+  quiet = parties_at_rest code.capacities code.widths many owner peer (ends code valid bound cores entries links all work) (offers_in links) (decisions_in links) (journals_of cores entries)
       (agree code valid bound cores entries links all work) (ends_of cores) (record { core = core_rests; worker = worker_rests })

@@ -1,6 +1,7 @@
 -- What the laws say of the two cores of the other examples, of which one has sent 5 and the other has received it, and which run they make.
 use Rattle.std.proofs.Common.{◌≡◌, ℕ, zero, suc, ◌<◌, ◌≤◌, List, [], ◌∷◌, Some, true, false, refl, sym, subst, map, inl, arith}
 use Rattle.std.specs.Prelude.{pos, slice_get}
+use Rattle.std.specs.List.{AllByRecursion}
 use Rattle.std.proofs.lemmas.List.Elements.{All-from_recursion}
 use Rattle.ac_base.specs.Log.{Log}
 use Rattle.ac_base.specs.declared.entry.Entry.{Entry}
@@ -11,18 +12,18 @@ use Rattle.ac_base.specs.declared.ends.CoreEnd.{CoreEnd}
 use Rattle.ac_base.specs.declared.ends.EndWord.TheVariants as word
 use Rattle.ac_commands.specs.declared.program.Resolved.{Resolved}
 use Rattle.ac_semantics.proofs.OperationExamples.{two_cores}
-use Rattle.stack_code.specs.Valid.{IsCapacity, IsChannel, HasLinks, IsValid}
+use Rattle.stack_code.specs.Valid.{IsCapacity, IsWidth, IsChannel, HasLinks, IsValid}
 use Rattle.code_meaning.specs.Machine.{Runs}
 use Rattle.ac_translation.specs.Translation.{code_of}
 use Rattle.ac_translation.specs.Same.{IsSame}
 use Rattle.ac_history.specs.Merged.{merged}
 use Rattle.ac_links.specs.AtRest.{has_front}
 use Rattle.ac_history.specs.Files.{deeds}
-use Rattle.ac_history.specs.History.{IsLegal, link_at, start}
+use Rattle.ac_history.specs.History.{IsLegal, has_its_width, link_at, start}
 use Rattle.ac_history.specs.Quiet.{after_all_of, CoreIsQuiet, IsQuiet}
 use Rattle.program_run.specs.declared.ended.Ended.{Ended}
 use Rattle.program_run.specs.Parties.{owner_of, peer_of}
-use Rattle.run_laws.specs.Cores.{CoreView, IsAtRest, IsDone, HasFullClock}
+use Rattle.run_laws.specs.Cores.{CoreView, IsAtRest, IsDone, AreOfTheirWidth, HasFullClock}
 use Rattle.program_run.specs.Run.{IsCoreRun, AreCoreRuns, AreInOrder, IsRunOf, EndsQuiet, history_of, nothing_yet}
 use Rattle.run_laws.specs.Laws.{CoresAreLegal, NoClockIsFull, CoresAreQuiet, CoresAreServed, IsRunOfCores, CoresMakeARun}
 use Rattle.run_laws.specs.Workers.{WorkerHasNoStamp}
@@ -40,10 +41,19 @@ its_channel = record {
   each = refl;
   capacities = All-from_recursion IsCapacity crossing.capacities ((omega arith, omega arith), ((omega arith, omega arith), ((omega arith, omega arith), tt)));
   channels = All-from_recursion (IsChannel crossing) crossing.ends ((omega arith, omega arith, λ e. omega (arith, e)), tt);
+  wide = refl;
+  widths = All-from_recursion IsWidth (1 ∷ []) ((omega arith, omega arith), tt);
 }
 
-pub they_are_legal : CoresAreLegal → IsLegal (start (1 ∷ 16 ∷ 16 ∷ []) 2) (merged (sender.journal ∷ receiver.journal ∷ [] ∷ []))
-they_are_legal law = law crossing 9 its_cores [] (links_with crossed) its_channel both_cores it_agrees_too
+-- the one message has one int
+pub they_have_their_widths : AreOfTheirWidth crossing its_cores
+they_have_their_widths = by_place (λ k c. AllByRecursion (λ (e : Entry). has_its_width (1 ∷ []) e.event ≡ true) c.journal) (refl, (refl, tt)) (refl, tt)
+
+pub not_with_an_int_more : AreOfTheirWidth crossing (record sender { journal = entry 1 (Offer 0 0 (Int (pos 5 ∷ pos 6 ∷ []))) ∷ [] } ∷ []) → ⊥
+not_with_an_int_more h = let no : false ≡ true = (h 0 _ refl).0 in cc
+
+pub they_are_legal : CoresAreLegal → IsLegal (start (1 ∷ 16 ∷ 16 ∷ []) (1 ∷ []) 2) (merged (sender.journal ∷ receiver.journal ∷ [] ∷ []))
+they_are_legal law = law crossing 9 its_cores [] (links_with crossed) its_channel both_cores it_agrees_too they_have_their_widths
 
 -- the last stamp is 3
 pub no_clock_of_them_is_full : NoClockIsFull → HasFullClock receiver (links_with crossed) → ⊥
@@ -53,12 +63,12 @@ pub nor_is_that_of_the_worker : NoClockIsFull → WorkerHasNoStamp [] (links_wit
 nor_is_that_of_the_worker law = (law crossing 9 its_cores [] (links_with crossed) 3 its_channel both_cores it_agrees_too (omega arith, (omega arith, (omega arith, tt))) (omega arith)).1
 
 pub they_are_quiet : CoresAreQuiet → IsQuiet (owner_of crossing.ends) (peer_of crossing.ends 2)
-    (after_all_of (start (1 ∷ 16 ∷ 16 ∷ []) 2) (merged (sender.journal ∷ receiver.journal ∷ [] ∷ []))) (sender.end.core ∷ receiver.end.core ∷ [])
+    (after_all_of (start (1 ∷ 16 ∷ 16 ∷ []) (1 ∷ []) 2) (merged (sender.journal ∷ receiver.journal ∷ [] ∷ []))) (sender.end.core ∷ receiver.end.core ∷ [])
 they_are_quiet law = law crossing 9 its_cores [] (links_with crossed) its_channel both_cores it_agrees_too (by_place (λ k c. IsAtRest c
     (links_with crossed)) it_has_ended so_has_the_receiver) nothing_is_asked
 
 -- they have done nothing, and a disk is as it was
-pub nothing_was_done : CoresAreServed → deeds (start (1 ∷ 16 ∷ 16 ∷ []) 2) (merged (sender.journal ∷ receiver.journal ∷ [] ∷ [])) ≡ []
+pub nothing_was_done : CoresAreServed → deeds (start (1 ∷ 16 ∷ 16 ∷ []) (1 ∷ []) 2) (merged (sender.journal ∷ receiver.journal ∷ [] ∷ [])) ≡ []
 nothing_was_done law = (law crossing 9 its_cores [] (links_with crossed) its_channel both_cores it_agrees_too).0
 
 -- ---- their run
@@ -78,7 +88,7 @@ their_run = record {
 pub they_stand_in_order : AreInOrder their_run.journals
 they_stand_in_order = (((omega arith, tt), (tt, tt)), ((tt, tt), (tt, tt)))
 
-pub not_the_other_way_round : AreInOrder (log (entry 3 (Know 0 0) ∷ entry 1 (Offer 0 0 (Int (pos 5))) ∷ []) ∷ []) → ⊥
+pub not_the_other_way_round : AreInOrder (log (entry 3 (Know 0 0) ∷ entry 1 (Offer 0 0 (Int (pos 5 ∷ []))) ∷ []) ∷ []) → ⊥
 not_the_other_way_round h = let le = h.0.0.0 in omega (arith, le)
 
 pub it_is_made : IsRunOfCores 9 [] its_cores [] their_run
@@ -119,7 +129,7 @@ pub in_the_order_of_stamps : map (λ (e : Stamped). e.entry.stamp) their_history
 in_the_order_of_stamps = refl
 
 pub before_any_entry : nothing_yet two_cores
-    ≡ record { capacities = 1 ∷ 16 ∷ 16 ∷ []; channels = 1; cores = 2; links = [] ∷ [] ∷ [] ∷ []; lasts = 0 ∷ 0 ∷ 0 ∷ []; stamp = 0; party = 0 }
+    ≡ record { capacities = 1 ∷ 16 ∷ 16 ∷ []; widths = 1 ∷ []; channels = 1; cores = 2; links = [] ∷ [] ∷ [] ∷ []; lasts = 0 ∷ 0 ∷ 0 ∷ []; stamp = 0; party = 0 }
 before_any_entry = refl
 
 abbrev Quiet : ℕ → CoreEnd → Type 0

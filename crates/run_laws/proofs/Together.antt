@@ -1,14 +1,17 @@
 -- The cores of a code and the worker, which agree with their links, are the parties of one legal history.
 use Rattle.std.proofs.Common.{◌≡◌, ◌⊎◌, ℕ, zero, suc, ◌-◌, ◌<◌, ◌≤◌, List, [], ◌∷◌, Some, refl, sym, ap, ◌∙◌, subst, inl, inr, arith, length}
 use Rattle.std.proofs.Common.{get_or, map}
-use Rattle.std.specs.Prelude.{◌≢◌, slice_get, nat_le}
+use Rattle.std.specs.Prelude.{◌≢◌, ◌==◌, slice_get, nat_le, nat_lt, Bool, true, false}
 use Rattle.std.specs.List.{AllByRecursion}
 use Rattle.std.proofs.Math.Path.{fun_ext}
-use Rattle.std.proofs.lemmas.Bool.Decides.{eqb_tells, leb_tells}
+use Rattle.std.proofs.lemmas.Bool.{and_parts}
+use Rattle.std.proofs.lemmas.Bool.Decides.{eqb_tells, leb_tells, nat_tests}
 use Rattle.std.proofs.lemmas.List.{length-append, length-map}
 use Rattle.std.proofs.lemmas.List.Elements.{All-get_or}
 use Rattle.std.proofs.lemmas.Option.{slice_get_cases}
 use Rattle.ac_base.specs.declared.entry.Entry.{Entry}
+use Rattle.ac_base.specs.declared.entry.Event.{Event}
+use Rattle.ac_base.specs.declared.entry.Event.TheVariants.{Offer}
 use Rattle.ac_base.specs.declared.entry.Stamped.{Stamped}
 use Rattle.stack_code.specs.Parts.{Parts}
 use Rattle.stack_code.specs.Valid.{HasLinks}
@@ -17,21 +20,24 @@ use Rattle.ac_links.specs.Order.{of_party}
 use Rattle.ac_links.specs.Views.{ViewsAgree}
 use Rattle.ac_links.specs.Party.{LinkEnd, EndRuns, PartyAgrees}
 use Rattle.ac_links.specs.Party.LinkEnd.{Absent}
-use Rattle.ac_history.specs.Merged.{merged}
-use Rattle.ac_history.specs.History.{IsLegal, start}
+use Rattle.ac_links.specs.Link.{link_of}
+use Rattle.ac_history.specs.Merged.{all_from, merged}
+use Rattle.ac_history.specs.Agreement.{AllMade, AllOfTheirWidth}
+use Rattle.ac_history.specs.History.{IsLegal, has_its_width, makes, may_make, start}
 use Rattle.ac_history.specs.History as history
 use Rattle.ac_history.specs.Files.{Deed, IsServed, contents, deeds, deeds_by}
 use Rattle.ac_history.specs.Network.{IsPeer, NetworkAgrees, worker_entries}
 use Rattle.ac_history.specs.Parties.{PartiesAgree, pair_of}
 use Rattle.ac_history.proofs.Parties.{parties_agree}
 use Rattle.ac_history.specs.Working.{WorkerDisk}
-use Rattle.ac_history.proofs.Runtime.{legal_network, deeds_network}
+use Rattle.ac_history.proofs.Journals.{each_journal, from_journals}
+use Rattle.ac_history.proofs.Runtime.{legal_network, deeds_network, made}
 use Rattle.ac_links.specs.Party.{party_noted}
 use Rattle.core_channels.specs.LinkViews.{LinkViews, no_link, IsLink}
 use Rattle.file_ops.specs.Agreement.{worker_ends}
 use Rattle.program_run.specs.Parties.{owner_of, peer_of}
 use Rattle.run_laws.specs.Network.{terms_in, offers_in, decisions_in, request_in, ends_in}
-use Rattle.run_laws.specs.Cores.{CoreView, AreCoresOf, journals_of}
+use Rattle.run_laws.specs.Cores.{CoreView, AreCoresOf, AreOfTheirWidth, journals_of}
 use Rattle.run_laws.specs.Workers.{WorkerAgreesWith}
 use Rattle.run_laws.proofs.Parties.{party_ends, core_ends, owner_has, peer_has, other_has, none_has, worker_has, nobody_has, apart, owner_is_core, kind}
 
@@ -68,6 +74,19 @@ by_order m n le ne = elim (leb_tells n m) [
   | inl q ↦ absurd (ne (let a = q.1 in omega arith))
   | inr q ↦ q.1
 ]
+
+-- what a party makes that is no core is no offer, and has no message of a width
+by_another : (widths : List ℕ) (core worker requests : Bool) (v : Event) → core ≡ false → makes core worker requests v ≡ true → has_its_width widths v ≡ true
+by_another widths core worker requests (Offer l n payload) none h = let no : true ≡ false = sym h ∙ none in absurd (cc)
+by_another widths core worker requests v none h = refl
+
+no_core : (many : ℕ) → nat_lt many many ≡ false
+no_core many = grind (arith, nat_tests)
+
+-- what a core's journal says of messages, its entries say in the history
+of_core : (widths : List ℕ) (p : ℕ) (j : List Entry) → AllByRecursion (λ e. has_its_width widths e.event ≡ true) j → AllByRecursion (λ e. has_its_width widths e.entry.event ≡ true) (of_party p j)
+of_core widths p [] a = tt
+of_core widths p (e ∷ es) a = (a.0, of_core widths p es a.1)
 
 -- ---- the terms matter only where there is an end
 
@@ -169,17 +188,56 @@ module _ (code : Parts) (valid : HasLinks code) (bound : ℕ) (cores : List Core
   network : NetworkAgrees code.capacities many (λ p. party_noted (ends p)) (pair_of code.capacities many (owner_of code.ends) (peer_of code.ends many) (offers_in links) (decisions_in links)) js
   network = parties_agree code.capacities many (owner_of code.ends) (peer_of code.ends many) ends (offers_in links) (decisions_in links) js agree
 
+  -- ---- messages have their widths
+
+  abbrev Wide : Stamped → Type 0
+  Wide e = has_its_width code.widths e.entry.event ≡ true
+
+  its_makers : AllMade (length code.capacities - many) many (all_from 0 js)
+  its_makers = made code.capacities code.widths many (λ p. party_noted (ends p)) (pair_of code.capacities many (owner_of code.ends) (peer_of code.ends many) (offers_in links) (decisions_in links)) js
+      network
+
+  -- the worker offers nothing
+  worker_wide : (j : List Entry) → AllMade (length code.capacities - many) many (of_party many j) → AllByRecursion Wide (of_party many j)
+  worker_wide [] a = tt
+  worker_wide (e ∷ es) a = (
+    by_another code.widths (nat_lt many many) (many == many) (nat_le (length code.capacities - many) (link_of e.event)) e.event (no_core many)
+        (and_parts (makes (nat_lt many many) (many == many) (nat_le (length code.capacities - many) (link_of e.event)) e.event) _ a.0).0,
+    worker_wide es a.1,
+  )
+
+  wide_journal : AreOfTheirWidth code cores → (p : ℕ) → AllByRecursion Wide (of_party p (get_or js p []))
+  wide_journal wide p = elim (leb_tells many p) [
+    | inl q ↦ elim (eqb_tells many p) [
+      | inl e ↦ subst (λ n. AllByRecursion Wide (of_party n (get_or js n []))) e.1
+          (worker_wide (get_or js many []) (each_journal (λ s. may_make (length code.capacities - many) many s ≡ true) 0 many many (omega arith) js its_makers))
+      | inr e ↦
+          let none : get_or js p [] ≡ [] = no_journal entries cores p (let n = all.count in let lt = by_order many p q.1 e.1 in omega arith) in
+          subst (λ j. AllByRecursion Wide (of_party p j)) (sym none) tt
+    ]
+    | inr q ↦ (let lt = q.1 in elim (slice_get_cases cores p).1 [
+      | inl r ↦ subst (λ j. AllByRecursion Wide (of_party p j)) (sym (journal_at entries cores p r.0 r.2)) (of_core code.widths p r.0.journal (wide p r.0 r.2))
+      | inr r ↦ absurd (let n = all.count in let le = r.0 in omega arith)
+    ])
+  ]
+
+  all_wide : AreOfTheirWidth code cores → AllOfTheirWidth code.widths (all_from 0 js)
+  all_wide wide = from_journals Wide 0 js (λ k p e. let same : k ≡ p = omega (arith, e) in
+      subst (λ n. AllByRecursion Wide (of_party p (get_or js n []))) (sym same) (wide_journal wide p))
+
   -- their journals, merged by the stamps of their entries, are legal
-  pub legal : IsLegal (start code.capacities many) (merged js)
-  legal = legal_network code.capacities many (λ p. party_noted (ends p)) (pair_of code.capacities many (owner_of code.ends) (peer_of code.ends many) (offers_in links) (decisions_in links)) js network
+  pub legal : AreOfTheirWidth code cores → IsLegal (start code.capacities code.widths many) (merged js)
+  legal wide = legal_network code.capacities code.widths many (λ p. party_noted (ends p))
+      (pair_of code.capacities many (owner_of code.ends) (peer_of code.ends many) (offers_in links) (decisions_in links)) js network (all_wide wide)
 
   -- ---- what was done
 
   abbrev its_deeds : List Deed
-  its_deeds = deeds (start code.capacities many) (merged js)
+  its_deeds = deeds (start code.capacities code.widths many) (merged js)
 
   pub did : its_deeds ≡ deeds_by (request_in links) (of_party many entries)
-  did = deeds_network code.capacities many (λ p. party_noted (ends p)) (pair_of code.capacities many (owner_of code.ends) (peer_of code.ends many) (offers_in links) (decisions_in links)) js network
+  did = deeds_network code.capacities code.widths many (λ p. party_noted (ends p)) (pair_of code.capacities many (owner_of code.ends) (peer_of code.ends many) (offers_in links)
+      (decisions_in links)) js network
       ∙ ap (λ j. deeds_by (request_in links) (of_party many j)) (worker_journal entries cores many all.count)
 
   pub served : (files left : List (List ℕ)) → WorkerDisk (terms_in links) many (worker_ends channels many links) entries (request_in links) files left

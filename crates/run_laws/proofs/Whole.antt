@@ -1,6 +1,6 @@
 -- Cores of a code and a worker that are done make one run of each program whose code it is.
 use Rattle.std.proofs.Common.{◌≡◌, ℕ, suc, ◌+◌, ◌*◌, ◌<◌, ◌≤◌, List, [], ◌∷◌, Option, Some, refl, sym, ap, ◌∙◌, subst, inl, inr, arith, length, map}
-use Rattle.std.specs.Prelude.{◌^◌, slice_get}
+use Rattle.std.specs.Prelude.{◌^◌, slice_get, true}
 use Rattle.std.specs.List.{AllByRecursion}
 use Rattle.std.proofs.Math.Nat.{mul_left_comm}
 use Rattle.std.proofs.lemmas.Nat.{mul-le}
@@ -20,7 +20,7 @@ use Rattle.code_meaning.specs.Machine.{FlatEnd, Runs}
 use Rattle.ac_translation.specs.Translation.{code_of}
 use Rattle.ac_translation.specs.Same.{IsSame}
 use Rattle.ac_history.specs.Merged.{merged, entries_of}
-use Rattle.ac_history.specs.History.{IsLegal, start}
+use Rattle.ac_history.specs.History.{IsLegal, has_its_width, start}
 use Rattle.ac_history.specs.Quiet.{after_all_of, IsQuiet}
 use Rattle.journal_bounds.specs.Actions.{most_actions}
 use Rattle.journal_bounds.specs.Laws.{AllReplay}
@@ -29,6 +29,7 @@ use Rattle.journal_bounds.proofs.Stamps.{stamps_small}
 use Rattle.core_channels.specs.LinkViews.{LinkViews}
 use Rattle.program_run.specs.declared.ended.Ended.{Ended}
 use Rattle.program_run.specs.Parties.{owner_of, peer_of}
+use Rattle.program_run.proofs.Widths.{runs_are_wide}
 use Rattle.run_laws.specs.Cores.{CoreView, EndsAs, IsAtRest, IsDone, AreCoresOf, journals_of, ends_of}
 use Rattle.run_laws.specs.Workers.{WorkerAgreesWith, WorkerRests, WorkerIsDone}
 use Rattle.program_run.specs.Run.{IsCoreRun, AreCoreRuns, IsRunOf}
@@ -67,8 +68,8 @@ module _ (program : Resolved) (bound : ℕ) (entries : List Entry) where
     all_runs (suc from) cores journals (let t : map entries_of journals ≡ journals_of cores entries = cc in t) (λ n k x is there. runs n (suc k) x (omega arith) there),
   )
 
-abbrev Quiet : List ChannelEnds → List ℕ → ℕ → List (List Entry) → List CoreEnd → Type 0
-Quiet channels capacities many js ends = IsQuiet (owner_of channels) (peer_of channels many) (after_all_of (start capacities many) (merged js)) ends
+abbrev Quiet : List ChannelEnds → List ℕ → List ℕ → ℕ → List (List Entry) → List CoreEnd → Type 0
+Quiet channels capacities widths many js ends = IsQuiet (owner_of channels) (peer_of channels many) (after_all_of (start capacities widths many) (merged js)) ends
 
 module _ (program : Resolved) (code : Parts) (bound : ℕ) (files : List (List ℕ)) (cores : List CoreView) (entries : List Entry) (links : List LinkViews) (valid : IsValid code)
     (is_code : code ≡ code_of program) (is_same : IsSame code program) (few : length code.entries * bound ≤ 4000000) (all : AreCoresOf code bound cores links)
@@ -97,11 +98,16 @@ module _ (program : Resolved) (code : Parts) (bound : ℕ) (files : List (List �
     | inr q ↦ absurd (let n = all.count in let le = q.0 in omega arith)
   ]
 
-  its_legal : IsLegal (start code.capacities many) (merged (journals_of cores entries))
-  its_legal = legal code valid.lists.links bound cores entries links all work
+  -- a core that is done has come to an end, and so have its messages the widths of their channels
+  wide_by : (k : ℕ) (c : CoreView) → slice_get cores k ≡ Some c → IsDone c links → AllByRecursion (λ e. has_its_width code.widths e.event ≡ true) c.journal
+  wide_by k c is (inl r) = runs_are_wide code valid k bound c.end.instructions c.journal c.end.core (of_number k c c.end is r.comes)
+  wide_by k c is (inr f) = runs_are_wide code valid k bound f.end.instructions c.journal f.end.core (of_number k c f.end is f.comes)
+
+  its_legal : IsLegal (start code.capacities code.widths many) (merged (journals_of cores entries))
+  its_legal = legal code valid.lists.links bound cores entries links all work (λ k c is. wide_by k c is (done k c is))
 
   small : AllByRecursion (λ e. e.entry.stamp ≤ most) (merged (journals_of cores entries))
-  small = stamps_small program code.capacities many bound (journals_of cores entries) (how_many entries cores ∙ ap suc all.count) all_replay its_legal
+  small = stamps_small program code.capacities code.widths many bound (journals_of cores entries) (how_many entries cores ∙ ap suc all.count) all_replay its_legal
 
   few_stamps : suc most < 2 ^ 60
   few_stamps = small_bound many (most_actions program) bound (length code.instrs)
@@ -121,7 +127,7 @@ module _ (program : Resolved) (code : Parts) (bound : ℕ) (files : List (List �
   worker_rests : WorkerRests code links
   worker_rests = worker_rests_by worker
 
-  its_quiet : IsQuiet (owner_of code.ends) (peer_of code.ends many) (after_all_of (start code.capacities many) (merged (journals_of cores entries))) (ends_of cores)
+  its_quiet : IsQuiet (owner_of code.ends) (peer_of code.ends many) (after_all_of (start code.capacities code.widths many) (merged (journals_of cores entries))) (ends_of cores)
   its_quiet = quiet code valid.lists.links bound cores entries links all work rests worker_rests
 
   as_many : many ≡ length program.cores
@@ -148,11 +154,11 @@ module _ (program : Resolved) (code : Parts) (bound : ℕ) (files : List (List �
     every_core = ap length made.ends ∙ length-map cores (λ (c : CoreView). c.end) ∙ all.count ∙ as_many;
     cores = subst (AreCoreRuns program bound 0 ended.journals) (sym made.ends) (all_runs program bound entries 0 cores ended.journals made.journals one_core);
     in_order = in_order code bound cores entries links all work ended.journals made.journals;
-    legal = subst (λ (x : Parts). IsLegal (start x.capacities (length program.cores)) (merged (map entries_of ended.journals))) is_code
-        (subst (λ n. IsLegal (start code.capacities n) (merged (map entries_of ended.journals))) as_many
-        (subst (λ h. IsLegal (start code.capacities many) (merged h)) (sym made.journals) its_legal));
-    quiet = subst (λ (x : Parts). Quiet x.ends x.capacities (length program.cores) (map entries_of ended.journals) (map (λ (end : MachineEnd). end.core) ended.cores)) is_code
-        (subst (λ n. Quiet code.ends code.capacities n (map entries_of ended.journals) (map (λ (end : MachineEnd). end.core) ended.cores)) as_many
-        (subst (λ js. Quiet code.ends code.capacities many js (map (λ (end : MachineEnd). end.core) ended.cores)) (sym made.journals)
-        (subst (Quiet code.ends code.capacities many (journals_of cores entries)) (sym (ap (map (λ (end : MachineEnd). end.core)) made.ends ∙ same_ends cores)) its_quiet)));
+    legal = subst (λ (x : Parts). IsLegal (start x.capacities x.widths (length program.cores)) (merged (map entries_of ended.journals))) is_code
+        (subst (λ n. IsLegal (start code.capacities code.widths n) (merged (map entries_of ended.journals))) as_many
+        (subst (λ h. IsLegal (start code.capacities code.widths many) (merged h)) (sym made.journals) its_legal));
+    quiet = subst (λ (x : Parts). Quiet x.ends x.capacities x.widths (length program.cores) (map entries_of ended.journals) (map (λ (end : MachineEnd). end.core) ended.cores)) is_code
+        (subst (λ n. Quiet code.ends code.capacities code.widths n (map entries_of ended.journals) (map (λ (end : MachineEnd). end.core) ended.cores)) as_many
+        (subst (λ js. Quiet code.ends code.capacities code.widths many js (map (λ (end : MachineEnd). end.core) ended.cores)) (sym made.journals)
+        (subst (Quiet code.ends code.capacities code.widths many (journals_of cores entries)) (sym (ap (map (λ (end : MachineEnd). end.core)) made.ends ∙ same_ends cores)) its_quiet)));
   }

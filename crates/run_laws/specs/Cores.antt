@@ -1,5 +1,6 @@
 -- A core as it is seen from outside, when it agrees with the links of its run, and when it rests on them.
-use Rattle.std.specs.Prelude.{◌≡◌, ℕ, ◌<◌, List, [], ◌∷◌, ◌++◌, length, map, slice_get, Some, None, ◌⊎◌}
+use Rattle.std.specs.Prelude.{◌≡◌, ℕ, ◌<◌, List, [], ◌∷◌, ◌++◌, length, map, slice_get, Some, None, true, ◌⊎◌}
+use Rattle.std.specs.List.{AllByRecursion}
 use Rattle.ac_base.specs.declared.entry.Entry.{Entry}
 use Rattle.ac_base.specs.declared.ends.CoreEnd.{CoreEnd}
 use Rattle.ac_base.specs.declared.ends.MachineEnd.{MachineEnd}
@@ -8,6 +9,7 @@ use Rattle.stack_code.specs.Parts.{Parts}
 use Rattle.code_meaning.specs.Machine.{Runs}
 use Rattle.ac_links.specs.Journals.{last_of}
 use Rattle.ac_links.specs.Party.{PartyAgrees}
+use Rattle.ac_history.specs.History.{has_its_width}
 use Rattle.ac_history.specs.Quiet.{CoreRests}
 use Rattle.core_channels.specs.LinkViews.{LinkViews}
 use Rattle.program_run.specs.Parties.{owner_of, peer_of}
@@ -64,6 +66,11 @@ pub record AreCoresOf (code : Parts) (bound : ℕ) (cores : List CoreView) (link
   pub each : (k : ℕ) (c : CoreView) → slice_get cores k ≡ Some c → IsCoreOf code bound k c
   pub agree : (k : ℕ) (c : CoreView) → slice_get cores k ≡ Some c → AgreesWith c links
   pub linked : AreLinksOf code links
+
+-- each message that one of them offers on a channel has as many ints as the channel's width
+abbrev pub AreOfTheirWidth : Parts → List CoreView → Type 0
+AreOfTheirWidth code cores = (k : ℕ) (c : CoreView) → slice_get cores k ≡ Some c
+    → AllByRecursion (λ e. has_its_width code.widths e.event ≡ true) c.journal
 
 -- their journals, and that of the worker
 abbrev pub journals_of : List CoreView → List Entry → List (List Entry)

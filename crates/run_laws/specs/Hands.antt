@@ -1,6 +1,6 @@
 -- What is at hand for a core on a link of which both views are seen, and which stamps of the other side it has heard of.
 use Rattle.std.specs.Prelude.{ℕ, length, Option, Bool, false, ◌&&◌, nat_lt, is_some, slice_get}
-use Rattle.ac_links.specs.Views.{Response, OwnerOffer, PeerDecision, owner_lead}
+use Rattle.ac_links.specs.Views.{Response, PeerDecision, owner_lead}
 use Rattle.ac_links.specs.Replies.{waiting_replies}
 use Rattle.core_channels.specs.LinkViews.{LinkViews}
 use Rattle.core_ports.specs.AtHand.{AtHand}

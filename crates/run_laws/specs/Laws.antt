@@ -19,14 +19,15 @@ use Rattle.program_run.specs.Parties.{owner_of, peer_of}
 use Rattle.run_laws.specs.Network.{terms_in, request_in}
 use Rattle.program_run.specs.declared.ended.Ended.{Ended}
 use Rattle.program_run.specs.Run.{IsRunOf}
-use Rattle.run_laws.specs.Cores.{CoreView, IsAtRest, HasFullClock, IsDone, AreCoresOf, journals_of, ends_of}
+use Rattle.run_laws.specs.Cores.{CoreView, IsAtRest, HasFullClock, IsDone, AreCoresOf, AreOfTheirWidth, journals_of, ends_of}
 use Rattle.run_laws.specs.Workers.{WorkerAgreesWith, WorkerRests, WorkerHasNoStamp, WorkerIsDone}
 
--- the journals of cores and of a worker that agree with their links, merged by the stamps of their entries, are a legal history
+-- the journals of cores and of a worker that agree with their links, merged by the stamps of their entries, are a legal history, where each
+-- message that a core offers has the width of its channel
 abbrev pub CoresAreLegal : Type 0
 CoresAreLegal = (code : Parts) (bound : ℕ) (cores : List CoreView) (entries : List Entry) (links : List LinkViews) → HasLinks code →
-    AreCoresOf code bound cores links → WorkerAgreesWith code entries links
-    → IsLegal (start code.capacities (length code.entries)) (merged (journals_of cores entries))
+    AreCoresOf code bound cores links → WorkerAgreesWith code entries links → AreOfTheirWidth code cores
+    → IsLegal (start code.capacities code.widths (length code.entries)) (merged (journals_of cores entries))
 
 -- and where no stamp of it is great, neither a core nor the worker has used all stamps
 abbrev pub NoClockIsFull : Type 0
@@ -41,20 +42,20 @@ CoresAreQuiet = (code : Parts) (bound : ℕ) (cores : List CoreView) (entries : 
     AreCoresOf code bound cores links → WorkerAgreesWith code entries links
     → ((k : ℕ) (c : CoreView) → slice_get cores k ≡ Some c → IsAtRest c links) → WorkerRests code links
     → IsQuiet (owner_of code.ends) (peer_of code.ends (length code.entries))
-    (after_all_of (start code.capacities (length code.entries)) (merged (journals_of cores entries))) (ends_of cores)
+    (after_all_of (start code.capacities code.widths (length code.entries)) (merged (journals_of cores entries))) (ends_of cores)
 
 -- what was done in the history is what the worker's journal says, of the requests that stand on the links; and where a disk has served that
 -- journal, it has served the history, and holds its contents
 abbrev pub CoresAreServed : Type 0
 CoresAreServed = (code : Parts) (bound : ℕ) (cores : List CoreView) (entries : List Entry) (links : List LinkViews) → HasLinks code →
     AreCoresOf code bound cores links → WorkerAgreesWith code entries links
-    → (deeds (start code.capacities (length code.entries)) (merged (journals_of cores entries))
+    → (deeds (start code.capacities code.widths (length code.entries)) (merged (journals_of cores entries))
     ≡ deeds_by (request_in links) (of_party (length code.entries) entries))
     × ((files left : List (List ℕ))
     → WorkerDisk (terms_in links) (length code.entries) (worker_ends (length code.ends) (length code.entries) links) entries
     (request_in links) files left
-    → IsServed files (deeds (start code.capacities (length code.entries)) (merged (journals_of cores entries)))
-    × (left ≡ contents files (deeds (start code.capacities (length code.entries)) (merged (journals_of cores entries)))))
+    → IsServed files (deeds (start code.capacities code.widths (length code.entries)) (merged (journals_of cores entries)))
+    × (left ≡ contents files (deeds (start code.capacities code.widths (length code.entries)) (merged (journals_of cores entries)))))
 
 -- ---- the run of a program
 

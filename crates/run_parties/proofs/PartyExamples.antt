@@ -1,5 +1,5 @@
 -- What is told of a core with its ports and of a worker with one core, and what of it stays when a free slot is lost.
-use Rattle.std.proofs.Common.{◌≡◌, ◌-◌, ℕ, ℤ, zero, suc, [], ◌∷◌, Some, None, Bool, true, false, cond, refl, sym, ap, ◌∙◌, inl, inr, arith}
+use Rattle.std.proofs.Common.{◌≡◌, ◌-◌, ℕ, ℤ, zero, suc, List, [], ◌∷◌, Some, None, Bool, true, false, cond, refl, sym, ap, ◌∙◌, inl, inr, arith}
 use Rattle.std.specs.Prelude.{◌==◌, nat_le, slice_get}
 use Rattle.std.proofs.lemmas.Bool.Decides.{nat_tests}
 use Rattle.ac_base.specs.Stamps.{stamp_after}
@@ -71,10 +71,10 @@ nothing_of_a_core_that_is_not_there = (refl, refl)
 -- ---- a core that sends on channel 0
 
 module _ (d : Driven) (a : AskingAt) where
-  abbrev held : Sending ℤ → Held
+  abbrev held : Sending (List ℤ) → Held
   held end = record { sends = record { link = 0; end = end; polls = 0; tries = 0 } ∷ []; recvs = []; ask = record a { link = 9 }; full = false }
 
-  abbrev seat : Sending ℤ → CoreSeat
+  abbrev seat : Sending (List ℤ) → CoreSeat
   seat end = record { driven = d; ports = held end }
 
   pub from_its_fields : seat_of (record { driver = d; ports = held new_one }) ≡ seat new_one
@@ -87,7 +87,7 @@ module _ (d : Driven) (a : AskingAt) where
   all_stays l = stays_on (on_link (held new_one) l)
 
   -- what is told of link l, where it is or is not that of the channel
-  abbrev shown : Sending ℤ → ℕ → Bool → OnLink
+  abbrev shown : Sending (List ℤ) → ℕ → Bool → OnLink
   shown end l here = told_by (cond (9 == l) (OfAsk (record a { link = 9 })) (or_sent (cond here (Some (record { link = 0; end = end; polls = 0; tries = 0 })) None) None))
 
   -- where there is room a slot is not lost

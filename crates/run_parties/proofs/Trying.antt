@@ -1,7 +1,6 @@
 -- A party in its part of a round: each call without an entry is one more in vain, and one with an entry begins the count anew. So as many in a row
 -- have looked as often at each link.
-use Rattle.std.proofs.Common.{◌≡◌, ◌≤◌, ◌<◌, ◌+◌, ℕ, Bool, true, false, refl, sym, ap, ◌∙◌, subst, inr, arith, length, List}
-use Rattle.std.specs.Prelude.{slice_get}
+use Rattle.std.proofs.Common.{◌≡◌, ◌≤◌, ◌<◌, ◌+◌, ℕ, Bool, true, false, sym, ap, ◌∙◌, subst, inr, arith, List}
 use Rattle.std.proofs.lemmas.Option.{slice_get_within}
 use Rattle.ac_base.specs.declared.entry.Entry.{Entry}
 use Rattle.ac_links.specs.Journals.{last_of}

@@ -1,5 +1,5 @@
 -- When a core that sends on channel 0, and a worker with the ends of one core, have done their part of a round.
-use Rattle.std.proofs.Common.{◌≡◌, ℕ, zero, suc, [], ◌∷◌, Option, Some, None, Bool, true, false, refl, sym, ap, subst, inl, inr, arith, cond}
+use Rattle.std.proofs.Common.{◌≡◌, ℕ, zero, suc, [], ◌∷◌, Option, Some, None, true, false, refl, ap, subst, inl, inr, arith, cond}
 use Rattle.std.specs.Prelude.{slice_get}
 use Rattle.channel_ends.proofs.Examples.{new_one}
 use Rattle.completion_word.specs.declared.answers.Look.{Look}
@@ -12,9 +12,8 @@ use Rattle.core_ports.specs.Sides.{side_of}
 use Rattle.core_state.specs.Moves.{On, Over}
 use Rattle.end_ports.specs.Held.{AskingAt}
 use Rattle.end_ports.proofs.Placing.{not_equal}
-use Rattle.file_worker.specs.Ends.{CoreEnds, AtDesk, AtEach, AtOne}
+use Rattle.file_worker.specs.Ends.{CoreEnds, AtDesk, AtEach}
 use Rattle.file_worker.specs.Rounds.{LacksStamp}
-use Rattle.file_worker.specs.Workers.{desk_of}
 use Rattle.file_worker.proofs.EndLists.{same_some}
 use Rattle.run_laws.proofs.CoreExamples.{crossing}
 use Rattle.run_parties.specs.declared.run_party.RunParty.{RunParty}

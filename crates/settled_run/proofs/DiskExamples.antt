@@ -31,7 +31,7 @@ use Rattle.settled_run.proofs.SettledExamples.{ports, worker, they_are_settled, 
 
 -- ---- what was taken out
 
-pub what_was_offered : (payloads_at (Owns (five ∷ [])) ≡ Int (pos 5) ∷ []) × (payloads_at Absent ≡ [])
+pub what_was_offered : (payloads_at (Owns (five ∷ [])) ≡ Int (pos 5 ∷ []) ∷ []) × (payloads_at Absent ≡ [])
 what_was_offered = (refl, refl)
 
 abbrev none_popped : ℕ → List Payload

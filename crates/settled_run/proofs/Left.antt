@@ -76,10 +76,10 @@ module _ (code : Parts) (valid : HasLinks code) (ports : ℕ → PortsTold) (wor
     as_many : length code.entries ≡ length program.cores
     as_many = ap (λ (x : Parts). length x.entries) is_code ∙ length-map program.cores (λ (core : Core). core.entry)
 
-    same_deeds : deeds (start code.capacities (length code.entries)) (merged (journals_of cores entries)) ≡ deeds_of program ended.journals
-    same_deeds = ap (λ js. deeds (start code.capacities (length code.entries)) (merged js)) (sym made.journals)
-        ∙ ap (λ n. deeds (start code.capacities n) (history_of ended.journals)) as_many
-        ∙ ap (λ (x : Parts). deeds (start x.capacities (length program.cores)) (history_of ended.journals)) is_code
+    same_deeds : deeds (start code.capacities code.widths (length code.entries)) (merged (journals_of cores entries)) ≡ deeds_of program ended.journals
+    same_deeds = ap (λ js. deeds (start code.capacities code.widths (length code.entries)) (merged js)) (sym made.journals)
+        ∙ ap (λ n. deeds (start code.capacities code.widths n) (history_of ended.journals)) as_many
+        ∙ ap (λ (x : Parts). deeds (start x.capacities x.widths (length program.cores)) (history_of ended.journals)) is_code
 
     did_all : deeds_of program ended.journals ≡ deeds_by got (of_party (length code.entries) entries)
     did_all = sym same_deeds ∙ did code valid bound cores entries its_links (are_cores code valid ports worker settled bound cores all)

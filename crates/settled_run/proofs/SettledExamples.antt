@@ -65,22 +65,22 @@ worker (suc zero) = Decides []
 worker (suc (suc zero)) = Decides []
 worker (suc (suc (suc l))) = Absent
 
-pub whose_ends : (owner_end crossing ports 0 ≡ Owns (known_at 2 five ∷ [])) × (peer_end crossing ports worker 0 ≡ Decides (taken_decision (pos 5) 2 1 ∷ []))
+pub whose_ends : (owner_end crossing ports 0 ≡ Owns (known_at 2 five ∷ [])) × (peer_end crossing ports worker 0 ≡ Decides (taken_decision (pos 5 ∷ []) 2 1 ∷ []))
     × (owner_end crossing ports 2 ≡ Owns []) × (peer_end crossing ports worker 2 ≡ Decides [])
 whose_ends = (refl, refl, refl, refl)
 
-pub what_the_others_have : (other_ends crossing ports worker 0 0 ≡ Decides (taken_decision (pos 5) 2 1 ∷ [])) × (other_ends crossing ports worker 1 0 ≡ Owns (known_at 2 five ∷ []))
+pub what_the_others_have : (other_ends crossing ports worker 0 0 ≡ Decides (taken_decision (pos 5 ∷ []) 2 1 ∷ [])) × (other_ends crossing ports worker 1 0 ≡ Owns (known_at 2 five ∷ []))
     × (other_ends crossing ports worker 0 2 ≡ Absent)
 what_the_others_have = (refl, refl, refl)
 
 pub which_end_faces_which : (facing Owner (Owns []) (Decides []) ≡ Decides []) × (facing Peer (Owns []) (Decides []) ≡ Owns []) × (facing Neither (Owns []) (Decides []) ≡ Absent)
 which_end_faces_which = (refl, refl, refl)
 
-pub what_is_decided : (decisions_of (Decides (taken_decision (pos 5) 2 1 ∷ [])) ≡ taken_decision (pos 5) 2 1 ∷ []) × (decisions_of (Owns (five ∷ [])) ≡ []) × (decisions_of Absent ≡ [])
+pub what_is_decided : (decisions_of (Decides (taken_decision (pos 5 ∷ []) 2 1 ∷ [])) ≡ taken_decision (pos 5 ∷ []) 2 1 ∷ []) × (decisions_of (Owns (five ∷ [])) ≡ []) × (decisions_of Absent ≡ [])
 what_is_decided = (refl, refl, refl)
 
 -- the offer has stamp 1, and its withdrawal here stamp 4
-pub the_greatest_stamps : (greatest_at (Owns (record five { withdrawn = Some 4 } ∷ five ∷ [])) ≡ 4) × (greatest_at (Decides (taken_decision (pos 5) 2 1 ∷ [])) ≡ 2) × (greatest_at Absent ≡ 0)
+pub the_greatest_stamps : (greatest_at (Owns (record five { withdrawn = Some 4 } ∷ five ∷ [])) ≡ 4) × (greatest_at (Decides (taken_decision (pos 5 ∷ []) 2 1 ∷ [])) ≡ 2) × (greatest_at Absent ≡ 0)
 the_greatest_stamps = (refl, refl, refl)
 
 -- ---- their ends are settled
@@ -88,23 +88,23 @@ the_greatest_stamps = (refl, refl, refl)
 abbrev messages : Terms
 messages = record { capacity = 1; requests = false }
 
-pub its_channel_is_settled : IsSettledLink messages (Owns (known_at 2 five ∷ [])) (Decides (taken_decision (pos 5) 2 1 ∷ []))
+pub its_channel_is_settled : IsSettledLink messages (Owns (known_at 2 five ∷ [])) (Decides (taken_decision (pos 5 ∷ []) 2 1 ∷ []))
 its_channel_is_settled = record {
   offers = known_at 2 five ∷ [];
-  decisions = taken_decision (pos 5) 2 1 ∷ [];
+  decisions = taken_decision (pos 5 ∷ []) 2 1 ∷ [];
   owns = refl;
   decides = refl;
   views = record {
-    agree = ((omega arith, (Message (pos 5), refl, refl, refl), refl, omega arith, tt), tt);
+    agree = ((omega arith, (Message (pos 5 ∷ []), refl, refl, refl), refl, omega arith, tt), tt);
     each = All-from_recursion (IsOffer false) (known_at 2 five ∷ []) (record { carried = refl; later = tt }, tt);
   };
 }
 
 -- not where the decision is of an offer that the other end has not made
-pub not_without_the_offer : IsSettledLink messages (Owns []) (Decides (taken_decision (pos 5) 2 1 ∷ [])) → ⊥
+pub not_without_the_offer : IsSettledLink messages (Owns []) (Decides (taken_decision (pos 5 ∷ []) 2 1 ∷ [])) → ⊥
 not_without_the_offer s =
     let none : [] ≡ s.offers = ap offers_of s.owns in
-    let one : taken_decision (pos 5) 2 1 ∷ [] ≡ s.decisions = ap decisions_of s.decides in
+    let one : taken_decision (pos 5 ∷ []) 2 1 ∷ [] ≡ s.decisions = ap decisions_of s.decides in
     rw (← none, ← one) at s.views.agree
 
 pub nor_two_sending_ends : IsSettledLink messages (Owns []) (Owns []) → ⊥
@@ -149,16 +149,16 @@ not_where_the_worker_has_a_channel s = let no : true ≡ false = ap is_peer (s.o
 
 -- ---- their ports tell all
 
-pub all_is_known : TellsOwner messages room (known_at 2 five ∷ []) (taken_decision (pos 5) 2 1 ∷ [])
+pub all_is_known : TellsOwner messages room (known_at 2 five ∷ []) (taken_decision (pos 5 ∷ []) 2 1 ∷ [])
 all_is_known = record { decision = λ e. refl; reply = λ asks e. let no : false ≡ true = asks in absurd (cc); slot = λ e. let no : true ≡ false = e in absurd (cc) }
 
-pub not_where_a_decision_is_kept_back : TellsOwner messages room (five ∷ []) (taken_decision (pos 5) 2 1 ∷ []) → ⊥
+pub not_where_a_decision_is_kept_back : TellsOwner messages room (five ∷ []) (taken_decision (pos 5 ∷ []) 2 1 ∷ []) → ⊥
 not_where_a_decision_is_kept_back t = let no = t.decision refl in cc
 
 pub not_where_room_is_kept_back : TellsOwner messages (record room { slot = false }) [] [] → ⊥
 not_where_room_is_kept_back t = let no = t.slot refl in cc
 
-pub all_is_decided : TellsPeer room (known_at 2 five ∷ []) (taken_decision (pos 5) 2 1 ∷ [])
+pub all_is_decided : TellsPeer room (known_at 2 five ∷ []) (taken_decision (pos 5 ∷ []) 2 1 ∷ [])
 all_is_decided e = omega arith
 
 pub not_where_an_offer_is_kept_back : TellsPeer room (five ∷ []) [] → ⊥

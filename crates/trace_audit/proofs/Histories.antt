@@ -10,7 +10,7 @@ use Rattle.std.proofs.Common.{arith}
 use Rattle.ac_base.specs.declared.entry.Stamped.{Stamped}
 use Rattle.ac_commands.specs.declared.program.Resolved.{Resolved}
 use Rattle.ac_links.specs.Link.{link_fits, link_of, link_after}
-use Rattle.ac_history.specs.History.{in_range, is_later, has_stamp, may_make, fits, link_at, terms_of}
+use Rattle.ac_history.specs.History.{in_range, is_later, has_stamp, may_make, has_its_width, fits, link_at, terms_of}
 use Rattle.ac_history.specs.Quiet.{after_all_of}
 use Rattle.ac_history.specs.Served.{HistoryState, serves_all, can_follow, state_after, IsHistory, after_all}
 use Rattle.ac_history.specs.Files.{deeds_at}
@@ -34,10 +34,10 @@ as_many_links h (e ∷ es) = as_many_links (state_after h e) es
 lt_of : (m n : ℕ) → nat_lt m n ≡ true → m < n
 lt_of m n h = grind (arith, nat_tests)
 
-first_two : (a b c d e : Bool) → (a && b && c && d && e) ≡ true → (a ≡ true) × (b ≡ true)
-first_two true true c d e h = (refl, refl)
-first_two true false c d e h = cc
-first_two false b c d e h = cc
+first_two : (a b c d e f : Bool) → (a && b && c && d && e && f) ≡ true → (a ≡ true) × (b ≡ true)
+first_two true true c d e f h = (refl, refl)
+first_two true false c d e f h = cc
+first_two false b c d e f h = cc
 
 -- what an entry shows that can follow
 pub record Shows (h : HistoryState) (e : Stamped) : Type 0 where
@@ -48,7 +48,7 @@ pub shows : (h : HistoryState) (e : Stamped) → can_follow h e ≡ true → Sho
 shows h e c =
     let fit = (and_parts (fits h.past e) (serves_all h.files (deeds_at h.past e)) c).0 in
     let p = first_two (in_range h.past e) (is_later h.past.stamp h.past.party e) (has_stamp h.past e) (may_make h.past.channels h.past.cores e)
-    (link_fits (terms_of h.past.capacities h.past.channels (link_of e.entry.event)) (link_at h.past (link_of e.entry.event)) e.entry.event) fit in
+    (has_its_width h.past.widths e.entry.event) (link_fits (terms_of h.past.capacities h.past.channels (link_of e.entry.event)) (link_at h.past (link_of e.entry.event)) e.entry.event) fit in
     record {
       later = p.1;
       party = lt_of e.party (length h.past.lasts)

@@ -27,7 +27,7 @@ by party stamp event = record { party = party; entry = entry stamp event }
 pub the_trace_of_their_run : trace_of their_run ≡ record {
   steps = 9;
   start = [];
-  entries = by 0 1 (Offer 0 0 (Int (pos 5))) ∷ by 1 2 (Got 0 0 (pos 5)) ∷ by 0 3 (Know 0 0) ∷ [];
+  entries = by 0 1 (Offer 0 0 (Int (pos 5 ∷ []))) ∷ by 1 2 (Got 0 0 (pos 5 ∷ [])) ∷ by 0 3 (Know 0 0) ∷ [];
   ends = told_of finished ∷ told_of finished ∷ [];
 }
 the_trace_of_their_run = refl

@@ -33,7 +33,7 @@ ended_told = record { word = word.Finished; steps = 0; output = [] }
 abbrev pub its_trace : Trace
 its_trace = record { steps = 9; start = []; entries = its_offer ∷ []; ends = waits_told ∷ ended_told ∷ [] }
 
-pub whose_entries : (journal_of 0 (its_offer ∷ by 2 2 0 (Offer 1 0 (Int (pos 6))) ∷ []) ≡ its_offer.entry ∷ []) × (journal_of 1 (its_offer ∷ []) ≡ [])
+pub whose_entries : (journal_of 0 (its_offer ∷ by 2 2 0 (Offer 1 0 (Int (pos 6 ∷ []))) ∷ []) ≡ its_offer.entry ∷ []) × (journal_of 1 (its_offer ∷ []) ≡ [])
 whose_entries = (refl, refl)
 
 -- ---- its cores
@@ -48,21 +48,21 @@ no_third_core_has_one r = let e = r.replays.enters.core_is in cc
 -- ---- its entry
 
 -- a channel, and a link for the requests of each core
-pub before_any_entry : nothing_yet two_cores its_trace ≡ begun (1 ∷ 16 ∷ 16 ∷ []) 2 []
+pub before_any_entry : nothing_yet two_cores its_trace ≡ begun (1 ∷ 16 ∷ 16 ∷ []) (1 ∷ []) 2 []
 before_any_entry = refl
 
 pub the_offer_fits : Fits two_cores its_trace [] its_offer
 the_offer_fits = record { follows = refl; replay = λ lt. it_has_a_replay }
 
 -- its stamp is 1
-pub not_with_another_stamp : Fits two_cores its_trace [] (by 0 2 1 (Offer 0 0 (Int (pos 5)))) → ⊥
+pub not_with_another_stamp : Fits two_cores its_trace [] (by 0 2 1 (Offer 0 0 (Int (pos 5 ∷ [])))) → ⊥
 not_with_another_stamp f = let e = f.follows in cc
 
 -- the worker makes no offer, and there is no party after it
-pub not_by_the_worker : Fits two_cores its_trace [] (by 2 1 1 (Offer 0 0 (Int (pos 5)))) → ⊥
+pub not_by_the_worker : Fits two_cores its_trace [] (by 2 1 1 (Offer 0 0 (Int (pos 5 ∷ [])))) → ⊥
 not_by_the_worker f = let e = f.follows in cc
 
-pub nor_by_another : Fits two_cores its_trace [] (by 3 1 1 (Offer 0 0 (Int (pos 5)))) → ⊥
+pub nor_by_another : Fits two_cores its_trace [] (by 3 1 1 (Offer 0 0 (Int (pos 5 ∷ [])))) → ⊥
 nor_by_another f = let e = f.follows in cc
 
 pub all_fit : AllFit two_cores its_trace [] its_trace.entries

@@ -27,9 +27,9 @@ module _ (program : Resolved) (t : Trace) (same : IsSame (code_of program) progr
   as_many : length code.entries ≡ length program.cores
   as_many = length-map program.cores (λ (core : Core). core.entry)
 
-  follow_as : (m n : ℕ) → m ≡ n → (before : List Stamped) (s : Stamped) → can_follow (after_all (begun code.capacities m t.start) before) s ≡ true
-      → can_follow (after_all (begun code.capacities n t.start) before) s ≡ true
-  follow_as m n h before s f = subst (λ k. can_follow (after_all (begun code.capacities k t.start) before) s ≡ true) h f
+  follow_as : (m n : ℕ) → m ≡ n → (before : List Stamped) (s : Stamped) → can_follow (after_all (begun code.capacities code.widths m t.start) before) s ≡ true
+      → can_follow (after_all (begun code.capacities code.widths n t.start) before) s ≡ true
+  follow_as m n h before s f = subst (λ k. can_follow (after_all (begun code.capacities code.widths k t.start) before) s ≡ true) h f
 
   fits : (before : List Stamped) (s : Stamped) → coded.Fits code t before s → Fits program t before s
   fits before s f = record {
@@ -67,7 +67,7 @@ module _ (program : Resolved) (t : Trace) (same : IsSame (code_of program) progr
       )
 
   abbrev Quiet : ℕ → List CoreEnd → Type 0
-  Quiet n ends = IsQuiet (owner_of code.ends) (peer_of code.ends n) (after_all (begun code.capacities n t.start) t.entries).past ends
+  Quiet n ends = IsQuiet (owner_of code.ends) (peer_of code.ends n) (after_all (begun code.capacities code.widths n t.start) t.entries).past ends
 
   ends_well : coded.EndsWell code (length program.files) t → EndsWell program t
   ends_well e = record {

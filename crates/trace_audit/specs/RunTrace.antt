@@ -27,7 +27,7 @@ pub record HasReplay (program : Resolved) (core bound : ℕ) (journal : List Ent
 
 -- the links, the stamps and the files before any entry
 abbrev pub nothing_yet : Resolved → Trace → HistoryState
-nothing_yet program t = begun (code_of program).capacities (length program.cores) t.start
+nothing_yet program t = begun (code_of program).capacities (code_of program).widths (length program.cores) t.start
 
 -- The entry may come after these: the links, the stamps and the files take it, and where its party is a core, the journal of the core
 -- through it has a replay. The party that is no core is the worker.

@@ -80,10 +80,10 @@ fn ends_well(
 fn audit_code(alloc: Global, code: &Code, files: u64, trace: &Trace) -> Result<Verdict, NoMemory>
     ensures { IfOk result (λ verdict. coded.Judges code.now files trace.now verdict) }
 {
-    // A code is valid, so it has a link for each core.
+    // A code is valid, so it has a width for each channel, and then a link for each core.
     let _instrs = code.instrs();
     let cores = code.entries().len() as u32;
-    let mut legal = Legal::new(alloc, code.capacities(), cores, &trace.start)?;
+    let mut legal = Legal::new(alloc, code.capacities(), code.widths(), cores, &trace.start)?;
     let mut replays = Replays::new(alloc, code, trace.steps)?;
     match first_misfit(&mut legal, &mut replays, trace.entries.as_slice())? {
         Some(entry) => Ok(Verdict::NoAt { entry }),

@@ -18,5 +18,6 @@ found past [] = refl
 found past (e ∷ es) =
     writes_append (deeds_at past e) (deeds (after past e) es) ∙ ap (λ ws. writes_at past.links e ++ ws) (found (after past e) es)
 
-pub all_found : (capacities : List ℕ) (cores : ℕ) (es : List Stamped) → writes_of (deeds (start capacities cores) es) ≡ writes_from (replicate (length capacities) []) es
-all_found capacities cores es = found (start capacities cores) es
+pub all_found : (capacities widths : List ℕ) (cores : ℕ) (es : List Stamped) → writes_of (deeds (start capacities widths cores) es)
+    ≡ writes_from (replicate (length capacities) []) es
+all_found capacities widths cores es = found (start capacities widths cores) es

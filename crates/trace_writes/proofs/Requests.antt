@@ -17,16 +17,16 @@ use Rattle.ac_base.specs.declared.entry.Payload.TheVariants.{Int, Read, Write}
 use Rattle.ac_base.specs.declared.entry.Stamped.{Stamped}
 use Rattle.ac_links.specs.declared.offer.LinkOffer.{LinkOffer}
 use Rattle.ac_links.specs.Link.{asked, changed, known_lead, link_after, link_fits, link_of, new_offer, offered_payload}
-use Rattle.ac_links.specs.Payloads.{is_int, is_payload, is_request}
+use Rattle.ac_links.specs.Payloads.{is_message, is_payload, is_request}
 use Rattle.ac_history.specs.Files.{Deed, bytes_in, deed_of, deeds, deeds_at}
-use Rattle.ac_history.specs.History.{Past, after, fits, has_stamp, in_range, is_later, link_at, may_make, start, terms_of, IsLegal}
+use Rattle.ac_history.specs.History.{Past, after, fits, has_stamp, in_range, is_later, has_its_width, link_at, may_make, start, terms_of, IsLegal}
 use Rattle.ac_history.proofs.Parts.{each_append}
 use Rattle.trace_writes.specs.declared.write.FileWrite.{FileWrite}
 use Rattle.trace_writes.specs.Writes.{write_of, writes_of}
 
 -- a message, or a request that a program may ask for
 abbrev is_sent : Payload → Bool
-is_sent p = is_int p || is_request p
+is_sent p = is_message p || is_request p
 
 abbrev IsSent : LinkOffer → Type 0
 IsSent o = is_sent o.payload ≡ true
@@ -117,7 +117,8 @@ done_by os (Reply l k answer) all = tt
 -- ---- a history
 
 link_takes : (past : Past) (e : Stamped) → fits past e ≡ true → link_fits (terms_of past.capacities past.channels (link_of e.entry.event)) (link_at past (link_of e.entry.event)) e.entry.event ≡ true
-link_takes past e f = (and_parts (in_range past e && is_later past.stamp past.party e && has_stamp past e && may_make past.channels past.cores e) _ f).1
+link_takes past e f =
+    (and_parts (in_range past e && is_later past.stamp past.party e && has_stamp past e && may_make past.channels past.cores e && has_its_width past.widths e.entry.event) _ f).1
 
 writes_append : (ds es : List Deed) → AllEndWithin (writes_of ds) → AllEndWithin (writes_of es) → AllEndWithin (writes_of (ds ++ es))
 writes_append [] es a b = b
@@ -138,5 +139,6 @@ all_within past (e ∷ es) all legal =
     (all_within (after past e) es (All-set AreSent past.links l (link_after (link_at past l) e.entry.stamp e.entry.event)
     (after_in past (link_at past l) e.entry.stamp e.entry.event (link_takes past e legal.0) here) all) legal.1)
 
-pub writes_end_within : (capacities : List ℕ) (cores : ℕ) (es : List Stamped) → IsLegal (start capacities cores) es → AllByRecursion EndsWithin (writes_of (deeds (start capacities cores) es))
-writes_end_within capacities cores es legal = all_within (start capacities cores) es (All-replicate AreSent (length capacities) [] (All-nil IsSent)) legal
+pub writes_end_within : (capacities widths : List ℕ) (cores : ℕ) (es : List Stamped) → IsLegal (start capacities widths cores) es → AllByRecursion EndsWithin (writes_of (deeds
+    (start capacities widths cores) es))
+writes_end_within capacities widths cores es legal = all_within (start capacities widths cores) es (All-replicate AreSent (length capacities) [] (All-nil IsSent)) legal

@@ -1,6 +1,6 @@
 //! The writes of a history.
 
-ghost use Rattle.std.specs.Prelude.{◌≡◌, ◌++◌, ℕ, [], replicate, IfOk, OnOk};
+ghost use Rattle.std.specs.Prelude.{◌≡◌, ◌++◌, ℕ, List, [], replicate, IfOk, OnOk};
 ghost use Rattle.ac_history.specs.Files.{bytes_in, deeds};
 ghost use Rattle.ac_history.specs.History.{start};
 ghost use Rattle.trace_writes.specs.Writes.{write_of, writes_of};
@@ -97,7 +97,8 @@ pub fn writes_of(
     capacities: &[u32],
     entries: &[Stamped],
 ) -> Result<List<FileWrite>, NoMemory>
-    ensures { (cores : ℕ) → IfOk result (λ writes. writes ≡ writes_of (deeds (start capacities.now cores) entries.now)) }
+    ensures { (widths : List ℕ) (cores : ℕ)
+        → IfOk result (λ writes. writes ≡ writes_of (deeds (start capacities.now widths cores) entries.now)) }
 {
     let mut links = no_offers(alloc, capacities.len() as u64)?;
     let mut writes = List::new(alloc);

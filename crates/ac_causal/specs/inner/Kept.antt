@@ -6,8 +6,9 @@ use Rattle.ac_causal.specs.inner.Marks.{no_marks, IsTable}
 
 pub record IsKept (es : List Stamped) (parties : ℕ) (table : List ℕ) : Type 0 where
   pub capacities : List ℕ
+  pub widths : List ℕ
   pub cores : ℕ
-  pub legal : IsLegal (start capacities cores) es
+  pub legal : IsLegal (start capacities widths cores) es
   pub parties_are : parties ≡ suc cores
   pub few : length es < 2 ^ 32
   pub rows : IsTable parties (no_marks (length capacities) parties) es (length es) table

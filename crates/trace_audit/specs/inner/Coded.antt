@@ -16,7 +16,7 @@ use Rattle.trace_audit.specs.RunTrace.{journal_of, file_limit}
 
 -- the links, the stamps and the files before any entry
 abbrev pub nothing_yet : Parts → Trace → HistoryState
-nothing_yet code t = begun code.capacities (length code.entries) t.start
+nothing_yet code t = begun code.capacities code.widths (length code.entries) t.start
 
 -- if the entry is a core's, the core has a run with it
 abbrev pub RunsWith : Parts → ℕ → List Stamped → Stamped → Type 0

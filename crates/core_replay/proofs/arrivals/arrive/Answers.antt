@@ -1,5 +1,4 @@
-use Rattle.std.proofs.Common.{false, refl, sym, ap, ◌∙◌, rules, w64, SFits, to_z, of_z}
-use Rattle.std.proofs.lemmas.Int.{to_z-of_z}
+use Rattle.std.proofs.Common.{false, refl}
 use Rattle.ac_base.specs.declared.entry.Event.TheVariants as event
 use Rattle.core_replay.proofs.Coming.{came_played, came_takes, got_plain, if_came, know_plain, never_at_points, never_comes, pass_plain, maybe_played, reply_plain, still_played}
 use Rattle.core_replay.proofs.arrivals.arrive.Goals as goal
@@ -30,17 +29,14 @@ returns-in-Room-clause-takes c =
 pub returns-in-Got-clause-played : goal.returns-in-Got-clause-played
 returns-in-Got-clause-played c =
     let p = still_played c.args.machine.now c.make_room.new.self c.args.offers.now c.make_room.ensures.same c.make_room.ensures.run c.requires.played in
-    let value = to_z w64 (of_z w64 c.in-Got.value) in
-    came_played c.make_room.new.self c.got.new.machine c.args.offers.now (event.Got c.in-Got.link c.in-Got.number value) c.args.entry.now.stamp c.got.result c.got.ensures.comes c.got.ensures.run p
-    (got_plain c.in-Got.link c.in-Got.number value)
+    came_played c.make_room.new.self c.got.new.machine c.args.offers.now
+    (event.Got c.in-Got.link c.in-Got.number c.in-Got.value) c.args.entry.now.stamp c.got.result c.got.ensures.comes c.got.ensures.run p
+    (got_plain c.in-Got.link c.in-Got.number c.in-Got.value)
 
 pub returns-in-Got-clause-takes : goal.returns-in-Got-clause-takes
 returns-in-Got-clause-takes c =
-    let fits : SFits w64 c.in-Got.value = search rules in
-    let same = to_z-of_z w64 c.in-Got.value fits in
     came_takes c.args.machine.now c.make_room.new.self c.make_room.ensures.same c.make_room.ensures.state c.args.entry.now c.requires.now c.got.new.machine c.requires.awaits c.requires.point
-    c.got.result (event.Got c.in-Got.link c.in-Got.number (to_z w64 (of_z w64 c.in-Got.value)))
-    (c.in-Got.is ∙ ap (λ v. event.Got c.in-Got.link c.in-Got.number v) (sym same)) c.got.ensures.comes
+    c.got.result (event.Got c.in-Got.link c.in-Got.number c.in-Got.value) c.in-Got.is c.got.ensures.comes
 
 pub returns-in-Pass-clause-played : goal.returns-in-Pass-clause-played
 returns-in-Pass-clause-played c =

@@ -13,8 +13,9 @@ ends_well-requires c =
     let t = c.args.trace.now in
     let begins : HasTaken c.args.code.now t [] c.in_ok-legal.legal c.in_ok-replays.replays.cores.items =
     record {
-      legal_is = c.in_ok-legal.ensures ∙ ap (λ (capacities : List ℕ). begun capacities (length c.entries.result.now) t.start) c.capacities.ensures
-          ∙ ap (λ (entries : List ℕ). begun c.args.code.now.capacities (length entries) t.start) c.entries.ensures;
+      legal_is = c.in_ok-legal.ensures ∙ ap (λ (capacities : List ℕ). begun capacities c.widths.result.now (length c.entries.result.now) t.start) c.capacities.ensures
+          ∙ ap (λ (widths : List ℕ). begun c.args.code.now.capacities widths (length c.entries.result.now) t.start) c.widths.ensures
+          ∙ ap (λ (entries : List ℕ). begun c.args.code.now.capacities c.args.code.now.widths (length entries) t.start) c.entries.ensures;
       replays = c.in_ok-replays.ensures.cores;
     } in
     (where_none c.in_ok-entry.field-0 _ c.in-None.is c.in_ok-entry.ensures.none c.args.code.now t (sym c.as_slice.ensures) begins).0
