@@ -700,18 +700,18 @@ pub not_with_another_bound : IsRunOf (resolved two_tree) 99 [] its_run → ⊥
 not_with_another_bound h = let e = h.steps in omega (arith, e)
 
 -- its one core has a link for requests, on which nothing was offered
-pub before_its_first_entry : nothing_yet (resolved two_tree) ≡ start (16 ∷ []) 1
-before_its_first_entry = ap (λ (p : Resolved). start (code_of p).capacities (length p.cores)) two_ac
+pub before_its_first_entry : nothing_yet (resolved two_tree) ≡ start (16 ∷ []) [] 1
+before_its_first_entry = ap (λ (p : Resolved). start (code_of p).capacities (code_of p).widths (length p.cores)) two_ac
 
 -- nor is it a run where the worker has an entry that only a core may make
 pub not_with_an_entry_of_the_worker : IsRunOf (resolved two_tree) 100 [] (record its_run { journals = journal [] ∷ journal (stamped 1 0 ∷ []) ∷ [] }) → ⊥
 not_with_an_entry_of_the_worker h =
-    let e : fits (start (16 ∷ []) 1) (of_party 1 (stamped 1 0)) ≡ true =
+    let e : fits (start (16 ∷ []) [] 1) (of_party 1 (stamped 1 0)) ≡ true =
     subst (λ (past : Past). fits past (of_party 1 (stamped 1 0)) ≡ true) before_its_first_entry h.legal.0 in
     cc
 
 -- a core takes messages and passes them over, and the worker does so with requests
-pub a_core_takes_no_request : makes true false false (event.Got 0 0 (pos 5)) ∷ makes true false true (event.Got 1 0 (pos 5)) ∷ [] ≡ true ∷ false ∷ []
+pub a_core_takes_no_request : makes true false false (event.Got 0 0 (pos 5 ∷ [])) ∷ makes true false true (event.Got 1 0 (pos 5 ∷ [])) ∷ [] ≡ true ∷ false ∷ []
 a_core_takes_no_request = refl
 
 pub the_worker_passes_requests_over : makes false true true (event.Pass 1 0) ∷ makes true false true (event.Pass 1 0) ∷ [] ≡ true ∷ false ∷ []

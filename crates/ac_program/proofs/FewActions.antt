@@ -34,8 +34,8 @@ use Rattle.ac_commands.specs.declared.command.Target.TheVariants as tg
 use Rattle.ac_commands.specs.declared.command.Command.{Command, roll-Command, map-Command, fold-roll-Command}
 use Rattle.ac_commands.specs.declared.command.Command.TheOpen.{Command-F}
 use Rattle.ac_commands.specs.declared.command.Command.TheVariants as cm
-use Rattle.ac_resolve.specs.Places.{constant_value, place_of, array_of, name_argument, array_at, reference_to, function_of, channel_of, file_of, cancel_of}
-use Rattle.ac_resolve.specs.Computed.{InScopes, Reading, read_step, read, link_in, arguments_step, value_in, values_in, some_in, target_in, initial_in}
+use Rattle.ac_resolve.specs.Places.{constant_value, place_of, array_of, name_argument, array_at, received_in, reference_to, function_of, channel_of, file_of, cancel_of}
+use Rattle.ac_resolve.specs.Computed.{InScopes, Reading, read_step, read, link_in, arguments_step, value_in, argument_in, values_in, some_in, target_in, place_in, initial_in}
 use Rattle.ac_resolve.specs.Computed.{link_step as reading_link, links_step as reading_links}
 use Rattle.ac_resolve.specs.Commands.{Texts, Told, told_step, told, body_told, some_shape, commands, some_texts, some_commands, for_names}
 use Rattle.ac_resolve.specs.Resolution.{body_names, function_texts, functions_in, resolved}
@@ -86,15 +86,12 @@ argument_has None depth = variable_has (place_of None depth)
 abbrev actions_at : Target → ℕ
 actions_at target = actions_of (target_operands target)
 
-referred_has : (target : Target) → actions_in (reference_to target) ≤ actions_at target
-referred_has (tg.Variable place) = let e = reference_has (array_at place) in omega (arith, e)
-referred_has (tg.Element array index) = let e = part_has array index in omega (arith, e)
-
 -- what an expression of that weight gives, wherever it stands
 record HasFew (q : Reading) (weight : ℕ) : Type 0 where
   value : (scopes : List (List Declaration)) (depth : ℕ) → actions_in (q.value scopes depth) ≤ weight
   argument : (scopes : List (List Declaration)) (depth : ℕ) → actions_in (q.argument scopes depth) ≤ weight
   target : (scopes : List (List Declaration)) (depth : ℕ) → actions_at (q.target scopes depth) ≤ weight
+  received : (scopes : List (List Declaration)) (depth : ℕ) → actions_in (q.received scopes depth) ≤ weight
 
 abbrev Claim : Expr → Type 0
 Claim x = HasFew (read x) (expr_weight x)
@@ -139,11 +136,15 @@ Few x weight = (scopes : List (List Declaration)) (depth : ℕ) → actions_in (
 -- what is no name and no place
 only_value : (q : Reading) (weight : ℕ) → Few q.value weight →
     ((scopes : List (List Declaration)) (depth : ℕ) → q.argument scopes depth ≡ q.value scopes depth) →
-    ((scopes : List (List Declaration)) (depth : ℕ) → q.target scopes depth ≡ tg.Variable (p.Global 0)) → HasFew q weight
-only_value q weight value argument target = record {
+    ((scopes : List (List Declaration)) (depth : ℕ) → q.target scopes depth ≡ tg.Variable (p.Global 0)) →
+    ((scopes : List (List Declaration)) (depth : ℕ) → q.received scopes depth ≡ reference_to (tg.Variable (p.Global 0))) → HasFew q weight
+only_value q weight value argument target received = record {
   value = value;
   argument = λ scopes depth. subst (λ x. actions_in x ≤ weight) (sym (argument scopes depth)) (value scopes depth);
   target = λ scopes depth. subst (λ x. actions_at x ≤ weight) (sym (target scopes depth)) (omega arith);
+  received = λ scopes depth.
+      let e = reference_has (array_at (p.Global 0)) in
+      subst (λ x. actions_in x ≤ weight) (sym (received scopes depth)) (omega (arith, e));
 }
 
 -- where an operation takes its operands
@@ -157,18 +158,19 @@ moves_have action from len array scopes depth =
     let k = len.1.value scopes depth in
     omega (arith, e, g, h, k)
 
--- An expression may be read, be an argument or be set, so each form has three bounds; most are values alone (`only_value`).
+-- An expression may be read, be an argument, be set or receive, so each form has four bounds; most are values alone (`only_value`).
 layer : (y : Expr-F Expr_ Link_) → HasFew (read_layer y) (weight_layer y)
 layer (Expr-F.Number at n) =
     let few : Few (λ scopes depth. v.Number n) 1 = λ scopes depth. let e = number_has n in omega (arith, e) in
-    only_value _ _ few (λ scopes depth. refl) (λ scopes depth. refl)
+    only_value _ _ few (λ scopes depth. refl) (λ scopes depth. refl) (λ scopes depth. refl)
 layer (Expr-F.Const at which) =
     let few : Few (λ scopes depth. v.Number (constant_value which)) 1 = λ scopes depth. let e = number_has (constant_value which) in omega (arith, e) in
-    only_value _ _ few (λ scopes depth. refl) (λ scopes depth. refl)
+    only_value _ _ few (λ scopes depth. refl) (λ scopes depth. refl) (λ scopes depth. refl)
 layer (Expr-F.Name at name) = record {
   value = λ scopes depth. let e = variable_has (place_of (visible name scopes) depth) in omega (arith, e);
   argument = λ scopes depth. let e = argument_has (visible name scopes) depth in omega (arith, e);
   target = λ scopes depth. omega arith;
+  received = λ scopes depth. let e = reference_has (received_in (visible name scopes) depth) in omega (arith, e);
 }
 layer (Expr-F.Index at name index) =
     let few : Few (λ scopes depth. v.Element (array_of (visible name scopes) depth) (value_in index.0 scopes depth)) (3 + expr_weight index.0)
@@ -177,14 +179,18 @@ layer (Expr-F.Index at name index) =
       value = few;
       argument = few;
       target = λ scopes depth. let e = reference_has (array_of (visible name scopes) depth) in let h = index.1.value scopes depth in omega (arith, e, h);
+      received = λ scopes depth.
+          let e = part_has (array_of (visible name scopes) depth) (value_in index.0 scopes depth) in
+          let h = index.1.value scopes depth in
+          omega (arith, e, h);
     }
 layer (Expr-F.Group at inner) =
     let few : Few (value_in inner.0) (2 + expr_weight inner.0) = λ scopes depth. let h = inner.1.value scopes depth in omega (arith, h) in
-    only_value _ _ few (λ scopes depth. refl) (λ scopes depth. refl)
+    only_value _ _ few (λ scopes depth. refl) (λ scopes depth. refl) (λ scopes depth. refl)
 layer (Expr-F.Unary at op inner) =
     let few : Few (λ scopes depth. v.Unary op (value_in inner.0 scopes depth)) (1 + expr_weight inner.0)
     = λ scopes depth. let e = unary_has op (value_in inner.0 scopes depth) in let h = inner.1.value scopes depth in omega (arith, e, h) in
-    only_value _ _ few (λ scopes depth. refl) (λ scopes depth. refl)
+    only_value _ _ few (λ scopes depth. refl) (λ scopes depth. refl) (λ scopes depth. refl)
 layer (Expr-F.Chain at level first rest) =
     let few : Few (λ scopes depth. v.Chain (value_in first.0 scopes depth) (reading_links (map link_in (links_of rest)) scopes depth))
     (expr_weight first.0 + total (map link_weight (links_of rest)))
@@ -193,32 +199,31 @@ layer (Expr-F.Chain at level first rest) =
     let h = first.1.value scopes depth in
     let k = links_have rest scopes depth in
     omega (arith, e, h, k) in
-    only_value _ _ few (λ scopes depth. refl) (λ scopes depth. refl)
+    only_value _ _ few (λ scopes depth. refl) (λ scopes depth. refl) (λ scopes depth. refl)
 layer (Expr-F.Call at name args) =
     let few : Few (λ scopes depth. v.Act (act.Call (function_of (visible name scopes))) (arguments_step (map read (exprs_of args)) scopes depth)) (3 + total (map expr_weight (exprs_of args)))
     = λ scopes depth.
     let e = act_has (act.Call (function_of (visible name scopes))) (arguments_step (map read (exprs_of args)) scopes depth) in
     let h = arguments_have args scopes depth in
     omega (arith, e, h) in
-    only_value _ _ few (λ scopes depth. refl) (λ scopes depth. refl)
+    only_value _ _ few (λ scopes depth. refl) (λ scopes depth. refl) (λ scopes depth. refl)
 layer (Expr-F.Send at channel value) =
-    let few : Few (λ scopes depth. v.Act (act.Send (channel_of (visible channel scopes))) (value_in value.0 scopes depth ∷ [])) (5 + expr_weight value.0)
-    = λ scopes depth. let e = act_has (act.Send (channel_of (visible channel scopes))) (value_in value.0 scopes depth ∷ []) in let h = value.1.value scopes depth in omega (arith, e, h) in
-    only_value _ _ few (λ scopes depth. refl) (λ scopes depth. refl)
+    let few : Few (λ scopes depth. v.Act (act.Send (channel_of (visible channel scopes))) (argument_in value.0 scopes depth ∷ [])) (5 + expr_weight value.0)
+    = λ scopes depth. let e = act_has (act.Send (channel_of (visible channel scopes))) (argument_in value.0 scopes depth ∷ []) in let h = value.1.argument scopes depth in omega (arith, e, h) in
+    only_value _ _ few (λ scopes depth. refl) (λ scopes depth. refl) (λ scopes depth. refl)
 layer (Expr-F.Recv at channel place) =
-    let few : Few (λ scopes depth. v.Act (act.Recv (channel_of (visible channel scopes))) (reference_to (target_in place.0 scopes depth) ∷ [])) (6 + expr_weight place.0)
+    let few : Few (λ scopes depth. v.Act (act.Recv (channel_of (visible channel scopes))) (place_in place.0 scopes depth ∷ [])) (6 + expr_weight place.0)
     = λ scopes depth.
-    let e = act_has (act.Recv (channel_of (visible channel scopes))) (reference_to (target_in place.0 scopes depth) ∷ []) in
-    let g = referred_has (target_in place.0 scopes depth) in
-    let h = place.1.target scopes depth in
-    omega (arith, e, g, h) in
-    only_value _ _ few (λ scopes depth. refl) (λ scopes depth. refl)
+    let e = act_has (act.Recv (channel_of (visible channel scopes))) (place_in place.0 scopes depth ∷ []) in
+    let h = place.1.received scopes depth in
+    omega (arith, e, h) in
+    only_value _ _ few (λ scopes depth. refl) (λ scopes depth. refl) (λ scopes depth. refl)
 layer (Expr-F.Read at file from len array) =
     only_value _ _ (moves_have (λ scopes depth. act.Read (file_of (visible file scopes))) from len (λ scopes depth. array_of (visible array scopes) depth))
-    (λ scopes depth. refl) (λ scopes depth. refl)
+    (λ scopes depth. refl) (λ scopes depth. refl) (λ scopes depth. refl)
 layer (Expr-F.Write at file from len array) =
     only_value _ _ (moves_have (λ scopes depth. act.Write (file_of (visible file scopes))) from len (λ scopes depth. array_of (visible array scopes) depth))
-    (λ scopes depth. refl) (λ scopes depth. refl)
+    (λ scopes depth. refl) (λ scopes depth. refl) (λ scopes depth. refl)
 
 same_few : (q q2 : Reading) (n n2 : ℕ) → q ≡ q2 → n ≡ n2 → HasFew q2 n2 → HasFew q n
 same_few q q2 n n2 e g h = subst (λ k. HasFew k n) (sym e) (subst (HasFew q2) (sym g) h)

@@ -33,8 +33,8 @@ module _ (program : Resolved) where
 
   acts_named : (action : Action) (wants : List Want) (count : ℕ) → Wants program action wants → P (action_code action count)
   acts_named _ _ count (call n f e) = refl
-  acts_named _ _ count (send channel lt) = refl
-  acts_named _ _ count (recv channel lt) = refl
+  acts_named _ _ count (send number channel e) = refl
+  acts_named _ _ count (recv number channel e) = refl
   acts_named _ _ count (read file lt) = below file lt
   acts_named _ _ count (write file lt) = below file lt
 

@@ -120,6 +120,7 @@ its_parts = record {
   capacities = 16 ∷ [];
   ends = [];
   starts = [];
+  widths = [];
 }
 
 clear_code : command_code clears ≡ one i.Step ⨾ one (i.Clear 0 1)

@@ -18,7 +18,7 @@ use Rattle.ac_links.specs.declared.offer.LinkOffer.{LinkOffer}
 use Rattle.ac_links.specs.Link.{link_fits, link_of, answered}
 use Rattle.ac_links.specs.Order.{stamp_of, of_party}
 use Rattle.ac_history.specs.Merged.{merged, all_from, entries_of}
-use Rattle.ac_history.specs.History.{Past, link_at, terms_of, in_range, is_later, has_stamp, may_make, makes, fits, after, start, IsLegal}
+use Rattle.ac_history.specs.History.{Past, link_at, terms_of, in_range, is_later, has_stamp, may_make, has_its_width, makes, fits, after, start, IsLegal}
 use Rattle.ac_history.proofs.Parts.{each_in_order}
 use Rattle.ac_commands.specs.declared.program.Resolved.{Resolved}
 use Rattle.std.proofs.Math.Nat.{mul_left_comm}
@@ -35,13 +35,14 @@ use Rattle.program_run.specs.Run.{IsCoreRun, AreCoreRuns, IsRunOf, history_of, n
 
 -- ---- the least stamp
 
-parts : (a b c d e : Bool) → a && b && c && d && e ≡ true → (c ≡ true) × ((d ≡ true) × (e ≡ true))
-parts true true true true true h = (refl, (refl, refl))
-parts true true true true false h = cc
-parts true true true false e h = cc
-parts true true false d e h = cc
-parts true false c d e h = cc
-parts false b c d e h = cc
+parts : (a b c d e f : Bool) → a && b && c && d && e && f ≡ true → (c ≡ true) × ((d ≡ true) × (f ≡ true))
+parts true true true true true true h = (refl, (refl, refl))
+parts true true true true true false h = cc
+parts true true true true false f h = cc
+parts true true true false e f h = cc
+parts true true false d e f h = cc
+parts true false c d e f h = cc
+parts false b c d e f h = cc
 
 least : (s last seen : ℕ) → (s == next_stamp last seen) ≡ true → 1 ≤ s
 least s last seen h = grind (arith, nat_tests)
@@ -50,7 +51,7 @@ least s last seen h = grind (arith, nat_tests)
 its_parts : (past : Past) (s : Stamped) → fits past s ≡ true → (has_stamp past s ≡ true) × ((may_make past.channels past.cores s ≡ true)
     × (link_fits (terms_of past.capacities past.channels (link_of s.entry.event)) (link_at past (link_of s.entry.event)) s.entry.event ≡ true))
 its_parts past s h = parts (in_range past s) (is_later past.stamp past.party s) (has_stamp past s) (may_make past.channels past.cores s)
-    (link_fits (terms_of past.capacities past.channels (link_of s.entry.event)) (link_at past (link_of s.entry.event)) s.entry.event) h
+    (has_its_width past.widths s.entry.event) (link_fits (terms_of past.capacities past.channels (link_of s.entry.event)) (link_at past (link_of s.entry.event)) s.entry.event) h
 
 pub each_is_stamped : (past : Past) (es : List Stamped) → IsLegal past es → AllByRecursion (λ s. 1 ≤ s.entry.stamp) es
 each_is_stamped past [] h = tt
@@ -93,11 +94,11 @@ no_first core worker requests capacities channels (Did l n answer) c m f = none_
 no_core : (party cores : ℕ) → party ≡ cores → nat_lt party cores ≡ false
 no_core party cores e = grind (arith, nat_tests)
 
-empty_for_worker : (capacities : List ℕ) (cores : ℕ) (es : List Stamped) → AllByRecursion (λ s. s.party ≡ cores) es → IsLegal (start capacities cores) es → es ≡ []
-empty_for_worker capacities cores [] all h = refl
-empty_for_worker capacities cores (s ∷ es) all h =
-    let p = its_parts (start capacities cores) s h.0 in
-    let past = start capacities cores in
+empty_for_worker : (capacities widths : List ℕ) (cores : ℕ) (es : List Stamped) → AllByRecursion (λ s. s.party ≡ cores) es → IsLegal (start capacities widths cores) es → es ≡ []
+empty_for_worker capacities widths cores [] all h = refl
+empty_for_worker capacities widths cores (s ∷ es) all h =
+    let p = its_parts (start capacities widths cores) s h.0 in
+    let past = start capacities widths cores in
     let may = (and_parts (makes (nat_lt s.party cores) (s.party == cores) (nat_le past.channels (link_of s.entry.event)) s.entry.event) (nat_lt s.party cores || (s.entry.turn == 0)) p.1.0).0 in
     let empty : link_at past (link_of s.entry.event) ≡ [] = none_there (length capacities) (link_of s.entry.event) in
     absurd (no_first (nat_lt s.party cores) (s.party == cores) (nat_le past.channels (link_of s.entry.event)) capacities past.channels s.entry.event (no_core s.party cores all.0) may
@@ -123,9 +124,10 @@ behind_none from (suc cores) (j ∷ js) len none n e =
     subst (λ (i : List Entry). AllByRecursion (λ s. s.party ≡ n) (of_party from i ++ all_from (suc from) js)) (sym (none 0 j (omega arith) refl))
     (behind_none (suc from) cores js (omega (arith, len)) (λ k i lt is. none (suc k) i (omega (arith, lt)) is) n (omega (arith, e)))
 
-pub empty_history : (capacities : List ℕ) (cores : ℕ) (js : List (List Entry)) → length js ≡ suc cores → NoneBefore cores js → IsLegal (start capacities cores) (merged js) → merged js ≡ []
-empty_history capacities cores js len none h =
-    empty_for_worker capacities cores (merged js)
+pub empty_history : (capacities widths : List ℕ) (cores : ℕ) (js : List (List Entry)) → length js ≡ suc cores → NoneBefore cores js → IsLegal (start capacities widths cores) (merged js) → merged js
+    ≡ []
+empty_history capacities widths cores js len none h =
+    empty_for_worker capacities widths cores (merged js)
     (each_in_order stamp_of (λ s. s.party ≡ cores) (all_from 0 js) (behind_none 0 cores js len none cores (omega arith))) h
 
 -- ---- the journals of a run
@@ -155,7 +157,7 @@ pub no_history : (program : Resolved) (bound : ℕ) (start : List (List ℕ)) (e
     → ((core : ℕ) (journal : Log) (end : MachineEnd) → IsCoreRun program core bound journal end → journal.entries ≡ []) → history_of ended.journals ≡ []
 no_history program bound start ended run none =
     let many = as_many_journals program bound 0 ended.journals ended.cores run.cores in
-    empty_history (code_of program).capacities (length program.cores) (map entries_of ended.journals)
+    empty_history (code_of program).capacities (code_of program).widths (length program.cores) (map entries_of ended.journals)
     (length-map ended.journals entries_of ∙ many ∙ ap suc run.every_core)
     (subst (λ (n : ℕ). NoneBefore n (map entries_of ended.journals)) run.every_core (none_after program bound 0 ended.journals ended.cores run.cores none)) run.legal
 
@@ -184,7 +186,7 @@ module _ (program : Resolved) (bound : ℕ) (start : List (List ℕ)) (ended : E
 
   -- it has few entries, and no stamp is above their number
   pub short_history : IsShortHistory program (length program.cores) bound (history_of ended.journals)
-  short_history = histories_short program (code_of program).capacities (length program.cores) bound (map entries_of ended.journals) count all_replay run.legal
+  short_history = histories_short program (code_of program).capacities (code_of program).widths (length program.cores) bound (map entries_of ended.journals) count all_replay run.legal
 
   pub greatest_stamps : length (code_of program).instrs < 2 ^ 32 → length program.cores * bound ≤ 4000000 → All (λ s. s.entry.stamp < 2 ^ 60) (history_of ended.journals)
   greatest_stamps short few =
@@ -192,4 +194,4 @@ module _ (program : Resolved) (bound : ℕ) (start : List (List ℕ)) (ended : E
       All-from_recursion (λ s. s.entry.stamp < 2 ^ 60) (history_of ended.journals)
       (each_below (length program.cores * (4 * (most * bound))) (2 ^ 60) (small_bound (length program.cores) most bound (length (code_of program).instrs) (actions_few program) short few)
       (history_of ended.journals)
-      (stamps_small program (code_of program).capacities (length program.cores) bound (map entries_of ended.journals) count all_replay run.legal))
+      (stamps_small program (code_of program).capacities (code_of program).widths (length program.cores) bound (map entries_of ended.journals) count all_replay run.legal))

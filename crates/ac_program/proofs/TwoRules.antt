@@ -47,11 +47,11 @@ none_broken : None ≡ first_of (program_nodes two_tree.items (r.ByOne 0 ∷ [])
 none_broken = rw (
   stmt_is _ (s.rolls-Print 28 (codes "%d\n") (sum ∷ [])),
   expr_is _ (e.rolls-Chain 43 9 (e.Number 43 (pos 1)) (link b.Add product ∷ [])),
+  expr_is _ (e.rolls-Number 43 (pos 1)),
   link_folds of_expr of_link (link b.Add product),
   expr_is _ (e.rolls-Chain 45 10 (e.Number 45 (pos 2)) (link b.Mul (e.Number 47 (pos 3)) ∷ [])),
-  link_folds of_expr of_link (link b.Mul (e.Number 47 (pos 3))),
-  expr_is _ (e.rolls-Number 43 (pos 1)),
   expr_is _ (e.rolls-Number 45 (pos 2)),
+  link_folds of_expr of_link (link b.Mul (e.Number 47 (pos 3))),
   expr_is _ (e.rolls-Number 47 (pos 3)),
 ) refl
 

@@ -35,9 +35,12 @@ module _ (program : Program) (code : Parts) (t : Trace) (is : IsCodeOf program c
   abbrev cores : ℕ
   cores = length (resolved program).cores
 
+  abbrev widths : List ℕ
+  widths = (code_of (resolved program)).widths
+
   pub is_redo : (redo : Redo) (ends : List MachineEnd) (names : List (List ℕ)) (capacities : List ℕ) (entries : List Stamped) → AreReplayed (resolved program) t ends
       → redo.status.number ≡ status_of ends → names ≡ code.names → redo.report ≡ report_of names ends → capacities ≡ code.capacities → entries ≡ t.entries
-      → ((n : ℕ) → redo.writes ≡ writes_of (deeds (start capacities n) entries)) → IsRedo program t redo
+      → ((ws : List ℕ) (n : ℕ) → redo.writes ≡ writes_of (deeds (start capacities ws n) entries)) → IsRedo program t redo
   is_redo redo ends names capacities entries replayed status named report links told writes = record {
     report = record {
       ends = ends;
@@ -45,8 +48,8 @@ module _ (program : Program) (code : Parts) (t : Trace) (is : IsCodeOf program c
       status_is = status;
       text_is = report ∙ ap (λ ns. report_of ns ends) (named ∙ ap (λ (c : Parts). c.names) is);
     };
-    writes = writes cores ∙ ap (λ caps. writes_of (deeds (start caps cores) entries)) (links ∙ ap (λ (c : Parts). c.capacities) is)
-        ∙ ap (λ es. writes_of (deeds (start (code_of (resolved program)).capacities cores) es)) told;
+    writes = writes widths cores ∙ ap (λ caps. writes_of (deeds (start caps widths cores) entries)) (links ∙ ap (λ (c : Parts). c.capacities) is)
+        ∙ ap (λ es. writes_of (deeds (start (code_of (resolved program)).capacities widths cores) es)) told;
   }
 
   -- the same of the lists that are handed on

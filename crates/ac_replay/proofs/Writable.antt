@@ -64,7 +64,7 @@ module _ (program : Resolved) (t : Trace) (sound : IsSound program) (run : IsRun
   legal = subst (IsLegal (nothing_yet program)) entries_are traced.run.legal
 
   ends_within : AllByRecursion EndsWithin (writes_in program t)
-  ends_within = writes_end_within (code_of program).capacities (length program.cores) t.entries legal
+  ends_within = writes_end_within (code_of program).capacities (code_of program).widths (length program.cores) t.entries legal
 
   pub can_all : (n : ℕ) → NamesFilesBelow (code_of program) n → All (CanDo n) (writes_in program t)
   can_all n names = All-from_recursion (CanDo n) (writes_in program t) (all_can n (deeds_in program t) (are_named n names) ends_within)

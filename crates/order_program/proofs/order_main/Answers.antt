@@ -1,8 +1,7 @@
-use Rattle.std.proofs.Common.{map, string_bytes, Global, refl, ap, subst, arith}
+use Rattle.std.proofs.Common.{refl, ap, subst, arith}
 use Rattle.ac_outside.specs.Told.{GrewBy}
 use Rattle.program_reading.specs.Writing.{TookFront}
 use Rattle.ac_base.specs.declared.ends.Status.{Status}
-use Rattle.order_words.specs.Words.{Asked}
 use Rattle.order_program.specs.Headline.{usage, call}
 use Rattle.order_program.specs.Lines.{usage_line}
 use Rattle.order_program.proofs.AnsweredFiles.{one_or_eight}

@@ -1,4 +1,4 @@
-use Rattle.std.proofs.Common.{suc, length, sym, ◌∙◌, subst}
+use Rattle.std.proofs.Common.{sym, subst}
 use Rattle.std.proofs.lemmas.Result.{IfOk-weaker}
 use Rattle.order_words.specs.Called.{HasMeaning}
 use Rattle.order_program.specs.inner.Telling.{IsToldOfRun}

@@ -1,4 +1,4 @@
-use Rattle.std.proofs.Common.{◌≡◌, sym, ap, ◌∙◌, refl, subst}
+use Rattle.std.proofs.Common.{ap, ◌∙◌, refl}
 use Rattle.order_program.specs.Lines.{states_text}
 use Rattle.order_program.proofs.states.told_of_closed.Goals as goal
 

@@ -1,5 +1,4 @@
 use Rattle.std.proofs.Common.{subst}
-use Rattle.std.proofs.lemmas.Bool.{false≢true}
 use Rattle.std.proofs.lemmas.Result.{IfOk-weaker}
 use Rattle.ac_causal.specs.Cuts.{IsCutAnswer}
 use Rattle.order_program.proofs.Telling.{told_no_cut, told_open, told_closed}
