@@ -66,7 +66,7 @@ def first_other(run, files):
 def left(run, files):
     """The files after the run, each of which is there."""
     after = list(run.trace.start) + [b""] * (16 - len(run.trace.start))
-    history.legal(run.trace.entries, cores.capacities(run.names), len(run.names.cores), after)
+    history.legal(run.trace.entries, cores.capacities(run.names), cores.widths(run.names), len(run.names.cores), after)
     return files | {file.path.decode(): now for file, now in zip(run.names.files, after)}
 
 

@@ -53,11 +53,20 @@ def other_bytes(r, held):
     return r.choice([held[:at] + new + held[at + 1:], held[:at] + held[at + 1:], held[:at] + new + held[at:]])
 
 
+def other_message(r, message):
+    """A message in which one int is another, is gone or is new."""
+    at = r.randrange(len(message))
+    other = message[:at] + [message[at] + r.choice([-1, 1])] + message[at + 1:]
+    fewer = message[:at] + message[at + 1:]
+    more = message[:at] + [r.choice([-1, 0, 1])] + message[at:]
+    return r.choice([other] + [m for m in (fewer, more) if 1 <= len(m) <= 16])
+
+
 def other_value(r, value):
     if value is None:
-        return r.choice([0, ("bytes", b""), ("count", 0)])
-    if isinstance(value, int):
-        return value + r.choice([-1, 1])
+        return r.choice([[0], ("bytes", b""), ("count", 0)])
+    if isinstance(value, list):
+        return other_message(r, value)
     if len(value) == 2:
         kind, what = value
         others = [("bytes", other_bytes(r, what)), ("fault", 0)] if kind == "bytes" else [(kind, near(r, what)), ("fault", near(r, what))]
@@ -72,7 +81,7 @@ def other_event(r, e):
     """The entry with another event, and with what that carries."""
     near_by = {"know": ["room"], "room": ["know"], "got": ["pass"], "pass": ["got"], "withdraw": ["know"], "did": ["pass"]}
     event = r.choice(near_by.get(e.event, []) + [r.choice(EVENTS)])
-    carries = {"offer": 0, "got": 0, "did": ("count", 0), "reply": ("count", 0)}
+    carries = {"offer": [0], "got": [0], "did": ("count", 0), "reply": ("count", 0)}
     return e._replace(event=event, value=e.value if event == e.event else carries.get(event))
 
 

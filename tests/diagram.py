@@ -63,7 +63,8 @@ def labels(picture):
 # Each with the first line that is wrong.
 WRONG = [
     ("", 1),
-    ("ac-trace 2\n", 1),
+    ("ac-trace 3\n", 1),
+    ("ac-trace 2\n", 2),
     ("ac-trace 1\nsteps 0\nend 0 finished 1 -\n", 2),
     ("ac-trace 1\nsteps 2000001\nend 0 finished 1 -\n", 2),
     (lines(), 3),

@@ -36,6 +36,7 @@ LIMITS = {
     "elements of an array": (r"its size is not (\d+) to ([\d,]+)",),
     "channels": (r"or (\d+) channels stand before it",),
     "capacity of a channel": (r"its capacity is not (\d+) to (\d+)",),
+    "ints of a message": (r"is an array of (\d+) to (\d+) elements, sends all of them",),
     "files": (r"(\d+) files stand before it",),
     "bytes of a file": (r"file K of the program has more than (\S+) bytes",),
     "bytes of a read or a write": (r"the length is over (\d+) or over that of the array",),

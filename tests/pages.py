@@ -77,8 +77,9 @@ def faults_of_rules():
         row = found.get(number, "")
         if not re.search(rf"`tests/rules/c{number}_\*\.txt`", row):
             yield f"C{number} has no row with its tests"
-        if not re.search(rf"\| (\[c{number}_\w+\]\(crates/ac_types/must-fail/c{number}_\w+\.edit\)|–) \|$", row):
-            yield f"C{number} has no row with its edit, or with none"
+        edit = rf"\[c{number}_\w+\]\(crates/ac_types/must-fail/c{number}_\w+\.edit\)"
+        if not re.search(rf"\| ({edit}(, {edit})*|–) \|$", row):
+            yield f"C{number} has no row with its edits, or with none"
     for number in sorted(set(found) - set(range(1, 18))):
         yield f"C{number} is no rule"
 

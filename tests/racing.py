@@ -63,7 +63,7 @@ def shown(source, text):
 def file_fault(names, trace, folder):
     """What a file holds that the entries have not made of it, or nothing."""
     files = list(trace.start) + [b""] * (16 - len(trace.start))
-    history.legal(trace.entries, cores.capacities(names), len(names.cores), files)
+    history.legal(trace.entries, cores.capacities(names), cores.widths(names), len(names.cores), files)
     for file, held in zip(names.files, files):
         came = (folder / file.path.decode()).read_bytes()
         if came != held:

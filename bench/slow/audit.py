@@ -2,14 +2,14 @@
 
 An entry fits where the links, the stamps and the files take it after those before, and where the journal of its core through it can be
 replayed by the meaning of the source. Every journal is replayed from the beginning of its core."""
-from cores import capacities, replay
+from cores import capacities, replay, widths
 from history import FILE, Illegal, Links, unrest
 from source import TreeCore
 
 
 def misfit(names, trace):
     """The place of the first entry that does not fit, or None; the cores after all entries that do; and the links."""
-    links = Links(capacities(names), len(names.cores), list(trace.start) + [b""] * (16 - len(trace.start)))
+    links = Links(capacities(names), widths(names), len(names.cores), list(trace.start) + [b""] * (16 - len(trace.start)))
     least = len(trace.entries)
     for place, e in enumerate(trace.entries):
         try:

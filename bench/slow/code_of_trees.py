@@ -2,7 +2,7 @@
 from collections import deque
 
 from source import Cut
-from tokens_and_trees import N
+from tokens_and_trees import N, array_named, is_array
 
 LIMIT = 4_194_304
 MIN, SPAN = -(1 << 63), 1 << 64
@@ -48,9 +48,11 @@ class Compiled:
             self.put("Arr", e.level, d.slot, d.size)
 
     def reference(self, p):
-        """To the one element into which a receive goes."""
+        """To the elements into which a receive goes."""
         self.node = p
-        if p.kind == "Index":
+        if array_named(p) is not None:
+            self.array(p)
+        elif p.kind == "Index":
             self.array(p)
             self.expr(p.index)
             self.put("Place")
@@ -69,7 +71,7 @@ class Compiled:
         if k == "Number":
             self.put("Push", e.value)
         elif k == "Name":
-            if e.decl.kind in ("Array",) or getattr(e.decl, "is_array", False) or getattr(e.decl, "size", None) is not None:
+            if is_array(e.decl):
                 self.array(e)
             elif e.decl.owner is None:
                 self.put("LoadG", e.decl.slot)
@@ -332,9 +334,10 @@ class CodeCore:
             value = answer[1]
         self.goes_on(t, value)
 
-    def got(self, link, value):
-        _, t, (home, s, _), _ = self.receives[link].popleft()
-        home[s] = value
+    def got(self, link, message):
+        _, t, (home, s, n), _ = self.receives[link].popleft()
+        for k, v in enumerate(message[:n]):
+            home[s + k] = v
         self.goes_on(t, 0)
 
     def goes_on(self, t, value):
@@ -538,8 +541,10 @@ class CodeCore:
                 st[-1] = -1
             elif op in ("Send", "Recv"):
                 t.pc, t.frame = pc, fr
-                queues = self.sends if op == "Send" else self.receives
-                queues[ins[1]].append((self.births, t, st.pop(), None))
+                queues, what = self.sends if op == "Send" else self.receives, st.pop()
+                if op == "Send":
+                    what = what[0][what[1]:what[1] + what[2]] if isinstance(what, tuple) else [what]
+                queues[ins[1]].append((self.births, t, what, None))
                 self.births += 1
                 return
             elif op in ("Read", "Write"):

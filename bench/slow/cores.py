@@ -58,6 +58,11 @@ def capacities(names):
     return [c.cap for c in names.channels] + [16 for _ in names.cores]
 
 
+def widths(names):
+    """How many ints a message of each channel has."""
+    return [c.width for c in names.channels]
+
+
 class Run:
     """Cores, the file worker and the links between them; the journal of a core has an entry for each arrival, and the last journal is
     the worker's, with an entry for each request that it has done or passed over."""
@@ -290,7 +295,7 @@ class Program:
                 shown = [f"{word} {steps} {out[:300]!r} {waiting}" for word, steps, out, _, waiting in (core.end(), made[k].end())]
                 raise Difference(f"core {k}: {type(made[k]).__name__} {shown[1]}\n{type(core).__name__} {shown[0]}")
         try:
-            links = legal(merged(journals), capacities(self.names), len(other), start)
+            links = legal(merged(journals), capacities(self.names), widths(self.names), len(other), start)
         except Illegal as i:
             raise Difference(f"the history is not legal: {i}") from None
         if start != disk.held():

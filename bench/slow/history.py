@@ -6,7 +6,7 @@ owner may withdraw an offer that was not taken; the peer passes over it in its t
 from collections import namedtuple
 
 # `event` is offer, withdraw, know, room, got, pass, did or reply; `value` is what an offer carries or a got takes, the answer of a
-# did or a reply, and None for the others. An answer is ("bytes", bytes), ("count", n) or ("fault", n)
+# did or a reply, and None for the others. A message is a list of ints, a request a tuple. An answer is ("bytes", bytes), ("count", n) or ("fault", n)
 Entry = namedtuple("Entry", "stamp party turn event link number value")
 
 
@@ -79,8 +79,8 @@ def answers(value, answer, files):
 class Links:
     """The links of so many cores, whose last links are those of their requests, and the files, after the entries that were taken."""
 
-    def __init__(self, capacities, cores, files):
-        self.capacities, self.cores, self.files = capacities, cores, files
+    def __init__(self, capacities, widths, cores, files):
+        self.capacities, self.widths, self.cores, self.files = capacities, widths, cores, files
         self.links = [[] for _ in capacities]
         self.last, self.before = [0] * (cores + 1), (0, 0)
 
@@ -100,7 +100,7 @@ class Links:
         answered = 0
         if e.event == "offer":
             needs(e.number == len(offers), "not the next number")
-            needs(is_request(e.value) if asked else isinstance(e.value, int), "no such link carries it")
+            needs(is_request(e.value) if asked else self.is_message(e), "no such link carries it")
             needs(room(self.capacities[e.link], offers), "no room")
         elif e.event in ("did", "got"):
             needs(asked == (e.event == "did") and e.number == front(offers), "not the least that is not decided")
@@ -129,6 +129,10 @@ class Links:
         needs(e.event != "did" or answers(offers[e.number].value, e.value, self.files), "not an answer of the disk")
         self.note(e)
 
+    def is_message(self, e):
+        """Whether an offer on a channel has as many ints as its messages."""
+        return isinstance(e.value, list) and len(e.value) == self.widths[e.link]
+
     def note(self, e):
         """What the entry makes of its link and its party."""
         offers = self.links[e.link]
@@ -148,10 +152,10 @@ class Links:
         self.last[e.party], self.before = e.stamp, (e.stamp, e.party)
 
 
-def legal(history, capacities, cores, files):
+def legal(history, capacities, widths, cores, files):
     """The links after a legal history of so many cores; raises Illegal at the first entry that does not fit those before it. The
     files become what the history has made of them."""
-    after = Links(capacities, cores, files)
+    after = Links(capacities, widths, cores, files)
     for place, e in enumerate(history):
         try:
             after.take(e)

@@ -6,7 +6,8 @@ uses up the steps is a core whose threads never could run two at a time. Such a 
 is a network of processes, each of which waits for one message at a time (G. Kahn, 1974).
 
 First a plan is made: a row of exchanges between threads, each of which ends if the ones before it do. Then each thread is written
-as its part of the row. Some programs have a part left out or a trap put in, so that cores wait for ever.
+as its part of the row. Some programs have a part left out or a trap put in, so that cores wait for ever. Some channels carry several
+ints, out of an array that the thread has for it and into another.
 """
 import random
 
@@ -34,7 +35,7 @@ class Thread:
 class Plan:
     def __init__(self, r, single):
         self.r = r
-        self.threads, self.channels, self.cores = [], {}, []
+        self.threads, self.channels, self.widths, self.cores = [], {}, {}, []
         for core in range(r.choice([2, 2, 2, 3, 3, 4, 5, 7, 16])):
             entry = self.thread(core, None)
             self.cores.append(entry)
@@ -59,6 +60,7 @@ class Plan:
             return self.r.choice(old)
         name = f"c{len(self.channels)}"
         self.channels[name] = (a, b, self.r.choice([1, 1, 1, 2, 2, 3, 5, 64]))
+        self.widths[name] = self.r.choice([1, 1, 1, 1, 1, 2, 3, 16])
         return name
 
     def give(self, thread, times, acts):
@@ -186,6 +188,9 @@ class Writer:
         self.put(f"int x{n};")
         self.put(f"int v{n}[4];")
         self.put(f"int r{n};")
+        for name, (a, b, _) in self.plan.channels.items():
+            if t in (a, b) and self.plan.widths[name] > 1:
+                self.put(f"int {self.array(t, name)}[{self.plan.widths[name]}];")
         least, greatest = 1000, -1
         if t.children:
             least, greatest = min(c.least() for c in t.children), max(c.greatest() for c in t.children)
@@ -257,7 +262,7 @@ class Writer:
 
     def fail(self, t):
         s, v = f"s{t.number}", f"v{t.number}"
-        mine = [(c, a is t) for c, (a, b, _) in self.plan.channels.items() if t in (a, b)]
+        mine = [(c, a is t) for c, (a, b, _) in self.plan.channels.items() if t in (a, b) and self.plan.widths[c] == 1]
         forms = [f"{s} = {s} / ({s} - {s});", f"{v}[4] = 1;", f"{v}[{s} - {s} - 1] = 2;"]
         forms += ["while (1) ;", "while (1) yield;", f"while (1) {s} = {s} + 1;"]
         forms += [f"Send({c}, 1 % ({s} - {s}));" if sends else f"Recv({c}, &{v}[4]);" for c, sends in mine]
@@ -265,12 +270,40 @@ class Writer:
 
     # ---- sends and receives
 
+    def array(self, t, c):
+        """The array that a thread has for the messages of a channel."""
+        return f"m{t.number}{c}"
+
+    def whole(self, t, c):
+        """What is sent or received whole on a channel of several ints, and an int that tells of it."""
+        m = self.array(t, c)
+        sends = self.plan.channels[c][0] is t
+        return f"Send({c}, {m})" if sends else f"Recv({c}, &{m})", f"{m}[0] * 3 + {m}[{self.plan.widths[c] - 1}]"
+
+    def several(self, t, c):
+        """A message of several ints is sent or received, in a statement of its own."""
+        r, n = self.r, t.number
+        act, told = self.whole(t, c)
+        sends = self.plan.channels[c][0] is t
+        if sends:
+            self.put(f"{self.array(t, c)}[{r.randrange(self.plan.widths[c])}] = {self.message(t)};")
+        forms = [f"{act};", f"r{n} = {act};", f"s{n} = s{n} + {act};"]
+        if self.single or r.random() < 0.7:
+            self.put(r.choice(forms))
+        else:
+            self.put("do {")
+            self.put(r.choice([f"async {act};", f"async {{ yield; {act}; }}"]))
+            self.put("} finish;")
+        # A send has taken the array as it was.
+        self.put(f"{self.array(t, c)}[0] = s{n};" if sends else f"s{n} = s{n} * {r.randrange(2, 9)} + {told};")
+
     def in_one(self, t, acts):
         """All of them in one statement, in their order."""
         r, n = self.r, t.number
         parts = [self.part(t, *act) for act in acts]
         s, x, v = f"s{n}", f"x{n}", f"v{n}"
-        skipped = [f"Send({c}, {s})" if a is t else f"Recv({c}, &{x})" for c, (a, b, _) in self.plan.channels.items() if t in (a, b)]
+        skipped = [self.whole(t, c)[0] if self.plan.widths[c] > 1 else f"Send({c}, {s})" if a is t else f"Recv({c}, &{x})"
+                   for c, (a, b, _) in self.plan.channels.items() if t in (a, b)]
         if r.random() < 0.3:
             k = r.randrange(0, len(parts) + 1)
             parts[k:k] = [f"({r.choice(['0 && ', '1 || '])}{r.choice(skipped)})"]
@@ -294,6 +327,9 @@ class Writer:
         """A send or a receive as an operand, with what was read before it or is read behind it."""
         r, n = self.r, t.number
         s, x, v, g = f"s{n}", f"x{n}", f"v{n}", f"g{n}"
+        if self.plan.widths[c] > 1:
+            act, told = self.whole(t, c)
+            return r.choice([act, f"({act} == OK) * {s}", f"!{act}"] if kind == "send" else [f"({act} + {told})", f"({act} || {told})"])
         if kind == "send":
             e, name = self.message(t), self.helper(c, "give", True)
             forms = [f"Send({c}, {e})", f"(Send({c}, {e}) == OK) * {s}", f"{v}[Send({c}, {e}) + 1]", f"!Send({c}, {e} + {g})"]
@@ -312,6 +348,8 @@ class Writer:
         return r.choice(forms + ([f"s{n} * 10 + {self.count}"] * 3 if self.count else []))
 
     def send(self, t, c):
+        if self.plan.widths[c] > 1:
+            return self.several(t, c)
         r, n, e = self.r, t.number, self.message(t)
         x = r.random()
         if x < 0.35:
@@ -334,6 +372,8 @@ class Writer:
             self.put("} finish;")
 
     def receive(self, t, c):
+        if self.plan.widths[c] > 1:
+            return self.several(t, c)
         r, n = self.r, t.number
         x = r.random()
         s, got = f"s{n}", f"x{n}"
@@ -368,6 +408,8 @@ class Writer:
         self.put("do {")
         self.indent += 1
         body = f"Send({c}, s{n} + {i})" if kind == "send" else f"Recv({c}, &v{n}[{i} & 3])"
+        if self.plan.widths[c] > 1:
+            body = self.whole(t, c)[0]
         if self.r.random() < 0.3:
             body = f"r{n} = {body}"
         self.put(f"for (int {i} = 0; {i} < {times}; {i} = {i} + 1) async {body};")

@@ -3,9 +3,10 @@
 Each core has a row of threads, which send and receive, read and write, compute and yield, and print what came of it: so the order in
 which messages come to a core is seen, and what its threads have made of a variable that they share. A core may wait for the first of
 two messages and call off the other, and it may call off all its threads, at any of which a message of another core may then be left
-over.
+over. A message is an int, or an array of several that each thread has of its own.
 """
 import random
+import re
 
 MOST_CHANNELS = 60
 
@@ -29,13 +30,13 @@ class Writer:
 
     def channel(self, sender, receiver):
         """A channel from this core to that one, or none."""
-        old = [name for name, (a, b, _) in self.channels.items() if (a, b) == (sender, receiver)]
+        old = [name for name, (a, b, *_) in self.channels.items() if (a, b) == (sender, receiver)]
         if old and (self.r.random() < 0.7 or len(self.channels) >= MOST_CHANNELS):
             return self.r.choice(old)
         if len(self.channels) >= MOST_CHANNELS:
             return None
         name = f"c{len(self.channels)}"
-        self.channels[name] = (sender, receiver, self.r.choice([1, 1, 2, 3, 64]))
+        self.channels[name] = (sender, receiver, self.r.choice([1, 1, 2, 3, 64]), self.r.choice([1, 1, 1, 2, 3, 16]))
         return name
 
     def sent(self, receiver):
@@ -43,12 +44,21 @@ class Writer:
         thread = self.r.choice([t for t in self.threads if t.core != receiver])
         name = self.channel(thread.core, receiver)
         if name:
-            q = f"Send({name}, g + {self.number()})"
+            width, what = self.channels[name][3], f"g + {self.number()}"
+            if width > 1:
+                thread.lines.append(f"m{width}[0] = {what}; m{width}[{width - 1}] = g;")
+                what = f"m{width}"
+            q = f"Send({name}, {what})"
             thread.lines.append(self.r.choice([f'q = {q}; if (q != OK) printf("{self.number()}:%d ", q);', f'if ({q}) printf("{self.number()} ");',
                                                f"g = g + {q} + g;"]))
         return name
 
     def received(self, name):
+        width = self.channels[name][3]
+        if width > 1:
+            m, last = f"m{width}", f"m{width}[{width - 1}]"
+            return self.r.choice([f'q = Recv({name}, &{m}); g = g * 3 + {m}[0]; printf("{self.number()}:%d,%d,%d ", q, {m}[0], {last});',
+                                  f'g = g * 3 + Recv({name}, &{m}) + {last}; printf("{self.number()}:%d,%d ", g, {m}[0]);'])
         return self.r.choice([f'q = Recv({name}, &x); g = g * 3 + x; printf("{self.number()}:%d,%d ", q, x);',
                               f'g = g * 3 + Recv({name}, &x) + x; printf("{self.number()}:%d,%d ", g, x);',
                               f'printf("{self.number()}:%d,%d ", Recv({name}, &x) + x, g); g = g * 3 + x;'])
@@ -94,9 +104,11 @@ class Writer:
         for k, threads in enumerate(self.cores):
             lines += [f"core k{k}(f{k});", f"async void f{k}() {{", "  all: do {"]
             for thread in threads:
-                lines += ["    async {", "      int q;", "      int x;"] + ["      " + line for line in thread.lines] + ["    }"]
+                widths = sorted(set(map(int, re.findall(r"\bm([0-9]+)\b", "".join(thread.lines)))))
+                arrays = [f"      int m{width}[{width}];" for width in widths]
+                lines += ["    async {", "      int q;", "      int x;"] + arrays + ["      " + line for line in thread.lines] + ["    }"]
             lines += ["  } finish;", '  printf("%d\\n", g);', "}"]
-        lines += [f"channel {name}(k{a}, k{b}, {room});" for name, (a, b, room) in self.channels.items()]
+        lines += [f"channel {name}(k{a}, k{b}, {room});" for name, (a, b, room, _) in self.channels.items()]
         return "\n".join(lines) + "\n"
 
 

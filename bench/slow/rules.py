@@ -18,8 +18,9 @@ class Rules:
         for i in program.items:
             self.top.setdefault(i.name, i)
         self.calls = {}
+        self.widths = {}          # of each channel the number of ints that its first Send or Recv names
         self.reach = {}
-        self.walk()               # to learn the calls
+        self.walk()               # to learn the calls and the widths
         self.reached()
         self.found, self.order = [], 0
         self.walk()
@@ -124,6 +125,27 @@ class Rules:
         if d is None:
             return 2
         return 0 if self.sort(d) == wanted else self.misuses(name, self.sort(d), wanted)
+
+    def ints(self, e):
+        """How many ints a Send or a Recv names by its value or its place, or None."""
+        d = self.find(e.name) if e.kind == "Name" else None
+        if d is None or self.sort(d) != "array":
+            return 1
+        return d.size if d.kind != "Param" and 1 <= d.size <= 16 else None
+
+    def carries(self, channel, count):
+        """Rule 4 where a Send or a Recv names no number of ints, or another than the first of its channel."""
+        width = self.widths.setdefault(channel, 1 if count is None else count)
+        return 0 if count == width else self.misuses(channel.name, count, width)
+
+    def whole(self, e):
+        """The whole value of a Send, or the place of a Recv: an int or an array."""
+        if e.kind != "Name":
+            self.expr(e)
+            return
+        d = self.find(e.name)
+        fits = d is not None and self.sort(d) in ("int", "array")
+        self.node(e.at, 2 if d is None else 0 if fits else self.misuses(e.name, self.sort(d), "message"))
 
     def stmt(self, s):
         k = s.kind
@@ -246,13 +268,14 @@ class Rules:
                     self.expr(a)
         elif k in ("Send", "Recv"):
             r = self.use(e.channel, "Channel")
-            wrong = 0
+            wrong, whole = 0, e.value if k == "Send" else e.place
             if r == 0:
                 d = self.find(e.channel)
+                r = self.carries(d, self.ints(whole))
                 end = self.top.get(d.frm if k == "Send" else d.to)
                 wrong = 11 if any(c is not end for c in self.reach.get(self.f, [])) else 0
             self.node(e.at, broken, r, plain, wrong)
-            self.expr(e.value if k == "Send" else e.place)
+            self.whole(whole)
         else:
             self.node(e.at, broken, self.use(e.file, "File"), self.use(e.array, "array"), plain)
             self.expr(e.frm)

@@ -4,6 +4,8 @@ A core stands at a dispatch point, where something may come in, or has ended. `g
 one."""
 from collections import deque
 
+from tokens_and_trees import array_named
+
 LIMIT = 4_194_304
 FILE = 1_048_576
 
@@ -128,7 +130,7 @@ class Thread:
 class Operation:
     """A send, a receive or a request of a file that has not ended. `number` is that of its offer, where it was offered; `begun` says
     that the worker has taken a request and its core knows it. `what` is what it offers, or where a message goes, and `into` where a
-    read puts its bytes."""
+    read puts its bytes. A message is a list of ints."""
 
     def __init__(self, kind, link, thread, what, into=None):
         self.kind, self.link, self.thread, self.what, self.into = kind, link, thread, what, into
@@ -213,10 +215,11 @@ class TreeCore:
         else:
             self.has_ended(o, -2)
 
-    def got(self, link, value):
+    def got(self, link, message):
         o = self.oldest(link, True)
-        cells, index = o.what
-        cells[index] = value
+        cells, first, count = o.what
+        for k in range(min(count, len(message))):
+            cells[first + k] = message[k]
         self.has_ended(o, 0)
 
     def has_ended(self, operation, value):
@@ -376,9 +379,16 @@ class TreeCore:
 
     def operation(self, e, frame, t):
         if e.kind == "Send":
-            return (yield ("send", e.link, (yield from self.value(e.value, frame, t))))
+            array = array_named(e.value)
+            message = [(yield from self.value(e.value, frame, t))] if array is None else list(self.cells(frame, array))
+            return (yield ("send", e.link, message))
         if e.kind == "Recv":
-            return (yield ("receive", e.link, (yield from self.place(e.place, frame, t))))
+            array = array_named(e.place)
+            if array is not None:
+                cells = self.cells(frame, array)
+                return (yield ("receive", e.link, (cells, 0, len(cells))))
+            cells, index = yield from self.place(e.place, frame, t)
+            return (yield ("receive", e.link, (cells, index, 1)))
         place = yield from self.value(e.frm, frame, t)
         length = yield from self.value(e.len, frame, t)
         cells = self.cells(frame, e.decl)

@@ -50,16 +50,16 @@ def main():
     orders = int(sys.argv[2]) if len(sys.argv) > 2 else 20
     read, bad, count = tests_of_programs().read, 0, 0
     for path in sorted(pathlib.Path(sys.argv[1]).glob("*.txt")):
-        words, _, source, status, output, before, after, answers = read(path)
-        if words[0] != "run" or "# Only real files show it." in path.read_text():
+        test = read(path)
+        if test.program or test.words[:1] != ["run"] or "# Only real files show it." in path.read_text():
             continue
         count += 1
-        steps, wanted = int(words[3]) if len(words) == 4 else 100_000, answers or ((status, output),)
-        wrong = came(source, steps, wanted, orders, True, before, after)
+        steps, wanted = int(test.words[3]) if len(test.words) == 4 else 100_000, test.answers or ((test.status, test.output),)
+        wrong = came(test.source, steps, wanted, orders, True, test.before, test.after)
         if wrong:
             print(f"{path.name}: wanted {wanted}\nof ac, {wrong}")
         else:
-            wrong = came(source, steps, wanted, orders, False, before, after)
+            wrong = came(test.source, steps, wanted, orders, False, test.before, test.after)
             if wrong:
                 print(f"{path.name}: right in each order of ac, and not {wrong}")
             continue

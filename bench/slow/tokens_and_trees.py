@@ -435,8 +435,19 @@ def parse(text):
     return Parser(tokens, len(text)).program()
 
 
+def is_array(d):
+    """Whether a declaration is one of an array."""
+    return d.kind == "Array" or (d.kind == "Param" and d.is_array) or (d.kind == "Global" and d.size is not None)
+
+
+def array_named(e):
+    """The array that an expression is the name of, or None."""
+    return e.decl if e.kind == "Name" and is_array(e.decl) else None
+
+
 class Names:
-    """Says of each use which declaration is meant: `node.decl`. Of each declaration: `owner`, `slot`."""
+    """Says of each use which declaration is meant: `node.decl`. Of each declaration: `owner`, `slot`. Of each channel: how many ints
+    a message has, in a program that breaks no rule."""
 
     def __init__(self, program):
         self.top = {}
@@ -457,7 +468,7 @@ class Names:
                 item.number = len(self.cores)
                 self.cores.append(item)
             elif item.kind == "Channel":
-                item.number = len(self.channels)
+                item.number, item.width = len(self.channels), 1
                 self.channels.append(item)
             elif item.kind == "File":
                 item.number = len(self.files)
@@ -595,8 +606,12 @@ class Names:
             for a in e.args:
                 self.expr(a)
         elif k in ("Send", "Recv"):
-            e.link = self.find(e.channel).number
-            self.expr(e.value if k == "Send" else e.place)
+            channel, whole = self.find(e.channel), e.value if k == "Send" else e.place
+            e.link = channel.number
+            self.expr(whole)
+            array = array_named(whole)
+            if array is not None:
+                channel.width = array.size
         elif k in ("Read", "Write"):
             e.number = self.find(e.file).number
             self.expr(e.frm)

@@ -7,7 +7,7 @@ from collections import Counter, namedtuple
 import rules
 import tokens_and_trees as lang
 from code_of_trees import CodeCore, Compiled, around
-from cores import capacities, replay
+from cores import capacities, replay, widths
 from history import FILE, Illegal, Links, unrest
 
 LONGEST, FILES = 40, 16
@@ -57,7 +57,7 @@ class Followed:
     def legal(self, trace):
         """How many entries the links, the stamps and the files take; `links` are those after them."""
         files = list(trace.start) + [b""] * (FILES - len(trace.start))
-        after, taken = Links(capacities(self.names), len(self.names.cores), files), 0
+        after, taken = Links(capacities(self.names), widths(self.names), len(self.names.cores), files), 0
         self.links = after.links
         for e in trace.entries:
             try:

@@ -33,31 +33,26 @@ fn take(links: &mut Links, clock: &mut Clock) -> Receiving<Message>
 }
 
 // Offers the message and withdraws it.
-fn call_off(links: &mut Links, value: Message, clock: &mut Clock) -> Said
+fn call_off(links: &mut Links, value: i64, clock: &mut Clock) -> Said
     requires one { 0 < length links.old }
     requires channel { (link_at links.old 0).terms.requests ≡ false }
     ensures one { 0 < length links.new }
     ensures channel { (link_at links.new 0).terms.requests ≡ false }
 {
-    match links.offer(0, Payload::Int(value), clock) {
+    match links.offer(0, Payload::Int(Message::of(value)), clock) {
         Offering::Offered { number, .. } => of_withdrawing(links.withdraw(0, number, clock)),
         _ => Said::Other,
     }
 }
 
 // The same, after the receiver has taken.
-fn call_off_late(
-    links: &mut Links,
-    value: Message,
-    sender: &mut Clock,
-    receiver: &mut Clock,
-) -> Said
+fn call_off_late(links: &mut Links, value: i64, sender: &mut Clock, receiver: &mut Clock) -> Said
     requires one { 0 < length links.old }
     requires channel { (link_at links.old 0).terms.requests ≡ false }
     ensures one { 0 < length links.new }
     ensures channel { (link_at links.new 0).terms.requests ≡ false }
 {
-    match links.offer(0, Payload::Int(value), sender) {
+    match links.offer(0, Payload::Int(Message::of(value)), sender) {
         Offering::Offered { number, .. } => {
             take(links, receiver);
             of_withdrawing(links.withdraw(0, number, sender))
@@ -73,7 +68,9 @@ fn act(links: &mut Links, step: Step, sender: &mut Clock, receiver: &mut Clock) 
     ensures channel { (link_at links.new 0).terms.requests ≡ false }
 {
     match step {
-        Step::Offer(value) => of_offering(links.offer(0, Payload::Int(value), sender)),
+        Step::Offer(value) => {
+            of_offering(links.offer(0, Payload::Int(Message::of(value)), sender))
+        }
         Step::CallOff(value) => call_off(links, value, sender),
         Step::CallOffLate(value) => call_off_late(links, value, sender, receiver),
         Step::Learn => of_learning(links.learn(0, sender)),

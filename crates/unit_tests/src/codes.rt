@@ -8,7 +8,7 @@ mod ways;
 mod written;
 
 use self::parts::{Whose, first_wrong};
-use self::shapes::{BLOCKS, BODIES, OPERANDS, RANGES};
+use self::shapes::{BLOCKS, BODIES, MESSAGES, OPERANDS, RANGES};
 use self::slots::{BLOCKS_AND_INTS, IN_FRAME, PARAMETERS};
 use self::ways::{CALLS_BACK, WAYS, WAYS_BACK};
 use std::test::Fail;
@@ -17,6 +17,7 @@ use std::test::Fail;
 fn bodies_are_valid_or_not(rt: HostRuntime) -> Result<(), Fail> {
     for (table, (whose, cases)) in [
         (Whose::First, OPERANDS.as_slice()),
+        (Whose::Wide, MESSAGES.as_slice()),
         (Whose::First, RANGES.as_slice()),
         (Whose::First, BLOCKS.as_slice()),
         (Whose::First, BODIES.as_slice()),

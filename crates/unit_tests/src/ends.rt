@@ -24,12 +24,12 @@ type Receiver<'a> = RecvEnd<'a, Message, AnyItems>;
 const LAST_STAMP: u64 = (1 << 60) - 1;
 
 // Offers the message and withdraws it.
-fn call_off(send: &mut Sender<'_>, value: Message, clock: &mut Clock) -> Said
+fn call_off(send: &mut Sender<'_>, value: i64, clock: &mut Clock) -> Said
     requires { AreWithin clock.old send.old.notes.offers }
     ensures within { AreWithin clock.new send.new.notes.offers }
     ensures same { IsSameSend send.old send.new }
 {
-    match send.offer(value, clock) {
+    match send.offer(Message::of(value), clock) {
         Offering::Offered { number, .. } => of_withdrawing(send.withdraw(number, clock)),
         _ => Said::Other,
     }
@@ -39,7 +39,7 @@ fn call_off(send: &mut Sender<'_>, value: Message, clock: &mut Clock) -> Said
 fn call_off_late(
     send: &mut Sender<'_>,
     recv: &mut Receiver<'_>,
-    value: Message,
+    value: i64,
     sender: &mut Clock,
     receiver: &mut Clock,
 ) -> Said
@@ -48,7 +48,7 @@ fn call_off_late(
     ensures send { IsSameSend send.old send.new }
     ensures recv { IsSameRecv recv.old recv.new }
 {
-    match send.offer(value, sender) {
+    match send.offer(Message::of(value), sender) {
         Offering::Offered { number, .. } => {
             let _taken = recv.take(receiver);
             of_withdrawing(send.withdraw(number, sender))
@@ -70,7 +70,7 @@ fn act(
     ensures ends { AreEnds send.new recv.new }
 {
     match step {
-        Step::Offer(value) => of_offering(send.offer(value, sender)),
+        Step::Offer(value) => of_offering(send.offer(Message::of(value), sender)),
         Step::CallOff(value) => call_off(send, value, sender),
         Step::CallOffLate(value) => call_off_late(send, recv, value, sender, receiver),
         Step::Learn => of_learning(send.learn(sender)),

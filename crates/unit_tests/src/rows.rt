@@ -7,12 +7,12 @@ use core_channels::{Learning, Offering, Receiving, Withdrawing};
 /// What is done.
 #[derive(Clone, Copy)]
 pub enum Step {
-    /// The sender offers this message.
-    Offer(Message),
+    /// The sender offers a message of this int.
+    Offer(i64),
     /// It offers it, and withdraws it at once.
-    CallOff(Message),
+    CallOff(i64),
     /// It offers it, and withdraws it once the receiver has taken it.
-    CallOffLate(Message),
+    CallOffLate(i64),
     /// The sender learns.
     Learn,
     /// The receiver takes.
@@ -24,41 +24,17 @@ pub enum Step {
 /// What is answered.
 #[derive(Clone, Copy, PartialEq, Eq)]
 pub enum Said {
-    Offered {
-        number: u64,
-        stamp: u64,
-    },
+    Offered { number: u64, stamp: u64 },
     NoRoom,
-    Withdrawn {
-        stamp: u64,
-    },
-    Taken {
-        stamp: u64,
-    },
-    Known {
-        number: u64,
-        stamp: u64,
-    },
-    Room {
-        number: u64,
-        stamp: u64,
-    },
+    Withdrawn { stamp: u64 },
+    Taken { stamp: u64 },
+    Known { number: u64, stamp: u64 },
+    Room { number: u64, stamp: u64 },
     Undecided,
     AllKnown,
-    Took {
-        number: u64,
-        value: Message,
-        stamp: u64,
-    },
-    Passed {
-        number: u64,
-        stamp: u64,
-    },
-    Replied {
-        number: u64,
-        count: u32,
-        stamp: u64,
-    },
+    Took { number: u64, value: i64, stamp: u64 },
+    Passed { number: u64, stamp: u64 },
+    Replied { number: u64, count: u32, stamp: u64 },
     NotAwaited,
     Nothing,
     ClockFull,
@@ -94,6 +70,14 @@ pub fn of_learning(answer: Learning) -> Said {
     }
 }
 
+// Its one int; a message of more is no row's.
+fn only(message: &Message) -> i64 {
+    match message.as_slice() {
+        [value] => *value,
+        _ => -1,
+    }
+}
+
 pub fn of_receiving(answer: Receiving<Message>) -> Said {
     match answer {
         Receiving::Took {
@@ -102,7 +86,7 @@ pub fn of_receiving(answer: Receiving<Message>) -> Said {
             stamp,
         } => Said::Took {
             number,
-            value,
+            value: only(&value),
             stamp,
         },
         Receiving::Passed { number, stamp } => Said::Passed { number, stamp },

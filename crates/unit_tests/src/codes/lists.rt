@@ -8,7 +8,7 @@ use std::test::Fail;
 
 const BODY: [Instr; 4] = [Load { level: 0, slot: 0 }, Ret, Push(1), Ret];
 
-static LISTS: [(Lists, bool); 21] = [
+static LISTS: [(Lists, bool); 28] = [
     (USUAL, true),
     (
         Lists {
@@ -16,6 +16,7 @@ static LISTS: [(Lists, bool); 21] = [
             names: 0,
             capacities: &[],
             ends: &[],
+            widths: &[],
             ..USUAL
         },
         false,
@@ -26,6 +27,7 @@ static LISTS: [(Lists, bool); 21] = [
             names: 16,
             capacities: &[1; 16],
             ends: &[],
+            widths: &[],
             ..USUAL
         },
         true,
@@ -36,6 +38,7 @@ static LISTS: [(Lists, bool); 21] = [
             names: 17,
             capacities: &[1; 17],
             ends: &[],
+            widths: &[],
             ..USUAL
         },
         false,
@@ -59,6 +62,7 @@ static LISTS: [(Lists, bool); 21] = [
         Lists {
             capacities: &[4],
             ends: &[],
+            widths: &[],
             ..USUAL
         },
         false,
@@ -84,7 +88,14 @@ static LISTS: [(Lists, bool); 21] = [
         },
         false,
     ),
-    (Lists { ends: &[], ..USUAL }, false),
+    (
+        Lists {
+            ends: &[],
+            widths: &[],
+            ..USUAL
+        },
+        false,
+    ),
     (
         Lists {
             ends: &[ChannelEnds { from: 1, to: 1 }],
@@ -130,6 +141,55 @@ static LISTS: [(Lists, bool); 21] = [
     (
         Lists {
             starts: &[Start { slot: 0, value: 0 }],
+            ..USUAL
+        },
+        false,
+    ),
+    (
+        Lists {
+            widths: &[2],
+            ..USUAL
+        },
+        true,
+    ),
+    (
+        Lists {
+            widths: &[15],
+            ..USUAL
+        },
+        true,
+    ),
+    (
+        Lists {
+            widths: &[16],
+            ..USUAL
+        },
+        true,
+    ),
+    (
+        Lists {
+            widths: &[17],
+            ..USUAL
+        },
+        false,
+    ),
+    (
+        Lists {
+            widths: &[0],
+            ..USUAL
+        },
+        false,
+    ),
+    (
+        Lists {
+            widths: &[],
+            ..USUAL
+        },
+        false,
+    ),
+    (
+        Lists {
+            widths: &[1, 1],
             ..USUAL
         },
         false,

@@ -14,19 +14,27 @@ pub struct Lists<'a> {
     pub capacities: &'a [u32],
     pub ends: &'a [ChannelEnds],
     pub starts: &'a [Start],
+    pub widths: &'a [u32],
     /// The slots of the second function, whose parameters are an int and an array.
     pub words: u32,
 }
 
-/// Two cores that enter the first function, one channel from the first to the second, and three
-/// globals of which the second starts with 5.
+/// Two cores that enter the first function, one channel of one int from the first to the second, and
+/// three globals of which the second starts with 5.
 pub const USUAL: Lists<'static> = Lists {
     entries: &[0, 0],
     names: 2,
     capacities: &[4, 1, 1],
     ends: &[ChannelEnds { from: 0, to: 1 }],
     starts: &[Start { slot: 1, value: 5 }],
+    widths: &[1],
     words: 3,
+};
+
+/// The same with a channel of two ints.
+const WIDE: Lists<'static> = Lists {
+    widths: &[2],
+    ..USUAL
 };
 
 fn list<T: Copy>(alloc: Global, items: &[T]) -> Result<List<T>, NoMemory> {
@@ -93,8 +101,9 @@ pub fn code_with(
     let capacities = list(alloc, lists.capacities)?;
     let ends = list(alloc, lists.ends)?;
     let starts = list(alloc, lists.starts)?;
+    let widths = list(alloc, lists.widths)?;
     Code::make(
-        alloc, instrs, functions, texts, entries, names, 3, capacities, ends, starts,
+        alloc, instrs, functions, texts, entries, names, 3, capacities, ends, starts, widths,
     )
 }
 
@@ -105,6 +114,8 @@ pub enum Whose {
     First,
     /// The second, whose body begins at address 4. The first calls it.
     Second,
+    /// The first, in a code whose channel is one of two ints.
+    Wide,
 }
 
 const RETURNS_ITS_INT: &str = "Load 0 0, Ret";
@@ -114,14 +125,18 @@ const CALLS_THE_SECOND: &str = "Push 1, Arr 0 0 2, Call 1 2, Ret";
 /// Whether that function may have the body that is written so; none where it is not well written.
 fn may_have(alloc: Global, whose: Whose, body: &str) -> Result<Option<bool>, NoMemory> {
     let (other, first, second) = match whose {
-        Whose::First => (RETURNS_ITS_INT, 2, 0),
+        Whose::First | Whose::Wide => (RETURNS_ITS_INT, 2, 0),
         Whose::Second => (CALLS_THE_SECOND, 0, 4),
+    };
+    let lists = match whose {
+        Whose::Wide => &WIDE,
+        _ => &USUAL,
     };
     let mut instrs = Vec::new(alloc);
     if !written(&mut instrs, other)? || !written(&mut instrs, body)? {
         return Ok(None);
     }
-    let code = code_with(alloc, &USUAL, instrs.as_slice(), first, second)?;
+    let code = code_with(alloc, lists, instrs.as_slice(), first, second)?;
     Ok(Some(code.is_some()))
 }
 

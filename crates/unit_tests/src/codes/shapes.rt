@@ -1,6 +1,6 @@
 //! Operands, blocks and bodies.
 
-pub(super) static OPERANDS: [(&str, bool); 22] = [
+pub(super) static OPERANDS: [(&str, bool); 24] = [
     ("Push 1, Ret", true),
     ("Ret", false),
     ("Push 1, Push 1, Ret", false),
@@ -19,10 +19,29 @@ pub(super) static OPERANDS: [(&str, bool); 22] = [
     ("Arr 0 0 2, Push 1, Place, Recv 0, Ret", true),
     ("ArrG 2 1, Recv 0, Ret", true),
     ("Push 1, Send 0, Ret", true),
-    ("Arr 0 0 1, Send 0, Ret", false),
+    ("Arr 0 0 1, Send 0, Ret", true),
+    ("Arr 0 0 2, Send 0, Ret", false),
+    ("Arr 0 0 2, Push 1, Place, Send 0, Ret", true),
     ("Push 0, Push 2, Arr 0 0 2, Read 15, Ret", true),
     ("Arr 0 0 2, Push 0, Push 2, Write 0, Ret", false),
     ("Push 0, Yield, Ret", true),
+];
+
+// The channel is one of two ints.
+pub(super) static MESSAGES: [(&str, bool); 10] = [
+    ("Arr 0 0 2, Send 0, Ret", true),
+    ("ArrG 1 2, Send 0, Ret", true),
+    ("Push 1, Send 0, Ret", false),
+    ("Arr 0 0 1, Send 0, Ret", false),
+    ("Arr 0 0 3, Send 0, Ret", false),
+    ("Arr 0 0 2, Push 1, Place, Send 0, Ret", false),
+    (
+        "Arr 0 0 2, Push 1, Arr 0 0 3, Call 1 2, Drop, Send 0, Ret",
+        true,
+    ),
+    ("Arr 0 0 2, Recv 0, Ret", true),
+    ("Arr 0 0 1, Recv 0, Ret", false),
+    ("Arr 0 0 2, Push 0, Place, Recv 0, Ret", false),
 ];
 
 pub(super) static RANGES: [(&str, bool); 12] = [

@@ -38,7 +38,7 @@ pub(super) static BLOCKS_AND_INTS: [(&str, bool); 8] = [
     ),
 ];
 
-pub(super) static PARAMETERS: [(&str, bool); 14] = [
+pub(super) static PARAMETERS: [(&str, bool); 15] = [
     ("Load 0 0, Ret", true),
     ("Load 0 1, Push 0, Elem, Ret", true),
     ("Load 0 1, Ret", false),
@@ -51,7 +51,8 @@ pub(super) static PARAMETERS: [(&str, bool); 14] = [
     ("Enter 0, Finish 0, Push 0, Ret", false),
     ("Enter 1, Finish 1, Push 0, Ret", false),
     ("Enter 2, Finish 2, Push 0, Ret", true),
-    // A parameter is not known to be of one element.
+    // Of a parameter it is not known how many elements it has.
     ("Load 0 1, Recv 0, Ret", false),
+    ("Load 0 1, Send 0, Ret", false),
     ("Step, Push 1, Load 0 1, Call 1 2, Ret", true),
 ];

@@ -1,18 +1,22 @@
 //! Ways through a code.
 
-pub(super) static WAYS: [(&str, bool); 10] = [
+pub(super) static WAYS: [(&str, bool); 11] = [
     ("Push 0", false),
     ("Jump 9", false),
     ("Push 1, Jz 5, Step, Push 0, Ret", true),
     ("Push 1, Jz 5, Push 0, Push 0, Ret", false),
     ("Push 1, Jnz 5, Push 0, Push 0, Ret", false),
-    // References of one element and of two are not the same.
+    // References of so many elements and of more are not the same.
     (
         "Push 1, Jz 6, Arr 0 0 1, Jump 7, Arr 0 0 2, Drop, Push 0, Ret",
         false,
     ),
     (
         "Push 1, Jz 6, Arr 0 0 3, Jump 7, Arr 0 0 2, Drop, Push 0, Ret",
+        false,
+    ),
+    (
+        "Push 1, Jz 6, Arr 0 0 2, Jump 7, Arr 0 2 2, Drop, Push 0, Ret",
         true,
     ),
     // A jump into the other function, which is called as well, and which is not.
