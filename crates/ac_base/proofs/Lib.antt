@@ -1,2 +1,4 @@
 pub mod Examples
 mod Filled
+pub mod StoredExamples
+mod Storing

@@ -94,3 +94,16 @@ impl<T> Draft<T> {
         &self.items[index as usize]
     }
 }
+
+impl<T: Copy> Draft<T> {
+    /// Appends items and takes no memory.
+    pub(crate) fn append(&mut self, items: &[T])
+        requires { length items.now ≤ self.old.1 }
+        ensures items { self.new.0 ≡ self.old.0 ++ items.now }
+        ensures spare { self.new.1 + length items.now ≡ self.old.1 }
+    {
+        for item in items {
+            self.push(*item);
+        }
+    }
+}

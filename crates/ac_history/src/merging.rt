@@ -4,7 +4,7 @@ ghost use Rattle.std.specs.Prelude.{◌≡◌, ◌++◌, ◌≤◌, ◌^◌, IfO
 ghost use Rattle.ac_links.specs.Order.{of_party};
 ghost use Rattle.ac_history.specs.Merged.{entries_of, merged};
 
-use ac_base::{Entry, Journal, List, NoMemory, Stamped};
+use ac_base::{Journal, List, NoMemory, Stamped};
 use std::alloc::Global;
 
 // Adds the entries of a party.
@@ -12,15 +12,13 @@ fn add_entries(
     alloc: Global,
     all: &mut List<Stamped>,
     party: u32,
-    entries: &[Entry],
+    journal: &Journal,
 ) -> Result<(), NoMemory>
-    ensures { OnOk result (all.new ≡ all.old ++ of_party party entries.now) }
+    ensures { OnOk result (all.new ≡ all.old ++ of_party party journal.now.entries) }
 {
-    for entry in entries {
-        all.push(Stamped {
-            party,
-            entry: entry.copy(alloc)?,
-        })?;
+    for place in 0..journal.len() {
+        let entry = journal.get(alloc, place)?;
+        all.push(Stamped { party, entry })?;
     }
     Ok(())
 }
@@ -33,7 +31,7 @@ pub fn merge(alloc: Global, journals: &List<Journal>) -> Result<List<Stamped>, N
 {
     let mut all = List::new(alloc);
     for (party, journal) in journals.as_slice().iter().enumerate() {
-        add_entries(alloc, &mut all, party as u32, journal.as_slice())?;
+        add_entries(alloc, &mut all, party as u32, journal)?;
     }
     let mut all = all.into_vec();
     all.sort_by_key(|e| e.entry.stamp)?;

@@ -50,7 +50,8 @@ fn replayed(
     ensures misfit { (place : ℕ) → result ≡ Err (Misfit place) → IsMisfit program.now core steps journal.now.entries place }
 {
     let entered = entered(program, core);
-    let ending = Ending::new(program, core, entered, steps, journal.as_slice());
+    let entries = journal.to_list(alloc)?;
+    let ending = Ending::new(program, core, entered, steps, entries.as_slice());
     match run_core(alloc, &ending)? {
         Run::Ends(end) => Ok(end),
         Run::Misfit { place } => Err(ReplayFault::Misfit { place }),

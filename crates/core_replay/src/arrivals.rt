@@ -20,8 +20,8 @@ fn is_next(machine: &CoreMachine<'_>, offers: &OwnOffers, link: u32, number: u64
     ensures low { result ≡ true → number < 2 ^ 64 - 1 }
 {
     // Each offer is an entry, so that no number is the last.
-    let most = machine.journal().as_slice().len() + 1;
-    number == offers.count(link) && number < most as u64
+    let most = machine.journal().len() + 1;
+    number == offers.count(link) && number < most
 }
 
 // An offer of the oldest operation that is to be offered on a link, if it carries this.

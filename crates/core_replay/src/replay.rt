@@ -126,12 +126,11 @@ impl<'a> Replay<'a> {
         let _ending = self.machine.ending();
         let _instrs = self.machine.code().instrs();
         let _ranks = self.machine.code().ranks();
-        let entries = journal.as_slice();
-        for (place, entry) in entries.iter().enumerate() {
-            if !self.take(entry)? {
-                return Ok(Followed::Misfit {
-                    place: place as u64,
-                });
+        let alloc = self.machine.alloc();
+        for place in 0..journal.len() {
+            let entry = journal.get(alloc, place)?;
+            if !self.take(&entry)? {
+                return Ok(Followed::Misfit { place });
             }
         }
         Ok(Followed::Done)

@@ -1,10 +1,10 @@
 -- The worker's ends for two cores, by numbers: core 0 has asked for two bytes and core 1 has withdrawn its request; then the one is done and
 -- the other is passed. And one row of three requests, of which the second is withdrawn.
-use Rattle.std.proofs.Common.{◌≡◌, ℕ, zero, suc, ◌≤◌, List, [], ◌∷◌, Option, Some, None, true, false, refl, ap, subst, arith}
+use Rattle.std.proofs.Common.{◌≡◌, ℕ, zero, suc, ◌≤◌, List, [], ◌∷◌, Option, Some, None, refl, ap, subst, arith}
 use denote.RawPtr.{null_ptr}
 use Rattle.ac_base.specs.declared.entry.Payload.{Payload}
 use Rattle.ac_base.specs.declared.entry.Payload.TheVariants.{Read}
-use Rattle.ac_base.specs.declared.entry.Answer.TheVariants.{Bytes, Fault}
+use Rattle.ac_base.specs.declared.entry.Answer.TheVariants.{Bytes}
 use Rattle.ac_base.specs.declared.entry.Entry.{Entry}
 use Rattle.ac_base.specs.declared.entry.Event.TheVariants as event
 use Rattle.ac_links.specs.Payloads.Taking.{Done}
@@ -21,7 +21,7 @@ use Rattle.channel_ends.specs.Receiving.{Receiving}
 use Rattle.channel_ends.specs.Rings.{RingName}
 use Rattle.channel_ends.proofs.Examples.{words_of}
 use Rattle.request_ends.specs.Replying.{Replying}
-use Rattle.file_worker.specs.Ends.{CoreEnds, core_ends, IsNew, IsReady, AtDesk, AreReady, is_done_on, done_on, done_by, replies_left, decisions_of, HasReply, AreAnswered}
+use Rattle.file_worker.specs.Ends.{CoreEnds, core_ends, IsNew, IsReady, AtDesk, AreReady, done_on, done_by, replies_left, decisions_of, HasReply, AreAnswered}
 use Rattle.file_worker.specs.Ends.{end_of, end_or_absent, worker_ends}
 use Rattle.file_worker.specs.Laws.{first_answer, answer_at, taking_of, AreViewed, DecisionsAreViews}
 use Rattle.file_worker.proofs.EndLists.{same_some}
@@ -113,10 +113,6 @@ pub nor_without_a_place : IsReady (record first_asks { reply = putter 2 [] 0 }) 
 nor_without_a_place h = let l : 1 ≤ 0 = h.places in absurd (omega arith)
 
 -- ---- what was done
-
-pub which_are_done : is_done_on 1 (event.Did 1 0 (Fault 0)) ∷ is_done_on 2 (event.Did 1 0 (Fault 0)) ∷ is_done_on 1 (event.Pass 1 0) ∷ is_done_on 1 (event.Reply 1 0 (Fault 0)) ∷ []
-    ≡ true ∷ false ∷ false ∷ false ∷ []
-which_are_done = refl
 
 pub one_was_done_and_one_was_passed : done_on 1 at_last.entries ∷ done_on 2 at_last.entries ∷ [] ≡ 1 ∷ 0 ∷ []
 one_was_done_and_one_was_passed = refl

@@ -1,11 +1,10 @@
 -- What contracts see of the worker's ends of its cores' requests, and what they are to the law on links.
-use Rattle.std.specs.Prelude.{◌≡◌, ◌≤◌, ℕ, ◌+◌, ◌-◌, List, [], ◌∷◌, Option, Some, None, Bool, true, false}
-use Rattle.std.specs.Prelude.{◌==◌, length, slice_get, nat_le, if◌then◌else◌}
+use Rattle.std.specs.Prelude.{◌≡◌, ◌≤◌, ℕ, ◌+◌, ◌-◌, List, [], ◌∷◌, Option, Some, None, true}
+use Rattle.std.specs.Prelude.{length, slice_get, nat_le, if◌then◌else◌}
 use Rattle.std.specs.List.{filter}
 use Rattle.ac_base.specs.declared.entry.Payload.{Payload}
 use Rattle.ac_base.specs.declared.entry.Entry.{Entry}
-use Rattle.ac_base.specs.declared.entry.Event.{Event}
-use Rattle.ac_base.specs.declared.entry.Event.TheVariants.{Offer, Withdraw, Know, Room, Got, Pass, Did, Reply}
+use Rattle.ac_base.specs.Done.{is_done_on}
 use Rattle.ac_links.specs.Payloads.{Taking, answer_fits}
 use Rattle.ac_links.specs.Payloads.Taking.{Done}
 use Rattle.ac_links.specs.Views.{Response, PeerDecision}
@@ -52,16 +51,6 @@ abbrev pub AreReady : AtDesk → Type 0
 AreReady w = (c : ℕ) (e : CoreEnds) → slice_get w.ends c ≡ Some e → IsReady e
 
 -- ---- what was done
-
-abbrev pub is_done_on : ℕ → Event → Bool
-is_done_on l (Offer k n payload) = false
-is_done_on l (Withdraw k n) = false
-is_done_on l (Know k n) = false
-is_done_on l (Room k n) = false
-is_done_on l (Got k n value) = false
-is_done_on l (Pass k n) = false
-is_done_on l (Did k n answer) = k == l
-is_done_on l (Reply k n answer) = false
 
 -- how many requests of link l
 abbrev pub done_on : ℕ → List Entry → ℕ

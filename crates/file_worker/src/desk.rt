@@ -4,7 +4,7 @@ ghost use Rattle.std.specs.Prelude.{◌≡◌, ◌+◌, ◌<◌, ◌^◌, [], le
 ghost use Rattle.std.specs.List.{All};
 ghost use Rattle.ac_links.specs.Journals.{last_of};
 ghost use Rattle.file_worker.specs.Agreement.{WorkerAgrees};
-ghost use Rattle.file_worker.specs.Ends.{core_ends, done_on, is_done_on, AreReady, AtEach, IsNew};
+ghost use Rattle.file_worker.specs.Ends.{core_ends, done_on, AreReady, AtEach, IsNew};
 ghost use Rattle.file_worker.specs.Rounds.{GoesOn, LooksOnce, Says};
 ghost use Rattle.end_ports.specs.SettledLinks.{SettlesRequests};
 ghost use Rattle.file_worker.specs.Settling.{MaySettle, SettlesCore, IsSettledWith, LeavesAtHand};
@@ -12,7 +12,7 @@ ghost use Rattle.file_worker.specs.inner.Rounds.{seen, TurnsAt};
 
 use crate::asking::Buffers;
 use crate::turns::{Round, Turned, turn};
-use ac_base::{Clock, Event, Journal, NoMemory, Payload};
+use ac_base::{Clock, Journal, NoMemory, Payload};
 use ac_outside::Disk;
 use channel_ends::RecvEnd;
 use end_ports::CorePorts;
@@ -20,23 +20,13 @@ use request_ends::{ReplyEnd, RequestRing};
 use std::alloc::Global;
 use std::marker::Model;
 
-// The entry does a request of this link.
-fn is_done(event: &Event, link: u32) -> bool
-    ensures { result ≡ is_done_on link event.now }
-{
-    match event {
-        Event::Did { link: on, .. } => *on == link,
-        _ => false,
-    }
-}
-
 // How many entries do a request of this link.
 fn count_done(journal: &Journal, link: u32) -> u64
     ensures { result ≡ done_on link journal.now.entries }
 {
     let mut done: u64 = 0;
     for place in 0..journal.len() {
-        if is_done(&journal.get(place).event, link) {
+        if journal.is_done_on(place, link) {
             done += 1;
         }
     }

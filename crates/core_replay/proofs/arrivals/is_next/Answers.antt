@@ -9,6 +9,6 @@ returns-then-number-count-clause-next c =
     let journal = c.args.machine.now.journal in
     let few = on_few c.args.link journal in
     let own : c.args.number ≡ offers_on c.args.link journal = c.if-number-count.true ∙ c.count.ensures ∙ c.requires.count c.args.link in
-    let all : length c.as_slice.result.now ≡ length journal = ap length c.as_slice.ensures ∙ ap length c.journal.ensures in
-    let low : c.args.number < length c.as_slice.result.now + 1 = omega (arith, few, own, all) in
-    below c.args.number (length c.as_slice.result.now + 1) low ∙ sym (eq-eqb c.args.number (offers_on c.args.link journal) own)
+    let all : c.len-most.result ≡ length journal = c.len-most.ensures.same ∙ ap length c.journal.ensures in
+    let low : c.args.number < c.len-most.result + 1 = omega (arith, few, own, all) in
+    below c.args.number (c.len-most.result + 1) low ∙ sym (eq-eqb c.args.number (offers_on c.args.link journal) own)

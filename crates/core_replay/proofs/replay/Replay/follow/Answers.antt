@@ -1,8 +1,6 @@
 -- Each entry that it takes is one more of the journal, which has a run with it; the first that it refuses is the first with which there is none.
-use Rattle.std.proofs.Common.{◌≡◌, ◌∙◌, ◌+◌, ◌≤◌, List, length, take, Some, refl, ap, subst, arith}
+use Rattle.std.proofs.Common.{◌≡◌, ◌∙◌, ◌+◌, ◌≤◌, length, take, Some, refl, ap, subst, arith}
 use Rattle.std.specs.Prelude.{Err, Ok, OnErr, Result, slice_get}
-use Rattle.std.proofs.lemmas.Option.{slice_get_read}
-use Rattle.ac_base.specs.declared.entry.Entry.{Entry}
 use Rattle.stack_code.specs.Kept.{IsRanked}
 use Rattle.stack_code.specs.Parts.{Parts}
 use Rattle.stack_code.specs.Valid.{IsValid}
@@ -35,9 +33,8 @@ loop-place-preserved c =
     let r = c.args.self.now in
     let s = c.take.new.self in
     let k = c.loop-place.place in
-    let e = c.index-entries-place.result in
-    let here : slice_get journal k ≡ Some e = subst (λ (es : List Entry). slice_get es k ≡ Some e) c.as_slice-entries.ensures
-    (slice_get_read c.as_slice-entries.result.now (length c.as_slice-entries.result.now) k e refl c.loop-place-test.true c.index-entries-place.is) in
+    let e = c.in_ok-entry.entry in
+    let here : slice_get journal k ≡ Some e = c.in_ok-entry.ensures in
     let same = same_still r c.loop-place.self s c.loop-place.invariant.same c.take.ensures.same in
     let taken = next_front journal k e here c.loop-place.self.journal s.journal c.loop-place.invariant.taken (c.in_ok-take.ensures.took c.if-not-branch.false) in
     record {
@@ -48,18 +45,21 @@ loop-place-preserved c =
       followed = followed_more r journal k c.loop-place.invariant.followed (same_run r s same (take (k + 1) journal) taken c.take.ensures.runs);
     }
 
+pub returns-in_err-entry-clause-err : goal.returns-in_err-entry-clause-err
+returns-in_err-entry-clause-err c =
+    on_err c.from_residual.result _ (is_front c.args.journal.now.entries c.loop-place.self.journal c.loop-place.place c.loop-place.invariant.taken)
+
 pub returns-in_err-take-clause-err : goal.returns-in_err-take-clause-err
 returns-in_err-take-clause-err c =
-    on_err c.from_residual.result _ (is_front c.args.journal.now.entries c.take.new.self.journal c.loop-place.place (c.in_err-take.ensures.err ∙ c.loop-place.invariant.taken))
+    on_err c.from_residual-in_err-take.result _ (is_front c.args.journal.now.entries c.take.new.self.journal c.loop-place.place (c.in_err-take.ensures.err ∙ c.loop-place.invariant.taken))
 
 pub returns-then-not-branch-clause-follows : goal.returns-then-not-branch-clause-follows
 returns-then-not-branch-clause-follows c =
     let journal = c.args.journal.now.entries in
     let r = c.args.self.now in
     let k = c.loop-place.place in
-    let e = c.index-entries-place.result in
-    let here : slice_get journal k ≡ Some e = subst (λ (es : List Entry). slice_get es k ≡ Some e) c.as_slice-entries.ensures
-    (slice_get_read c.as_slice-entries.result.now (length c.as_slice-entries.result.now) k e refl c.loop-place-test.true c.index-entries-place.is) in
+    let e = c.in_ok-entry.entry in
+    let here : slice_get journal k ≡ Some e = c.in_ok-entry.ensures in
     let valid = subst IsValid (c.code.ensures ∙ ap (λ (x : Replayed). x.code) c.self.view_is) c.instrs-instrs.ensures.valid in
     let ranked = subst (λ (p : Parts). IsRanked p c.ranks-ranks.result.now) (c.code-2.ensures ∙ ap (λ (x : Replayed). x.code) c.self.view_is) c.ranks-ranks.ensures in
     let refused = same_refusal r c.loop-place.self c.loop-place.invariant.same (take k journal) c.loop-place.invariant.taken e (c.in_ok-take.ensures.refused c.if-not-branch.true) in (
@@ -71,7 +71,7 @@ pub returns-clause-follows : goal.returns-clause-follows
 returns-clause-follows c =
     let journal = c.args.journal.now.entries in
     let r = c.args.self.now in
-    let long : length journal ≤ c.loop-place.place = let same = ap (λ (es : List Entry). length es) c.as_slice-entries.ensures in let past = c.loop-place-test.false in omega (arith, same, past) in
+    let long : length journal ≤ c.loop-place.place = let same = c.len-place-end.ensures.same in let past = c.loop-place-test.false in omega (arith, same, past) in
     let all = take_whole journal c.loop-place.place long in (
       subst (HasRun r.code r.core r.bound) all (c.loop-place.invariant.followed.runs c.loop-place.place (omega arith)),
       c.loop-place.invariant.taken ∙ all,
