@@ -1,7 +1,8 @@
 //! The operations of a core that have not ended.
 
 ghost use Rattle.std.specs.Prelude.{◌≡◌, ◌+◌, ◌≤◌, ◌<◌, [], ◌∷◌, ◌++◌, position, find, is_some, map, length};
-ghost use Rattle.std.specs.Prelude.{slice_get, slice_set, Some, OnOk, IfOk, option_copied};
+ghost use Rattle.std.specs.Prelude.{slice_get, slice_set, slice_index_or, Some, IsSome, IfSome, OnSome, OnOk, IfOk, option_copied, ◌↔◌};
+ghost use Rattle.std.specs.VecDeque.{deque_len};
 ghost use Rattle.cancel_scope.specs.declared.operation.Operation.{Operation};
 ghost use Rattle.std.specs.List.{list_any, remove};
 ghost use Rattle.cancel_scope.specs.Outstanding.{offered_as, as_begun, is_request, is_to_offer, is_offered, is_begun, is_to_receive};
@@ -42,6 +43,19 @@ fn any_waits(operations: &VecDeque<Operation>, link: u32) -> bool
     ensures { result ≡ list_any (λ o. waits_on link (waiting_as o)) operations.now.items }
 {
     operations.iter().any(|o| o.waits_on(link))
+}
+
+// Takes out the operation at a place. The first, which it mostly is, leaves the others where they are.
+fn take_out(operations: &mut VecDeque<Operation>, place: usize) -> Option<Operation>
+    ensures value { IfSome result (λ o. o ≡ slice_index_or operations.old.items place o) }
+    ensures items { OnSome result (operations.new.items ≡ remove operations.old.items place) }
+    ensures variant { IsSome result ↔ (place < deque_len operations.old) }
+{
+    if place == 0 {
+        operations.pop_front()
+    } else {
+        operations.remove(place)
+    }
 }
 
 impl Outstanding {
@@ -250,7 +264,7 @@ impl Outstanding {
         ensures result { slice_get self.old.operations place ≡ Some result }
         ensures operations { self.new.operations ≡ remove self.old.operations place }
     {
-        match self.operations.remove(place) {
+        match take_out(&mut self.operations, place) {
             Some(operation) => {
                 if operation.is_request() {
                     self.requests -= 1;

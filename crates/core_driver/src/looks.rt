@@ -63,8 +63,45 @@ fn poll_own<P: Ports>(
     }
 }
 
-// An offer of the oldest operation that is to be offered on a link, if there is one. A copy of what it
-// carries goes into the journal.
+// An offer of the oldest operation that is to be offered on a link. A copy of what it carries goes into
+// the journal. It is not inlined, so that a look that offers nothing makes no place for a payload.
+#[inline(never)]
+fn make_offer<P: Ports>(
+    machine: &mut CoreMachine<'_>,
+    ports: &mut P,
+    clock: &mut Clock,
+    link: u32,
+) -> Result<bool, NoMemory>
+    requires in_step { InStep machine.old (outside (P.told ports.old) clock.old) }
+    requires point { is_at_point machine.old.state ≡ true }
+    requires side { side_of machine.old.code.ends machine.old.core link ≡ Side.Owner }
+    requires some { has_to_offer (operations_of machine.old.state) link ≡ true }
+    ensures looks { Looks machine.old (outside (P.told ports.old) clock.old) machine.new (outside (P.told ports.new) clock.new) }
+    ensures full { MatchResult result (λ full. (P.told ports.new).full ≡ ((P.told ports.old).full || full))
+        (λ _. (P.told ports.new).full ≡ (P.told ports.old).full) }
+    ensures heard { IfOk result (λ full. full ≡ true → IsFull (outside (P.told ports.new) clock.new)) }
+    ensures polls { (P.told ports.new).polls ≡ (P.told ports.old).polls }
+    ensures tried { IfOk result (λ full. counted ((P.told ports.old).tries link) ≤ (P.told ports.new).tries link) }
+    ensures slot { IfOk result (λ full. full ≡ false → clock.new ≡ clock.old
+        → has_room ((P.told ports.new).terms link) ((P.told ports.new).ends link) ≡ true
+        → ((P.told ports.new).at_hand link).slot ≡ false) }
+    ensures stays { P.stays ports.old ports.new }
+{
+    let payload = machine.to_offer(link)?;
+    let copy = payload.copy(machine.alloc())?;
+    machine.make_room()?;
+    match ports.offer(link, payload, clock) {
+        Offering::Offered { number, stamp } => {
+            machine.offered(link, number, copy, stamp);
+            Ok(false)
+        }
+        Offering::NoRoom(_) => Ok(false),
+        Offering::NotYet(_) => Ok(false),
+        Offering::ClockFull(_) => Ok(true),
+    }
+}
+
+// Such an offer, if there is an operation that is to be offered on the link.
 fn try_offer<P: Ports>(
     machine: &mut CoreMachine<'_>,
     ports: &mut P,
@@ -90,18 +127,7 @@ fn try_offer<P: Ports>(
     if !machine.has_to_offer(link) {
         return Ok(false);
     }
-    let payload = machine.to_offer(link)?;
-    let copy = payload.copy(machine.alloc())?;
-    machine.make_room()?;
-    match ports.offer(link, payload, clock) {
-        Offering::Offered { number, stamp } => {
-            machine.offered(link, number, copy, stamp);
-            Ok(false)
-        }
-        Offering::NoRoom(_) => Ok(false),
-        Offering::NotYet(_) => Ok(false),
-        Offering::ClockFull(_) => Ok(true),
-    }
+    make_offer(machine, ports, clock, link)
 }
 
 // A look at a link on which the core sends: a poll, and an offer.

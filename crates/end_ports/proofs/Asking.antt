@@ -79,6 +79,14 @@ with_none : {R S T : Type 0} (q : Option T) → (q ≡ None → R → S) → IfN
 with_none None f h = f refl h
 with_none (Some t) f h = h
 
+-- where no decision is learned the clock stays
+pub quiet_clock : (last : ℕ) (r : Learning) → is_quiet r ≡ true → learning_clock last r ≡ last
+quiet_clock last (learning.Know number s) q = cc
+quiet_clock last (learning.Room number s) q = cc
+quiet_clock last learning.Undecided q = refl
+quiet_clock last learning.AllKnown q = refl
+quiet_clock last learning.ClockFull q = refl
+
 module _ (a : AskingAt) (carries : length a.end.send.payloads ≡ length a.end.send.notes.offers) (hears : length a.end.send.notes.heard ≡ length a.end.send.notes.offers) where
   abbrev os : List OwnerOffer
   os = requests_of a.end

@@ -3,7 +3,7 @@
 use Rattle.std.proofs.Common.{◌≡◌, ℕ, List, [], ◌∷◌, Option, Some, None, true, false, refl, arith, inl, ℤ}
 use Rattle.std.specs.Prelude.{pos}
 use Rattle.ac_base.specs.declared.entry.Payload.TheVariants.{Int}
-use Rattle.ac_base.specs.declared.entry.Answer.TheVariants.{Bytes}
+use Rattle.ac_base.specs.declared.entry.Answer.TheVariants.{Bytes, Count}
 use Rattle.ac_links.specs.Views.{Response}
 use Rattle.completion_word.specs.declared.answers.Look.TheVariants as look
 use Rattle.completion_word.specs.declared.standing.Standing.TheVariants as word
@@ -30,6 +30,9 @@ use Rattle.end_ports.specs.Held.HeldEnd.{OfSend, OfRecv, OfAsk, NotHeld}
 use Rattle.end_ports.specs.OnLinks.{on_send}
 use Rattle.end_ports.specs.Answers.{as_payload, learned_as, received_as, replied_as, is_quiet}
 use Rattle.end_ports.specs.EndCalls.{OffersInt, OffersAt, WithdrawsAt, TakesWanted, HasWanted, AfterLearning, PollsAt}
+use Rattle.end_ports.specs.declared.brought.Brought.{Brought}
+use Rattle.end_ports.specs.declared.brought.Polled.TheVariants as small
+use Rattle.end_ports.specs.inner.Arrivals.{arrival_of}
 use Rattle.end_ports.specs.inner.Calls.{TellsAt, OffersOn, WithdrawsOn, PollsOn}
 use Rattle.end_ports.specs.PortFields.{held_of}
 use Rattle.end_ports.specs.RecvFields.{receiving_at_of, IsReceivingAt}
@@ -37,6 +40,17 @@ use Rattle.end_ports.specs.SendFields.{sending_at_of, IsSendingAt}
 use Rattle.end_ports.proofs.Examples.{sends_on, receives_on, asks_on, read, seven, requested, asks}
 
 -- ---- how the answers are told
+
+-- 7, and a count of 2
+abbrev left_there : Brought
+left_there = record { message = pos 7 ∷ []; answer = Count 2 }
+
+pub what_was_left : arrival_of (small.Got 3 4) left_there ∷ arrival_of (small.Reply 3 4) left_there ∷ arrival_of (small.Pass 3 4) left_there ∷ []
+    ≡ arrived.Got 3 (pos 7 ∷ []) 4 ∷ arrived.Reply 3 (Count 2) 4 ∷ arrived.Pass 3 4 ∷ []
+what_was_left = refl
+
+pub not_another_message : arrival_of (small.Got 3 4) left_there ≡ arrived.Got 3 (pos 8 ∷ []) 4 → ⊥
+not_another_message h = cc
 
 pub what_is_handed_back : as_payload (Offered 0 1) ∷ as_payload (NoRoom (one_int 5)) ∷ as_payload (NotYet (one_int 6)) ∷ as_payload (ClockFull (one_int 7)) ∷ []
     ≡ Offered 0 1 ∷ NoRoom (Int (pos 5 ∷ [])) ∷ NotYet (Int (pos 6 ∷ [])) ∷ ClockFull (Int (pos 7 ∷ [])) ∷ []
@@ -290,7 +304,7 @@ one_item_for_each = record { one_each = refl; known = omega arith }
 pub not_with_an_item_lost : IsReceivingAt (record { link = 0; end = record five_taken { popped = [] }; polls = 4 }) → ⊥
 not_with_an_item_lost h = let e : ◌≡◌ {A = ℕ} 0 1 = h.one_each in absurd (omega arith)
 
-pub as_it_holds : held_of (record { sends = after_five ∷ []; recvs = after_taking ∷ []; ask = at_requests done_known; full = true })
+pub as_it_holds : held_of (record { ends = record { sends = after_five ∷ []; recvs = after_taking ∷ []; ask = at_requests done_known; brought = left_there }; full = true })
     ≡ record { sends = after_five ∷ []; recvs = after_taking ∷ []; ask = at_requests done_known; full = true }
 as_it_holds = refl
 

@@ -3,4 +3,4 @@ use Rattle.end_ports.specs.declared.ports.CorePorts.TheInside.{Inside}
 use Rattle.end_ports.specs.Held.{Held}
 
 abbrev pub held_of : Inside → Held
-held_of it = record { sends = it.sends; recvs = it.recvs; ask = it.ask; full = it.full }
+held_of it = record { sends = it.ends.sends; recvs = it.ends.recvs; ask = it.ends.ask; full = it.full }

@@ -3,3 +3,4 @@ pub mod Entered
 pub mod Places
 pub mod AskFields
 pub mod Pairs
+pub mod Arrivals

@@ -3,6 +3,7 @@
 ghost use Rattle.std.specs.Prelude.{◌≡◌, ◌<◌, ◌≤◌, [], slice_get, true, false, OnOk, IfErr, length};
 ghost use Rattle.ac_links.specs.Payloads.{is_request};
 ghost use Rattle.ac_links.specs.Views.{may_withdraw, owner_lead};
+ghost use Rattle.end_ports.specs.inner.Arrivals.{arrival_of};
 ghost use Rattle.core_ports.specs.Ends.{IsUpTo, awaits_reply};
 ghost use Rattle.channel_ends.specs.Pairs.{IsSettledSend, IsSettledRecv};
 ghost use Rattle.channel_ends.specs.Settled.{AreEnds, AreSettled, MakeALink};
@@ -15,13 +16,14 @@ ghost use Rattle.end_ports.specs.OnLinks.{on_ask};
 ghost use Rattle.end_ports.specs.SettledLinks.{IsSettledAsk};
 ghost use Rattle.end_ports.specs.inner.Calls.{OffersOn, WithdrawsOn, PollsOn, LooksOn};
 
+use crate::brought::{Brought, Polled};
 use crate::calls::{
     counted, enters_learning, enters_offering, enters_reply, enters_withdrawal, is_quiet, learned,
     replied, stays_settled,
 };
 use ac_base::{Clock, NoMemory, Payload};
 use channel_ends::RecvEnd;
-use core_channels::{Arrived, Offering, Withdrawing};
+use core_channels::{Offering, Withdrawing};
 use request_ends::{AskEnd, ReplyEnd, RequestRing};
 use std::marker::Model;
 
@@ -109,31 +111,31 @@ impl<'a> AskAt<'a> {
         answer
     }
 
-    pub(crate) fn poll(&mut self, wants: bool, clock: &mut Clock) -> Arrived
-        ensures call { PollsOn (OfAsk self.old) self.old.link clock.old wants result (OfAsk self.new) clock.new }
+    pub(crate) fn poll(&mut self, wants: bool, clock: &mut Clock, into: &mut Brought) -> Polled
+        ensures call { PollsOn (OfAsk self.old) self.old.link clock.old wants (arrival_of result into.new) (OfAsk self.new) clock.new }
         ensures same { IsSameAskAt self.old self.new }
     {
         self.polls = counted(self.polls);
         let answer = self.end.learn(clock);
         if is_quiet(answer) {
-            return self.next_reply(wants, clock);
+            return self.next_reply(wants, clock, into);
         }
         self.settled = stays_settled(self.settled, enters_learning(answer));
         learned(answer)
     }
 
     // The next reply, where it is wanted and awaited.
-    fn next_reply(&mut self, wants: bool, clock: &mut Clock) -> Arrived
+    fn next_reply(&mut self, wants: bool, clock: &mut Clock, into: &mut Brought) -> Polled
         requires { (on_ask self.old).hand.decision ≡ false }
-        ensures call { LooksOn self.old clock.old wants result self.new clock.new }
+        ensures call { LooksOn self.old clock.old wants (arrival_of result into.new) self.new clock.new }
         ensures same { IsSameAskAt self.old self.new }
     {
         if !wants || !self.end.awaits() {
-            return Arrived::Nothing;
+            return Polled::Nothing;
         }
         let answer = self.end.reply(clock);
         self.settled = stays_settled(self.settled, enters_reply(&answer));
-        replied(answer)
+        replied(answer, into)
     }
 
     /// Settles the requests and the replies of one core.

@@ -2,12 +2,15 @@
 
 ghost use Rattle.std.specs.Prelude.{◌≡◌, ◌&&◌, not};
 ghost use Rattle.core_channels.specs.Counts.{counted};
-ghost use Rattle.core_ports.specs.Answers.{is_full_offering, is_full_withdrawal, is_full_arrival};
+ghost use Rattle.core_ports.specs.Answers.{is_full_offering, is_full_withdrawal};
+ghost use Rattle.end_ports.specs.inner.Arrivals.{arrival_of};
+ghost use Rattle.end_ports.specs.declared.brought.Brought.{Brought};
 ghost use Rattle.end_ports.specs.Answers.{as_payload, learned_as, received_as, replied_as, is_quiet};
 ghost use Rattle.end_ports.specs.inner.Entered.{enters_offering, enters_withdrawal, enters_learning, enters_reply};
 
+use crate::brought::{Brought, Polled};
 use ac_base::{Message, Payload};
-use core_channels::{Arrived, Learning, Offering, Receiving, Withdrawing};
+use core_channels::{Learning, Offering, Receiving, Withdrawing};
 use request_ends::Replied;
 
 /// One more; a count that has reached its last value stays there.
@@ -29,34 +32,34 @@ pub(crate) fn as_payload(answer: Offering<Message>) -> Offering<Payload>
     }
 }
 
-pub(crate) fn learned(answer: Learning) -> Arrived
-    ensures { result ≡ learned_as answer }
+pub(crate) fn learned(answer: Learning) -> Polled
+    ensures { (left : Brought) → arrival_of result left ≡ learned_as answer }
 {
     match answer {
-        Learning::Know { number, stamp } => Arrived::Know { number, stamp },
-        Learning::Room { number, stamp } => Arrived::Room { number, stamp },
-        Learning::Undecided | Learning::AllKnown => Arrived::Nothing,
-        Learning::ClockFull => Arrived::ClockFull,
+        Learning::Know { number, stamp } => Polled::Know { number, stamp },
+        Learning::Room { number, stamp } => Polled::Room { number, stamp },
+        Learning::Undecided | Learning::AllKnown => Polled::Nothing,
+        Learning::ClockFull => Polled::ClockFull,
     }
 }
 
-pub(crate) fn received(answer: Receiving<Message>) -> Arrived
-    ensures { result ≡ received_as answer }
+/// The message that was taken is left in `into`.
+pub(crate) fn received(answer: Receiving<Message>, into: &mut Brought) -> Polled
+    ensures answer { arrival_of result into.new ≡ received_as answer }
 {
     match answer {
         Receiving::Took {
             number,
             value,
             stamp,
-        } => Arrived::Got {
-            number,
-            value,
-            stamp,
-        },
-        Receiving::Passed { number, stamp } => Arrived::Pass { number, stamp },
-        Receiving::Nothing => Arrived::Nothing,
-        Receiving::NotYet => Arrived::NotYet,
-        Receiving::ClockFull => Arrived::ClockFull,
+        } => {
+            into.message = value;
+            Polled::Got { number, stamp }
+        }
+        Receiving::Passed { number, stamp } => Polled::Pass { number, stamp },
+        Receiving::Nothing => Polled::Nothing,
+        Receiving::NotYet => Polled::NotYet,
+        Receiving::ClockFull => Polled::ClockFull,
     }
 }
 
@@ -73,27 +76,21 @@ pub(crate) fn is_full_withdrawal(answer: Withdrawing) -> bool
     matches!(answer, Withdrawing::ClockFull)
 }
 
-pub(crate) fn is_full_arrival(answer: &Arrived) -> bool
-    ensures { result ≡ is_full_arrival answer.now }
-{
-    matches!(answer, Arrived::ClockFull)
-}
-
-pub(crate) fn replied(answer: Replied) -> Arrived
-    ensures { result ≡ replied_as answer }
+/// The answer of the worker that has come is left in `into`.
+pub(crate) fn replied(answer: Replied, into: &mut Brought) -> Polled
+    ensures answer { arrival_of result into.new ≡ replied_as answer }
 {
     match answer {
         Replied::Reply {
             number,
             answer,
             stamp,
-        } => Arrived::Reply {
-            number,
-            answer,
-            stamp,
-        },
-        Replied::Nothing => Arrived::Nothing,
-        Replied::ClockFull => Arrived::ClockFull,
+        } => {
+            into.answer = answer;
+            Polled::Reply { number, stamp }
+        }
+        Replied::Nothing => Polled::Nothing,
+        Replied::ClockFull => Polled::ClockFull,
     }
 }
 

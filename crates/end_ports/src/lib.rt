@@ -2,7 +2,9 @@
 #![tactic(auto)]
 
 mod ask_at;
+mod brought;
 mod calls;
+mod ends;
 mod ports;
 mod recv_at;
 mod recvs;

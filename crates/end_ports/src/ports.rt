@@ -22,7 +22,9 @@ ghost use Rattle.end_ports.specs.inner.Calls.{OffersOn, WithdrawsOn, PollsOn};
 ghost use Rattle.end_ports.specs.inner.Places.{OnlyOn};
 
 use crate::ask_at::AskAt;
-use crate::calls::{is_full_arrival, is_full_offering, is_full_withdrawal};
+use crate::brought::Brought;
+use crate::calls::{is_full_offering, is_full_withdrawal};
+use crate::ends::Ends;
 use crate::recv_at::RecvAt;
 use crate::recvs::Recvs;
 use crate::send_at::SendAt;
@@ -41,9 +43,7 @@ use std::marker::Model;
 /// settling told of, as far as the entries since then have not used it.
 #[derive(Drop)]
 pub struct CorePorts<'a> {
-    sends: Sends<'a>,
-    recvs: Recvs<'a>,
-    ask: AskAt<'a>,
+    ends: Ends<'a>,
     full: bool,
 }
 
@@ -76,9 +76,12 @@ impl<'a> CorePorts<'a> {
         } }
     {
         CorePorts {
-            sends: Sends::new(sends),
-            recvs: Recvs::new(recvs),
-            ask: AskAt::new(asked, ask),
+            ends: Ends {
+                sends: Sends::new(sends),
+                recvs: Recvs::new(recvs),
+                ask: AskAt::new(asked, ask),
+                brought: Brought::new(),
+            },
             full: false,
         }
     }
@@ -90,11 +93,11 @@ impl<'a> CorePorts<'a> {
         ensures call { OffersOn (end_on self.old link) link clock.old payload result (end_on self.new link) clock.new }
         ensures only { OnlyOn self.old link self.new }
     {
-        if self.ask.link() == link {
-            return self.ask.offer(payload, clock);
+        if self.ends.ask.link() == link {
+            return self.ends.ask.offer(payload, clock);
         }
-        match self.sends.place(link) {
-            Some(at) => self.sends.offer(at, payload, clock),
+        match self.ends.sends.place(link) {
+            Some(at) => self.ends.sends.offer(at, payload, clock),
             None => unreachable!(),
         }
     }
@@ -105,28 +108,11 @@ impl<'a> CorePorts<'a> {
         ensures call { WithdrawsOn (end_on self.old link) link clock.old number result (end_on self.new link) clock.new }
         ensures only { OnlyOn self.old link self.new }
     {
-        if self.ask.link() == link {
-            return self.ask.withdraw(number, clock);
+        if self.ends.ask.link() == link {
+            return self.ends.ask.withdraw(number, clock);
         }
-        match self.sends.place(link) {
-            Some(at) => self.sends.withdraw(at, number, clock),
-            None => unreachable!(),
-        }
-    }
-
-    fn look(&mut self, link: u32, wants: bool, clock: &mut Clock) -> Arrived
-        requires { is_held (on_link self.old link).end ≡ true }
-        ensures call { PollsOn (end_on self.old link) link clock.old wants result (end_on self.new link) clock.new }
-        ensures only { OnlyOn self.old link self.new }
-    {
-        if self.ask.link() == link {
-            return self.ask.poll(wants, clock);
-        }
-        if let Some(at) = self.sends.place(link) {
-            return self.sends.poll(at, wants, clock);
-        }
-        match self.recvs.place(link) {
-            Some(at) => self.recvs.poll(at, wants, clock),
+        match self.ends.sends.place(link) {
+            Some(at) => self.ends.sends.withdraw(at, number, clock),
             None => unreachable!(),
         }
     }
@@ -138,11 +124,11 @@ impl<'a> CorePorts<'a> {
     pub fn offered(&self, link: u32) -> u64
         ensures { result ≡ length (offers_of (on_link self.now link).end) }
     {
-        if self.ask.link() == link {
-            return self.ask.offered();
+        if self.ends.ask.link() == link {
+            return self.ends.ask.offered();
         }
-        match self.sends.place(link) {
-            Some(at) => self.sends.offered(at),
+        match self.ends.sends.place(link) {
+            Some(at) => self.ends.sends.offered(at),
             None => 0,
         }
     }
@@ -151,11 +137,11 @@ impl<'a> CorePorts<'a> {
     pub fn known(&self, link: u32) -> u64
         ensures { result ≡ owner_lead (offers_of (on_link self.now link).end) }
     {
-        if self.ask.link() == link {
-            return self.ask.known();
+        if self.ends.ask.link() == link {
+            return self.ends.ask.known();
         }
-        match self.sends.place(link) {
-            Some(at) => self.sends.known(at),
+        match self.ends.sends.place(link) {
+            Some(at) => self.ends.sends.known(at),
             None => 0,
         }
     }
@@ -165,11 +151,11 @@ impl<'a> CorePorts<'a> {
         ensures some { (ds : _) → (on_link self.now link).end ≡ Decides ds → result ≡ length ds }
         ensures none { is_peer (on_link self.now link).end ≡ false → result ≡ 0 }
     {
-        if self.ask.link() == link {
+        if self.ends.ask.link() == link {
             return 0;
         }
-        match (self.sends.place(link), self.recvs.place(link)) {
-            (None, Some(at)) => self.recvs.decided(at),
+        match (self.ends.sends.place(link), self.ends.recvs.place(link)) {
+            (None, Some(at)) => self.ends.recvs.decided(at),
             _ => 0,
         }
     }
@@ -178,7 +164,7 @@ impl<'a> CorePorts<'a> {
     pub fn awaits_reply(&self) -> bool
         ensures { result ≡ awaits_reply (end_of self.now.ask.end) }
     {
-        self.ask.awaits()
+        self.ends.ask.awaits()
     }
 }
 
@@ -195,13 +181,13 @@ impl<'a> CorePorts<'a> {
         ensures its { Settles other.old link other.new }
         ensures link { IsSettled (on_link self.new link) (on_link other.new link) }
     {
-        let Some(at) = self.sends.place(link) else {
+        let Some(at) = self.ends.sends.place(link) else {
             unreachable!()
         };
-        let Some(to) = other.recvs.place(link) else {
+        let Some(to) = other.ends.recvs.place(link) else {
             unreachable!()
         };
-        self.sends.settle(at, &mut other.recvs, to);
+        self.ends.sends.settle(at, &mut other.ends.recvs, to);
     }
 
     /// Settles the requests and the replies with the worker's ends of them, and gathers the replies. It
@@ -232,7 +218,7 @@ impl<'a> CorePorts<'a> {
         // What the ports tell of other links stays.
         ensures ports { SettlesRequests self.old self.new }
     {
-        self.ask.settle(recv, end)
+        self.ends.ask.settle(recv, end)
     }
 }
 
@@ -303,9 +289,8 @@ impl<'a> Ports for CorePorts<'a> {
         // It is what the end was asked in this call: to learn, or to take, or after that for a reply.
         ensures exact { PollsAt (end_on self.old link) clock.old wants result (end_on self.new link) }
     {
-        let answer = self.look(link, wants, clock);
-        self.full |= is_full_arrival(&answer);
-        answer
+        let answer = self.ends.look(link, wants, clock);
+        self.ends.brought.arrived(answer, &mut self.full)
     }
 
     ghost stays_self = { stays_self };

@@ -1,15 +1,16 @@
 //! The ends of the channels on which a core receives.
 
 ghost use Rattle.std.specs.Prelude.{◌≡◌, [], ◌≤◌, length};
+ghost use Rattle.end_ports.specs.inner.Arrivals.{arrival_of};
 ghost use Rattle.end_ports.specs.Held.{IsSameRecvAt};
 ghost use Rattle.end_ports.specs.Held.HeldEnd.{OfRecv};
 ghost use Rattle.end_ports.specs.OnLinks.{decisions_on, on_recv};
 ghost use Rattle.end_ports.specs.inner.Calls.{PollsOn};
 
+use crate::brought::{Brought, Polled};
 use crate::calls::{counted, received};
 use ac_base::{Clock, Message};
 use channel_ends::RecvEnd;
-use core_channels::Arrived;
 use rtrb::AnyItems;
 use std::marker::Model;
 
@@ -62,14 +63,14 @@ impl<'a> RecvAt<'a> {
         self.end.decided()
     }
 
-    pub(crate) fn poll(&mut self, wants: bool, clock: &mut Clock) -> Arrived
-        ensures call { PollsOn (OfRecv self.old) self.old.link clock.old wants result (OfRecv self.new) clock.new }
+    pub(crate) fn poll(&mut self, wants: bool, clock: &mut Clock, into: &mut Brought) -> Polled
+        ensures call { PollsOn (OfRecv self.old) self.old.link clock.old wants (arrival_of result into.new) (OfRecv self.new) clock.new }
         ensures same { IsSameRecvAt self.old self.new }
     {
         self.polls = counted(self.polls);
         if !wants {
-            return Arrived::Nothing;
+            return Polled::Nothing;
         }
-        received(self.end.take(clock))
+        received(self.end.take(clock), into)
     }
 }

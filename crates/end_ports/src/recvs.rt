@@ -2,15 +2,16 @@
 
 ghost use Rattle.std.specs.Prelude.{◌≡◌, ◌<◌, ◌==◌, Some, length, slice_get};
 ghost use Rattle.std.specs.List.{position};
+ghost use Rattle.end_ports.specs.inner.Arrivals.{arrival_of};
 ghost use Rattle.end_ports.specs.Held.{IsSameRecvAt};
 ghost use Rattle.end_ports.specs.Held.HeldEnd.{OfRecv};
 ghost use Rattle.end_ports.specs.OnLinks.{decisions_on, on_recv};
 ghost use Rattle.end_ports.specs.inner.Calls.{PollsOn};
 ghost use Rattle.end_ports.specs.inner.Places.{ChangesAt};
 
+use crate::brought::{Brought, Polled};
 use crate::recv_at::RecvAt;
 use ac_base::Clock;
-use core_channels::Arrived;
 use std::marker::Model;
 
 /// Ends of channels, each with the number of its link. A place in the list stands for its end.
@@ -49,11 +50,17 @@ impl<'a> Recvs<'a> {
         self.list[at].decided()
     }
 
-    pub(crate) fn poll(&mut self, at: usize, wants: bool, clock: &mut Clock) -> Arrived
+    pub(crate) fn poll(
+        &mut self,
+        at: usize,
+        wants: bool,
+        clock: &mut Clock,
+        into: &mut Brought,
+    ) -> Polled
         requires at { at < length self.old }
-        ensures { ChangesAt (λ r t. PollsOn (OfRecv r) r.link clock.old wants result (OfRecv t) clock.new × IsSameRecvAt r t)
-            self.old at self.new }
+        ensures { ChangesAt (λ r t. PollsOn (OfRecv r) r.link clock.old wants (arrival_of result into.new) (OfRecv t) clock.new
+            × IsSameRecvAt r t) self.old at self.new }
     {
-        self.list[at].poll(wants, clock)
+        self.list[at].poll(wants, clock, into)
     }
 }

@@ -4,6 +4,8 @@ ghost use Rattle.std.specs.Prelude.{◌≡◌, [], length, slice_get, true};
 ghost use Rattle.ac_links.specs.Payloads.{is_message};
 ghost use Rattle.ac_links.specs.Views.{may_withdraw, owner_lead};
 ghost use Rattle.channel_ends.specs.Settled.{AreEnds};
+ghost use Rattle.end_ports.specs.inner.Arrivals.{arrival_of};
+ghost use Rattle.end_ports.specs.declared.brought.Brought.{Brought};
 ghost use Rattle.core_ports.specs.Ends.{IsUpTo};
 ghost use Rattle.end_ports.specs.Held.{IsSameSendAt};
 ghost use Rattle.end_ports.specs.Held.HeldEnd.{OfSend};
@@ -11,11 +13,12 @@ ghost use Rattle.end_ports.specs.OnLinks.{on_send, offers_on};
 ghost use Rattle.end_ports.specs.inner.Calls.{OffersOn, WithdrawsOn, PollsOn};
 ghost use Rattle.end_ports.specs.inner.Pairs.{SettlesPair};
 
+use crate::brought::Polled;
 use crate::calls::{as_payload, counted, learned};
 use crate::recv_at::RecvAt;
 use ac_base::{Clock, Message, Payload};
 use channel_ends::{SendEnd, settle};
-use core_channels::{Arrived, Offering, Withdrawing};
+use core_channels::{Offering, Withdrawing};
 use rtrb::AnyItems;
 use std::marker::Model;
 
@@ -97,8 +100,9 @@ impl<'a> SendAt<'a> {
         self.end.withdraw(number, clock)
     }
 
-    pub(crate) fn poll(&mut self, wants: bool, clock: &mut Clock) -> Arrived
-        ensures call { PollsOn (OfSend self.old) self.old.link clock.old wants result (OfSend self.new) clock.new }
+    pub(crate) fn poll(&mut self, wants: bool, clock: &mut Clock) -> Polled
+        ensures call { (left : Brought) → PollsOn (OfSend self.old) self.old.link clock.old wants
+            (arrival_of result left) (OfSend self.new) clock.new }
         ensures same { IsSameSendAt self.old self.new }
     {
         let _ = wants;

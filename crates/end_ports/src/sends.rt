@@ -5,6 +5,8 @@ ghost use Rattle.std.specs.List.{position};
 ghost use Rattle.ac_links.specs.Payloads.{is_message};
 ghost use Rattle.ac_links.specs.Views.{may_withdraw, owner_lead};
 ghost use Rattle.channel_ends.specs.Settled.{AreEnds};
+ghost use Rattle.end_ports.specs.inner.Arrivals.{arrival_of};
+ghost use Rattle.end_ports.specs.declared.brought.Brought.{Brought};
 ghost use Rattle.core_ports.specs.Ends.{IsUpTo};
 ghost use Rattle.end_ports.specs.Held.{IsSameSendAt};
 ghost use Rattle.end_ports.specs.Held.HeldEnd.{OfSend};
@@ -13,10 +15,11 @@ ghost use Rattle.end_ports.specs.inner.Calls.{OffersOn, WithdrawsOn, PollsOn};
 ghost use Rattle.end_ports.specs.inner.Places.{ChangesAt};
 ghost use Rattle.end_ports.specs.inner.Pairs.{SettlesAt};
 
+use crate::brought::Polled;
 use crate::recvs::Recvs;
 use crate::send_at::SendAt;
 use ac_base::{Clock, Payload};
-use core_channels::{Arrived, Offering, Withdrawing};
+use core_channels::{Offering, Withdrawing};
 use std::marker::Model;
 
 /// Ends of channels, each with the number of its link. A place in the list stands for its end.
@@ -87,10 +90,10 @@ impl<'a> Sends<'a> {
         self.list[at].withdraw(number, clock)
     }
 
-    pub(crate) fn poll(&mut self, at: usize, wants: bool, clock: &mut Clock) -> Arrived
+    pub(crate) fn poll(&mut self, at: usize, wants: bool, clock: &mut Clock) -> Polled
         requires at { at < length self.old }
-        ensures { ChangesAt (λ s t. PollsOn (OfSend s) s.link clock.old wants result (OfSend t) clock.new × IsSameSendAt s t)
-            self.old at self.new }
+        ensures { ChangesAt (λ s t. ((left : Brought) → PollsOn (OfSend s) s.link clock.old wants (arrival_of result left)
+            (OfSend t) clock.new) × IsSameSendAt s t) self.old at self.new }
     {
         self.list[at].poll(wants, clock)
     }

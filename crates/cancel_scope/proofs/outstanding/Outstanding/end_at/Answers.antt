@@ -9,21 +9,24 @@ use Rattle.cancel_scope.proofs.outstanding.Outstanding.end_at.Goals as goal
 pub overflow_sub-self : goal.overflow_sub-self
 overflow_sub-self c =
     let within = subst (λ (r : Roomy). c.args.place < length r.operations) (sym c.self.view_is) c.requires in
-    let counted = count_without c.self.inside.operations.items c.remove.new.self.items c.args.place _ c.in-Some.operation within c.in-Some.ensures.value c.in-Some.ensures.items c.self.invariant in
+    let counted = count_without c.self.inside.operations.items c.take_out.new.operations.items c.args.place _ c.in-Some.operation within c.in-Some.ensures.value c.in-Some.ensures.items
+    c.self.invariant in
     let one : count_of (is_request c.in-Some.operation.asked) ≡ 1 = ap count_of (sym c.is_request.ensures ∙ c.if-is_request.true) in
     omega (arith, counted, one)
 
 pub invariant_of-self : goal.invariant_of-self
 invariant_of-self c =
     let within = subst (λ (r : Roomy). c.args.place < length r.operations) (sym c.self.view_is) c.requires in
-    let counted = count_without c.self.inside.operations.items c.remove.new.self.items c.args.place _ c.in-Some.operation within c.in-Some.ensures.value c.in-Some.ensures.items c.self.invariant in
+    let counted = count_without c.self.inside.operations.items c.take_out.new.operations.items c.args.place _ c.in-Some.operation within c.in-Some.ensures.value c.in-Some.ensures.items
+    c.self.invariant in
     let one : count_of (is_request c.in-Some.operation.asked) ≡ 1 = ap count_of (sym c.is_request.ensures ∙ c.if-is_request.true) in
     omega (arith, counted, one)
 
 pub invariant_of-self-else-is_request : goal.invariant_of-self-else-is_request
 invariant_of-self-else-is_request c =
     let within = subst (λ (r : Roomy). c.args.place < length r.operations) (sym c.self.view_is) c.requires in
-    let counted = count_without c.self.inside.operations.items c.remove.new.self.items c.args.place _ c.in-Some.operation within c.in-Some.ensures.value c.in-Some.ensures.items c.self.invariant in
+    let counted = count_without c.self.inside.operations.items c.take_out.new.operations.items c.args.place _ c.in-Some.operation within c.in-Some.ensures.value c.in-Some.ensures.items
+    c.self.invariant in
     let none : count_of (is_request c.in-Some.operation.asked) ≡ 0 = ap count_of (sym c.is_request.ensures ∙ c.if-is_request.false) in
     omega (arith, counted, none)
 

@@ -1,4 +1,5 @@
 use Rattle.std.proofs.Common.{true, sym, subst}
+use Rattle.end_ports.specs.inner.Arrivals.{arrival_of}
 use Rattle.end_ports.specs.Held.{ReceivingAt}
 use Rattle.end_ports.specs.Held.HeldEnd.{OfRecv}
 use Rattle.end_ports.specs.inner.Calls.{PollsOn}
@@ -18,8 +19,8 @@ returns-clause-call c =
     let polls = c.counted-self-inside.result in
     let after : ReceivingAt = record { link = r.link; end = c.take.new.self; polls = polls } in
     let now = c.take.new.clock in
-    subst (λ (v : ReceivingAt). PollsOn (OfRecv v) v.link last c.args.wants c.received.result (OfRecv after) now) c.self.view_is
-    (subst (λ b. PollsOn (OfRecv r) r.link last b c.received.result (OfRecv after) now) (sym c.if-not-wants.false)
-    (subst (λ x. PollsOn (OfRecv r) r.link last true x (OfRecv after) now) (sym c.received.ensures)
+    subst (λ (v : ReceivingAt). PollsOn (OfRecv v) v.link last c.args.wants (arrival_of c.received.result c.received.new.into) (OfRecv after) now) c.self.view_is
+    (subst (λ b. PollsOn (OfRecv r) r.link last b (arrival_of c.received.result c.received.new.into) (OfRecv after) now) (sym c.if-not-wants.false)
+    (subst (λ x. PollsOn (OfRecv r) r.link last true x (OfRecv after) now) (sym c.received.ensures.answer)
     (recv_polls r c.self.invariant.one_each c.self.invariant.known last c.take.new.self polls c.counted-self-inside.ensures
     c.take.result now c.take.ensures.answer c.take.ensures.clock)))
