@@ -16,6 +16,9 @@ how many bytes went in, and `ac audit` and the slow program of bench/slow say ye
 Output: nobody reads it from the beginning, or after its first bytes, it is closed, or it is a full disk: the status is 8, and the
 files hold all that the program has written.
 
+Beside `ac`: `ac_again` and `ac_merge`, the built ones of this repository, with nobody who reads, and with an output that has room for
+each front of what is due; and `ac_again` with files that have room for each front of what its writes leave.
+
 It ends with status 1 where anything is wrong.
 """
 import concurrent.futures
@@ -621,6 +624,125 @@ def outputs_failed(path):
     return failed
 
 
+# ---- the programs beside `ac`
+
+
+# The third of four writes failed after five bytes.
+TORN = """core a(f);
+file p("p.dat");
+async void f() {
+    int b[8];
+    int i;
+    int r;
+    for (i = 0; i < 8; i = i + 1) b[i] = 65;
+    for (i = 0; i < 4; i = i + 1) {
+        r = Write(p, i * 8, 8, b);
+        printf("%d ", r);
+    }
+}
+"""
+TRACE = """ac-trace 1
+steps 100000
+file 0 -
+1 0 1 offer 0 0 write 0 0 4141414141414141
+2 1 0 did 0 0 count 8
+3 0 1 know 0 0
+4 0 1 reply 0 0 count 8
+5 0 2 offer 0 1 write 0 8 4141414141414141
+6 1 0 did 0 1 count 8
+7 0 2 know 0 1
+8 0 2 reply 0 1 count 8
+9 0 3 offer 0 2 write 0 16 4141414141414141
+10 1 0 did 0 2 fault 5
+11 0 3 know 0 2
+12 0 3 reply 0 2 fault 5
+13 0 4 offer 0 3 write 0 24 4141414141414141
+14 1 0 did 0 3 count 8
+15 0 4 know 0 3
+16 0 4 reply 0 3 count 8
+end 0 finished 47 382038202d32203820
+"""
+RUN_AGAIN = {"x.ac": TORN.encode(), "x.trace": TRACE.encode()}
+# Steps: declarations 3; first parts 2, tests 9 and 5, assignments 8, writes 4, printf 4, third parts 8 and 4: 47. Instructions:
+# declarations 2, 3 and 3; first parts 2x3, tests 14x5, assignments 8x5, writes 4x8, printf 4x3, third parts 12x5, Jump 12, end 2: 242.
+AGAIN_TOLD = b"a: finished after 47 steps, 242 instructions\n8 8 -2 8 \n"
+# What the writes leave, and the places between those that the third and the fourth have filled.
+AGAIN_LEFT = b"A" * 21 + bytes(3) + b"A" * 8
+UNFILLED = range(21, 25)
+# Producer 0 sends 0, 2 and 4, producer 1 sends 1, 3 and 5.
+MERGED = b"0: 3 messages, sum 6\n1: 3 messages, sum 9\ntotal 15\n"
+# The program, its words, the files before, the status and the text.
+BESIDES = [
+    ("ac_again", ["x.ac", "x.trace"], RUN_AGAIN, 0, AGAIN_TOLD),
+    ("ac_again", ["x.ac"], RUN_AGAIN, 1, b"usage: ac_again FILE TRACE\n"),
+    ("ac_merge", ["3", "2"], {}, 0, MERGED),
+    ("ac_merge", ["x", "2"], {}, 1, b"usage: ac_merge N W\n"),
+]
+
+
+def front_of_besides(name, words, before, status, text, room):
+    """What is wrong where the output is a file that has room for so many bytes, or nothing."""
+    with tempfile.TemporaryDirectory() as top:
+        inside, output = pathlib.Path(top) / "in", pathlib.Path(top) / "output"
+        inside.mkdir()
+        run.put(inside, before)
+        with open(output, "wb") as to:
+            # The limit is on all files, and those of the program come below it or are not written.
+            came = subprocess.run([run.built(name), *words], cwd=inside, stdout=to, timeout=run.SECONDS,
+                                  preexec_fn=limited(room), restore_signals=False).returncode
+        told = output.read_bytes()
+    wanted = (status if room >= len(text) else 8), text[:room]
+    return None if (came, told) == wanted else f"status {came}, {run.shown(told)}, wanted {wanted}"
+
+
+def unread_besides(name, words, before):
+    """What is wrong where nobody reads, or nothing."""
+    with tempfile.TemporaryDirectory() as folder:
+        run.put(pathlib.Path(folder), before)
+        reads, writes = os.pipe()
+        os.close(reads)
+        came = subprocess.run([run.built(name), *words], cwd=folder, stdout=writes, timeout=run.SECONDS).returncode
+        os.close(writes)
+    return None if came == 8 else f"status {came}"
+
+
+def written_again(room, is_default):
+    """What is wrong where the files of a run that is made again have so much room, or nothing."""
+    with tempfile.TemporaryDirectory() as folder:
+        folder = pathlib.Path(folder)
+        run.put(folder, RUN_AGAIN)
+        done = subprocess.run([run.built("ac_again"), "x.ac", "x.trace"], cwd=folder, stdout=subprocess.PIPE, timeout=run.SECONDS,
+                              preexec_fn=limited(room), restore_signals=is_default)
+        came = done.returncode, done.stdout, run.held_by(folder / "p.dat")
+    told = (0, AGAIN_TOLD) if room >= len(AGAIN_LEFT) else (9, b"disk fault\n")
+    wanted = *told, AGAIN_LEFT[: UNFILLED.start if room in UNFILLED else room]
+    return None if came == wanted else f"{came}, wanted {wanted}"
+
+
+def besides_faults():
+    """What is wrong with each call of a program beside `ac`, or nothing."""
+    for name, words, before, status, text in BESIDES:
+        call = " ".join([name, *words])
+        yield f"{call}, nobody reads it", unread_besides(name, words, before)
+        # Where it writes a file as well, the room is that of the whole file at least.
+        least = len(AGAIN_LEFT) if before and status == 0 else 0
+        for room in range(least, len(text) + 1):
+            yield f"{call}, its output has room for {room} bytes", front_of_besides(name, words, before, status, text, room)
+    for room in range(len(AGAIN_LEFT) + 1):
+        for is_default in (True, False):
+            yield f"ac_again, a file has room for {room} bytes", written_again(room, is_default)
+
+
+def besides_failed():
+    faults = [*besides_faults()]
+    for name, fault in faults:
+        if fault:
+            print(f"{name}: {fault}", flush=True)
+    failed = sum(fault is not None for _, fault in faults)
+    print(f"programs beside ac: {len(faults)} calls, {failed} failed", flush=True)
+    return failed
+
+
 def main():
     if len(sys.argv) < 2:
         sys.exit(__doc__)
@@ -629,6 +751,7 @@ def main():
         return full(path, pathlib.Path(sys.argv[3]))
     kills = int(sys.argv[2]) if len(sys.argv) > 2 else KILLS
     failed = kills_failed(path, kills) + limits_failed(path) + full_failed(path) + outputs_failed(path)
+    failed += besides_failed()
     print("killed: passed" if not failed else f"killed: {failed} failed")
     return 1 if failed else 0
 

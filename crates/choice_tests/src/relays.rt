@@ -35,22 +35,33 @@ fn offer_two(
     matches!(send.withdraw(number, clock), Withdrawing::Withdrawn { .. })
 }
 
-// Lets the relay do so many steps, and notes what it answers.
-fn steps(relay: &mut Relay<'_>, count: u32, answers: &mut Vec<Relayed>) -> Result<(), AllocError> {
-    for _ in 0..count {
-        answers.push(relay.step())?;
-    }
-    Ok(())
+// Offers and withdraws what the producers do.
+fn produce(first: &mut SendEnd<'_, i64, AnyItems>, second: &mut SendEnd<'_, i64, AnyItems>) -> bool
+    requires { (first.old.notes.offers ≡ []) × (second.old.notes.offers ≡ []) }
+{
+    let mut first_clock = Clock::new(0);
+    let mut second_clock = Clock::new(0);
+    let one = offer_two(first, 10, 20, false, &mut first_clock);
+    let two = offer_two(second, 30, 40, true, &mut second_clock);
+    let three = offer_two(first, 50, 60, true, &mut first_clock);
+    one && two && three
 }
 
-// Takes what there is, and notes it.
-fn receive(
-    recv: &mut RecvEnd<'_, Tagged, AnyItems>,
-    clock: &mut Clock,
+// Six times the relay does two steps, and then one message is taken, if there is one; what the relay answers
+// is noted, and what is taken.
+fn go_on(
+    relay: &mut Relay<'_>,
+    end: &mut RecvEnd<'_, Tagged, AnyItems>,
+    answers: &mut Vec<Relayed>,
     received: &mut Vec<Tagged>,
 ) -> Result<(), AllocError> {
-    if let Receiving::Took { value, .. } = recv.take(clock) {
-        received.push(value)?;
+    let mut clock = Clock::new(0);
+    for _ in 0..6u32 {
+        answers.push(relay.step())?;
+        answers.push(relay.step())?;
+        if let Receiving::Took { value, .. } = end.take(&mut clock) {
+            received.push(value)?;
+        }
     }
     Ok(())
 }
@@ -72,17 +83,9 @@ fn merged(
     ins.push(recv)?;
     ins.push(other)?;
     let mut relay = Relay::new(ins, out);
-    let mut first_clock = Clock::new(0);
-    let mut second_clock = Clock::new(0);
-    let mut clock = Clock::new(0);
-    let one = offer_two(&mut first, 10, 20, false, &mut first_clock);
-    let two = offer_two(&mut second, 30, 40, true, &mut second_clock);
-    let three = offer_two(&mut first, 50, 60, true, &mut first_clock);
-    for _ in 0..6u32 {
-        steps(&mut relay, 2, answers)?;
-        receive(&mut end, &mut clock, received)?;
-    }
-    Ok(one && two && three)
+    let offered = produce(&mut first, &mut second);
+    go_on(&mut relay, &mut end, answers, received)?;
+    Ok(offered)
 }
 
 const fn tagged(end: u32, value: i64) -> Tagged {

@@ -5,74 +5,26 @@
 //! by the comparison and once before the run, an empty one by neither; the second device is asked for
 //! reads only once the first is not in use.
 
-use crate::calls::{Device, EACH, FIRST, PAIR, PRINTS, READS, SECOND, WRITES, call, disk, held};
-use ac_outside::MemoryDisk;
-use std::alloc::{AllocError, Global};
+use crate::calls::{
+    BOTH, Case, Device, EACH, FIRST, NOT_3, PAIR, PRINTS, READ, READS, SECOND, TEN, WRITES, WROTE,
+    is_of, run,
+};
 use std::test::Fail;
-use std::thread::Threads;
-
-/// What a call came to.
-#[derive(Drop)]
-struct Left {
-    status: u8,
-    taken: Vec<u8>,
-    in_use: Option<(bool, bool)>,
-    first: Vec<u8>,
-    second: Vec<u8>,
-}
-
-fn run<R: Threads + Sync>(
-    rt: &R,
-    alloc: Global,
-    words: &[&str],
-    program: &str,
-    a: &Device,
-    b: &Device,
-) -> Result<Left, Fail> {
-    let called = call(rt, alloc, words, program, disk(alloc, a)?, disk(alloc, b)?)?;
-    let (in_use, first, second) = match &called.mirror {
-        Some(mirror) => (
-            Some(mirror.in_use()),
-            held(alloc, mirror.first().disk())?,
-            held(alloc, mirror.second().disk())?,
-        ),
-        None => (None, Vec::new(alloc), Vec::new(alloc)),
-    };
-    Ok(Left {
-        status: called.status,
-        taken: called.taken,
-        in_use,
-        first,
-        second,
-    })
-}
 
 // No call of a disk has this number.
 const NEVER: u64 = 999;
 
-// What the second program finds in its file.
-const TEN: &str = "0123456789";
-
 // What is written of the first program, by which write failed.
-const WROTE: &str = "a: finished after 47 steps, 242 instructions\n8 8 8 8 \n";
-
 const NOT_1: &str = "a: finished after 47 steps, 242 instructions\n-2 8 8 8 \n";
 
 const NOT_2: &str = "a: finished after 47 steps, 242 instructions\n8 -2 8 8 \n";
 
-const NOT_3: &str = "a: finished after 47 steps, 242 instructions\n8 8 -2 8 \n";
-
 const NOT_4: &str = "a: finished after 47 steps, 242 instructions\n8 8 8 -2 \n";
 
 // Of the second.
-const READ: &str = "a: finished after 6 steps, 33 instructions\n6 52 57\n";
-
 const UNREAD: &str = "a: finished after 6 steps, 33 instructions\n-2 0 0\n";
 
-// Of the third: declarations 4, assignment 1, writes 2, read 1, printf 1: 9 steps; 2, 3x3, 5, 3x6, 5 and 2
-// at the end: 41 instructions.
-const BOTH: &str = "a: finished after 9 steps, 41 instructions\n1 2 1\n";
-
+// Of the third.
 const NOT_P: &str = "a: finished after 9 steps, 41 instructions\n-2 2 0\n";
 
 const NOT_Q: &str = "a: finished after 9 steps, 41 instructions\n1 -2 1\n";
@@ -98,13 +50,6 @@ const LESS_1: &str = "\0\0\0\0\0\0\0\0AAAAAAAAAAAAAAAAAAAAAAAA|";
 const LESS_2: &str = "AAAAAAAA\0\0\0\0\0\0\0\0AAAAAAAAAAAAAAAA|";
 
 const LESS_3: &str = "AAAAAAAAAAAAAAAA\0\0\0\0\0\0\0\0AAAAAAAA|";
-
-// Two writes, and five or three bytes of the third; and the fourth behind a gap.
-const FIVE: &str = "AAAAAAAAAAAAAAAAAAAAA|";
-
-const THREE: &str = "AAAAAAAAAAAAAAAAAAA|";
-
-const FIVE_AND_8: &str = "AAAAAAAAAAAAAAAAAAAAA\0\0\0AAAAAAAA|";
 
 // The file of the second program before its write, and behind it.
 const T: &str = "0123456789|";
@@ -196,7 +141,6 @@ fn device<'a>(path: &'a str, bytes: &'a str, fails: &'a [u64]) -> Device<'a> {
     Device {
         path,
         bytes,
-        times: 1,
         fails,
         taken: 0,
     }
@@ -208,80 +152,18 @@ fn each_call_of_each_side_fails_once(rt: HostRuntime) -> Result<(), Fail> {
         .iter()
         .enumerate()
     {
-        let left = run(
-            &rt,
-            rt.alloc(),
-            &["a/", "b/", "run", "x.ac"],
+        let (a, b) = ([*a], [*b]);
+        let case = Case {
             program,
-            &device("a/p.dat", bytes, &[*a]),
-            &device("b/p.dat", bytes, &[*b]),
-        )?;
-        let said = left.status == *status && left.taken.as_slice() == line.as_bytes();
-        assert!(rt; said, "row {at}");
-        assert!(rt; left.in_use == Some(*in_use), "row {at}");
-        let held = left.first.as_slice() == first.as_bytes()
-            && left.second.as_slice() == second.as_bytes();
-        assert!(rt; held, "row {at}");
-    }
-    Ok(())
-}
-
-// The third write has put some bytes into each file before it fails.
-#[test]
-fn what_had_gone_in_stays(rt: HostRuntime) -> Result<(), Fail> {
-    let five = Device {
-        taken: 5,
-        ..device("a/p.dat", "", &[3])
-    };
-    let three = Device {
-        taken: 3,
-        ..device("b/p.dat", "", &[3])
-    };
-    let words = ["a/", "b/", "run", "x.ac"];
-    let well = device("b/p.dat", "", &[]);
-    for (b, line, in_use, first, second) in [
-        (well, WROTE, SECOND, FIVE, A4),
-        (three, NOT_3, FIRST, FIVE_AND_8, THREE),
-    ] {
-        let left = run(&rt, rt.alloc(), &words, WRITES, &five, &b)?;
-        assert!(rt; left.status == 0 && left.taken.as_slice() == line.as_bytes());
-        assert!(rt; left.in_use == Some(in_use));
-        assert!(rt; left.first.as_slice() == first.as_bytes());
-        assert!(rt; left.second.as_slice() == second.as_bytes());
-    }
-    Ok(())
-}
-
-#[test]
-fn devices_that_differ(rt: HostRuntime) -> Result<(), Fail> {
-    let left = run(
-        &rt,
-        rt.alloc(),
-        &["a/", "b/", "run", "x.ac"],
-        READS,
-        &device("a/p.dat", TEN, &[]),
-        &device("b/p.dat", "0123456780", &[]),
-    )?;
-    assert!(rt; left.status == 0 && left.taken.as_slice() == READ.as_bytes());
-    assert!(rt; left.in_use == Some(FIRST));
-    assert!(rt; left.first.as_slice() == T_A.as_bytes());
-    assert!(rt; left.second.as_slice() == b"0123456780|".as_slice());
-    Ok(())
-}
-
-#[test]
-fn fewer_than_two_words_are_usage(rt: HostRuntime) -> Result<(), Fail> {
-    for words in [["a/"].as_slice(), &[]] {
-        let left = run(
-            &rt,
-            rt.alloc(),
-            words,
-            PRINTS,
-            &device("a/p.dat", "", &[]),
-            &device("b/p.dat", "", &[]),
-        )?;
-        assert!(rt; left.status == 1 && left.in_use == None);
-        assert!(rt; left.taken.as_slice() == b"usage: ac_mirror PREFIX PREFIX WORDS\n".as_slice());
+            a: device("a/p.dat", bytes, &a),
+            b: device("b/p.dat", bytes, &b),
+            times: 0,
+            line,
+            first,
+            second,
+        };
+        let left = run(&rt, rt.alloc(), &case)?;
+        assert!(rt; is_of(left, *status, None, *in_use), "row {at}");
     }
     Ok(())
 }

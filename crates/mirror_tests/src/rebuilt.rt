@@ -1,49 +1,12 @@
-//! Rebuilding the side that was dropped: what it answers, which side is in use then, and what each holds.
+//! Rebuilding the side that was dropped: what the run wrote, what the rebuilding answers, which side is in
+//! use then, and what each holds.
 
-use crate::calls::{Device, EACH, FIRST, PAIR, READS, SECOND, WRITES, call, disk, held, rebuild};
+use crate::calls::{
+    BOTH, Case, Device, EACH, FIRST, NOT_3, PAIR, READ, READS, SECOND, TEN, WRITES, WROTE, is_of,
+    run,
+};
 use ac_mirror_disk::Rebuilt;
-use std::alloc::Global;
 use std::test::Fail;
-use std::thread::Threads;
-
-/// What a rebuilding came to.
-#[derive(Drop)]
-struct Left {
-    status: u8,
-    rebuilt: Option<Rebuilt>,
-    in_use: Option<(bool, bool)>,
-    first: Vec<u8>,
-    second: Vec<u8>,
-}
-
-// Runs the program, and then rebuilds so many times; what is given is the answer of the last time.
-fn run<R: Threads + Sync>(
-    rt: &R,
-    alloc: Global,
-    program: &str,
-    a: &Device,
-    b: &Device,
-    times: u32,
-) -> Result<Left, Fail> {
-    let words = ["a/", "b/", "run", "x.ac"];
-    let mut called = call(rt, alloc, &words, program, disk(alloc, a)?, disk(alloc, b)?)?;
-    let mut left = Left {
-        status: called.status,
-        rebuilt: None,
-        in_use: None,
-        first: Vec::new(alloc),
-        second: Vec::new(alloc),
-    };
-    if let Some(mirror) = &mut called.mirror {
-        for _ in 0..times {
-            left.rebuilt = rebuild(mirror);
-        }
-        left.in_use = Some(mirror.in_use());
-        left.first = held(alloc, mirror.first().disk())?;
-        left.second = held(alloc, mirror.second().disk())?;
-    }
-    Ok(left)
-}
 
 const WHOLE: &str = "AAAAAAAAAAAAAAAAAAAAAAAAAAAAAAAA|";
 
@@ -56,9 +19,7 @@ const LONG_HELD: &str = "bbbbbbbbbbbbbbbbbbbbbbbbbbbbbbbbbbbbbbbb|";
 
 const NONE_AND_LONG: &str = "|bbbbbbbbbbbbbbbbbbbbbbbbbbbbbbbbbbbbbbbb|";
 
-// What the program that reads finds in its file, and what it leaves.
-const TEN: &str = "0123456789";
-
+// What the program that reads leaves in its file.
 const TEN_A: &str = "0123456789\0\0A|";
 
 // Two writes, of the third five bytes, and of the fourth nothing.
@@ -78,6 +39,7 @@ type Row = (
     Kept,
     Kept,
     u32,
+    &'static str,
     Option<Rebuilt>,
     (bool, bool),
     &'static str,
@@ -89,48 +51,35 @@ const TORN: Kept = ("a/p.dat", "", &[3], 5);
 
 const WELL: Kept = ("b/p.dat", "", &[], 0);
 
-const BOTH: Option<Rebuilt> = Some(Rebuilt::Both);
+// One whose third write fails behind three bytes.
+const TORN_TOO: Kept = ("b/p.dat", "", &[3], 3);
+
+const DONE: Option<Rebuilt> = Some(Rebuilt::Both);
 
 const FAULT: Option<Rebuilt> = Some(Rebuilt::Fault);
 
-// The program, both devices, how often it is rebuilt, the answer, which side is in use, and what each holds.
+// The program, both devices, how often it is rebuilt, what was written, the answer, which side is in use,
+// and what each holds.
 // A bind is call 0; each of four writes is one; then a rebuilding reads a file of 32 bytes by one call of
 // the one device, and writes it by one of the other.
-const ROWS: [Row; 14] = [
+const ROWS: [Row; 15] = [
     // Before it, the first device holds what had gone in.
-    (WRITES, TORN, WELL, 0, None, SECOND, FIVE, WHOLE),
+    (WRITES, TORN, WELL, 0, WROTE, None, SECOND, FIVE, WHOLE),
     // It is made what the other is.
-    (WRITES, TORN, WELL, 1, BOTH, EACH, WHOLE, WHOLE),
+    (WRITES, TORN, WELL, 1, WROTE, DONE, EACH, WHOLE, WHOLE),
     // And once more nothing is done.
-    (WRITES, TORN, WELL, 2, BOTH, EACH, WHOLE, WHOLE),
+    (WRITES, TORN, WELL, 2, WROTE, DONE, EACH, WHOLE, WHOLE),
     // Both fail in one write: the second is dropped.
-    (
-        WRITES,
-        TORN,
-        ("b/p.dat", "", &[3], 3),
-        0,
-        None,
-        FIRST,
-        GAP,
-        THREE,
-    ),
+    (WRITES, TORN, TORN_TOO, 0, NOT_3, None, FIRST, GAP, THREE),
     // And made what the first is.
-    (
-        WRITES,
-        TORN,
-        ("b/p.dat", "", &[3], 3),
-        1,
-        BOTH,
-        EACH,
-        GAP,
-        GAP,
-    ),
+    (WRITES, TORN, TORN_TOO, 1, NOT_3, DONE, EACH, GAP, GAP),
     // Its write fails, and it stays out of use.
     (
         WRITES,
         ("a/p.dat", "", &[3, 4], 5),
         WELL,
         1,
+        WROTE,
         FAULT,
         SECOND,
         FIVE,
@@ -142,7 +91,8 @@ const ROWS: [Row; 14] = [
         ("a/p.dat", "", &[3, 4], 5),
         WELL,
         2,
-        BOTH,
+        WROTE,
+        DONE,
         EACH,
         WHOLE,
         WHOLE,
@@ -153,6 +103,7 @@ const ROWS: [Row; 14] = [
         TORN,
         ("b/p.dat", "", &[5], 0),
         1,
+        WROTE,
         FAULT,
         SECOND,
         FIVE,
@@ -164,7 +115,8 @@ const ROWS: [Row; 14] = [
         ("a/p.dat", "", &[0], 0),
         WELL,
         1,
-        BOTH,
+        WROTE,
+        DONE,
         EACH,
         WHOLE,
         WHOLE,
@@ -175,6 +127,7 @@ const ROWS: [Row; 14] = [
         ("a/p.dat", "", &[0, 1], 0),
         WELL,
         1,
+        WROTE,
         FAULT,
         SECOND,
         "",
@@ -186,6 +139,7 @@ const ROWS: [Row; 14] = [
         ("a/p.dat", "", &[], 0),
         ("b/p.dat", LONG, &[], 0),
         1,
+        WROTE,
         Some(Rebuilt::Longer { file: 0 }),
         FIRST,
         WHOLE,
@@ -198,6 +152,7 @@ const ROWS: [Row; 14] = [
         WELL,
         1,
         BOTH,
+        DONE,
         EACH,
         P_Q,
         P_Q,
@@ -208,6 +163,7 @@ const ROWS: [Row; 14] = [
         ("a/q.dat", "", &[], 0),
         ("b/q.dat", LONG, &[], 0),
         1,
+        BOTH,
         Some(Rebuilt::Longer { file: 1 }),
         FIRST,
         P_Q,
@@ -219,10 +175,23 @@ const ROWS: [Row; 14] = [
         ("a/p.dat", TEN, &[], 0),
         ("b/p.dat", TEN, &[], 0),
         1,
-        BOTH,
+        READ,
+        DONE,
         EACH,
         TEN_A,
         TEN_A,
+    ),
+    // A device whose file differs in its last byte is dropped, and keeps it.
+    (
+        READS,
+        ("a/p.dat", TEN, &[], 0),
+        ("b/p.dat", "0123456780", &[], 0),
+        0,
+        READ,
+        None,
+        FIRST,
+        TEN_A,
+        "0123456780|",
     ),
 ];
 
@@ -231,7 +200,6 @@ fn device(given: Kept) -> Device<'static> {
     Device {
         path,
         bytes,
-        times: 1,
         fails,
         taken,
     }
@@ -239,35 +207,21 @@ fn device(given: Kept) -> Device<'static> {
 
 #[test]
 fn a_side_is_made_what_the_other_is(rt: HostRuntime) -> Result<(), Fail> {
-    for (at, (program, a, b, times, rebuilt, in_use, first, second)) in ROWS.iter().enumerate() {
-        let left = run(&rt, rt.alloc(), program, &device(*a), &device(*b), *times)?;
-        assert!(rt; left.status == 0, "row {at}");
-        assert!(rt; left.rebuilt == *rebuilt, "row {at}");
-        assert!(rt; left.in_use == Some(*in_use), "row {at}");
-        let held = left.first.as_slice() == first.as_bytes()
-            && left.second.as_slice() == second.as_bytes();
-        assert!(rt; held, "row {at}");
+    for (at, (program, a, b, times, line, rebuilt, in_use, first, second)) in ROWS
+        .iter()
+        .enumerate()
+    {
+        let case = Case {
+            program,
+            a: device(*a),
+            b: device(*b),
+            times: *times,
+            line,
+            first,
+            second,
+        };
+        let left = run(&rt, rt.alloc(), &case)?;
+        assert!(rt; is_of(left, 0, *rebuilt, *in_use), "row {at}");
     }
-    Ok(())
-}
-
-// A file of more than 1,048,576 bytes is not compared: the second device is dropped, the program is not
-// run, and no rebuilding may be asked for.
-#[test]
-fn a_file_that_is_too_long_is_not_copied(rt: HostRuntime) -> Result<(), Fail> {
-    let long = Device {
-        path: "a/p.dat",
-        bytes: "b",
-        times: 1_048_577,
-        fails: &[],
-        taken: 0,
-    };
-    let other = Device {
-        path: "b/p.dat",
-        ..long
-    };
-    let left = run(&rt, rt.alloc(), WRITES, &long, &other, 1)?;
-    assert!(rt; left.status == 10 && left.rebuilt == None);
-    assert!(rt; left.in_use == Some(FIRST));
     Ok(())
 }

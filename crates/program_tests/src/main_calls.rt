@@ -33,22 +33,21 @@ fn one_file(alloc: Global, name: &str, bytes: &[u8]) -> Result<List<NamedBytes>,
 }
 
 // The status of a call, and whether it keeps a run. This is the one call of `ac_main`: each such call
-// is proved through all its clauses.
+// is proved through all its clauses, on each way out of the function in which it stands.
 fn called<L: Library, K: Sink, D: Disk + Send, R: Threads + Sync>(
     rt: &R,
     alloc: Global,
-    words: &[&str],
+    words: &[String],
     library: &mut L,
     sink: &mut K,
     disk: &mut D,
     gate: &HoldingGate<'_>,
-) -> Result<(u8, bool), AllocError>
+) -> (u8, bool)
     requires ready { IsTrue (D.told disk.old).is_ready }
     requires none { (D.told disk.old).bound ≡ 0 }
 {
-    let owned = words_of(alloc, words)?;
-    let outcome = ac_main(rt, alloc, owned.as_slice(), library, sink, disk, gate);
-    Ok((outcome.status.number, outcome.run.is_some()))
+    let outcome = ac_main(rt, alloc, words, library, sink, disk, gate);
+    (outcome.status.number, outcome.run.is_some())
 }
 
 /// The outside of a call, whose text is `x.ac`.
@@ -112,6 +111,35 @@ fn disk(alloc: Global, outside: &Outside) -> Result<MemoryDisk, Fail>
     Ok(disk)
 }
 
+// What the file `p` holds, if it was bound.
+fn file_of(alloc: Global, disk: &MemoryDisk) -> Result<Vec<u8>, AllocError> {
+    if disk.bound() == 1 {
+        Vec::from_slice(alloc, disk.contents(0))
+    } else {
+        Ok(Vec::new(alloc))
+    }
+}
+
+// What a call of this status left of these objects.
+fn left_by(
+    alloc: Global,
+    (status, ran): (u8, bool),
+    library: &MemoryLibrary,
+    sink: &MemorySink,
+    disk: &MemoryDisk,
+    gate: &HoldingGate<'_>,
+) -> Result<Left, AllocError> {
+    Ok(Left {
+        status,
+        ran,
+        taken: Vec::from_slice(alloc, sink.taken())?,
+        file: file_of(alloc, disk)?,
+        opens: library.opens(),
+        calls: disk.calls(),
+        limit_met: gate.limit_met(),
+    })
+}
+
 /// The call of these words.
 pub(crate) fn call<R: Threads + Sync>(
     rt: &R,
@@ -119,25 +147,21 @@ pub(crate) fn call<R: Threads + Sync>(
     words: &[&str],
     outside: &Outside,
 ) -> Result<Left, Fail> {
-    let mut library = library(alloc, outside)?;
-    let mut sink = MemorySink::new(alloc, outside.room)?;
-    let mut disk = disk(alloc, outside)?;
+    let words = words_of(alloc, words)?;
     let gate = HoldingGate::new(outside.holds);
-    let (status, ran) = called(rt, alloc, words, &mut library, &mut sink, &mut disk, &gate)?;
-    let file = if disk.bound() == 1 {
-        Vec::from_slice(alloc, disk.contents(0))?
-    } else {
-        Vec::new(alloc)
-    };
-    Ok(Left {
-        status,
-        ran,
-        taken: Vec::from_slice(alloc, sink.taken())?,
-        file,
-        opens: library.opens(),
-        calls: disk.calls(),
-        limit_met: gate.limit_met(),
-    })
+    let mut sink = MemorySink::new(alloc, outside.room)?;
+    let mut library = library(alloc, outside)?;
+    let mut disk = disk(alloc, outside)?;
+    let ended = called(
+        rt,
+        alloc,
+        words.as_slice(),
+        &mut library,
+        &mut sink,
+        &mut disk,
+        &gate,
+    );
+    Ok(left_by(alloc, ended, &library, &sink, &disk, &gate)?)
 }
 
 // A library that gives one byte at a time.
@@ -182,30 +206,35 @@ impl Sink for Sips {
 const READS: &str =
     "core a(f); file p(\"p\"); async void f() { int b[2]; Read(p, 0, 2, b); Write(p, 2, 2, b); printf(\"%d\\n\", b[1]); }";
 
-// Steps: declaration, read, write, printf: 4. Instructions: declaration 2, read 6, write 6, printf 5, end 2: 21.
-#[test]
-fn a_text_that_comes_and_goes_byte_by_byte_is_whole(rt: HostRuntime) -> Result<(), Fail> {
-    let alloc = rt.alloc();
-    let mut library = Drops {
-        inner: SafeLibrary::new(one_file(alloc, "x.ac", READS.as_bytes())?)?,
-    };
+// Whether a run whose text comes and goes byte by byte is the whole one. Steps: declaration, read, write,
+// printf: 4. Instructions: declaration 2, read 6, write 6, printf 5, end 2: 21.
+fn goes_byte_by_byte<R: Threads + Sync>(rt: &R, alloc: Global) -> Result<bool, Fail> {
+    let words = words_of(alloc, &["run", "x.ac"])?;
+    let gate = HoldingGate::new(&[]);
     let mut sink = Sips {
         inner: SafeSink::new(alloc)?,
     };
+    let mut library = Drops {
+        inner: SafeLibrary::new(one_file(alloc, "x.ac", READS.as_bytes())?)?,
+    };
     let mut disk = SafeDisk::new(one_file(alloc, "p", b"AB")?)?;
-    let gate = HoldingGate::new(&[]);
-    let seen = called(
-        &rt,
+    let ended = called(
+        rt,
         alloc,
-        &["run", "x.ac"],
+        words.as_slice(),
         &mut library,
         &mut sink,
         &mut disk,
         &gate,
-    )?;
-    assert_eq!(rt; seen, (0, true));
-    assert!(rt;
-        sink.inner.taken() == b"a: finished after 4 steps, 21 instructions\n66\n".as_slice()
     );
+    Ok(
+        ended == (0, true)
+            && sink.inner.taken() == b"a: finished after 4 steps, 21 instructions\n66\n".as_slice(),
+    )
+}
+
+#[test]
+fn a_text_that_comes_and_goes_byte_by_byte_is_whole(rt: HostRuntime) -> Result<(), Fail> {
+    assert!(rt; goes_byte_by_byte(&rt, rt.alloc())?);
     Ok(())
 }

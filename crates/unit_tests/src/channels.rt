@@ -95,6 +95,12 @@ fn right(links: &mut Links, rows: &[Row]) -> usize
     rows.len()
 }
 
+// The same by a channel for so many messages.
+fn on_links(alloc: Global, messages: u32, rows: &[Row]) -> Result<usize, NoMemory> {
+    let mut links = channel(alloc, messages)?;
+    Ok(right(&mut links, rows))
+}
+
 #[test]
 fn offers_withdrawals_and_takings(rt: HostRuntime) -> Result<(), Fail> {
     for (messages, rows) in [
@@ -102,8 +108,7 @@ fn offers_withdrawals_and_takings(rt: HostRuntime) -> Result<(), Fail> {
         (2, PASSED.as_slice()),
         (1, HOLDS.as_slice()),
     ] {
-        let mut links = channel(rt.alloc(), messages)?;
-        assert_eq!(rt; right(&mut links, rows), rows.len());
+        assert_eq!(rt; on_links(rt.alloc(), messages, rows)?, rows.len());
     }
     Ok(())
 }

@@ -1,11 +1,93 @@
 //! Codes that are valid and codes that are not, worked out by hand.
 
+// Instructions of several operands, written on one line.
+macro_rules! load {
+    ($level:expr, $slot:expr) => {
+        stack_code::Instr::Load {
+            level: $level,
+            slot: $slot,
+        }
+    };
+}
+
+macro_rules! store {
+    ($level:expr, $slot:expr) => {
+        stack_code::Instr::Store {
+            level: $level,
+            slot: $slot,
+        }
+    };
+}
+
+macro_rules! arr_g {
+    ($slot:expr, $len:expr) => {
+        stack_code::Instr::ArrG {
+            slot: $slot,
+            len: $len,
+        }
+    };
+}
+
+macro_rules! clear {
+    ($slot:expr, $len:expr) => {
+        stack_code::Instr::Clear {
+            slot: $slot,
+            len: $len,
+        }
+    };
+}
+
+macro_rules! printf {
+    ($text:expr, $count:expr) => {
+        stack_code::Instr::Print {
+            text: $text,
+            count: $count,
+        }
+    };
+}
+
+macro_rules! call {
+    ($function:expr, $count:expr) => {
+        stack_code::Instr::Call {
+            function: $function,
+            count: $count,
+        }
+    };
+}
+
+macro_rules! spawn {
+    ($slots:expr, $to:expr) => {
+        stack_code::Instr::Async {
+            slots: $slots,
+            to: $to,
+        }
+    };
+}
+
+macro_rules! cancel {
+    ($level:expr, $slot:expr) => {
+        stack_code::Instr::Cancel {
+            level: $level,
+            slot: $slot,
+        }
+    };
+}
+
+macro_rules! arr {
+    ($level:expr, $slot:expr, $len:expr) => {
+        stack_code::Instr::Arr {
+            level: $level,
+            slot: $slot,
+            len: $len,
+        }
+    };
+}
+
 mod lists;
 mod parts;
 mod shapes;
 mod slots;
 mod ways;
-mod written;
 
 use self::parts::{Whose, first_wrong};
 use self::shapes::{BLOCKS, BODIES, MESSAGES, OPERANDS, RANGES};

@@ -116,8 +116,29 @@ const NO_STAMP_TO_TAKE: [Row; 5] = [
     (Step::Learn, Said::Undecided),
 ];
 
-// How many of the steps are answered so, from the first on, by a pair with room for so many messages and
-// parties with these last stamps.
+// How many of the steps are answered so, from the first on.
+fn answered(
+    send: &mut Sender<'_>,
+    recv: &mut Receiver<'_>,
+    sender: u64,
+    receiver: u64,
+    rows: &[Row],
+) -> usize
+    requires stamps { (sender < 2 ^ 60) × (receiver < 2 ^ 60) }
+    requires unused { send.old.notes.offers ≡ [] }
+    requires ends { AreEnds send.old recv.old }
+{
+    let mut mine = Clock::new(sender);
+    let mut yours = Clock::new(receiver);
+    for (at, row) in rows.iter().enumerate() {
+        if act(send, recv, row.0, &mut mine, &mut yours) != row.1 {
+            return at;
+        }
+    }
+    rows.len()
+}
+
+// The same by a pair with room for so many messages and parties with these last stamps.
 fn right(
     alloc: Global,
     places: u32,
@@ -130,14 +151,7 @@ fn right(
 {
     let (words, owner, peer) = Words::make(alloc, places)?;
     let (mut send, mut recv) = pair::<Message, AnyItems>(alloc, &words, owner, peer, places)?;
-    let mut mine = Clock::new(sender);
-    let mut yours = Clock::new(receiver);
-    for (at, row) in rows.iter().enumerate() {
-        if act(&mut send, &mut recv, row.0, &mut mine, &mut yours) != row.1 {
-            return Ok(at);
-        }
-    }
-    Ok(rows.len())
+    Ok(answered(&mut send, &mut recv, sender, receiver, rows))
 }
 
 #[test]

@@ -12,10 +12,6 @@ mod ends;
 #[cfg(test)]
 mod links;
 #[cfg(test)]
-mod outside;
-#[cfg(test)]
-mod requests;
-#[cfg(test)]
 mod rows;
 #[cfg(test)]
 mod server_text;

@@ -34,8 +34,6 @@ pub enum Said {
     AllKnown,
     Took { number: u64, value: i64, stamp: u64 },
     Passed { number: u64, stamp: u64 },
-    Replied { number: u64, count: u32, stamp: u64 },
-    NotAwaited,
     Nothing,
     ClockFull,
     Settled,

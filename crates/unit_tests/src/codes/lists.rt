@@ -1,8 +1,9 @@
 //! The lists of a code, and which of its addresses are reached.
 
 use super::parts::{Lists, USUAL, code_with};
+use ac_base::{List, NoMemory};
 use stack_code::Instr::{Load, Push, Ret};
-use stack_code::{ChannelEnds, Code, Instr, Start};
+use stack_code::{ChannelEnds, Instr, Start};
 use std::alloc::Global;
 use std::test::Fail;
 
@@ -198,13 +199,16 @@ static LISTS: [(Lists, bool); 28] = [
     (Lists { words: 1, ..USUAL }, false),
 ];
 
+fn makes(alloc: Global, lists: &Lists) -> Result<bool, NoMemory> {
+    let body = List::from_vec(Vec::from_slice(alloc, &BODY)?);
+    Ok(code_with(alloc, lists, body, 2, 0)?.is_some())
+}
+
 #[test]
 fn lists_are_as_they_must_be(rt: HostRuntime) -> Result<(), Fail> {
     for (at, (lists, valid)) in LISTS.iter().enumerate() {
-        let code = code_with(rt.alloc(), lists, &BODY, 2, 0)
-            .ok()
-            .ok_or("memory")?;
-        assert_eq!(rt; code.is_some(), *valid, "case {at}");
+        let is_made = makes(rt.alloc(), lists).ok().ok_or("memory")?;
+        assert_eq!(rt; is_made, *valid, "case {at}");
     }
     Ok(())
 }

@@ -1,7 +1,7 @@
 //! Small codes.
 
-use super::written::written;
 use ac_base::{Bytes, List, Name, NoMemory};
+use stack_code::Instr::{Push, Ret};
 use stack_code::{ChannelEnds, Code, Entered, Instr, Start};
 use std::alloc::Global;
 
@@ -85,23 +85,43 @@ fn names(alloc: Global, count: u32) -> Result<List<Name>, NoMemory> {
     Ok(names)
 }
 
+// The lists of numbers: one function makes them all, so that no other has each of them on its ways out.
+struct Numbers {
+    entries: List<u32>,
+    capacities: List<u32>,
+    ends: List<ChannelEnds>,
+    starts: List<Start>,
+    widths: List<u32>,
+}
+
+fn numbers_of(alloc: Global, lists: &Lists) -> Result<Numbers, NoMemory> {
+    Ok(Numbers {
+        entries: list(alloc, lists.entries)?,
+        capacities: list(alloc, lists.capacities)?,
+        ends: list(alloc, lists.ends)?,
+        starts: list(alloc, lists.starts)?,
+        widths: list(alloc, lists.widths)?,
+    })
+}
+
 /// The code with these lists, whose functions begin there. The first has 4 slots and no parameter.
 pub fn code_with(
     alloc: Global,
     lists: &Lists,
-    instrs: &[Instr],
+    instrs: List<Instr>,
     first: u32,
     second: u32,
 ) -> Result<Option<Code>, NoMemory> {
-    let instrs = list(alloc, instrs)?;
     let functions = functions(alloc, first, second, lists.words)?;
     let texts = texts(alloc)?;
-    let entries = list(alloc, lists.entries)?;
     let names = names(alloc, lists.names)?;
-    let capacities = list(alloc, lists.capacities)?;
-    let ends = list(alloc, lists.ends)?;
-    let starts = list(alloc, lists.starts)?;
-    let widths = list(alloc, lists.widths)?;
+    let Numbers {
+        entries,
+        capacities,
+        ends,
+        starts,
+        widths,
+    } = numbers_of(alloc, lists)?;
     Code::make(
         alloc, instrs, functions, texts, entries, names, 3, capacities, ends, starts, widths,
     )
@@ -118,12 +138,22 @@ pub enum Whose {
     Wide,
 }
 
-const RETURNS_ITS_INT: &str = "Load 0 0, Ret";
+/// The body of a function, and whether it may have it.
+pub type Case = (&'static [Instr], bool);
 
-const CALLS_THE_SECOND: &str = "Push 1, Arr 0 0 2, Call 1 2, Ret";
+const RETURNS_ITS_INT: &[Instr] = &[load!(0, 0), Ret];
 
-/// Whether that function may have the body that is written so; none where it is not well written.
-fn may_have(alloc: Global, whose: Whose, body: &str) -> Result<Option<bool>, NoMemory> {
+const CALLS_THE_SECOND: &[Instr] = &[Push(1), arr!(0, 0, 2), call!(1, 2), Ret];
+
+// The instructions of the one function and then those of the other.
+fn one_and_other(alloc: Global, one: &[Instr], other: &[Instr]) -> Result<List<Instr>, NoMemory> {
+    let mut instrs = Vec::from_slice(alloc, one)?;
+    instrs.extend_from_slice(other)?;
+    Ok(List::from_vec(instrs))
+}
+
+// Whether that function may have this body.
+fn may_have(alloc: Global, whose: Whose, body: &[Instr]) -> Result<bool, NoMemory> {
     let (other, first, second) = match whose {
         Whose::First | Whose::Wide => (RETURNS_ITS_INT, 2, 0),
         Whose::Second => (CALLS_THE_SECOND, 0, 4),
@@ -132,24 +162,15 @@ fn may_have(alloc: Global, whose: Whose, body: &str) -> Result<Option<bool>, NoM
         Whose::Wide => &WIDE,
         _ => &USUAL,
     };
-    let mut instrs = Vec::new(alloc);
-    if !written(&mut instrs, other)? || !written(&mut instrs, body)? {
-        return Ok(None);
-    }
-    let code = code_with(alloc, lists, instrs.as_slice(), first, second)?;
-    Ok(Some(code.is_some()))
+    let instrs = one_and_other(alloc, other, body)?;
+    Ok(code_with(alloc, lists, instrs, first, second)?.is_some())
 }
 
 /// The first of these cases in which that function may have the body and is said not to, or the
-/// other way round, or in which the body is not well written. One place calls for all tables, since
-/// each place is proved on its own.
-pub fn first_wrong(
-    alloc: Global,
-    whose: Whose,
-    cases: &[(&str, bool)],
-) -> Result<Option<usize>, NoMemory> {
+/// other way round. One place calls for all tables, since each place is proved on its own.
+pub fn first_wrong(alloc: Global, whose: Whose, cases: &[Case]) -> Result<Option<usize>, NoMemory> {
     for (at, (body, valid)) in cases.iter().enumerate() {
-        if may_have(alloc, whose, body)? != Some(*valid) {
+        if may_have(alloc, whose, body)? != *valid {
             return Ok(Some(at));
         }
     }

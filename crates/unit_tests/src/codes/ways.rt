@@ -1,47 +1,107 @@
 //! Ways through a code.
 
-pub(super) static WAYS: [(&str, bool); 11] = [
-    ("Push 0", false),
-    ("Jump 9", false),
-    ("Push 1, Jz 5, Step, Push 0, Ret", true),
-    ("Push 1, Jz 5, Push 0, Push 0, Ret", false),
-    ("Push 1, Jnz 5, Push 0, Push 0, Ret", false),
+use super::parts::Case;
+use stack_code::Instr as I;
+
+pub(super) static WAYS: [Case; 11] = [
+    (&[I::Push(0)], false),
+    (&[I::Jump { to: 9 }], false),
+    (
+        &[I::Push(1), I::Jz { to: 5 }, I::Step, I::Push(0), I::Ret],
+        true,
+    ),
+    (
+        &[I::Push(1), I::Jz { to: 5 }, I::Push(0), I::Push(0), I::Ret],
+        false,
+    ),
+    (
+        &[I::Push(1), I::Jnz { to: 5 }, I::Push(0), I::Push(0), I::Ret],
+        false,
+    ),
     // References of so many elements and of more are not the same.
     (
-        "Push 1, Jz 6, Arr 0 0 1, Jump 7, Arr 0 0 2, Drop, Push 0, Ret",
+        &[
+            I::Push(1),
+            I::Jz { to: 6 },
+            arr!(0, 0, 1),
+            I::Jump { to: 7 },
+            arr!(0, 0, 2),
+            I::Drop,
+            I::Push(0),
+            I::Ret,
+        ],
         false,
     ),
     (
-        "Push 1, Jz 6, Arr 0 0 3, Jump 7, Arr 0 0 2, Drop, Push 0, Ret",
+        &[
+            I::Push(1),
+            I::Jz { to: 6 },
+            arr!(0, 0, 3),
+            I::Jump { to: 7 },
+            arr!(0, 0, 2),
+            I::Drop,
+            I::Push(0),
+            I::Ret,
+        ],
         false,
     ),
     (
-        "Push 1, Jz 6, Arr 0 0 2, Jump 7, Arr 0 2 2, Drop, Push 0, Ret",
+        &[
+            I::Push(1),
+            I::Jz { to: 6 },
+            arr!(0, 0, 2),
+            I::Jump { to: 7 },
+            arr!(0, 2, 2),
+            I::Drop,
+            I::Push(0),
+            I::Ret,
+        ],
         true,
     ),
     // A jump into the other function, which is called as well, and which is not.
     (
-        "Push 1, Jz 8, Push 1, Arr 0 0 2, Call 1 2, Ret, Jump 0",
+        &[
+            I::Push(1),
+            I::Jz { to: 8 },
+            I::Push(1),
+            arr!(0, 0, 2),
+            call!(1, 2),
+            I::Ret,
+            I::Jump { to: 0 },
+        ],
         false,
     ),
-    ("Jump 0", true),
+    (&[I::Jump { to: 0 }], true),
     // What is not reached has no say.
-    ("Jump 4, Drop, Push 0, Ret", true),
+    (&[I::Jump { to: 4 }, I::Drop, I::Push(0), I::Ret], true),
 ];
 
-pub(super) static WAYS_BACK: [(&str, bool); 9] = [
-    ("Jump 2", false),
-    ("Step, Jump 2", true),
-    ("Push 1, Jz 2, Push 0, Ret", false),
-    ("Step, Push 1, Jz 2, Push 0, Ret", true),
-    ("Call 0 0, Ret", false),
-    ("Step, Call 0 0, Ret", true),
-    ("Enter 0, Async 1 3, End", false),
-    ("Enter 0, Step, Async 1 3, End", true),
-    ("Enter 0, Finish 0, Jump 2", false),
+pub(super) static WAYS_BACK: [Case; 9] = [
+    (&[I::Jump { to: 2 }], false),
+    (&[I::Step, I::Jump { to: 2 }], true),
+    (&[I::Push(1), I::Jz { to: 2 }, I::Push(0), I::Ret], false),
+    (
+        &[I::Step, I::Push(1), I::Jz { to: 2 }, I::Push(0), I::Ret],
+        true,
+    ),
+    (&[call!(0, 0), I::Ret], false),
+    (&[I::Step, call!(0, 0), I::Ret], true),
+    (&[I::Enter { slot: 0 }, spawn!(1, 3), I::End], false),
+    (&[I::Enter { slot: 0 }, I::Step, spawn!(1, 3), I::End], true),
+    (
+        &[
+            I::Enter { slot: 0 },
+            I::Finish { slot: 0 },
+            I::Jump { to: 2 },
+        ],
+        false,
+    ),
 ];
 
-pub(super) static CALLS_BACK: [(&str, bool); 2] = [
-    ("Push 1, Load 0 1, Call 1 2, Ret", false),
-    ("Step, Push 1, Load 0 1, Call 1 2, Ret", true),
+pub(super) static CALLS_BACK: [Case; 2] = [
+    (&[I::Push(1), load!(0, 1), call!(1, 2), I::Ret], false),
+    (
+        &[I::Step, I::Push(1), load!(0, 1), call!(1, 2), I::Ret],
+        true,
+    ),
 ];
