@@ -4,7 +4,9 @@
     python3 bench/wide.py [BASE]
 
 The program must have been built (the README's first command). BASE is a built `ac` from before messages could have several ints. Each
-time is the least of several runs, less that of an empty program. These ratios are printed, each with its goal:
+time is the least of several runs, less that of an empty program. The three kinds of message are run in turn, round after round: how the
+system places a run's threads changes its time by a fifth, and a machine may be slower for a while, so each kind needs many runs, spread
+over the same stretch of time. These ratios are printed, each with its goal:
 
 - 100,000 messages of one int in `ac run`, against BASE; of 16 ints, against those of one;
 - what a byte of a trace of version 2 takes to be read, by an audit whose first entry does not fit, and to be written, by `ac trace` less
@@ -18,7 +20,7 @@ import time
 import audit
 
 # A message makes three entries.
-MESSAGES, LINES, RUNS = 100_000, 33_334, 9
+MESSAGES, LINES, RUNS, ROUNDS = 100_000, 33_334, 9, 75
 LOOP = "for (int i = 0; i < %d; i = i + 1) %s"
 SOURCE = "core a(f);\ncore b(g);\nchannel c(a, b, 64);\nasync void f() { int m%s; %s }\nasync void g() { int n%s; %s printf(\"%%d\\n\", n%s); }\n"
 
@@ -36,10 +38,18 @@ def source(width, count):
     return SOURCE % (size, sends, size, takes, first), report.encode()
 
 
-def ran(file, width, count, program=audit.PROGRAM):
+def ran(file, width, count, program=audit.PROGRAM, runs=RUNS):
     text, report = source(width, count)
     file.write_text(text)
-    return audit.best((0, report), "run", file, "--steps", str(audit.STEPS), runs=RUNS, program=program)
+    return audit.best((0, report), "run", file, "--steps", str(audit.STEPS), runs=runs, program=program)
+
+
+def in_rounds(folder, base):
+    """What so many messages take: of one int, of 16, and of one in BASE where there is one."""
+    file = folder / "x.ac"
+    kinds = [(1, audit.PROGRAM), (16, audit.PROGRAM)] + ([(1, base)] if base else [])
+    rounds = [[ran(file, width, MESSAGES, program, runs=1) for width, program in kinds] for _ in range(ROUNDS)]
+    return [min(times) - started(file, program) for times, (_, program) in zip(zip(*rounds), kinds)]
 
 
 def traced(file):
@@ -74,14 +84,11 @@ def main():
     base = pathlib.Path(sys.argv[1]).resolve() if len(sys.argv) > 1 else None
     with tempfile.TemporaryDirectory() as name:
         folder = pathlib.Path(name)
-        file = folder / "x.ac"
-        start = started(file)
-        one, most = (ran(file, width, MESSAGES) - start for width in (1, 16))
-        before = ran(file, 1, MESSAGES, base) - started(file, base) if base else None
+        one, most, *before = in_rounds(folder, base)
         half, all_lines, narrow = (bytes_of(folder, width, count) for width, count in ((16, LINES // 2), (16, LINES), (2, LINES)))
     print(f"{MESSAGES} messages of one int: {one * 1000:.1f} ms, of 16 ints: {most * 1000:.1f} ms")
     if base:
-        print(f"ratio of one int to {base.name} of before, {before * 1000:.1f} ms: {one / before:.2f} (goal: at most 1.15)")
+        print(f"ratio of one int to {base.name} of before, {before[0] * 1000:.1f} ms: {one / before[0]:.2f} (goal: at most 1.15)")
     print(f"ratio of 16 ints to one: {most / one:.2f} (goal: at most 3)")
     for place, what in enumerate(("read", "written")):
         few, all_, two = (times[place] for times in (half, all_lines, narrow))
