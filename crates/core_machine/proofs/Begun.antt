@@ -28,6 +28,7 @@ use Rattle.core_machine.specs.inner.Beginning.{HasBegun}
 use Rattle.core_machine.specs.Machine.{IsFirst, IsOnItsWay}
 use Rattle.core_machine.specs.State.{flat_of, end_or, own_link, state_of, machine_of, IsSound}
 use Rattle.core_machine.specs.Tracks.{IsPlaced, Tracks}
+use Rattle.core_machine.proofs.Lived.{AllPlaced, first_placed}
 
 -- ---- the frame
 
@@ -101,12 +102,13 @@ module _ (m : Running) (function : Entered) (b : Begins m.code.now m.core functi
     pub run_of : IsOnItsWay (machine_of m)
     run_of = record { function = function; begins = b; goes = subst (GoesOn (exec m.code.now m.bound) start) (sym state_first) (GoesOn-none (exec m.code.now m.bound) start) }
 
-    pub sound_first : IsValid m.code.now → IsSound m
-    sound_first v = record {
+    pub sound_first : IsValid m.code.now → m.threads.lives ≡ true ∷ [] → IsSound m
+    sound_first v lives = record {
       fit = λ still. go m.ended still begun;
       chained = λ still. chains m.ended still begun;
       requests = λ still. ap (λ (f : Flat). f.shared.requests) first;
       tracks = λ still. subst (λ os. Tracks (own_link m) m.journal.entries os) (sym no_operations) (subst (λ past. Tracks (own_link m) past []) (sym journal) tracks_none);
+      places = λ still. subst (λ f. AllPlaced f m.threads) (sym first) (first_placed m.threads function shared m.frames lives);
       valid = v;
       ran = run_of;
     }

@@ -42,13 +42,14 @@ use Rattle.core_machine.specs.declared.ending.Ending.{Ending}
 use Rattle.core_machine.specs.declared.running.Running.{Running}
 use Rattle.core_machine.specs.declared.tried.Tried.{Tried}
 use Rattle.core_machine.specs.Blocks.{blocks_of}
-use Rattle.core_machine.specs.State.{shared_of, flat_of, end_or, own_link, state_of, machine_of, IsSound}
+use Rattle.core_machine.specs.State.{shared_of, flat_of, end_or, own_link, state_of, machine_of, HavePlaces, IsSound}
 use Rattle.core_machine.specs.Tracks.{Tracks}
 use Rattle.core_machine.specs.Tried.{cancelled_at, cancelled_by, cancelled_in, tried_as, tried_in, tried_of, tried_within}
-use Rattle.core_machine.specs.inner.Changes.{IsSameCode, entry_now}
+use Rattle.core_machine.specs.inner.Changes.{Keeps, entry_now}
 use Rattle.core_machine.specs.inner.Deciding.{Decides, Makes, decided_within}
 use Rattle.core_machine.specs.inner.Left.{left_from, left_of}
-use Rattle.core_machine.proofs.Sound.{on_its_way, own_stays, resumed_operations, resumed_shared, running}
+use Rattle.core_machine.proofs.Lived.{AllLived, cancel_begun, cancel_ended}
+use Rattle.core_machine.proofs.Sound.{on_its_way, own_stays, resumed_operations, resumed_shared, running, still_placed}
 use Rattle.core_machine.proofs.Standing.{tracks_decided}
 use Rattle.core_machine.proofs.Rounds.{marked_blocks, none_within, oldest_changed, oldest_found, oldest_without}
 
@@ -158,16 +159,17 @@ module _ (m b : Running) (block : BlockId) (event : Event) (stamp : ℕ) where
   pub makes_end : (after : Running) (value : ℤ) (n : ℕ) (o p : Operation) (q : Roomy) (t : table.Table) (j : Log) → slice_get m.outstanding.operations n ≡ Some p
       → slice_get m.outstanding.operations n ≡ Some o → b ≡ noted q t j
       → q.operations ≡ remove m.outstanding.operations n → t ≡ table.marked m.blocks block → j.entries ≡ m.journal.entries ++ entry_now m event stamp ∷ []
-      → flat_of after ≡ resumed (flat_of b) (cell.Int value) (Some p.item) → after.ended ≡ b.ended → IsSameCode b after
+      → flat_of after ≡ resumed (flat_of b) (cell.Int value) (Some p.item) → after.ended ≡ b.ended → Keeps b after
       → Makes m block event stamp (has_ended_as value m.frames (remove m.outstanding.operations n) o) after
-  makes_end after value n o p q t j here there is ops mark entries flat ended same =
+  makes_end after value n o p q t j here there is ops mark entries flat ended kept =
       let one : p ≡ o = let both : Some p ≡ Some o = sym here ∙ there in cc in
       record {
         flat = flat ∙ ap (λ (f : Flat). resumed f (cell.Int value) (Some p.item)) (noted_is q t j (remove m.outstanding.operations n) is ops mark entries)
             ∙ ap (λ (x : Operation). arrived (marked (flat_of m) block) (with_entry (shared_of m) (entry_now m event stamp) [])
             (has_ended_as value m.frames (remove m.outstanding.operations n) x)) one;
         ended = ended ∙ ap (λ (y : Running). y.ended) is;
-        same = record { code = same.code ∙ ap (λ (y : Running). y.code.now) is; core = same.core ∙ ap (λ (y : Running). y.core) is; bound = same.bound ∙ ap (λ (y : Running). y.bound) is };
+        lives = kept.lives ∙ ap (λ (y : Running). y.threads.lives) is;
+        same = record { code = kept.code ∙ ap (λ (y : Running). y.code.now) is; core = kept.core ∙ ap (λ (y : Running). y.core) is; bound = kept.bound ∙ ap (λ (y : Running). y.bound) is };
       }
 
   -- an operation goes on
@@ -176,6 +178,7 @@ module _ (m b : Running) (block : BlockId) (event : Event) (stamp : ℕ) where
   makes_change q t j os is ops mark entries = record {
     flat = noted_is q t j os is ops mark entries;
     ended = ap (λ (y : Running). y.ended) is;
+    lives = ap (λ (y : Running). y.threads.lives) is;
     same = record { code = ap (λ (y : Running). y.code.now) is; core = ap (λ (y : Running). y.core) is; bound = ap (λ (y : Running). y.bound) is };
   }
 
@@ -305,6 +308,10 @@ module _ (before after : Running) (tried : Tried) (it : Fate) (event : Event) (s
       (subst (λ past. Tracks (own_link before) past after.outstanding.operations) (sym decided_journal)
       (subst (Tracks (own_link before) (before.journal.entries ++ entry ∷ [])) (sym decided_operations) tracks))
 
+  decided_placed : HavePlaces after
+  decided_placed = still_placed before after (sound.places still) (subst (AllLived m) (sym h.makes.flat) (of_outcome (λ x. AllLived m (arrived now shared x))
+      (λ value. cancel_ended m h.block shared m.store place.front place.back o place.is value) (λ request. cancel_begun m h.block shared m.store place.front place.back o place.is))) h.makes.lives
+
   pub decided_sound : IsSound after
   decided_sound =
       let r = sound.ran in
@@ -317,6 +324,7 @@ module _ (before after : Running) (tried : Tried) (it : Fate) (event : Event) (s
         chained = λ e. subst (λ c. AreChained c (flat_of after)) (sym h.makes.same.code) decided_chained;
         requests = λ e. decided_requests ∙ sound.requests still ∙ sym decided_own;
         tracks = λ e. decided_tracks;
+        places = λ e. decided_placed;
         valid = subst IsValid (sym h.makes.same.code) sound.valid;
         ran = on_its_way (machine_of after) code before.core before.bound (before.journal.entries ++ entry ∷ [])
             (On (arrived now shared (decided_within m h.block it o))) r.function h.makes.same.code h.makes.same.core h.makes.same.bound decided_journal

@@ -24,7 +24,7 @@ use Rattle.core_state.specs.Requests.{value_of, with_answer}
 use Rattle.code_meaning.specs.Machine.{Flat, resumed}
 use Rattle.core_machine.specs.declared.running.Running.{Running}
 use Rattle.core_machine.specs.State.{shared_of, flat_of}
-use Rattle.core_machine.specs.inner.Changes.{IsSameCode, Enters, entry_now}
+use Rattle.core_machine.specs.inner.Changes.{Keeps, Enters, entry_now}
 
 module _ (m : Running) (v : Event) (stamp : ℕ) where
   abbrev entry : Entry
@@ -47,13 +47,14 @@ module _ (m : Running) (v : Event) (stamp : ℕ) where
   ended_enters : (value : ℤ) (b after : Running) (q : Roomy) (store store' : Store) (j : Log) (os : List Operation) (o : Operation)
       → arrivals.arrives m.journal.entries m.frames m.outstanding.operations v ≡ Some (has_ended_as value store os o)
       → b ≡ noted q store' j → q.operations ≡ os → store' ≡ store → j.entries ≡ m.journal.entries ++ entry ∷ []
-      → flat_of after ≡ resumed (flat_of b) (cell.Int value) (Some o.item) → after.ended ≡ b.ended → IsSameCode b after → Enters m v stamp after
-  ended_enters value b after q store store' j os o fits is ops frames entries flat ended same = record {
+      → flat_of after ≡ resumed (flat_of b) (cell.Int value) (Some o.item) → after.ended ≡ b.ended → Keeps b after → Enters m v stamp after
+  ended_enters value b after q store store' j os o fits is ops frames entries flat ended kept = record {
     arrival = has_ended_as value store os o;
     fits = fits;
     flat = flat ∙ ap (λ (f : Flat). resumed f (cell.Int value) (Some o.item)) (noted_is b q store store' j os is ops frames entries);
     ended = ended ∙ ap (λ (y : Running). y.ended) is;
-    same = record { code = same.code ∙ ap (λ (y : Running). y.code.now) is; core = same.core ∙ ap (λ (y : Running). y.core) is; bound = same.bound ∙ ap (λ (y : Running). y.bound) is };
+    lives = kept.lives ∙ ap (λ (y : Running). y.threads.lives) is;
+    same = record { code = kept.code ∙ ap (λ (y : Running). y.code.now) is; core = kept.core ∙ ap (λ (y : Running). y.core) is; bound = kept.bound ∙ ap (λ (y : Running). y.bound) is };
   }
 
   -- an operation goes on waiting
@@ -64,6 +65,7 @@ module _ (m : Running) (v : Event) (stamp : ℕ) where
     fits = fits;
     flat = noted_is after q m.frames m.frames j os is ops refl entries;
     ended = ap (λ (y : Running). y.ended) is;
+    lives = ap (λ (y : Running). y.threads.lives) is;
     same = record { code = ap (λ (y : Running). y.code.now) is; core = ap (λ (y : Running). y.core) is; bound = ap (λ (y : Running). y.bound) is };
   }
 
@@ -121,25 +123,25 @@ is_the_request f o b found is = subst (λ (r : Option Operation). IfSome r (λ (
 pub know_enters : (m b after : Running) (q : Roomy) (j : Log) (link number stamp : ℕ) (o : Operation) → find (is_offered link number) m.outstanding.operations ≡ Some o
     → IfSome (find (is_offered link number) m.outstanding.operations) (λ (p : Operation). is_request p.asked ≡ false)
     → b ≡ noted m (event.Know link number) stamp q m.frames j → q.operations ≡ without_first (is_offered link number) m.outstanding.operations
-    → j.entries ≡ m.journal.entries ++ entry_now m (event.Know link number) stamp ∷ [] → flat_of after ≡ resumed (flat_of b) (cell.Int ok) (Some o.item) → after.ended ≡ b.ended → IsSameCode b after
+    → j.entries ≡ m.journal.entries ++ entry_now m (event.Know link number) stamp ∷ [] → flat_of after ≡ resumed (flat_of b) (cell.Int ok) (Some o.item) → after.ended ≡ b.ended → Keeps b after
     → Enters m (event.Know link number) stamp after
-know_enters m b after q j link number stamp o found other is ops entries flat ended same =
+know_enters m b after q j link number stamp o found other is ops entries flat ended kept =
     let os = m.outstanding.operations in
     ended_enters m (event.Know link number) stamp ok b after q m.frames m.frames j (without_first (is_offered link number) os) o
     (known_ends m.frames os link number (find (is_offered link number) os) o found other)
-    is ops refl entries flat ended same
+    is ops refl entries flat ended kept
 
 pub got_enters : (m b after : Running) (q : Roomy) (store : Store) (j : Log) (link number stamp : ℕ) (value : List ℤ) (o : Operation) (place : Place)
     → find (is_to_receive link) m.outstanding.operations ≡ Some o → o.asked ≡ asked.Recv place → b ≡ noted m (event.Got link number value) stamp q store j
     → q.operations ≡ without_first (is_to_receive link) m.outstanding.operations → store ≡ with_ints_at m.frames place value
     → j.entries ≡ m.journal.entries ++ entry_now m (event.Got link number value) stamp ∷ [] → flat_of after ≡ resumed (flat_of b) (cell.Int ok) (Some o.item) → after.ended ≡ b.ended
-    → IsSameCode b after
+    → Keeps b after
     → Enters m (event.Got link number value) stamp after
-got_enters m b after q store j link number stamp value o place found asks is ops frames entries flat ended same =
+got_enters m b after q store j link number stamp value o place found asks is ops frames entries flat ended kept =
     let os = m.outstanding.operations in
     let put : store ≡ with_message m.frames o value = frames ∙ sym (ap (λ a. with_ints_at m.frames (arrivals.place_for a) value) asks) in
     ended_enters m (event.Got link number value) stamp ok b after q (with_message m.frames o value) store j (without_first (is_to_receive link) os) o
-    (ap (ends_received m.frames os link value) found) is ops put entries flat ended same
+    (ap (ends_received m.frames os link value) found) is ops put entries flat ended kept
 
 -- ---- an answer
 
@@ -147,12 +149,12 @@ pub reply_enters : (m b after : Running) (q : Roomy) (store : Store) (j : Log) (
     → find (is_begun link number) m.outstanding.operations ≡ Some o → value ≡ value_of o.asked answer → b ≡ noted m (event.Reply link number answer) stamp q store j
     → q.operations ≡ without_first (is_begun link number) m.outstanding.operations → store ≡ with_answer m.frames o.asked answer
     → j.entries ≡ m.journal.entries ++ entry_now m (event.Reply link number answer) stamp ∷ [] → flat_of after ≡ resumed (flat_of b) (cell.Int value) (Some o.item) → after.ended ≡ b.ended
-    → IsSameCode b after → Enters m (event.Reply link number answer) stamp after
-reply_enters m b after q store j link number stamp answer value o found told is ops frames entries flat ended same =
+    → Keeps b after → Enters m (event.Reply link number answer) stamp after
+reply_enters m b after q store j link number stamp answer value o found told is ops frames entries flat ended kept =
     let os = without_first (is_begun link number) m.outstanding.operations in
     let put = with_answer m.frames o.asked answer in
     ended_enters m (event.Reply link number answer) stamp value b after q put store j os o
-    (ap (is_answered m.frames m.outstanding.operations link number answer) found ∙ ap (λ v. Some (has_ended_as v put os o)) (sym told)) is ops frames entries flat ended same
+    (ap (is_answered m.frames m.outstanding.operations link number answer) found ∙ ap (λ v. Some (has_ended_as v put os o)) (sym told)) is ops frames entries flat ended kept
 
 -- ---- an offer that is passed over
 

@@ -1,6 +1,6 @@
 -- What callers see of a core, and the activations, blocks and threads that stand for those of its code.
 -- Those that hold do so by computing.
-use Rattle.std.proofs.Common.{◌≡◌, ℕ, ◌+◌, length, refl, pos, Bool, true, false, List, [], ◌∷◌, Some, None, arith}
+use Rattle.std.proofs.Common.{◌≡◌, ℕ, zero, suc, ◌+◌, length, refl, ap, pos, Bool, true, false, List, [], ◌∷◌, Some, None, arith, slice_index_or}
 use Rattle.std.proofs.lemmas.List.Elements.{All-nil}
 use Rattle.ac_base.specs.declared.entry.Entry.{Entry}
 use Rattle.ac_base.specs.declared.entry.Event.TheVariants as event
@@ -21,7 +21,10 @@ use Rattle.work_item.specs.Store.{Store, no_frames}
 use Rattle.core_scheduler.specs.Schedule.{Schedule}
 use Rattle.core_state.specs.Moves.{On, Over}
 use Rattle.core_state.specs.Shared.{core_end, first_shared}
-use Rattle.code_meaning.specs.Machine.{Caller, Flat, nobody}
+use Rattle.code_meaning.specs.Machine.{Block, Caller, Flat, Thread, nobody}
+use Rattle.code_safety.specs.Living.{LivesAs, as_running, as_ready, as_operating, as_waiting}
+use Rattle.code_safety.proofs.Lives.{one_is}
+use Rattle.thread_table.specs.Table.{HasPlace}
 use Rattle.core_machine.specs.declared.ending.Ending.TheVariants as ending
 use Rattle.core_machine.specs.Words.{word_of}
 use Rattle.core_machine.specs.Machine.{none_ready, is_resting, is_idle, has_ended, IsSeen, waiting_at_end, waiting_of, waits, HasEnded}
@@ -30,7 +33,7 @@ use Rattle.core_machine.specs.Tracks.{is_offer_of, is_end_of, is_know_of, is_rep
 use Rattle.core_machine.specs.Tracks.{is_transfer, keeps_limits, IsPlaced, Tracks}
 use Rattle.core_machine.specs.inner.Changes.{with_woken, item_of}
 use Rattle.core_machine.specs.declared.running.Running.{Running}
-use Rattle.core_machine.specs.State.{shared_of, thread_of, flat_of, end_or, state_of, own_link, has_room, machine_of}
+use Rattle.core_machine.specs.State.{shared_of, thread_of, flat_of, end_or, state_of, own_link, has_room, machine_of, HavePlaces}
 
 -- ---- how a core has ended
 
@@ -238,7 +241,7 @@ with_fields m = record m {
   callers = its_callers;
   block = None;
   schedule = schedule;
-  threads = record { threads = nobody ∷ []; pending = false; spare = 0 };
+  threads = record { threads = nobody ∷ []; lives = true ∷ []; pending = false; spare = 0 };
   blocks = record { blocks = None ∷ []; spare = 1 };
   steps = 3;
   turn = 2;
@@ -292,3 +295,28 @@ with_spares m entries ready pending = record m {
 pub whether_it_has_room : (m : Running) → (has_room (with_spares m 1 1 false) ≡ true) × (has_room (with_spares m 0 1 false) ≡ false) × (has_room (with_spares m 1 0 false) ≡ false)
     × (has_room (with_spares m 1 1 true) ≡ false)
 whether_it_has_room m = (refl, refl, refl, refl)
+
+-- ---- places
+
+-- the first thread has ended, or not; the second one is ready
+abbrev with_places : Running → List Bool → Running
+with_places m lives = record (with_fields m) { threads = record { threads = nobody ∷ nobody ∷ []; lives = lives; pending = false; spare = 0 } }
+
+no_block : (n : ℕ) (x : Block) → slice_index_or (None ∷ []) n None ≡ Some x → ⊥
+no_block zero x e = let no : None ≡ Some x = e in cc
+no_block (suc n) x e = let no : None ≡ Some x = e in cc
+
+pub the_ready_one_has_its_place : (m : Running) → HavePlaces (with_places m (false ∷ true ∷ []))
+the_ready_one_has_its_place m = by
+  where
+    its : (u : Item) → u.number ≡ 1 → HasPlace (with_places m (false ∷ true ∷ [])).threads u
+    its u e = ap (λ n. slice_index_or (false ∷ true ∷ []) n false) e
+
+    by : (u : Item) (h : Thread) → LivesAs (flat_of (with_places m (false ∷ true ∷ []))) u h → HasPlace (with_places m (false ∷ true ∷ [])).threads u
+    by _ _ (as_running u e) = let no : None ≡ Some u = e in absurd (cc)
+    by _ _ (as_ready u some) = its u (one_is u.number 1 (omega (arith, some)))
+    by _ _ (as_operating u some) = its u (one_is u.number 1 (omega (arith, some)))
+    by _ _ (as_waiting u b x there owner w) = absurd (no_block b.number x there)
+
+pub without_it : (m : Running) → HavePlaces (with_places m (true ∷ false ∷ [])) → ⊥
+without_it m places = let no : false ≡ true = places second nobody (as_ready second (omega arith)) in cc

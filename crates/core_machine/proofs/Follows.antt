@@ -15,6 +15,11 @@ of_done P (Ok went.Away) h asks refused = h (λ e. let no : went.Away ≡ went.A
 of_done P (Ok went.Asks) h asks refused = absurd (asks refl)
 of_done P (Err error) h asks refused = absurd (refused refl)
 
+-- memory was not refused
+pub of_ok : (P : Type 0) (r : Result Went NoMemory) → IfOk r (λ w. P) → follows_of r ≢ Refused → P
+of_ok P (Ok w) h refused = h
+of_ok P (Err error) h refused = absurd (refused refl)
+
 -- it asks for an outcome
 pub of_asks : (P : Type 0) (r : Result Went NoMemory) → IfOk r (λ w. w ≡ went.Asks → P) → follows_of r ≡ Asks → P
 of_asks P (Ok went.On) h e = let no : Same ≡ Asks = e in absurd (cc)

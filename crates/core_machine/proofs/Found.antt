@@ -41,7 +41,7 @@ use Rattle.thread_table.specs.Operands.{is_reference, on_top}
 use Rattle.core_machine.specs.inner.Operands.{Stand, first_place, second_place}
 use Rattle.core_machine.specs.inner.Needs.{HasInt, HasMessage, HasReference, HasInts, HasCell, HasArray, HasElement, HasCall, HasRequest, Finds}
 use Rattle.core_machine.proofs.OpenSlots.{slot_of_entered, lie_there}
-use Rattle.core_machine.proofs.Lives.{round_lives, finish_there, start_there, end_there, is_listed}
+use Rattle.core_machine.proofs.Lives.{round_lives, finish_there, start_there, end_there}
 
 -- the frames so many levels up live
 levels_there : (births : List Birth) (s : Store) (bodies : List Body) (f : FrameId) (level : ℕ) (body : Body) → AreBodies births s bodies f → slice_get bodies level ≡ Some body → HasLevel s f level
@@ -211,7 +211,6 @@ module _ (code : Parts) (bound : ℕ) (m : Flat) (fit : IsFit code m) (t : Item)
       record {
         three = omega (arith, long);
         home = first_home store ops (names.threads t m.current (as_running t run)).0.1;
-        listed = is_listed code m fit t run;
       }
 
   last_there : (kinds : List CellKind) (operands : List Cell) → is_int_alone kinds ≡ true → HaveKinds code fit.births kinds operands → on_top is_int operands ≡ true
@@ -331,12 +330,10 @@ module _ (code : Parts) (bound : ℕ) (m : Flat) (fit : IsFit code m) (t : Item)
   finds (i.Finish slot) leads here e = finish_there code bound m fit t run slot here leads e
   finds (i.Async slots to) leads here e = start_there code bound m fit t run v slots to here leads e
   finds i.End leads here e = end_there code bound m fit t run leads e
-  finds i.Yield leads here e = is_listed code m fit t run
+  finds i.Yield leads here e = tt
   finds (i.Cancel level slot) leads here e = cancel_there level slot leads e
-  finds (i.Send channel) leads here e = (message_there channel leads e, is_listed code m fit t run)
-  finds (i.Recv channel) leads here e = (
-    elements_there (width_of code channel) (pushes m.current.place kind.Int) leads (if_is (nat_lt channel (channels_of code)) _ leads e).1,
-    is_listed code m fit t run,
-  )
+  finds (i.Send channel) leads here e = message_there channel leads e
+  finds (i.Recv channel) leads here e =
+      elements_there (width_of code channel) (pushes m.current.place kind.Int) leads (if_is (nat_lt channel (channels_of code)) _ leads e).1
   finds (i.Read file) leads here e = request_there file leads e
   finds (i.Write file) leads here e = request_there file leads e

@@ -6,6 +6,8 @@ pub mod Requested
 pub mod Answered
 pub mod Lives
 pub mod OpenSlots
+pub mod Places
+pub mod Lived
 pub mod Found
 pub mod Standing
 pub mod Started

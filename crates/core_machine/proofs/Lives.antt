@@ -14,9 +14,9 @@ use Rattle.stack_code.specs.Parts.{Parts}
 use Rattle.stack_code.specs.Shapes.{effect}
 use Rattle.stack_code.specs.Valid.{IsValid}
 use Rattle.code_meaning.specs.Machine.{Flat, Block, block_at}
-use Rattle.code_safety.specs.Fit.{IsThread, Phase, Gone, Going, AtFinish, Life, no_life, life_at, is_living, is_going, is_at, starts_in}
-use Rattle.code_safety.specs.Fit.{total, items_of, one_if, one_at, occurs, runs, innermost, innermost_in, own_blocks, IsFit}
-use Rattle.code_safety.proofs.Lives.{total_set, total_one, starts_one, living_within, going_is, going_lives, one_same, one_true, one_at_most, same_item}
+use Rattle.code_safety.specs.Fit.{IsThread, Phase, Gone, Going, AtFinish, Life, no_life, life_at, is_living, is_at, starts_in}
+use Rattle.code_safety.specs.Fit.{total, one_if, innermost, innermost_in, own_blocks, IsFit}
+use Rattle.code_safety.proofs.Lives.{total_set, total_one, starts_one, living_within, one_at_most, same_item}
 use Rattle.code_safety.proofs.Own.{phase_of, lives_of, within_of, thread_of}
 use Rattle.code_safety.proofs.Entering.{Stands, own, round, stands_in}
 use Rattle.code_safety.proofs.Finishing.{arrival}
@@ -30,6 +30,13 @@ use Rattle.core_machine.specs.inner.Needs.{IsChildless, IsListed, CanFinish, Can
 pub none_at_front : (ready : List Item) → is_none (front ready) ≡ none_ready ready
 none_at_front [] = refl
 none_at_front (t ∷ ready) = refl
+
+pub has_next : (m : Flat) → m.running ≡ None → is_resting m ≡ false → HasNext m
+has_next m idle some = go m.ready refl (sym (ap (λ o. is_none o && none_ready m.ready) idle) ∙ some)
+  where
+    go : (ready : List Item) → m.ready ≡ ready → none_ready m.ready ≡ false → HasNext m
+    go [] e still = let both : true ≡ false = sym (ap none_ready e) ∙ still in absurd (cc)
+    go (t ∷ ready) e still = record { next = t; later = ready; is = e }
 
 -- ---- counts
 
@@ -144,24 +151,6 @@ module _ (code : Parts) (m : Flat) (fit : IsFit code m) where
                 omega (arith, one_left, set, none, own_one, its_one, some, count)
           ]
 
-  -- ---- no thread runs
-
-  pub has_next : m.running ≡ None → is_resting m ≡ false → HasNext m
-  has_next idle some = go m.ready refl (sym (ap (λ o. is_none o && none_ready m.ready) idle) ∙ some)
-    where
-      go : (ready : List Item) → m.ready ≡ ready → none_ready m.ready ≡ false → HasNext m
-      go [] e still = let both : true ≡ false = sym (ap none_ready e) ∙ still in absurd (cc)
-      go (t ∷ ready) e still =
-          let l : 0 + ((one_at t.number t + occurs t.number ready) + occurs t.number (items_of m.operations)) ≡ one_if (is_going (life_at fit.lives t).phase) =
-          ap (λ o. runs t.number o + (occurs t.number (t ∷ ready) + occurs t.number (items_of m.operations))) (sym idle)
-          ∙ ap (λ r. runs t.number m.running + (occurs t.number r + occurs t.number (items_of m.operations))) (sym e) ∙ fit.listed t.number in
-          let one = one_same t.number in
-          let most = one_at_most (is_going (life_at fit.lives t).phase) in
-          let goes = going_is (life_at fit.lives t).phase (one_true (is_going (life_at fit.lives t).phase) (omega (arith, l, one, most))) in
-          let within = living_within fit.lives t (going_lives (life_at fit.lives t).phase goes) in
-          let many = fit.many in
-          record { next = t; later = ready; is = e; listed = omega (arith, within, many) }
-
 module _ (code : Parts) (bound : ℕ) (m : Flat) (fit : IsFit code m) (t : Item) (run : m.running ≡ Some t) where
   abbrev here_now : IsThread code fit.births m.store m.blocks t (life_at fit.lives t).start m.current
   here_now = thread_of code m fit t run
@@ -172,7 +161,6 @@ module _ (code : Parts) (bound : ℕ) (m : Flat) (fit : IsFit code m) (t : Item)
       record {
         has = record { number = a.b; is = a.is; block = a.x; there = a.here };
         childless = passes_childless code m fit t run a.b a.is a.x a.here a.owner;
-        listed = is_listed code m fit t run;
       }
 
   pub start_there : IsValid code → (slots to : ℕ) → slice_get code.instrs m.current.place ≡ Some (i.Async slots to) → (leads : Leads)
@@ -199,5 +187,4 @@ module _ (code : Parts) (bound : ℕ) (m : Flat) (fit : IsFit code m) (t : Item)
         some = omega (arith, count, some);
         childless = ends_childless code m fit t run a.b a.block a.x a.here a.start;
         frame = frame_goes code m fit t run;
-        listed = is_listed code m fit t run;
       }

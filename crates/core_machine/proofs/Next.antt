@@ -1,25 +1,17 @@
--- A turn: what was given to a thread goes onto its operands, and then the core runs. For `start_next` and `stretch`.
+-- A stretch of a turn. For `stretch`.
 -- What is left to do is less after a stretch: its last instruction lowers it, or, where it ends at a cancel that asks, the moves before that have.
-use Rattle.std.proofs.Common.{◌≡◌, ◌≢◌, ℕ, ◌<◌, ◌≤◌, List, None, IsSome, false, refl, sym, ◌∙◌, arith}
+use Rattle.std.proofs.Common.{◌≡◌, ◌≢◌, ℕ, ◌<◌, ◌≤◌, List, IsSome, refl, sym, ◌∙◌, arith}
 use Rattle.core_machine.specs.declared.running.Running.{Running}
 use Rattle.core_machine.specs.declared.went.Follows.{Follows}
 use Rattle.core_machine.specs.declared.went.Follows.TheVariants.{Same, Away, Asks, Refused}
-use Rattle.core_machine.specs.Machine.{is_resting}
-use Rattle.core_machine.specs.State.{flat_of, state_of, IsSound}
+use Rattle.core_machine.specs.State.{state_of}
 use Rattle.core_machine.specs.Tried.{tried_of}
-use Rattle.core_machine.specs.inner.Changes.{Keeps, Stays}
+use Rattle.core_machine.specs.inner.Changes.{KeepsCode, Stays}
 use Rattle.core_machine.specs.inner.Left.{left_of}
-use Rattle.core_machine.specs.inner.Needs.{HasNext}
-use Rattle.core_machine.proofs.Lives.{has_next}
 use Rattle.core_machine.proofs.Sound.{stays_left, code_of}
 
-pub next_there : (m : Running) → IsSound m → m.ended ≡ None → m.schedule.running ≡ None → is_resting (flat_of m) ≡ false → HasNext (flat_of m)
-next_there m sound still idle active = has_next m.code.now (flat_of m) (sound.fit still) idle active
-
--- ---- a stretch
-
 -- its last instruction was done, or the core asks for an outcome there, or memory was refused
-module _ (a b c : Running) (how : Follows) (keeps : Keeps b c) (stays : how ≡ Asks → Stays b c) where
+module _ (a b c : Running) (how : Follows) (keeps : KeepsCode b c) (stays : how ≡ Asks → Stays b c) where
   pub went_less : (ranks : List ℕ) → how ≢ Refused → (how ≢ Asks → how ≢ Refused → left_of ranks c < left_of ranks b) → (how ≡ Asks → IsSome (tried_of b.code.now (state_of b)))
       → left_of ranks b ≤ left_of ranks a → (IsSome (tried_of b.code.now (state_of b)) → left_of ranks b < left_of ranks a) → left_of ranks c < left_of ranks a
   went_less ranks given falls asks least less = by how refl

@@ -12,14 +12,14 @@ use Rattle.code_meaning.specs.Machine.{Flat, exec}
 use Rattle.thread_table.specs.Operands.{on_top}
 use Rattle.core_machine.specs.declared.running.Running.{Running}
 use Rattle.core_machine.specs.State.{flat_of, state_of, IsSound}
-use Rattle.core_machine.specs.inner.Changes.{Keeps, Does}
+use Rattle.core_machine.specs.inner.Changes.{KeepsCode, Does, Places}
 use Rattle.core_machine.specs.inner.Left.{left_of}
 use Rattle.core_machine.specs.inner.Led.{IsLed, pushed}
 use Rattle.core_machine.specs.inner.Needs.{Finds, HasInts}
 use Rattle.core_machine.specs.inner.Operators.{binary}
 use Rattle.core_machine.proofs.Led.{led_once, led_on}
 use Rattle.core_machine.proofs.Sound as sound
-use Rattle.core_machine.proofs.Sound.{running, moved_by, still_sound, is_item, within, finds_there}
+use Rattle.core_machine.proofs.Sound.{running, moved_by, still_sound, instr_placed, is_item, within, finds_there}
 
 finds_ints : (code : Parts) (m : Flat) (instr : Instr) → IsSome (binary instr) → Finds code m instr → HasInts m
 finds_ints code m i.BitOr h f = f
@@ -45,7 +45,8 @@ pub record AtPush (m : Running) (value : ℤ) (instrs : List Instr) (ranks : Lis
   pub within : m.place + 1 < length instrs
   pub inside : m.place + 1 < 2 ^ 32
   pub int : IsSome (binary (slice_index_or instrs (m.place + 1) i.Step)) → on_top is_int m.operands ≡ true
-  pub two : (after : Running) → Does (pushed m value) (slice_index_or instrs (m.place + 1) i.Step) after → Keeps m after
+  pub two : (after : Running) → Does (pushed m value) (slice_index_or instrs (m.place + 1) i.Step) after → Places (pushed m value) (slice_index_or instrs (m.place + 1) i.Step) after
+      → KeepsCode m after
       → IsLed m after × (IsSound after × (left_of ranks after < left_of ranks m))
 
 module _ (m : Running) (still : m.ended ≡ None) (runs : IsSome m.schedule.running) (is_sound : IsSound m) (value : ℤ)
@@ -62,11 +63,11 @@ module _ (m : Running) (still : m.ended ≡ None) (runs : IsSome m.schedule.runn
   moved : exec m.code.now m.bound (flat_of m) ≡ state_of p
   moved = moved_by m p t (i.Push value) run here (running (flat_of p) p.ended still)
 
-  keeps : Keeps m p
+  keeps : KeepsCode m p
   keeps = record { code = refl; core = refl; bound = refl; journal = refl }
 
   is_sound_there : IsSound p
-  is_sound_there = still_sound m p still is_sound keeps moved ranks ranked
+  is_sound_there = still_sound m p still is_sound keeps moved ranks ranked (instr_placed m p still is_sound keeps moved t (i.Push value) run here (λ e. refl))
 
   next_within : m.place + 1 < length m.code.now.instrs
   next_within = within m.code.now m.bound (flat_of p) (is_sound_there.fit still) is_sound.valid t run
@@ -77,14 +78,17 @@ module _ (m : Running) (still : m.ended ≡ None) (runs : IsSome m.schedule.runn
         let finds = finds_there m.code.now m.bound (flat_of p) (is_sound_there.fit still) is_sound.valid t run (is_sound_there.chained still) next there in
         (finds_ints m.code.now (flat_of p) next h finds).1.0
 
-    after_two : (after : Running) → Does p next after → Keeps m after → IsLed m after × (IsSound after × (left_of ranks after < left_of ranks m))
-    after_two after does kept =
+    after_two : (after : Running) → Does p next after → Places p next after → KeepsCode m after → IsLed m after × (IsSound after × (left_of ranks after < left_of ranks m))
+    after_two after does given kept =
         let moved_on = moved_by p after t next run there does in
-        let kept_on : Keeps p after = record { code = kept.code; core = kept.core; bound = kept.bound; journal = kept.journal } in
+        let kept_on : KeepsCode p after = record { code = kept.code; core = kept.core; bound = kept.bound; journal = kept.journal } in
         let one = sound.less m p still is_sound keeps moved ranks ranked in
         let two = sound.less p after still is_sound_there kept_on moved_on ranks ranked in (
           led_on m p after (record { code = refl; core = refl; bound = refl }) (led_once m p still runs (sym moved)) (led_once p after still runs (sym moved_on)),
-          (still_sound p after still is_sound_there kept_on moved_on ranks ranked, omega (arith, one, two)),
+          (
+            still_sound p after still is_sound_there kept_on moved_on ranks ranked (instr_placed p after still is_sound_there kept_on moved_on t next run there given),
+            omega (arith, one, two),
+          ),
         )
 
   pub at_push : (instrs : List Instr) → instrs ≡ m.code.now.instrs → AtPush m value instrs ranks

@@ -1,8 +1,8 @@
 -- A core stays where its code can stand, and comes to its end. `IsSound` is the invariant of a machine.
--- After a move its parts hold again: fitness and chains by code_safety, the link of its requests since nothing changes it, and offers by Started and Standing.
+-- After a move its parts hold again: fitness and chains by code_safety, the link of its requests since nothing changes it, offers by Started and Standing, and places by Lived.
 -- After an entry likewise. What is left to do falls with each move and does not rise with an entry, so a core that is given turns comes to its end.
 use Rattle.std.proofs.Common.{◌≡◌, ◌≢◌, ℕ, suc, ◌-◌, ◌<◌, ◌≤◌, ◌^◌, List, [], ◌∷◌, ◌++◌, length, Option, Some, None, IsSome, Bool, true, false, refl, sym, ap, ◌∙◌, subst, arith}
-use Rattle.std.specs.Prelude.{slice_get, is_some, nat_eq, nat_lt, not}
+use Rattle.std.specs.Prelude.{slice_get, slice_index_or, is_some, nat_eq, nat_lt, not}
 use Rattle.std.proofs.lemmas.Bool.{ltb-true}
 use Rattle.std.proofs.lemmas.Bool.Decides.{nat_tests}
 use Rattle.std.proofs.lemmas.Option.{slice_get_within}
@@ -25,6 +25,7 @@ use Rattle.stack_code.specs.Kept.{IsRanked}
 use Rattle.code_safety.specs.Left.{left, left_to_come}
 use Rattle.code_safety.specs.Fit.{IsFit}
 use Rattle.code_safety.specs.Chains.{AreChained}
+use Rattle.code_safety.specs.Living.{LivesAs}
 use Rattle.code_meaning.specs.Machine.{Flat, FlatEnd, arrived, begin, exec, exec_of, first_flat, resumed}
 use Rattle.code_safety.proofs.ArrivalChains.{comes_chained}
 use Rattle.code_safety.proofs.ArrivalWeights.{arrived_falls}
@@ -41,12 +42,13 @@ use Rattle.core_machine.specs.declared.went.Follows.{Follows}
 use Rattle.core_machine.specs.declared.went.Follows.TheVariants.{Same, Away, Asks, Refused}
 use Rattle.core_machine.specs.inner.Needs.{Finds}
 use Rattle.core_machine.specs.Machine.{Machine, IsOnItsWay}
-use Rattle.core_machine.specs.State.{shared_of, flat_of, end_or, own_link, state_of, machine_of, IsSound}
+use Rattle.core_machine.specs.State.{shared_of, flat_of, end_or, own_link, state_of, machine_of, HavePlaces, IsSound}
 use Rattle.core_machine.specs.Tracks.{Tracks}
 use Rattle.core_machine.specs.Tried.{cancelled_by, cancelled_at, tried_within, tried_of}
 use Rattle.core_machine.specs.inner.Left.{left_from, left_of}
-use Rattle.core_machine.specs.inner.Changes.{IsSameCode, Keeps, Does, Stays, Enters, entry_now, item_of, at_address}
+use Rattle.core_machine.specs.inner.Changes.{IsSameCode, KeepsCode, Keeps, Does, Places, PlacesAfter, Stays, Enters, entry_now, item_of, at_address}
 use Rattle.core_machine.proofs.Found.{finds}
+use Rattle.core_machine.proofs.Lived.{AllLived, AllPlaced, comes_lived, placed, rest_lived}
 use Rattle.core_machine.proofs.Standing.{tracks_entered}
 use Rattle.core_machine.proofs.Started.{IsAtItsLink, StartsTo, exec_starts, tracks_started}
 
@@ -107,6 +109,12 @@ on_its_way n code core bound journal state function c k d j s b g = record { fun
 pub own_stays : (before after : Running) → IsSameCode before after → own_link after ≡ own_link before
 own_stays before after same = ap (λ (code : Parts). request_link (length code.ends) after.core) same.code ∙ ap (request_link (length before.code.now.ends)) same.core
 
+-- those that live have lived before, and no place was taken away
+pub still_placed : (before after : Running) → HavePlaces before → AllLived (flat_of before) (flat_of after) → after.threads.lives ≡ before.threads.lives → HavePlaces after
+still_placed before after places lived same u h l =
+    let k = lived u h l in
+    subst (λ (lives : List Bool). slice_index_or lives u.number false ≡ true) (sym same) (places u k.0 k.1)
+
 -- where nothing has changed that the code's meaning sees
 pub stays_sound : (before after : Running) → IsSound before → Stays before after → IsSameCode before after → IsSound after
 stays_sound before after sound stays same =
@@ -122,17 +130,18 @@ stays_sound before after sound stays same =
       tracks = λ e. subst (λ link. Tracks link after.journal.entries after.outstanding.operations) (sym (own_stays before after same))
           (subst (λ past. Tracks (own_link before) past after.outstanding.operations) (sym journal)
           (subst (Tracks (own_link before) before.journal.entries) (sym operations) (sound.tracks (was e))));
+      places = λ e. still_placed before after (sound.places (was e)) (λ u h l. (h, subst (λ f. LivesAs f u h) stays.flat l)) stays.lives;
       valid = subst IsValid (sym same.code) sound.valid;
       ran = on_its_way (machine_of after) before.code.now before.core before.bound before.journal.entries (state_of before) r.function
           same.code same.core same.bound journal state r.begins r.goes;
     }
 
-pub code_of : (before after : Running) → Keeps before after → IsSameCode before after
+pub code_of : (before after : Running) → KeepsCode before after → IsSameCode before after
 code_of before after k = record { code = k.code; core = k.core; bound = k.bound }
 
 -- ---- a move
 
-module _ (before after : Running) (still : before.ended ≡ None) (sound : IsSound before) (keeps : Keeps before after)
+module _ (before after : Running) (still : before.ended ≡ None) (sound : IsSound before) (keeps : KeepsCode before after)
     (moved : exec before.code.now before.bound (flat_of before) ≡ state_of after) where
   abbrev fit : IsFit before.code.now (flat_of before)
   fit = sound.fit still
@@ -171,12 +180,29 @@ module _ (before after : Running) (still : before.ended ≡ None) (sound : IsSou
       subst (λ link. Tracks link after.journal.entries after.outstanding.operations) (sound.requests still ∙ sym own_kept)
       (subst (λ past. Tracks before.requests past after.outstanding.operations) (sym keeps.journal) on)
 
-  pub still_sound : (ranks : List ℕ) → IsRanked before.code.now ranks → IsSound after
-  still_sound ranks r = record {
+  -- one instruction, or a dispatch
+  pub instr_placed : (t : Item) (instr : Instr) → before.schedule.running ≡ Some t → slice_get before.code.now.instrs before.place ≡ Some instr → Places before instr after
+      → after.ended ≡ None → HavePlaces after
+  instr_placed t instr run here given e =
+      let begun : exec before.code.now before.bound (flat_of before) ≡ begin before.code.now before.bound (flat_of before) t (Some instr) =
+      ap (exec_of before.code.now before.bound (flat_of before)) run ∙ ap (begin before.code.now before.bound (flat_of before) t) here in
+      let fits = fits_there before.code.now before.bound (flat_of before) fit sound.valid t run in
+      let its : PlacesAfter instr t before.threads after.threads = subst (λ o. PlacesAfter instr (item_of o) before.threads after.threads) run (given e) in
+      subst (Onward (λ n. AllPlaced n after.threads)) (sym begun ∙ leads_on e)
+      (placed before.code.now before.bound (flat_of before) fit sound.valid refl t run before.threads after.threads refl (sound.places still) instr fits.leads here
+      (effect_there before.code.now before.bound (flat_of before) fit sound.valid t run instr here) its)
+
+  pub next_placed : before.schedule.running ≡ None → after.threads.lives ≡ before.threads.lives → after.ended ≡ None → HavePlaces after
+  next_placed idle same e = still_placed before after (sound.places still)
+      (subst (Onward (AllLived (flat_of before))) (leads_on e) (rest_lived before.code.now before.bound (flat_of before) refl idle)) same
+
+  pub still_sound : (ranks : List ℕ) → IsRanked before.code.now ranks → (after.ended ≡ None → HavePlaces after) → IsSound after
+  still_sound ranks r places = record {
     fit = λ e. subst (λ code. IsFit code (flat_of after)) (sym keeps.code) (better ranks r e).0;
     chained = λ e. subst (λ code. AreChained code (flat_of after)) (sym keeps.code) (still_chained e);
     requests = still_requests;
     tracks = still_tracks;
+    places = places;
     valid = subst IsValid (sym keeps.code) sound.valid;
     ran = on_its_way (machine_of after) before.code.now before.core before.bound before.journal.entries (exec before.code.now before.bound (flat_of before)) sound.ran.function
         keeps.code keeps.core keeps.bound keeps.journal (sym moved) sound.ran.begins
@@ -197,15 +223,22 @@ module _ (before after : Running) (still : before.ended ≡ None) (sound : IsSou
   less ranks r = rw still (less_left ranks r after.ended refl)
 
 -- what has gone by an instruction: it was done, or nothing was
-pub went_sound : (before after : Running) (how : Follows) → before.ended ≡ None → IsSound before → Keeps before after
+pub went_sound : (before after : Running) (how : Follows) → before.ended ≡ None → IsSound before → KeepsCode before after
     → (how ≢ Asks → how ≢ Refused → exec before.code.now before.bound (flat_of before) ≡ state_of after) → (how ≡ Asks → Stays before after) → (how ≡ Refused → Stays before after)
+    → (t : Item) (instr : Instr) → before.schedule.running ≡ Some t → slice_get before.code.now.instrs before.place ≡ Some instr → (how ≢ Refused → Places before instr after)
     → (ranks : List ℕ) → IsRanked before.code.now ranks → IsSound after
-went_sound before after Same still sound keeps moved stays refused ranks r =
-    still_sound before after still sound keeps (moved (λ e. let no : Same ≡ Asks = e in cc) (λ e. let no : Same ≡ Refused = e in cc)) ranks r
-went_sound before after Away still sound keeps moved stays refused ranks r =
-    still_sound before after still sound keeps (moved (λ e. let no : Away ≡ Asks = e in cc) (λ e. let no : Away ≡ Refused = e in cc)) ranks r
-went_sound before after Asks still sound keeps moved stays refused ranks r = stays_sound before after sound (stays refl) (code_of before after keeps)
-went_sound before after Refused still sound keeps moved stays refused ranks r = stays_sound before after sound (refused refl) (code_of before after keeps)
+went_sound before after Same still sound keeps moved stays refused t instr run here given ranks r =
+    let no_asks : Same ≢ Asks = λ e. (let no : Same ≡ Asks = e in cc) in
+    let no_refusal : Same ≢ Refused = λ e. (let no : Same ≡ Refused = e in cc) in
+    let is = moved no_asks no_refusal in
+    still_sound before after still sound keeps is ranks r (instr_placed before after still sound keeps is t instr run here (given no_refusal))
+went_sound before after Away still sound keeps moved stays refused t instr run here given ranks r =
+    let no_asks : Away ≢ Asks = λ e. (let no : Away ≡ Asks = e in cc) in
+    let no_refusal : Away ≢ Refused = λ e. (let no : Away ≡ Refused = e in cc) in
+    let is = moved no_asks no_refusal in
+    still_sound before after still sound keeps is ranks r (instr_placed before after still sound keeps is t instr run here (given no_refusal))
+went_sound before after Asks still sound keeps moved stays refused t instr run here given ranks r = stays_sound before after sound (stays refl) (code_of before after keeps)
+went_sound before after Refused still sound keeps moved stays refused t instr run here given ranks r = stays_sound before after sound (refused refl) (code_of before after keeps)
 
 -- ---- whether an outcome is asked for
 
@@ -279,6 +312,7 @@ module _ (before after : Running) (event : Event) (stamp : ℕ) (still : before.
         chained = λ e. subst (λ c. AreChained c (flat_of after)) (sym h.same.code) entered_chained;
         requests = λ e. entered_requests ∙ sound.requests still ∙ sym entered_own;
         tracks = λ e. entered_tracks;
+        places = λ e. still_placed before after (sound.places still) (subst (AllLived (flat_of before)) (sym h.flat) (comes_lived (flat_of before) shared h.arrival came)) h.lives;
         valid = subst IsValid (sym h.same.code) sound.valid;
         ran = on_its_way (machine_of after) code before.core before.bound (before.journal.entries ++ entry ∷ []) (On (arrived (flat_of before) shared h.arrival)) r.function
             h.same.code h.same.core h.same.bound entered_journal (running (flat_of after) after.ended entered_on ∙ ap (λ f. On f) h.flat) r.begins comes;
@@ -303,15 +337,19 @@ moved_by before after t instr run here does =
 
 -- ---- several turns
 
-pub keeps_on : (a b c : Running) → Keeps a b → Keeps b c → Keeps a c
+pub keeps_on : (a b c : Running) → KeepsCode a b → KeepsCode b c → KeepsCode a c
 keeps_on a b c k l = record { code = l.code ∙ k.code; core = l.core ∙ k.core; bound = l.bound ∙ k.bound; journal = l.journal ∙ k.journal }
 
 -- the address of the running thread is none of them
-pub keeps_to : (a b : Running) (to : ℕ) → Keeps a b → Keeps a (at_address b to)
+pub keeps_to : (a b : Running) (to : ℕ) → KeepsCode a b → KeepsCode a (at_address b to)
 keeps_to a b to k = record { code = k.code; core = k.core; bound = k.bound; journal = k.journal }
 
-pub keeps_at : (a b : Running) (from to : ℕ) → Keeps a b → Keeps (at_address a from) (at_address b to)
+pub keeps_at : (a b : Running) (from to : ℕ) → KeepsCode a b → KeepsCode (at_address a from) (at_address b to)
 keeps_at a b from to k = record { code = k.code; core = k.core; bound = k.bound; journal = k.journal }
+
+-- where places stay too
+pub keeps_code : (a b : Running) → Keeps a b → KeepsCode a b
+keeps_code a b k = record { code = k.code; core = k.core; bound = k.bound; journal = k.journal }
 
 -- the state of a core and of the address held apart, each of which is known
 pub passed_on : (m n : Running) (a b : ℕ) → m ≡ n → a ≡ b → state_of (at_address m a) ≡ state_of (at_address n b)

@@ -8,6 +8,9 @@ use Rattle.code_meaning.specs.Machine.{Thread, Flat, FlatEnd, seen_of}
 use Rattle.stack_code.specs.Valid.{IsValid}
 use Rattle.code_safety.specs.Fit.{IsFit}
 use Rattle.code_safety.specs.Chains.{AreChained}
+use Rattle.code_safety.specs.Living.{LivesAs}
+use Rattle.work_item.specs.declared.ids.Item.{Item}
+use Rattle.thread_table.specs.Table.{HasPlace}
 use Rattle.core_machine.specs.declared.running.Running.{Running}
 use Rattle.core_machine.specs.Blocks.{blocks_of}
 use Rattle.core_machine.specs.Tracks.{Tracks}
@@ -53,12 +56,17 @@ machine_of m =
 abbrev pub own_link : Running → ℕ
 own_link m = request_link (length m.code.now.ends) m.core
 
--- a core that has not ended stands where its code can stand, no reference dangles there, it asks for reads and writes on its own link, and
--- each offer that has not ended is that of an operation
+-- each thread that lives has its place in the table
+abbrev pub HavePlaces : Running → Type 0
+HavePlaces m = (t : Item) (h : Thread) → LivesAs (flat_of m) t h → HasPlace m.threads t
+
+-- a core that has not ended stands where its code can stand, no reference dangles there, it asks for reads and writes on its own link,
+-- each offer that has not ended is that of an operation, and each thread that lives has its place
 pub record IsSound (m : Running) : Type 0 where
   pub fit : m.ended ≡ None → IsFit m.code.now (flat_of m)
   pub chained : m.ended ≡ None → AreChained m.code.now (flat_of m)
   pub requests : m.ended ≡ None → m.requests ≡ own_link m
   pub tracks : m.ended ≡ None → Tracks (own_link m) m.journal.entries m.outstanding.operations
+  pub places : m.ended ≡ None → HavePlaces m
   pub valid : IsValid m.code.now
   pub ran : IsOnItsWay (machine_of m)

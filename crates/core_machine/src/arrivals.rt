@@ -18,7 +18,8 @@ impl Running<'_> {
     ghost use Rattle.cancel_scope.specs.Outstanding.{is_to_offer, is_offered, is_to_receive, is_request, carries};
     ghost use Rattle.core_state.specs.Arrivals.{offers_on, keeps_room};
     ghost use Rattle.code_meaning.specs.Machine.{resumed};
-    ghost use Rattle.core_machine.specs.State.{flat_of, IsSound};
+    ghost use Rattle.thread_table.specs.Table.{HasPlace};
+    ghost use Rattle.core_machine.specs.State.{flat_of, HavePlaces, IsSound};
     ghost use Rattle.core_machine.specs.inner.Changes.{entry_now, IsSameCode, Keeps, Stays, Enters};
 
     /// Makes room for an entry, and for the thread that it may wake.
@@ -49,6 +50,7 @@ impl Running<'_> {
     /// The thread whose operation has ended has its value, and goes to the back.
     pub fn resume(&mut self, item: Item, value: i64)
         requires room { 0 < self.old.schedule.spare }
+        requires place { HasPlace self.old.threads item }
         requires settled { self.old.threads.pending ≡ false }
         ensures flat { flat_of self.new ≡ resumed (flat_of self.old) (Cell.Int value) (Some item) }
         ensures ended { self.new.ended ≡ self.old.ended }
@@ -97,6 +99,7 @@ impl Running<'_> {
         requires room { 0 < self.old.journal.spare }
         requires ready { 0 < self.old.schedule.spare }
         requires settled { self.old.threads.pending ≡ false }
+        requires places { HavePlaces self.old }
         requires some { IsSome (find (is_offered link number) self.old.outstanding.operations) }
         requires ends { IfSome (find (is_offered link number) self.old.outstanding.operations)
             (λ o. is_request o.asked ≡ false) }
@@ -115,6 +118,7 @@ impl Running<'_> {
         requires room { 0 < self.old.journal.spare }
         requires ready { 0 < self.old.schedule.spare }
         requires settled { self.old.threads.pending ≡ false }
+        requires places { HavePlaces self.old }
         requires some { IsSome (find (is_offered link number) self.old.outstanding.operations) }
         ensures enters { Enters self.old (Event.Know link number) stamp self.new }
     {
@@ -187,7 +191,7 @@ impl Running<'_> {
     ghost use Rattle.cancel_scope.specs.Outstanding.{as_begun};
     ghost use Rattle.core_state.specs.Arrivals.{goes_on_waiting, has_ended_as};
     ghost use Rattle.core_state.specs.Cancelling.{NeverHappens, IsTaken};
-    ghost use Rattle.core_machine.specs.State.{state_of, IsSound};
+    ghost use Rattle.core_machine.specs.State.{state_of, HavePlaces, IsSound};
     ghost use Rattle.core_machine.specs.Tried.{tried_of};
     ghost use Rattle.core_machine.specs.inner.Deciding.{Makes, Decides};
 
@@ -196,6 +200,7 @@ impl Running<'_> {
         requires room { 0 < self.old.journal.spare }
         requires ready { 0 < self.old.schedule.spare }
         requires settled { self.old.threads.pending ≡ false }
+        requires places { HavePlaces self.old }
         requires place { place < length self.old.outstanding.operations }
         ensures makes { (o : Operation) → slice_get self.old.outstanding.operations place ≡ Some o → Makes self.old block event stamp
             (has_ended_as value self.old.frames (remove self.old.outstanding.operations place) o) self.new }

@@ -4,7 +4,6 @@ use crate::beginning::has_room;
 use crate::ending::Ending;
 use crate::running::Running;
 use ac_base::{NoMemory, Trap};
-use work_item::Cell;
 
 impl Running<'_> {
     ghost use Rattle.std.specs.Prelude.{◌≡◌, true, None, ◌<◌, ◌^◌, OnOk, OnErr, IfOk};
@@ -32,9 +31,9 @@ impl Running<'_> {
             return Ok(false);
         }
         self.callers
-            .push(*address + 1, self.frame, self.operands.below(count))?;
+            .push(*address + 1, self.frame, &self.operands.below(count))?;
         let args = self.operands.top(count);
-        match self.frames.make_of(None, args, entered.words) {
+        match self.frames.make_of(None, &args, entered.words) {
             Ok(frame) => {
                 self.operands.clear();
                 self.frame = frame;
@@ -61,7 +60,7 @@ impl Running<'_> {
         ensures continues { IfOk result (λ goes. goes ≡ true → Continues self.old self.new) }
     {
         let value = self.operands.top_int();
-        match self.callers.pop(Cell::Int(value), &mut self.operands)? {
+        match self.callers.pop(value, &mut self.operands)? {
             None => {
                 self.end(Ending::Finished);
                 Ok(false)

@@ -13,7 +13,7 @@ impl Running<'_> {
     ghost use Rattle.core_state.specs.Frames.{block_in};
     ghost use Rattle.stack_code.specs.declared.instr.Instr.{Instr};
     ghost use Rattle.core_machine.specs.declared.went.Went.{Went};
-    ghost use Rattle.core_machine.specs.State.{flat_of};
+    ghost use Rattle.core_machine.specs.State.{flat_of, HavePlaces};
     ghost use Rattle.core_machine.specs.Tried.{tried_within};
     ghost use Rattle.core_machine.specs.inner.Changes.{Keeps, Does, Stays, Continues};
 
@@ -22,6 +22,7 @@ impl Running<'_> {
     pub fn cancel(&mut self, level: u32, slot: u32) -> Result<Went, NoMemory>
         requires running { self.old.ended ≡ None }
         requires inside { self.old.place < 2 ^ 32 }
+        requires places { HavePlaces self.old }
         requires settled { self.old.threads.pending ≡ false }
         requires level { HasLevel self.old.frames self.old.frame level }
         requires slot { HasSlot self.old.frames (above self.old.frames self.old.frame level) slot }

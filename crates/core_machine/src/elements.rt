@@ -3,7 +3,7 @@
 use crate::ending::Ending;
 use crate::running::Running;
 use core_operators::within;
-use work_item::{Cell, Place};
+use work_item::Place;
 
 impl Running<'_> {
     ghost use Rattle.std.specs.Prelude.{◌≡◌, true, None, Some, ◌+◌, ◌-◌, ◌≤◌, ◌<◌, ◌^◌, [], ◌∷◌, length};
@@ -30,7 +30,7 @@ impl Running<'_> {
         match within(place, index) {
             Ok(index) => {
                 let value = self.frames.read_at(place, index);
-                self.operands.replace(Cell::Int(value));
+                self.operands.replace_by_int(value);
                 self.pass(address);
                 true
             }
@@ -81,11 +81,11 @@ impl Running<'_> {
         let place = self.operands.top_place();
         match within(place, index) {
             Ok(index) => {
-                self.operands.replace(Cell::Array(Place {
+                self.operands.replace_place(Place {
                     home: place.home,
                     start: place.start + index,
                     len: 1,
-                }));
+                });
                 self.go_on();
                 true
             }

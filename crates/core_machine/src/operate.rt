@@ -19,7 +19,7 @@ impl Running<'_> {
     ghost use Rattle.thread_table.specs.Operands.{on_top};
     ghost use Rattle.core_machine.specs.inner.Operands.{Stand};
     ghost use Rattle.core_machine.specs.inner.Operators.{binary, IsUnary, IsBinary, IsPartial};
-    ghost use Rattle.core_machine.specs.inner.Changes.{Keeps, Does, DoesAt, Continues, at_address};
+    ghost use Rattle.core_machine.specs.inner.Changes.{Keeps, Does, DoesAt, Places, Continues, at_address};
     ghost use Rattle.core_machine.specs.inner.Led.{pushed};
 
     /// Applies an operator to one int. The instruction is there for the proof alone.
@@ -133,6 +133,7 @@ impl Running<'_> {
         requires inside { address.old + 1 < 2 ^ 32 }
         requires int { IsSome (binary next.now) → on_top is_int self.old.operands ≡ true }
         ensures does { result ≡ true → Does (pushed (at_address self.old address.old) value) next.now (at_address self.new address.new) }
+        ensures places { result ≡ true → Places (pushed (at_address self.old address.old) value) next.now self.new }
         ensures stays { result ≡ false → at_address self.new address.new ≡ at_address self.old address.old }
         ensures keeps { Keeps self.old self.new }
         ensures continues { Continues self.old self.new }

@@ -6,7 +6,7 @@ use ac_base::NoMemory;
 use cancel_scope::{Asked, Operation};
 use core_operators::message_in;
 use thread_table::Parked;
-use work_item::{Cell, Item};
+use work_item::Item;
 
 impl Running<'_> {
     ghost use Rattle.std.specs.Prelude.{◌≡◌, true, false, Some, None, ◌+◌, ◌-◌, ◌≤◌, ◌<◌, ◌^◌, min, ◌∷◌, length, drop, IsSome, OnOk, OnErr};
@@ -14,16 +14,17 @@ impl Running<'_> {
     ghost use Rattle.work_item.specs.declared.cell.Cell.{Cell};
     ghost use Rattle.core_state.specs.Arrivals.{cancelled};
     ghost use Rattle.code_meaning.specs.Machine.{operates};
-    ghost use Rattle.core_machine.specs.State.{flat_of};
+    ghost use Rattle.core_machine.specs.State.{flat_of, HavePlaces};
     ghost use Rattle.thread_table.specs.Operands.{is_reference, on_top};
-    ghost use Rattle.core_machine.specs.inner.Needs.{IsListed, HasMessage};
+    ghost use Rattle.thread_table.specs.Table.{HasPlace};
+    ghost use Rattle.core_machine.specs.inner.Needs.{HasMessage};
     ghost use Rattle.core_machine.specs.inner.Changes.{Keeps, Does, Stays};
 
     /// The running thread waits for the end of an operation on that link.
     pub fn operate(&mut self, item: Item, link: u32, asked: Asked)
         requires inside { self.old.place < 2 ^ 32 }
         requires runs { self.old.schedule.running ≡ Some item }
-        requires listed { item.number < length self.old.threads.threads }
+        requires place { HasPlace self.old.threads item }
         requires settled { self.old.threads.pending ≡ false }
         requires room { 0 < self.old.outstanding.spare }
         ensures flat { flat_of self.new ≡ operates (flat_of self.old) item link asked self.old.operands }
@@ -47,16 +48,17 @@ impl Running<'_> {
           count = min (self.old.count + 1) (2 ^ 64 - 1);
         } }
     {
-        self.operands.replace(Cell::Int(CANCELLED));
+        self.operands.replace(CANCELLED);
         self.go_on();
     }
 
     /// Starts to send over a channel what it pops: an int, or all elements of an array as they are now.
+    #[tactic(auto, using(crate::proofs::Places::runner_place))]
     pub fn send(&mut self, channel: u32) -> Result<(), NoMemory>
         requires running { self.old.ended ≡ None }
         requires inside { self.old.place < 2 ^ 32 }
         requires runs { IsSome self.old.schedule.running }
-        requires listed { IsListed (flat_of self.old) }
+        requires places { HavePlaces self.old }
         requires settled { self.old.threads.pending ≡ false }
         requires message { HasMessage (flat_of self.old) }
         ensures ok { OnOk result (Does self.old (Instr.Send channel) self.new) }
@@ -76,11 +78,12 @@ impl Running<'_> {
     }
 
     /// Starts to receive a message from a channel, into the place of a reference, which it pops.
+    #[tactic(auto, using(crate::proofs::Places::runner_place))]
     pub fn receive(&mut self, channel: u32) -> Result<(), NoMemory>
         requires running { self.old.ended ≡ None }
         requires inside { self.old.place < 2 ^ 32 }
         requires runs { IsSome self.old.schedule.running }
-        requires listed { IsListed (flat_of self.old) }
+        requires places { HavePlaces self.old }
         requires settled { self.old.threads.pending ≡ false }
         requires reference { on_top is_reference self.old.operands ≡ true }
         ensures ok { OnOk result (Does self.old (Instr.Recv channel) self.new) }

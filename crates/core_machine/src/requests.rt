@@ -20,7 +20,7 @@ fn operand(operands: &Operands, below: u32) -> Cell
     requires there { below < length operands.now }
     ensures { slice_get operands.now below ≡ Some result }
 {
-    operands.top(below + 1)[0]
+    operands.get(below)
 }
 
 // The range of a request, whose place in the file, length and array are the three operands on top.
@@ -41,17 +41,18 @@ impl Running<'_> {
     ghost use Rattle.std.specs.Prelude.{◌≡◌, None, ◌≤◌, ◌<◌, ◌^◌, drop, length, false, IsSome, OnOk, OnErr};
     ghost use Rattle.stack_code.specs.declared.instr.Instr.{Instr};
     ghost use Rattle.code_meaning.specs.Machine.{asks};
-    ghost use Rattle.core_machine.specs.State.{flat_of, state_of};
-    ghost use Rattle.core_machine.specs.inner.Needs.{IsListed, HasRequest};
+    ghost use Rattle.core_machine.specs.State.{flat_of, state_of, HavePlaces};
+    ghost use Rattle.core_machine.specs.inner.Needs.{HasRequest};
     ghost use Rattle.core_machine.specs.inner.Changes.{Keeps, Does, Stays, item_of};
 
     // What is asked for on the core's own link starts, in the place of three operands; in a cancelled
     // block it has its value at once.
+    #[tactic(auto, using(crate::proofs::Places::runner_place))]
     fn request(&mut self, asked: Asked) -> Result<(), NoMemory>
         requires running { self.old.ended ≡ None }
         requires inside { self.old.place < 2 ^ 32 }
         requires runs { IsSome self.old.schedule.running }
-        requires listed { IsListed (flat_of self.old) }
+        requires places { HavePlaces self.old }
         requires settled { self.old.threads.pending ≡ false }
         requires three { 3 ≤ length self.old.operands }
         ensures ok { OnOk result (state_of self.new
@@ -77,6 +78,7 @@ impl Running<'_> {
         requires running { self.old.ended ≡ None }
         requires inside { self.old.place < 2 ^ 32 }
         requires runs { IsSome self.old.schedule.running }
+        requires places { HavePlaces self.old }
         requires settled { self.old.threads.pending ≡ false }
         requires has { HasRequest (flat_of self.old) }
         ensures ok { OnOk result (Does self.old (Instr.Read file) self.new) }
@@ -102,6 +104,7 @@ impl Running<'_> {
         requires running { self.old.ended ≡ None }
         requires inside { self.old.place < 2 ^ 32 }
         requires runs { IsSome self.old.schedule.running }
+        requires places { HavePlaces self.old }
         requires settled { self.old.threads.pending ≡ false }
         requires has { HasRequest (flat_of self.old) }
         ensures ok { OnOk result (Does self.old (Instr.Write file) self.new) }

@@ -17,7 +17,7 @@ use finish_block::Blocks;
 use stack_code::{Code, Instr};
 use std::alloc::Global;
 use thread_table::{Callers, Operands, ThreadTable};
-use work_item::{BlockId, Cell, FrameId, Frames, Place};
+use work_item::{BlockId, FrameId, Frames, Place};
 
 /// The fields of a core that runs: the link of its requests, and its journal; its globals and frames,
 /// and its operations that have not ended; the frame, the address, the operands, the callers and the
@@ -206,7 +206,7 @@ impl Running<'_> {
         ensures keeps { Keeps self.old self.new }
         ensures continues { Continues self.old self.new }
     {
-        self.operands.push(Cell::Int(value))?;
+        self.operands.push_int(value)?;
         self.pass(address);
         Ok(())
     }
@@ -239,7 +239,7 @@ impl Running<'_> {
         ensures continues { Continues self.old self.new }
     {
         let value = self.frames.read_global(slot);
-        self.operands.push(Cell::Int(value))?;
+        self.operands.push_int(value)?;
         self.pass(address);
         Ok(())
     }
@@ -256,7 +256,7 @@ impl Running<'_> {
         ensures continues { Continues self.old self.new }
     {
         let value = self.operands.pop_int();
-        self.frames.write(self.frame, level, slot, Cell::Int(value));
+        self.frames.write(self.frame, level, slot, value);
         self.pass(address);
     }
 
@@ -292,11 +292,11 @@ impl Running<'_> {
         ensures continues { Continues self.old self.new }
     {
         let home = self.frames.above(self.frame, level);
-        self.operands.push(Cell::Array(Place {
+        self.operands.push_place(Place {
             home: Some(home),
             start: slot,
             len,
-        }))?;
+        })?;
         self.pass(address);
         Ok(())
     }
@@ -310,11 +310,11 @@ impl Running<'_> {
         ensures keeps { Keeps self.old self.new }
         ensures continues { Continues self.old self.new }
     {
-        self.operands.push(Cell::Array(Place {
+        self.operands.push_place(Place {
             home: None,
             start: slot,
             len,
-        }))?;
+        })?;
         self.pass(address);
         Ok(())
     }
@@ -355,7 +355,7 @@ impl Running<'_> {
         ensures continues { IfOk result (λ goes. goes ≡ true → Continues self.old self.new) }
     {
         let text = self.code.texts()[text as usize].as_slice();
-        let values = self.operands.top(count);
+        let values = self.operands.ints(count);
         if add_formatted(self.alloc, &mut self.output, text, values)? {
             self.operands.discard(count);
             self.go_on();
@@ -377,13 +377,14 @@ impl Running<'_> {
     ghost use Rattle.replay_laws.specs.Given.{Passes, passes_first};
     ghost use Rattle.core_machine.specs.Machine.{is_resting, is_idle, has_ended};
     ghost use Rattle.core_machine.specs.Points.{is_at_point};
-    ghost use Rattle.core_machine.specs.State.{flat_of, state_of, IsSound};
+    ghost use Rattle.core_machine.specs.State.{flat_of, state_of, HavePlaces, IsSound};
     ghost use Rattle.core_machine.specs.declared.went.Went.{Went};
     ghost use Rattle.core_machine.specs.declared.went.Follows.{Follows};
     ghost use Rattle.core_machine.specs.Tried.{cancelled_by, tried_within, tried_of};
     ghost use Rattle.core_machine.specs.inner.Left.{left_of};
     ghost use Rattle.core_machine.specs.inner.Needs.{Finds, is_on_threads, is_apart};
-    ghost use Rattle.core_machine.specs.inner.Changes.{IsSameCode, Keeps, Does, DoesAt, Stays, StaysAt, Continues, at_address};
+    ghost use Rattle.core_machine.specs.inner.Changes.{IsSameCode, KeepsCode, Keeps, Does, DoesAt, Places, Stays, StaysAt};
+    ghost use Rattle.core_machine.specs.inner.Changes.{Continues, at_address};
     ghost use Rattle.core_machine.specs.inner.Led.{IsLed};
 
     // An instruction on blocks, threads and operations, which finds what it needs.
@@ -393,10 +394,12 @@ impl Running<'_> {
         requires inside { self.old.place < 2 ^ 32 }
         requires threads { is_on_threads instr ≡ true }
         requires finds { Finds self.old.code.now (flat_of self.old) instr }
+        requires places { HavePlaces self.old }
         requires settled { self.old.threads.pending ≡ false }
         ensures ok { OnOk result (Does self.old instr self.new) }
+        ensures places { OnOk result (Places self.old instr self.new) }
         ensures err { OnErr result (Stays self.old self.new) }
-        ensures keeps { Keeps self.old self.new }
+        ensures keeps { KeepsCode self.old self.new }
     {
         match instr {
             Instr::Enter { slot } => self.enter(slot),
@@ -424,13 +427,15 @@ impl Running<'_> {
         requires inside { self.old.place < 2 ^ 32 }
         requires apart { is_apart instr.now ≡ true }
         requires finds { Finds self.old.code.now (flat_of self.old) instr.now }
+        requires places { HavePlaces self.old }
         requires settled { self.old.threads.pending ≡ false }
         ensures ok { IfOk result (λ went. went ≢ Went.Asks → Does self.old instr.now self.new) }
+        ensures places { IfOk result (λ went. Places self.old instr.now self.new) }
         ensures asks { IfOk result (λ went. went ≡ Went.Asks → IsSome
             (tried_within (flat_of self.old) (cancelled_by (flat_of self.old) (Some instr.now)))) }
         ensures stays { IfOk result (λ went. went ≡ Went.Asks → Stays self.old self.new) }
         ensures err { OnErr result (Stays self.old self.new) }
-        ensures keeps { Keeps self.old self.new }
+        ensures keeps { KeepsCode self.old self.new }
         ensures continues { IfOk result (λ went. went ≡ Went.On → Continues self.old self.new) }
     {
         match *instr {
@@ -463,14 +468,16 @@ impl Running<'_> {
         requires runs { IsSome self.old.schedule.running }
         requires inside { address.old < 2 ^ 32 }
         requires finds { Finds self.old.code.now (flat_of (at_address self.old address.old)) instr.now }
+        requires places { HavePlaces (at_address self.old address.old) }
         requires settled { self.old.threads.pending ≡ false }
         ensures ok { IfOk result (λ went. went ≢ Went.Asks → DoesAt self.old address.old instr.now self.new address.new) }
+        ensures places { IfOk result (λ went. Places self.old instr.now self.new) }
         ensures asks { IfOk result (λ went. went ≡ Went.Asks → IsSome
             (tried_within (flat_of (at_address self.old address.old))
             (cancelled_by (flat_of (at_address self.old address.old)) (Some instr.now)))) }
         ensures stays { IfOk result (λ went. went ≡ Went.Asks → StaysAt self.old address.old self.new address.new) }
         ensures err { OnErr result (StaysAt self.old address.old self.new address.new) }
-        ensures keeps { Keeps self.old self.new }
+        ensures keeps { KeepsCode self.old self.new }
         ensures continues { IfOk result (λ went. went ≡ Went.On → Continues self.old self.new) }
     {
         match *instr {
@@ -567,7 +574,7 @@ impl Running<'_> {
         ensures led { IsLed (at_address self.old address.old) (at_address self.new address.new) }
         ensures asks { result ≡ Follows.Asks → IsSome (tried_of self.old.code.now (state_of (at_address self.old address.old))) }
         ensures stays { result ≡ Follows.Asks → StaysAt self.old address.old self.new address.new }
-        ensures keeps { Keeps self.old self.new }
+        ensures keeps { KeepsCode self.old self.new }
         ensures sound { IsSound (at_address self.new address.new) }
         ensures less { result ≢ Follows.Asks → result ≢ Follows.Refused
             → left_of _ranks.now (at_address self.new address.new) < left_of _ranks.now (at_address self.old address.old) }
@@ -627,7 +634,7 @@ impl Running<'_> {
         ensures led { IsLed (at_address self.old address.old) (at_address self.new address.new) }
         ensures asks { result ≡ Follows.Asks → IsSome (tried_of self.old.code.now (state_of (at_address self.old address.old))) }
         ensures stays { result ≡ Follows.Asks → StaysAt self.old address.old self.new address.new }
-        ensures keeps { Keeps self.old self.new }
+        ensures keeps { KeepsCode self.old self.new }
         ensures sound { IsSound (at_address self.new address.new) }
         ensures less { result ≢ Follows.Asks → result ≢ Follows.Refused
             → left_of _ranks.now (at_address self.new address.new) < left_of _ranks.now (at_address self.old address.old) }
@@ -650,7 +657,7 @@ impl Running<'_> {
         requires settled { self.old.threads.pending ≡ false }
         requires asks { tried_of self.old.code.now (state_of self.old) ≡ None }
         ensures led { IsLed self.old self.new }
-        ensures keeps { Keeps self.old self.new }
+        ensures keeps { KeepsCode self.old self.new }
         ensures sound { IsSound self.new }
         ensures less { OnOk result (left_of _ranks.now self.new < left_of _ranks.now self.old) }
     {

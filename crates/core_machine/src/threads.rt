@@ -7,7 +7,7 @@ use ac_base::{NoMemory, Trap};
 use finish_block::Arrival;
 use std::mem;
 use thread_table::Parked;
-use work_item::{BlockId, Cell, Item};
+use work_item::{BlockId, Item};
 
 impl Running<'_> {
     ghost use Rattle.std.specs.Prelude.{◌≡◌, ◌+◌, ◌-◌, ◌^◌, min, slice_set, ◌<◌, length, Some, IsSome, false};
@@ -15,10 +15,12 @@ impl Running<'_> {
     ghost use Rattle.finish_block.specs.Table.{woken, ended};
     ghost use Rattle.finish_block.specs.Conditions.{HasThread, ChildlessAtEnd};
     ghost use Rattle.code_meaning.specs.Machine.{nobody};
+    ghost use Rattle.thread_table.specs.Table.{HasPlace};
     ghost use Rattle.core_machine.specs.State.{flat_of, thread_of};
-    ghost use Rattle.core_machine.specs.inner.Changes.{Keeps, with_woken};
+    ghost use Rattle.core_machine.specs.inner.Changes.{KeepsCode, Keeps, with_woken};
 
     // Another thread stands where the running one did, which is given.
+    #[inline(always)]
     fn stand(&mut self, next: Parked) -> Parked
         ensures stood { result ≡ thread_of self.old }
         ensures stands { self.new ≡ record self.old {
@@ -47,8 +49,9 @@ impl Running<'_> {
 
     /// Keeps the running thread in the table, to go on at that address, and lets another one stand
     /// in its place.
+    #[inline(always)]
     pub fn park(&mut self, item: Item, place: usize, next: Parked)
-        requires listed { item.number < length self.old.threads.threads }
+        requires place { HasPlace self.old.threads item }
         requires settled { self.old.threads.pending ≡ false }
         ensures flat { flat_of self.new ≡ record (flat_of self.old) {
           current = next;
@@ -62,19 +65,20 @@ impl Running<'_> {
         self.threads.keep(item, kept);
     }
 
-    // No thread stands in the place of the running one, nor in the table.
+    // The running thread has ended: none stands in its place, and the one in the table is used again.
     fn bury(&mut self, item: Item)
-        requires listed { item.number < length self.old.threads.threads }
+        requires place { HasPlace self.old.threads item }
         requires settled { self.old.threads.pending ≡ false }
         ensures flat { flat_of self.new ≡ record (flat_of self.old) {
           current = nobody;
           threads = slice_set self.old.threads.threads item.number nobody;
         } }
+        ensures lives { self.new.threads.lives ≡ slice_set self.old.threads.lives item.number false }
         ensures ended { self.new.ended ≡ self.old.ended }
-        ensures keeps { Keeps self.old self.new }
+        ensures keeps { KeepsCode self.old self.new }
     {
         let _ = self.stand(Parked::nobody(self.alloc));
-        self.threads.keep(item, Parked::nobody(self.alloc));
+        self.threads.end(item);
     }
 
     // The running thread leaves a block for good, and wakes the owner where it is to.
@@ -121,9 +125,9 @@ impl Running<'_> {
     ghost use Rattle.std.specs.Prelude.{◌≡◌, None, ◌<◌, ◌^◌, IsSome, OnOk, OnErr, false};
     ghost use Rattle.stack_code.specs.declared.instr.Instr.{Instr};
     ghost use Rattle.code_meaning.specs.Machine.{exec};
-    ghost use Rattle.core_machine.specs.State.{flat_of, state_of};
-    ghost use Rattle.core_machine.specs.inner.Needs.{IsListed, CanEnter, CanFinish, CanStart, CanEnd, HasNext};
-    ghost use Rattle.core_machine.specs.inner.Changes.{Keeps, Does, Stays};
+    ghost use Rattle.core_machine.specs.State.{flat_of, state_of, HavePlaces};
+    ghost use Rattle.core_machine.specs.inner.Needs.{CanEnter, CanFinish, CanStart, CanEnd, HasNext};
+    ghost use Rattle.core_machine.specs.inner.Changes.{KeepsCode, Keeps, Does, Places, Stays};
 
     /// Enters a block, and keeps it in a slot.
     pub fn enter(&mut self, slot: u32) -> Result<(), NoMemory>
@@ -137,8 +141,9 @@ impl Running<'_> {
     {
         let owner = self.item();
         self.blocks.reserve(1)?;
-        let block = self.blocks.enter(self.block, owner);
-        self.frames.write(self.frame, 0, slot, Cell::Block(block));
+        let block = self.blocks.next();
+        self.frames.write_block(self.frame, slot, block)?;
+        self.blocks.enter(self.block, owner);
         self.block = Some(block);
         self.go_on();
         Ok(())
@@ -146,11 +151,13 @@ impl Running<'_> {
 
     /// Arrives at the finish of the innermost block: passes where no thread of it lives, and else
     /// waits.
+    #[tactic(auto, using(crate::proofs::Places::runner_place))]
     pub fn finish(&mut self, slot: u32)
         requires running { self.old.ended ≡ None }
         requires inside { self.old.place < 2 ^ 32 }
         requires runs { IsSome self.old.schedule.running }
         requires can { CanFinish (flat_of self.old) }
+        requires places { HavePlaces self.old }
         requires settled { self.old.threads.pending ≡ false }
         ensures does { Does self.old (Instr.Finish slot) self.new }
         ensures keeps { Keeps self.old self.new }
@@ -170,15 +177,18 @@ impl Running<'_> {
 
     /// Starts a thread, which runs from the next address on in a frame of so many slots; the running
     /// one goes to the front of the ready list and on at that address.
+    #[tactic(auto, using(crate::proofs::Places::runner_place, crate::proofs::Places::has_after))]
     pub fn start(&mut self, slots: u32, to: u32) -> Result<(), NoMemory>
         requires running { self.old.ended ≡ None }
         requires inside { self.old.place < 2 ^ 32 }
         requires runs { IsSome self.old.schedule.running }
         requires can { CanStart (flat_of self.old) }
+        requires places { HavePlaces self.old }
         requires settled { self.old.threads.pending ≡ false }
         ensures ok { OnOk result (Does self.old (Instr.Async slots to) self.new) }
+        ensures places { OnOk result (Places self.old (Instr.Async slots to) self.new) }
         ensures err { OnErr result (Stays self.old self.new) }
-        ensures keeps { Keeps self.old self.new }
+        ensures keeps { KeepsCode self.old self.new }
     {
         if !has_room(&self.frames, slots) {
             self.end(Ending::Trapped(Trap::StackFull));
@@ -203,14 +213,17 @@ impl Running<'_> {
 
     /// Ends the running thread, and gives its frame back; where it was the last of its block and the
     /// owner waits at the finish, the owner goes to the front of the ready list.
+    #[tactic(auto, using(crate::proofs::Places::runner_place))]
     pub fn end_thread(&mut self) -> Result<(), NoMemory>
         requires running { self.old.ended ≡ None }
         requires runs { IsSome self.old.schedule.running }
         requires can { CanEnd (flat_of self.old) }
+        requires places { HavePlaces self.old }
         requires settled { self.old.threads.pending ≡ false }
         ensures ok { OnOk result (Does self.old Instr.End self.new) }
+        ensures places { OnOk result (Places self.old Instr.End self.new) }
         ensures err { OnErr result (Stays self.old self.new) }
-        ensures keeps { Keeps self.old self.new }
+        ensures keeps { KeepsCode self.old self.new }
     {
         let item = self.item();
         let block = self.innermost();
@@ -223,11 +236,12 @@ impl Running<'_> {
     }
 
     /// The running thread goes to the back of the ready list.
+    #[tactic(auto, using(crate::proofs::Places::runner_place))]
     pub fn yield_now(&mut self) -> Result<(), NoMemory>
         requires running { self.old.ended ≡ None }
         requires inside { self.old.place < 2 ^ 32 }
         requires runs { IsSome self.old.schedule.running }
-        requires listed { IsListed (flat_of self.old) }
+        requires places { HavePlaces self.old }
         requires settled { self.old.threads.pending ≡ false }
         ensures ok { OnOk result (Does self.old Instr.Yield self.new) }
         ensures err { OnErr result (Stays self.old self.new) }
@@ -242,10 +256,12 @@ impl Running<'_> {
     }
 
     /// No thread runs: the one at the front of the ready list does.
+    #[tactic(auto, using(crate::proofs::Places::next_place))]
     pub fn dispatch(&mut self)
         requires running { self.old.ended ≡ None }
         requires idle { self.old.schedule.running ≡ None }
         requires next { HasNext (flat_of self.old) }
+        requires places { HavePlaces self.old }
         requires settled { self.old.threads.pending ≡ false }
         ensures does { state_of self.new ≡ exec self.old.code.now self.old.bound (flat_of self.old) }
         ensures keeps { Keeps self.old self.new }
@@ -260,5 +276,6 @@ impl Running<'_> {
         self.turn += 1;
         let next = self.threads.take(item);
         let _ = self.stand(next);
+        self.frames.look_at(self.frame);
     }
 }

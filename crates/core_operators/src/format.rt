@@ -1,15 +1,12 @@
 //! Texts of `printf` with their values.
 
 ghost use Rattle.std.specs.Prelude.{◌≡◌, ◌≤◌, ◌+◌, ℕ, List, ◌∷◌, ◌++◌, false, true, length};
-ghost use Rattle.std.specs.Prelude.{map, nat_le, Ok, Err, IfOk, OnOk, OnErr, if◌then◌else◌};
+ghost use Rattle.std.specs.Prelude.{nat_le, Ok, Err, IfOk, OnOk, OnErr, if◌then◌else◌};
 ghost use Rattle.core_state.specs.Shared.{formatted, formatted_from, output_limit};
-ghost use Rattle.work_item.specs.Store.{int_in};
 
 use crate::arithmetic::low_byte;
-use crate::cells::int_in;
 use ac_base::{NoMemory, decimal};
 use std::alloc::Global;
-use work_item::Cell;
 
 // How many bytes a core may print.
 const OUTPUT_LIMIT: usize = 4_194_304;
@@ -18,19 +15,19 @@ const OUTPUT_LIMIT: usize = 4_194_304;
 #[derive(Clone, Copy)]
 struct Scan<'a> {
     directive: bool,
-    values: &'a [Cell],
+    values: &'a [i64],
 }
 
 // A byte directly after a `%`.
 fn add_directive<'a>(
     alloc: Global,
     output: &mut Vec<u8>,
-    values: &'a [Cell],
+    values: &'a [i64],
     byte: u8,
-) -> Result<&'a [Cell], NoMemory>
+) -> Result<&'a [i64], NoMemory>
     ensures ok { IfOk result (λ others. (text : List ℕ) →
-        output.new.items ++ formatted_from false text (map int_in others.now)
-        ≡ output.old.items ++ formatted_from true (byte ∷ text) (map int_in values.entry.now)) }
+        output.new.items ++ formatted_from false text others.now
+        ≡ output.old.items ++ formatted_from true (byte ∷ text) values.entry.now) }
     ensures front { (added : List ℕ) × (output.new.items ≡ output.old.items ++ added) }
 {
     if byte == b'%' {
@@ -41,12 +38,12 @@ fn add_directive<'a>(
         [] => Ok(values),
         [value, others @ ..] => match byte {
             b'd' => {
-                let text = decimal(alloc, int_in(*value))?;
+                let text = decimal(alloc, *value)?;
                 output.extend_from_slice(text.as_slice())?;
                 Ok(others)
             }
             b'c' => {
-                output.push(low_byte(int_in(*value)))?;
+                output.push(low_byte(*value))?;
                 Ok(others)
             }
             _ => Ok(values),
@@ -61,8 +58,8 @@ fn add_byte<'a>(
     byte: u8,
 ) -> Result<Scan<'a>, NoMemory>
     ensures ok { IfOk result (λ after. (text : List ℕ) →
-        output.new.items ++ formatted_from after.directive text (map int_in after.values.now)
-        ≡ output.old.items ++ formatted_from scan.entry.directive (byte ∷ text) (map int_in scan.entry.values.now)) }
+        output.new.items ++ formatted_from after.directive text after.values.now
+        ≡ output.old.items ++ formatted_from scan.entry.directive (byte ∷ text) scan.entry.values.now) }
     ensures front { (added : List ℕ) × (output.new.items ≡ output.old.items ++ added) }
 {
     if scan.directive {
@@ -87,9 +84,9 @@ fn append_formatted(
     alloc: Global,
     output: &mut Vec<u8>,
     text: &[u8],
-    values: &[Cell],
+    values: &[i64],
 ) -> Result<(), NoMemory>
-    ensures ok { OnOk result (output.new.items ≡ output.old.items ++ formatted text.now (map int_in values.now)) }
+    ensures ok { OnOk result (output.new.items ≡ output.old.items ++ formatted text.now values.now) }
     ensures front { (added : List ℕ) × (output.new.items ≡ output.old.items ++ added) }
 {
     let mut scan = Scan {
@@ -108,12 +105,12 @@ pub fn add_formatted(
     alloc: Global,
     output: &mut Vec<u8>,
     text: &[u8],
-    values: &[Cell],
+    values: &[i64],
 ) -> Result<bool, NoMemory>
     ensures fits { IfOk result (λ added. added ≡ nat_le
-        (length output.old.items + length (formatted text.now (map int_in values.now))) output_limit) }
+        (length output.old.items + length (formatted text.now values.now)) output_limit) }
     ensures ok { IfOk result (λ added. output.new.items
-        ≡ (if added then output.old.items ++ formatted text.now (map int_in values.now) else output.old.items)) }
+        ≡ (if added then output.old.items ++ formatted text.now values.now else output.old.items)) }
     ensures err { OnErr result (output.new.items ≡ output.old.items) }
 {
     let before = output.len();

@@ -1,6 +1,6 @@
 -- Each change of the blocks keeps them rooted: the parent of a live block lives and is older. This is the invariant of `Blocks`.
 -- Each lemma splits on whether a block is the one that was changed or another. The hard case is a block given back: nothing may lie in it, so it is nobody's parent.
--- `seen_same`, `seen_gone` and `seen_made` say the same of a table that is known as contracts see it, for the proofs of single calls.
+-- `seen_gone` and `seen_made` say the same of a table that is known as contracts see it, for the proofs of single calls.
 use Rattle.std.proofs.Common.{◌≡◌, ℕ, ◌<◌, List, [], ◌∷◌, ◌++◌, length, Option, Some, None, IsSome, IfSome, inl, inr, sym, ap, ◌∙◌, subst, arith, get_or-set_same, set}
 use Rattle.std.proofs.lemmas.Bool.{cases_eq}
 use Rattle.std.proofs.Math.ListN.{get_or-append}
@@ -82,13 +82,10 @@ of_some o P x e l = subst (λ q. IfSome q P) e l
 abbrev pub Shows : List (Option Block) → ℕ → Table → Type 0
 Shows bs spare t = record { blocks = bs; spare = spare } ≡ t
 
-pub seen_same : (bs : List (Option Block)) (spare : ℕ) (t : Table) (b : BlockId) (x y : Block) → IsRooted bs → Shows bs spare t → block_at t.blocks b ≡ Some x → y.parent ≡ x.parent
-    → IsRooted (set bs b.number (Some y))
-seen_same bs spare t b x y r same e p = rooted_same bs b x y r (ap (λ u. block_at u.blocks b) same ∙ e) p
-
-pub seen_gone : (bs : List (Option Block)) (spare : ℕ) (t : Table) (b : BlockId) (x : Block) → IsRooted bs → Shows bs spare t → block_at t.blocks b ≡ Some x → Childless t.blocks b
-    → IsRooted (set bs b.number None)
-seen_gone bs spare t b x r same e alone = rooted_gone bs b x r (ap (λ u. block_at u.blocks b) same ∙ e) (subst (λ u. Childless u.blocks b) (sym same) alone)
+pub seen_gone : (bs after : List (Option Block)) (spare : ℕ) (t : Table) (b : BlockId) (x : Block) → IsRooted bs → Shows bs spare t → block_at t.blocks b ≡ Some x
+    → Childless t.blocks b → after ≡ set bs b.number None → IsRooted after
+seen_gone bs after spare t b x r same e alone is =
+    subst IsRooted (sym is) (rooted_gone bs b x r (ap (λ u. block_at u.blocks b) same ∙ e) (subst (λ u. Childless u.blocks b) (sym same) alone))
 
 pub seen_made : (bs after : List (Option Block)) (spare : ℕ) (t : Table) (parent : Option BlockId) (owner : Item) → IsRooted bs → Shows bs spare t → ParentLives t.blocks parent
     → after ≡ bs ++ Some (new_block parent owner) ∷ [] → IsRooted after

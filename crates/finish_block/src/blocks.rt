@@ -9,6 +9,7 @@ ghost use Rattle.finish_block.specs.Ancestors.{AncestorsLive, IsRound, IsCancell
 
 use crate::block::Block;
 use ac_base::NoMemory;
+use birth_table::BirthTable;
 use std::alloc::Global;
 use std::marker::Model;
 use work_item::{BlockId, Item};
@@ -22,25 +23,25 @@ pub enum Arrival {
     Waits,
 }
 
-/// The blocks of a core. They keep the allocator with which they are made.
+/// The blocks of a core. They keep the allocator with which they are made, and take memory for so many
+/// as live at once: the place of one that was given back is used again.
 ///
 /// Contracts see the blocks at their numbers, in which one that was given back is none, and the
 /// spare: the number of further blocks for which there is room. Only `reserve` takes memory.
 #[derive(Drop)]
 pub struct Blocks {
-    blocks: Vec<Option<Block>>,
+    table: BirthTable<Block>,
 }
 
 impl Model for Blocks {
-    ghost use Rattle.std.specs.Prelude.{◌-◌, vec_len, vec_capacity};
     ghost use Rattle.finish_block.specs.Table.{Table};
     ghost use Rattle.finish_block.specs.Conditions.{IsRooted};
 
     ghost Value = { Table };
 
-    ghost view = { λ s. record { blocks = s.blocks.items; spare = vec_capacity s.blocks - vec_len s.blocks } };
+    ghost view = { λ s. record { blocks = s.table.items; spare = s.table.spare } };
 
-    ghost invariant = { λ s. IsRooted s.blocks.items };
+    ghost invariant = { λ s. IsRooted s.table.items };
 }
 
 impl Blocks {
@@ -49,7 +50,7 @@ impl Blocks {
         ensures { result.blocks ≡ [] }
     {
         Blocks {
-            blocks: Vec::new(alloc),
+            table: BirthTable::new(alloc),
         }
     }
 
@@ -61,8 +62,16 @@ impl Blocks {
         ensures spare { self.old.spare ≤ self.new.spare }
         ensures err { OnErr result (self.new ≡ self.old) }
     {
-        self.blocks.reserve(n as usize)?;
-        Ok(())
+        self.table.reserve(n)
+    }
+
+    /// The number of the next block.
+    pub fn next(&self) -> BlockId
+        ensures { result ≡ next_block self.now.blocks }
+    {
+        BlockId {
+            number: self.table.len(),
+        }
     }
 
     /// Makes a block that no thread was started in, and gives its number, which is the next one. It
@@ -75,14 +84,13 @@ impl Blocks {
         ensures number { result ≡ next_block self.old.blocks }
         ensures made { self.new ≡ entered self.old parent owner }
     {
-        let number = self.blocks.len() as u64;
-        self.blocks.push_reserved(Some(Block {
+        let number = self.table.push_reserved(Block {
             parent,
             owner,
             count: 0,
             waits: false,
             cancelled: false,
-        }));
+        });
         BlockId { number }
     }
 
@@ -93,11 +101,7 @@ impl Blocks {
         requires { CanCountMore self.old.blocks block }
         ensures { self.new ≡ begun self.old block }
     {
-        let was = self.kept(block);
-        self.blocks[block.number as usize] = Some(Block {
-            count: was.count + 1,
-            ..was
-        });
+        self.table.value_mut(block.number).count += 1;
     }
 
     /// Counts a thread out that has ended. It gives the owner exactly where the count is now 0 and
@@ -113,13 +117,10 @@ impl Blocks {
     {
         let was = self.kept(block);
         if was.count == 1 && was.waits {
-            self.blocks[block.number as usize] = None;
+            self.table.give_back(block.number);
             return Some(was.owner);
         }
-        self.blocks[block.number as usize] = Some(Block {
-            count: was.count - 1,
-            ..was
-        });
+        self.table.value_mut(block.number).count -= 1;
         None
     }
 
@@ -135,10 +136,10 @@ impl Blocks {
     {
         let was = self.kept(block);
         if was.count == 0 {
-            self.blocks[block.number as usize] = None;
+            self.table.give_back(block.number);
             return Arrival::Passes;
         }
-        self.blocks[block.number as usize] = Some(Block { waits: true, ..was });
+        self.table.value_mut(block.number).waits = true;
         Arrival::Waits
     }
 
@@ -146,11 +147,8 @@ impl Blocks {
     pub fn mark_cancelled(&mut self, block: BlockId)
         ensures { self.new ≡ marked self.old block }
     {
-        if let Some(was) = self.find(block) {
-            self.blocks[block.number as usize] = Some(Block {
-                cancelled: true,
-                ..was
-            });
+        if self.find(block).is_some() {
+            self.table.value_mut(block.number).cancelled = true;
         }
     }
 
@@ -204,18 +202,18 @@ impl Blocks {
     }
 
     // How many blocks there have been. Each lies in older ones, so there are not more round one.
-    fn len(&self) -> usize
+    fn len(&self) -> u64
         ensures many { result ≡ length self.now.blocks }
         ensures rooted { IsRooted self.now.blocks }
     {
-        self.blocks.len()
+        self.table.len()
     }
 
     // What is kept of a block, if it lives.
     fn find(&self, block: BlockId) -> Option<Block>
         ensures { result ≡ block_at self.now.blocks block }
     {
-        self.blocks.get(block.number as usize).copied().flatten()
+        self.table.get(block.number).copied()
     }
 
     // The block in which a block lies, if it lives and lies in one.
@@ -238,9 +236,6 @@ impl Blocks {
         ensures block { block_at self.now.blocks block ≡ Some result }
         ensures rooted { IsRooted self.now.blocks }
     {
-        match self.blocks[block.number as usize] {
-            Some(live) => live,
-            None => unreachable!(),
-        }
+        *self.table.get(block.number).unwrap()
     }
 }

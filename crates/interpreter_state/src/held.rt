@@ -12,7 +12,7 @@ use ac_base::NoMemory;
 use core_operators::add_formatted;
 use std::alloc::Global;
 use std::marker::Model;
-use work_item::{BlockId, Cell, FrameId, Item};
+use work_item::{BlockId, FrameId, Item};
 
 /// The steps and turns that a core has used, the bytes that it has printed, its globals and frames, whether each block that
 /// was born is marked as cancelled, its operations that have not ended, the oldest first, and the link of its requests.
@@ -28,12 +28,12 @@ pub struct Held {
 }
 
 // The ints among them, and 0 for each that is none.
-fn ints_of(alloc: Global, values: &[Datum]) -> Result<Vec<Cell>, NoMemory>
-    ensures { IfOk result (λ ints. map int_in ints.items ≡ map int_in values.now) }
+fn ints_of(alloc: Global, values: &[Datum]) -> Result<Vec<i64>, NoMemory>
+    ensures { IfOk result (λ ints. ints.items ≡ map int_in values.now) }
 {
     let mut ints = Vec::new(alloc);
     for value in values {
-        ints.push(Cell::Int(value.as_int()))?;
+        ints.push(value.as_int())?;
     }
     Ok(ints)
 }

@@ -10,7 +10,7 @@ use Rattle.code_safety.specs.Fit.{is_int}
 use Rattle.thread_table.specs.declared.callers.WaitingCall as callers
 use Rattle.thread_table.specs.Operands.{is_reference, on_top}
 use Rattle.thread_table.specs.Callers.{callers_of, all_below, Popped}
-use Rattle.thread_table.specs.Table.{with_given}
+use Rattle.thread_table.specs.Table.{Table, HasPlace, or_nobody, with_given}
 
 abbrev pub frame : ℕ → FrameId
 frame n = record { number = n }
@@ -66,8 +66,19 @@ none_is_passed_over h = h
 abbrev pub second : Item
 second = record { number = 1 }
 
--- what was given to a thread lies on top of its operands
-pub a_thread_has_its_value : (with_given (nobody ∷ record nobody { operands = int 3 ∷ [] } ∷ []) (Some (record { item = second; value = int 0 }))
-    ≡ nobody ∷ record nobody { operands = int 0 ∷ int 3 ∷ [] } ∷ [])
-    × (with_given (nobody ∷ []) None ≡ nobody ∷ [])
-a_thread_has_its_value = (refl, refl)
+-- what was given to a thread lies on top of its operands, and one that has ended is passed over
+pub a_thread_has_its_value : (with_given (Some nobody ∷ Some (record nobody { operands = int 3 ∷ [] }) ∷ []) (Some (record { item = second; value = int 0 }))
+    ≡ Some nobody ∷ Some (record nobody { operands = int 0 ∷ int 3 ∷ [] }) ∷ [])
+    × (with_given (Some nobody ∷ None ∷ []) (Some (record { item = second; value = int 0 })) ≡ Some nobody ∷ None ∷ [])
+    × (with_given (Some nobody ∷ []) None ≡ Some nobody ∷ [])
+a_thread_has_its_value = (refl, refl, refl)
+
+-- the first lives, the second has ended
+abbrev pub two : Table
+two = record { threads = nobody ∷ nobody ∷ []; lives = true ∷ false ∷ []; pending = false; spare = 0 }
+
+pub a_thread_that_lives_has_a_place : HasPlace two (record { number = 0 }) × (HasPlace two second → ⊥) × (HasPlace two (record { number = 2 }) → ⊥)
+a_thread_that_lives_has_a_place = (refl, (λ h. let no : false ≡ true = h in cc), (λ h. let no : false ≡ true = h in cc))
+
+pub ended_is_nobody : (or_nobody None ≡ nobody) × (or_nobody (Some (record nobody { place = 4 })) ≡ record nobody { place = 4 })
+ended_is_nobody = (refl, refl)

@@ -1,45 +1,85 @@
--- The threads that do not run, and the value that one of them is still to have on its operands. For `ThreadTable`, which keeps that value apart until its thread is asked for.
--- What is seen is the threads with the value in place: as many threads, and the same once the value has gone onto the operands.
-use Rattle.std.proofs.Common.{◌≡◌, ℕ, ◌≤◌, ◌<◌, List, length, Option, Some, None, true, false, refl, sym, ap, ◌∙◌, arith}
-use Rattle.std.specs.Prelude.{is_some, slice_set, slice_index_or}
-use Rattle.std.proofs.lemmas.List.{length-set, set_past, get_or_default}
-use Rattle.code_meaning.specs.Machine.{Thread, given, nobody, thread_at}
+-- The threads that are kept, and the value that one of them is still to have on its operands. For `ThreadTable`, which keeps that value apart until its thread is asked for.
+-- What is seen is the list of what is kept with the value in place, each as a thread and whether it is there. So an element that is set among what is kept is set in both lists.
+use Rattle.std.proofs.Common.{◌≡◌, ℕ, List, map, Option, Some, None, Bool, true, false, refl, sym, ap, ◌∙◌}
+use Rattle.std.specs.Prelude.{is_some, option_map, slice_set, slice_index_or}
+use Rattle.std.proofs.lemmas.List.{map-set, set-get_or}
+use Rattle.std.proofs.Math.Seq.{map-set_same}
+use Rattle.std.proofs.Math.ListN.{get_or-map}
+use Rattle.work_item.specs.declared.ids.BlockId.{BlockId}
+use Rattle.work_item.specs.declared.cell.Cell.{Cell}
+use Rattle.code_meaning.specs.Machine.{Thread, given, nobody}
 use Rattle.thread_table.specs.declared.given.Given.{Given}
-use Rattle.thread_table.specs.Table.{with_given}
+use Rattle.thread_table.specs.Table.{or_nobody, with_given}
 
-pub length_given : (ts : List Thread) (o : Option Given) → length (with_given ts o) ≡ length ts
-length_given ts None = refl
-length_given ts (Some g) = length-set ts g.item.number (given g.value (thread_at ts g.item))
-
-pub none_given : (o : Option Given) → is_some o ≡ false → o ≡ None
+none_given : (o : Option Given) → is_some o ≡ false → o ≡ None
 none_given None h = refl
 none_given (Some g) h = let no : true ≡ false = h in cc
 
--- nobody has the number that was given to
-pub given_past : (ts : List Thread) (g : Given) → length ts ≤ g.item.number → with_given ts (Some g) ≡ ts
-given_past ts g le = set_past ts g.item.number (given g.value (thread_at ts g.item)) le
+-- ---- a value that was given
 
--- it has gone onto the operands
-pub given_there : (ts : List Thread) (g : Given) (x y : Thread) → g.item.number < length ts → x ≡ slice_index_or ts g.item.number x → y ≡ given g.value x
-    → slice_set ts g.item.number y ≡ with_given ts (Some g)
-given_there ts g x y lt is e =
-    ap (slice_set ts g.item.number) (e ∙ ap (given g.value) (is ∙ get_or_default ts g.item.number x nobody lt))
+given_thread : (value : Cell) (o : Option Thread) → is_some o ≡ true → or_nobody (option_map (given value) o) ≡ given value (or_nobody o)
+given_thread value None h = let no : false ≡ true = h in cc
+given_thread value (Some x) h = refl
 
--- the table as seen, which holds these threads
-module _ (ts : List Thread) (o : Option Given) (seen : List Thread) (is : with_given ts o ≡ seen) where
-  pub length_seen : length ts ≡ length seen
-  length_seen = sym (length_given ts o) ∙ ap length is
+given_lives : (value : Cell) (o : Option Thread) → is_some (option_map (given value) o) ≡ is_some o
+given_lives value None = refl
+given_lives value (Some x) = refl
 
-  pub within : (n : ℕ) → n < length seen → n < length ts
-  within n lt = let many = length_seen in omega (arith, lt, many)
+-- the innermost block
+abbrev pub block_in : Option Thread → Option BlockId
+block_in o = (or_nobody o).block
 
-  -- nothing is still to be put onto operands
-  module _ (none : is_some o ≡ false) where
-    pub seen_whole : ts ≡ seen
-    seen_whole = sym (ap (with_given ts) (none_given o none)) ∙ is
+given_block : (value : Cell) (o : Option Thread) → block_in (option_map (given value) o) ≡ block_in o
+given_block value None = refl
+given_block value (Some x) = refl
 
-    pub seen_changed : (change : List Thread → List Thread) → with_given (change ts) o ≡ change seen
-    seen_changed change = ap (with_given (change ts)) (none_given o none) ∙ ap change seen_whole
+blocks_same : (kept : List (Option Thread)) (o : Option Given) → map block_in (with_given kept o) ≡ map block_in kept
+blocks_same kept None = refl
+blocks_same kept (Some g) =
+    map-set_same block_in kept g.item.number (option_map (given g.value) (slice_index_or kept g.item.number None)) None
+    (given_block g.value (slice_index_or kept g.item.number None))
 
-    pub seen_at : (n : ℕ) (x : Thread) → n < length seen → x ≡ slice_index_or ts n x → x ≡ slice_index_or seen n nobody
-    seen_at n x lt e = e ∙ get_or_default ts n x nobody (within n lt) ∙ ap (λ xs. slice_index_or xs n nobody) seen_whole
+-- it is seen as it is kept
+pub block_seen : (kept : List (Option Thread)) (o : Option Given) (threads : List Thread) (n : ℕ) (x : Thread) → map or_nobody (with_given kept o) ≡ threads
+    → slice_index_or kept n None ≡ Some x → x.block ≡ (slice_index_or threads n nobody).block
+block_seen kept o threads n x is here =
+    sym (ap block_in here) ∙ sym (get_or-map block_in kept n None) ∙ ap (λ bs. slice_index_or bs n None) (sym (blocks_same kept o))
+    ∙ get_or-map block_in (with_given kept o) n None ∙ ap (λ (h : Thread). h.block) (sym (get_or-map or_nobody (with_given kept o) n None))
+    ∙ ap (λ ts. (slice_index_or ts n nobody).block) is
+
+pub lives_same : (lives : List Bool) (n : ℕ) → slice_index_or lives n false ≡ true → slice_set lives n true ≡ lives
+lives_same lives n h = ap (slice_set lives n) (sym h) ∙ set-get_or lives n false
+
+-- ---- what is seen, where nothing is still to be put onto operands
+
+module _ (kept : List (Option Thread)) (o : Option Given) (threads : List Thread) (lives : List Bool) (none : is_some o ≡ false)
+    (are : map or_nobody (with_given kept o) ≡ threads) (live : map is_some (with_given kept o) ≡ lives) where
+  threads_are : map or_nobody kept ≡ threads
+  threads_are = ap (λ g. map or_nobody (with_given kept g)) (sym (none_given o none)) ∙ are
+
+  lives_are : map is_some kept ≡ lives
+  lives_are = ap (λ g. map is_some (with_given kept g)) (sym (none_given o none)) ∙ live
+
+  pub threads_set : (n : ℕ) (x : Option Thread) → map or_nobody (with_given (slice_set kept n x) o) ≡ slice_set threads n (or_nobody x)
+  threads_set n x =
+      ap (λ g. map or_nobody (with_given (slice_set kept n x) g)) (none_given o none) ∙ map-set or_nobody kept n x
+      ∙ ap (λ ts. slice_set ts n (or_nobody x)) threads_are
+
+  pub lives_set : (n : ℕ) (x : Option Thread) → map is_some (with_given (slice_set kept n x) o) ≡ slice_set lives n (is_some x)
+  lives_set n x =
+      ap (λ g. map is_some (with_given (slice_set kept n x) g)) (none_given o none) ∙ map-set is_some kept n x
+      ∙ ap (λ ls. slice_set ls n (is_some x)) lives_are
+
+  pub threads_given : (n : ℕ) (value : Cell) → slice_index_or lives n false ≡ true
+      → map or_nobody (slice_set kept n (option_map (given value) (slice_index_or kept n None))) ≡ slice_set threads n (given value (slice_index_or threads n nobody))
+  threads_given n value has =
+      let there : is_some (slice_index_or kept n None) ≡ true =
+      sym (get_or-map is_some kept n None) ∙ ap (λ ls. slice_index_or ls n false) lives_are ∙ has in
+      map-set or_nobody kept n (option_map (given value) (slice_index_or kept n None))
+      ∙ ap (slice_set (map or_nobody kept) n) (given_thread value (slice_index_or kept n None) there ∙ ap (given value) (sym (get_or-map or_nobody kept n None)))
+      ∙ ap (λ ts. slice_set ts n (given value (slice_index_or ts n nobody))) threads_are
+
+  pub lives_given : (n : ℕ) (value : Cell)
+      → map is_some (slice_set kept n (option_map (given value) (slice_index_or kept n None))) ≡ lives
+  lives_given n value =
+      map-set_same is_some kept n (option_map (given value) (slice_index_or kept n None)) None (given_lives value (slice_index_or kept n None)) ∙ lives_are

@@ -1,6 +1,7 @@
 //! The activations of a thread that wait for what they have called.
 
 ghost use Rattle.std.specs.Prelude.{◌≡◌, List, [], ◌∷◌, ◌++◌, reverse, IfOk, OnOk, OnErr};
+ghost use Rattle.work_item.specs.declared.cell.Cell.{Cell};
 ghost use Rattle.code_meaning.specs.Machine.{Caller};
 ghost use Rattle.thread_table.specs.Callers.{Popped};
 
@@ -8,7 +9,7 @@ use crate::operands::Operands;
 use ac_base::NoMemory;
 use std::alloc::Global;
 use std::marker::Model;
-use work_item::{Cell, FrameId};
+use work_item::{CellPart, Cells, FrameId};
 
 /// Where an activation goes on, in which frame, and how many operands it has left below.
 #[derive(Clone, Copy, Debug)]
@@ -24,7 +25,7 @@ pub struct WaitingCall {
 #[derive(Drop)]
 pub struct Callers {
     waiting: Vec<WaitingCall>,
-    cells: Vec<Cell>,
+    cells: Cells,
 }
 
 impl Model for Callers {
@@ -34,21 +35,20 @@ impl Model for Callers {
 
     ghost Value = { List Caller };
 
-    ghost view = { λ c. callers_of (reverse c.waiting.items) (reverse c.cells.items) };
+    ghost view = { λ c. callers_of (reverse c.waiting.items) (reverse c.cells) };
 
-    ghost invariant = { λ c. all_below (reverse c.waiting.items) ≡ length c.cells.items };
+    ghost invariant = { λ c. all_below (reverse c.waiting.items) ≡ length c.cells };
 }
 
 // Puts more cells at the end. Mostly there are none.
-fn extend(cells: &mut Vec<Cell>, more: &[Cell]) -> Result<(), NoMemory>
-    ensures ok { OnOk result (cells.new.items ≡ cells.old.items ++ more.now) }
-    ensures err { OnErr result (cells.new.items ≡ cells.old.items) }
+fn extend(cells: &mut Cells, more: &CellPart) -> Result<(), NoMemory>
+    ensures ok { OnOk result (cells.new ≡ cells.old ++ more.now) }
+    ensures err { OnErr result (cells.new ≡ cells.old) }
 {
-    if more.is_empty() {
+    if more.len() == 0 {
         return Ok(());
     }
-    cells.extend_from_slice(more)?;
-    Ok(())
+    cells.append(more)
 }
 
 impl Callers {
@@ -58,12 +58,17 @@ impl Callers {
     {
         Callers {
             waiting: Vec::new(alloc),
-            cells: Vec::new(alloc),
+            cells: Cells::new(alloc),
         }
     }
 
     /// One more waits, with these operands, the topmost last. After want of memory all is as before.
-    pub fn push(&mut self, place: usize, frame: FrameId, operands: &[Cell]) -> Result<(), NoMemory>
+    pub fn push(
+        &mut self,
+        place: usize,
+        frame: FrameId,
+        operands: &CellPart,
+    ) -> Result<(), NoMemory>
         ensures ok { OnOk result
             (self.new ≡ (record { place = place; frame = frame; operands = reverse operands.now }) ∷ self.old) }
         ensures err { OnErr result (self.new ≡ self.old) }
@@ -93,10 +98,10 @@ impl Callers {
     /// where none waits, and the operands then stay. After want of memory all is as before.
     pub fn pop(
         &mut self,
-        value: Cell,
+        value: i64,
         operands: &mut Operands,
     ) -> Result<Option<WaitingCall>, NoMemory>
-        ensures ok { IfOk result (λ back. Popped self.old self.new value back operands.old operands.new) }
+        ensures ok { IfOk result (λ back. Popped self.old self.new (Cell.Int value) back operands.old operands.new) }
         ensures err { OnErr result (self.new ≡ self.old) }
         ensures same { OnErr result (operands.new ≡ operands.old) }
     {
@@ -108,7 +113,7 @@ impl Callers {
             return Ok(Some(caller));
         }
         let left = self.cells.len() - caller.below;
-        operands.restore(&self.cells[left..], value)?;
+        operands.restore(&self.cells.from(left), value)?;
         self.forget();
         Ok(Some(caller))
     }

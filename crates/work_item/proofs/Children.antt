@@ -149,6 +149,19 @@ words_gone t n x e =
     let w : frame_words (at t n) ≡ length x.cells + 4 = ap frame_words e in
     omega arith
 
+-- no more children than words
+pub children_few : (t : List (Option Frame)) (m : ℕ) → children_of t m ≤ all_words t
+children_few [] m = omega arith
+children_few (x ∷ t) m = omega (arith, one_has_words x, children_few t m, children-cons x t m)
+  where
+    one_has_words : (o : Option Frame) → one_if (is_parent m o) ≤ frame_words o
+    one_has_words None = omega arith
+    one_has_words (Some y) = at_most_one (is_number m y.parent)
+      where
+        at_most_one : (b : Bool) → one_if b ≤ frame_words (Some y)
+        at_most_one true = omega arith
+        at_most_one false = omega arith
+
 -- ---- a frame that lives lies in one that lives
 
 pub rooted_same : (t : List (Option Frame)) (n : ℕ) (x y : Frame) → IsRooted t → at t n ≡ Some x → y.parent ≡ x.parent → IsRooted (set t n (Some y))

@@ -1,5 +1,5 @@
 -- Clearing cells one by one.
--- For the loop of `clear_cells`: after so many turns just so many cells hold 0, and one turn more is one cell more. By induction on the
+-- For the loop of `clear_words`, and for what is left of the others: after so many turns just so many cells hold 0, and one turn more is one cell more. By induction on the
 -- first slot and then on the count.
 use Rattle.std.proofs.Common.{◌≡◌, ℕ, zero, suc, ◌+◌, ◌<◌, List, [], ◌∷◌, length, refl, ap, ◌∙◌, arith, set}
 use Rattle.work_item.specs.declared.cell.Cell.{Cell}

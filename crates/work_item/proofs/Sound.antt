@@ -3,20 +3,19 @@
 -- taken away; the two last change the count of the parent too, so each is shown for the list before the parent is counted and then for the
 -- whole.
 use Rattle.std.proofs.Common.{◌≡◌, ℕ, ◌+◌, ◌-◌, ◌<◌, ◌≤◌, ◌^◌, List, [], ◌∷◌, ◌++◌, length, Option, Some, None, IsSome, IsSomeAnd}
-use Rattle.std.proofs.Common.{IfSome, is_some, is_none, Bool, true, false, not, ◌&&◌, inl, inr, refl, sym, ap, ◌∙◌, subst, arith, set, nat_eq, get_or-set_same, eq-eqb, ne_eqb}
+use Rattle.std.proofs.Common.{IfSome, inl, inr, refl, sym, ap, ◌∙◌, subst, arith, set, nat_eq, get_or-set_same, eq-eqb, ne_eqb}
 use Rattle.std.proofs.lemmas.Bool.{cases_eq}
 use Rattle.std.proofs.lemmas.List.{map-set, map-append, length-map}
-use Rattle.std.proofs.lemmas.List.Sums.{count_by-le-length}
 use Rattle.std.proofs.Math.ListN.{get_or-map, get_or-append}
 use Rattle.std.proofs.Math.Seq.{map-set_same}
 use Rattle.work_item.specs.declared.ids.FrameId.{FrameId}
 use Rattle.work_item.specs.declared.table.Live.{Live}
-use Rattle.work_item.specs.Store.{Frame, is_number, is_parent, all_words}
+use Rattle.work_item.specs.Store.{Frame, is_number, all_words}
 use Rattle.work_item.specs.Table.{at, children_of}
 use Rattle.work_item.specs.inner.Kept.{IsRooted, LivesIn, frame_of, frames_of, live_at, Counts, IsSound}
-use Rattle.work_item.specs.inner.Kept.{one_more, one_less, is_over, is_done, is_alone, parent_at}
+use Rattle.work_item.specs.inner.Kept.{one_more, one_less, with_more, with_less, CanCountMore, CanCountLess}
 use Rattle.work_item.proofs.Children.{within, some_of, is_there, other, pushed, one_if, is_its_parent, parent_is_at, children-set, children-push}
-use Rattle.work_item.proofs.Children.{children_same, one_at_least, unborn, words-push, words_same, words_gone, rooted_same, rooted_gone, rooted_made}
+use Rattle.work_item.proofs.Children.{children_same, children_few, one_at_least, unborn, words-push, words_same, words_gone, rooted_same, rooted_gone, rooted_made}
 
 pub frames_at : (lives : List (Option Live)) (n : ℕ) → at (frames_of lives) n ≡ frame_of (live_at lives n)
 frames_at lives n = get_or-map frame_of lives n None
@@ -36,20 +35,6 @@ live_there lives n l = go (live_at lives n) refl
     go (Some x) e = (x, e)
 
 -- ---- the counts, one more and one less
-
-abbrev pub counted_in : List (Option Live) → Option FrameId → List (Option Live)
-counted_in lives None = lives
-counted_in lives (Some f) = set lives f.number (one_more (live_at lives f.number))
-
-abbrev pub counted_out : List (Option Live) → Option FrameId → List (Option Live)
-counted_out lives None = lives
-counted_out lives (Some f) = set lives f.number (one_less (live_at lives f.number))
-
-abbrev pub CanCountIn : List (Option Live) → Option FrameId → Type 0
-CanCountIn lives parent = IfSome parent (λ f. IsSomeAnd (live_at lives f.number) (λ x. x.children + 1 < 2 ^ 64))
-
-abbrev pub CanCountOut : List (Option Live) → Option FrameId → Type 0
-CanCountOut lives parent = IfSome parent (λ f. IsSomeAnd (live_at lives f.number) (λ x. 0 < x.children))
 
 abbrev LivesAt : List (Option Live) → Option FrameId → Type 0
 LivesAt lives parent = IfSome parent (λ f. IsSome (live_at lives f.number))
@@ -72,7 +57,7 @@ alike : (m : ℕ) → one_if (nat_eq m m) ≡ 1
 alike m = ap one_if (eq-eqb m m refl)
 
 pub counts_more : (lives : List (Option Live)) (t u : List (Option Frame)) (p : Option FrameId) → Counts lives t → LivesAt lives p
-    → ((m : ℕ) → children_of u m ≡ children_of t m + one_if (is_number m p)) → Counts (counted_in lives p) u
+    → ((m : ℕ) → children_of u m ≡ children_of t m + one_if (is_number m p)) → Counts (with_more lives p) u
 counts_more lives t u None c l h = λ m z e. omega (arith, c m z e, h m)
 counts_more lives t u (Some f) c l h =
     let x = some_of (live_at lives f.number) l in
@@ -82,7 +67,7 @@ counts_more lives t u (Some f) c l h =
     subst (λ o. Counts (set lives f.number (one_more o)) u) (sym x.1) (counts_at lives t u f.number x.0 (record x.0 { children = x.0.children + 1 }) c x.1 here rest)
 
 pub counts_less : (lives : List (Option Live)) (t u : List (Option Frame)) (p : Option FrameId) → Counts lives t → LivesAt lives p
-    → ((m : ℕ) → children_of u m + one_if (is_number m p) ≡ children_of t m) → Counts (counted_out lives p) u
+    → ((m : ℕ) → children_of u m + one_if (is_number m p) ≡ children_of t m) → Counts (with_less lives p) u
 counts_less lives t u None c l h = λ m z e. omega (arith, c m z e, h m)
 counts_less lives t u (Some f) c l h =
     let x = some_of (live_at lives f.number) l in
@@ -91,7 +76,7 @@ counts_less lives t u (Some f) c l h =
     let rest = (λ (m : ℕ) (ne : f.number ≡ m → ⊥). let a : children_of u m ≡ children_of t m = omega (arith, h m, apart m f.number ne) in a) in
     subst (λ o. Counts (set lives f.number (one_less o)) u) (sym x.1) (counts_at lives t u f.number x.0 (record x.0 { children = x.0.children - 1 }) c x.1 here rest)
 
-same_more : (lives : List (Option Live)) (p : Option FrameId) → frames_of (counted_in lives p) ≡ frames_of lives
+same_more : (lives : List (Option Live)) (p : Option FrameId) → frames_of (with_more lives p) ≡ frames_of lives
 same_more lives None = refl
 same_more lives (Some f) = map-set_same frame_of lives f.number (one_more (live_at lives f.number)) None (go (live_at lives f.number))
   where
@@ -99,7 +84,7 @@ same_more lives (Some f) = map-set_same frame_of lives f.number (one_more (live_
     go None = refl
     go (Some x) = refl
 
-same_less : (lives : List (Option Live)) (p : Option FrameId) → frames_of (counted_out lives p) ≡ frames_of lives
+same_less : (lives : List (Option Live)) (p : Option FrameId) → frames_of (with_less lives p) ≡ frames_of lives
 same_less lives None = refl
 same_less lives (Some f) = map-set_same frame_of lives f.number (one_less (live_at lives f.number)) None (go (live_at lives f.number))
   where
@@ -110,7 +95,7 @@ same_less lives (Some f) = map-set_same frame_of lives f.number (one_less (live_
 -- ---- a frame whose parent and number of cells stay
 
 pub sound_same : (lives : List (Option Live)) (words n : ℕ) (x y : Live) → IsSound lives words → live_at lives n ≡ Some x → y.parent ≡ x.parent → y.children ≡ x.children
-    → length y.cells.items ≡ length x.cells.items → IsSound (set lives n (Some y)) words
+    → length y.cells ≡ length x.cells → IsSound (set lives n (Some y)) words
 sound_same lives words n x y s e parent children cells = record {
   rooted = subst IsRooted (sym frames) (rooted_same t n fx fy s.rooted here parent);
   counts = subst (λ u. Counts (set lives n (Some y)) u) (sym frames) (counts_at lives t (set t n (Some fy)) n x y s.counts e (children ∙ s.counts n x e ∙ sym (as_many n)) (λ m ne. as_many m));
@@ -121,20 +106,20 @@ sound_same lives words n x y s e parent children cells = record {
     t = frames_of lives
 
     fx : Frame
-    fx = record { parent = x.parent; cells = x.cells.items; over = x.over }
+    fx = record { parent = x.parent; cells = x.cells; over = x.over }
 
     fy : Frame
-    fy = record { parent = y.parent; cells = y.cells.items; over = y.over }
+    fy = record { parent = y.parent; cells = y.cells; over = y.over }
 
-    here : at (frames_of lives) n ≡ Some (record { parent = x.parent; cells = x.cells.items; over = x.over })
+    here : at (frames_of lives) n ≡ Some (record { parent = x.parent; cells = x.cells; over = x.over })
     here = frame_is lives n x e
 
-    frames : frames_of (set lives n (Some y)) ≡ set (frames_of lives) n (Some (record { parent = y.parent; cells = y.cells.items; over = y.over }))
+    frames : frames_of (set lives n (Some y)) ≡ set (frames_of lives) n (Some (record { parent = y.parent; cells = y.cells; over = y.over }))
     frames = map-set frame_of lives n (Some y)
 
-    as_many : (m : ℕ) → children_of (set (frames_of lives) n (Some (record { parent = y.parent; cells = y.cells.items; over = y.over }))) m ≡ children_of (frames_of lives) m
-    as_many m = children_same (frames_of lives) n (record { parent = x.parent; cells = x.cells.items; over = x.over })
-        (record { parent = y.parent; cells = y.cells.items; over = y.over }) m here parent
+    as_many : (m : ℕ) → children_of (set (frames_of lives) n (Some (record { parent = y.parent; cells = y.cells; over = y.over }))) m ≡ children_of (frames_of lives) m
+    as_many m = children_same (frames_of lives) n (record { parent = x.parent; cells = x.cells; over = x.over })
+        (record { parent = y.parent; cells = y.cells; over = y.over }) m here parent
 
 -- ---- a new frame
 
@@ -154,32 +139,30 @@ lives_on lives (Some f) new l =
     is_there (live_at (lives ++ Some new ∷ []) f.number) x.0 (get_or-append lives (Some new ∷ []) None f.number (within lives f.number x.0 x.1) ∙ x.1)
 
 pub sound_made : (lives : List (Option Live)) (words : ℕ) (new : Live) → IsSound lives words → LivesIn (frames_of lives) new.parent → new.children ≡ 0
-    → IsSound (counted_in (lives ++ Some new ∷ []) new.parent) (words + (length new.cells.items + 4))
+    → IsSound (with_more (lives ++ Some new ∷ []) new.parent) (words + (length new.cells + 4))
 sound_made lives words new s alive none =
-    let fnew : Frame = record { parent = new.parent; cells = new.cells.items; over = new.over } in
+    let fnew : Frame = record { parent = new.parent; cells = new.cells; over = new.over } in
     let t = frames_of lives in
-    let frames : frames_of (counted_in (lives ++ Some new ∷ []) new.parent) ≡ t ++ Some fnew ∷ [] = same_more (lives ++ Some new ∷ []) new.parent ∙ map-append frame_of lives (Some new ∷ []) in
+    let frames : frames_of (with_more (lives ++ Some new ∷ []) new.parent) ≡ t ++ Some fnew ∷ [] = same_more (lives ++ Some new ∷ []) new.parent ∙ map-append frame_of lives (Some new ∷ []) in
     let counted = counts_pushed lives t new s.counts s.rooted (length-map lives frame_of) none in
     record {
       rooted = subst IsRooted (sym frames) (rooted_made t fnew s.rooted alive);
-      counts = subst (λ u. Counts (counted_in (lives ++ Some new ∷ []) new.parent) u) (sym frames)
+      counts = subst (λ u. Counts (with_more (lives ++ Some new ∷ []) new.parent) u) (sym frames)
           (counts_more (lives ++ Some new ∷ []) t (t ++ Some fnew ∷ []) new.parent counted (lives_on lives new.parent new alive) (λ m. children-push t (Some fnew) m));
-      words_are = ap (λ k. k + (length new.cells.items + 4)) s.words_are ∙ sym (words-push t (Some fnew)) ∙ ap all_words (sym frames);
+      words_are = ap (λ k. k + (length new.cells + 4)) s.words_are ∙ sym (words-push t (Some fnew)) ∙ ap all_words (sym frames);
     }
 
-pub can_more : (lives : List (Option Live)) (words : ℕ) (p : Option FrameId) (new : Live) → IsSound lives words → LivesIn (frames_of lives) p → length lives + 1 < 2 ^ 64
-    → CanCountIn (lives ++ Some new ∷ []) p
+pub can_more : (lives : List (Option Live)) (words : ℕ) (p : Option FrameId) (new : Live) → IsSound lives words → LivesIn (frames_of lives) p → all_words (frames_of lives) + 4 < 2 ^ 64
+    → CanCountMore (lives ++ Some new ∷ []) p
 can_more lives words None new s alive few = tt
 can_more lives words (Some f) new s alive few =
     let x = live_there lives f.number alive in
     let e : live_at (lives ++ Some new ∷ []) f.number ≡ Some x.0 = get_or-append lives (Some new ∷ []) None f.number (within lives f.number x.0 x.1) ∙ x.1 in
     let c = s.counts f.number x.0 x.1 in
-    let le = count_by-le-length (is_parent f.number) (frames_of lives) in
-    let len = length-map lives frame_of in
-    let small : x.0.children + 1 < 2 ^ 64 = omega (arith, c, le, len, few) in
+    let small : x.0.children + 1 < 2 ^ 64 = omega (arith, c, children_few (frames_of lives) f.number, few) in
     subst (λ o. IsSomeAnd o (λ y. y.children + 1 < 2 ^ 64)) (sym e) small
 
-pub same_pushed : (lives : List (Option Live)) (new : Live) (p : Option FrameId) → frames_of (counted_in (lives ++ Some new ∷ []) p) ≡ frames_of lives ++ frame_of (Some new) ∷ []
+pub same_pushed : (lives : List (Option Live)) (new : Live) (p : Option FrameId) → frames_of (with_more (lives ++ Some new ∷ []) p) ≡ frames_of lives ++ frame_of (Some new) ∷ []
 same_pushed lives new p = same_more (lives ++ Some new ∷ []) p ∙ map-append frame_of lives (Some new ∷ [])
 
 -- ---- a frame that is gone
@@ -201,15 +184,15 @@ parent_stays lives words n x None s e q = tt
 parent_stays lives words n x (Some f) s e q =
     let t = frames_of lives in
     let here = frame_is lives n x e in
-    let up = s.rooted n (record { parent = x.parent; cells = x.cells.items; over = x.over }) f here q in
+    let up = s.rooted n (record { parent = x.parent; cells = x.cells; over = x.over }) f here q in
     let y = live_there lives f.number up.1 in
     let ne : n ≡ f.number → ⊥ = (λ k. omega (arith, up.0, k)) in
     let stays : live_at (set lives n None) f.number ≡ Some y.0 = other lives n f.number None ne ∙ y.1 in
-    let mine = is_its_parent f.number (at t n) (record { parent = x.parent; cells = x.cells.items; over = x.over }) f here q refl in
+    let mine = is_its_parent f.number (at t n) (record { parent = x.parent; cells = x.cells; over = x.over }) f here q refl in
     let some : 0 < y.0.children = omega (arith, one_at_least t n f.number mine, s.counts f.number y.0 y.1) in
     subst (λ o. IsSomeAnd o (λ z. 0 < z.children)) (sym stays) some
 
-pub can_less : (lives : List (Option Live)) (words n : ℕ) (x : Live) → IsSound lives words → live_at lives n ≡ Some x → CanCountOut (set lives n None) x.parent
+pub can_less : (lives : List (Option Live)) (words n : ℕ) (x : Live) → IsSound lives words → live_at lives n ≡ Some x → CanCountLess (set lives n None) x.parent
 can_less lives words n x s e = parent_stays lives words n x x.parent s e refl
 
 some_at : (lives : List (Option Live)) (p : Option FrameId) → IfSome p (λ f. IsSomeAnd (live_at lives f.number) (λ y. 0 < y.children)) → LivesAt lives p
@@ -221,40 +204,24 @@ some_at lives (Some f) h = go (live_at lives f.number) h
     go (Some y) k = refl
 
 pub sound_gone : (lives : List (Option Live)) (words n : ℕ) (x : Live) → IsSound lives words → live_at lives n ≡ Some x → children_of (frames_of lives) n ≡ 0
-    → IsSound (counted_out (set lives n None) x.parent) (words - (length x.cells.items + 4))
+    → IsSound (with_less (set lives n None) x.parent) (words - (length x.cells + 4))
 sound_gone lives words n x s e none =
-    let fx : Frame = record { parent = x.parent; cells = x.cells.items; over = x.over } in
+    let fx : Frame = record { parent = x.parent; cells = x.cells; over = x.over } in
     let t = frames_of lives in
     let here : at t n ≡ Some fx = frame_is lives n x e in
-    let frames : frames_of (counted_out (set lives n None) x.parent) ≡ set t n None = same_less (set lives n None) x.parent ∙ map-set frame_of lives n None in
+    let frames : frames_of (with_less (set lives n None) x.parent) ≡ set t n None = same_less (set lives n None) x.parent ∙ map-set frame_of lives n None in
     let fewer = (λ (m : ℕ). let a : children_of (set t n None) m + one_if (is_number m x.parent)
     ≡ children_of t m = omega (arith, children-set t n None m (within t n fx here), ap one_if (parent_is_at m (at t n) fx here)) in a) in
     record {
       rooted = subst IsRooted (sym frames) (rooted_gone t n fx s.rooted here none);
-      counts = subst (λ u. Counts (counted_out (set lives n None) x.parent) u) (sym frames)
+      counts = subst (λ u. Counts (with_less (set lives n None) x.parent) u) (sym frames)
           (counts_less (set lives n None) t (set t n None) x.parent (counts_gone lives t n x s.counts e) (some_at (set lives n None) x.parent (can_less lives words n x s e)) fewer);
-      words_are = (let a : words - (length x.cells.items + 4) ≡ all_words (set t n None) = omega (arith, words_gone t n fx here, s.words_are) in a) ∙ ap all_words (sym frames);
+      words_are = (let a : words - (length x.cells + 4) ≡ all_words (set t n None) = omega (arith, words_gone t n fx here, s.words_are) in a) ∙ ap all_words (sym frames);
     }
 
-pub words_within : (lives : List (Option Live)) (words n : ℕ) (x : Live) → IsSound lives words → live_at lives n ≡ Some x → length x.cells.items + 4 ≤ words
+pub words_within : (lives : List (Option Live)) (words n : ℕ) (x : Live) → IsSound lives words → live_at lives n ≡ Some x → length x.cells + 4 ≤ words
 words_within lives words n x s e =
-    omega (arith, words_gone (frames_of lives) n (record { parent = x.parent; cells = x.cells.items; over = x.over }) (frame_is lives n x e), s.words_are)
+    omega (arith, words_gone (frames_of lives) n (record { parent = x.parent; cells = x.cells; over = x.over }) (frame_is lives n x e), s.words_are)
 
-pub same_gone : (lives : List (Option Live)) (n : ℕ) (p : Option FrameId) → frames_of (counted_out (set lives n None) p) ≡ set (frames_of lives) n None
+pub same_gone : (lives : List (Option Live)) (n : ℕ) (p : Option FrameId) → frames_of (with_less (set lives n None) p) ≡ set (frames_of lives) n None
 same_gone lives n p = same_less (set lives n None) p ∙ map-set frame_of lives n None
-
--- ---- the end of a frame
-
-pub done_is : (lives : List (Option Live)) (words n : ℕ) (x : Live) → IsSound lives words → live_at lives n ≡ Some x → is_done (frames_of lives) n ≡ (x.over && nat_eq x.children 0)
-done_is lives words n x s e =
-    ap (λ o. is_over o && nat_eq (children_of (frames_of lives) n) 0) (frame_is lives n x e) ∙ ap (λ k. x.over && nat_eq k 0) (sym (s.counts n x e))
-
-pub alone_is : (lives : List (Option Live)) (words n : ℕ) (x : Live) → IsSound lives words → live_at lives n ≡ Some x → is_alone (frames_of lives) n ≡ (is_none x.parent && nat_eq x.children 0)
-alone_is lives words n x s e =
-    ap (λ o. is_none (parent_at o) && nat_eq (children_of (frames_of lives) n) 0) (frame_is lives n x e) ∙ ap (λ k. is_none x.parent && nat_eq k 0) (sym (s.counts n x e))
-
-pub none_is : (p : Option FrameId) (b : Bool) → is_some p ≡ not b → is_none p ≡ b
-none_is None true e = refl
-none_is None false e = sym e
-none_is (Some f) true e = sym e
-none_is (Some f) false e = refl

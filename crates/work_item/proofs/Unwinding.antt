@@ -178,9 +178,6 @@ alone_told t n l h =
     no_parent None e = refl
     no_parent (Some f) e = let no : false ≡ true = e in absurd (cc)
 
-pub childless : (t : List (Option Frame)) (n : ℕ) → IsSome (at t n) → is_alone t n ≡ true → children_of t n ≡ 0
-childless t n l h = (alone_told t n l h).1.1.1
-
 pub goes_alone : (globals : List ℤ) (t : List (Option Frame)) (n : ℕ) → IsWhole globals t → IsSome (at t n) → is_alone t n ≡ true → IsRooted (set t n None)
     → Ends globals (set t n (some_over (at t n))) (set t n None)
 goes_alone globals t n w l h r = record {

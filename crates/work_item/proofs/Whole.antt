@@ -2,7 +2,7 @@
 -- `IsWhole`: a frame whose end has come has a child that lives, and all words fit 64 bits. A write keeps parent, end and length of a frame;
 -- a new frame adds the words that the call has counted.
 use Rattle.std.proofs.Common.{◌≡◌, ℕ, ◌+◌, ◌<◌, ◌≤◌, ◌^◌, List, [], ◌∷◌, ◌++◌, length, Option, Some, None, Result, Ok, Err, OnOk}
-use Rattle.std.proofs.Common.{OnErr, true, false, ℤ, inl, inr, refl, sym, ap, ◌∙◌, subst, arith, set, get_or-set_same}
+use Rattle.std.proofs.Common.{OnErr, true, false, ℤ, inl, inr, refl, sym, ap, ◌∙◌, subst, arith, set, get_or-set_same, length-set}
 use Rattle.std.proofs.lemmas.Bool.{cases_eq}
 use Rattle.std.proofs.lemmas.List.{set-get_or}
 use Rattle.ac_base.specs.declared.memory.NoMemory.{NoMemory}
@@ -38,6 +38,13 @@ whole_with globals t n cells w l = go (at t n) refl l
       settled = settled_same t n x (record x { cells = cells }) w.settled e refl refl;
       fits = omega (arith, w.fits, words_same t n x (record x { cells = cells }) e k);
     }
+
+-- a write for which memory may be wanted
+pub whole_set : (globals : List ℤ) (t u : List (Option Frame)) (n slot : ℕ) (x : Cell) (r : Result Unit NoMemory) → IsWhole globals t
+    → OnOk r (u ≡ set t n (some_with (set (no_cells (at t n)) slot x) (at t n))) → OnErr r (u ≡ t) → IsWhole globals u
+whole_set globals t u n slot x (Ok v) w ok err =
+    subst (IsWhole globals) (sym ok) (whole_with globals t n (set (no_cells (at t n)) slot x) w (length-set (no_cells (at t n)) slot x))
+whole_set globals t u n slot x (Err e) w ok err = subst (IsWhole globals) (sym err) w
 
 whole_made : (globals : List ℤ) (t : List (Option Frame)) (new : Frame) → IsWhole globals t → new.over ≡ false → length globals + all_words t + (length new.cells + 4) < 2 ^ 64
     → IsWhole globals (t ++ Some new ∷ [])

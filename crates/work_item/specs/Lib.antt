@@ -1,5 +1,6 @@
 pub mod Store
+pub mod Cells
 pub mod Table
 pub mod Conditions
-pub mod Threads
+pub mod Ends
 pub mod inner

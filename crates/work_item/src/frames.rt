@@ -1,12 +1,14 @@
 //! The globals of a core and its frames.
 
 ghost use Rattle.std.specs.Prelude.{◌≡◌, ◌+◌, ◌-◌, ◌^◌, ◌<◌, ◌≤◌, ◌++◌, length, replicate, IfOk, OnOk, OnErr};
-ghost use Rattle.work_item.specs.Store.{above, cell_at, with_cell_at, with_cleared, cells_of, int_at, with_int_at, global_at};
+ghost use Rattle.work_item.specs.declared.cell.Cell.TheVariants as c;
+ghost use Rattle.work_item.specs.Store.{above, cell_at, with_cell, with_cell_at, with_cleared, cells_of, int_at, with_int_at, global_at};
 ghost use Rattle.work_item.specs.Store.{with_global, no_int, no_frames, next_frame, made, released, live_words, int_in};
 ghost use Rattle.work_item.specs.Conditions.{Lives, ParentLives, HomeLives, HasLevel, HasSlot, HasGlobal, IsGoing};
 
 use crate::cell::{Cell, Place};
-use crate::ids::FrameId;
+use crate::cells::CellPart;
+use crate::ids::{BlockId, FrameId};
 use crate::table::Table;
 use ac_base::NoMemory;
 use std::alloc::Global;
@@ -14,7 +16,7 @@ use std::marker::Model;
 
 /// The globals of a core and its frames. They keep the allocator with which they are made.
 ///
-/// Contracts see what they hold. Only `new`, `make` and `make_of` take memory.
+/// Contracts see what they hold. Only `new`, `make`, `make_of` and `write_block` take memory.
 #[derive(Drop)]
 pub struct Frames {
     alloc: Global,
@@ -32,16 +34,6 @@ impl Model for Frames {
     ghost view = { λ s. record { globals = s.globals.items; frames = s.table } };
 
     ghost invariant = { λ s. IsWhole s.globals.items s.table };
-}
-
-// The int that a cell holds, and 0 where it holds none.
-fn int_of(cell: Cell) -> i64
-    ensures { result ≡ int_in cell }
-{
-    match cell {
-        Cell::Int(value) => value,
-        _ => 0,
-    }
 }
 
 impl Frames {
@@ -69,7 +61,7 @@ impl Frames {
         ensures ok { OnOk result (self.new ≡ made self.old parent (replicate words no_int)) }
         ensures err { OnErr result (self.new ≡ self.old) }
     {
-        self.make_of(parent, &[], words)
+        self.make_of(parent, &CellPart::none(), words)
     }
 
     /// Makes a frame of so many cells, which begin with these and are 0 from there on, and gives its
@@ -81,7 +73,7 @@ impl Frames {
     pub fn make_of(
         &mut self,
         parent: Option<FrameId>,
-        first: &[Cell],
+        first: &CellPart,
         words: u32,
     ) -> Result<FrameId, NoMemory>
         requires parent { ParentLives self.old parent }
@@ -98,7 +90,20 @@ impl Frames {
     /// for each level.
     ///
     /// Condition: the frame lives, and so many frames lie round it.
+    #[inline(always)]
     pub fn above(&self, frame: FrameId, level: u32) -> FrameId
+        requires { HasLevel self.now frame level }
+        ensures { result ≡ above self.now frame level }
+    {
+        if level == 0 {
+            return frame;
+        }
+        self.outer(frame, level)
+    }
+
+    // The same at a level that is mostly not 0.
+    #[inline(never)]
+    fn outer(&self, frame: FrameId, level: u32) -> FrameId
         requires { HasLevel self.now frame level }
         ensures { result ≡ above self.now frame level }
     {
@@ -109,10 +114,19 @@ impl Frames {
         current
     }
 
+    /// Makes looks at a frame quick, until another is asked for. Nothing is changed.
+    #[inline(always)]
+    pub fn look_at(&mut self, frame: FrameId)
+        ensures { self.new ≡ self.old }
+    {
+        self.table.look_at(frame);
+    }
+
     /// What a slot of the frame so many levels up holds.
     ///
     /// Condition: the frame lives, so many frames lie round it, and the slot is below the number
     /// of the cells there.
+    #[inline(always)]
     pub fn read(&self, frame: FrameId, level: u32, slot: u32) -> Cell
         requires level { HasLevel self.now frame level }
         requires slot { HasSlot self.now (above self.now frame level) slot }
@@ -122,16 +136,29 @@ impl Frames {
         self.table.cell(home, slot as usize)
     }
 
-    /// Sets a slot of the frame so many levels up.
+    /// Sets a slot of the frame so many levels up to an int. It takes no memory.
     ///
     /// Condition: as that of `read`.
-    pub fn write(&mut self, frame: FrameId, level: u32, slot: u32, cell: Cell)
+    #[inline(always)]
+    pub fn write(&mut self, frame: FrameId, level: u32, slot: u32, value: i64)
         requires level { HasLevel self.old frame level }
         requires slot { HasSlot self.old (above self.old frame level) slot }
-        ensures { self.new ≡ with_cell_at self.old frame level slot cell }
+        ensures { self.new ≡ with_cell_at self.old frame level slot (c.Int value) }
     {
         let home = self.above(frame, level);
-        self.table.set_cell(home, slot as usize, cell);
+        self.table.set_int(home, slot as usize, value);
+    }
+
+    /// Sets a slot of a frame to a block. After want of memory all is as before.
+    ///
+    /// Condition: the frame lives, and has that slot.
+    pub fn write_block(&mut self, frame: FrameId, slot: u32, block: BlockId) -> Result<(), NoMemory>
+        requires frame { Lives self.old frame }
+        requires slot { HasSlot self.old frame slot }
+        ensures ok { OnOk result (self.new ≡ with_cell self.old frame slot (c.Block block)) }
+        ensures err { OnErr result (self.new ≡ self.old) }
+    {
+        self.table.set_block(frame, slot as usize, block)
     }
 
     /// Sets so many slots of a frame, from that one on, to 0.
@@ -162,7 +189,7 @@ impl Frames {
                     0
                 }
             }
-            Some(frame) => int_of(self.table.cell_or_zero(frame, slot)),
+            Some(frame) => self.table.int_or_zero(frame, slot),
         }
     }
 
@@ -183,7 +210,7 @@ impl Frames {
             }
             Some(frame) => {
                 if self.table.has_cell(frame, slot) {
-                    self.table.set_cell(frame, slot, Cell::Int(value));
+                    self.table.set_int(frame, slot, value);
                 }
             }
         }
@@ -219,11 +246,10 @@ impl Frames {
         requires { IsGoing self.old frame }
         ensures { self.new ≡ released self.old frame }
     {
-        if self.table.is_alone(frame) {
-            let _ = self.table.take_away(frame);
-        } else {
-            self.unwind(frame);
+        if self.table.take_alone(self.alloc, frame) {
+            return;
         }
+        self.unwind(frame);
     }
 
     // The same where its parent may go after it, or where it has to wait for a child.
@@ -235,7 +261,7 @@ impl Frames {
         self.table.end(frame);
         let mut current = frame;
         while self.table.is_done(current) {
-            match self.table.take_away(current) {
+            match self.table.take_away(self.alloc, current) {
                 Some(parent) => current = parent,
                 None => return,
             }

@@ -1,13 +1,15 @@
-//! Frames and threads of a core, by numbers that are given once: what globals and frames hold, and where threads go on.
+//! What globals and frames of a core hold, and the numbers of frames, threads and blocks, each given once.
 #![tactic(auto)]
 
 mod cell;
+mod cells;
 mod frames;
 mod ids;
-mod items;
+mod others;
 mod table;
+mod words;
 
 pub use cell::{Cell, Place};
+pub use cells::{CellPart, Cells};
 pub use frames::Frames;
 pub use ids::{BlockId, FrameId, Item};
-pub use items::{Items, WorkItem};

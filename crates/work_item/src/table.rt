@@ -1,16 +1,18 @@
 //! The frames that live, each with the count of those that live in it.
 
-ghost use Rattle.std.specs.Prelude.{◌≡◌, ℕ, ◌+◌, ◌-◌, ◌^◌, ◌<◌, ◌≤◌, [], ◌∷◌, ◌++◌, length, replicate};
-ghost use Rattle.std.specs.Prelude.{nat_lt, slice_index_or, slice_set, IsSome, IfSome, IsSomeAnd, IfOk, OnOk, OnErr, Some, None};
-ghost use Rattle.work_item.specs.Store.{all_words, no_cells, no_int, some_with, some_over, cleared, parent_or};
+ghost use Rattle.std.specs.Prelude.{◌≡◌, ◌+◌, ◌-◌, ◌^◌, ◌<◌, ◌≤◌, [], ◌∷◌, ◌++◌, length, replicate, true, false};
+ghost use Rattle.std.specs.Prelude.{nat_lt, slice_index_or, slice_set, IsSome, IfOk, OnOk, OnErr, Some, None};
+ghost use Rattle.work_item.specs.declared.cell.Cell.TheVariants as c;
+ghost use Rattle.work_item.specs.Store.{all_words, no_cells, no_int, int_in, some_with, some_over, cleared, parent_or};
 ghost use Rattle.work_item.specs.Table.{at, children_of};
-ghost use Rattle.work_item.specs.inner.Kept.{parent_at, new_frame, is_done, is_alone, LivesIn};
-ghost use Rattle.work_item.specs.inner.Kept.{IsRooted, CanCountMore, CanCountLess, with_more, with_less};
-ghost use Rattle.work_item.specs.inner.Kept.{live_at, in_place, place_at, places_of, IsNew, AreSameBelow, IsFreed};
+ghost use Rattle.work_item.specs.inner.Kept.{parent_at, new_frame, is_done, is_alone, LivesIn, IsNew, AddsNew};
+ghost use Rattle.work_item.specs.inner.Kept.{IsRooted, CanCountMore, CanCountLess, with_more, with_less, live_at};
 
 use crate::cell::Cell;
-use crate::ids::FrameId;
+use crate::cells::{CellPart, Cells};
+use crate::ids::{BlockId, FrameId};
 use ac_base::NoMemory;
+use birth_table::BirthTable;
 use std::alloc::Global;
 use std::marker::Model;
 
@@ -18,7 +20,7 @@ use std::marker::Model;
 #[derive(Drop)]
 struct Live {
     parent: Option<FrameId>,
-    cells: Vec<Cell>,
+    cells: Cells,
     over: bool,
     // How many frames that live lie directly in it.
     children: u64,
@@ -27,25 +29,15 @@ struct Live {
 // The words of a frame beside its cells.
 const HEAD_WORDS: u64 = 4;
 
-// The place of a frame that is gone.
-const NO_PLACE: u32 = u32::MAX;
-
-// The most cells for which a list has room that is kept for a frame to come.
+// A small list of cells has room for so many at most.
 const SPARE_CELLS: usize = 64;
 
-/// The frames of a core, each at its number. The youngest places are used again once their frames
-/// are gone.
+/// The frames of a core, each at its number. They take memory for those that live.
 ///
 /// Contracts see them as a list, in which one that is gone is none.
 #[derive(Drop)]
 pub struct Table {
-    // By number, the place of a frame that lives.
-    places: Vec<u32>,
-    // By place, the frames that live, and gaps. From `top` on all are free: what a slot holds there is
-    // left of a frame that is gone, and only its list of cells is used, for the next frame at that
-    // place, so that a call need not ask for memory.
-    slots: Vec<Option<Live>>,
-    top: usize,
+    lives: BirthTable<Live>,
     // The words of those that live.
     words: u64,
 }
@@ -56,140 +48,51 @@ impl Model for Table {
 
     ghost Value = { List (Option Frame) };
 
-    ghost use Rattle.work_item.specs.inner.Kept.{frames_of, lives_of, places_of, IsKept};
+    ghost use Rattle.work_item.specs.inner.Kept.{frames_of, IsSound};
 
-    ghost view = { λ s. frames_of (lives_of (places_of s.places.items) s.slots.items) };
+    ghost view = { λ s. frames_of s.lives.items };
 
-    ghost invariant = { λ s. IsKept (places_of s.places.items) s.slots.items s.top s.words };
+    ghost invariant = { λ s. IsSound s.lives.items s.words };
 }
 
-// Counts a frame in at the place of its parent.
-fn count_in(slots: &mut Vec<Option<Live>>, parent: Option<usize>)
-    requires { CanCountMore slots.old.items parent }
-    ensures { slots.new.items ≡ with_more slots.old.items parent }
-{
-    let Some(place) = parent else { return };
-    match &mut slots[place] {
-        Some(live) => live.children += 1,
-        None => unreachable!(),
-    }
-}
-
-// Counts a frame out at the place of its parent.
-fn count_out(slots: &mut Vec<Option<Live>>, parent: Option<usize>)
-    requires { CanCountLess slots.old.items parent }
-    ensures { slots.new.items ≡ with_less slots.old.items parent }
-{
-    let Some(place) = parent else { return };
-    match &mut slots[place] {
-        Some(live) => live.children -= 1,
-        None => unreachable!(),
-    }
-}
-
-// Where the free places begin that come last, at `top` or below it.
+// Counts a frame in at its parent. The new one is the one that is asked for next.
 #[inline(always)]
-fn below_gaps(slots: &Vec<Option<Live>>, top: usize) -> usize
-    requires { top ≤ length slots.now.items }
-    ensures lower { result ≤ top }
-    ensures taken { (place : ℕ) → IsSome (live_at slots.now.items place) → place < top → place < result }
+fn count_in(lives: &mut BirthTable<Live>, parent: Option<FrameId>, born: u64)
+    requires { CanCountMore lives.old.items parent }
+    ensures { lives.new.items ≡ with_more lives.old.items parent }
 {
-    let mut low = top;
-    while low > 0 && slots[low - 1].is_none() {
-        low -= 1;
-    }
-    low
+    let Some(parent) = parent else { return };
+    count_more(lives, parent, born);
 }
 
-// Whether the list of cells is kept for a frame to come.
-#[inline(always)]
-fn is_small(slot: &Option<Live>) -> bool {
-    match slot {
-        Some(live) => live.cells.capacity() <= SPARE_CELLS,
-        None => false,
-    }
-}
-
-// Gives back the memory of a frame, and gives the place from which on all are free then.
 #[inline(never)]
-fn empty(slots: &mut Vec<Option<Live>>, place: usize, top: usize) -> usize
-    requires place { place < top }
-    requires top { top ≤ length slots.old.items }
-    ensures { IsFreed slots.old.items place top slots.new.items result }
+fn count_more(lives: &mut BirthTable<Live>, parent: FrameId, born: u64)
+    requires { CanCountMore lives.old.items (Some parent) }
+    ensures { lives.new.items ≡ with_more lives.old.items (Some parent) }
 {
-    slots[place] = None;
-    below_gaps(slots, top)
+    lives.value_mut(parent.number).children += 1;
+    lives.look_at(born);
 }
 
-// Frees a place, and gives the one from which on all are free then.
-#[inline(always)]
-fn free(slots: &mut Vec<Option<Live>>, place: usize, top: usize) -> usize
-    requires place { place < top }
-    requires top { top ≤ length slots.old.items }
-    ensures { IsFreed slots.old.items place top slots.new.items result }
+// Counts a frame out at its parent.
+fn count_out(lives: &mut BirthTable<Live>, parent: Option<FrameId>)
+    requires { CanCountLess lives.old.items parent }
+    ensures { lives.new.items ≡ with_less lives.old.items parent }
 {
-    if place + 1 == top && is_small(&slots[place]) {
-        below_gaps(slots, place)
-    } else {
-        empty(slots, place, top)
-    }
-}
-
-// The place of a frame that lives.
-fn place_of(places: &Vec<u32>, frame: FrameId) -> usize
-    requires { IsSome (slice_index_or (places_of places.now.items) frame.number None) }
-    ensures { slice_index_or (places_of places.now.items) frame.number None ≡ Some result }
-{
-    places[frame.number as usize] as usize
-}
-
-// The place of a frame that lives, where one is given.
-fn place_or_none(places: &Vec<u32>, frame: Option<FrameId>) -> Option<usize>
-    requires { IfSome frame (λ f. IsSome (slice_index_or (places_of places.now.items) f.number None)) }
-    ensures { result ≡ place_at (places_of places.now.items) frame }
-{
-    let Some(frame) = frame else { return None };
-    Some(place_of(places, frame))
+    let Some(parent) = parent else { return };
+    lives.value_mut(parent.number).children -= 1;
 }
 
 // A frame that lives.
-fn live_of<'a>(places: &Vec<u32>, slots: &'a Vec<Option<Live>>, frame: FrameId) -> &'a Live
-    requires { IsSome (in_place slots.now.items (slice_index_or (places_of places.now.items) frame.number None)) }
-    ensures { in_place slots.now.items (slice_index_or (places_of places.now.items) frame.number None) ≡ Some result.now }
+#[inline(always)]
+fn live_of<'a>(lives: &'a BirthTable<Live>, frame: FrameId) -> &'a Live
+    requires { IsSome (live_at lives.now.items frame.number) }
+    ensures { live_at lives.now.items frame.number ≡ Some result.now }
 {
-    match &slots[place_of(places, frame)] {
+    match lives.get(frame.number) {
         Some(live) => live,
         None => unreachable!(),
     }
-}
-
-// So many cells that begin with these, and are 0 from there on.
-#[inline(always)]
-fn fill(cells: &mut Vec<Cell>, first: &[Cell], words: usize) -> Result<(), NoMemory>
-    requires { length first.now ≤ words }
-    ensures { OnOk result (cells.new.items ≡ first.now ++ replicate (words - length first.now) no_int) }
-{
-    cells.clear();
-    cells.reserve(words)?;
-    for cell in first {
-        cells.push_reserved(*cell);
-    }
-    for _ in first.len()..words {
-        cells.push_reserved(Cell::Int(0));
-    }
-    Ok(())
-}
-
-// Sets cells to these, and to 0 from there on.
-#[inline(always)]
-fn refill(cells: &mut [Cell], first: &[Cell])
-    requires { length first.now ≤ length cells.old }
-    ensures { cells.new ≡ first.now ++ replicate (length cells.old - length first.now) no_int }
-{
-    for index in 0..first.len() {
-        cells[index] = first[index];
-    }
-    cells[first.len()..].fill(Cell::Int(0));
 }
 
 // Makes a new frame out of one that is gone. Mostly it has as many cells as that one had.
@@ -197,87 +100,87 @@ fn refill(cells: &mut [Cell], first: &[Cell])
 fn renew(
     live: &mut Live,
     parent: Option<FrameId>,
-    first: &[Cell],
+    first: &CellPart,
     words: usize,
 ) -> Result<(), NoMemory>
     requires { length first.now ≤ words }
     ensures { OnOk result (IsNew parent (first.now ++ replicate (words - length first.now) no_int) live.new) }
 {
-    if live.cells.len() == words {
-        refill(live.cells.as_mut_slice(), first);
-    } else {
-        fill(&mut live.cells, first, words)?;
-    }
+    live.cells.fill(first, words)?;
     live.parent = parent;
     live.over = false;
     live.children = 0;
     Ok(())
 }
 
-// Makes a new frame in a slot that holds none, or in one behind the last.
+// Adds a new frame where none was left, and gives its number.
 #[inline(never)]
 fn add(
-    slots: &mut Vec<Option<Live>>,
+    lives: &mut BirthTable<Live>,
     alloc: Global,
-    place: usize,
     parent: Option<FrameId>,
-    first: &[Cell],
+    first: &CellPart,
     words: usize,
-) -> Result<(), NoMemory>
-    requires place { place ≤ length slots.old.items }
+) -> Result<u64, NoMemory>
     requires first { length first.now ≤ words }
-    ensures made { OnOk result (IsSomeAnd (live_at slots.new.items place)
-        (IsNew parent (first.now ++ replicate (words - length first.now) no_int))) }
-    ensures below { AreSameBelow place slots.old.items slots.new.items }
+    requires room { 0 < lives.old.spare }
+    ensures number { IfOk result (λ number. number ≡ length lives.old.items) }
+    ensures ok { OnOk result (AddsNew parent (first.now ++ replicate (words - length first.now) no_int) lives.old.items lives.new.items) }
+    ensures err { OnErr result (lives.new.items ≡ lives.old.items) }
 {
-    let mut cells = Vec::new(alloc);
-    fill(&mut cells, first, words)?;
-    let live = Live {
+    let mut cells = Cells::new(alloc);
+    cells.fill(first, words)?;
+    Ok(lives.push_reserved(Live {
         parent,
         cells,
         over: false,
         children: 0,
-    };
-    if place < slots.len() {
-        slots[place] = Some(live);
-    } else {
-        slots.push(Some(live))?;
-    }
-    Ok(())
+    }))
 }
 
-// Makes a new frame at that place, from which on all are free.
+// Adds a new frame, mostly in the place of one that is gone, and gives its number.
 #[inline(always)]
-fn make_at(
-    slots: &mut Vec<Option<Live>>,
+fn make(
+    lives: &mut BirthTable<Live>,
     alloc: Global,
-    place: usize,
     parent: Option<FrameId>,
-    first: &[Cell],
+    first: &CellPart,
     words: usize,
-) -> Result<(), NoMemory>
-    requires place { place ≤ length slots.old.items }
+) -> Result<u64, NoMemory>
     requires first { length first.now ≤ words }
-    ensures made { OnOk result (IsSomeAnd (live_at slots.new.items place)
-        (IsNew parent (first.now ++ replicate (words - length first.now) no_int))) }
-    ensures below { AreSameBelow place slots.old.items slots.new.items }
+    requires room { 0 < lives.old.spare }
+    ensures number { IfOk result (λ number. number ≡ length lives.old.items) }
+    ensures ok { OnOk result (AddsNew parent (first.now ++ replicate (words - length first.now) no_int) lives.old.items lives.new.items) }
+    ensures err { OnErr result (lives.new.items ≡ lives.old.items) }
 {
-    if place < slots.len() {
-        if let Some(live) = &mut slots[place] {
-            return renew(live, parent, first, words);
-        }
+    if !lives.has_left() {
+        return add(lives, alloc, parent, first, words);
     }
-    add(slots, alloc, place, parent, first, words)
+    renew(lives.left_mut(), parent, first, words)?;
+    Ok(lives.push_left())
 }
 
-// Sets so many cells from that one on to 0.
-fn clear_cells(cells: &mut [Cell], slot: u32, len: u32)
-    requires { slot + len ≤ length cells.old }
-    ensures { cells.new ≡ cleared slot len cells.old }
+// Ends the life of a frame whose list of cells is long, so that it is not left for the next one.
+#[inline(never)]
+fn drop_long(lives: &mut BirthTable<Live>, alloc: Global, frame: FrameId)
+    requires { IsSome (live_at lives.old.items frame.number) }
+    ensures { lives.new.items ≡ slice_set lives.old.items frame.number None }
 {
-    for index in 0..len as usize {
-        cells[slot as usize + index] = Cell::Int(0);
+    lives.value_mut(frame.number).cells = Cells::new(alloc);
+    lives.give_back(frame.number);
+}
+
+// Ends the life of a frame. Its list of cells is left for the next one, where that has room for few.
+#[inline(always)]
+fn drop_frame(lives: &mut BirthTable<Live>, alloc: Global, frame: FrameId, room: usize)
+    requires { IsSome (live_at lives.old.items frame.number) }
+    ensures { lives.new.items ≡ slice_set lives.old.items frame.number None }
+{
+    if room > SPARE_CELLS {
+        drop_long(lives, alloc, frame);
+        return;
     }
+    lives.give_back(frame.number);
 }
 
 impl Table {
@@ -286,9 +189,7 @@ impl Table {
         ensures { result ≡ [] }
     {
         Table {
-            places: Vec::new(alloc),
-            slots: Vec::new(alloc),
-            top: 0,
+            lives: BirthTable::new(alloc),
             words: 0,
         }
     }
@@ -307,7 +208,7 @@ impl Table {
         &mut self,
         alloc: Global,
         parent: Option<FrameId>,
-        first: &[Cell],
+        first: &CellPart,
         words: u32,
     ) -> Result<FrameId, NoMemory>
         requires parent { LivesIn self.old parent }
@@ -318,18 +219,10 @@ impl Table {
             ++ Some (new_frame parent (first.now ++ replicate (words - length first.now) no_int)) ∷ []) }
         ensures err { OnErr result (self.new ≡ self.old) }
     {
-        let number = self.places.len() as u64;
-        let place = self.top;
-        if place >= NO_PLACE as usize {
-            return Err(NoMemory);
-        }
-        let outer = place_or_none(&self.places, parent);
-        self.places.reserve(1)?;
-        make_at(&mut self.slots, alloc, place, parent, first, words as usize)?;
-        self.places.push_reserved(place as u32);
-        self.top = place + 1;
+        self.lives.reserve(1)?;
+        let number = make(&mut self.lives, alloc, parent, first, words as usize)?;
         self.words += words as u64 + HEAD_WORDS;
-        count_in(&mut self.slots, outer);
+        count_in(&mut self.lives, parent, number);
         Ok(FrameId { number })
     }
 
@@ -338,18 +231,19 @@ impl Table {
         requires { IsSome (at self.now frame.number) }
         ensures { result ≡ parent_or frame (at self.now frame.number) }
     {
-        match live_of(&self.places, &self.slots, frame).parent {
+        match live_of(&self.lives, frame).parent {
             Some(parent) => parent,
             None => frame,
         }
     }
 
     /// A cell.
+    #[inline(always)]
     pub fn cell(&self, frame: FrameId, slot: usize) -> Cell
         requires { slot < length (no_cells (at self.now frame.number)) }
         ensures { result ≡ slice_index_or (no_cells (at self.now frame.number)) slot no_int }
     {
-        live_of(&self.places, &self.slots, frame).cells[slot]
+        live_of(&self.lives, frame).cells.get(slot)
     }
 
     /// Whether a frame has that cell.
@@ -357,31 +251,43 @@ impl Table {
         requires { IsSome (at self.now frame.number) }
         ensures { result ≡ nat_lt slot (length (no_cells (at self.now frame.number))) }
     {
-        slot < live_of(&self.places, &self.slots, frame).cells.len()
+        slot < live_of(&self.lives, frame).cells.len()
     }
 
-    /// A cell, and 0 where it is not there.
-    pub fn cell_or_zero(&self, frame: FrameId, slot: usize) -> Cell
+    /// The int that a cell holds, and 0 where it holds none or is not there.
+    #[inline(always)]
+    pub fn int_or_zero(&self, frame: FrameId, slot: usize) -> i64
         requires { IsSome (at self.now frame.number) }
-        ensures { result ≡ slice_index_or (no_cells (at self.now frame.number)) slot no_int }
+        ensures { result ≡ int_in (slice_index_or (no_cells (at self.now frame.number)) slot no_int) }
     {
-        if self.has_cell(frame, slot) {
-            self.cell(frame, slot)
-        } else {
-            Cell::Int(0)
-        }
+        let ints = live_of(&self.lives, frame).cells.ints();
+        if slot < ints.len() { ints[slot] } else { 0 }
     }
 
-    /// Sets a cell.
-    pub fn set_cell(&mut self, frame: FrameId, slot: usize, cell: Cell)
+    /// Sets a cell to an int.
+    #[inline(always)]
+    pub fn set_int(&mut self, frame: FrameId, slot: usize, value: i64)
         requires { slot < length (no_cells (at self.old frame.number)) }
         ensures { let x = at self.old frame.number in
-            self.new ≡ slice_set self.old frame.number (some_with (slice_set (no_cells x) slot cell) x) }
+            self.new ≡ slice_set self.old frame.number (some_with (slice_set (no_cells x) slot (c.Int value)) x) }
     {
-        match &mut self.slots[place_of(&self.places, frame)] {
-            Some(live) => live.cells[slot] = cell,
-            None => unreachable!(),
-        }
+        self.lives
+            .value_mut(frame.number)
+            .cells
+            .set_int(slot, value);
+    }
+
+    /// Sets a cell to a block. After want of memory all is as before.
+    pub fn set_block(&mut self, frame: FrameId, slot: usize, block: BlockId) -> Result<(), NoMemory>
+        requires { slot < length (no_cells (at self.old frame.number)) }
+        ensures ok { OnOk result (let x = at self.old frame.number in
+            self.new ≡ slice_set self.old frame.number (some_with (slice_set (no_cells x) slot (c.Block block)) x)) }
+        ensures err { OnErr result (self.new ≡ self.old) }
+    {
+        self.lives
+            .value_mut(frame.number)
+            .cells
+            .set_block(slot, block)
     }
 
     /// Sets so many cells from that one on to 0.
@@ -391,10 +297,8 @@ impl Table {
         ensures { let x = at self.old frame.number in
             self.new ≡ slice_set self.old frame.number (some_with (cleared slot len (no_cells x)) x) }
     {
-        match &mut self.slots[place_of(&self.places, frame)] {
-            Some(live) => clear_cells(&mut live.cells, slot, len),
-            None => unreachable!(),
-        }
+        let live = self.lives.value_mut(frame.number);
+        live.cells.clear(slot as usize, len as usize);
     }
 
     /// Notes that the activation or body of a frame has ended.
@@ -403,10 +307,7 @@ impl Table {
         ensures ended { self.new ≡ slice_set self.old frame.number (some_over (at self.old frame.number)) }
         ensures rooted { IsRooted self.new }
     {
-        match &mut self.slots[place_of(&self.places, frame)] {
-            Some(live) => live.over = true,
-            None => unreachable!(),
-        }
+        self.lives.value_mut(frame.number).over = true;
     }
 
     /// Whether the end of a frame has come and no frame that lives lies in it.
@@ -414,37 +315,57 @@ impl Table {
         requires { IsSome (at self.now frame.number) }
         ensures { result ≡ is_done self.now frame.number }
     {
-        let live = live_of(&self.places, &self.slots, frame);
+        let live = live_of(&self.lives, frame);
         live.over && live.children == 0
     }
 
-    /// Whether a frame lies in none, and no frame that lives lies in it.
+    /// Takes a frame away that lies in none and in which none lives. It says whether it is such a one.
     #[inline(always)]
-    pub fn is_alone(&self, frame: FrameId) -> bool
-        requires { IsSome (at self.now frame.number) }
-        ensures { result ≡ is_alone self.now frame.number }
+    pub fn take_alone(&mut self, alloc: Global, frame: FrameId) -> bool
+        requires { IsSome (at self.old frame.number) }
+        ensures alone { result ≡ is_alone self.old frame.number }
+        ensures gone { result ≡ true → self.new ≡ slice_set self.old frame.number None }
+        ensures rooted { result ≡ true → IsRooted self.new }
+        ensures stays { result ≡ false → self.new ≡ self.old }
     {
-        let live = live_of(&self.places, &self.slots, frame);
-        live.parent.is_none() && live.children == 0
+        let live = live_of(&self.lives, frame);
+        if live.parent.is_some() || live.children != 0 {
+            return false;
+        }
+        let room = live.cells.room();
+        self.words -= live.cells.len() as u64 + HEAD_WORDS;
+        drop_frame(&mut self.lives, alloc, frame, room);
+        true
     }
 
     /// Takes a frame away in which none lives, and gives its parent.
-    #[inline(always)]
-    pub fn take_away(&mut self, frame: FrameId) -> Option<FrameId>
+    pub fn take_away(&mut self, alloc: Global, frame: FrameId) -> Option<FrameId>
         requires lives { IsSome (at self.old frame.number) }
         requires childless { children_of self.old frame.number ≡ 0 }
         ensures parent { result ≡ parent_at (at self.old frame.number) }
         ensures gone { self.new ≡ slice_set self.old frame.number None }
         ensures rooted { IsRooted self.new }
     {
-        let place = place_of(&self.places, frame);
-        let live = live_of(&self.places, &self.slots, frame);
+        let live = live_of(&self.lives, frame);
         let parent = live.parent;
+        let room = live.cells.room();
         self.words -= live.cells.len() as u64 + HEAD_WORDS;
-        self.places[frame.number as usize] = NO_PLACE;
-        let outer = place_or_none(&self.places, parent);
-        count_out(&mut self.slots, outer);
-        self.top = free(&mut self.slots, place, self.top);
+        drop_frame(&mut self.lives, alloc, frame, room);
+        count_out(&mut self.lives, parent);
         parent
+    }
+
+    /// Whether looks at a frame are quick now. Any answer is right.
+    #[inline(always)]
+    pub fn is_near(&self, frame: FrameId) -> bool {
+        self.lives.is_near(frame.number)
+    }
+
+    /// Makes looks at a frame quick, until another is asked for.
+    #[inline(always)]
+    pub fn look_at(&mut self, frame: FrameId)
+        ensures { self.new ≡ self.old }
+    {
+        self.lives.look_at(frame.number);
     }
 }

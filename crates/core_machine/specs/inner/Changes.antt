@@ -1,5 +1,5 @@
 -- What an instruction changes of a running core.
-use Rattle.std.specs.Prelude.{◌≡◌, ℕ, [], Option, Some, None}
+use Rattle.std.specs.Prelude.{◌≡◌, ℕ, [], ◌∷◌, ◌++◌, length, Option, Some, None, true, false, slice_set}
 use Rattle.ac_base.specs.declared.entry.Entry.{Entry}
 use Rattle.ac_base.specs.declared.entry.Event.{Event}
 use Rattle.work_item.specs.declared.ids.Item.{Item}
@@ -7,7 +7,9 @@ use Rattle.core_scheduler.specs.Schedule.{Schedule, at_front}
 use Rattle.core_state.specs.Shared.{with_entry}
 use Rattle.core_state.specs.Arrivals.{Arrival, arrives}
 use Rattle.stack_code.specs.declared.instr.Instr.{Instr}
+use Rattle.stack_code.specs.declared.instr.Instr.TheVariants as i
 use Rattle.code_meaning.specs.Machine.{arrived, begin, first_item}
+use Rattle.thread_table.specs.Table.{Table, HasPlace}
 use Rattle.core_machine.specs.declared.running.Running.{Running}
 use Rattle.core_machine.specs.State.{shared_of, flat_of, state_of}
 
@@ -18,11 +20,19 @@ pub record IsSameCode (before after : Running) : Type 0 where
   pub bound : after.bound ≡ before.bound
 
 -- these stay, and the journal
+pub record KeepsCode (before after : Running) : Type 0 where
+  pub code : after.code.now ≡ before.code.now
+  pub core : after.core ≡ before.core
+  pub bound : after.bound ≡ before.bound
+  pub journal : after.journal.entries ≡ before.journal.entries
+
+-- and so does which threads have their places
 pub record Keeps (before after : Running) : Type 0 where
   pub code : after.code.now ≡ before.code.now
   pub core : after.core ≡ before.core
   pub bound : after.bound ≡ before.bound
   pub journal : after.journal.entries ≡ before.journal.entries
+  pub lives : after.threads.lives ≡ before.threads.lives
 
 -- whether the core has ended, which threads run and are ready, and whether a value is still to be put onto operands, stays
 pub record Continues (before after : Running) : Type 0 where
@@ -45,10 +55,23 @@ abbrev pub with_woken : Schedule → Option Item → Schedule
 with_woken s None = s
 with_woken s (Some t) = at_front s t
 
--- nothing has changed that the code's meaning sees
+-- which threads have their places after this instruction of that one: a thread that starts has the next number, and its place; one that
+-- ends has its place no more
+abbrev pub PlacesAfter : Instr → Item → Table → Table → Type 0
+PlacesAfter (i.Async slots to) t before after =
+    (after.lives ≡ before.lives ++ true ∷ []) × HasPlace after (record { number = length before.threads })
+PlacesAfter i.End t before after = after.lives ≡ slice_set before.lives t.number false
+PlacesAfter instr t before after = after.lives ≡ before.lives
+
+-- where the core has not ended by it
+abbrev pub Places : Running → Instr → Running → Type 0
+Places before instr after = after.ended ≡ None → PlacesAfter instr (item_of before.schedule.running) before.threads after.threads
+
+-- nothing has changed that the code's meaning sees, nor which threads have their places
 pub record Stays (before after : Running) : Type 0 where
   pub flat : flat_of after ≡ flat_of before
   pub ended : after.ended ≡ before.ended
+  pub lives : after.threads.lives ≡ before.threads.lives
 
 -- ---- with the address of its running thread held apart
 
@@ -73,4 +96,5 @@ pub record Enters (before : Running) (event : Event) (stamp : ℕ) (after : Runn
   pub fits : arrives before.journal.entries before.frames before.outstanding.operations event ≡ Some arrival
   pub flat : flat_of after ≡ arrived (flat_of before) (with_entry (shared_of before) (entry_now before event stamp) []) arrival
   pub ended : after.ended ≡ before.ended
+  pub lives : after.threads.lives ≡ before.threads.lives
   pub same : IsSameCode before after

@@ -17,6 +17,7 @@ pub record Makes (before : Running) (block : BlockId) (event : Event) (stamp : �
   pub flat : flat_of after ≡
       arrived (marked (flat_of before) block) (with_entry (shared_of before) (entry_now before event stamp) []) arrival
   pub ended : after.ended ≡ before.ended
+  pub lives : after.threads.lives ≡ before.threads.lives
   pub same : IsSameCode before after
 
 -- what the outcome makes of the oldest operation within a block that its peer has not begun

@@ -54,7 +54,7 @@ pub record HasCall (code : Parts) (operands : List Cell) (number count : ℕ) : 
   pub room : count ≤ function.words
   pub same : arguments function.params (reverse (take count operands)) ≡ reverse (take count operands)
 
--- the thread that runs has its place in the table
+-- the thread that runs has a number of the table
 abbrev pub IsListed : Flat → Type 0
 IsListed m = IfSome m.running (λ (t : Item). t.number < length m.threads)
 
@@ -62,7 +62,6 @@ IsListed m = IfSome m.running (λ (t : Item). t.number < length m.threads)
 pub record HasRequest (m : Flat) : Type 0 where
   pub three : 3 ≤ length m.current.operands
   pub home : HomeLives m.store (first_place m.current.operands).home
-  pub listed : IsListed m
 
 -- the innermost block lives
 pub record HasBlock (m : Flat) : Type 0 where
@@ -75,12 +74,11 @@ pub record HasBlock (m : Flat) : Type 0 where
 abbrev pub IsChildless : List (Option Block) → BlockId → Type 0
 IsChildless blocks b = (c : BlockId) (x : Block) → block_at blocks c ≡ Some x → x.parent ≢ Some b
 
--- a thread is ready, and the first of those has its place
+-- a thread is ready
 pub record HasNext (m : Flat) : Type 0 where
   pub next : Item
   pub later : List Item
   pub is : m.ready ≡ next ∷ later
-  pub listed : next.number < length m.threads
 
 -- a block into which the thread can go
 pub record CanEnter (m : Flat) (slot : ℕ) : Type 0 where
@@ -91,7 +89,6 @@ pub record CanEnter (m : Flat) (slot : ℕ) : Type 0 where
 pub record CanFinish (m : Flat) : Type 0 where
   pub has : HasBlock m
   pub childless : has.block.count ≡ 0 → IsChildless m.blocks has.number
-  pub listed : IsListed m
 
 pub record CanStart (m : Flat) : Type 0 where
   pub has : HasBlock m
@@ -104,7 +101,6 @@ pub record CanEnd (m : Flat) : Type 0 where
   pub some : 0 < has.block.count
   pub childless : has.block.count ≡ 1 → has.block.waits ≡ true → IsChildless m.blocks has.number
   pub frame : IsGoing m.store m.current.frame
-  pub listed : IsListed m
 
 -- the instruction is one on blocks, threads and operations
 abbrev pub is_on_threads : Instr → Bool
@@ -171,9 +167,9 @@ Finds code m (i.Enter slot) = CanEnter m slot
 Finds code m (i.Finish slot) = CanFinish m
 Finds code m (i.Async slots to) = CanStart m
 Finds code m i.End = CanEnd m
-Finds code m i.Yield = IsListed m
+Finds code m i.Yield = Unit {0}
 Finds code m (i.Cancel level slot) = HasCell m level slot
-Finds code m (i.Send channel) = HasMessage m × IsListed m
-Finds code m (i.Recv channel) = HasReference m × IsListed m
+Finds code m (i.Send channel) = HasMessage m
+Finds code m (i.Recv channel) = HasReference m
 Finds code m (i.Read file) = HasRequest m
 Finds code m (i.Write file) = HasRequest m

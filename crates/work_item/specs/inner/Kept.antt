@@ -1,6 +1,6 @@
 -- The frames as they are kept, with their words and counts of children.
-use Rattle.std.specs.Prelude.{◌≡◌, ℕ, ◌+◌, ◌-◌, ◌<◌, ◌≤◌, ◌^◌, List, length, Option, Some, None, IsSome, IsSomeAnd}
-use Rattle.std.specs.Prelude.{IfSome, is_none, Bool, false, ◌&&◌, nat_eq, nat_lt, if◌then◌else◌, map, slice_index_or, slice_set}
+use Rattle.std.specs.Prelude.{◌≡◌, ℕ, ◌+◌, ◌-◌, ◌<◌, ◌^◌, List, [], ◌∷◌, ◌++◌, Option, Some, None, IsSome, IsSomeAnd}
+use Rattle.std.specs.Prelude.{IfSome, is_none, Bool, false, ◌&&◌, nat_eq, map, slice_index_or, slice_set}
 use Rattle.work_item.specs.Store.{Frame, all_words}
 use Rattle.work_item.specs.declared.ids.FrameId.{FrameId}
 use Rattle.work_item.specs.declared.cell.Cell.{Cell}
@@ -40,42 +40,13 @@ IsRooted frames =
 
 abbrev pub frame_of : Option Live → Option Frame
 frame_of None = None
-frame_of (Some x) = Some (record { parent = x.parent; cells = x.cells.items; over = x.over })
+frame_of (Some x) = Some (record { parent = x.parent; cells = x.cells; over = x.over })
 
 abbrev pub frames_of : List (Option Live) → List (Option Frame)
 frames_of lives = map frame_of lives
 
 abbrev pub live_at : List (Option Live) → ℕ → Option Live
 live_at lives number = slice_index_or lives number None
-
--- ---- where they lie
-
--- what lies at a place
-abbrev pub in_place : List (Option Live) → Option ℕ → Option Live
-in_place slots None = None
-in_place slots (Some place) = live_at slots place
-
--- the greatest number of 32 bits is no place
-abbrev pub given_place : ℕ → Option ℕ
-given_place place = if nat_lt place 4294967295 then Some place else None
-
-abbrev pub places_of : List ℕ → List (Option ℕ)
-places_of places = map given_place places
-
--- the frames by number
-abbrev pub lives_of : List (Option ℕ) → List (Option Live) → List (Option Live)
-lives_of places slots = map (in_place slots) places
-
--- the place of a frame, if there is one
-abbrev pub place_at : List (Option ℕ) → Option FrameId → Option ℕ
-place_at places None = None
-place_at places (Some f) = slice_index_or places f.number None
-
--- at each place that a number has lies a frame, and no two numbers have the same
-pub record ArePlaces (places : List (Option ℕ)) (slots : List (Option Live)) : Type 0 where
-  pub taken : (number place : ℕ) → slice_index_or places number None ≡ Some place → IsSome (live_at slots place)
-  pub apart : (number other place : ℕ) → slice_index_or places number None ≡ Some place
-      → slice_index_or places other None ≡ Some place → number ≡ other
 
 -- each count of children is that of these frames
 abbrev pub Counts : List (Option Live) → List (Option Frame) → Type 0
@@ -86,35 +57,7 @@ pub record IsSound (lives : List (Option Live)) (words : ℕ) : Type 0 where
   pub counts : Counts lives (frames_of lives)
   pub words_are : words ≡ all_words (frames_of lives)
 
--- the frames lie at places of their own, below the top; what lies elsewhere is of frames that are gone
-pub record IsKept (places : List (Option ℕ)) (slots : List (Option Live)) (top words : ℕ) : Type 0 where
-  pub placed : ArePlaces places slots
-  pub low : (number place : ℕ) → slice_index_or places number None ≡ Some place → place < top
-  pub fits : top ≤ length slots
-  pub sound : IsSound (lives_of places slots) words
-
--- ---- slots that are taken and freed
-
--- a frame that has just been made, as it is kept
-pub record IsNew (parent : Option FrameId) (cells : List Cell) (live : Live) : Type 0 where
-  pub parent_is : live.parent ≡ parent
-  pub cells_are : live.cells.items ≡ cells
-  pub goes_on : live.over ≡ false
-  pub childless : live.children ≡ 0
-
--- below a place all is as it was, and no slot was taken away
-pub record AreSameBelow (top : ℕ) (slots now : List (Option Live)) : Type 0 where
-  pub same : (place : ℕ) → place < top → live_at now place ≡ live_at slots place
-  pub long : length slots ≤ length now
-
--- a place is free, the others are as they were, and those that were taken below `top` lie below `low`
-pub record IsFreed (slots : List (Option Live)) (free top : ℕ) (now : List (Option Live)) (low : ℕ) : Type 0 where
-  pub same : (place : ℕ) → (free ≡ place → ⊥) → live_at now place ≡ live_at slots place
-  pub long : length now ≡ length slots
-  pub lower : low ≤ top
-  pub below : (place : ℕ) → (free ≡ place → ⊥) → IsSome (live_at slots place) → place < top → place < low
-
--- ---- counts
+-- ---- one child more or less
 
 abbrev pub one_more : Option Live → Option Live
 one_more None = None
@@ -124,18 +67,31 @@ abbrev pub one_less : Option Live → Option Live
 one_less None = None
 one_less (Some x) = Some (record x { children = x.children - 1 })
 
--- one child more is counted at the place of the parent, if there is one
-abbrev pub with_more : List (Option Live) → Option ℕ → List (Option Live)
+-- one child more is counted at the parent, if there is one
+abbrev pub with_more : List (Option Live) → Option FrameId → List (Option Live)
 with_more lives None = lives
-with_more lives (Some place) = slice_set lives place (one_more (live_at lives place))
+with_more lives (Some f) = slice_set lives f.number (one_more (live_at lives f.number))
 
-abbrev pub with_less : List (Option Live) → Option ℕ → List (Option Live)
+abbrev pub with_less : List (Option Live) → Option FrameId → List (Option Live)
 with_less lives None = lives
-with_less lives (Some place) = slice_set lives place (one_less (live_at lives place))
+with_less lives (Some f) = slice_set lives f.number (one_less (live_at lives f.number))
 
 -- the parent, if there is one, lives and can count one more, or one less
-abbrev pub CanCountMore : List (Option Live) → Option ℕ → Type 0
-CanCountMore lives parent = IfSome parent (λ place. IsSomeAnd (live_at lives place) (λ x. x.children + 1 < 2 ^ 64))
+abbrev pub CanCountMore : List (Option Live) → Option FrameId → Type 0
+CanCountMore lives parent = IfSome parent (λ f. IsSomeAnd (live_at lives f.number) (λ x. x.children + 1 < 2 ^ 64))
 
-abbrev pub CanCountLess : List (Option Live) → Option ℕ → Type 0
-CanCountLess lives parent = IfSome parent (λ place. IsSomeAnd (live_at lives place) (λ x. 0 < x.children))
+abbrev pub CanCountLess : List (Option Live) → Option FrameId → Type 0
+CanCountLess lives parent = IfSome parent (λ f. IsSomeAnd (live_at lives f.number) (λ x. 0 < x.children))
+
+-- ---- a frame that is added
+
+-- a frame that has just been made, as it is kept
+pub record IsNew (parent : Option FrameId) (cells : List Cell) (live : Live) : Type 0 where
+  pub parent_is : live.parent ≡ parent
+  pub cells_are : live.cells ≡ cells
+  pub goes_on : live.over ≡ false
+  pub childless : live.children ≡ 0
+
+-- such a frame comes behind the others
+abbrev pub AddsNew : Option FrameId → List Cell → List (Option Live) → List (Option Live) → Type 0
+AddsNew parent cells lives now = (live : Live) × IsNew parent cells live × (now ≡ lives ++ Some live ∷ [])

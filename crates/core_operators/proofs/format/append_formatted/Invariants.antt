@@ -1,10 +1,9 @@
-use Rattle.std.proofs.Common.{◌≡◌, ◌++◌, drop, map, List, ℕ}
+use Rattle.std.proofs.Common.{◌≡◌, ◌++◌, drop, List, ℕ}
 use Rattle.core_state.specs.Shared.{formatted, formatted_from}
-use Rattle.work_item.specs.Store.{int_in}
 use Rattle.core_operators.proofs.format.append_formatted.Given as goal
 
 abbrev pub invariant-loop-byte : goal.invariant-loop-byte
 invariant-loop-byte l = record {
-  whole : l.output.items ++ formatted_from l.scan.directive (drop l.byte-index l.text) (map int_in l.scan.values.now) ≡ l.fn.output.items ++ formatted l.text (map int_in l.fn.values);
+  whole : l.output.items ++ formatted_from l.scan.directive (drop l.byte-index l.text) l.scan.values.now ≡ l.fn.output.items ++ formatted l.text l.fn.values;
   front : (added : List ℕ) × (l.output.items ≡ l.fn.output.items ++ added);
 }

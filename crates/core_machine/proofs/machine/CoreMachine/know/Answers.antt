@@ -2,7 +2,7 @@ use Rattle.std.proofs.Common.{subst, IsSome}
 use Rattle.std.specs.Prelude.{find}
 use Rattle.ac_base.specs.declared.entry.Event.TheVariants as event
 use Rattle.cancel_scope.specs.Outstanding.{is_offered}
-use Rattle.core_machine.proofs.Points.{come_less, come_sound, has_come, operations_there, roomed_by}
+use Rattle.core_machine.proofs.Points.{come_less, come_sound, has_come, operations_there, point_by, roomed_by}
 use Rattle.core_machine.proofs.machine.CoreMachine.know.Goals as goal
 
 pub know-requires-clause-room : goal.know-requires-clause-room
@@ -17,6 +17,9 @@ know-requires-clause-settled c = (roomed_by c.self.inside.running c.args.self.no
 pub know-requires-clause-some : goal.know-requires-clause-some
 know-requires-clause-some c = subst (λ os. IsSome (find (is_offered c.args.link c.args.number) os)) (operations_there c.self.inside.running c.args.self.now c.self.view_is c.requires.point)
     c.requires.some
+
+pub know-requires-clause-places : goal.know-requires-clause-places
+know-requires-clause-places c = c.self.invariant.places (point_by c.self.inside.running c.args.self.now c.self.view_is c.requires.point).0
 
 pub invariant_of-self : goal.invariant_of-self
 invariant_of-self c = come_sound c.self.inside.running c.know.new.self (event.Know c.args.link c.args.number) c.args.stamp c.args.self.now c.self.view_is c.self.invariant c.requires.point

@@ -51,7 +51,7 @@ stands c =
 
 pub invariant_of-result : goal.invariant_of-result
 invariant_of-result c =
-    sound_first (first c) c.begin-entered.result.now c.begin-entered.ensures c.new-3.ensures (stands c) (begun c) c.starts.ensures.valid
+    sound_first (first c) c.begin-entered.result.now c.begin-entered.ensures c.new-3.ensures (stands c) (begun c) c.starts.ensures.valid c.in_ok-threads.ensures.lives
 
 pub returns-clause-first : goal.returns-clause-first
 returns-clause-first c = first_of (first c) c.begin-entered.result.now c.begin-entered.ensures c.new-3.ensures (stands c) (begun c)

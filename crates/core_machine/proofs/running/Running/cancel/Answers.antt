@@ -5,6 +5,7 @@ use Rattle.code_meaning.specs.Machine.{is_inside}
 use Rattle.core_machine.specs.State.{flat_of}
 use Rattle.core_machine.specs.Tried.{tried_within}
 use Rattle.core_machine.proofs.CalledOff.{goes_past, none_begun, tries_oldest, asks_of}
+use Rattle.core_machine.proofs.Places.{place_at}
 use Rattle.core_machine.proofs.Rounds.{none_within, oldest_found, oldest_without}
 use Rattle.core_machine.proofs.running.Running.cancel.Goals as goal
 
@@ -24,6 +25,9 @@ returns-in-Offered-clause-asks c asks =
     subst (λ b. IsSome (tried_within (flat_of m) (Some b))) c.block_in-block.ensures
     (asks_of (flat_of m) block c.get-operation.result.now c.in-Offered.number
     (oldest_found test m.outstanding.operations c.in-Some.place c.get-operation.result.now (sym c.oldest_within.ensures ∙ c.in-Some.is) c.get-operation.ensures) c.in-Offered.is)
+
+pub resume-requires-clause-place : goal.resume-requires-clause-place
+resume-requires-clause-place c = place_at c.args.self.now c.requires.places c.in-Some.place c.get-operation.result.now c.get-operation.ensures
 
 pub returns-in_ok-reserve-in-Waiting-clause-ok : goal.returns-in_ok-reserve-in-Waiting-clause-ok
 returns-in_ok-reserve-in-Waiting-clause-ok c done =

@@ -9,6 +9,9 @@ pub unreachable-requires-in_default-oldest_within : goal.unreachable-requires-in
 unreachable-requires-in_default-oldest_within c =
     asks_place c.args.self.now c.requires.asks c.in-Some.block (sym c.cancels.ensures ∙ c.in-Some.is) (sym c.oldest_within.ensures ∙ c.in_default-oldest_within.is)
 
+pub end_tried-requires-clause-places : goal.end_tried-requires-clause-places
+end_tried-requires-clause-places c = c.requires.sound.places (asks_on c.args.self.now c.requires.asks)
+
 pub returns-then-is_request : goal.returns-then-is_request
 returns-then-is_request c =
     let m = c.args.self.now in

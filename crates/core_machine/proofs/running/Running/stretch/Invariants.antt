@@ -2,7 +2,7 @@ use Rattle.std.proofs.Common.{◌≡◌, ◌≤◌, ◌<◌, ◌^◌, None, Some
 use Rattle.core_machine.specs.State.{flat_of, state_of, IsSound}
 use Rattle.core_machine.specs.Tried.{tried_of}
 use Rattle.core_machine.specs.inner.Left.{left_of}
-use Rattle.core_machine.specs.inner.Changes.{Keeps, at_address}
+use Rattle.core_machine.specs.inner.Changes.{KeepsCode, at_address}
 use Rattle.core_machine.specs.inner.Led.{IsLed}
 use Rattle.core_machine.specs.inner.Needs.{Finds}
 use Rattle.core_machine.proofs.running.Running.stretch.Given as goal
@@ -10,7 +10,7 @@ use Rattle.core_machine.proofs.running.Running.stretch.Given as goal
 abbrev pub invariant-steps : goal.invariant-steps
 invariant-steps l = record {
   led : IsLed l.fn.self (at_address l.self l.address);
-  keeps : Keeps l.fn.self l.self;
+  keeps : KeepsCode l.fn.self l.self;
   sound : IsSound (at_address l.self l.address);
   running : l.self.ended ≡ None;
   runs : IsSome l.self.schedule.running;

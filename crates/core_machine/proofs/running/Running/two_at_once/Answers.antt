@@ -6,7 +6,7 @@ use Rattle.core_machine.specs.inner.Changes.{Does, at_address}
 use Rattle.core_machine.specs.inner.Led.{IsLed, pushed}
 use Rattle.core_machine.specs.inner.Left.{left_of}
 use Rattle.core_machine.proofs.Pushed.{at_push}
-use Rattle.core_machine.proofs.Sound.{keeps_at}
+use Rattle.core_machine.proofs.Sound.{keeps_at, keeps_code}
 use Rattle.core_machine.proofs.running.Running.two_at_once.Goals as goal
 
 pub bounds-instrs-address : goal.bounds-instrs-address
@@ -41,8 +41,9 @@ after_both c done =
     c.args._ranks.now c.requires.ranked c.args.instrs.now c.requires.instrs in
     let fits : SFits w64 c.in-Push.value = search rules in
     let next = slice_index_or c.args.instrs.now (m.place + 1) i.Step in
-    n.two after (subst (λ v. Does (pushed m v) next after) (to_z-of_z w64 c.in-Push.value fits) (c.push_and_apply.ensures.does done))
-    (keeps_at c.args.self.now c.push_and_apply.new.self c.args.address.now c.push_and_apply.new.address c.push_and_apply.ensures.keeps)
+    let kept = keeps_code c.args.self.now c.push_and_apply.new.self c.push_and_apply.ensures.keeps in
+    n.two after (subst (λ v. Does (pushed m v) next after) (to_z-of_z w64 c.in-Push.value fits) (c.push_and_apply.ensures.does done)) (c.push_and_apply.ensures.places done)
+    (keeps_at c.args.self.now c.push_and_apply.new.self c.args.address.now c.push_and_apply.new.address kept)
 
 pub returns-clause-led : goal.returns-clause-led
 returns-clause-led c done = (after_both c done).0

@@ -4,6 +4,7 @@ use Rattle.thread_table.proofs.operands.Operands.discard.Goals as goal
 
 pub returns : goal.returns
 returns c =
-    let items = c.self.inside.cells.items in
-    let below : c.len.result - c.args.count ≡ length items - c.args.count = omega (arith, c.len.ensures, c.self.inside.cells.ok.0) in
-    ap reverse c.truncate.ensures.items ∙ left items c.args.self.now (c.len.result - c.args.count) c.args.count c.self.view_is c.requires below
+    let cells = c.self.inside.cells in
+    let end = c.len.result - c.args.count in
+    let lies : end ≡ length cells - c.args.count = omega (arith, c.len.ensures) in
+    ap reverse c.truncate.ensures ∙ left cells c.args.self.now end c.args.count c.self.view_is c.requires lies

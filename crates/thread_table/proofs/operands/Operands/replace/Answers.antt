@@ -1,9 +1,11 @@
-use Rattle.std.proofs.Common.{◌≡◌, ◌-◌, length, ap, ◌∙◌, arith, reverse, set}
-use Rattle.thread_table.proofs.Tops.{last_set}
+use Rattle.std.proofs.Common.{◌∷◌, drop, ap, ◌∙◌, w64, SFits, rules, to_z, of_z}
+use Rattle.std.proofs.lemmas.Int.{to_z-of_z}
+use Rattle.work_item.specs.declared.cell.Cell.TheVariants as cell
+use Rattle.thread_table.proofs.Tops.{ended_by}
 use Rattle.thread_table.proofs.operands.Operands.replace.Goals as goal
 
 pub returns : goal.returns
 returns c =
-    let items = c.self.inside.cells.items in
-    let at : c.len-top.result - 1 ≡ length items - 1 = omega (arith, c.len-top.ensures, c.self.inside.cells.ok.0) in
-    ap (λ k. reverse (set items k c.args.cell)) at ∙ last_set items c.args.self.now c.args.cell c.self.view_is c.requires
+    let fits : SFits w64 c.args.value = search rules in
+    ended_by c.self.inside.cells c.args.self.now c.replace.new.self (cell.Int (to_z w64 (of_z w64 c.args.value))) c.self.view_is c.requires c.replace.ensures
+    ∙ ap (λ z. cell.Int z ∷ drop 1 c.args.self.now) (to_z-of_z w64 c.args.value fits)

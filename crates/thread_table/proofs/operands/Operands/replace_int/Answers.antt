@@ -1,14 +1,16 @@
-use Rattle.std.proofs.Common.{◌≡◌, ◌-◌, length, ap, ◌∙◌, arith, reverse, set, w64, SFits, rules}
+use Rattle.std.proofs.Common.{◌∷◌, drop, ap, ◌∙◌, w64, SFits, rules, to_z, of_z}
 use Rattle.std.proofs.lemmas.Int.{to_z-of_z}
 use Rattle.work_item.specs.declared.cell.Cell.TheVariants as cell
-use Rattle.thread_table.proofs.Tops.{last_set, one_at_least}
+use Rattle.code_safety.specs.Fit.{is_int}
+use Rattle.thread_table.proofs.Tops.{ends_in_int, ended_by, one_at_least}
 use Rattle.thread_table.proofs.operands.Operands.replace_int.Goals as goal
+
+pub replace_int-requires : goal.replace_int-requires
+replace_int-requires c = ends_in_int c.self.inside.cells c.args.self.now c.self.view_is c.requires
 
 pub returns : goal.returns
 returns c =
-    let items = c.self.inside.cells.items in
-    let x = cell.Int c.args.value in
     let fits : SFits w64 c.args.value = search rules in
-    let at : c.len-top.result - 1 ≡ length items - 1 = omega (arith, c.len-top.ensures, c.self.inside.cells.ok.0) in
-    ap (λ v. reverse (set items (c.len-top.result - 1) (cell.Int v))) (to_z-of_z w64 c.args.value fits)
-    ∙ ap (λ k. reverse (set items k x)) at ∙ last_set items c.args.self.now x c.self.view_is (one_at_least c.args.self.now _ c.requires)
+    ended_by c.self.inside.cells c.args.self.now c.replace_int.new.self (cell.Int (to_z w64 (of_z w64 c.args.value))) c.self.view_is
+    (one_at_least c.args.self.now is_int c.requires) c.replace_int.ensures
+    ∙ ap (λ z. cell.Int z ∷ drop 1 c.args.self.now) (to_z-of_z w64 c.args.value fits)

@@ -5,4 +5,4 @@ use Rattle.work_item.proofs.frames.Frames.write.Goals as goal
 
 pub invariant_of-self : goal.invariant_of-self
 invariant_of-self c =
-    subst (IsWhole c.self.inside.globals.items) (sym c.set_cell.ensures) (whole_with _ _ _ _ c.self.invariant (length-set _ _ _))
+    subst (IsWhole c.self.inside.globals.items) (sym c.set_int.ensures) (whole_with _ _ _ _ c.self.invariant (length-set _ _ _))

@@ -1,0 +1,10 @@
+pub mod Rising
+pub mod Counts
+pub mod Keys
+pub mod Items
+pub mod Going
+pub mod Steps
+pub mod Standing
+pub mod Writing
+pub mod Ending
+pub mod Examples

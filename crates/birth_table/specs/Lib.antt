@@ -1,0 +1,4 @@
+pub mod Births
+pub mod Keys
+pub mod Kept
+pub mod inner

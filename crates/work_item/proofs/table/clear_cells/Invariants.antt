@@ -1,6 +1,0 @@
-use Rattle.std.proofs.Common.{◌≡◌}
-use Rattle.work_item.specs.Store.{cleared}
-use Rattle.work_item.proofs.table.clear_cells.Given as goal
-
-abbrev pub invariant-loop-index : goal.invariant-loop-index
-invariant-loop-index l = l.cells ≡ cleared l.slot l.index l.fn.cells

@@ -1,0 +1,10 @@
+use Rattle.std.proofs.Common.{◌≡◌, ◌+◌, ◌++◌, take}
+use Rattle.std.specs.Vec.{vec_len, vec_capacity}
+use Rattle.work_item.proofs.words.put_words.Given as goal
+
+abbrev pub invariant-loop-word : goal.invariant-loop-word
+invariant-loop-word l = record {
+  items : l.words.items ≡ l.fn.words.items ++ take l.word-index l.more;
+  len : vec_len l.words ≡ vec_len l.fn.words + l.word-index;
+  capacity : vec_capacity l.words ≡ vec_capacity l.fn.words;
+}
