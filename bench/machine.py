@@ -1,5 +1,5 @@
 #!/usr/bin/env python3
-"""Times the machine of `ac run` on loops, against CPython's own on the same loops in the same run.
+"""Times the machine of `ac run` on loops, against CPython's own and Lua's on the same loops in the same run.
 
     python3 bench/machine.py
 
@@ -11,7 +11,7 @@ programs is off on both sides. These ratios are printed, each with its goal:
   CPython;
 - a sieve over an array, the same one several times over, against the same statements in CPython;
 - the counting loop with 2,000,000 steps against 1,000,000;
-- the first loop against Lua 5.4, where `lua5.4` is installed.
+- the first loop and the sieve against Lua 5.4, where `lua5.4` is installed.
 """
 import pathlib
 import shutil
@@ -70,6 +70,35 @@ f()
 """
 LUA_EMPTY = "local function f() end f()\n"
 LUA_COUNT = "local function f() local i = 0 while i < %d do i = i + 1 end end f()\n"
+LUA_SIEVE = """local left = {}
+local function f()
+    local count
+    local n = 0
+    while n < %d do
+        count = 0
+        local i = 0
+        while i < 4096 do
+            left[i] = 1
+            i = i + 1
+        end
+        i = 2
+        while i < 4096 do
+            if left[i] ~= 0 then
+                count = count + 1
+                local j = i + i
+                while j < 4096 do
+                    left[j] = 0
+                    j = j + i
+                end
+            end
+            i = i + 1
+        end
+        n = n + 1
+    end
+    print(count)
+end
+f()
+"""
 
 
 def turns(steps):
@@ -127,6 +156,7 @@ def main():
         if lua:
             timer = Timer(folder, "lua", [lua], [], LUA_EMPTY)
             quick = timer.time(LUA_COUNT % turns(STEPS), lambda out: out == "")
+            strained = timer.time(LUA_SIEVE % TIMES, lambda out: out == f"{count}\n")
     print(f"start of ac: {ac.start * 1000:.1f} ms, of CPython {python.start * 1000:.1f} ms")
     print(f"counting loop of {STEPS} steps: {whole * 1000:.1f} ms, {(11 * turns(STEPS) + 10) / whole / 1e6:.0f} million instructions a second")
     print(f"CPython's: {looped * 1000:.1f} ms")
@@ -138,7 +168,9 @@ def main():
     print(f"ratio of the whole to it: {whole / half:.2f} (goal: at most 2.1)")
     if lua:
         print(f"Lua's counting loop: {quick * 1000:.1f} ms")
-        print(f"ratio to it: {whole / quick:.2f} (goal: at most 6)")
+        print(f"ratio to it: {whole / quick:.2f} (goal: at most 1.0)")
+        print(f"Lua's sieve: {strained * 1000:.1f} ms")
+        print(f"ratio to it: {sieved / strained:.2f} (goal: at most 1.5)")
 
 
 main()

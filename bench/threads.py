@@ -7,13 +7,15 @@ The program must have been built (the README's first command). The programs run 
 a round, so that a change of the machine's speed meets all of them. Each time is the least of its runs,
 less that of an empty program in the same language. These ratios are printed, each with its goal:
 
-- Fibonacci's number of 26 by recursion, with a variable for each call, against the same functions in CPython;
+- Fibonacci's number of 26 by recursion, with a variable for each call, against the same functions in CPython, and in Lua 5.4, where
+  `lua5.4` is installed;
 - the same in one expression, `fibonacci(n - 1) + fibonacci(n - 2)`, against that form in CPython and against the one with variables;
 - 250,000 times `x = 1 + g(x)`, a million steps in all, against the same with a variable for the call;
 - 200,000 times a `do` with one thread in it, against 100,000 times;
 - 20,000 threads alive at once, each of which yields ten times, against 10,000.
 """
 import pathlib
+import shutil
 import subprocess
 import sys
 import tempfile
@@ -68,6 +70,15 @@ PYTHON_IN_ONE = """def fibonacci(n):
     if n < 2:
         return n
     return fibonacci(n - 1) + fibonacci(n - 2)
+print(fibonacci(%d))
+"""
+LUA_EMPTY = "local function f() end f()\n"
+LUA_RECURSION = """local function fibonacci(n)
+    if n < 2 then return n end
+    local a = fibonacci(n - 1)
+    local b = fibonacci(n - 2)
+    return a + b
+end
 print(fibonacci(%d))
 """
 BLOCKS = """core a(f);
@@ -166,12 +177,20 @@ def main():
             ac(BLOCKS % n, blocks(n))
         for n in (10_000, 20_000):
             ac(YIELDS % n, yields(n))
-        start, python_start, seen, other, one, other_one, operand, variable, half, whole, few, many = best(jobs)
+        lua = shutil.which("lua5.4")
+        if lua:
+            add("lua", LUA_EMPTY, [lua], [], "")
+            add("lua", LUA_RECURSION % DEPTH, [lua], [], f"{fibonacci(DEPTH)}\n")
+        start, python_start, seen, other, one, other_one, operand, variable, half, whole, few, many, *of_lua = best(jobs)
     seen, other, one, other_one = seen - start, other - python_start, one - start, other_one - python_start
     operand, variable = operand - start, variable - start
     half, whole, few, many = half - start, whole - start, few - start, many - start
     print(f"Fibonacci's number of {DEPTH}: {seen * 1000:.1f} ms, CPython's {other * 1000:.1f} ms")
     print(f"ratio: {seen / other:.2f} (goal: at most 1.0)")
+    if of_lua:
+        quick = of_lua[1] - of_lua[0]
+        print(f"Lua's: {quick * 1000:.1f} ms")
+        print(f"ratio to it: {seen / quick:.2f} (goal: at most 1.5)")
     print(f"the same in one expression: {one * 1000:.1f} ms, CPython's {other_one * 1000:.1f} ms")
     print(f"ratio: {one / other_one:.2f} (goal: at most 1.0)")
     print(f"ratio to that with variables: {one / seen:.2f} (goal: at most 1.0)")
