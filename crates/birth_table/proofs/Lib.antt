@@ -7,4 +7,5 @@ pub mod Steps
 pub mod Standing
 pub mod Writing
 pub mod Ending
+pub mod Living
 pub mod Examples

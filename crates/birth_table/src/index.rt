@@ -58,7 +58,8 @@ fn search(slots: &[Slot], number: u64, low: usize, high: usize) -> Option<usize>
 }
 
 /// The place of a number, if it has a slot. As numbers rise strictly, it is no farther from either end
-/// than the number from the one there. Mostly it is the last, or no number is missing before it.
+/// than the number from the one there. Mostly it is the last, or no number is missing before it or behind
+/// it.
 #[inline(always)]
 pub(crate) fn place_of(slots: &[Slot], number: u64) -> Option<usize>
     requires { IsRising slots.now }
@@ -92,6 +93,9 @@ pub(crate) fn place_of(slots: &[Slot], number: u64) -> Option<usize>
     } else {
         0
     };
+    if slots[low].number == number {
+        return Some(low);
+    }
     search(slots, number, low, high)
 }
 

@@ -1,7 +1,7 @@
 //! The table: a slot for each number that lives, and the values at the places of a slab.
 
-ghost use Rattle.std.specs.Prelude.{◌≡◌, ◌+◌, ◌<◌, ◌≤◌, ◌↔◌, [], ◌∷◌, ◌++◌, length, slice_set};
-ghost use Rattle.std.specs.Prelude.{IsSome, IsTrue, IfOk, OnOk, OnErr, Some, None, option_copied};
+ghost use Rattle.std.specs.Prelude.{◌≡◌, ◌+◌, ◌^◌, ◌<◌, ◌≤◌, ◌↔◌, [], ◌∷◌, ◌++◌, length, slice_set};
+ghost use Rattle.std.specs.Prelude.{IsSome, IsTrue, IfOk, OnOk, OnErr, Some, None, is_some, count_by, option_copied};
 ghost use Rattle.std.specs.Borrow.{Lends, sem};
 ghost use Rattle.birth_table.specs.Births.{item_at, with_value, with_left};
 
@@ -77,6 +77,15 @@ impl<T> BirthTable<T> {
         ensures { result ≡ length self.now.items }
     {
         self.births
+    }
+
+    /// How many live.
+    #[inline(always)]
+    pub fn living(&self) -> usize
+        ensures number { result ≡ count_by is_some self.now.items }
+        ensures few { result + self.now.spare < 2 ^ 64 }
+    {
+        self.ends.top - self.ends.gone
     }
 
     /// Makes room for so many further values.

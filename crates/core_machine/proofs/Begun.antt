@@ -1,6 +1,6 @@
 -- A core that begins stands at the first address of its function, in the frame that was made for it. For `new`.
 -- By whether there is room for that frame: with it the state is the one with which the meaning begins, without it both end at once.
-use Rattle.std.proofs.Common.{◌≡◌, ℕ, List, [], ◌∷◌, length, Option, Some, None, Ok, Err, Bool, true, false, refl, sym, ap, ◌∙◌, subst}
+use Rattle.std.proofs.Common.{◌≡◌, ℕ, ◌+◌, ◌≤◌, List, [], ◌∷◌, length, Option, Some, None, Ok, Err, Bool, true, false, refl, sym, ap, ◌∙◌, subst, arith, count_by}
 use Rattle.std.specs.Prelude.{ℤ, pos, replicate, if◌then◌else◌}
 use Rattle.std.proofs.lemmas.List.{length-replicate}
 use Rattle.std.proofs.lemmas.List.Elements.{All-nil}
@@ -109,10 +109,14 @@ module _ (m : Running) (function : Entered) (b : Begins m.code.now m.core functi
       requests = λ still. ap (λ (f : Flat). f.shared.requests) first;
       tracks = λ still. subst (λ os. Tracks (own_link m) m.journal.entries os) (sym no_operations) (subst (λ past. Tracks (own_link m) past []) (sym journal) tracks_none);
       places = λ still. subst (λ f. AllPlaced f m.threads) (sym first) (first_placed m.threads function shared m.frames lives);
+      seats = subst (λ (l : List Bool). count_by (λ (b : Bool). b) l ≤ length m.schedule.ready + m.schedule.spare) (sym lives) (let one = one_ready in omega (arith, one));
       valid = v;
       ran = run_of;
     }
       where
+        one_ready : length m.schedule.ready ≡ 1
+        one_ready = ap (λ (f : Flat). length f.ready) first
+
         no_operations : m.outstanding.operations ≡ []
         no_operations = ap (λ (f : Flat). f.operations) first
 

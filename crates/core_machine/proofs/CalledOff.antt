@@ -9,7 +9,6 @@ use Rattle.work_item.specs.declared.ids.BlockId.{BlockId}
 use Rattle.work_item.specs.declared.cell.Cell.{Cell}
 use Rattle.work_item.specs.declared.cell.Cell.TheVariants as cell
 use Rattle.work_item.specs.Store.{cell_at}
-use Rattle.core_scheduler.specs.Schedule.{Schedule}
 use Rattle.cancel_scope.specs.declared.operation.Asked.{Asked}
 use Rattle.cancel_scope.specs.declared.operation.Progress.{Progress}
 use Rattle.cancel_scope.specs.declared.operation.Progress.TheVariants as progress
@@ -95,8 +94,8 @@ module _ (m : Running) (still : m.ended ≡ None) (link : ℕ) (ask : Cell → A
 
 -- ---- a cancel
 
-module _ (m : Running) (still : m.ended ≡ None) (level slot : ℕ) (block : BlockId) (is : block ≡ block_in (cell_at m.frames m.frame level slot)) (s : Schedule)
-    (runs : s.running ≡ m.schedule.running) (ready : s.ready ≡ m.schedule.ready) (blocks : Table) (marks : blocks ≡ table.marked m.blocks block) where
+module _ (m : Running) (still : m.ended ≡ None) (level slot : ℕ) (block : BlockId) (is : block ≡ block_in (cell_at m.frames m.frame level slot))
+    (blocks : Table) (marks : blocks ≡ table.marked m.blocks block) where
   abbrev f : Flat
   f = flat_of m
 
@@ -107,16 +106,15 @@ module _ (m : Running) (still : m.ended ≡ None) (level slot : ℕ) (block : Bl
   test = is_to_try (is_inside f block)
 
   -- the core with the block marked
-  stands : (b : Running) → b ≡ record m { schedule = s; blocks = blocks } → flat_of b ≡ now
+  stands : (b : Running) → b ≡ record m { blocks = blocks } → flat_of b ≡ now
   stands b e =
-      ap flat_of e ∙ ap (λ r. record f { running = r; ready = s.ready; blocks = blocks_of blocks.blocks }) runs ∙ ap (λ l. record f { ready = l; blocks = blocks_of blocks.blocks }) ready
-      ∙ ap (λ (x : Table). record f { blocks = blocks_of x.blocks }) marks ∙ ap (λ bs. record f { blocks = bs }) (marked_blocks m.blocks.blocks block)
+      ap flat_of e ∙ ap (λ (x : Table). record f { blocks = blocks_of x.blocks }) marks ∙ ap (λ bs. record f { blocks = bs }) (marked_blocks m.blocks.blocks block)
 
   -- none is left to try
-  pub goes_past : find test f.operations ≡ None → (after : Running) → after ≡ record m { schedule = s; blocks = blocks; place = m.place + 1; count = counted m.count }
+  pub goes_past : find test f.operations ≡ None → (after : Running) → after ≡ record m { blocks = blocks; place = m.place + 1; count = counted m.count }
       → Does m (i.Cancel level slot) after
   goes_past none after e =
-      let was : Running = record m { schedule = s; blocks = blocks } in
+      let was : Running = record m { blocks = blocks } in
       let past : Flat → Flat = λ x. record x { current = flat.at x.current (x.current.place + 1) x.current.operands; count = counted x.count } in
       let ends : state_of after ≡ On (past (flat_of was)) = ap state_of e ∙ ap (end_or (past (flat_of was))) still in
       let ways : (Option Operation) → Move Flat FlatEnd =
@@ -125,10 +123,10 @@ module _ (m : Running) (still : m.ended ≡ None) (level slot : ℕ) (block : Bl
 
   -- the oldest, which was not offered, has ended
   pub tries_oldest : (o : Operation) → find test f.operations ≡ Some o → o.progress ≡ progress.Waiting → (q : Roomy) → q.operations ≡ without_first test f.operations
-      → (between after : Running) → between ≡ record m { schedule = s; outstanding = q; blocks = blocks } → flat_of after ≡ resumed (flat_of between) (cell.Int cancelled) (Some o.item)
+      → (between after : Running) → between ≡ record m { outstanding = q; blocks = blocks } → flat_of after ≡ resumed (flat_of between) (cell.Int cancelled) (Some o.item)
       → after.ended ≡ between.ended → Does m (i.Cancel level slot) after
   tries_oldest o found waits q left between after e now_is ended =
-      let was : Running = record m { schedule = s; blocks = blocks } in
+      let was : Running = record m { blocks = blocks } in
       let gone : flat_of between ≡ record now { operations = without_first test f.operations } =
       ap flat_of e ∙ ap (λ (x : Flat). record x { operations = q.operations }) (stands was refl) ∙ ap (λ (os : List Operation). record now { operations = os }) left in
       let ways : (Option Operation) → Move Flat FlatEnd =

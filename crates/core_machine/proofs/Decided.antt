@@ -42,7 +42,7 @@ use Rattle.core_machine.specs.declared.ending.Ending.{Ending}
 use Rattle.core_machine.specs.declared.running.Running.{Running}
 use Rattle.core_machine.specs.declared.tried.Tried.{Tried}
 use Rattle.core_machine.specs.Blocks.{blocks_of}
-use Rattle.core_machine.specs.State.{shared_of, flat_of, end_or, own_link, state_of, machine_of, HavePlaces, IsSound}
+use Rattle.core_machine.specs.State.{shared_of, flat_of, end_or, own_link, state_of, machine_of, HavePlaces, IsSound, HasSeats}
 use Rattle.core_machine.specs.Tracks.{Tracks}
 use Rattle.core_machine.specs.Tried.{cancelled_at, cancelled_by, cancelled_in, tried_as, tried_in, tried_of, tried_within}
 use Rattle.core_machine.specs.inner.Changes.{Keeps, entry_now}
@@ -169,7 +169,12 @@ module _ (m b : Running) (block : BlockId) (event : Event) (stamp : ℕ) where
             (has_ended_as value m.frames (remove m.outstanding.operations n) x)) one;
         ended = ended ∙ ap (λ (y : Running). y.ended) is;
         lives = kept.lives ∙ ap (λ (y : Running). y.threads.lives) is;
-        same = record { code = kept.code ∙ ap (λ (y : Running). y.code.now) is; core = kept.core ∙ ap (λ (y : Running). y.core) is; bound = kept.bound ∙ ap (λ (y : Running). y.bound) is };
+        same = record {
+          code = kept.code ∙ ap (λ (y : Running). y.code.now) is;
+          core = kept.core ∙ ap (λ (y : Running). y.core) is;
+          bound = kept.bound ∙ ap (λ (y : Running). y.bound) is;
+          seats = λ h. kept.seats (subst HasSeats (sym is) h);
+        };
       }
 
   -- an operation goes on
@@ -179,7 +184,12 @@ module _ (m b : Running) (block : BlockId) (event : Event) (stamp : ℕ) where
     flat = noted_is q t j os is ops mark entries;
     ended = ap (λ (y : Running). y.ended) is;
     lives = ap (λ (y : Running). y.threads.lives) is;
-    same = record { code = ap (λ (y : Running). y.code.now) is; core = ap (λ (y : Running). y.core) is; bound = ap (λ (y : Running). y.bound) is };
+    same = record {
+      code = ap (λ (y : Running). y.code.now) is;
+      core = ap (λ (y : Running). y.core) is;
+      bound = ap (λ (y : Running). y.bound) is;
+      seats = λ h. subst HasSeats (sym is) h;
+    };
   }
 
 -- ---- what is made of the operation that is tried
@@ -325,6 +335,7 @@ module _ (before after : Running) (tried : Tried) (it : Fate) (event : Event) (s
         requests = λ e. decided_requests ∙ sound.requests still ∙ sym decided_own;
         tracks = λ e. decided_tracks;
         places = λ e. decided_placed;
+        seats = h.makes.same.seats sound.seats;
         valid = subst IsValid (sym h.makes.same.code) sound.valid;
         ran = on_its_way (machine_of after) code before.core before.bound (before.journal.entries ++ entry ∷ [])
             (On (arrived now shared (decided_within m h.block it o))) r.function h.makes.same.code h.makes.same.core h.makes.same.bound decided_journal

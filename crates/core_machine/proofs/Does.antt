@@ -156,8 +156,8 @@ module _ (m : Running) (still : m.ended ≡ None) (item : Item) (run : m.schedul
 
   -- ---- a thread ends
 
-  abbrev pub after_end : Schedule → Running
-  after_end schedule = record m { frames = released m.frames m.frame; schedule = with_woken (suspended schedule) (woken kept.blocks number); blocks = ended kept number; count = counted m.count }
+  abbrev pub after_end : Running
+  after_end = record m { frames = released m.frames m.frame; schedule = with_woken (suspended m.schedule) (woken kept.blocks number); blocks = ended kept number; count = counted m.count }
 
   abbrev left : Flat
   left = with_store f (released m.frames m.frame)
@@ -166,16 +166,13 @@ module _ (m : Running) (still : m.ended ≡ None) (item : Item) (run : m.schedul
   end_is = ap (λ o. On (dies left (item_of m.schedule.running) o)) inner ∙ ap (λ o. On (dies_in left (item_of m.schedule.running) number o)) there
       ∙ ap (λ o. On (counted_out (nat_eq x.count 1 && x.waits) left (item_of o) number x)) run
 
-  module _ (schedule : Schedule) (ready : schedule.ready ≡ m.schedule.ready) where
-    ended_by : (r : Bool) → (nat_eq x.count 1 && x.waits) ≡ r → buried (after_end schedule) item ≡ counted_out r left item number x
-    ended_by true e = ap (λ o. buried (record (after_end schedule) { schedule = with_woken (suspended schedule) o }) item) (woken_is kept.blocks number x there e)
-        ∙ ap (λ bs. record (buried (record (after_end schedule) { schedule = with_woken (suspended schedule) (Some x.owner) }) item) { blocks = bs }) (last_ended kept.blocks number x there e)
-        ∙ ap (λ r. record (counted_out true left item number x) { ready = x.owner ∷ r }) ready
-    ended_by false e = ap (λ o. buried (record (after_end schedule) { schedule = with_woken (suspended schedule) o }) item) (none_woken kept.blocks number x there e)
-        ∙ ap (λ bs. record (buried (record (after_end schedule) { schedule = with_woken (suspended schedule) None }) item) { blocks = bs }) (one_ended kept.blocks number x there e)
-        ∙ ap (λ r. record (counted_out false left item number x) { ready = r }) ready
+  ended_by : (r : Bool) → (nat_eq x.count 1 && x.waits) ≡ r → buried after_end item ≡ counted_out r left item number x
+  ended_by true e = ap (λ o. buried (record after_end { schedule = with_woken (suspended m.schedule) o }) item) (woken_is kept.blocks number x there e)
+      ∙ ap (λ bs. record (buried (record after_end { schedule = with_woken (suspended m.schedule) (Some x.owner) }) item) { blocks = bs }) (last_ended kept.blocks number x there e)
+  ended_by false e = ap (λ o. buried (record after_end { schedule = with_woken (suspended m.schedule) o }) item) (none_woken kept.blocks number x there e)
+      ∙ ap (λ bs. record (buried (record after_end { schedule = with_woken (suspended m.schedule) None }) item) { blocks = bs }) (one_ended kept.blocks number x there e)
 
-    pub ends : (between after : Running) → between ≡ after_end schedule → after.ended ≡ between.ended → flat_of after ≡ buried between item → Does m i.End after
-    ends between after b over is =
-        still_on m after (buried (after_end schedule) item) (is ∙ ap (λ (y : Running). buried y item) b) (over ∙ ap (λ (y : Running). y.ended) b ∙ still)
-        ∙ ap (λ y. On y) (ended_by (nat_eq x.count 1 && x.waits) refl) ∙ sym end_is
+  pub ends : (between after : Running) → between ≡ after_end → after.ended ≡ between.ended → flat_of after ≡ buried between item → Does m i.End after
+  ends between after b over is =
+      still_on m after (buried after_end item) (is ∙ ap (λ (y : Running). buried y item) b) (over ∙ ap (λ (y : Running). y.ended) b ∙ still)
+      ∙ ap (λ y. On y) (ended_by (nat_eq x.count 1 && x.waits) refl) ∙ sym end_is

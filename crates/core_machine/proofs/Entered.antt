@@ -23,7 +23,7 @@ use Rattle.core_state.specs.Shared.{Shared, with_entry}
 use Rattle.core_state.specs.Requests.{value_of, with_answer}
 use Rattle.code_meaning.specs.Machine.{Flat, resumed}
 use Rattle.core_machine.specs.declared.running.Running.{Running}
-use Rattle.core_machine.specs.State.{shared_of, flat_of}
+use Rattle.core_machine.specs.State.{shared_of, flat_of, HasSeats}
 use Rattle.core_machine.specs.inner.Changes.{Keeps, Enters, entry_now}
 
 module _ (m : Running) (v : Event) (stamp : ℕ) where
@@ -54,7 +54,12 @@ module _ (m : Running) (v : Event) (stamp : ℕ) where
     flat = flat ∙ ap (λ (f : Flat). resumed f (cell.Int value) (Some o.item)) (noted_is b q store store' j os is ops frames entries);
     ended = ended ∙ ap (λ (y : Running). y.ended) is;
     lives = kept.lives ∙ ap (λ (y : Running). y.threads.lives) is;
-    same = record { code = kept.code ∙ ap (λ (y : Running). y.code.now) is; core = kept.core ∙ ap (λ (y : Running). y.core) is; bound = kept.bound ∙ ap (λ (y : Running). y.bound) is };
+    same = record {
+      code = kept.code ∙ ap (λ (y : Running). y.code.now) is;
+      core = kept.core ∙ ap (λ (y : Running). y.core) is;
+      bound = kept.bound ∙ ap (λ (y : Running). y.bound) is;
+      seats = λ h. kept.seats (subst HasSeats (sym is) h);
+    };
   }
 
   -- an operation goes on waiting
@@ -66,7 +71,12 @@ module _ (m : Running) (v : Event) (stamp : ℕ) where
     flat = noted_is after q m.frames m.frames j os is ops refl entries;
     ended = ap (λ (y : Running). y.ended) is;
     lives = ap (λ (y : Running). y.threads.lives) is;
-    same = record { code = ap (λ (y : Running). y.code.now) is; core = ap (λ (y : Running). y.core) is; bound = ap (λ (y : Running). y.bound) is };
+    same = record {
+      code = ap (λ (y : Running). y.code.now) is;
+      core = ap (λ (y : Running). y.core) is;
+      bound = ap (λ (y : Running). y.bound) is;
+      seats = λ h. subst HasSeats (sym is) h;
+    };
   }
 
 -- ---- an offer

@@ -33,7 +33,7 @@ use Rattle.core_machine.specs.Tracks.{is_offer_of, is_end_of, is_know_of, is_rep
 use Rattle.core_machine.specs.Tracks.{is_transfer, keeps_limits, IsPlaced, Tracks}
 use Rattle.core_machine.specs.inner.Changes.{with_woken, item_of}
 use Rattle.core_machine.specs.declared.running.Running.{Running}
-use Rattle.core_machine.specs.State.{shared_of, thread_of, flat_of, end_or, state_of, own_link, has_room, machine_of, HavePlaces}
+use Rattle.core_machine.specs.State.{shared_of, thread_of, flat_of, end_or, state_of, own_link, has_room, machine_of, HavePlaces, HasSeats}
 
 -- ---- how a core has ended
 
@@ -320,3 +320,16 @@ the_ready_one_has_its_place m = by
 
 pub without_it : (m : Running) → HavePlaces (with_places m (true ∷ false ∷ [])) → ⊥
 without_it m places = let no : false ≡ true = places second nobody (as_ready second (omega arith)) in cc
+
+-- ---- room in the ready list
+
+-- one thread is ready, and there is room for so many more
+abbrev with_seats : Running → List Bool → ℕ → Running
+with_seats m lives more = record (with_places m lives) { schedule = record { running = None; ready = second ∷ []; spare = more } }
+
+-- of the first two threads one has ended, or none has
+pub for_those_that_live : (m : Running) → HasSeats (with_seats m (false ∷ true ∷ []) 0) × HasSeats (with_seats m (true ∷ true ∷ []) 1)
+for_those_that_live m = (omega arith, omega arith)
+
+pub not_for_both : (m : Running) → HasSeats (with_seats m (true ∷ true ∷ []) 0) → ⊥
+not_for_both m seats = omega (arith, seats)

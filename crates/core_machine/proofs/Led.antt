@@ -1,31 +1,24 @@
 -- One instruction after another of a running core, before none of which an entry could come in (`IsLed`).
 -- An instruction that was done is one move, one that asks or was refused is none; and what leads from a to b and from b to c leads from a to c.
-use Rattle.std.proofs.Common.{◌≡◌, ◌≢◌, ℕ, zero, suc, None, Some, IsSome, refl, sym, ◌∙◌, subst}
-use Rattle.std.specs.Prelude.{Result, IfOk, slice_get}
-use Rattle.ac_base.specs.declared.memory.NoMemory.{NoMemory}
+use Rattle.std.proofs.Common.{◌≡◌, ℕ, zero, suc, None, IsSome, refl, sym, subst}
 use Rattle.core_state.specs.Moves.{Move, On, Over, GoesOn, and_then, moves}
 use Rattle.core_state.proofs.Runs.{GoesOn-none, GoesOn-more}
-use Rattle.stack_code.specs.declared.instr.Instr.{Instr}
 use Rattle.stack_code.specs.Parts.{Parts}
 use Rattle.code_meaning.specs.Machine.{exec}
 use Rattle.replay_laws.specs.Given.{Passes}
 use Rattle.core_machine.specs.declared.running.Running.{Running}
 use Rattle.core_machine.specs.declared.went.Went.{Went}
 use Rattle.core_machine.specs.declared.went.Went.TheVariants as went
-use Rattle.core_machine.specs.declared.went.Follows.{Follows}
-use Rattle.core_machine.specs.declared.went.Follows.TheVariants.{Same, Away, Asks, Refused}
 use Rattle.core_machine.specs.State.{flat_of, state_of}
-use Rattle.core_machine.specs.inner.Changes.{IsSameCode, Does, Stays}
-use Rattle.core_machine.specs.inner.Follows.{follows_of}
+use Rattle.core_machine.specs.inner.Changes.{IsSameCode, Stays}
 use Rattle.core_machine.specs.inner.Led.{IsLed}
-use Rattle.core_machine.proofs.Follows.{of_done}
 use Rattle.core_machine.proofs.Passing.{one_passes, passes_on}
-use Rattle.core_machine.proofs.Sound.{goes_on, is_item, moved_by, stays_state, stays_there}
+use Rattle.core_machine.proofs.Sound.{goes_on, stays_state, stays_there}
 
 -- an instruction was done
 pub led_once : (a c : Running) → a.ended ≡ None → IsSome a.schedule.running → state_of c ≡ exec a.code.now a.bound (flat_of a) → IsLed a c
 led_once a c still runs done =
-    let same : IsSameCode a a = record { code = refl; core = refl; bound = refl } in
+    let same : IsSameCode a a = record { code = refl; core = refl; bound = refl; seats = λ h. h } in
     record {
       goes = goes_on a a c same still (GoesOn-none (exec a.code.now a.bound) (state_of a)) done;
       passes = λ turn. one_passes a a c same still runs done turn (zero, refl);
@@ -37,21 +30,6 @@ led_none a b stays = record {
   goes = stays_there a b (stays_state a b stays);
   passes = λ turn. (zero, stays_state a b stays);
 }
-
--- what is known of one that went so
-pub went_done : (a b : Running) (instr : Instr) (w : Result Went NoMemory) (how : Follows) → IsSome a.schedule.running → slice_get a.code.now.instrs a.place ≡ Some instr → how ≡ follows_of w
-    → IfOk w (λ x. x ≢ went.Asks → Does a instr b) → how ≢ Asks → how ≢ Refused → exec a.code.now a.bound (flat_of a) ≡ state_of b
-went_done a b instr w how runs here is ok asks refused =
-    let t = is_item a.schedule.running runs in
-    moved_by a b t.0 instr t.1 here (of_done (Does a instr b) w ok (λ e. asks (is ∙ e)) (λ e. refused (is ∙ e)))
-
--- it was done, or nothing was
-pub went_led : (a b : Running) (how : Follows) → a.ended ≡ None → IsSome a.schedule.running
-    → (how ≢ Asks → how ≢ Refused → exec a.code.now a.bound (flat_of a) ≡ state_of b) → (how ≡ Asks → Stays a b) → (how ≡ Refused → Stays a b) → IsLed a b
-went_led a b Same still runs done stays refused = led_once a b still runs (sym (done (λ e. let no : Same ≡ Asks = e in cc) (λ e. let no : Same ≡ Refused = e in cc)))
-went_led a b Away still runs done stays refused = led_once a b still runs (sym (done (λ e. let no : Away ≡ Asks = e in cc) (λ e. let no : Away ≡ Refused = e in cc)))
-went_led a b Asks still runs done stays refused = led_none a b (stays refl)
-went_led a b Refused still runs done stays refused = led_none a b (refused refl)
 
 -- ---- and then others
 

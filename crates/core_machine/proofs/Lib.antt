@@ -12,6 +12,7 @@ pub mod Found
 pub mod Standing
 pub mod Started
 pub mod Sound
+pub mod Seats
 pub mod Follows
 pub mod Next
 pub mod Passing

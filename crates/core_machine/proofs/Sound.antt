@@ -1,7 +1,7 @@
 -- A core stays where its code can stand, and comes to its end. `IsSound` is the invariant of a machine.
 -- After a move its parts hold again: fitness and chains by code_safety, the link of its requests since nothing changes it, offers by Started and Standing, and places by Lived.
 -- After an entry likewise. What is left to do falls with each move and does not rise with an entry, so a core that is given turns comes to its end.
-use Rattle.std.proofs.Common.{◌≡◌, ◌≢◌, ℕ, suc, ◌-◌, ◌<◌, ◌≤◌, ◌^◌, List, [], ◌∷◌, ◌++◌, length, Option, Some, None, IsSome, Bool, true, false, refl, sym, ap, ◌∙◌, subst, arith}
+use Rattle.std.proofs.Common.{◌≡◌, ℕ, suc, ◌-◌, ◌<◌, ◌≤◌, ◌^◌, List, [], ◌∷◌, ◌++◌, length, Option, Some, None, IsSome, Bool, true, false, refl, sym, ap, ◌∙◌, subst, arith}
 use Rattle.std.specs.Prelude.{slice_get, slice_index_or, is_some, nat_eq, nat_lt, not}
 use Rattle.std.proofs.lemmas.Bool.{ltb-true}
 use Rattle.std.proofs.lemmas.Bool.Decides.{nat_tests}
@@ -38,8 +38,6 @@ use Rattle.code_safety.proofs.NoDangling.{chained_on, names_living}
 use Rattle.code_safety.proofs.Taken.{if_is}
 use Rattle.core_machine.specs.declared.ending.Ending.{Ending}
 use Rattle.core_machine.specs.declared.running.Running.{Running}
-use Rattle.core_machine.specs.declared.went.Follows.{Follows}
-use Rattle.core_machine.specs.declared.went.Follows.TheVariants.{Same, Away, Asks, Refused}
 use Rattle.core_machine.specs.inner.Needs.{Finds}
 use Rattle.core_machine.specs.Machine.{Machine, IsOnItsWay}
 use Rattle.core_machine.specs.State.{shared_of, flat_of, end_or, own_link, state_of, machine_of, HavePlaces, IsSound}
@@ -131,13 +129,14 @@ stays_sound before after sound stays same =
           (subst (λ past. Tracks (own_link before) past after.outstanding.operations) (sym journal)
           (subst (Tracks (own_link before) before.journal.entries) (sym operations) (sound.tracks (was e))));
       places = λ e. still_placed before after (sound.places (was e)) (λ u h l. (h, subst (λ f. LivesAs f u h) stays.flat l)) stays.lives;
+      seats = same.seats sound.seats;
       valid = subst IsValid (sym same.code) sound.valid;
       ran = on_its_way (machine_of after) before.code.now before.core before.bound before.journal.entries (state_of before) r.function
           same.code same.core same.bound journal state r.begins r.goes;
     }
 
 pub code_of : (before after : Running) → KeepsCode before after → IsSameCode before after
-code_of before after k = record { code = k.code; core = k.core; bound = k.bound }
+code_of before after k = record { code = k.code; core = k.core; bound = k.bound; seats = k.seats }
 
 -- ---- a move
 
@@ -203,6 +202,7 @@ module _ (before after : Running) (still : before.ended ≡ None) (sound : IsSou
     requests = still_requests;
     tracks = still_tracks;
     places = places;
+    seats = keeps.seats sound.seats;
     valid = subst IsValid (sym keeps.code) sound.valid;
     ran = on_its_way (machine_of after) before.code.now before.core before.bound before.journal.entries (exec before.code.now before.bound (flat_of before)) sound.ran.function
         keeps.code keeps.core keeps.bound keeps.journal (sym moved) sound.ran.begins
@@ -221,24 +221,6 @@ module _ (before after : Running) (still : before.ended ≡ None) (sound : IsSou
 
   pub less : (ranks : List ℕ) → IsRanked before.code.now ranks → left_of ranks after < left_of ranks before
   less ranks r = rw still (less_left ranks r after.ended refl)
-
--- what has gone by an instruction: it was done, or nothing was
-pub went_sound : (before after : Running) (how : Follows) → before.ended ≡ None → IsSound before → KeepsCode before after
-    → (how ≢ Asks → how ≢ Refused → exec before.code.now before.bound (flat_of before) ≡ state_of after) → (how ≡ Asks → Stays before after) → (how ≡ Refused → Stays before after)
-    → (t : Item) (instr : Instr) → before.schedule.running ≡ Some t → slice_get before.code.now.instrs before.place ≡ Some instr → (how ≢ Refused → Places before instr after)
-    → (ranks : List ℕ) → IsRanked before.code.now ranks → IsSound after
-went_sound before after Same still sound keeps moved stays refused t instr run here given ranks r =
-    let no_asks : Same ≢ Asks = λ e. (let no : Same ≡ Asks = e in cc) in
-    let no_refusal : Same ≢ Refused = λ e. (let no : Same ≡ Refused = e in cc) in
-    let is = moved no_asks no_refusal in
-    still_sound before after still sound keeps is ranks r (instr_placed before after still sound keeps is t instr run here (given no_refusal))
-went_sound before after Away still sound keeps moved stays refused t instr run here given ranks r =
-    let no_asks : Away ≢ Asks = λ e. (let no : Away ≡ Asks = e in cc) in
-    let no_refusal : Away ≢ Refused = λ e. (let no : Away ≡ Refused = e in cc) in
-    let is = moved no_asks no_refusal in
-    still_sound before after still sound keeps is ranks r (instr_placed before after still sound keeps is t instr run here (given no_refusal))
-went_sound before after Asks still sound keeps moved stays refused t instr run here given ranks r = stays_sound before after sound (stays refl) (code_of before after keeps)
-went_sound before after Refused still sound keeps moved stays refused t instr run here given ranks r = stays_sound before after sound (refused refl) (code_of before after keeps)
 
 -- ---- whether an outcome is asked for
 
@@ -313,6 +295,7 @@ module _ (before after : Running) (event : Event) (stamp : ℕ) (still : before.
         requests = λ e. entered_requests ∙ sound.requests still ∙ sym entered_own;
         tracks = λ e. entered_tracks;
         places = λ e. still_placed before after (sound.places still) (subst (AllLived (flat_of before)) (sym h.flat) (comes_lived (flat_of before) shared h.arrival came)) h.lives;
+        seats = h.same.seats sound.seats;
         valid = subst IsValid (sym h.same.code) sound.valid;
         ran = on_its_way (machine_of after) code before.core before.bound (before.journal.entries ++ entry ∷ []) (On (arrived (flat_of before) shared h.arrival)) r.function
             h.same.code h.same.core h.same.bound entered_journal (running (flat_of after) after.ended entered_on ∙ ap (λ f. On f) h.flat) r.begins comes;
@@ -338,18 +321,18 @@ moved_by before after t instr run here does =
 -- ---- several turns
 
 pub keeps_on : (a b c : Running) → KeepsCode a b → KeepsCode b c → KeepsCode a c
-keeps_on a b c k l = record { code = l.code ∙ k.code; core = l.core ∙ k.core; bound = l.bound ∙ k.bound; journal = l.journal ∙ k.journal }
+keeps_on a b c k l = record { code = l.code ∙ k.code; core = l.core ∙ k.core; bound = l.bound ∙ k.bound; journal = l.journal ∙ k.journal; seats = λ h. l.seats (k.seats h) }
 
 -- the address of the running thread is none of them
 pub keeps_to : (a b : Running) (to : ℕ) → KeepsCode a b → KeepsCode a (at_address b to)
-keeps_to a b to k = record { code = k.code; core = k.core; bound = k.bound; journal = k.journal }
+keeps_to a b to k = record { code = k.code; core = k.core; bound = k.bound; journal = k.journal; seats = k.seats }
 
 pub keeps_at : (a b : Running) (from to : ℕ) → KeepsCode a b → KeepsCode (at_address a from) (at_address b to)
-keeps_at a b from to k = record { code = k.code; core = k.core; bound = k.bound; journal = k.journal }
+keeps_at a b from to k = record { code = k.code; core = k.core; bound = k.bound; journal = k.journal; seats = k.seats }
 
 -- where places stay too
 pub keeps_code : (a b : Running) → Keeps a b → KeepsCode a b
-keeps_code a b k = record { code = k.code; core = k.core; bound = k.bound; journal = k.journal }
+keeps_code a b k = record { code = k.code; core = k.core; bound = k.bound; journal = k.journal; seats = k.seats }
 
 -- the state of a core and of the address held apart, each of which is known
 pub passed_on : (m n : Running) (a b : ℕ) → m ≡ n → a ≡ b → state_of (at_address m a) ≡ state_of (at_address n b)

@@ -1,5 +1,5 @@
 -- The state that the fields of a running core stand for.
-use Rattle.std.specs.Prelude.{◌≡◌, ℕ, [], length, Option, Some, None, Bool, false, not, nat_lt, ◌&&◌}
+use Rattle.std.specs.Prelude.{◌≡◌, ℕ, ◌+◌, ◌≤◌, [], length, Option, Some, None, Bool, false, not, nat_lt, ◌&&◌}
 use Rattle.core_machine.specs.declared.ending.Ending.{Ending}
 use Rattle.core_machine.specs.Words.{word_of}
 use Rattle.core_state.specs.Moves.{Move, On, Over}
@@ -10,7 +10,7 @@ use Rattle.code_safety.specs.Fit.{IsFit}
 use Rattle.code_safety.specs.Chains.{AreChained}
 use Rattle.code_safety.specs.Living.{LivesAs}
 use Rattle.work_item.specs.declared.ids.Item.{Item}
-use Rattle.thread_table.specs.Table.{HasPlace}
+use Rattle.thread_table.specs.Table.{HasPlace, living}
 use Rattle.core_machine.specs.declared.running.Running.{Running}
 use Rattle.core_machine.specs.Blocks.{blocks_of}
 use Rattle.core_machine.specs.Tracks.{Tracks}
@@ -60,13 +60,19 @@ own_link m = request_link (length m.code.now.ends) m.core
 abbrev pub HavePlaces : Running → Type 0
 HavePlaces m = (t : Item) (h : Thread) → LivesAs (flat_of m) t h → HasPlace m.threads t
 
+-- the ready list has room for all threads that live, those in it among them
+abbrev pub HasSeats : Running → Type 0
+HasSeats m = living m.threads ≤ length m.schedule.ready + m.schedule.spare
+
 -- a core that has not ended stands where its code can stand, no reference dangles there, it asks for reads and writes on its own link,
--- each offer that has not ended is that of an operation, and each thread that lives has its place
+-- each offer that has not ended is that of an operation, and each thread that lives has its place; and the ready list has room for all
+-- that live
 pub record IsSound (m : Running) : Type 0 where
   pub fit : m.ended ≡ None → IsFit m.code.now (flat_of m)
   pub chained : m.ended ≡ None → AreChained m.code.now (flat_of m)
   pub requests : m.ended ≡ None → m.requests ≡ own_link m
   pub tracks : m.ended ≡ None → Tracks (own_link m) m.journal.entries m.outstanding.operations
   pub places : m.ended ≡ None → HavePlaces m
+  pub seats : HasSeats m
   pub valid : IsValid m.code.now
   pub ran : IsOnItsWay (machine_of m)

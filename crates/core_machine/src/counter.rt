@@ -45,6 +45,30 @@ impl Counter {
         }
     }
 
+    /// Two more.
+    #[inline(always)]
+    pub fn add_two(&mut self)
+        ensures { self.new ≡ min (self.old + 2) (2 ^ 64 - 1) }
+    {
+        let (next, over) = self.low.overflowing_add(2);
+        self.low = next;
+        if over {
+            self.full = true;
+        }
+    }
+
+    /// Three more.
+    #[inline(always)]
+    pub fn add_three(&mut self)
+        ensures { self.new ≡ min (self.old + 3) (2 ^ 64 - 1) }
+    {
+        let (next, over) = self.low.overflowing_add(3);
+        self.low = next;
+        if over {
+            self.full = true;
+        }
+    }
+
     /// The count.
     pub fn value(&self) -> u64
         ensures { result ≡ self.now }

@@ -16,6 +16,7 @@ mod operations;
 mod payload;
 mod requests;
 mod running;
+mod slots;
 mod threads;
 mod tried;
 mod values;

@@ -17,7 +17,7 @@ use finish_block::Blocks;
 use stack_code::{Code, Instr};
 use std::alloc::Global;
 use thread_table::{Callers, Operands, ThreadTable};
-use work_item::{BlockId, FrameId, Frames, Place};
+use work_item::{BlockId, FrameId, Frames};
 
 /// The fields of a core that runs: the link of its requests, and its journal; its globals and frames,
 /// and its operations that have not ended; the frame, the address, the operands, the callers and the
@@ -185,155 +185,6 @@ impl Running<'_> {
     }
 }
 
-// ---- slots and globals
-
-impl Running<'_> {
-    ghost use Rattle.std.specs.Prelude.{◌≡◌, true, None, Some, ◌+◌, ◌-◌, ◌≤◌, ◌<◌, ◌^◌, length, OnOk, OnErr};
-    ghost use Rattle.work_item.specs.Store.{above, cells_of};
-    ghost use Rattle.work_item.specs.Conditions.{Lives, HasLevel, HasSlot, HasGlobal};
-    ghost use Rattle.stack_code.specs.declared.instr.Instr.{Instr};
-    ghost use Rattle.code_safety.specs.Fit.{is_int};
-    ghost use Rattle.thread_table.specs.Operands.{on_top};
-    ghost use Rattle.core_machine.specs.State.{flat_of, state_of};
-    ghost use Rattle.core_machine.specs.inner.Changes.{Keeps, Does, DoesAt, StaysAt, Continues};
-
-    /// Pushes an int.
-    pub fn push(&mut self, address: &mut usize, value: i64) -> Result<(), NoMemory>
-        requires running { self.old.ended ≡ None }
-        requires inside { address.old < 2 ^ 32 }
-        ensures ok { OnOk result (DoesAt self.old address.old (Instr.Push value) self.new address.new) }
-        ensures err { OnErr result (StaysAt self.old address.old self.new address.new) }
-        ensures keeps { Keeps self.old self.new }
-        ensures continues { Continues self.old self.new }
-    {
-        self.operands.push_int(value)?;
-        self.pass(address);
-        Ok(())
-    }
-
-    /// Pushes what a slot holds.
-    pub fn load(&mut self, address: &mut usize, level: u32, slot: u32) -> Result<(), NoMemory>
-        requires running { self.old.ended ≡ None }
-        requires inside { address.old < 2 ^ 32 }
-        requires level { HasLevel self.old.frames self.old.frame level }
-        requires slot { HasSlot self.old.frames (above self.old.frames self.old.frame level) slot }
-        ensures ok { OnOk result (DoesAt self.old address.old (Instr.Load level slot) self.new address.new) }
-        ensures err { OnErr result (StaysAt self.old address.old self.new address.new) }
-        ensures keeps { Keeps self.old self.new }
-        ensures continues { Continues self.old self.new }
-    {
-        let cell = self.frames.read(self.frame, level, slot);
-        self.operands.push(cell)?;
-        self.pass(address);
-        Ok(())
-    }
-
-    /// Pushes what a global holds.
-    pub fn load_global(&mut self, address: &mut usize, slot: u32) -> Result<(), NoMemory>
-        requires running { self.old.ended ≡ None }
-        requires inside { address.old < 2 ^ 32 }
-        requires slot { HasGlobal self.old.frames slot }
-        ensures ok { OnOk result (DoesAt self.old address.old (Instr.LoadG slot) self.new address.new) }
-        ensures err { OnErr result (StaysAt self.old address.old self.new address.new) }
-        ensures keeps { Keeps self.old self.new }
-        ensures continues { Continues self.old self.new }
-    {
-        let value = self.frames.read_global(slot);
-        self.operands.push_int(value)?;
-        self.pass(address);
-        Ok(())
-    }
-
-    /// Pops an int into a slot.
-    pub fn store(&mut self, address: &mut usize, level: u32, slot: u32)
-        requires running { self.old.ended ≡ None }
-        requires inside { address.old < 2 ^ 32 }
-        requires level { HasLevel self.old.frames self.old.frame level }
-        requires slot { HasSlot self.old.frames (above self.old.frames self.old.frame level) slot }
-        requires int { on_top is_int self.old.operands ≡ true }
-        ensures does { DoesAt self.old address.old (Instr.Store level slot) self.new address.new }
-        ensures keeps { Keeps self.old self.new }
-        ensures continues { Continues self.old self.new }
-    {
-        let value = self.operands.pop_int();
-        self.frames.write(self.frame, level, slot, value);
-        self.pass(address);
-    }
-
-    /// Pops an int into a global.
-    pub fn store_global(&mut self, address: &mut usize, slot: u32)
-        requires running { self.old.ended ≡ None }
-        requires inside { address.old < 2 ^ 32 }
-        requires slot { HasGlobal self.old.frames slot }
-        requires int { on_top is_int self.old.operands ≡ true }
-        ensures does { DoesAt self.old address.old (Instr.StoreG slot) self.new address.new }
-        ensures keeps { Keeps self.old self.new }
-        ensures continues { Continues self.old self.new }
-    {
-        let value = self.operands.pop_int();
-        self.frames.write_global(slot, value);
-        self.pass(address);
-    }
-
-    /// Pushes the reference to an array in a frame.
-    pub fn array(
-        &mut self,
-        address: &mut usize,
-        level: u32,
-        slot: u32,
-        len: u32,
-    ) -> Result<(), NoMemory>
-        requires running { self.old.ended ≡ None }
-        requires inside { address.old < 2 ^ 32 }
-        requires level { HasLevel self.old.frames self.old.frame level }
-        ensures ok { OnOk result (DoesAt self.old address.old (Instr.Arr level slot len) self.new address.new) }
-        ensures err { OnErr result (StaysAt self.old address.old self.new address.new) }
-        ensures keeps { Keeps self.old self.new }
-        ensures continues { Continues self.old self.new }
-    {
-        let home = self.frames.above(self.frame, level);
-        self.operands.push_place(Place {
-            home: Some(home),
-            start: slot,
-            len,
-        })?;
-        self.pass(address);
-        Ok(())
-    }
-
-    /// Pushes the reference to an array in the globals.
-    pub fn global_array(&mut self, address: &mut usize, slot: u32, len: u32) -> Result<(), NoMemory>
-        requires running { self.old.ended ≡ None }
-        requires inside { address.old < 2 ^ 32 }
-        ensures ok { OnOk result (DoesAt self.old address.old (Instr.ArrG slot len) self.new address.new) }
-        ensures err { OnErr result (StaysAt self.old address.old self.new address.new) }
-        ensures keeps { Keeps self.old self.new }
-        ensures continues { Continues self.old self.new }
-    {
-        self.operands.push_place(Place {
-            home: None,
-            start: slot,
-            len,
-        })?;
-        self.pass(address);
-        Ok(())
-    }
-
-    /// Sets so many slots of the own frame to 0.
-    pub fn clear(&mut self, slot: u32, len: u32)
-        requires running { self.old.ended ≡ None }
-        requires inside { self.old.place < 2 ^ 32 }
-        requires frame { Lives self.old.frames self.old.frame }
-        requires slots { slot + len ≤ length (cells_of self.old.frames self.old.frame) }
-        ensures does { Does self.old (Instr.Clear slot len) self.new }
-        ensures keeps { Keeps self.old self.new }
-        ensures continues { Continues self.old self.new }
-    {
-        self.frames.clear(self.frame, slot, len);
-        self.go_on();
-    }
-}
-
 // ---- printing
 
 impl Running<'_> {
@@ -370,8 +221,10 @@ impl Running<'_> {
 // ---- one instruction after another
 
 impl Running<'_> {
-    ghost use Rattle.std.specs.Prelude.{◌≡◌, ◌≢◌, ℕ, None, Some, IsSome, true, false, ◌<◌, ◌^◌, OnOk, OnErr, IfOk, slice_get};
+    ghost use Rattle.std.specs.Prelude.{◌≡◌, ◌≢◌, ℕ, None, Some, IsSome, true, false, ◌+◌, ◌<◌, ◌^◌, OnOk, OnErr, IfOk, length};
+    ghost use Rattle.std.specs.Prelude.{slice_get, slice_index_or};
     ghost use Rattle.core_state.specs.Moves.{GoesOn};
+    ghost use Rattle.stack_code.specs.declared.instr.Instr.{Instr};
     ghost use Rattle.stack_code.specs.Kept.{IsRanked};
     ghost use Rattle.code_meaning.specs.Machine.{exec};
     ghost use Rattle.replay_laws.specs.Given.{Passes, passes_first};
@@ -385,7 +238,8 @@ impl Running<'_> {
     ghost use Rattle.core_machine.specs.inner.Needs.{Finds, is_on_threads, is_apart};
     ghost use Rattle.core_machine.specs.inner.Changes.{IsSameCode, KeepsCode, Keeps, Does, DoesAt, Places, Stays, StaysAt};
     ghost use Rattle.core_machine.specs.inner.Changes.{Continues, at_address};
-    ghost use Rattle.core_machine.specs.inner.Led.{IsLed};
+    ghost use Rattle.core_machine.specs.inner.Led.{IsLed, DoesOn};
+    ghost use Rattle.core_machine.specs.inner.Operators.{is_comparison};
 
     // An instruction on blocks, threads and operations, which finds what it needs.
     fn change_threads(&mut self, instr: Instr) -> Result<(), NoMemory>
@@ -394,6 +248,7 @@ impl Running<'_> {
         requires inside { self.old.place < 2 ^ 32 }
         requires threads { is_on_threads instr ≡ true }
         requires finds { Finds self.old.code.now (flat_of self.old) instr }
+        requires seat { 0 < self.old.schedule.spare }
         requires places { HavePlaces self.old }
         requires settled { self.old.threads.pending ≡ false }
         ensures ok { OnOk result (Does self.old instr self.new) }
@@ -408,8 +263,14 @@ impl Running<'_> {
                 Ok(())
             }
             Instr::Async { slots, to } => self.start(slots, to),
-            Instr::End => self.end_thread(),
-            Instr::Yield => self.yield_now(),
+            Instr::End => {
+                self.end_thread();
+                Ok(())
+            }
+            Instr::Yield => {
+                self.yield_now();
+                Ok(())
+            }
             Instr::Send { channel } => self.send(channel),
             Instr::Recv { channel } => self.receive(channel),
             Instr::Read { file } => self.read(file),
@@ -427,6 +288,7 @@ impl Running<'_> {
         requires inside { self.old.place < 2 ^ 32 }
         requires apart { is_apart instr.now ≡ true }
         requires finds { Finds self.old.code.now (flat_of self.old) instr.now }
+        requires seat { 0 < self.old.schedule.spare }
         requires places { HavePlaces self.old }
         requires settled { self.old.threads.pending ≡ false }
         ensures ok { IfOk result (λ went. went ≢ Went.Asks → Does self.old instr.now self.new) }
@@ -442,7 +304,7 @@ impl Running<'_> {
             Instr::Place => return Ok(done(self.element_place())),
             Instr::Clear { slot, len } => self.clear(slot, len),
             Instr::Print { text, count } => return Ok(done(self.print(text, count)?)),
-            Instr::Cancel { level, slot } => return self.cancel(level, slot),
+            Instr::Cancel { level, slot } => return Ok(self.cancel(level, slot)),
             Instr::Enter { .. }
             | Instr::Finish { .. }
             | Instr::Async { .. }
@@ -460,17 +322,26 @@ impl Running<'_> {
         Ok(Went::On)
     }
 
-    // One instruction, which finds what it needs. The address of the running thread is held apart from
+    // One instruction, which finds what it needs, or a comparison and the jump at 0 behind it, so that the
+    // int need not be put onto the operands. The address of the running thread is held apart from
     // the core, so that compiled code need not write it at each one.
     #[inline(always)]
-    fn execute(&mut self, address: &mut usize, instr: &Instr) -> Result<Went, NoMemory>
+    fn execute(
+        &mut self,
+        address: &mut usize,
+        instr: &Instr,
+        instrs: &[Instr],
+    ) -> Result<Went, NoMemory>
         requires running { self.old.ended ≡ None }
         requires runs { IsSome self.old.schedule.running }
         requires inside { address.old < 2 ^ 32 }
         requires finds { Finds self.old.code.now (flat_of (at_address self.old address.old)) instr.now }
+        requires seat { 0 < self.old.schedule.spare }
         requires places { HavePlaces (at_address self.old address.old) }
         requires settled { self.old.threads.pending ≡ false }
-        ensures ok { IfOk result (λ went. went ≢ Went.Asks → DoesAt self.old address.old instr.now self.new address.new) }
+        requires next { is_comparison instr.now ≡ true → address.old + 1 < length instrs.now }
+        ensures ok { IfOk result (λ went. went ≢ Went.Asks → DoesOn (at_address self.old address.old) instr.now
+            (slice_index_or instrs.now (address.old + 1) Instr.Step) (at_address self.new address.new)) }
         ensures places { IfOk result (λ went. Places self.old instr.now self.new) }
         ensures asks { IfOk result (λ went. went ≡ Went.Asks → IsSome
             (tried_within (flat_of (at_address self.old address.old))
@@ -507,12 +378,42 @@ impl Running<'_> {
             Instr::BitOr => self.apply_binary(address, Instr::BitOr, |x, y| either_bits(x, y)),
             Instr::BitXor => self.apply_binary(address, Instr::BitXor, |x, y| differing_bits(x, y)),
             Instr::BitAnd => self.apply_binary(address, Instr::BitAnd, |x, y| both_bits(x, y)),
-            Instr::Eq => self.apply_binary(address, Instr::Eq, |x, y| is_equal(x, y)),
-            Instr::Ne => self.apply_binary(address, Instr::Ne, |x, y| is_not_equal(x, y)),
-            Instr::Less => self.apply_binary(address, Instr::Less, |x, y| is_less(x, y)),
-            Instr::LessEq => self.apply_binary(address, Instr::LessEq, |x, y| is_at_most(x, y)),
-            Instr::More => self.apply_binary(address, Instr::More, |x, y| is_less(y, x)),
-            Instr::MoreEq => self.apply_binary(address, Instr::MoreEq, |x, y| is_at_most(y, x)),
+            Instr::Eq => self.compare(
+                address,
+                Instr::Eq,
+                &instrs[*address + 1],
+                |x, y| is_equal(x, y),
+            ),
+            Instr::Ne => self.compare(
+                address,
+                Instr::Ne,
+                &instrs[*address + 1],
+                |x, y| is_not_equal(x, y),
+            ),
+            Instr::Less => self.compare(
+                address,
+                Instr::Less,
+                &instrs[*address + 1],
+                |x, y| is_less(x, y),
+            ),
+            Instr::LessEq => self.compare(
+                address,
+                Instr::LessEq,
+                &instrs[*address + 1],
+                |x, y| is_at_most(x, y),
+            ),
+            Instr::More => self.compare(
+                address,
+                Instr::More,
+                &instrs[*address + 1],
+                |x, y| is_less(y, x),
+            ),
+            Instr::MoreEq => self.compare(
+                address,
+                Instr::MoreEq,
+                &instrs[*address + 1],
+                |x, y| is_at_most(y, x),
+            ),
             Instr::Shl => self.apply_binary(address, Instr::Shl, |x, y| shifted_left(x, y)),
             Instr::Shr => self.apply_binary(address, Instr::Shr, |x, y| shifted_right(x, y)),
             Instr::Add => self.apply_binary(address, Instr::Add, |x, y| sum(x, y)),
@@ -560,15 +461,23 @@ impl Running<'_> {
         &instrs[address]
     }
 
-    // That next instruction is done. The ranks are there for the proof alone that less is left to do.
+    // That next instruction is done, and the jump behind a comparison. The ranks are there for the proof
+    // alone that less is left to do.
     #[inline(always)]
-    fn one(&mut self, address: &mut usize, instr: &Instr, _ranks: &[u64]) -> Follows
+    fn one(
+        &mut self,
+        address: &mut usize,
+        instr: &Instr,
+        instrs: &[Instr],
+        _ranks: &[u64],
+    ) -> Follows
         requires running { self.old.ended ≡ None }
         requires runs { IsSome self.old.schedule.running }
         requires sound { IsSound (at_address self.old address.old) }
         requires here { slice_get self.old.code.now.instrs address.old ≡ Some instr.now }
         requires inside { address.old < 2 ^ 32 }
         requires finds { Finds self.old.code.now (flat_of (at_address self.old address.old)) instr.now }
+        requires instrs { instrs.now ≡ self.old.code.now.instrs }
         requires ranked { IsRanked self.old.code.now _ranks.now }
         requires settled { self.old.threads.pending ≡ false }
         ensures led { IsLed (at_address self.old address.old) (at_address self.new address.new) }
@@ -580,11 +489,12 @@ impl Running<'_> {
             → left_of _ranks.now (at_address self.new address.new) < left_of _ranks.now (at_address self.old address.old) }
         ensures continues { result ≡ Follows.Same → Continues self.old self.new }
     {
-        how_on(self.execute(address, instr))
+        how_on(self.execute(address, instr, instrs))
     }
 
     // A push of an int and an operator after it, both at once, so that the int need not be put onto the
-    // operands. It says whether the next two were so; else nothing has changed.
+    // operands; and the jump behind a comparison. It says whether the next ones were so; else nothing
+    // has changed.
     #[inline(always)]
     fn two_at_once(
         &mut self,
@@ -610,10 +520,10 @@ impl Running<'_> {
         let Instr::Push(value) = *instr else {
             return false;
         };
-        self.push_and_apply(address, value, &instrs[*address + 1])
+        self.push_and_apply(address, value, &instrs[*address + 1], instrs)
     }
 
-    // The next instruction is done, or two of them.
+    // The next instruction is done, or up to three of them.
     #[inline(always)]
     fn one_or_two(
         &mut self,
@@ -643,7 +553,7 @@ impl Running<'_> {
         if self.two_at_once(address, instr, instrs, _ranks) {
             return Follows::Same;
         }
-        self.one(address, instr, _ranks)
+        self.one(address, instr, instrs, _ranks)
     }
 
     // The instructions of the running thread, until it need not be the same thread that goes on, or

@@ -176,13 +176,15 @@ impl Running<'_> {
     }
 
     /// Starts a thread, which runs from the next address on in a frame of so many slots; the running
-    /// one goes to the front of the ready list and on at that address.
+    /// one goes to the front of the ready list and on at that address. The list has room for all
+    /// threads that live from here on, so that no later call takes memory for it.
     #[tactic(auto, using(crate::proofs::Places::runner_place, crate::proofs::Places::has_after))]
     pub fn start(&mut self, slots: u32, to: u32) -> Result<(), NoMemory>
         requires running { self.old.ended ≡ None }
         requires inside { self.old.place < 2 ^ 32 }
         requires runs { IsSome self.old.schedule.running }
         requires can { CanStart (flat_of self.old) }
+        requires seat { 0 < self.old.schedule.spare }
         requires places { HavePlaces self.old }
         requires settled { self.old.threads.pending ≡ false }
         ensures ok { OnOk result (Does self.old (Instr.Async slots to) self.new) }
@@ -196,8 +198,8 @@ impl Running<'_> {
         }
         let item = self.item();
         let block = self.innermost();
-        self.schedule.reserve(1)?;
         self.threads.reserve()?;
+        self.schedule.reserve_all(self.threads.living() + 1)?;
         let frame = self.frames.make(Some(self.frame), slots)?;
         let born = Item {
             number: self.threads.len(),
@@ -214,45 +216,41 @@ impl Running<'_> {
     /// Ends the running thread, and gives its frame back; where it was the last of its block and the
     /// owner waits at the finish, the owner goes to the front of the ready list.
     #[tactic(auto, using(crate::proofs::Places::runner_place))]
-    pub fn end_thread(&mut self) -> Result<(), NoMemory>
+    pub fn end_thread(&mut self)
         requires running { self.old.ended ≡ None }
         requires runs { IsSome self.old.schedule.running }
         requires can { CanEnd (flat_of self.old) }
+        requires seat { 0 < self.old.schedule.spare }
         requires places { HavePlaces self.old }
         requires settled { self.old.threads.pending ≡ false }
-        ensures ok { OnOk result (Does self.old Instr.End self.new) }
-        ensures places { OnOk result (Places self.old Instr.End self.new) }
-        ensures err { OnErr result (Stays self.old self.new) }
+        ensures does { Does self.old Instr.End self.new }
+        ensures places { Places self.old Instr.End self.new }
         ensures keeps { KeepsCode self.old self.new }
     {
         let item = self.item();
         let block = self.innermost();
-        self.schedule.reserve(1)?;
         self.frames.give_back(self.frame);
         self.leave(block);
         self.count_one();
         self.bury(item);
-        Ok(())
     }
 
     /// The running thread goes to the back of the ready list.
     #[tactic(auto, using(crate::proofs::Places::runner_place))]
-    pub fn yield_now(&mut self) -> Result<(), NoMemory>
+    pub fn yield_now(&mut self)
         requires running { self.old.ended ≡ None }
         requires inside { self.old.place < 2 ^ 32 }
         requires runs { IsSome self.old.schedule.running }
+        requires seat { 0 < self.old.schedule.spare }
         requires places { HavePlaces self.old }
         requires settled { self.old.threads.pending ≡ false }
-        ensures ok { OnOk result (Does self.old Instr.Yield self.new) }
-        ensures err { OnErr result (Stays self.old self.new) }
+        ensures does { Does self.old Instr.Yield self.new }
         ensures keeps { Keeps self.old self.new }
     {
         let item = self.item();
-        self.schedule.reserve(1)?;
         self.schedule.yield_now();
         self.count_one();
         self.park(item, self.place + 1, Parked::nobody(self.alloc));
-        Ok(())
     }
 
     /// No thread runs: the one at the front of the ready list does.

@@ -1,6 +1,6 @@
 //! The running thread and the ready list of a core.
 
-ghost use Rattle.std.specs.Prelude.{◌≡◌, ◌≤◌, ◌<◌, [], IsSome, IsNone, OnOk, OnErr, None};
+ghost use Rattle.std.specs.Prelude.{◌≡◌, ◌+◌, ◌≤◌, ◌<◌, [], length, IsSome, IsNone, OnOk, OnErr, None};
 ghost use Rattle.core_scheduler.specs.Schedule.{at_back, at_front, suspended, yielded, yielded_to, front, dispatched};
 
 use ac_base::NoMemory;
@@ -13,7 +13,7 @@ use work_item::Item;
 /// front to back. It keeps the allocator with which it is made.
 ///
 /// Contracts see these, and the spare: the number of further threads for which the ready list has
-/// room. Only `reserve` takes memory, and only it may go over the list.
+/// room. Only `reserve` and `reserve_all` take memory, and only they may go over the list.
 #[derive(Drop)]
 pub struct Scheduler {
     running: Option<Item>,
@@ -65,6 +65,22 @@ impl Scheduler {
         ensures spare { self.old.spare ≤ self.new.spare }
     {
         self.ready.reserve(n as usize)?;
+        Ok(())
+    }
+
+    /// Makes room for so many ready threads in all, and for as many again where it has to make any, so
+    /// that who asks for one more each time asks seldom for memory. After want of memory the running
+    /// thread and the list are as before.
+    pub fn reserve_all(&mut self, n: usize) -> Result<(), NoMemory>
+        ensures running { self.new.running ≡ self.old.running }
+        ensures ready { self.new.ready ≡ self.old.ready }
+        ensures ok { OnOk result (n ≤ length self.new.ready + self.new.spare) }
+        ensures spare { self.old.spare ≤ self.new.spare }
+    {
+        if self.ready.capacity() < n {
+            let missing = n - self.ready.len();
+            self.ready.reserve(missing.saturating_add(n))?;
+        }
         Ok(())
     }
 

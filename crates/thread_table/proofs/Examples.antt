@@ -10,7 +10,7 @@ use Rattle.code_safety.specs.Fit.{is_int}
 use Rattle.thread_table.specs.declared.callers.WaitingCall as callers
 use Rattle.thread_table.specs.Operands.{is_reference, on_top}
 use Rattle.thread_table.specs.Callers.{callers_of, all_below, Popped}
-use Rattle.thread_table.specs.Table.{Table, HasPlace, or_nobody, with_given}
+use Rattle.thread_table.specs.Table.{Table, HasPlace, living, or_nobody, with_given}
 
 abbrev pub frame : ℕ → FrameId
 frame n = record { number = n }
@@ -79,6 +79,9 @@ two = record { threads = nobody ∷ nobody ∷ []; lives = true ∷ false ∷ []
 
 pub a_thread_that_lives_has_a_place : HasPlace two (record { number = 0 }) × (HasPlace two second → ⊥) × (HasPlace two (record { number = 2 }) → ⊥)
 a_thread_that_lives_has_a_place = (refl, (λ h. let no : false ≡ true = h in cc), (λ h. let no : false ≡ true = h in cc))
+
+pub one_of_them_lives : living two ≡ 1
+one_of_them_lives = refl
 
 pub ended_is_nobody : (or_nobody None ≡ nobody) × (or_nobody (Some (record nobody { place = 4 })) ≡ record nobody { place = 4 })
 ended_is_nobody = (refl, refl)

@@ -1,10 +1,11 @@
 -- The threads that are kept, and the value that one of them is still to have on its operands. For `ThreadTable`, which keeps that value apart until its thread is asked for.
 -- What is seen is the list of what is kept with the value in place, each as a thread and whether it is there. So an element that is set among what is kept is set in both lists.
-use Rattle.std.proofs.Common.{◌≡◌, ℕ, List, map, Option, Some, None, Bool, true, false, refl, sym, ap, ◌∙◌}
-use Rattle.std.specs.Prelude.{is_some, option_map, slice_set, slice_index_or}
+use Rattle.std.proofs.Common.{◌≡◌, ℕ, ◌+◌, List, map, Option, Some, None, Bool, true, false, cond, [], ◌∷◌, refl, sym, ap, ◌∙◌}
+use Rattle.std.specs.Prelude.{count_by, is_some, option_map, slice_set, slice_index_or}
 use Rattle.std.proofs.lemmas.List.{map-set, set-get_or}
 use Rattle.std.proofs.Math.Seq.{map-set_same}
 use Rattle.std.proofs.Math.ListN.{get_or-map}
+use Rattle.std.proofs.lemmas.List.Sums.{sum_by-cons}
 use Rattle.work_item.specs.declared.ids.BlockId.{BlockId}
 use Rattle.work_item.specs.declared.cell.Cell.{Cell}
 use Rattle.code_meaning.specs.Machine.{Thread, given, nobody}
@@ -24,6 +25,23 @@ given_thread value (Some x) h = refl
 given_lives : (value : Cell) (o : Option Thread) → is_some (option_map (given value) o) ≡ is_some o
 given_lives value None = refl
 given_lives value (Some x) = refl
+
+given_to : (kept : List (Option Thread)) (o : Option Given) → map is_some (with_given kept o) ≡ map is_some kept
+given_to kept None = refl
+given_to kept (Some g) =
+    map-set_same is_some kept g.item.number (option_map (given g.value) (slice_index_or kept g.item.number None)) None
+    (given_lives g.value (slice_index_or kept g.item.number None))
+
+-- as many live as are there
+count_there : (kept : List (Option Thread)) → count_by is_some kept ≡ count_by (λ (b : Bool). b) (map is_some kept)
+count_there [] = refl
+count_there (x ∷ kept) =
+    sum_by-cons (λ (o : Option Thread). cond (is_some o) 1 0) x kept ∙ ap (λ n. cond (is_some x) 1 0 + n) (count_there kept)
+    ∙ sym (sum_by-cons (λ (b : Bool). cond b 1 0) (is_some x) (map is_some kept))
+
+pub count_living : (kept : List (Option Thread)) (o : Option Given) (lives : List Bool) → map is_some (with_given kept o) ≡ lives
+    → count_by is_some kept ≡ count_by (λ (b : Bool). b) lives
+count_living kept o lives is = count_there kept ∙ ap (count_by (λ (b : Bool). b)) (sym (given_to kept o) ∙ is)
 
 -- the innermost block
 abbrev pub block_in : Option Thread → Option BlockId

@@ -1,5 +1,5 @@
 -- What contracts see of the threads that do not run.
-use Rattle.std.specs.Prelude.{◌≡◌, ℕ, List, Option, Some, None, Bool, true, false, option_map, slice_set, slice_index_or}
+use Rattle.std.specs.Prelude.{◌≡◌, ℕ, List, Option, Some, None, Bool, true, false, count_by, option_map, slice_set, slice_index_or}
 use Rattle.work_item.specs.declared.ids.Item.{Item}
 use Rattle.code_meaning.specs.Machine.{Thread, given, nobody}
 use Rattle.thread_table.specs.declared.given.Given.{Given}
@@ -15,6 +15,10 @@ pub record Table : Type 0 where
 -- the thread has started, and has not ended
 abbrev pub HasPlace : Table → Item → Type 0
 HasPlace t item = slice_index_or t.lives item.number false ≡ true
+
+-- how many have started, and have not ended
+abbrev pub living : Table → ℕ
+living t = count_by (λ (b : Bool). b) t.lives
 
 -- one that has ended is nobody
 abbrev pub or_nobody : Option Thread → Thread

@@ -2,7 +2,7 @@
 
 ghost use Rattle.std.specs.Prelude.{◌≡◌, ◌+◌, ◌<◌, ◌^◌, [], ◌∷◌, ◌++◌, true, false, Some, length, slice_set, OnOk, OnErr, IfOk};
 ghost use Rattle.code_meaning.specs.Machine.{given, nobody, thread_at};
-ghost use Rattle.thread_table.specs.Table.{HasPlace, with_given};
+ghost use Rattle.thread_table.specs.Table.{HasPlace, living, with_given};
 
 use crate::given::Given;
 use crate::parked::Parked;
@@ -75,6 +75,14 @@ impl ThreadTable {
         ensures lives { result ≡ length self.now.lives }
     {
         self.parked.len()
+    }
+
+    /// How many of them have not ended.
+    pub fn living(&self) -> usize
+        ensures number { result ≡ living self.now }
+        ensures few { result + self.now.spare < 2 ^ 64 }
+    {
+        self.parked.living()
     }
 
     /// The innermost block round a thread, if there is one. A thread that runs or has ended has none

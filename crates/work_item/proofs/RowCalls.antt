@@ -210,6 +210,16 @@ lost_cell (c.Int v) cells i h = (refl, refl)
 lost_cell (c.Array p) cells i h = absurd (h (omega arith) refl)
 lost_cell (c.Block b) cells i h = absurd (h (omega arith) refl)
 
+-- where there are none, none stands below an index, and none at it
+pub none_below : (words : List ℤ) (others : List Other) (cells : List Cell) (index : ℕ) → Keep 0 words others cells → length others ≡ 0 → 0 ≡ cut 0 cells index
+none_below words others cells index k none =
+    let n = index - 0 in
+    let parts = ap length (k.others_are ∙ split_others 0 n cells) ∙ length-append (others_from 0 (take n cells)) (others_from (0 + length (take n cells)) (drop n cells)) in
+    omega (arith, none, parts)
+
+pub none_at : (others : List Other) (place index : ℕ) → length others ≡ 0 → IsAt others place index → ⊥
+none_at others place index none h = absurd (omega (arith, none, slice_get_within others place h.0 h.1.0))
+
 module _ (words : List ℤ) (others : List Other) (cells : List Cell) (index place : ℕ) (k : Keep 0 words others cells) (lt : index < length cells)
     (at : place ≡ cut 0 cells index) where
   abbrev pub fore : List Other

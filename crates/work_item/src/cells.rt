@@ -267,6 +267,18 @@ impl Cells {
         requires { index < length self.now }
         ensures { result ≡ slice_index_or self.now index no_int }
     {
+        if self.others.is_empty() {
+            return Cell::Int(self.words[index]);
+        }
+        self.look_for(index)
+    }
+
+    // The same, which mostly is not asked for.
+    #[inline(always)]
+    fn look_for(&self, index: usize) -> Cell
+        requires { index < length self.now }
+        ensures { result ≡ slice_index_or self.now index no_int }
+    {
         let place = place_of(self.others.as_slice(), index);
         if is_at(self.others.as_slice(), place, index) {
             return self.others[place].cell;
@@ -277,6 +289,19 @@ impl Cells {
     /// Puts an int in the place of a cell. It takes no memory.
     #[inline(always)]
     pub fn set_int(&mut self, index: usize, value: i64)
+        requires { index < length self.old }
+        ensures { self.new ≡ slice_set self.old index (c.Int value) }
+    {
+        if self.others.is_empty() {
+            self.words[index] = value;
+            return;
+        }
+        self.put_for(index, value);
+    }
+
+    // The same, which mostly is not asked for.
+    #[inline(always)]
+    fn put_for(&mut self, index: usize, value: i64)
         requires { index < length self.old }
         ensures { self.new ≡ slice_set self.old index (c.Int value) }
     {

@@ -11,20 +11,22 @@ use Rattle.stack_code.specs.declared.instr.Instr.TheVariants as i
 use Rattle.code_meaning.specs.Machine.{arrived, begin, first_item}
 use Rattle.thread_table.specs.Table.{Table, HasPlace}
 use Rattle.core_machine.specs.declared.running.Running.{Running}
-use Rattle.core_machine.specs.State.{shared_of, flat_of, state_of}
+use Rattle.core_machine.specs.State.{shared_of, flat_of, state_of, HasSeats}
 
--- the code, the core and the bound stay
+-- the code, the core and the bound stay; and if the ready list had room for all threads that live, it has room for all that live now
 pub record IsSameCode (before after : Running) : Type 0 where
   pub code : after.code.now ≡ before.code.now
   pub core : after.core ≡ before.core
   pub bound : after.bound ≡ before.bound
+  pub seats : HasSeats before → HasSeats after
 
--- these stay, and the journal
+-- the same of these, and the journal stays
 pub record KeepsCode (before after : Running) : Type 0 where
   pub code : after.code.now ≡ before.code.now
   pub core : after.core ≡ before.core
   pub bound : after.bound ≡ before.bound
   pub journal : after.journal.entries ≡ before.journal.entries
+  pub seats : HasSeats before → HasSeats after
 
 -- and so does which threads have their places
 pub record Keeps (before after : Running) : Type 0 where
@@ -33,6 +35,7 @@ pub record Keeps (before after : Running) : Type 0 where
   pub bound : after.bound ≡ before.bound
   pub journal : after.journal.entries ≡ before.journal.entries
   pub lives : after.threads.lives ≡ before.threads.lives
+  pub seats : HasSeats before → HasSeats after
 
 -- whether the core has ended, which threads run and are ready, and whether a value is still to be put onto operands, stays
 pub record Continues (before after : Running) : Type 0 where

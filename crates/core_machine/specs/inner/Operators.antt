@@ -1,5 +1,5 @@
 -- Which operator an instruction applies.
-use Rattle.std.specs.Prelude.{◌≡◌, ℤ, Option, Some, None, Ok, option_map, FitsSigned}
+use Rattle.std.specs.Prelude.{◌≡◌, ℤ, Bool, true, false, Option, Some, None, Ok, option_map, FitsSigned}
 use Rattle.std.specs.Int.{w64}
 use Rattle.core_state.specs.Arithmetic.{Computed, truth, negated, not_true, flipped, sum_of, difference_of}
 use Rattle.core_state.specs.Arithmetic.{product_of, quotient, remainder, shifted_left, shifted_right, is_equal}
@@ -35,6 +35,21 @@ binary i.Mul = Some (always product_of)
 binary i.Div = Some quotient
 binary i.Rem = Some remainder
 binary _ = None
+
+-- a comparison
+abbrev pub is_comparison : Instr → Bool
+is_comparison i.Eq = true
+is_comparison i.Ne = true
+is_comparison i.Less = true
+is_comparison i.LessEq = true
+is_comparison i.More = true
+is_comparison i.MoreEq = true
+is_comparison _ = false
+
+-- a jump at 0
+abbrev pub is_jump : Instr → Bool
+is_jump (i.Jz to) = true
+is_jump _ = false
 
 -- ---- what a call of such a kind gives is what the instruction's operator gives
 

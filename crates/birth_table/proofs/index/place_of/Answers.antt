@@ -11,10 +11,10 @@ returns-then-number-first-clause-absent c =
     outside slots c.args.number c.requires end (entry_at slots 0) (entry_at slots end) (read slots 0 some) (read slots end (omega arith)) (omega arith)
     (elim c.then-number-first.either as (λ _. (c.args.number < (entry_at slots 0).number) ⊎ ((entry_at slots end).number < c.args.number)) [ inl h ↦ inl h | inr h ↦ inr h.1 ])
 
-low_is : (c : goal.Joined-back-end) → c.if-back-end.low ≡ (length c.args.slots.now - 1) - ((entry_at c.args.slots.now (length c.args.slots.now - 1)).number - c.args.number)
+low_is : (c : goal.Else-slots-low) → c.if-back-end.low ≡ (length c.args.slots.now - 1) - ((entry_at c.args.slots.now (length c.args.slots.now - 1)).number - c.args.number)
 low_is c = elim c.if-back-end.branch [ then-back-end w ↦ omega (arith, w.if-back-end.true, w.low-is) | else-back-end w ↦ omega (arith, w.if-back-end.false, w.low-is) ]
 
-high_is : (c : goal.Joined-back-end) → (c.if-ahead-end.high ≡ length c.args.slots.now - 1) ⊎ (c.if-ahead-end.high ≡ c.args.number - (entry_at c.args.slots.now 0).number)
+high_is : (c : goal.Else-slots-low) → (c.if-ahead-end.high ≡ length c.args.slots.now - 1) ⊎ (c.if-ahead-end.high ≡ c.args.number - (entry_at c.args.slots.now 0).number)
 high_is c = elim c.if-ahead-end.branch [ then-ahead-end w ↦ inr w.high-is | else-ahead-end w ↦ inl w.high-is ]
 
 pub search-requires-clause-order : goal.search-requires-clause-order

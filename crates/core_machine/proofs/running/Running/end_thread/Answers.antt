@@ -10,15 +10,15 @@ pub leave-requires-clause-childless : goal.leave-requires-clause-childless
 leave-requires-clause-childless c =
     childless_at_end c.args.self.now c.requires.running c.item-item.result c.item-item.ensures c.requires.can.has c.innermost-block.result c.innermost-block.ensures c.requires.can.childless
 
-pub returns-clause-ok : goal.returns-clause-ok
-returns-clause-ok c =
+pub returns-clause-does : goal.returns-clause-does
+returns-clause-does c =
     let m = c.args.self.now in
     let between = c.count_one.ensures
     ∙ ap (λ (y : Running). record y { count = counted y.count }) c.leave.ensures
-    ∙ ap (λ s. record (after_end m c.requires.running c.item-item.result c.item-item.ensures c.requires.can.has c.innermost-block.result c.innermost-block.ensures
-    c.reserve.new.self) { frames = s }) c.give_back.ensures in
+    ∙ ap (λ s. record (after_end m c.requires.running c.item-item.result c.item-item.ensures c.requires.can.has c.innermost-block.result c.innermost-block.ensures)
+    { frames = s }) c.give_back.ensures in
     ends m c.requires.running c.item-item.result c.item-item.ensures c.requires.can.has c.innermost-block.result c.innermost-block.ensures
-    c.reserve.new.self c.reserve.ensures.ready c.count_one.new.self c.bury.new.self
+    c.count_one.new.self c.bury.new.self
     between c.bury.ensures.ended c.bury.ensures.flat
 
 pub returns-clause-places : goal.returns-clause-places

@@ -14,7 +14,7 @@ dispatch-requires-clause-places c = c.requires.sound.places c.requires.running
 pub returns-clause-goes : goal.returns-clause-goes
 returns-clause-goes c =
     let m = c.args.self.now in
-    goes_on m m c.dispatch.new.self (record { code = refl; core = refl; bound = refl }) c.requires.running (stays_there m m refl) c.dispatch.ensures.does
+    goes_on m m c.dispatch.new.self (record { code = refl; core = refl; bound = refl; seats = λ h. h }) c.requires.running (stays_there m m refl) c.dispatch.ensures.does
 
 pub returns-clause-passes : goal.returns-clause-passes
 returns-clause-passes c = dispatch_passes c.args.self.now c.dispatch.new.self c.requires.running c.dispatch.ensures.does

@@ -2,8 +2,8 @@ use Rattle.std.proofs.Common.{◌≡◌, ◌+◌, ◌<◌, Some, true, ap, ◌�
 use Rattle.std.proofs.lemmas.Int.{to_z-of_z}
 use Rattle.stack_code.specs.declared.instr.Instr.TheVariants as i
 use Rattle.core_machine.specs.State.{IsSound}
-use Rattle.core_machine.specs.inner.Changes.{Does, at_address}
-use Rattle.core_machine.specs.inner.Led.{IsLed, pushed}
+use Rattle.core_machine.specs.inner.Changes.{at_address}
+use Rattle.core_machine.specs.inner.Led.{IsLed, pushed, DoesOn}
 use Rattle.core_machine.specs.inner.Left.{left_of}
 use Rattle.core_machine.proofs.Pushed.{at_push}
 use Rattle.core_machine.proofs.Sound.{keeps_at, keeps_code}
@@ -30,6 +30,13 @@ push_and_apply-requires-clause-int c =
     c.args._ranks.now c.requires.ranked c.args.instrs.now c.requires.instrs in
     n.int
 
+pub push_and_apply-requires-clause-third : goal.push_and_apply-requires-clause-third
+push_and_apply-requires-clause-third c =
+    let m = at_address c.args.self.now c.args.address.now in
+    let n = at_push m c.requires.running c.requires.runs c.requires.sound c.in-Push.value (c.requires.here ∙ ap (λ x. Some x) c.in-Push.is)
+    c.args._ranks.now c.requires.ranked c.args.instrs.now c.requires.instrs in
+    n.third
+
 after_both : (c : goal.After-push_and_apply) → c.push_and_apply.result ≡ true →
     let m = at_address c.args.self.now c.args.address.now in
     let after = at_address c.push_and_apply.new.self c.push_and_apply.new.address in
@@ -41,8 +48,9 @@ after_both c done =
     c.args._ranks.now c.requires.ranked c.args.instrs.now c.requires.instrs in
     let fits : SFits w64 c.in-Push.value = search rules in
     let next = slice_index_or c.args.instrs.now (m.place + 1) i.Step in
+    let third = slice_index_or c.args.instrs.now (m.place + 1 + 1) i.Step in
     let kept = keeps_code c.args.self.now c.push_and_apply.new.self c.push_and_apply.ensures.keeps in
-    n.two after (subst (λ v. Does (pushed m v) next after) (to_z-of_z w64 c.in-Push.value fits) (c.push_and_apply.ensures.does done)) (c.push_and_apply.ensures.places done)
+    n.some after (subst (λ v. DoesOn (pushed m v) next third after) (to_z-of_z w64 c.in-Push.value fits) (c.push_and_apply.ensures.does done)) (c.push_and_apply.ensures.places done)
     (keeps_at c.args.self.now c.push_and_apply.new.self c.args.address.now c.push_and_apply.new.address kept)
 
 pub returns-clause-led : goal.returns-clause-led
